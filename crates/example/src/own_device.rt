@@ -1,9 +1,9 @@
 // A device of one's own, from nothing: a chip in memory, whose erases fill a block with 0xff.
 
 ghost use Rattle.std.specs.Prelude.{◌≡◌, ◌≤◌, ◌<◌, ◌+◌, ◌*◌, length, replicate};
-ghost use Rattle.lfs_model.specs.Blocks.{cut, overwritten};
-ghost use Rattle.lfs_model.specs.Conformance.{AllConform};
-ghost use Rattle.lfs_model.specs.History.{IsNewest};
+ghost use Rattle.lfs_model.specs.Blocks.{cut, bytes_after_overwrite_at};
+ghost use Rattle.lfs_model.specs.Conformance.{AreConformingCalls};
+ghost use Rattle.lfs_model.specs.History.{IsLeftByNewestCall};
 ghost use Rattle.lfs_device.specs.Bytes.{AreBytes};
 
 use lfs_device::{BlockDevice, Error, Geometry, Trace};
@@ -19,8 +19,8 @@ struct Chip {
     trace: Trace,
     ghost are_bytes: { AreBytes bytes.items },
     ghost size: { length bytes.items ≡ geometry.block_size * geometry.block_count },
-    ghost newest: { IsNewest trace.events (cut geometry.block_size geometry.block_count bytes.items) },
-    ghost conforms: { AllConform trace.events },
+    ghost newest: { IsLeftByNewestCall trace.events (cut geometry.block_size geometry.block_count bytes.items) },
+    ghost conforms: { AreConformingCalls trace.events },
 }
 
 impl Chip {
@@ -48,7 +48,7 @@ impl Chip {
 // Writes bytes over those from an offset on.
 fn overwrite(all: &mut Vec<u8>, at: usize, bytes: &[u8])
     requires { at + length bytes.now ≤ length all.old.items }
-    ensures { all.new.items ≡ overwritten all.old.items at bytes.now }
+    ensures { all.new.items ≡ bytes_after_overwrite_at all.old.items at bytes.now }
 {
     all[at..at + bytes.len()].copy_from_slice(bytes);
 }
@@ -56,14 +56,14 @@ fn overwrite(all: &mut Vec<u8>, at: usize, bytes: &[u8])
 // Leaves 0xff in so many bytes from an offset on.
 fn fill(all: &mut Vec<u8>, at: usize, len: usize)
     requires { at + len ≤ length all.old.items }
-    ensures filled { all.new.items ≡ overwritten all.old.items at (replicate len 255) }
+    ensures filled { all.new.items ≡ bytes_after_overwrite_at all.old.items at (replicate len 255) }
     ensures are_bytes { AreBytes all.old.items → AreBytes all.new.items }
 {
     all[at..at + len].fill(0xff);
 }
 
 impl BlockDevice for Chip {
-    ghost use Rattle.lfs_model.proofs.Cuts.{IsDivided-cut};
+    ghost use Rattle.lfs_model.proofs.Cuts.{HasBlocksOfCountAndSize-cut};
     ghost use Rattle.lfs_device.specs.ByteLists.{HasBytes-cut};
 
     ghost geometry = { λ d. d.geometry };
@@ -72,7 +72,7 @@ impl BlockDevice for Chip {
 
     ghost history = { λ d. d.trace.events };
 
-    ghost shape = { λ d. IsDivided-cut d.geometry.block_size d.geometry.block_count d.bytes.items d.size };
+    ghost shape = { λ d. HasBlocksOfCountAndSize-cut d.geometry.block_size d.geometry.block_count d.bytes.items d.size };
 
     ghost bytes = { λ d. HasBytes-cut d.geometry.block_size d.geometry.block_count d.bytes.items d.are_bytes };
 

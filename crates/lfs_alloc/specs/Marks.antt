@@ -4,17 +4,17 @@ use Rattle.std.specs.Int.{bit_at}
 use Rattle.lfs_model.specs.BlockSets.{BlockState}
 use Rattle.lfs_model.specs.BlockSets.BlockState.{Free, InFlight, Used}
 use Rattle.lfs_alloc.specs.declared.marks.Marks.{Marks}
-use Rattle.lfs_alloc.specs.declared.marks.State.{State}
-use Rattle.lfs_alloc.specs.declared.marks.State.TheVariants as state
+use Rattle.lfs_alloc.specs.declared.marks.BlockUse.{BlockUse}
+use Rattle.lfs_alloc.specs.declared.marks.BlockUse.TheVariants as state
 
-abbrev pub block_state_view : State → BlockState
+abbrev pub block_state_view : BlockUse → BlockState
 block_state_view state.Free = Free
 block_state_view state.InFlight = InFlight
 block_state_view state.Used = Used
 
 -- the state of the block at a place
-abbrev pub state_in : Marks → ℕ → BlockState
-state_in marks place =
+abbrev pub block_state_at_bit : Marks → ℕ → BlockState
+block_state_at_bit marks place =
     if bit_at marks.used place == 1 then Used
     else if bit_at marks.in_flight place == 1 then InFlight
     else Free

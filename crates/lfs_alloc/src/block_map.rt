@@ -5,7 +5,7 @@ ghost use Rattle.lfs_model.specs.BlockSets.BlockState.{Free, InFlight, Used};
 ghost use Rattle.lfs_alloc.specs.Marks.{block_state_view};
 ghost use Rattle.lfs_alloc.specs.Next.{IsNextFree};
 
-use crate::marks::{Marks, State};
+use crate::marks::{BlockUse, Marks};
 use lfs_device::Error;
 use std::alloc::Global;
 use std::marker::Model;
@@ -27,13 +27,13 @@ pub struct BlockMap {
 impl Model for BlockMap {
     ghost use Rattle.std.specs.Prelude.{List};
     ghost use Rattle.lfs_model.specs.BlockSets.{BlockState};
-    ghost use Rattle.lfs_alloc.specs.BlockMap.{IsMap, sets_of};
+    ghost use Rattle.lfs_alloc.specs.BlockMap.{MarksCoverBlocksAndCountUsed, block_states_of_marks};
 
     ghost Value = { List BlockState };
 
-    ghost view = { λ map. sets_of map.marks.items map.block_count };
+    ghost view = { λ map. block_states_of_marks map.marks.items map.block_count };
 
-    ghost invariant = { λ map. IsMap map.marks.items map.block_count map.used_count };
+    ghost invariant = { λ map. MarksCoverBlocksAndCountUsed map.marks.items map.block_count map.used_count };
 }
 
 impl BlockMap {
@@ -94,9 +94,9 @@ impl BlockMap {
         ensures marked { OnTrue result (self.new ≡ slice_set self.old block Used) }
         ensures same { OnFalse result (self.new ≡ self.old) }
     {
-        let is_free = self.state(block) == State::Free;
+        let is_free = self.state(block) == BlockUse::Free;
         if is_free {
-            self.set(block, State::Used);
+            self.set(block, BlockUse::Used);
         }
         is_free
     }
@@ -125,7 +125,7 @@ impl BlockMap {
         ensures same { IfNone result (self.new ≡ self.old) }
     {
         let block = self.next_free(number)?;
-        self.set(block, State::InFlight);
+        self.set(block, BlockUse::InFlight);
         self.next = block + 1;
         Some(block)
     }
@@ -148,7 +148,7 @@ impl BlockMap {
         requires { block < length self.old }
         ensures { self.new ≡ slice_set self.old block Free }
     {
-        self.set(block, State::Free);
+        self.set(block, BlockUse::Free);
     }
 
     /// Makes a block in flight used, after a commit that names it.
@@ -156,17 +156,17 @@ impl BlockMap {
         requires { IsInFlight self.old block }
         ensures { self.new ≡ slice_set self.old block Used }
     {
-        self.set(block, State::Used);
+        self.set(block, BlockUse::Used);
     }
 
-    fn state(&self, block: u32) -> State
+    fn state(&self, block: u32) -> BlockUse
         requires { block < length self.now }
         ensures { slice_get self.now block ≡ Some (block_state_view result) }
     {
         self.marks[block as usize / 64].state(block % 64)
     }
 
-    fn set(&mut self, block: u32, state: State)
+    fn set(&mut self, block: u32, state: BlockUse)
         requires { block < length self.old }
         ensures { self.new ≡ slice_set self.old block (block_state_view state) }
     {
@@ -186,14 +186,14 @@ impl BlockMap {
         if self.block_count == 0 {
             return None;
         }
-        match self.free_from(number % self.block_count) {
+        match self.first_free_block_from(number % self.block_count) {
             Some(block) => Some(block),
-            None => self.free_from(0),
+            None => self.first_free_block_from(0),
         }
     }
 
     // Returns the first free block from a block on.
-    fn free_from(&self, start: u32) -> Option<u32>
+    fn first_free_block_from(&self, start: u32) -> Option<u32>
         requires { start ≤ length self.now }
         ensures found { IfSome result (IsFree self.now) }
         ensures behind { IfSome result (λ found. start ≤ found) }

@@ -3,27 +3,27 @@
 ghost use Rattle.std.specs.Prelude.{◌≡◌, ◌≢◌, ℕ, ◌<◌, ◌≤◌, IfNone, IfSome};
 ghost use Rattle.lfs_model.specs.BlockSets.{is_in_flight, is_used};
 ghost use Rattle.lfs_model.specs.BlockSets.BlockState.{Free};
-ghost use Rattle.lfs_alloc.specs.Marks.{block_state_view, state_in};
+ghost use Rattle.lfs_alloc.specs.Marks.{block_state_view, block_state_at_bit};
 
 /// The state of a block in the map.
 #[derive(Clone, Copy, PartialEq, Eq)]
-pub enum State {
+pub enum BlockUse {
     Free,
     InFlight,
     Used,
 }
 
-impl State {
+impl BlockUse {
     pub fn is_used(self) -> bool
         ensures { result ≡ is_used (block_state_view self) }
     {
-        matches!(self, State::Used)
+        matches!(self, BlockUse::Used)
     }
 
     pub fn is_in_flight(self) -> bool
         ensures { result ≡ is_in_flight (block_state_view self) }
     {
-        matches!(self, State::InFlight)
+        matches!(self, BlockUse::InFlight)
     }
 }
 
@@ -37,7 +37,7 @@ pub struct Marks {
 impl Marks {
     /// Makes marks of 64 free blocks.
     pub fn none() -> Marks
-        ensures { (place : ℕ) → state_in result place ≡ Free }
+        ensures { (place : ℕ) → block_state_at_bit result place ≡ Free }
     {
         Marks {
             used: 0,
@@ -45,36 +45,36 @@ impl Marks {
         }
     }
 
-    pub fn state(self, place: u32) -> State
+    pub fn state(self, place: u32) -> BlockUse
         requires { place < 64 }
-        ensures { block_state_view result ≡ state_in self place }
+        ensures { block_state_view result ≡ block_state_at_bit self place }
     {
         let bit = 1u64 << place;
         if self.used & bit != 0 {
-            State::Used
+            BlockUse::Used
         } else if self.in_flight & bit != 0 {
-            State::InFlight
+            BlockUse::InFlight
         } else {
-            State::Free
+            BlockUse::Free
         }
     }
 
     /// Returns the same marks with one block in another state.
-    pub fn with(self, place: u32, state: State) -> Marks
+    pub fn with(self, place: u32, state: BlockUse) -> Marks
         requires { place < 64 }
-        ensures here { state_in result place ≡ block_state_view state }
-        ensures others { (other : ℕ) → other < 64 → other ≢ place → state_in result other ≡ state_in self other }
+        ensures here { block_state_at_bit result place ≡ block_state_view state }
+        ensures others { (other : ℕ) → other < 64 → other ≢ place → block_state_at_bit result other ≡ block_state_at_bit self other }
     {
         let bit = 1u64 << place;
         let used = self.used & !bit;
         let in_flight = self.in_flight & !bit;
         match state {
-            State::Free => Marks { used, in_flight },
-            State::InFlight => Marks {
+            BlockUse::Free => Marks { used, in_flight },
+            BlockUse::InFlight => Marks {
                 used,
                 in_flight: in_flight | bit,
             },
-            State::Used => Marks {
+            BlockUse::Used => Marks {
                 used: used | bit,
                 in_flight,
             },
@@ -84,10 +84,10 @@ impl Marks {
     /// Returns the place of the first free block from a place on.
     pub fn first_free(self, start: u32) -> Option<u32>
         requires { start < 64 }
-        ensures found { IfSome result (λ place. state_in self place ≡ Free) }
+        ensures found { IfSome result (λ place. block_state_at_bit self place ≡ Free) }
         ensures within { IfSome result (λ place. (start ≤ place) × (place < 64)) }
-        ensures first { IfSome result (λ found. (place : ℕ) → start ≤ place → place < found → state_in self place ≢ Free) }
-        ensures none { IfNone result ((place : ℕ) → start ≤ place → place < 64 → state_in self place ≢ Free) }
+        ensures first { IfSome result (λ found. (place : ℕ) → start ≤ place → place < found → block_state_at_bit self place ≢ Free) }
+        ensures none { IfNone result ((place : ℕ) → start ≤ place → place < 64 → block_state_at_bit self place ≢ Free) }
     {
         let passed = (1u64 << start) - 1;
         let taken = self.used | self.in_flight | passed;

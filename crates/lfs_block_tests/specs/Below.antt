@@ -2,15 +2,15 @@
 use Rattle.std.specs.Prelude.{ℕ, ◌≡◌, ◌<◌, All, false}
 use Rattle.lfs_device.specs.declared.geometry.Geometry.{Geometry}
 use Rattle.lfs_model.specs.Blocks.{Blocks}
-use Rattle.lfs_ctz.specs.Growing.{Growing, IsGrowing, blocks_of_list, is_in_buffer_alone, kept_blocks}
+use Rattle.lfs_ctz.specs.Growing.{GrowingList, HasGrowingListOnDisk, blocks_of_growing_list, is_list_only_in_buffer, blocks_kept_when_growing}
 
 -- a list is on a disk, in blocks below one
-pub record IsBelow (disk : Blocks) (divided : Geometry) (list : Growing) (next : ℕ) : Type 0 where
-  pub growing : IsGrowing disk list
+pub record IsListBelowBlock (disk : Blocks) (divided : Geometry) (list : GrowingList) (next : ℕ) : Type 0 where
+  pub growing : HasGrowingListOnDisk disk list
   pub geometry : divided ≡ list.geometry
-  pub below : All (λ b. b < next) (kept_blocks disk list)
+  pub below : All (λ b. b < next) (blocks_kept_when_growing disk list)
 
 -- all its blocks are its own, so that it can be ended
-pub record IsOwn (disk : Blocks) (list : Growing) : Type 0 where
-  pub own : blocks_of_list disk list ≡ kept_blocks disk list
-  pub listed : is_in_buffer_alone list ≡ false
+pub record IsListInOwnBlocks (disk : Blocks) (list : GrowingList) : Type 0 where
+  pub own : blocks_of_growing_list disk list ≡ blocks_kept_when_growing disk list
+  pub listed : is_list_only_in_buffer list ≡ false

@@ -1,4 +1,4 @@
-use crate::cache::Step::{Fill, Forget, Take};
+use crate::cache::CacheAction::{Fill, Forget, Take};
 use crate::devices::faulty;
 use lfs_cache::Cache;
 use lfs_device::{BlockDevice, Error, Extent, Which};
@@ -6,7 +6,7 @@ use std::alloc::Global;
 use std::test::Fail;
 
 // What is done with a block.
-enum Step {
+enum CacheAction {
     Fill(u32),
     Forget(u32),
     Take(u32),
@@ -16,21 +16,21 @@ enum Step {
 fn carry_out<D: BlockDevice>(
     cache: &mut Cache,
     device: &mut D,
-    step: &Step,
+    step: &CacheAction,
 ) -> Result<usize, Error> {
     match step {
-        Step::Fill(block) => {
+        CacheAction::Fill(block) => {
             if *block >= device.geometry().block_count {
                 return Err(Error::Invalid);
             }
             cache.fill(device, *block)?;
             Ok(0)
         }
-        Step::Forget(block) => {
+        CacheAction::Forget(block) => {
             cache.forget(*block);
             Ok(0)
         }
-        Step::Take(block) => Ok(cache.take(*block).map_or(0, |bytes| bytes.len())),
+        CacheAction::Take(block) => Ok(cache.take(*block).map_or(0, |bytes| bytes.len())),
     }
 }
 
@@ -39,7 +39,7 @@ fn carry_out<D: BlockDevice>(
 fn play(
     alloc: Global,
     nth: u64,
-    steps: &[Step],
+    steps: &[CacheAction],
 ) -> Result<(Result<usize, Error>, u64, Vec<u8>), Error> {
     let mut device = faulty(alloc, Which::Read, nth, false, Extent::Nothing)?;
     let mut cache = Cache::new(alloc)?;
@@ -56,9 +56,9 @@ fn play(
     Ok((answer, device.calls(Which::Any), bytes))
 }
 
-const TWICE: [Step; 2] = [Fill(0), Fill(0)];
+const TWICE: [CacheAction; 2] = [Fill(0), Fill(0)];
 
-const EIGHT: [Step; 9] = [
+const EIGHT: [CacheAction; 9] = [
     Fill(0),
     Fill(1),
     Fill(2),
@@ -71,7 +71,7 @@ const EIGHT: [Step; 9] = [
 ];
 
 // Block 0, cached, becomes the most recent, so that block 1 is the one to go.
-const NINE: [Step; 10] = [
+const NINE: [CacheAction; 10] = [
     Fill(0),
     Fill(1),
     Fill(2),
@@ -84,20 +84,20 @@ const NINE: [Step; 10] = [
     Fill(8),
 ];
 
-const FORGOTTEN: [Step; 4] = [Fill(3), Fill(4), Forget(3), Forget(5)];
+const FORGOTTEN: [CacheAction; 4] = [Fill(3), Fill(4), Forget(3), Forget(5)];
 
-const FORGOTTEN_AND_FILLED: [Step; 4] = [Fill(3), Fill(4), Forget(3), Fill(3)];
+const FORGOTTEN_AND_FILLED: [CacheAction; 4] = [Fill(3), Fill(4), Forget(3), Fill(3)];
 
-const TAKEN: [Step; 3] = [Fill(3), Fill(4), Take(3)];
+const TAKEN: [CacheAction; 3] = [Fill(3), Fill(4), Take(3)];
 
-const TAKEN_AND_FILLED: [Step; 4] = [Fill(3), Fill(4), Take(3), Fill(3)];
+const TAKEN_AND_FILLED: [CacheAction; 4] = [Fill(3), Fill(4), Take(3), Fill(3)];
 
 // Block 7 can't be read at first.
-const FAILED: [Step; 2] = [Fill(6), Fill(7)];
+const FAILED: [CacheAction; 2] = [Fill(6), Fill(7)];
 
-const FAILED_AND_AT_HAND: [Step; 3] = [Fill(6), Fill(7), Fill(6)];
+const FAILED_AND_AT_HAND: [CacheAction; 3] = [Fill(6), Fill(7), Fill(6)];
 
-const FAILED_AND_FILLED: [Step; 4] = [Fill(6), Fill(7), Fill(6), Fill(7)];
+const FAILED_AND_FILLED: [CacheAction; 4] = [Fill(6), Fill(7), Fill(6), Fill(7)];
 
 #[test]
 fn blocks_are_kept(rt: HostRuntime) -> Result<(), Fail> {

@@ -2,16 +2,17 @@
 
 ghost use Rattle.std.specs.Prelude.{◌≡◌, ◌≤◌, ◌<◌, ◌+◌, ◌*◌, ◌^◌, true, max, length, IfOk};
 ghost use Rattle.lfs_model.specs.BlockSets.{used_count};
-ghost use Rattle.lfs_model.specs.SkipLists.{blocks_for};
-ghost use Rattle.lfs_writer.specs.Contents.{IsLarge, AreOnDisk, form_of};
-ghost use Rattle.lfs_writer.specs.Form.{form_size};
+ghost use Rattle.lfs_model.specs.SkipLists.{list_block_count_for_size};
+ghost use Rattle.lfs_writer.specs.Contents.{ExceedsInlineLimitIfInFlight, AreContentsOnDisk, form_of_contents};
+ghost use Rattle.lfs_writer.specs.Form.{size_of_contents_form};
 
 use crate::plain::content;
 use lfs_alloc::BlockMap;
 use lfs_ctz::{blocks_for, read_at, walk};
 use lfs_device::{BlockDevice, Error};
 use lfs_writer::{
-    Contents, Stored, abandon, finish, in_memory, settle_list, truncate_contents, write_contents,
+    Stored, WriterContents, finish, in_memory, release_all_blocks_in_flight, settle_list,
+    truncate_contents, write_contents,
 };
 use std::alloc::Global;
 
@@ -23,43 +24,43 @@ pub enum Call {
 }
 
 /// No bytes, and a map of blocks that are all free.
-pub fn start<D: BlockDevice>(alloc: Global, dev: &D) -> Result<(BlockMap, Contents), Error>
-    ensures stands { IfOk result (λ r. AreOnDisk r.0 (D.blocks dev.now) (D.geometry dev.now) r.1) }
+pub fn start<D: BlockDevice>(alloc: Global, dev: &D) -> Result<(BlockMap, WriterContents), Error>
+    ensures stands { IfOk result (λ r. AreContentsOnDisk r.0 (D.blocks dev.now) (D.geometry dev.now) r.1) }
 {
     let geometry = dev.geometry();
     let mut map = BlockMap::new(alloc, geometry.block_count)?;
-    abandon(&mut map);
+    release_all_blocks_in_flight(&mut map);
     let contents = in_memory(alloc, geometry, &[])?;
     Ok((map, contents))
 }
 
 // How many bytes the contents have.
-fn length<D: BlockDevice>(dev: &D, map: &BlockMap, contents: &Contents) -> u32
-    requires { AreOnDisk map.now (D.blocks dev.now) (D.geometry dev.now) contents.now }
-    ensures { result ≡ form_size (form_of contents.now) }
+fn length<D: BlockDevice>(dev: &D, map: &BlockMap, contents: &WriterContents) -> u32
+    requires { AreContentsOnDisk map.now (D.blocks dev.now) (D.geometry dev.now) contents.now }
+    ensures { result ≡ size_of_contents_form (form_of_contents contents.now) }
 {
     match contents {
-        Contents::InMemory(list) => list.size(),
-        Contents::Finished(stored) => stored.size,
-        Contents::InHand(hand) => hand.list.size().max(hand.base.size),
+        WriterContents::InMemory(list) => list.size(),
+        WriterContents::Finished(stored) => stored.size,
+        WriterContents::InHand(hand) => hand.list.size().max(hand.base.size),
     }
 }
 
 // Whether contents in a list that are in flight are past the limit, and those in memory are not.
-fn is_large<D: BlockDevice>(dev: &D, map: &BlockMap, contents: &Contents) -> bool
-    requires { AreOnDisk map.now (D.blocks dev.now) (D.geometry dev.now) contents.now }
-    ensures { result ≡ true → IsLarge 128 (form_of contents.now) }
+fn is_large<D: BlockDevice>(dev: &D, map: &BlockMap, contents: &WriterContents) -> bool
+    requires { AreContentsOnDisk map.now (D.blocks dev.now) (D.geometry dev.now) contents.now }
+    ensures { result ≡ true → ExceedsInlineLimitIfInFlight 128 (form_of_contents contents.now) }
 {
     match contents {
-        Contents::InMemory(list) => list.held().len() <= 128,
-        Contents::Finished(stored) => !stored.in_flight || stored.size > 128,
-        Contents::InHand(hand) => hand.list.size().max(hand.base.size) > 128,
+        WriterContents::InMemory(list) => list.held().len() <= 128,
+        WriterContents::Finished(stored) => !stored.in_flight || stored.size > 128,
+        WriterContents::InHand(hand) => hand.list.size().max(hand.base.size) > 128,
     }
 }
 
 // Whether there is room for two lists of so many bytes.
 fn has_room<D: BlockDevice>(dev: &D, map: &BlockMap, size: u32) -> bool
-    ensures { result ≡ true → used_count map.now + 2 * blocks_for (D.geometry dev.now).block_size size ≤ length map.now }
+    ensures { result ≡ true → used_count map.now + 2 * list_block_count_for_size (D.geometry dev.now).block_size size ≤ length map.now }
 {
     let blocks = blocks_for(dev.geometry().block_size, size);
     let wanted = u64::from(map.used_count()) + 2 * u64::from(blocks);
@@ -71,12 +72,12 @@ fn write<D: BlockDevice>(
     alloc: Global,
     dev: &mut D,
     map: &mut BlockMap,
-    contents: Contents,
+    contents: WriterContents,
     place: u32,
     bytes: &[u8],
-) -> Result<Contents, Error>
-    requires stands { AreOnDisk map.old (D.blocks dev.old) (D.geometry dev.old) contents }
-    ensures stands { IfOk result (λ c. AreOnDisk map.new (D.blocks dev.new) (D.geometry dev.new) c) }
+) -> Result<WriterContents, Error>
+    requires stands { AreContentsOnDisk map.old (D.blocks dev.old) (D.geometry dev.old) contents }
+    ensures stands { IfOk result (λ c. AreContentsOnDisk map.new (D.blocks dev.new) (D.geometry dev.new) c) }
 {
     if bytes.is_empty() || bytes.len() > 65536 || place > 65536 {
         return Err(Error::Invalid);
@@ -94,11 +95,11 @@ fn truncate<D: BlockDevice>(
     alloc: Global,
     dev: &mut D,
     map: &mut BlockMap,
-    contents: Contents,
+    contents: WriterContents,
     size: u32,
-) -> Result<Contents, Error>
-    requires stands { AreOnDisk map.old (D.blocks dev.old) (D.geometry dev.old) contents }
-    ensures stands { IfOk result (λ c. AreOnDisk map.new (D.blocks dev.new) (D.geometry dev.new) c) }
+) -> Result<WriterContents, Error>
+    requires stands { AreContentsOnDisk map.old (D.blocks dev.old) (D.geometry dev.old) contents }
+    ensures stands { IfOk result (λ c. AreContentsOnDisk map.new (D.blocks dev.new) (D.geometry dev.new) c) }
 {
     let most = length(dev, map, &contents).max(size);
     if size > 65536 || !is_large(dev, map, &contents) || !has_room(dev, map, most) {
@@ -113,11 +114,11 @@ pub fn carry_out<D: BlockDevice>(
     alloc: Global,
     dev: &mut D,
     map: &mut BlockMap,
-    contents: Contents,
+    contents: WriterContents,
     call: Call,
-) -> Result<Contents, Error>
-    requires stands { AreOnDisk map.old (D.blocks dev.old) (D.geometry dev.old) contents }
-    ensures stands { IfOk result (λ c. AreOnDisk map.new (D.blocks dev.new) (D.geometry dev.new) c) }
+) -> Result<WriterContents, Error>
+    requires stands { AreContentsOnDisk map.old (D.blocks dev.old) (D.geometry dev.old) contents }
+    ensures stands { IfOk result (λ c. AreContentsOnDisk map.new (D.blocks dev.new) (D.geometry dev.new) c) }
 {
     match call {
         Call::Write(place, count) => {
@@ -133,10 +134,10 @@ pub fn end<D: BlockDevice>(
     alloc: Global,
     dev: &mut D,
     map: &mut BlockMap,
-    contents: Contents,
-) -> Result<Contents, Error>
-    requires stands { AreOnDisk map.old (D.blocks dev.old) (D.geometry dev.old) contents }
-    ensures stands { IfOk result (λ c. AreOnDisk map.new (D.blocks dev.new) (D.geometry dev.new) c) }
+    contents: WriterContents,
+) -> Result<WriterContents, Error>
+    requires stands { AreContentsOnDisk map.old (D.blocks dev.old) (D.geometry dev.old) contents }
+    ensures stands { IfOk result (λ c. AreContentsOnDisk map.new (D.blocks dev.new) (D.geometry dev.new) c) }
 {
     let most = length(dev, map, &contents);
     if !has_room(dev, map, most) {
@@ -150,9 +151,9 @@ pub fn end<D: BlockDevice>(
 pub fn settle<D: BlockDevice>(
     dev: &mut D,
     map: &mut BlockMap,
-    contents: &Contents,
+    contents: &WriterContents,
 ) -> Result<(), Error>
-    requires { AreOnDisk map.old (D.blocks dev.old) (D.geometry dev.old) contents.now }
+    requires { AreContentsOnDisk map.old (D.blocks dev.old) (D.geometry dev.old) contents.now }
 {
     let before = Stored {
         head: 0,
@@ -160,9 +161,9 @@ pub fn settle<D: BlockDevice>(
         in_flight: false,
     };
     match contents {
-        Contents::Finished(stored) => settle_list(dev, map, before, *stored),
-        Contents::InMemory(_) => Ok(()),
-        Contents::InHand(_) => Err(Error::Invalid),
+        WriterContents::Finished(stored) => settle_list(dev, map, before, *stored),
+        WriterContents::InMemory(_) => Ok(()),
+        WriterContents::InHand(_) => Err(Error::Invalid),
     }
 }
 
@@ -171,18 +172,18 @@ pub fn read<D: BlockDevice>(
     alloc: Global,
     dev: &mut D,
     map: &BlockMap,
-    contents: &Contents,
+    contents: &WriterContents,
 ) -> Result<Vec<u8>, Error>
-    requires { AreOnDisk map.now (D.blocks dev.old) (D.geometry dev.old) contents.now }
+    requires { AreContentsOnDisk map.now (D.blocks dev.old) (D.geometry dev.old) contents.now }
 {
     match contents {
-        Contents::InMemory(list) => Ok(Vec::from_slice(alloc, list.held())?),
-        Contents::Finished(stored) => {
+        WriterContents::InMemory(list) => Ok(Vec::from_slice(alloc, list.held())?),
+        WriterContents::Finished(stored) => {
             walk(dev, stored.head, stored.size, &mut |_block| {})?;
             let mut bytes = Vec::from_elem(alloc, 0xeeu8, stored.size as usize)?;
             read_at(dev, stored.head, stored.size, 0, bytes.as_mut_slice())?;
             Ok(bytes)
         }
-        Contents::InHand(_) => Err(Error::Invalid),
+        WriterContents::InHand(_) => Err(Error::Invalid),
     }
 }

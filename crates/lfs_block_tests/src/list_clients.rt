@@ -3,8 +3,8 @@
 ghost use Rattle.std.specs.Prelude.{◌≡◌, ◌⊎◌, ◌≤◌, ◌<◌, ◌+◌, ◌^◌, true, false, take, length, IfErr, IfOk};
 ghost use Rattle.lfs_device.specs.Calls.{ReadsOnly, ReportsFaults};
 ghost use Rattle.lfs_model.specs.History.{reads};
-ghost use Rattle.lfs_model.specs.SkipLists.{IsList, blocks_for, bytes_of};
-ghost use Rattle.lfs_model.specs.Writers.{written_into as with_bytes};
+ghost use Rattle.lfs_model.specs.SkipLists.{IsSkipList, list_block_count_for_size, bytes_of};
+ghost use Rattle.lfs_model.specs.Writers.{contents_after_write as with_bytes};
 
 use lfs_ctz::{Extender, cut, read_at, walk};
 use lfs_device::{BlockDevice, Error, Geometry};
@@ -65,7 +65,7 @@ pub fn read_front<D: BlockDevice>(
     size: u32,
     keep: u32,
 ) -> Result<Vec<u8>, Error>
-    requires list { IsList (D.blocks dev.old) (D.geometry dev.old).block_size head size }
+    requires list { IsSkipList (D.blocks dev.old) (D.geometry dev.old).block_size head size }
     requires some { 1 ≤ keep }
     requires within { keep ≤ size }
     ensures bytes { IfOk result (λ bytes. bytes.items ≡ take keep (bytes_of (D.blocks dev.old) (D.geometry dev.old).block_size head size)) }
@@ -83,9 +83,9 @@ pub fn read_front<D: BlockDevice>(
 ///
 /// `Error::Io` comes where the device failed.
 pub fn is_list<D: BlockDevice>(dev: &mut D, head: u32, size: u32) -> Result<bool, Error>
-    ensures yes { result ≡ Ok true → IsList (D.blocks dev.old) (D.geometry dev.old).block_size head size }
-    ensures no { result ≡ Ok false → ¬ IsList (D.blocks dev.old) (D.geometry dev.old).block_size head size }
-    ensures few { result ≡ Ok true → reads (D.history dev.new) ≤ reads (D.history dev.old) + blocks_for (D.geometry dev.old).block_size size }
+    ensures yes { result ≡ Ok true → IsSkipList (D.blocks dev.old) (D.geometry dev.old).block_size head size }
+    ensures no { result ≡ Ok false → ¬ IsSkipList (D.blocks dev.old) (D.geometry dev.old).block_size head size }
+    ensures few { result ≡ Ok true → reads (D.history dev.new) ≤ reads (D.history dev.old) + list_block_count_for_size (D.geometry dev.old).block_size size }
     ensures errors { IfErr result (λ e. e ≡ Error.Io) }
 {
     match walk(dev, head, size, &mut |_block| {}) {

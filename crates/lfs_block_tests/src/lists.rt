@@ -2,9 +2,9 @@
 
 ghost use Rattle.std.specs.Prelude.{◌≡◌, ◌≤◌, ◌<◌, ◌+◌, ◌-◌, ◌^◌, All, length, OnOk, IfOk};
 ghost use Rattle.std.specs.List.{range_with_len};
-ghost use Rattle.lfs_model.specs.SkipLists.{IsList, blocks_back, blocks_for};
-ghost use Rattle.lfs_ctz.specs.Growing.{end_of};
-ghost use Rattle.lfs_block_tests.specs.Below.{IsBelow, IsOwn};
+ghost use Rattle.lfs_model.specs.SkipLists.{IsSkipList, list_blocks_from_head, list_block_count_for_size};
+ghost use Rattle.lfs_ctz.specs.Growing.{size_of_growing_list};
+ghost use Rattle.lfs_block_tests.specs.Below.{IsListBelowBlock, IsListInOwnBlocks};
 
 use lfs_ctz::{Extender, read_at, walk};
 use lfs_device::{BlockDevice, Error, Geometry, RamDevice};
@@ -38,12 +38,12 @@ fn append<D: BlockDevice>(
     next: u32,
     bytes: &[u8],
 ) -> Result<u32, Error>
-    requires below { IsBelow (D.blocks dev.old) (D.geometry dev.old) extender.old next }
+    requires below { IsListBelowBlock (D.blocks dev.old) (D.geometry dev.old) extender.old next }
     requires some { 1 ≤ length bytes.now }
-    requires room { end_of extender.old + length bytes.now < 2 ^ 31 }
-    ensures below { IfOk result (λ n. IsBelow (D.blocks dev.new) (D.geometry dev.new) extender.new n) }
-    ensures own { OnOk result (IsOwn (D.blocks dev.new) extender.new) }
-    ensures sum { OnOk result (end_of extender.new ≡ end_of extender.old + length bytes.now) }
+    requires room { size_of_growing_list extender.old + length bytes.now < 2 ^ 31 }
+    ensures below { IfOk result (λ n. IsListBelowBlock (D.blocks dev.new) (D.geometry dev.new) extender.new n) }
+    ensures own { OnOk result (IsListInOwnBlocks (D.blocks dev.new) extender.new) }
+    ensures sum { OnOk result (size_of_growing_list extender.new ≡ size_of_growing_list extender.old + length bytes.now) }
 {
     let count = extender.needed(bytes.len() as u32);
     let block_count = dev.geometry().block_count;
@@ -64,13 +64,13 @@ pub fn append_all<D: BlockDevice>(
     bytes: &[u8],
     step: usize,
 ) -> Result<u32, Error>
-    requires below { IsBelow (D.blocks dev.old) (D.geometry dev.old) extender.old next }
+    requires below { IsListBelowBlock (D.blocks dev.old) (D.geometry dev.old) extender.old next }
     requires some { 1 ≤ length bytes.now }
     requires step { 1 ≤ step }
-    requires room { end_of extender.old + length bytes.now < 2 ^ 31 }
-    ensures below { IfOk result (λ n. IsBelow (D.blocks dev.new) (D.geometry dev.new) extender.new n) }
-    ensures own { OnOk result (IsOwn (D.blocks dev.new) extender.new) }
-    ensures sum { OnOk result (end_of extender.new ≡ end_of extender.old + length bytes.now) }
+    requires room { size_of_growing_list extender.old + length bytes.now < 2 ^ 31 }
+    ensures below { IfOk result (λ n. IsListBelowBlock (D.blocks dev.new) (D.geometry dev.new) extender.new n) }
+    ensures own { OnOk result (IsListInOwnBlocks (D.blocks dev.new) extender.new) }
+    ensures sum { OnOk result (size_of_growing_list extender.new ≡ size_of_growing_list extender.old + length bytes.now) }
 {
     let mut next = next;
     let mut done = 0;
@@ -84,11 +84,11 @@ pub fn append_all<D: BlockDevice>(
 
 /// Ends a list whose blocks are all its own.
 pub fn end<D: BlockDevice>(dev: &mut D, extender: Extender, next: u32) -> Result<List, Error>
-    requires below { IsBelow (D.blocks dev.old) (D.geometry dev.old) extender next }
-    requires own { IsOwn (D.blocks dev.old) extender }
-    requires some { 1 ≤ end_of extender }
-    ensures list { IfOk result (λ l. IsList (D.blocks dev.new) (D.geometry dev.new).block_size l.head l.size) }
-    ensures below { IfOk result (λ l. All (λ b. b < l.next) (blocks_back (D.blocks dev.new) (blocks_for (D.geometry dev.new).block_size l.size) l.head)) }
+    requires below { IsListBelowBlock (D.blocks dev.old) (D.geometry dev.old) extender next }
+    requires own { IsListInOwnBlocks (D.blocks dev.old) extender }
+    requires some { 1 ≤ size_of_growing_list extender }
+    ensures list { IfOk result (λ l. IsSkipList (D.blocks dev.new) (D.geometry dev.new).block_size l.head l.size) }
+    ensures below { IfOk result (λ l. All (λ b. b < l.next) (list_blocks_from_head (D.blocks dev.new) (list_block_count_for_size (D.geometry dev.new).block_size l.size) l.head)) }
 {
     let (head, size) = extender.finish(dev)?;
     Ok(List { head, size, next })
@@ -102,8 +102,8 @@ pub fn write<D: BlockDevice>(
     bytes: &[u8],
     step: usize,
 ) -> Result<List, Error>
-    ensures list { IfOk result (λ l. IsList (D.blocks dev.new) (D.geometry dev.new).block_size l.head l.size) }
-    ensures below { IfOk result (λ l. All (λ b. b < l.next) (blocks_back (D.blocks dev.new) (blocks_for (D.geometry dev.new).block_size l.size) l.head)) }
+    ensures list { IfOk result (λ l. IsSkipList (D.blocks dev.new) (D.geometry dev.new).block_size l.head l.size) }
+    ensures below { IfOk result (λ l. All (λ b. b < l.next) (list_blocks_from_head (D.blocks dev.new) (list_block_count_for_size (D.geometry dev.new).block_size l.size) l.head)) }
 {
     if step == 0 || bytes.is_empty() || bytes.len() > 0x7fff_ffff {
         return Err(Error::Invalid);
@@ -122,10 +122,10 @@ pub fn extend<D: BlockDevice>(
     bytes: &[u8],
     step: usize,
 ) -> Result<List, Error>
-    requires list { IsList (D.blocks dev.old) (D.geometry dev.old).block_size list.head list.size }
-    requires below { All (λ b. b < list.next) (blocks_back (D.blocks dev.old) (blocks_for (D.geometry dev.old).block_size list.size) list.head) }
-    ensures list { IfOk result (λ l. IsList (D.blocks dev.new) (D.geometry dev.new).block_size l.head l.size) }
-    ensures below { IfOk result (λ l. All (λ b. b < l.next) (blocks_back (D.blocks dev.new) (blocks_for (D.geometry dev.new).block_size l.size) l.head)) }
+    requires list { IsSkipList (D.blocks dev.old) (D.geometry dev.old).block_size list.head list.size }
+    requires below { All (λ b. b < list.next) (list_blocks_from_head (D.blocks dev.old) (list_block_count_for_size (D.geometry dev.old).block_size list.size) list.head) }
+    ensures list { IfOk result (λ l. IsSkipList (D.blocks dev.new) (D.geometry dev.new).block_size l.head l.size) }
+    ensures below { IfOk result (λ l. All (λ b. b < l.next) (list_blocks_from_head (D.blocks dev.new) (list_block_count_for_size (D.geometry dev.new).block_size l.size) l.head)) }
 {
     if step == 0
         || keep == 0

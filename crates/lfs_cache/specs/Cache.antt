@@ -4,7 +4,7 @@ use Rattle.std.specs.List.{IsDistinct}
 use Rattle.std.specs.Map.{keys_of}
 use Rattle.std.specs.declared.alloc.Global.{Global}
 use Rattle.lru.specs.LruCache.{LruCache}
-use Rattle.lfs_model.specs.Cache.{CachedBlocks, cache_limit}
+use Rattle.lfs_model.specs.Cache.{CachedBlocks, cached_block_limit}
 
 -- the blocks of a cache with their bytes, the most recent first
 abbrev pub cached_blocks_view : List (ℕ × Vec ℕ Global) → CachedBlocks
@@ -12,6 +12,6 @@ cached_blocks_view entries = map (λ e. (e.0, e.1.items)) entries
 
 -- A cache has no block twice, and at most eight blocks.
 pub record IsCache (recent : LruCache ℕ (Vec ℕ Global)) : Type 0 where
-  pub capacity : recent.cap ≡ cache_limit
-  pub few : length recent.entries ≤ cache_limit
+  pub capacity : recent.cap ≡ cached_block_limit
+  pub few : length recent.entries ≤ cached_block_limit
   pub distinct : IsDistinct nat_eq (keys_of recent.entries)

@@ -4,19 +4,19 @@ use Rattle.lfs_device.specs.declared.device.BlockDevice.{Ghosts}
 use Rattle.lfs_device.specs.declared.error.Error.{Error}
 use Rattle.lfs_device.specs.declared.error.Error.TheVariants.{Io, NoMemory}
 use Rattle.lfs_model.specs.Blocks.{Blocks}
-use Rattle.lfs_model.specs.History.{Event, event}
+use Rattle.lfs_model.specs.History.{CallEvent, call_event_with}
 use Rattle.lfs_model.specs.History.Call.{Read}
 
 -- the event of a read of a whole block
-abbrev pub read_whole : ℕ → Blocks → ℕ → Bool → Event
-read_whole block_size blocks block failed = event (Read block 0 block_size) blocks blocks failed
+abbrev pub whole_block_read_event : ℕ → Blocks → ℕ → Bool → CallEvent
+whole_block_read_event block_size blocks block failed = call_event_with (Read block 0 block_size) blocks blocks failed
 
 -- A fill of a cached block makes no call of the device, and takes no memory. A fill of another block takes one read, unless
 -- there is no memory for its bytes.
-pub record ReadsWhereMissing {D : Type 0} (g : Ghosts D) (was : Option (List ℕ)) (b : ℕ) (old new : D) (result : Result (Unit {0}) Error) : Type 0 where
+pub record ReadsBlockUnlessCached {D : Type 0} (g : Ghosts D) (was : Option (List ℕ)) (b : ℕ) (old new : D) (result : Result (Unit {0}) Error) : Type 0 where
   pub cached_log : IsSome was → IsOk result
   pub no_call : IsSome was → new ≡ old
-  pub read : was ≡ None → OnOk result (g.history new ≡ read_whole (g.geometry old).block_size (g.blocks old) b false ∷ g.history old)
-  pub failed : IsErrOf result Io → g.history new ≡ read_whole (g.geometry old).block_size (g.blocks old) b true ∷ g.history old
+  pub read : was ≡ None → OnOk result (g.history new ≡ whole_block_read_event (g.geometry old).block_size (g.blocks old) b false ∷ g.history old)
+  pub failed : IsErrOf result Io → g.history new ≡ whole_block_read_event (g.geometry old).block_size (g.blocks old) b true ∷ g.history old
   pub no_memory : IsErrOf result NoMemory → (g.history new ≡ g.history old)
-      ⊎ (g.history new ≡ read_whole (g.geometry old).block_size (g.blocks old) b false ∷ g.history old)
+      ⊎ (g.history new ≡ whole_block_read_event (g.geometry old).block_size (g.blocks old) b false ∷ g.history old)

@@ -1,9 +1,9 @@
 ghost use Rattle.std.specs.Prelude.{◌≡◌, ◌⊎◌, ◌<◌, ◌≤◌, ℕ, List, ◌∷◌, [], is_some, true, false, length, unwrap_or, IfErr, IfOk, IsErrOf, IsOk, IsSome, None, OnErr, OnOk, option_copied, option_map};
 ghost use Rattle.std.specs.Bool.{OnFalse, OnTrue};
-ghost use Rattle.lfs_model.specs.Blocks.{block_in};
-ghost use Rattle.lfs_model.specs.Cache.{cache_limit, cached, put_first, without_block};
+ghost use Rattle.lfs_model.specs.Blocks.{block_bytes_in};
+ghost use Rattle.lfs_model.specs.Cache.{cached_block_limit, cached_bytes_of_block, cache_with_block_first, cache_without_block};
 ghost use Rattle.lfs_device.specs.Calls.{ReadsOnly, ReportsFaults};
-ghost use Rattle.lfs_cache.specs.Read.{ReadsWhereMissing};
+ghost use Rattle.lfs_cache.specs.Read.{ReadsBlockUnlessCached};
 
 use lfs_device::{BlockDevice, Error, read_block};
 use lru::LruCache;
@@ -56,10 +56,10 @@ impl Cache {
     pub fn fill<D: BlockDevice>(&mut self, device: &mut D, block: u32) -> Result<(), Error>
         requires { block < (D.geometry device.old).block_count }
         ensures filled { OnOk result (self.new
-            ≡ put_first self.old block (unwrap_or (cached self.old block) (block_in (D.blocks device.old) block))) }
+            ≡ cache_with_block_first self.old block (unwrap_or (cached_bytes_of_block self.old block) (block_bytes_in (D.blocks device.old) block))) }
         ensures err { OnErr result (self.new ≡ self.old) }
-        ensures few { length self.new ≤ cache_limit }
-        ensures calls { ReadsWhereMissing D.BlockDevice (cached self.old block) block device.old device.new result }
+        ensures few { length self.new ≤ cached_block_limit }
+        ensures calls { ReadsBlockUnlessCached D.BlockDevice (cached_bytes_of_block self.old block) block device.old device.new result }
         ensures device { ReadsOnly D.BlockDevice device.old device.new }
         ensures faults { ReportsFaults D.BlockDevice device.old device.new result }
         ensures errors { IfErr result (λ e. (e ≡ Error.Io) ⊎ (e ≡ Error.NoMemory)) }
@@ -75,7 +75,7 @@ impl Cache {
     /// Returns the bytes of a block, without a copy. Returns None where the block isn't cached.
     /// The order of the blocks stays as it is.
     pub fn lend(&self, block: u32) -> Option<&[u8]>
-        ensures { option_copied result ≡ cached self.now block }
+        ensures { option_copied result ≡ cached_bytes_of_block self.now block }
     {
         match self.recent.peek(&block) {
             Some(bytes) => Some(bytes.as_slice()),
@@ -88,8 +88,8 @@ impl Cache {
     ///
     /// The call takes no memory and makes no call of the device.
     pub fn take(&mut self, block: u32) -> Option<Vec<u8>>
-        ensures bytes { option_map (λ bytes. bytes.items) result ≡ cached self.old block }
-        ensures others { self.new ≡ without_block self.old block }
+        ensures bytes { option_map (λ bytes. bytes.items) result ≡ cached_bytes_of_block self.old block }
+        ensures others { self.new ≡ cache_without_block self.old block }
     {
         self.recent.pop(&block)
     }
@@ -97,7 +97,7 @@ impl Cache {
     /// Takes a block out of the cache and drops its bytes. Nothing changes where the block isn't at
     /// hand. The call takes no memory and makes no call of the device.
     pub fn forget(&mut self, block: u32)
-        ensures { self.new ≡ without_block self.old block }
+        ensures { self.new ≡ cache_without_block self.old block }
     {
         self.take(block);
     }
@@ -112,10 +112,10 @@ impl Cache {
 
     // Makes a cached block the most recent one. Returns whether the block is cached.
     fn promote(&mut self, block: u32) -> bool
-        ensures cached_log { result ≡ is_some (cached self.old block) }
-        ensures first { OnTrue result ((other : List ℕ) → self.new ≡ put_first self.old block (unwrap_or (cached self.old block) other)) }
+        ensures cached_log { result ≡ is_some (cached_bytes_of_block self.old block) }
+        ensures first { OnTrue result ((other : List ℕ) → self.new ≡ cache_with_block_first self.old block (unwrap_or (cached_bytes_of_block self.old block) other)) }
         ensures same { OnFalse result (self.new ≡ self.old) }
-        ensures few { length self.new ≤ cache_limit }
+        ensures few { length self.new ≤ cached_block_limit }
     {
         self.recent.promote(&block)
     }
@@ -123,10 +123,10 @@ impl Cache {
     // Adds a block that isn't cached as the most recent one. The least recent block is dropped
     // where there were eight.
     fn put(&mut self, block: u32, bytes: Vec<u8>) -> Result<(), Error>
-        requires { cached self.old block ≡ None }
-        ensures first { OnOk result (self.new ≡ put_first self.old block bytes.items) }
+        requires { cached_bytes_of_block self.old block ≡ None }
+        ensures first { OnOk result (self.new ≡ cache_with_block_first self.old block bytes.items) }
         ensures err { OnErr result (self.new ≡ self.old) }
-        ensures few { length self.new ≤ cache_limit }
+        ensures few { length self.new ≤ cached_block_limit }
         ensures error { IfErr result (λ e. e ≡ Error.NoMemory) }
     {
         self.recent.put(block, bytes)?;

@@ -3,23 +3,23 @@ use Rattle.std.proofs.Common.{ℕ, ◌≡◌, ◌<◌, ◌+◌, ◌-◌, ◌*◌
 use Rattle.std.proofs.lemmas.List.{length-take-le}
 use Rattle.lfs_model.specs.SkipLists.{pointers_of}
 use Rattle.lfs_ctz.specs.declared.extender.Extender.TheInside.{Inside}
-use Rattle.lfs_ctz.specs.Fields.{HasBlock, growing_view}
-use Rattle.lfs_ctz.specs.Growing.{Growing, HasShortRest, end_of}
+use Rattle.lfs_ctz.specs.Fields.{HasBufferOfOneBlock, growing_list_view}
+use Rattle.lfs_ctz.specs.Growing.{GrowingList, IsRestShorterThanBlock, size_of_growing_list}
 
 -- how many there are
-pub rest_long : (e : Inside) → HasBlock e → length (growing_view e).rest + 4 * pointers_of e.full ≡ e.filled
+pub rest_long : (e : Inside) → HasBufferOfOneBlock e → length (growing_list_view e).rest + 4 * pointers_of e.full ≡ e.filled
 rest_long e has =
     let p : ℕ = 4 * pointers_of e.full in
     omega (arith, length-take-le (e.filled - p) (drop p e.buffer.items) (omega (arith, has.one_block, has.in_step.high, length-drop p e.buffer.items)), has.in_step.low)
 
 -- they do not fill a block, and the size counts them
-pub record IsCounted (g : Growing) (size : ℕ) : Type 0 where
-  pub short : HasShortRest g.geometry.block_size g
-  pub sum : size ≡ end_of g
+pub record IsCounted (g : GrowingList) (size : ℕ) : Type 0 where
+  pub short : IsRestShorterThanBlock g.geometry.block_size g
+  pub sum : size ≡ size_of_growing_list g
   pub fits : size < 2 ^ 31
 
-pub counted : (e : Inside) (g : Growing) → HasBlock e → growing_view e ≡ g → IsCounted g e.size
+pub counted : (e : Inside) (g : GrowingList) → HasBufferOfOneBlock e → growing_list_view e ≡ g → IsCounted g e.size
 counted e g has is =
     let rest = rest_long e has in
-    subst (λ (v : Growing). IsCounted v e.size) is
+    subst (λ (v : GrowingList). IsCounted v e.size) is
     (record { short = omega (arith, rest, has.in_step.high); sum = omega (arith, rest, has.in_step.sum); fits = has.in_step.fits })

@@ -9,7 +9,7 @@ use lib.Count.{ones, ones_step, ones-le, count_trailing_zeros, trailing_le}
 pub use Rattle.lfs_model.proofs.ListSizes.{capacity_of-pos, pointers_of-le}
 pub use Rattle.lfs_model.proofs.ListParts.{bytes_before-more, place-lt, place-mono}
 use Rattle.lfs_ctz.proofs.Zeros.{zeros_even, zeros_odd}
-use Rattle.lfs_model.specs.SkipLists.{pointers_of, capacity_of, bytes_before, IsBytePlace, blocks_from, blocks_for}
+use Rattle.lfs_model.specs.SkipLists.{pointers_of, capacity_of, bytes_before, IsPlaceOfByteInList, block_count_from, list_block_count_for_size}
 
 -- ---- the ones of a number and of the next one differ by its zeros behind
 
@@ -58,7 +58,7 @@ bytes_before-suc block_size (suc n) le h =
 
 module _ (block_size pos : ℕ) (large : 1024 ≤ block_size) where
   place_at : (i : ℕ) → i < 2 ^ 32 → bytes_before block_size i ≤ pos → pos < (block_size - 8) * i + block_size + 4 * ones i
-      → (4 * ones i ≤ pos - (block_size - 8) * i) × IsBytePlace block_size pos i (pos - (block_size - 8) * i - 4 * ones i)
+      → (4 * ones i ≤ pos - (block_size - 8) * i) × IsPlaceOfByteInList block_size pos i (pos - (block_size - 8) * i - 4 * ones i)
   place_at zero h from below =
       let none = ones-le 0 0 (omega arith) in
       (omega arith, record { from = omega arith; below = omega arith; at = omega arith })
@@ -70,7 +70,7 @@ module _ (block_size pos : ℕ) (large : 1024 ≤ block_size) where
       (omega arith, record { from = omega arith; below = omega arith; at = omega arith })
 
   abbrev pub IsPlaceBy : ℕ → Type 0
-  IsPlaceBy i = (4 * ones i ≤ pos - (block_size - 8) * i) × IsBytePlace block_size pos i (pos - (block_size - 8) * i - 4 * ones i)
+  IsPlaceBy i = (4 * ones i ≤ pos - (block_size - 8) * i) × IsPlaceOfByteInList block_size pos i (pos - (block_size - 8) * i - 4 * ones i)
 
   bytes_before-le : (g : ℕ) → suc g < 2 ^ 32 → (block_size - 8) * suc g ≤ pos → bytes_before block_size g ≤ pos
   bytes_before-le zero h le = omega arith
@@ -114,49 +114,49 @@ bytes_before-least block_size (suc i) large =
     let one = capacity_of-pos block_size i large in
     omega arith
 
-blocks_from-none : (steps block_size i : ℕ) → blocks_from steps block_size i 0 ≡ 0
-blocks_from-none zero block_size i = refl
-blocks_from-none (suc steps) block_size i = refl
+block_count_from-none : (steps block_size i : ℕ) → block_count_from steps block_size i 0 ≡ 0
+block_count_from-none zero block_size i = refl
+block_count_from-none (suc steps) block_size i = refl
 
-blocks_from-some : (steps block_size i size : ℕ) → 1 ≤ size → blocks_from (suc steps) block_size i size ≡ 1 + blocks_from steps block_size (i + 1) (size - capacity_of block_size i)
-blocks_from-some steps block_size i size some =
+block_count_from-some : (steps block_size i size : ℕ) → 1 ≤ size → block_count_from (suc steps) block_size i size ≡ 1 + block_count_from steps block_size (i + 1) (size - capacity_of block_size i)
+block_count_from-some steps block_size i size some =
     let no : (size == 0) ≡ false = grind (arith, nat_tests) in
-    ap (λ t. if t then 0 else 1 + blocks_from steps block_size (i + 1) (size - capacity_of block_size i)) no
+    ap (λ t. if t then 0 else 1 + block_count_from steps block_size (i + 1) (size - capacity_of block_size i)) no
 
 -- counted from block i on, up to the block n in which the last byte stands
-blocks_from-last : (block_size n total : ℕ) → 1024 ≤ block_size → bytes_before block_size n < total → total ≤ bytes_before block_size n + capacity_of block_size n
-    → (steps i rest : ℕ) → i ≤ n → rest ≤ steps → bytes_before block_size i + rest ≡ total → i + blocks_from steps block_size i rest ≡ suc n
-blocks_from-last block_size n total large above within steps i zero le enough is = let more = bytes_before-more block_size i n le in absurd (omega arith)
-blocks_from-last block_size n total large above within zero i (suc rest) le enough is = absurd (omega arith)
-blocks_from-last block_size n total large above within (suc steps) i (suc rest) le enough is =
+block_count_from-last : (block_size n total : ℕ) → 1024 ≤ block_size → bytes_before block_size n < total → total ≤ bytes_before block_size n + capacity_of block_size n
+    → (steps i rest : ℕ) → i ≤ n → rest ≤ steps → bytes_before block_size i + rest ≡ total → i + block_count_from steps block_size i rest ≡ suc n
+block_count_from-last block_size n total large above within steps i zero le enough is = let more = bytes_before-more block_size i n le in absurd (omega arith)
+block_count_from-last block_size n total large above within zero i (suc rest) le enough is = absurd (omega arith)
+block_count_from-last block_size n total large above within (suc steps) i (suc rest) le enough is =
     ⊎_elim
     (λ inside.
     let more = bytes_before-more block_size (suc i) n (omega arith) in
     let one = capacity_of-pos block_size i large in
-    let next : suc i + blocks_from steps block_size (suc i) (suc rest - capacity_of block_size i) ≡ suc n =
-    blocks_from-last block_size n total large above within steps (suc i) (suc rest - capacity_of block_size i) (omega arith) (omega arith) (omega arith) in
-    omega (arith, blocks_from-some steps block_size i (suc rest) (omega arith), ap (λ k. blocks_from steps block_size k (suc rest - capacity_of block_size i)) (add-one i)))
+    let next : suc i + block_count_from steps block_size (suc i) (suc rest - capacity_of block_size i) ≡ suc n =
+    block_count_from-last block_size n total large above within steps (suc i) (suc rest - capacity_of block_size i) (omega arith) (omega arith) (omega arith) in
+    omega (arith, block_count_from-some steps block_size i (suc rest) (omega arith), ap (λ k. block_count_from steps block_size k (suc rest - capacity_of block_size i)) (add-one i)))
     (λ last.
     let same : i ≡ n = omega arith in
     let here : suc rest ≤ capacity_of block_size i = subst (λ k. bytes_before block_size k + suc rest ≡ total → suc rest ≤ capacity_of block_size k) (sym same) (λ e. omega arith) is in
     let none : suc rest - capacity_of block_size i ≡ 0 = omega arith in
-    omega (arith, blocks_from-some steps block_size i (suc rest) (omega arith), ap (blocks_from steps block_size (i + 1)) none, blocks_from-none steps block_size (i + 1)))
+    omega (arith, block_count_from-some steps block_size i (suc rest) (omega arith), ap (block_count_from steps block_size (i + 1)) none, block_count_from-none steps block_size (i + 1)))
     (cases_lt i n)
 
 -- the byte before the end is in the last block
-pub blocks_for-place : (block_size size index offset : ℕ) → 1024 ≤ block_size → 1 ≤ size → IsBytePlace block_size (size - 1) index offset → blocks_for block_size size ≡ index + 1
-blocks_for-place block_size size index offset large some is =
-    let counted = blocks_from-last block_size index size large (omega arith) (omega arith) size 0 size (omega arith) (omega arith) (omega arith) in
+pub list_block_count_for_size-place : (block_size size index offset : ℕ) → 1024 ≤ block_size → 1 ≤ size → IsPlaceOfByteInList block_size (size - 1) index offset → list_block_count_for_size block_size size ≡ index + 1
+list_block_count_for_size-place block_size size index offset large some is =
+    let counted = block_count_from-last block_size index size large (omega arith) (omega arith) size 0 size (omega arith) (omega arith) (omega arith) in
     omega arith
 
 -- a list has fewer blocks than bytes
-pub place-le : (block_size pos index offset : ℕ) → 1024 ≤ block_size → IsBytePlace block_size pos index offset → 892 * index ≤ pos
+pub place-le : (block_size pos index offset : ℕ) → 1024 ≤ block_size → IsPlaceOfByteInList block_size pos index offset → 892 * index ≤ pos
 place-le block_size pos index offset large is = let k = bytes_before-least block_size index large in omega arith
 
 -- ---- places in order
 
 -- each byte has a place
-pub placed : (block_size pos : ℕ) → 1024 ≤ block_size → (i : ℕ) × ((off : ℕ) × IsBytePlace block_size pos i off)
+pub placed : (block_size pos : ℕ) → 1024 ≤ block_size → (i : ℕ) × ((off : ℕ) × IsPlaceOfByteInList block_size pos i off)
 placed block_size zero large = (0, (0, record { from = omega arith; below = omega arith; at = omega arith }))
 placed block_size (suc pos) large =
     let before = placed block_size pos large in
@@ -169,14 +169,14 @@ placed block_size (suc pos) large =
     (λ next. (suc i, (4 * pointers_of (suc i) + (suc pos - bytes_before block_size (suc i)), record { from = omega arith; below = omega arith; at = refl })))
     (cases_lt (suc pos) (bytes_before block_size i + capacity_of block_size i))
 
-pub place_unique : (block_size p i j off end : ℕ) → IsBytePlace block_size p i off → IsBytePlace block_size p j end → i ≡ j
+pub place_unique : (block_size p i j off end : ℕ) → IsPlaceOfByteInList block_size p i off → IsPlaceOfByteInList block_size p j end → i ≡ j
 place_unique block_size p i j off end is there =
     let a = place-mono block_size p p i j off end is there (omega arith) in
     let b = place-mono block_size p p j i end off there is (omega arith) in
     omega arith
 
 -- the last byte before a block is in the block before it
-pub place_before : (block_size p i j off : ℕ) → 1024 ≤ block_size → IsBytePlace block_size p j off → suc p ≡ bytes_before block_size i → i ≡ suc j
+pub place_before : (block_size p i j off : ℕ) → 1024 ≤ block_size → IsPlaceOfByteInList block_size p j off → suc p ≡ bytes_before block_size i → i ≡ suc j
 place_before block_size p i j off large is e =
     let low = is.from in
     let high = is.below in
@@ -189,18 +189,18 @@ place_before block_size p i j off large is e =
     (cases_lt j i)
 
 -- the last byte is in the last block
-pub blocks_for-last : (block_size size : ℕ) → 1024 ≤ block_size → 1 ≤ size
-    → (n : ℕ) × ((blocks_for block_size size ≡ suc n) × ((bytes_before block_size n < size) × (size ≤ bytes_before block_size n + capacity_of block_size n)))
-blocks_for-last block_size size large some =
+pub list_block_count_for_size-last : (block_size size : ℕ) → 1024 ≤ block_size → 1 ≤ size
+    → (n : ℕ) × ((list_block_count_for_size block_size size ≡ suc n) × ((bytes_before block_size n < size) × (size ≤ bytes_before block_size n + capacity_of block_size n)))
+list_block_count_for_size-last block_size size large some =
     let last = placed block_size (size - 1) large in
     let low = last.1.1.from in
     let high = last.1.1.below in
-    (last.0, (blocks_for-place block_size size last.0 last.1.0 large some last.1.1 ∙ add-one last.0, (omega arith, omega arith)))
+    (last.0, (list_block_count_for_size-place block_size size last.0 last.1.0 large some last.1.1 ∙ add-one last.0, (omega arith, omega arith)))
 
 -- more bytes than the blocks before one hold need that one
-pub blocks_for-above : (block_size total n : ℕ) → 1024 ≤ block_size → bytes_before block_size n < total → n < blocks_for block_size total
-blocks_for-above block_size total n large above =
-    let last = blocks_for-last block_size total large (omega arith) in
+pub list_block_count_for_size-above : (block_size total n : ℕ) → 1024 ≤ block_size → bytes_before block_size n < total → n < list_block_count_for_size block_size total
+list_block_count_for_size-above block_size total n large above =
+    let last = list_block_count_for_size-last block_size total large (omega arith) in
     let count = last.1.0 in
     let within = last.1.1.1 in
     ⊎_elim
@@ -209,10 +209,10 @@ blocks_for-above block_size total n large above =
     (cases_lt last.0 n)
 
 -- and those that it holds need no further one
-pub blocks_for-within : (block_size total n : ℕ) → 1024 ≤ block_size → total ≤ bytes_before block_size n → blocks_for block_size total ≤ n
-blocks_for-within block_size zero n large within = omega arith
-blocks_for-within block_size (suc total) n large within =
-    let last = blocks_for-last block_size (suc total) large (omega arith) in
+pub list_block_count_for_size-within : (block_size total n : ℕ) → 1024 ≤ block_size → total ≤ bytes_before block_size n → list_block_count_for_size block_size total ≤ n
+list_block_count_for_size-within block_size zero n large within = omega arith
+list_block_count_for_size-within block_size (suc total) n large within =
+    let last = list_block_count_for_size-last block_size (suc total) large (omega arith) in
     let count = last.1.0 in
     let above = last.1.1.0 in
     ⊎_elim

@@ -3,8 +3,8 @@ use Rattle.std.proofs.Common.{ℕ, ◌≡◌, ◌+◌, ◌-◌, ◌≤◌, ◌<�
 use Rattle.std.specs.Int.{w32, from_le_bytes}
 use Rattle.std.proofs.Common.{length-drop}
 use Rattle.std.proofs.lemmas.List.{drop_at, drop-drop, drop-take, length-take-le, take-append-le, drop-append-le, take-append-drop, take-take}
-use Rattle.lfs_model.proofs.Overwrites.{block_in-set}
-use Rattle.lfs_model.specs.Blocks.{Blocks, block_in, overwritten, programmed}
+use Rattle.lfs_model.proofs.Overwrites.{block_bytes_in-set}
+use Rattle.lfs_model.specs.Blocks.{Blocks, block_bytes_in, bytes_after_overwrite_at, programmed}
 use Rattle.std.proofs.lemmas.Slice.{drop-put_mid, between_is}
 use Rattle.std.proofs.lemmas.Nat.{from_le_bytes-to_le_bytes_4}
 use Rattle.byteorder.specs.Endian.{little_bytes}
@@ -42,14 +42,14 @@ word_at-take bytes more i room =
     (between_is (bytes ++ more) i (i + 4) ∙ ap (drop i) (take-append-le (i + 4) bytes more room) ∙ sym (between_is bytes i (i + 4)))
 
 -- a block that was written from its beginning on
-pub block_in-written : (mid new : Blocks) (block end : ℕ) (bytes buf : List ℕ) → block < length mid → end ≤ length buf → bytes ≡ take end buf → new ≡ programmed mid block 0 bytes
-    → block_in new block ≡ take end buf ++ drop end (block_in mid block)
-block_in-written mid new block end bytes buf lt room is written =
+pub block_bytes_in-written : (mid new : Blocks) (block end : ℕ) (bytes buf : List ℕ) → block < length mid → end ≤ length buf → bytes ≡ take end buf → new ≡ programmed mid block 0 bytes
+    → block_bytes_in new block ≡ take end buf ++ drop end (block_bytes_in mid block)
+block_bytes_in-written mid new block end bytes buf lt room is written =
     let len : length bytes ≡ end = ap length is ∙ length-take-le end buf room in
-    ap (λ d. block_in d block) written
-    ∙ block_in-set mid block (overwritten (block_in mid block) 0 bytes) lt
-    ∙ ap (λ n. bytes ++ drop n (block_in mid block)) (let s : 0 + length bytes ≡ end = omega arith in s)
-    ∙ ap (λ (l : List ℕ). l ++ drop end (block_in mid block)) is
+    ap (λ d. block_bytes_in d block) written
+    ∙ block_bytes_in-set mid block (bytes_after_overwrite_at (block_bytes_in mid block) 0 bytes) lt
+    ∙ ap (λ n. bytes ++ drop n (block_bytes_in mid block)) (let s : 0 + length bytes ≡ end = omega arith in s)
+    ∙ ap (λ (l : List ℕ). l ++ drop end (block_bytes_in mid block)) is
 
 word_at-front : (buf : List ℕ) (end i : ℕ) → end ≤ length buf → i + 4 ≤ end → word_at (take end buf) i ≡ word_at buf i
 word_at-front buf end i room within =

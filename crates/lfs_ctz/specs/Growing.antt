@@ -1,13 +1,13 @@
 -- A list that grows, as contracts see it.
 use Rattle.std.specs.Prelude.{ℕ, Bool, true, false, ◌≡◌, ◌≢◌, ◌≤◌, ◌<◌, ◌+◌, ◌-◌, ◌*◌, List, [], ◌∷◌, ◌++◌, length, take, drop, slice_index, All}
 use Rattle.std.specs.List.{flat_map, enumerate_from}
-use Rattle.lfs_model.specs.Blocks.{Blocks, block_in}
-use Rattle.lfs_model.specs.SkipLists.{pointers_of, bytes_before, capacity_of, blocks_back, blocks_for, AreListBlocks, data_of}
+use Rattle.lfs_model.specs.Blocks.{Blocks, block_bytes_in}
+use Rattle.lfs_model.specs.SkipLists.{pointers_of, bytes_before, capacity_of, list_blocks_from_head, list_block_count_for_size, AreListBlocks, data_of_list_block}
 use Rattle.lfs_device.specs.declared.geometry.Geometry.{Geometry}
-use Rattle.lfs_ctz.specs.declared.rest.Rest.{Rest}
-use Rattle.lfs_ctz.specs.declared.rest.Rest.TheVariants.{Closed, Shared, Handed, Held}
+use Rattle.lfs_ctz.specs.declared.rest.RestLocation.{RestLocation}
+use Rattle.lfs_ctz.specs.declared.rest.RestLocation.TheVariants.{Closed, Shared, Handed, Held}
 
-pub record Growing : Type 0 where
+pub record GrowingList : Type 0 where
   -- the geometry of the device
   pub geometry : Geometry
   -- how many blocks are full and on the disk, and the last of them, where there is one
@@ -15,109 +15,109 @@ pub record Growing : Type 0 where
   pub head : ℕ
   -- the bytes after the full blocks, which do not fill a block, and where they are
   pub rest : List ℕ
-  pub stand : Rest
+  pub stand : RestLocation
 
 -- the block that was handed in for the rest and isn't written yet
-abbrev pub pending_in : Rest → List ℕ
-pending_in Closed = []
-pending_in (Shared b) = []
-pending_in (Handed b) = b ∷ []
-pending_in Held = []
+abbrev pub unwritten_block_of_rest : RestLocation → List ℕ
+unwritten_block_of_rest Closed = []
+unwritten_block_of_rest (Shared b) = []
+unwritten_block_of_rest (Handed b) = b ∷ []
+unwritten_block_of_rest Held = []
 
 -- the block that has the rest, or will have it
-abbrev pub last_in : Rest → List ℕ
-last_in Closed = []
-last_in (Shared b) = b ∷ []
-last_in (Handed b) = b ∷ []
-last_in Held = []
+abbrev pub block_of_rest : RestLocation → List ℕ
+block_of_rest Closed = []
+block_of_rest (Shared b) = b ∷ []
+block_of_rest (Handed b) = b ∷ []
+block_of_rest Held = []
 
 -- the rest is in memory for no block
-abbrev pub is_rest_in_buffer : Rest → Bool
+abbrev pub is_rest_in_buffer : RestLocation → Bool
 is_rest_in_buffer Closed = false
 is_rest_in_buffer (Shared b) = false
 is_rest_in_buffer (Handed b) = false
 is_rest_in_buffer Held = true
 
-abbrev pub is_in_buffer_alone : Growing → Bool
-is_in_buffer_alone g = is_rest_in_buffer g.stand
+abbrev pub is_list_only_in_buffer : GrowingList → Bool
+is_list_only_in_buffer g = is_rest_in_buffer g.stand
 
-abbrev pub pending_of : Growing → List ℕ
-pending_of g = pending_in g.stand
+abbrev pub unwritten_block_of_list : GrowingList → List ℕ
+unwritten_block_of_list g = unwritten_block_of_rest g.stand
 
 -- the blocks that stay the list's when it grows: full ones, and the pending one
-abbrev pub kept_blocks : Blocks → Growing → List ℕ
-kept_blocks disk g = blocks_back disk g.full g.head ++ pending_of g
+abbrev pub blocks_kept_when_growing : Blocks → GrowingList → List ℕ
+blocks_kept_when_growing disk g = list_blocks_from_head disk g.full g.head ++ unwritten_block_of_list g
 
 -- the blocks of the list as it is
-abbrev pub blocks_of_list : Blocks → Growing → List ℕ
-blocks_of_list disk g = blocks_back disk g.full g.head ++ last_in g.stand
+abbrev pub blocks_of_growing_list : Blocks → GrowingList → List ℕ
+blocks_of_growing_list disk g = list_blocks_from_head disk g.full g.head ++ block_of_rest g.stand
 
-abbrev pub bytes_of_blocks : Blocks → List ℕ → List ℕ
-bytes_of_blocks disk bs = flat_map (data_of disk) (enumerate_from 0 bs)
+abbrev pub data_of_list_blocks : Blocks → List ℕ → List ℕ
+data_of_list_blocks disk bs = flat_map (data_of_list_block disk) (enumerate_from 0 bs)
 
 -- the bytes of the list
-abbrev pub content_of : Blocks → Growing → List ℕ
-content_of disk g = bytes_of_blocks disk (blocks_back disk g.full g.head) ++ g.rest
+abbrev pub content_of : Blocks → GrowingList → List ℕ
+content_of disk g = data_of_list_blocks disk (list_blocks_from_head disk g.full g.head) ++ g.rest
 
-abbrev pub size_with_pointers : ℕ → Growing → ℕ
-size_with_pointers block_size g = bytes_before block_size g.full + length g.rest
+abbrev pub list_size_by_block_size : ℕ → GrowingList → ℕ
+list_size_by_block_size block_size g = bytes_before block_size g.full + length g.rest
 
 -- how many bytes the list has
-abbrev pub end_of : Growing → ℕ
-end_of g = size_with_pointers g.geometry.block_size g
+abbrev pub size_of_growing_list : GrowingList → ℕ
+size_of_growing_list g = list_size_by_block_size g.geometry.block_size g
 
 -- the rest does not fill a block, so that no other blocks are full
-abbrev pub HasShortRest : ℕ → Growing → Type 0
-HasShortRest block_size g = length g.rest < capacity_of block_size g.full
+abbrev pub IsRestShorterThanBlock : ℕ → GrowingList → Type 0
+IsRestShorterThanBlock block_size g = length g.rest < capacity_of block_size g.full
 
 -- how many blocks the list needs for so many bytes more
-abbrev pub needed_of : Growing → ℕ → ℕ
-needed_of g n = blocks_for g.geometry.block_size (end_of g + n) - (g.full + length (pending_of g))
+abbrev pub count_of_blocks_to_append : GrowingList → ℕ → ℕ
+count_of_blocks_to_append g n = list_block_count_for_size g.geometry.block_size (size_of_growing_list g + n) - (g.full + length (unwritten_block_of_list g))
 
 -- the rest is in a block that was handed in for it
-pub record IsHanded (disk : Blocks) (full head : ℕ) (rest : List ℕ) (b : ℕ) : Type 0 where
+pub record IsRestForUnwrittenBlock (disk : Blocks) (full head : ℕ) (rest : List ℕ) (b : ℕ) : Type 0 where
   pub some : 1 ≤ length rest
   pub in_range : b < length disk
-  pub apart : All (λ c. c ≢ b) (blocks_back disk full head)
+  pub apart : All (λ c. c ≢ b) (list_blocks_from_head disk full head)
 
 -- the rest is the beginning of a block that follows the full ones
-pub record IsShared (disk : Blocks) (full head : ℕ) (rest : List ℕ) (b : ℕ) : Type 0 where
+pub record IsRestInSharedBlock (disk : Blocks) (full head : ℕ) (rest : List ℕ) (b : ℕ) : Type 0 where
   pub some : 1 ≤ length rest
   pub chain : AreListBlocks disk (full + 1) b
-  pub back : blocks_back disk (full + 1) b ≡ blocks_back disk full head ++ b ∷ []
-  pub begins : take (length rest) (drop (4 * pointers_of full) (block_in disk b)) ≡ rest
+  pub back : list_blocks_from_head disk (full + 1) b ≡ list_blocks_from_head disk full head ++ b ∷ []
+  pub begins : take (length rest) (drop (4 * pointers_of full) (block_bytes_in disk b)) ≡ rest
 
-abbrev pub IsRest : Blocks → ℕ → ℕ → List ℕ → Rest → Type 0
-IsRest disk full head rest Closed = rest ≡ []
-IsRest disk full head rest (Shared b) = IsShared disk full head rest b
-IsRest disk full head rest (Handed b) = IsHanded disk full head rest b
-IsRest disk full head rest Held = full ≡ 0
+abbrev pub IsRestAtItsLocation : Blocks → ℕ → ℕ → List ℕ → RestLocation → Type 0
+IsRestAtItsLocation disk full head rest Closed = rest ≡ []
+IsRestAtItsLocation disk full head rest (Shared b) = IsRestInSharedBlock disk full head rest b
+IsRestAtItsLocation disk full head rest (Handed b) = IsRestForUnwrittenBlock disk full head rest b
+IsRestAtItsLocation disk full head rest Held = full ≡ 0
 
 -- the disk holds the list's full blocks as they are
-pub record IsGrowing (disk : Blocks) (g : Growing) : Type 0 where
+pub record HasGrowingListOnDisk (disk : Blocks) (g : GrowingList) : Type 0 where
   pub chain : AreListBlocks disk g.full g.head
-  pub stand : IsRest disk g.full g.head g.rest g.stand
+  pub stand : IsRestAtItsLocation disk g.full g.head g.rest g.stand
 
 -- the block that takes the next bytes, and how many of the blocks that were handed in are used then
-abbrev pub next_of : Rest → List ℕ → ℕ → ℕ × ℕ
-next_of Closed blocks used = (slice_index blocks used, used + 1)
-next_of (Shared b) blocks used = (slice_index blocks used, used + 1)
-next_of (Handed b) blocks used = (b, used)
-next_of Held blocks used = (slice_index blocks used, used + 1)
+abbrev pub block_for_next_bytes : RestLocation → List ℕ → ℕ → ℕ × ℕ
+block_for_next_bytes Closed blocks used = (slice_index blocks used, used + 1)
+block_for_next_bytes (Shared b) blocks used = (slice_index blocks used, used + 1)
+block_for_next_bytes (Handed b) blocks used = (b, used)
+block_for_next_bytes Held blocks used = (slice_index blocks used, used + 1)
 
 -- the list on a disk that has the same bytes in its blocks
-pub record IsSameList (disk later : Blocks) (g : Growing) : Type 0 where
-  pub growing : IsGrowing later g
+pub record IsSameListOnLaterDisk (disk later : Blocks) (g : GrowingList) : Type 0 where
+  pub growing : HasGrowingListOnDisk later g
   pub content : content_of later g ≡ content_of disk g
-  pub kept : kept_blocks later g ≡ kept_blocks disk g
-  pub blocks : blocks_of_list later g ≡ blocks_of_list disk g
+  pub kept : blocks_kept_when_growing later g ≡ blocks_kept_when_growing disk g
+  pub blocks : blocks_of_growing_list later g ≡ blocks_of_growing_list disk g
 
 -- all bytes are in memory, and none in a block
-pub record IsInBufferAlone (g : Growing) : Type 0 where
-  pub held : is_in_buffer_alone g ≡ true
+pub record HasAllBytesInBuffer (g : GrowingList) : Type 0 where
+  pub held : is_list_only_in_buffer g ≡ true
   pub none : g.full ≡ 0
 
 -- the list can be ended, and the block that waits for more bytes is one of these
-pub record IsPendingIn (bs : List ℕ) (g : Growing) : Type 0 where
-  pub listed : is_in_buffer_alone g ≡ false
-  pub pending : (other : ℕ) → All (λ b. b ≢ other) bs → All (λ b. b ≢ other) (pending_of g)
+pub record HasUnwrittenBlockAmong (bs : List ℕ) (g : GrowingList) : Type 0 where
+  pub listed : is_list_only_in_buffer g ≡ false
+  pub pending : (other : ℕ) → All (λ b. b ≢ other) bs → All (λ b. b ≢ other) (unwritten_block_of_list g)

@@ -1,12 +1,12 @@
 ghost use Rattle.std.specs.Prelude.{[], ◌∷◌, ◌≡◌, ◌≢◌, ◌≤◌, ◌<◌, ◌+◌, ◌-◌, ◌*◌, ◌%◌, ◌^◌, ◌++◌, ◌⊎◌, ℕ, All, length, take, drop, OnOk, IfErr, IsErrOf, slice_index};
 ghost use Rattle.byteorder.specs.Endian.{little_bytes};
-ghost use Rattle.lfs_ctz.specs.Appended.{IsAppended};
-ghost use Rattle.lfs_ctz.specs.Calls.{ReportsIo};
-ghost use Rattle.lfs_ctz.specs.Counts.{WritesCount};
-ghost use Rattle.lfs_ctz.specs.Extending.{CanFollow};
-ghost use Rattle.lfs_device.specs.Calls.{ChangesBlock, ReadsOnly, ReportsFaults};
-ghost use Rattle.lfs_model.specs.Blocks.{block_in};
-ghost use Rattle.lfs_model.specs.SkipLists.{AreListBlocks, blocks_back, pointers_of, word_at};
+ghost use Rattle.lfs_ctz.specs.Appended.{IsBlockAppendedToList};
+ghost use Rattle.lfs_ctz.specs.Calls.{ReportsNoErrorButIo};
+ghost use Rattle.lfs_ctz.specs.Counts.{WritesBlocksOnceEach};
+ghost use Rattle.lfs_ctz.specs.Extending.{CanBlockFollowFullBlocks};
+ghost use Rattle.lfs_device.specs.Calls.{ChangesOnlyThisBlock, ReadsOnly, ReportsFaults};
+ghost use Rattle.lfs_model.specs.Blocks.{block_bytes_in};
+ghost use Rattle.lfs_model.specs.SkipLists.{AreListBlocks, list_blocks_from_head, pointers_of, word_at};
 
 use crate::read::pointer;
 use byteorder::{ByteOrder, LittleEndian};
@@ -30,7 +30,7 @@ fn put_pointers<D: BlockDevice>(
 ) -> Result<(), Error>
     requires chain { AreListBlocks (D.blocks dev.old) index head }
     requires room { 1024 ≤ length buf.old }
-    ensures pointers { OnOk result ((k : ℕ) → k < pointers_of index → word_at buf.new (4 * k) ≡ slice_index (blocks_back (D.blocks dev.old) index head) (index - 2 ^ k)) }
+    ensures pointers { OnOk result ((k : ℕ) → k < pointers_of index → word_at buf.new (4 * k) ≡ slice_index (list_blocks_from_head (D.blocks dev.old) index head) (index - 2 ^ k)) }
     ensures rest { drop (4 * pointers_of index) buf.new ≡ drop (4 * pointers_of index) buf.old }
     ensures device { ReadsOnly D.BlockDevice dev.old dev.new }
     ensures faults { ReportsFaults D.BlockDevice dev.old dev.new result }
@@ -58,18 +58,18 @@ pub(crate) fn write_block<D: BlockDevice>(
     buf: &mut [u8],
     end: u32,
 ) -> Result<(), Error>
-    requires follows { CanFollow D.BlockDevice dev.old index head block }
+    requires follows { CanBlockFollowFullBlocks D.BlockDevice dev.old index head block }
     requires size { length buf.old ≡ (D.geometry dev.old).block_size }
     requires large { 1024 ≤ length buf.old }
     requires pages { end % (D.geometry dev.old).page ≡ 0 }
     requires room { end ≤ (D.geometry dev.old).block_size }
     requires pointers { 4 * pointers_of index ≤ end }
-    ensures appended { OnOk result (IsAppended (D.blocks dev.old) (D.blocks dev.new) index head block) }
-    ensures bytes { OnOk result (take (end - 4 * pointers_of index) (drop (4 * pointers_of index) (block_in (D.blocks dev.new) block))
+    ensures appended { OnOk result (IsBlockAppendedToList (D.blocks dev.old) (D.blocks dev.new) index head block) }
+    ensures bytes { OnOk result (take (end - 4 * pointers_of index) (drop (4 * pointers_of index) (block_bytes_in (D.blocks dev.new) block))
         ≡ take (end - 4 * pointers_of index) (drop (4 * pointers_of index) buf.old)) }
-    ensures writes { OnOk result (WritesCount 0 1 (D.history dev.old) (D.history dev.new)) }
-    ensures device { ChangesBlock D.BlockDevice block dev.old dev.new }
-    ensures io { ReportsIo D.BlockDevice dev.old dev.new result }
+    ensures writes { OnOk result (WritesBlocksOnceEach 0 1 (D.history dev.old) (D.history dev.new)) }
+    ensures device { ChangesOnlyThisBlock D.BlockDevice block dev.old dev.new }
+    ensures io { ReportsNoErrorButIo D.BlockDevice dev.old dev.new result }
 {
     put_pointers(dev, head, index, buf)?;
     dev.erase(block)?;

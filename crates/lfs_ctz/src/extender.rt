@@ -1,19 +1,19 @@
 ghost use Rattle.std.specs.Prelude.{◌≡◌, ◌≤◌, ◌<◌, ◌+◌, ◌-◌, ◌*◌, ◌^◌, ◌++◌, ◌∷◌, [], length, take, drop, replicate, OnOk, IfOk, IfErr};
-ghost use Rattle.lfs_ctz.specs.Appended.{IsAppended};
-ghost use Rattle.lfs_ctz.specs.Calls.{ReportsIo, ReportsMemory};
-ghost use Rattle.lfs_ctz.specs.Counts.{WritesCount};
-ghost use Rattle.lfs_ctz.specs.Extended.{IsGrown};
-ghost use Rattle.lfs_ctz.specs.Extending.{CanEndList, CanFollow, CanPush, CanResume, IsHolding, HasPushed, IsResumed, IsStarted};
-ghost use Rattle.lfs_ctz.specs.Finished.{IsEnd};
-ghost use Rattle.lfs_ctz.specs.Growing.{IsInBufferAlone, IsPendingIn, blocks_of_list, content_of, end_of, needed_of, next_of, pending_of};
-ghost use Rattle.lfs_device.specs.Calls.{ChangesBlock, ChangesOnly, ReadsOnly};
-ghost use Rattle.lfs_model.specs.Blocks.{block_in, overwritten};
-ghost use Rattle.lfs_model.specs.Writers.{written_into as with_bytes};
-ghost use Rattle.lfs_model.specs.SkipLists.{blocks_back, blocks_for, pointers_of};
+ghost use Rattle.lfs_ctz.specs.Appended.{IsBlockAppendedToList};
+ghost use Rattle.lfs_ctz.specs.Calls.{ReportsNoErrorButIo, ReportsIoOrNoMemory};
+ghost use Rattle.lfs_ctz.specs.Counts.{WritesBlocksOnceEach};
+ghost use Rattle.lfs_ctz.specs.Extended.{ListHasBytesAndBlocks};
+ghost use Rattle.lfs_ctz.specs.Extending.{CanEndList, CanBlockFollowFullBlocks, CanPushBytesToList, CanResumeListFromSize, HasBytesInBuffer, HasPushedBytesToList, IsResumedList, IsStartedEmptyList};
+ghost use Rattle.lfs_ctz.specs.Finished.{IsEndedList};
+ghost use Rattle.lfs_ctz.specs.Growing.{HasAllBytesInBuffer, HasUnwrittenBlockAmong, blocks_of_growing_list, content_of, size_of_growing_list, count_of_blocks_to_append, block_for_next_bytes, unwritten_block_of_list};
+ghost use Rattle.lfs_device.specs.Calls.{ChangesOnlyThisBlock, ChangesOnlyTheseBlocks, ReadsOnly};
+ghost use Rattle.lfs_model.specs.Blocks.{block_bytes_in, bytes_after_overwrite_at};
+ghost use Rattle.lfs_model.specs.Writers.{contents_after_write as with_bytes};
+ghost use Rattle.lfs_model.specs.SkipLists.{list_blocks_from_head, list_block_count_for_size, pointers_of};
 
 use crate::block::write_block;
-use crate::read::{find, head_before, pointers, read_part};
-use crate::{Rest, blocks_for, place};
+use crate::read::{find, head_before, pointers, read_part_into_buffer};
+use crate::{RestLocation, blocks_for, place};
 use lfs_device::{BlockDevice, Error, Geometry};
 use std::alloc::Global;
 use std::marker::Model;
@@ -33,25 +33,25 @@ pub struct Extender {
     head: u32,
     filled: u32,
     size: u32,
-    stand: Rest,
+    stand: RestLocation,
 }
 
 impl Model for Extender {
-    ghost use Rattle.lfs_ctz.specs.Growing.{Growing};
+    ghost use Rattle.lfs_ctz.specs.Growing.{GrowingList};
 
-    ghost Value = { Growing };
+    ghost Value = { GrowingList };
 
-    ghost use Rattle.lfs_ctz.specs.Fields.{HasBlock, growing_view};
+    ghost use Rattle.lfs_ctz.specs.Fields.{HasBufferOfOneBlock, growing_list_view};
 
-    ghost view = { growing_view };
+    ghost view = { growing_list_view };
 
-    ghost invariant = { HasBlock };
+    ghost invariant = { HasBufferOfOneBlock };
 }
 
 // Writes bytes over those from a place on.
 fn overwrite(all: &mut Vec<u8>, at: usize, bytes: &[u8])
     requires { at + length bytes.now ≤ length all.old.items }
-    ensures { all.new.items ≡ overwritten all.old.items at bytes.now }
+    ensures { all.new.items ≡ bytes_after_overwrite_at all.old.items at bytes.now }
 {
     all[at..at + bytes.len()].copy_from_slice(bytes);
 }
@@ -60,7 +60,7 @@ fn overwrite(all: &mut Vec<u8>, at: usize, bytes: &[u8])
 fn pad(all: &mut Vec<u8>, at: usize, end: usize, byte: u8)
     requires order { at ≤ end }
     requires within { end ≤ length all.old.items }
-    ensures { all.new.items ≡ overwritten all.old.items at (replicate (end - at) byte) }
+    ensures { all.new.items ≡ bytes_after_overwrite_at all.old.items at (replicate (end - at) byte) }
 {
     all[at..end].fill(byte);
 }
@@ -70,7 +70,7 @@ impl Extender {
     ///
     /// Errors: `NoMemory` where memory for a block isn't granted.
     pub fn start(alloc: Global, geometry: Geometry) -> Result<Extender, Error>
-        ensures started { IfOk result (IsStarted geometry) }
+        ensures started { IfOk result (IsStartedEmptyList geometry) }
         ensures errors { IfErr result (λ e. e ≡ Error.NoMemory) }
     {
         let buffer = Vec::from_elem(alloc, 0u8, geometry.block_size as usize)?;
@@ -81,7 +81,7 @@ impl Extender {
             head: 0,
             filled: 0,
             size: 0,
-            stand: Rest::Closed,
+            stand: RestLocation::Closed,
         })
     }
 
@@ -96,10 +96,10 @@ impl Extender {
         size: u32,
         keep: u32,
     ) -> Result<Extender, Error>
-        requires { CanResume (D.blocks dev.old) (D.geometry dev.old).block_size head size keep }
-        ensures resumed { IfOk result (IsResumed (D.blocks dev.old) (D.geometry dev.old) head size keep) }
+        requires { CanResumeListFromSize (D.blocks dev.old) (D.geometry dev.old).block_size head size keep }
+        ensures resumed { IfOk result (IsResumedList (D.blocks dev.old) (D.geometry dev.old) head size keep) }
         ensures device { ReadsOnly D.BlockDevice dev.old dev.new }
-        ensures reports { ReportsMemory D.BlockDevice dev.old dev.new result }
+        ensures reports { ReportsIoOrNoMemory D.BlockDevice dev.old dev.new result }
     {
         let geometry = dev.geometry();
         let block_size = geometry.block_size;
@@ -114,11 +114,11 @@ impl Extender {
                 head: block,
                 filled: 4 * pointers(index + 1),
                 size: keep,
-                stand: Rest::Closed,
+                stand: RestLocation::Closed,
             });
         }
         let head = head_before(dev, block, index)?;
-        read_part(dev, block, 0, buffer.as_mut_slice(), 0, off + 1)?;
+        read_part_into_buffer(dev, block, 0, buffer.as_mut_slice(), 0, off + 1)?;
         Ok(Extender {
             geometry,
             buffer,
@@ -126,7 +126,7 @@ impl Extender {
             head,
             filled: off + 1,
             size: keep,
-            stand: Rest::Shared(block),
+            stand: RestLocation::Shared(block),
         })
     }
 
@@ -136,19 +136,19 @@ impl Extender {
     /// The caller's condition is that there are fewer bytes than a block has.
     pub fn hold(&mut self, bytes: &[u8])
         requires { length bytes.now < self.old.geometry.block_size }
-        ensures { IsHolding self.old.geometry self.new bytes.now }
+        ensures { HasBytesInBuffer self.old.geometry self.new bytes.now }
     {
         overwrite(&mut self.buffer, 0, bytes);
         self.full = 0;
         self.head = 0;
         self.filled = bytes.len() as u32;
         self.size = self.filled;
-        self.stand = Rest::Held;
+        self.stand = RestLocation::Held;
     }
 
     /// Returns the contents, which are all in memory and none in a block.
     pub fn held(&self) -> &[u8]
-        requires { IsInBufferAlone self.now }
+        requires { HasAllBytesInBuffer self.now }
         ensures { result.now ≡ self.now.rest }
     {
         &self.buffer[..self.filled as usize]
@@ -159,9 +159,9 @@ impl Extender {
     ///
     /// The caller's condition is that there are fewer bytes than a block has afterwards.
     pub fn put(&mut self, at: u32, bytes: &[u8])
-        requires held { IsInBufferAlone self.old }
+        requires held { HasAllBytesInBuffer self.old }
         requires room { at + length bytes.now < self.old.geometry.block_size }
-        ensures { IsHolding self.old.geometry self.new (with_bytes self.old.rest at bytes.now) }
+        ensures { HasBytesInBuffer self.old.geometry self.new (with_bytes self.old.rest at bytes.now) }
     {
         let from = self.filled.max(at);
         pad(&mut self.buffer, self.filled as usize, from as usize, 0);
@@ -174,9 +174,9 @@ impl Extender {
     ///
     /// The caller's condition is that there are at least so many.
     pub fn cut(&mut self, len: u32)
-        requires held { IsInBufferAlone self.old }
+        requires held { HasAllBytesInBuffer self.old }
         requires within { len ≤ length self.old.rest }
-        ensures { IsHolding self.old.geometry self.new (take len self.old.rest) }
+        ensures { HasBytesInBuffer self.old.geometry self.new (take len self.old.rest) }
     {
         self.filled = len;
         self.size = len;
@@ -184,7 +184,7 @@ impl Extender {
 
     /// Returns how many bytes the list has.
     pub fn size(&self) -> u32
-        ensures { result ≡ end_of self.now }
+        ensures { result ≡ size_of_growing_list self.now }
     {
         self.size
     }
@@ -203,12 +203,12 @@ impl Extender {
     /// 2,147,483,647 bytes.
     pub fn needed(&self, n: u32) -> u32
         requires some { 1 ≤ n }
-        requires room { end_of self.now + n < 2 ^ 31 }
-        ensures count { result ≡ needed_of self.now n }
-        ensures within { self.now.full + length (pending_of self.now) ≤ blocks_for self.now.geometry.block_size (end_of self.now + n) }
+        requires room { size_of_growing_list self.now + n < 2 ^ 31 }
+        ensures count { result ≡ count_of_blocks_to_append self.now n }
+        ensures within { self.now.full + length (unwritten_block_of_list self.now) ≤ list_block_count_for_size self.now.geometry.block_size (size_of_growing_list self.now + n) }
     {
         let begun = match self.stand {
-            Rest::Handed(_) => 1,
+            RestLocation::Handed(_) => 1,
             _ => 0,
         };
         // Bytes that fit in the block of the last ones take no further block.
@@ -221,11 +221,11 @@ impl Extender {
     // Returns the block that takes the next bytes, and how many of the blocks that were handed in
     // are used then.
     fn next_block(&self, blocks: &[u32], used: usize) -> (u32, usize)
-        requires { pending_of self.now ≡ [] → used < length blocks.now }
-        ensures { result ≡ next_of self.now.stand blocks.now used }
+        requires { unwritten_block_of_list self.now ≡ [] → used < length blocks.now }
+        ensures { result ≡ block_for_next_bytes self.now.stand blocks.now used }
     {
         match self.stand {
-            Rest::Handed(block) => (block, used),
+            RestLocation::Handed(block) => (block, used),
             _ => (blocks[used], used + 1),
         }
     }
@@ -238,19 +238,19 @@ impl Extender {
         bytes: &[u8],
         block: u32,
     ) -> Result<usize, Error>
-        requires follows { CanFollow D.BlockDevice dev.old self.old.full self.old.head block }
+        requires follows { CanBlockFollowFullBlocks D.BlockDevice dev.old self.old.full self.old.head block }
         requires geometry { D.geometry dev.old ≡ self.old.geometry }
         requires some { 1 ≤ length bytes.now }
-        requires room { end_of self.old + length bytes.now < 2 ^ 31 }
+        requires room { size_of_growing_list self.old + length bytes.now < 2 ^ 31 }
         ensures count { IfOk result (λ n. (1 ≤ n) × (n ≤ length bytes.now)) }
-        ensures filled { IfOk result (λ n. IsGrown self.old.geometry (D.blocks dev.new) self.new
-            (content_of (D.blocks dev.old) self.old ++ take n bytes.now) (end_of self.old + n)
-            (blocks_back (D.blocks dev.old) self.old.full self.old.head ++ block ∷ [])
-            (blocks_back (D.blocks dev.old) self.old.full self.old.head ++ block ∷ [])) }
-        ensures waits { OnOk result (IsPendingIn (block ∷ []) self.new) }
-        ensures writes { OnOk result (WritesCount self.old.full self.new.full (D.history dev.old) (D.history dev.new)) }
-        ensures device { ChangesBlock D.BlockDevice block dev.old dev.new }
-        ensures io { ReportsIo D.BlockDevice dev.old dev.new result }
+        ensures filled { IfOk result (λ n. ListHasBytesAndBlocks self.old.geometry (D.blocks dev.new) self.new
+            (content_of (D.blocks dev.old) self.old ++ take n bytes.now) (size_of_growing_list self.old + n)
+            (list_blocks_from_head (D.blocks dev.old) self.old.full self.old.head ++ block ∷ [])
+            (list_blocks_from_head (D.blocks dev.old) self.old.full self.old.head ++ block ∷ [])) }
+        ensures waits { OnOk result (HasUnwrittenBlockAmong (block ∷ []) self.new) }
+        ensures writes { OnOk result (WritesBlocksOnceEach self.old.full self.new.full (D.history dev.old) (D.history dev.new)) }
+        ensures device { ChangesOnlyThisBlock D.BlockDevice block dev.old dev.new }
+        ensures io { ReportsNoErrorButIo D.BlockDevice dev.old dev.new result }
     {
         let block_size = self.geometry.block_size;
         let start = self.filled as usize;
@@ -259,7 +259,7 @@ impl Extender {
         if start + n < block_size as usize {
             self.filled += n as u32;
             self.size += n as u32;
-            self.stand = Rest::Handed(block);
+            self.stand = RestLocation::Handed(block);
             return Ok(n);
         }
         let buffer = self.buffer.as_mut_slice();
@@ -268,7 +268,7 @@ impl Extender {
         self.head = block;
         self.filled = 4 * pointers(self.full);
         self.size += n as u32;
-        self.stand = Rest::Closed;
+        self.stand = RestLocation::Closed;
         Ok(n)
     }
 
@@ -287,12 +287,12 @@ impl Extender {
         bytes: &[u8],
         blocks: &[u32],
     ) -> Result<(), Error>
-        requires { CanPush D.BlockDevice dev.old self.old bytes.now blocks.now }
-        ensures pushed { OnOk result (HasPushed (D.blocks dev.old) self.old bytes.now blocks.now (D.blocks dev.new) self.new) }
+        requires { CanPushBytesToList D.BlockDevice dev.old self.old bytes.now blocks.now }
+        ensures pushed { OnOk result (HasPushedBytesToList (D.blocks dev.old) self.old bytes.now blocks.now (D.blocks dev.new) self.new) }
         // A block that fills is erased once and programmed once.
-        ensures writes { OnOk result (WritesCount self.old.full self.new.full (D.history dev.old) (D.history dev.new)) }
-        ensures device { ChangesOnly D.BlockDevice (pending_of self.old ++ blocks.now) dev.old dev.new }
-        ensures io { ReportsIo D.BlockDevice dev.old dev.new result }
+        ensures writes { OnOk result (WritesBlocksOnceEach self.old.full self.new.full (D.history dev.old) (D.history dev.new)) }
+        ensures device { ChangesOnlyTheseBlocks D.BlockDevice (unwritten_block_of_list self.old ++ blocks.now) dev.old dev.new }
+        ensures io { ReportsNoErrorButIo D.BlockDevice dev.old dev.new result }
     {
         let mut done = 0;
         let mut used = 0;
@@ -305,14 +305,14 @@ impl Extender {
     }
 
     // Pads the current block to whole pages, and writes it.
-    fn write_last<D: BlockDevice>(&mut self, dev: &mut D, block: u32) -> Result<(), Error>
-        requires follows { CanFollow D.BlockDevice dev.old self.old.full self.old.head block }
+    fn write_last_block<D: BlockDevice>(&mut self, dev: &mut D, block: u32) -> Result<(), Error>
+        requires follows { CanBlockFollowFullBlocks D.BlockDevice dev.old self.old.full self.old.head block }
         requires geometry { D.geometry dev.old ≡ self.old.geometry }
-        ensures appended { OnOk result (IsAppended (D.blocks dev.old) (D.blocks dev.new) self.old.full self.old.head block) }
-        ensures bytes { OnOk result (take (length self.old.rest) (drop (4 * pointers_of self.old.full) (block_in (D.blocks dev.new) block)) ≡ self.old.rest) }
-        ensures writes { OnOk result (WritesCount 0 1 (D.history dev.old) (D.history dev.new)) }
-        ensures device { ChangesBlock D.BlockDevice block dev.old dev.new }
-        ensures io { ReportsIo D.BlockDevice dev.old dev.new result }
+        ensures appended { OnOk result (IsBlockAppendedToList (D.blocks dev.old) (D.blocks dev.new) self.old.full self.old.head block) }
+        ensures bytes { OnOk result (take (length self.old.rest) (drop (4 * pointers_of self.old.full) (block_bytes_in (D.blocks dev.new) block)) ≡ self.old.rest) }
+        ensures writes { OnOk result (WritesBlocksOnceEach 0 1 (D.history dev.old) (D.history dev.new)) }
+        ensures device { ChangesOnlyThisBlock D.BlockDevice block dev.old dev.new }
+        ensures io { ReportsNoErrorButIo D.BlockDevice dev.old dev.new result }
     {
         let end = self.filled.next_multiple_of(self.geometry.page);
         pad(&mut self.buffer, self.filled as usize, end as usize, 0xff);
@@ -331,20 +331,20 @@ impl Extender {
     /// Errors: `Io` where the device failed.
     pub fn finish<D: BlockDevice>(mut self, dev: &mut D) -> Result<(u32, u32), Error>
         requires { CanEndList D.BlockDevice dev.old self }
-        ensures finished { IfOk result (λ r. IsEnd (D.blocks dev.new) self.geometry.block_size r.0 r.1 (content_of (D.blocks dev.old) self) (blocks_of_list (D.blocks dev.old) self)) }
-        ensures size { IfOk result (λ r. r.1 ≡ end_of self) }
-        ensures no_call { pending_of self ≡ [] → (D.history dev.new ≡ D.history dev.old) × (D.blocks dev.new ≡ D.blocks dev.old) }
-        ensures writes { OnOk result (WritesCount 0 (length (pending_of self)) (D.history dev.old) (D.history dev.new)) }
-        ensures device { ChangesOnly D.BlockDevice (pending_of self) dev.old dev.new }
-        ensures io { ReportsIo D.BlockDevice dev.old dev.new result }
+        ensures finished { IfOk result (λ r. IsEndedList (D.blocks dev.new) self.geometry.block_size r.0 r.1 (content_of (D.blocks dev.old) self) (blocks_of_growing_list (D.blocks dev.old) self)) }
+        ensures size { IfOk result (λ r. r.1 ≡ size_of_growing_list self) }
+        ensures no_call { unwritten_block_of_list self ≡ [] → (D.history dev.new ≡ D.history dev.old) × (D.blocks dev.new ≡ D.blocks dev.old) }
+        ensures writes { OnOk result (WritesBlocksOnceEach 0 (length (unwritten_block_of_list self)) (D.history dev.old) (D.history dev.new)) }
+        ensures device { ChangesOnlyTheseBlocks D.BlockDevice (unwritten_block_of_list self) dev.old dev.new }
+        ensures io { ReportsNoErrorButIo D.BlockDevice dev.old dev.new result }
     {
         let size = self.size;
         match self.stand {
-            Rest::Closed => Ok((self.head, size)),
-            Rest::Held => Ok((self.head, size)),
-            Rest::Shared(block) => Ok((block, size)),
-            Rest::Handed(block) => {
-                self.write_last(dev, block)?;
+            RestLocation::Closed => Ok((self.head, size)),
+            RestLocation::Held => Ok((self.head, size)),
+            RestLocation::Shared(block) => Ok((block, size)),
+            RestLocation::Handed(block) => {
+                self.write_last_block(dev, block)?;
                 Ok((block, size))
             }
         }

@@ -1,8 +1,8 @@
 ghost use Rattle.std.specs.Prelude.{◌≤◌, ◌<◌, ◌+◌, ◌*◌, ◌^◌, ℕ, take, OnOk, IfOk, IsErrOf};
-ghost use Rattle.lfs_ctz.specs.Calls.{ReadsList};
-ghost use Rattle.lfs_ctz.specs.Finished.{IsEnd};
+ghost use Rattle.lfs_ctz.specs.Calls.{OnlyReadsAndReportsIoOrCorrupt};
+ghost use Rattle.lfs_ctz.specs.Finished.{IsEndedList};
 ghost use Rattle.lfs_model.specs.History.{reads};
-ghost use Rattle.lfs_model.specs.SkipLists.{IsList, blocks_back, blocks_for, bytes_of};
+ghost use Rattle.lfs_model.specs.SkipLists.{IsSkipList, list_blocks_from_head, list_block_count_for_size, bytes_of};
 
 use crate::read::find;
 use crate::{blocks_for, place};
@@ -18,15 +18,15 @@ use lfs_device::{BlockDevice, Error};
 pub fn cut<D: BlockDevice>(dev: &mut D, head: u32, size: u32, keep: u32) -> Result<u32, Error>
     requires some { 1 ≤ keep }
     requires within { keep ≤ size }
-    ensures front { IsList (D.blocks dev.old) (D.geometry dev.old).block_size head size →
-        IfOk result (λ h. IsEnd (D.blocks dev.old) (D.geometry dev.old).block_size h keep
+    ensures front { IsSkipList (D.blocks dev.old) (D.geometry dev.old).block_size head size →
+        IfOk result (λ h. IsEndedList (D.blocks dev.old) (D.geometry dev.old).block_size h keep
         (take keep (bytes_of (D.blocks dev.old) (D.geometry dev.old).block_size head size))
-        (take (blocks_for (D.geometry dev.old).block_size keep) (blocks_back (D.blocks dev.old) (blocks_for (D.geometry dev.old).block_size size) head))) }
+        (take (list_block_count_for_size (D.geometry dev.old).block_size keep) (list_blocks_from_head (D.blocks dev.old) (list_block_count_for_size (D.geometry dev.old).block_size size) head))) }
     ensures in_range { IfOk result (λ h. h < (D.geometry dev.old).block_count) }
-    ensures corrupt { IsErrOf result Error.Corrupt → ¬ IsList (D.blocks dev.old) (D.geometry dev.old).block_size head size }
-    ensures reading { ReadsList D.BlockDevice dev.old dev.new result }
+    ensures corrupt { IsErrOf result Error.Corrupt → ¬ IsSkipList (D.blocks dev.old) (D.geometry dev.old).block_size head size }
+    ensures reading { OnlyReadsAndReportsIoOrCorrupt D.BlockDevice dev.old dev.new result }
     // The number of steps to that block is at most the logarithm of the list's length.
-    ensures few { (m : ℕ) → blocks_for (D.geometry dev.old).block_size size ≤ 2 ^ m → OnOk result (reads (D.history dev.new) ≤ reads (D.history dev.old) + 2 * m) }
+    ensures few { (m : ℕ) → list_block_count_for_size (D.geometry dev.old).block_size size ≤ 2 ^ m → OnOk result (reads (D.history dev.new) ≤ reads (D.history dev.old) + 2 * m) }
 {
     let block_size = dev.geometry().block_size;
     let (index, _) = place(block_size, keep - 1);

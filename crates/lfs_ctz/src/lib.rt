@@ -13,6 +13,6 @@ mod way;
 pub use extender::Extender;
 pub use front::cut;
 pub use read::{head_before, read_at};
-pub use rest::Rest;
+pub use rest::RestLocation;
 pub use size::{blocks_for, place};
 pub use visits::walk;

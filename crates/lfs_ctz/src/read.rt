@@ -1,9 +1,9 @@
 ghost use Rattle.std.specs.Prelude.{◌≡◌, ◌≤◌, ◌<◌, ◌+◌, ◌*◌, ◌^◌, ℕ, ◌-◌, ◌++◌, min, length, take, drop, OnOk, IfOk, IfErr, IsErrOf, slice_index, slice_range};
-ghost use Rattle.lfs_model.specs.Blocks.{block_in};
+ghost use Rattle.lfs_model.specs.Blocks.{block_bytes_in};
 ghost use Rattle.lfs_device.specs.Calls.{ReadsOnly, ReportsFaults};
 ghost use Rattle.lfs_model.specs.History.{reads};
-ghost use Rattle.lfs_ctz.specs.Calls.{ReadsList};
-ghost use Rattle.lfs_model.specs.SkipLists.{AreListBlocks, IsList, IsBytePlace, blocks_back, blocks_for, bytes_of, pointers_of, word_at};
+ghost use Rattle.lfs_ctz.specs.Calls.{OnlyReadsAndReportsIoOrCorrupt};
+ghost use Rattle.lfs_model.specs.SkipLists.{AreListBlocks, IsSkipList, IsPlaceOfByteInList, list_blocks_from_head, list_block_count_for_size, bytes_of, pointers_of, word_at};
 
 use crate::{blocks_for, place};
 use byteorder::{ByteOrder, LittleEndian};
@@ -12,10 +12,10 @@ use lfs_device::{BlockDevice, Error};
 // Reads pointer k of a block that a list names. Returns `Corrupt` where there is no such block.
 pub(crate) fn pointer<D: BlockDevice>(dev: &mut D, block: u32, k: u32) -> Result<u32, Error>
     requires { k ≤ 32 }
-    ensures word { IfOk result (λ word. word ≡ word_at (block_in (D.blocks dev.old) block) (4 * k)) }
+    ensures word { IfOk result (λ word. word ≡ word_at (block_bytes_in (D.blocks dev.old) block) (4 * k)) }
     ensures in_range { OnOk result (block < (D.geometry dev.old).block_count) }
     ensures corrupt { IsErrOf result Error.Corrupt → (D.geometry dev.old).block_count ≤ block }
-    ensures reading { ReadsList D.BlockDevice dev.old dev.new result }
+    ensures reading { OnlyReadsAndReportsIoOrCorrupt D.BlockDevice dev.old dev.new result }
     ensures few { reads (D.history dev.new) ≤ reads (D.history dev.old) + 1 }
 {
     if block >= dev.geometry().block_count {
@@ -35,10 +35,10 @@ pub(crate) fn find<D: BlockDevice>(
     index: u32,
 ) -> Result<u32, Error>
     requires { index ≤ last }
-    ensures found { AreListBlocks (D.blocks dev.old) (last + 1) head → IfOk result (λ b. b ≡ slice_index (blocks_back (D.blocks dev.old) (last + 1) head) index) }
+    ensures found { AreListBlocks (D.blocks dev.old) (last + 1) head → IfOk result (λ b. b ≡ slice_index (list_blocks_from_head (D.blocks dev.old) (last + 1) head) index) }
     ensures in_range { IfOk result (λ b. b < (D.geometry dev.old).block_count) }
     ensures corrupt { IsErrOf result Error.Corrupt → ¬ AreListBlocks (D.blocks dev.old) (last + 1) head }
-    ensures reading { ReadsList D.BlockDevice dev.old dev.new result }
+    ensures reading { OnlyReadsAndReportsIoOrCorrupt D.BlockDevice dev.old dev.new result }
     ensures few { (m : ℕ) → last < 2 ^ m → OnOk result (reads (D.history dev.new) ≤ reads (D.history dev.old) + 2 * m) }
 {
     let mut block = head;
@@ -58,10 +58,10 @@ pub(crate) fn find<D: BlockDevice>(
 // block.
 fn before<D: BlockDevice>(dev: &mut D, block: u32) -> Result<u32, Error>
     requires { block < (D.geometry dev.old).block_count }
-    ensures word { IfOk result (λ word. word ≡ word_at (block_in (D.blocks dev.old) block) 0) }
+    ensures word { IfOk result (λ word. word ≡ word_at (block_bytes_in (D.blocks dev.old) block) 0) }
     ensures in_range { IfOk result (λ b. b < (D.geometry dev.old).block_count) }
-    ensures corrupt { IsErrOf result Error.Corrupt → (D.geometry dev.old).block_count ≤ word_at (block_in (D.blocks dev.old) block) 0 }
-    ensures reading { ReadsList D.BlockDevice dev.old dev.new result }
+    ensures corrupt { IsErrOf result Error.Corrupt → (D.geometry dev.old).block_count ≤ word_at (block_bytes_in (D.blocks dev.old) block) 0 }
+    ensures reading { OnlyReadsAndReportsIoOrCorrupt D.BlockDevice dev.old dev.new result }
     ensures few { reads (D.history dev.new) ≤ reads (D.history dev.old) + 1 }
 {
     let word = pointer(dev, block, 0)?;
@@ -78,10 +78,10 @@ fn before<D: BlockDevice>(dev: &mut D, block: u32) -> Result<u32, Error>
 /// failed.
 pub fn head_before<D: BlockDevice>(dev: &mut D, block: u32, count: u32) -> Result<u32, Error>
     requires { block < (D.geometry dev.old).block_count }
-    ensures word { IfOk result (λ word. 0 < count → word ≡ word_at (block_in (D.blocks dev.old) block) 0) }
+    ensures word { IfOk result (λ word. 0 < count → word ≡ word_at (block_bytes_in (D.blocks dev.old) block) 0) }
     ensures in_range { IfOk result (λ b. b < (D.geometry dev.old).block_count) }
-    ensures corrupt { IsErrOf result Error.Corrupt → (0 < count) × ((D.geometry dev.old).block_count ≤ word_at (block_in (D.blocks dev.old) block) 0) }
-    ensures reading { ReadsList D.BlockDevice dev.old dev.new result }
+    ensures corrupt { IsErrOf result Error.Corrupt → (0 < count) × ((D.geometry dev.old).block_count ≤ word_at (block_bytes_in (D.blocks dev.old) block) 0) }
+    ensures reading { OnlyReadsAndReportsIoOrCorrupt D.BlockDevice dev.old dev.new result }
     ensures few { reads (D.history dev.new) ≤ reads (D.history dev.old) + 1 }
 {
     if count == 0 {
@@ -103,7 +103,7 @@ pub(crate) fn pointers(index: u32) -> u32
 }
 
 // Reads so many bytes of a block into the buffer, over those from `start` on.
-pub(crate) fn read_part<D: BlockDevice>(
+pub(crate) fn read_part_into_buffer<D: BlockDevice>(
     dev: &mut D,
     block: u32,
     off: u32,
@@ -114,7 +114,7 @@ pub(crate) fn read_part<D: BlockDevice>(
     requires in_device { block < (D.geometry dev.old).block_count }
     requires in_block { off + len ≤ (D.geometry dev.old).block_size }
     requires in_buffer { start + len ≤ length buf.old }
-    ensures bytes { OnOk result (buf.new ≡ take start buf.old ++ (take len (drop off (block_in (D.blocks dev.old) block)) ++ drop (start + len) buf.old)) }
+    ensures bytes { OnOk result (buf.new ≡ take start buf.old ++ (take len (drop off (block_bytes_in (D.blocks dev.old) block)) ++ drop (start + len) buf.old)) }
     ensures device { ReadsOnly D.BlockDevice dev.old dev.new }
     ensures faults { ReportsFaults D.BlockDevice dev.old dev.new result }
     ensures errors { IfErr result (λ e. e ≡ Error.Io) }
@@ -141,15 +141,15 @@ pub fn read_at<D: BlockDevice>(
     buf: &mut [u8],
 ) -> Result<usize, Error>
     ensures count { IfOk result (λ n. (n ≡ min (length buf.old) (size - pos)) × (drop n buf.new ≡ drop n buf.old)) }
-    ensures bytes { IsList (D.blocks dev.old) (D.geometry dev.old).block_size head size →
+    ensures bytes { IsSkipList (D.blocks dev.old) (D.geometry dev.old).block_size head size →
         IfOk result (λ n. take n buf.new ≡ slice_range (bytes_of (D.blocks dev.old) (D.geometry dev.old).block_size head size) pos (pos + n)) }
-    ensures corrupt { IsErrOf result Error.Corrupt → ¬ IsList (D.blocks dev.old) (D.geometry dev.old).block_size head size }
-    ensures reading { ReadsList D.BlockDevice dev.old dev.new result }
+    ensures corrupt { IsErrOf result Error.Corrupt → ¬ IsSkipList (D.blocks dev.old) (D.geometry dev.old).block_size head size }
+    ensures reading { OnlyReadsAndReportsIoOrCorrupt D.BlockDevice dev.old dev.new result }
     // The number of steps to the last block is at most the logarithm of the list's length. Each
     // block takes two reads.
-    ensures few { (m first last off end : ℕ) → blocks_for (D.geometry dev.old).block_size size ≤ 2 ^ m
-        → IsBytePlace (D.geometry dev.old).block_size pos first off
-        → IsBytePlace (D.geometry dev.old).block_size (pos + min (length buf.old) (size - pos) - 1) last end
+    ensures few { (m first last off end : ℕ) → list_block_count_for_size (D.geometry dev.old).block_size size ≤ 2 ^ m
+        → IsPlaceOfByteInList (D.geometry dev.old).block_size pos first off
+        → IsPlaceOfByteInList (D.geometry dev.old).block_size (pos + min (length buf.old) (size - pos) - 1) last end
         → OnOk result (reads (D.history dev.new) ≤ reads (D.history dev.old) + 2 * m + 2 * (last - first) + 1) }
 {
     let block_size = dev.geometry().block_size;
@@ -164,7 +164,7 @@ pub fn read_at<D: BlockDevice>(
         let (index, off) = place(block_size, pos + left - 1);
         let part = left.min(off + 1 - 4 * pointers(index));
         left -= part;
-        read_part(dev, block, off + 1 - part, buf, left as usize, part)?;
+        read_part_into_buffer(dev, block, off + 1 - part, buf, left as usize, part)?;
         if left == 0 {
             return Ok(len);
         }

@@ -1,6 +1,6 @@
 /// Where those bytes of a list are that do not fill a block.
 #[derive(Clone, Copy)]
-pub enum Rest {
+pub enum RestLocation {
     /// There are no such bytes.
     Closed,
     /// The bytes are in that block of another list, and are copied when more bytes come.

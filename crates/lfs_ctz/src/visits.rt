@@ -1,22 +1,22 @@
 ghost use Rattle.std.specs.Prelude.{◌≡◌, ◌≤◌, ◌<◌, ◌+◌, ◌*◌, ◌^◌, ℕ, true, false, length, OnOk, IfOk, IsErrOf, reverse};
 ghost use Rattle.std.specs.List.{FoldsTo};
-ghost use Rattle.lfs_model.specs.Blocks.{block_in};
-ghost use Rattle.lfs_model.specs.SkipLists.{IsList, blocks_back, blocks_for, word_at};
-ghost use Rattle.lfs_ctz.specs.Calls.{ReadsList};
-ghost use Rattle.lfs_ctz.specs.Right.{IsNamedByPointers, WordsAreNoted};
-ghost use Rattle.lfs_ctz.specs.Way.{HasPointers, ReadsBeside};
+ghost use Rattle.lfs_model.specs.Blocks.{block_bytes_in};
+ghost use Rattle.lfs_model.specs.SkipLists.{IsSkipList, list_blocks_from_head, list_block_count_for_size, word_at};
+ghost use Rattle.lfs_ctz.specs.Calls.{OnlyReadsAndReportsIoOrCorrupt};
+ghost use Rattle.lfs_ctz.specs.Right.{IsBlockNamedByLaterPointers, AreBlockPointersNotedInWords};
+ghost use Rattle.lfs_ctz.specs.Way.{HasPointersOfBlocksOnWay, ReadsBlockOnceUnlessOnWay};
 ghost use Rattle.lfs_model.specs.History.{reads};
 
 use crate::blocks_for;
-use crate::way::{Way, first_block, note, word};
+use crate::way::{Way, first_block_noting_way, note_block_pointers, word};
 use lfs_device::{BlockDevice, Error};
 
 // Returns whether a block is the one that the pointers to its place name.
 fn is_named(words: &[u8], block: u32, index: u32, last: u32) -> bool
     requires order { index ≤ last }
     requires room { length words.now ≡ 128 }
-    ensures yes { result ≡ true → IsNamedByPointers words.now block index last }
-    ensures no { result ≡ false → ¬ IsNamedByPointers words.now block index last }
+    ensures yes { result ≡ true → IsBlockNamedByLaterPointers words.now block index last }
+    ensures no { result ≡ false → ¬ IsBlockNamedByLaterPointers words.now block index last }
 {
     if index == last {
         return true;
@@ -33,7 +33,7 @@ fn is_named(words: &[u8], block: u32, index: u32, last: u32) -> bool
 // Returns the block that pointer 0 of a block names, and notes the block's pointers. The call takes
 // one read, or none where the block is on the way. Returns `Corrupt` where the block isn't one of
 // the device, or isn't the one that the pointers to its place name.
-fn checked_before<D: BlockDevice>(
+fn checked_block_before<D: BlockDevice>(
     dev: &mut D,
     block: u32,
     index: u32,
@@ -44,18 +44,18 @@ fn checked_before<D: BlockDevice>(
     requires some { 0 < index }
     requires order { index ≤ last }
     requires room { length words.old ≡ 128 }
-    requires way { HasPointers (D.blocks dev.old) last 0 way.now }
-    ensures word { IfOk result (λ word. word ≡ word_at (block_in (D.blocks dev.old) block) 0) }
-    ensures noted { OnOk result (WordsAreNoted (D.blocks dev.old) block index words.old words.new) }
-    ensures right { OnOk result ((block < (D.geometry dev.old).block_count) × IsNamedByPointers words.old block index last) }
-    ensures corrupt { IsErrOf result Error.Corrupt → block < (D.geometry dev.old).block_count → ¬ IsNamedByPointers words.old block index last }
-    ensures reading { ReadsList D.BlockDevice dev.old dev.new result }
-    ensures reads { ReadsBeside way.now last index block (D.history dev.old) (D.history dev.new) }
+    requires way { HasPointersOfBlocksOnWay (D.blocks dev.old) last 0 way.now }
+    ensures word { IfOk result (λ word. word ≡ word_at (block_bytes_in (D.blocks dev.old) block) 0) }
+    ensures noted { OnOk result (AreBlockPointersNotedInWords (D.blocks dev.old) block index words.old words.new) }
+    ensures right { OnOk result ((block < (D.geometry dev.old).block_count) × IsBlockNamedByLaterPointers words.old block index last) }
+    ensures corrupt { IsErrOf result Error.Corrupt → block < (D.geometry dev.old).block_count → ¬ IsBlockNamedByLaterPointers words.old block index last }
+    ensures reading { OnlyReadsAndReportsIoOrCorrupt D.BlockDevice dev.old dev.new result }
+    ensures reads { ReadsBlockOnceUnlessOnWay way.now last index block (D.history dev.old) (D.history dev.new) }
 {
     if block >= dev.geometry().block_count || !is_named(words, block, index, last) {
         return Err(Error::Corrupt);
     }
-    note(dev, block, index, last, way, words)?;
+    note_block_pointers(dev, block, index, last, way, words)?;
     Ok(word(words, 0))
 }
 
@@ -78,13 +78,13 @@ pub fn walk<D: BlockDevice, F: FnMut(u32)>(
     visit: &mut F,
 ) -> Result<(), Error>
     requires { F.IsAlwaysCallable visit.old }
-    ensures well_formed { OnOk result (IsList (D.blocks dev.old) (D.geometry dev.old).block_size head size) }
-    ensures corrupt { IsErrOf result Error.Corrupt → ¬ IsList (D.blocks dev.old) (D.geometry dev.old).block_size head size }
+    ensures well_formed { OnOk result (IsSkipList (D.blocks dev.old) (D.geometry dev.old).block_size head size) }
+    ensures corrupt { IsErrOf result Error.Corrupt → ¬ IsSkipList (D.blocks dev.old) (D.geometry dev.old).block_size head size }
     ensures visited { OnOk result (FoldsTo (λ p x q. F.step p x tt q) visit.old
-        (reverse (blocks_back (D.blocks dev.old) (blocks_for (D.geometry dev.old).block_size size) head)) visit.new) }
+        (reverse (list_blocks_from_head (D.blocks dev.old) (list_block_count_for_size (D.geometry dev.old).block_size size) head)) visit.new) }
     ensures callable { F.IsAlwaysCallable visit.new }
-    ensures reading { ReadsList D.BlockDevice dev.old dev.new result }
-    ensures few { OnOk result (reads (D.history dev.new) < reads (D.history dev.old) + blocks_for (D.geometry dev.old).block_size size) }
+    ensures reading { OnlyReadsAndReportsIoOrCorrupt D.BlockDevice dev.old dev.new result }
+    ensures few { OnOk result (reads (D.history dev.new) < reads (D.history dev.old) + list_block_count_for_size (D.geometry dev.old).block_size size) }
 {
     let geometry = dev.geometry();
     if size == 0 || size > 0x7fff_ffff {
@@ -96,12 +96,12 @@ pub fn walk<D: BlockDevice, F: FnMut(u32)>(
     }
     // If any block came twice, the first one would: equal blocks have equal blocks before them.
     let mut way = Way::new();
-    let first = first_block(dev, head, last, &mut way)?;
+    let first = first_block_noting_way(dev, head, last, &mut way)?;
     let mut words = [0; 128];
     let mut block = head;
     let mut index = last;
     while index > 0 {
-        let before = checked_before(dev, block, index, last, &way, &mut words)?;
+        let before = checked_block_before(dev, block, index, last, &way, &mut words)?;
         if block == first {
             return Err(Error::Corrupt);
         }

@@ -1,15 +1,15 @@
 // The way from a list's last block back to its first one.
 
 ghost use Rattle.std.specs.Prelude.{◌≡◌, ◌≤◌, ◌<◌, ◌+◌, ◌*◌, ◌↔◌, length, OnOk, IfOk, IfErr, IsErrOf, IsTrue, slice_index};
-ghost use Rattle.lfs_model.specs.Blocks.{block_in};
+ghost use Rattle.lfs_model.specs.Blocks.{block_bytes_in};
 ghost use Rattle.lfs_device.specs.Calls.{ReadsOnly, ReportsFaults};
 ghost use Rattle.lfs_model.specs.History.{reads};
-ghost use Rattle.lfs_model.specs.SkipLists.{AreListBlocks, blocks_back, word_at};
-ghost use Rattle.lfs_ctz.specs.Calls.{ReadsList};
-ghost use Rattle.lfs_ctz.specs.Right.{WordsAreNoted};
-ghost use Rattle.lfs_ctz.specs.Way.{HasPointers, IsOnWay, IsWay, ReadsBeside, on_way};
+ghost use Rattle.lfs_model.specs.SkipLists.{AreListBlocks, list_blocks_from_head, word_at};
+ghost use Rattle.lfs_ctz.specs.Calls.{OnlyReadsAndReportsIoOrCorrupt};
+ghost use Rattle.lfs_ctz.specs.Right.{AreBlockPointersNotedInWords};
+ghost use Rattle.lfs_ctz.specs.Way.{HasPointersOfBlocksOnWay, IsOnWay, IsWayOfHighestPointers, ReadsBlockOnceUnlessOnWay, count_of_indices_on_way};
 
-use crate::read::{pointers, read_part};
+use crate::read::{pointers, read_part_into_buffer};
 use byteorder::{ByteOrder, LittleEndian};
 use lfs_device::{BlockDevice, Error};
 
@@ -41,7 +41,7 @@ pub(crate) fn word(words: &[u8], at: usize) -> u32
 }
 
 // Returns whether the block at this index is on the way.
-fn is_on_way(index: u32, last: u32) -> bool
+fn is_index_on_way(index: u32, last: u32) -> bool
     requires some { 0 < index }
     requires order { index ≤ last }
     ensures { IsTrue result ↔ IsOnWay last index }
@@ -51,18 +51,18 @@ fn is_on_way(index: u32, last: u32) -> bool
 
 // Returns the first block of a list, and notes the blocks on the way to it. Each block of the way
 // is read once.
-pub(crate) fn first_block<D: BlockDevice>(
+pub(crate) fn first_block_noting_way<D: BlockDevice>(
     dev: &mut D,
     head: u32,
     last: u32,
     way: &mut Way,
 ) -> Result<u32, Error>
-    ensures found { AreListBlocks (D.blocks dev.old) (last + 1) head → IfOk result (λ b. b ≡ slice_index (blocks_back (D.blocks dev.old) (last + 1) head) 0) }
+    ensures found { AreListBlocks (D.blocks dev.old) (last + 1) head → IfOk result (λ b. b ≡ slice_index (list_blocks_from_head (D.blocks dev.old) (last + 1) head) 0) }
     ensures in_range { IfOk result (λ b. b < (D.geometry dev.old).block_count) }
     ensures corrupt { IsErrOf result Error.Corrupt → ¬ AreListBlocks (D.blocks dev.old) (last + 1) head }
-    ensures noted { OnOk result (IsWay (D.blocks dev.old) head last 0 way.new) }
-    ensures reading { ReadsList D.BlockDevice dev.old dev.new result }
-    ensures few { OnOk result (reads (D.history dev.new) ≤ reads (D.history dev.old) + on_way last last) }
+    ensures noted { OnOk result (IsWayOfHighestPointers (D.blocks dev.old) head last 0 way.new) }
+    ensures reading { OnlyReadsAndReportsIoOrCorrupt D.BlockDevice dev.old dev.new result }
+    ensures few { OnOk result (reads (D.history dev.new) ≤ reads (D.history dev.old) + count_of_indices_on_way last last) }
 {
     let count = dev.geometry().block_count;
     let mut block = head;
@@ -73,7 +73,7 @@ pub(crate) fn first_block<D: BlockDevice>(
         }
         let zeros = at.trailing_zeros();
         let row = 128 * zeros as usize;
-        read_part(dev, block, 0, &mut way.words, row, 4 * (zeros + 1))?;
+        read_part_into_buffer(dev, block, 0, &mut way.words, row, 4 * (zeros + 1))?;
         way.blocks[zeros as usize] = block;
         block = word(&way.words, row + 4 * zeros as usize);
         at -= 1 << zeros;
@@ -86,7 +86,7 @@ pub(crate) fn first_block<D: BlockDevice>(
 
 // Notes the pointers of a block of the list over the words. The call takes one read where the block
 // isn't on the way.
-pub(crate) fn note<D: BlockDevice>(
+pub(crate) fn note_block_pointers<D: BlockDevice>(
     dev: &mut D,
     block: u32,
     index: u32,
@@ -98,19 +98,19 @@ pub(crate) fn note<D: BlockDevice>(
     requires order { index ≤ last }
     requires in_device { block < (D.geometry dev.old).block_count }
     requires room { length words.old ≡ 128 }
-    requires way { HasPointers (D.blocks dev.old) last 0 way.now }
-    ensures noted { OnOk result (WordsAreNoted (D.blocks dev.old) block index words.old words.new) }
+    requires way { HasPointersOfBlocksOnWay (D.blocks dev.old) last 0 way.now }
+    ensures noted { OnOk result (AreBlockPointersNotedInWords (D.blocks dev.old) block index words.old words.new) }
     ensures device { ReadsOnly D.BlockDevice dev.old dev.new }
     ensures faults { ReportsFaults D.BlockDevice dev.old dev.new result }
     ensures errors { IfErr result (λ e. e ≡ Error.Io) }
-    ensures reads { ReadsBeside way.now last index block (D.history dev.old) (D.history dev.new) }
+    ensures reads { ReadsBlockOnceUnlessOnWay way.now last index block (D.history dev.old) (D.history dev.new) }
 {
     let zeros = index.trailing_zeros() as usize;
-    if is_on_way(index, last) && way.blocks[zeros] == block {
+    if is_index_on_way(index, last) && way.blocks[zeros] == block {
         let len = 4 * (zeros + 1);
         words[..len].copy_from_slice(&way.words[128 * zeros..128 * zeros + len]);
         return Ok(());
     }
-    read_part(dev, block, 0, words, 0, 4 * pointers(index))?;
+    read_part_into_buffer(dev, block, 0, words, 0, 4 * pointers(index))?;
     Ok(())
 }

@@ -2,50 +2,50 @@
 use Rattle.std.proofs.Common.{◌≡◌, ◌≢◌, ℕ, Bool, List, [], ◌∷◌, All, refl, sym, ◌∙◌, subst, arith}
 use Rattle.std.proofs.lemmas.List.Elements.{All-cons}
 use Rattle.lfs_device.specs.declared.device.BlockDevice.{Ghosts}
-use Rattle.lfs_device.specs.Calls.{ReadsOnly, ChangesBlock, ChangesOnly}
-use Rattle.lfs_model.specs.Blocks.{Blocks, SameBut, SameButThese}
-use Rattle.lfs_model.specs.History.{event}
+use Rattle.lfs_device.specs.Calls.{ReadsOnly, ChangesOnlyThisBlock, ChangesOnlyTheseBlocks}
+use Rattle.lfs_model.specs.Blocks.{Blocks, AreBlocksEqualExceptOne, AreBlocksEqualExceptThese}
+use Rattle.lfs_model.specs.History.{call_event_with}
 use Rattle.lfs_model.specs.History.Call.{Read, Program, Erase}
-use Rattle.lfs_model.proofs.Histories.{began, goes_on, goes_on_by, LeavesOnly-weaker, LeavesOnly-reads, AtWorst-read, OnlyReads-read, StayUnprogrammed-trans, StayUnprogrammed-reads, StayUnprogrammed-erase, StayUnprogrammed-program}
-use Rattle.lfs_model.proofs.Overwrites.{SameBut-refl, SameBut-trans}
+use Rattle.lfs_model.proofs.Histories.{began, goes_on, goes_on_by, IsTrueAfterEachStopSince-weaker, IsTrueAfterEachStopSince-reads, IsWorstOutcomeOfStop-read, AreCallsSinceOnlyReads-read, AreBytesStillUnprogrammed-trans, AreBytesStillUnprogrammed-reads, AreBytesStillUnprogrammed-erase, AreBytesStillUnprogrammed-program}
+use Rattle.lfs_model.proofs.Overwrites.{AreBlocksEqualExceptOne-refl, AreBlocksEqualExceptOne-trans}
 
 module _ {D : Type 0} (g : Ghosts D) where
-  pub ReadsOnly-read : {old new : D} {b off len : ℕ} {failed : Bool} → g.history new ≡ event (Read b off len) (g.blocks old) (g.blocks new) failed ∷ g.history old
+  pub ReadsOnly-read : {old new : D} {b off len : ℕ} {failed : Bool} → g.history new ≡ call_event_with (Read b off len) (g.blocks old) (g.blocks new) failed ∷ g.history old
       → g.blocks new ≡ g.blocks old → g.geometry new ≡ g.geometry old → ReadsOnly g old new
-  ReadsOnly-read is same geometry = record { same = same; geometry = geometry; reads = OnlyReads-read began is refl same }
+  ReadsOnly-read is same geometry = record { same = same; geometry = geometry; reads = AreCallsSinceOnlyReads-read began is refl same }
 
   -- ---- one block
 
-  pub ChangesBlock-reads : {old new : D} (b : ℕ) → ReadsOnly g old new → ChangesBlock g b old new
-  ChangesBlock-reads {old} b only = record {
-    others = subst (SameBut b (g.blocks old)) (sym only.same) (SameBut-refl b (g.blocks old));
-    elsewhere = StayUnprogrammed-reads (b ∷ []) only.reads;
+  pub ChangesOnlyThisBlock-reads : {old new : D} (b : ℕ) → ReadsOnly g old new → ChangesOnlyThisBlock g b old new
+  ChangesOnlyThisBlock-reads {old} b only = record {
+    others = subst (AreBlocksEqualExceptOne b (g.blocks old)) (sym only.same) (AreBlocksEqualExceptOne-refl b (g.blocks old));
+    elsewhere = AreBytesStillUnprogrammed-reads (b ∷ []) only.reads;
     geometry = only.geometry;
-    at_worst = LeavesOnly-reads AtWorst-read only.reads (SameBut-refl b (g.blocks old));
+    at_worst = IsTrueAfterEachStopSince-reads IsWorstOutcomeOfStop-read only.reads (AreBlocksEqualExceptOne-refl b (g.blocks old));
   }
 
-  pub ChangesBlock-trans : {b : ℕ} {old mid new : D} → ChangesBlock g b old mid → ChangesBlock g b mid new → ChangesBlock g b old new
-  ChangesBlock-trans first second = record {
-    others = SameBut-trans first.others second.others;
-    elsewhere = StayUnprogrammed-trans first.elsewhere second.elsewhere;
+  pub ChangesOnlyThisBlock-trans : {b : ℕ} {old mid new : D} → ChangesOnlyThisBlock g b old mid → ChangesOnlyThisBlock g b mid new → ChangesOnlyThisBlock g b old new
+  ChangesOnlyThisBlock-trans first second = record {
+    others = AreBlocksEqualExceptOne-trans first.others second.others;
+    elsewhere = AreBytesStillUnprogrammed-trans first.elsewhere second.elsewhere;
     geometry = second.geometry ∙ first.geometry;
-    at_worst = goes_on_by first.at_worst (LeavesOnly-weaker (λ disk left. SameBut-trans first.others left) second.at_worst);
+    at_worst = goes_on_by first.at_worst (IsTrueAfterEachStopSince-weaker (λ disk left. AreBlocksEqualExceptOne-trans first.others left) second.at_worst);
   }
 
-  pub ChangesBlock-erase : {old new : D} {b : ℕ} {failed : Bool} → g.history new ≡ event (Erase b) (g.blocks old) (g.blocks new) failed ∷ g.history old
-      → SameBut b (g.blocks old) (g.blocks new) → g.geometry new ≡ g.geometry old → ChangesBlock g b old new
-  ChangesBlock-erase is others geometry = record {
+  pub ChangesOnlyThisBlock-erase : {old new : D} {b : ℕ} {failed : Bool} → g.history new ≡ call_event_with (Erase b) (g.blocks old) (g.blocks new) failed ∷ g.history old
+      → AreBlocksEqualExceptOne b (g.blocks old) (g.blocks new) → g.geometry new ≡ g.geometry old → ChangesOnlyThisBlock g b old new
+  ChangesOnlyThisBlock-erase is others geometry = record {
     others = others;
-    elsewhere = StayUnprogrammed-erase is;
+    elsewhere = AreBytesStillUnprogrammed-erase is;
     geometry = geometry;
     at_worst = goes_on began is (λ disk left. left);
   }
 
-  pub ChangesBlock-program : {old new : D} {b off : ℕ} {bytes : List ℕ} {failed : Bool} → g.history new ≡ event (Program b off bytes) (g.blocks old) (g.blocks new) failed ∷ g.history old
-      → SameBut b (g.blocks old) (g.blocks new) → g.geometry new ≡ g.geometry old → ChangesBlock g b old new
-  ChangesBlock-program is others geometry = record {
+  pub ChangesOnlyThisBlock-program : {old new : D} {b off : ℕ} {bytes : List ℕ} {failed : Bool} → g.history new ≡ call_event_with (Program b off bytes) (g.blocks old) (g.blocks new) failed ∷ g.history old
+      → AreBlocksEqualExceptOne b (g.blocks old) (g.blocks new) → g.geometry new ≡ g.geometry old → ChangesOnlyThisBlock g b old new
+  ChangesOnlyThisBlock-program is others geometry = record {
     others = others;
-    elsewhere = StayUnprogrammed-program is;
+    elsewhere = AreBytesStillUnprogrammed-program is;
     geometry = geometry;
     at_worst = goes_on began is (λ disk left. left);
   }

@@ -5,29 +5,29 @@ use Rattle.std.specs.Prelude.{IsErrOf}
 use Rattle.lfs_device.specs.declared.device.BlockDevice.{Ghosts}
 use Rattle.lfs_device.specs.declared.error.Error.{Error}
 use Rattle.lfs_device.specs.declared.error.Error.TheVariants.{Io}
-use Rattle.lfs_model.specs.Blocks.{SameBut, SameButThese}
-use Rattle.lfs_model.specs.History.{AtWorst, LeavesOnly, OnlyReads, StayUnprogrammed, faults}
+use Rattle.lfs_model.specs.Blocks.{AreBlocksEqualExceptOne, AreBlocksEqualExceptThese}
+use Rattle.lfs_model.specs.History.{IsWorstOutcomeOfStop, IsTrueAfterEachStopSince, AreCallsSinceOnlyReads, AreBytesStillUnprogrammed, faults}
 
 -- The device is only read: its blocks stay, and so does what a loss of power may leave.
 pub record ReadsOnly {D : Type 0} (g : Ghosts D) (old new : D) : Type 0 where
   pub same : g.blocks new ≡ g.blocks old
   pub geometry : g.geometry new ≡ g.geometry old
-  pub reads : OnlyReads (g.blocks old) (g.history old) (g.history new)
+  pub reads : AreCallsSinceOnlyReads (g.blocks old) (g.history old) (g.history new)
 
 -- No block but this one changes, and bytes of other blocks that were unprogrammed still are. A loss of power during the call
 -- leaves each other block as it was.
-pub record ChangesBlock {D : Type 0} (g : Ghosts D) (b : ℕ) (old new : D) : Type 0 where
-  pub others : SameBut b (g.blocks old) (g.blocks new)
-  pub elsewhere : StayUnprogrammed (b ∷ []) (g.history old) (g.history new)
+pub record ChangesOnlyThisBlock {D : Type 0} (g : Ghosts D) (b : ℕ) (old new : D) : Type 0 where
+  pub others : AreBlocksEqualExceptOne b (g.blocks old) (g.blocks new)
+  pub elsewhere : AreBytesStillUnprogrammed (b ∷ []) (g.history old) (g.history new)
   pub geometry : g.geometry new ≡ g.geometry old
-  pub at_worst : LeavesOnly AtWorst (g.history old) (g.history new) (SameBut b (g.blocks old))
+  pub at_worst : IsTrueAfterEachStopSince IsWorstOutcomeOfStop (g.history old) (g.history new) (AreBlocksEqualExceptOne b (g.blocks old))
 
 -- the same of several blocks
-pub record ChangesOnly {D : Type 0} (g : Ghosts D) (bs : List ℕ) (old new : D) : Type 0 where
-  pub others : SameButThese bs (g.blocks old) (g.blocks new)
-  pub elsewhere : StayUnprogrammed bs (g.history old) (g.history new)
+pub record ChangesOnlyTheseBlocks {D : Type 0} (g : Ghosts D) (bs : List ℕ) (old new : D) : Type 0 where
+  pub others : AreBlocksEqualExceptThese bs (g.blocks old) (g.blocks new)
+  pub elsewhere : AreBytesStillUnprogrammed bs (g.history old) (g.history new)
   pub geometry : g.geometry new ≡ g.geometry old
-  pub at_worst : LeavesOnly AtWorst (g.history old) (g.history new) (SameButThese bs (g.blocks old))
+  pub at_worst : IsTrueAfterEachStopSince IsWorstOutcomeOfStop (g.history old) (g.history new) (AreBlocksEqualExceptThese bs (g.blocks old))
 
 -- `Io` comes with a fault of the device, and any other result without one.
 pub record ReportsFaults {D X : Type 0} (g : Ghosts D) (old new : D) (result : Result X Error) : Type 0 where

@@ -4,8 +4,8 @@ use Rattle.lfs_model.specs.Blocks.{Blocks}
 use Rattle.lfs_model.specs.Disk.{Disk}
 use Rattle.lfs_model.specs.declared.order.NameOrder.{NameOrder}
 
-abbrev pub disk_of : Geometry → Blocks → Disk
-disk_of geometry blocks = record { block_size = geometry.block_size; page = geometry.page; order = geometry.order; blocks = blocks }
+abbrev pub disk_of_geometry_and_blocks : Geometry → Blocks → Disk
+disk_of_geometry_and_blocks geometry blocks = record { block_size = geometry.block_size; page = geometry.page; order = geometry.order; blocks = blocks }
 
 -- the same disk, with its names in that order
 abbrev pub ordered : NameOrder → Disk → Disk

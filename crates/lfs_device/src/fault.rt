@@ -1,12 +1,12 @@
 ghost use Rattle.std.specs.Prelude.{◌≡◌, ◌≤◌, ◌<◌, ◌+◌, ◌-◌, ◌%◌, ◌^◌, ◌||◌, ℕ, true, false, min, [], length, slice_range, is_err, IfSome, OnOk, OnErr, Some};
-ghost use Rattle.lfs_model.specs.Blocks.{SameBut, SameOutside, block_in, programmed};
-ghost use Rattle.lfs_model.specs.History.{reads, programs, erases, faults, unprogrammed, AllUnprogrammed, IsNewest};
+ghost use Rattle.lfs_model.specs.Blocks.{AreBlocksEqualExceptOne, AreBytesEqualOutsideRange, block_bytes_in, programmed};
+ghost use Rattle.lfs_model.specs.History.{reads, programs, erases, faults, unprogrammed, AreBytesUnprogrammed, IsLeftByNewestCall};
 ghost use Rattle.lfs_model.specs.History.Call.{Read, Program, Erase};
-ghost use Rattle.lfs_model.specs.Conformance.{AllConform};
-ghost use Rattle.lfs_model.specs.Premises.{MeetsPremises};
-ghost use Rattle.lfs_device.specs.Fault.{calls_of, due, due_if, due_failed, is_torn, undue_faults};
-ghost use Rattle.lfs_device.specs.Premises.{AreReliable};
-ghost use Rattle.lfs_device.specs.CallsBelow.{NoFault, IsCallBelow, stored};
+ghost use Rattle.lfs_model.specs.Conformance.{AreConformingCalls};
+ghost use Rattle.lfs_model.specs.Premises.{MeetsPowerLossPremises};
+ghost use Rattle.lfs_device.specs.Fault.{count_of_device_calls, due, extent_of_failing_call, have_due_calls_failed, stores_only_first_bytes, count_of_undue_faults};
+ghost use Rattle.lfs_device.specs.Premises.{AreAllDevicesReliable};
+ghost use Rattle.lfs_device.specs.CallsBelow.{HasNoFaultBelow, CarriesOutCallBelow, stored};
 
 use crate::partial::{carry_out_erase, carry_out_program, carry_out_read};
 use crate::{BlockDevice, Error, Geometry, Trace};
@@ -33,7 +33,7 @@ pub enum Extent {
 
 /// At which call a device fails, and how.
 #[derive(Clone, Copy, Debug, PartialEq, Eq)]
-pub struct Fault {
+pub struct PlannedFault {
     /// The calls that are counted.
     pub which: Which,
     /// The number of the call that fails, among those that are counted, from 1 on. At 0 no call
@@ -52,26 +52,26 @@ pub struct Fault {
 #[derive(Drop)]
 pub struct FaultDevice<D: BlockDevice> {
     inner: D,
-    fault: Fault,
+    fault: PlannedFault,
     tears: bool,
     read_calls: u64,
     program_calls: u64,
     erase_calls: u64,
     trace: Trace,
-    pub ghost due_failed: { due_failed fault.which fault.nth fault.stops trace.events ≡ true },
-    pub ghost undue_faults: { undue_faults fault.which fault.nth fault.stops trace.events ≤ faults (D.history inner) },
+    pub ghost have_due_calls_failed: { have_due_calls_failed fault.which fault.nth fault.stops trace.events ≡ true },
+    pub ghost count_of_undue_faults: { count_of_undue_faults fault.which fault.nth fault.stops trace.events ≤ faults (D.history inner) },
     ghost reads_counted: { read_calls ≡ min (reads trace.events) (2 ^ 64 - 1) },
     ghost programs_counted: { program_calls ≡ min (programs trace.events) (2 ^ 64 - 1) },
     ghost erases_counted: { erase_calls ≡ min (erases trace.events) (2 ^ 64 - 1) },
-    ghost newest: { IsNewest trace.events (D.blocks inner) },
-    ghost conforms: { AllConform trace.events },
+    ghost newest: { IsLeftByNewestCall trace.events (D.blocks inner) },
+    ghost conforms: { AreConformingCalls trace.events },
     ghost below: { (block byte : ℕ) → unprogrammed trace.events block byte ≡ true → unprogrammed (D.history inner) block byte ≡ true },
-    ghost untorn: { tears ≡ false → is_torn fault.extent ≡ false },
-    pub ghost premises: { tears ≡ false → AreReliable ⟦<D as BlockDevice>⟧ → ∥ MeetsPremises trace.events ∥₁ },
+    ghost untorn: { tears ≡ false → stores_only_first_bytes fault.extent ≡ false },
+    pub ghost premises: { tears ≡ false → AreAllDevicesReliable ⟦<D as BlockDevice>⟧ → ∥ MeetsPowerLossPremises trace.events ∥₁ },
 }
 
 impl<D: BlockDevice> FaultDevice<D> {
-    ghost use Rattle.lfs_device.specs.FaultDevice.{inner_of, fault_of, tears_of, history_of};
+    ghost use Rattle.lfs_device.specs.FaultDevice.{inner_of, fault_of, can_tear_program, history_of};
 
     /// Makes a device whose `n`-th call of those that `which` names fails without an effect. `n`
     /// counts from 1; at 0 no call fails. With `stop` each later call fails too. Every byte counts
@@ -79,11 +79,11 @@ impl<D: BlockDevice> FaultDevice<D> {
     pub fn new(inner: D, which: Which, n: u64, stop: bool) -> FaultDevice<D>
         ensures inner { inner_of result ≡ inner }
         ensures fault { fault_of result ≡ record { which = which; nth = n; stops = stop; extent = Extent.Nothing } }
-        ensures tears { tears_of result ≡ false }
+        ensures tears { can_tear_program result ≡ false }
         ensures no_call { history_of result ≡ [] }
     {
         let trace = Trace::from_proof(&inner, &());
-        let fault = Fault {
+        let fault = PlannedFault {
             which,
             nth: n,
             stops: stop,
@@ -105,26 +105,26 @@ impl<D: BlockDevice> FaultDevice<D> {
     pub fn torn(self, k: u32) -> FaultDevice<D>
         ensures inner { inner_of result ≡ inner_of self }
         ensures fault { fault_of result ≡ record (fault_of self) { extent = Extent.FirstBytes k } }
-        ensures tears { tears_of result ≡ true }
+        ensures tears { can_tear_program result ≡ true }
         ensures history { history_of result ≡ history_of self }
     {
-        self.carrying_out(Extent::FirstBytes(k))
+        self.with_extent_of_failing_call(Extent::FirstBytes(k))
     }
 
     /// Returns the same device, whose failing call is done whole and then fails.
     pub fn whole(self) -> FaultDevice<D>
         ensures inner { inner_of result ≡ inner_of self }
         ensures fault { fault_of result ≡ record (fault_of self) { extent = Extent.Whole } }
-        ensures tears { tears_of result ≡ tears_of self }
+        ensures tears { can_tear_program result ≡ can_tear_program self }
         ensures history { history_of result ≡ history_of self }
     {
-        self.carrying_out(Extent::Whole)
+        self.with_extent_of_failing_call(Extent::Whole)
     }
 
-    fn carrying_out(mut self, extent: Extent) -> FaultDevice<D>
+    fn with_extent_of_failing_call(mut self, extent: Extent) -> FaultDevice<D>
         ensures inner { inner_of result ≡ inner_of self }
         ensures fault { fault_of result ≡ record (fault_of self) { extent = extent } }
-        ensures tears { tears_of result ≡ (tears_of self || is_torn extent) }
+        ensures tears { can_tear_program result ≡ (can_tear_program self || stores_only_first_bytes extent) }
         ensures history { history_of result ≡ history_of self }
     {
         self.tears = self.tears || matches!(extent, Extent::FirstBytes(_));
@@ -158,7 +158,7 @@ impl<D: BlockDevice> FaultDevice<D> {
     /// Returns how many calls there were of those that `which` names, with those that failed.
     /// Returns `u64::MAX` where there were more.
     pub fn calls(&self, which: Which) -> u64
-        ensures { result ≡ min (calls_of which (history_of self.now)) (2 ^ 64 - 1) }
+        ensures { result ≡ min (count_of_device_calls which (history_of self.now)) (2 ^ 64 - 1) }
     {
         match which {
             Which::Any => self
@@ -174,7 +174,7 @@ impl<D: BlockDevice> FaultDevice<D> {
     /// Returns whether [`torn`](FaultDevice::torn) was ever called: then a program may store its
     /// first bytes alone.
     pub fn tears(&self) -> bool
-        ensures { result ≡ tears_of self.now }
+        ensures { result ≡ can_tear_program self.now }
     {
         self.tears
     }
@@ -182,13 +182,13 @@ impl<D: BlockDevice> FaultDevice<D> {
     /// Shows a proof the premises of contracts about a loss of power. The device meets them where
     /// no program is torn and the devices below are reliable. The call does nothing at run time.
     pub fn meets_premises(&self)
-        ensures { tears_of self.now ≡ false → AreReliable ⟦<D as BlockDevice>⟧ → MeetsPremises (history_of self.now) }
+        ensures { can_tear_program self.now ≡ false → AreAllDevicesReliable ⟦<D as BlockDevice>⟧ → MeetsPowerLossPremises (history_of self.now) }
     {}
 
     // Returns how much of the next call is done before it fails, if it is due to fail. `counts`
     // says whether the call is counted.
     fn due(&self, counts: bool) -> Option<Extent>
-        ensures { result ≡ due_if self.now.fault counts self.now.trace.events }
+        ensures { result ≡ extent_of_failing_call self.now.fault counts self.now.trace.events }
     {
         let so_far = self.calls(self.fault.which);
         if self.fault.nth == 0 {
@@ -205,7 +205,7 @@ impl<D: BlockDevice> FaultDevice<D> {
 }
 
 impl<D: BlockDevice> BlockDevice for FaultDevice<D> {
-    ghost use Rattle.lfs_device.specs.FaultDevice.{IsNewestCall, inner_of, fault_of, inner_blocks, history_of};
+    ghost use Rattle.lfs_device.specs.FaultDevice.{AddsCallToHistory, inner_of, fault_of, inner_blocks, history_of};
 
     ghost geometry = { λ d. D.geometry d.inner };
 
@@ -228,14 +228,14 @@ impl<D: BlockDevice> BlockDevice for FaultDevice<D> {
     fn read(&mut self, block: u32, off: u32, buf: &mut [u8]) -> Result<(), Error>
         requires in_device { block < (D.geometry (inner_of self.old)).block_count }
         requires in_block { off + length buf.old ≤ (D.geometry (inner_of self.old)).block_size }
-        ensures carried { IsCallBelow ⟦<D as BlockDevice>⟧ (due (fault_of self.old) (Read block off (length buf.old)) (history_of self.old))
+        ensures carried { CarriesOutCallBelow ⟦<D as BlockDevice>⟧ (due (fault_of self.old) (Read block off (length buf.old)) (history_of self.old))
             (Read block off (length buf.old)) (is_err result) (inner_of self.old) (inner_of self.new) }
         ensures whole { due (fault_of self.old) (Read block off (length buf.old)) (history_of self.old) ≡ Some Extent.Whole
-            → NoFault ⟦<D as BlockDevice>⟧ (inner_of self.old) (inner_of self.new)
-            → buf.new ≡ slice_range (block_in (inner_blocks self.old) block) off (off + length buf.old) }
-        ensures bytes { OnOk result (buf.new ≡ slice_range (block_in (inner_blocks self.old) block) off (off + length buf.old)) }
+            → HasNoFaultBelow ⟦<D as BlockDevice>⟧ (inner_of self.old) (inner_of self.new)
+            → buf.new ≡ slice_range (block_bytes_in (inner_blocks self.old) block) off (off + length buf.old) }
+        ensures bytes { OnOk result (buf.new ≡ slice_range (block_bytes_in (inner_blocks self.old) block) off (off + length buf.old)) }
         ensures same { inner_blocks self.new ≡ inner_blocks self.old }
-        ensures noted { IsNewestCall (Read block off (length buf.old)) self.old self.new result }
+        ensures noted { AddsCallToHistory (Read block off (length buf.old)) self.old self.new result }
     {
         let counts = matches!(self.fault.which, Which::Any | Which::Read);
         let due = self.due(counts);
@@ -251,16 +251,16 @@ impl<D: BlockDevice> BlockDevice for FaultDevice<D> {
         requires in_block { off + length bytes.now ≤ (D.geometry (inner_of self.old)).block_size }
         requires begins { off % (D.geometry (inner_of self.old)).page ≡ 0 }
         requires ends { (off + length bytes.now) % (D.geometry (inner_of self.old)).page ≡ 0 }
-        requires unprogrammed { AllUnprogrammed (history_of self.old) block off (off + length bytes.now) }
-        ensures carried { IsCallBelow ⟦<D as BlockDevice>⟧ (due (fault_of self.old) (Program block off bytes.now) (history_of self.old))
+        requires unprogrammed { AreBytesUnprogrammed (history_of self.old) block off (off + length bytes.now) }
+        ensures carried { CarriesOutCallBelow ⟦<D as BlockDevice>⟧ (due (fault_of self.old) (Program block off bytes.now) (history_of self.old))
             (Program block off bytes.now) (is_err result) (inner_of self.old) (inner_of self.new) }
         ensures stored { IfSome (due (fault_of self.old) (Program block off bytes.now) (history_of self.old))
-            (λ extent. NoFault ⟦<D as BlockDevice>⟧ (inner_of self.old) (inner_of self.new)
+            (λ extent. HasNoFaultBelow ⟦<D as BlockDevice>⟧ (inner_of self.old) (inner_of self.new)
             → inner_blocks self.new ≡ programmed (inner_blocks self.old) block off (stored extent bytes.now)) }
         ensures ok { OnOk result (inner_blocks self.new ≡ programmed (inner_blocks self.old) block off bytes.now) }
-        ensures err { OnErr result (SameOutside off (off + length bytes.now) (block_in (inner_blocks self.old) block) (block_in (inner_blocks self.new) block)) }
-        ensures others { SameBut block (inner_blocks self.old) (inner_blocks self.new) }
-        ensures noted { IsNewestCall (Program block off bytes.now) self.old self.new result }
+        ensures err { OnErr result (AreBytesEqualOutsideRange off (off + length bytes.now) (block_bytes_in (inner_blocks self.old) block) (block_bytes_in (inner_blocks self.new) block)) }
+        ensures others { AreBlocksEqualExceptOne block (inner_blocks self.old) (inner_blocks self.new) }
+        ensures noted { AddsCallToHistory (Program block off bytes.now) self.old self.new result }
     {
         let counts = matches!(self.fault.which, Which::Any | Which::Program);
         let due = self.due(counts);
@@ -273,10 +273,10 @@ impl<D: BlockDevice> BlockDevice for FaultDevice<D> {
 
     fn erase(&mut self, block: u32) -> Result<(), Error>
         requires { block < (D.geometry (inner_of self.old)).block_count }
-        ensures carried { IsCallBelow ⟦<D as BlockDevice>⟧ (due (fault_of self.old) (Erase block) (history_of self.old))
+        ensures carried { CarriesOutCallBelow ⟦<D as BlockDevice>⟧ (due (fault_of self.old) (Erase block) (history_of self.old))
             (Erase block) (is_err result) (inner_of self.old) (inner_of self.new) }
-        ensures others { SameBut block (inner_blocks self.old) (inner_blocks self.new) }
-        ensures noted { IsNewestCall (Erase block) self.old self.new result }
+        ensures others { AreBlocksEqualExceptOne block (inner_blocks self.old) (inner_blocks self.new) }
+        ensures noted { AddsCallToHistory (Erase block) self.old self.new result }
     {
         let counts = matches!(self.fault.which, Which::Any | Which::Erase);
         let due = self.due(counts);

@@ -1,6 +1,6 @@
 ghost use Rattle.std.specs.Prelude.{◌≡◌, MatchResult};
-ghost use Rattle.lfs_model.specs.Disk.{pair_capacity, entry_limit, inline_limit, slot_limit};
-ghost use Rattle.lfs_model.specs.Geometry.{IsGeometry};
+ghost use Rattle.lfs_model.specs.Disk.{pair_capacity, entry_charge_limit, inline_limit, slots_per_pair_limit};
+ghost use Rattle.lfs_model.specs.Geometry.{IsValidGeometry};
 ghost use Rattle.lfs_model.specs.declared.order.NameOrder.TheVariants.{LongerFirst};
 
 use crate::Error;
@@ -20,7 +20,7 @@ pub struct Geometry {
     /// The order of the names in the device's directories. A session uses the order of its image in
     /// place of it.
     pub order: NameOrder,
-    pub ghost valid: { IsGeometry block_size page block_count },
+    pub ghost valid: { IsValidGeometry block_size page block_count },
 }
 
 impl Geometry {
@@ -31,7 +31,7 @@ impl Geometry {
     pub fn new(block_size: u32, page: u32, block_count: u32) -> Result<Geometry, Error>
         ensures { MatchResult result
             (λ g. (g.block_size ≡ block_size) × (g.page ≡ page) × (g.block_count ≡ block_count) × (g.order ≡ LongerFirst))
-            (λ e. (e ≡ Error.Invalid) × (¬ IsGeometry block_size page block_count)) }
+            (λ e. (e ≡ Error.Invalid) × (¬ IsValidGeometry block_size page block_count)) }
     {
         if !matches!(page, 8 | 16 | 32 | 64 | 128 | 256 | 512) {
             return Err(Error::Invalid);
@@ -81,7 +81,7 @@ impl Geometry {
     /// Returns how many bytes a name and its attributes may take, with their tags: half of the
     /// bytes of a pair's slots.
     pub fn entry_limit(self) -> u32
-        ensures { result ≡ entry_limit self.block_size self.page }
+        ensures { result ≡ entry_charge_limit self.block_size self.page }
     {
         self.pair_capacity() / 2
     }
@@ -96,7 +96,7 @@ impl Geometry {
 
     /// Returns how many slots a written metadata pair may have.
     pub fn slot_limit(self) -> usize
-        ensures { result ≡ slot_limit }
+        ensures { result ≡ slots_per_pair_limit }
     {
         1000
     }

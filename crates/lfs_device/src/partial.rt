@@ -1,10 +1,10 @@
 ghost use Rattle.std.specs.Prelude.{◌≡◌, ◌≤◌, ◌<◌, ◌+◌, ◌%◌, ℕ, true, length, take, slice_range, is_err, IfSome, IfErr, OnOk, OnErr, Some};
-ghost use Rattle.lfs_model.specs.Blocks.{SameBut, SameOutside, block_in, programmed};
-ghost use Rattle.lfs_model.specs.History.{faults, unprogrammed, unprogrammed_after, AllUnprogrammed};
+ghost use Rattle.lfs_model.specs.Blocks.{AreBlocksEqualExceptOne, AreBytesEqualOutsideRange, block_bytes_in, programmed};
+ghost use Rattle.lfs_model.specs.History.{faults, unprogrammed, is_byte_unprogrammed_after_call, AreBytesUnprogrammed};
 ghost use Rattle.lfs_model.specs.History.Call.{Read, Program, Erase};
 ghost use Rattle.lfs_device.specs.Calls.{ReadsOnly};
-ghost use Rattle.lfs_device.specs.CallsBelow.{NoFault, IsCallBelow, stored};
-ghost use Rattle.lfs_device.specs.Partial.{ChangesPart};
+ghost use Rattle.lfs_device.specs.CallsBelow.{HasNoFaultBelow, CarriesOutCallBelow, stored};
+ghost use Rattle.lfs_device.specs.Partial.{ChangesOnlyPartOfBlock};
 
 use crate::fault::Extent;
 use crate::{BlockDevice, Error};
@@ -19,10 +19,10 @@ pub(crate) fn carry_out_read<D: BlockDevice>(
 ) -> Result<(), Error>
     requires in_device { block < (D.geometry device.old).block_count }
     requires in_block { off + length buf.old ≤ (D.geometry device.old).block_size }
-    ensures carried { IsCallBelow ⟦<D as BlockDevice>⟧ due (Read block off (length buf.old)) (is_err result) device.old device.new }
-    ensures whole { due ≡ Some Extent.Whole → NoFault ⟦<D as BlockDevice>⟧ device.old device.new
-        → buf.new ≡ slice_range (block_in (D.blocks device.old) block) off (off + length buf.old) }
-    ensures bytes { OnOk result (buf.new ≡ slice_range (block_in (D.blocks device.old) block) off (off + length buf.old)) }
+    ensures carried { CarriesOutCallBelow ⟦<D as BlockDevice>⟧ due (Read block off (length buf.old)) (is_err result) device.old device.new }
+    ensures whole { due ≡ Some Extent.Whole → HasNoFaultBelow ⟦<D as BlockDevice>⟧ device.old device.new
+        → buf.new ≡ slice_range (block_bytes_in (D.blocks device.old) block) off (off + length buf.old) }
+    ensures bytes { OnOk result (buf.new ≡ slice_range (block_bytes_in (D.blocks device.old) block) off (off + length buf.old)) }
     ensures device { ReadsOnly D.BlockDevice device.old device.new }
     ensures error { IfErr result (λ e. e ≡ Error.Io) }
     ensures faults { faults (D.history device.old) ≤ faults (D.history device.new) }
@@ -49,19 +49,19 @@ pub(crate) fn carry_out_program<D: BlockDevice>(
     requires in_block { off + length bytes.now ≤ (D.geometry device.old).block_size }
     requires begins { off % (D.geometry device.old).page ≡ 0 }
     requires ends { (off + length bytes.now) % (D.geometry device.old).page ≡ 0 }
-    requires unprogrammed { AllUnprogrammed (D.history device.old) block off (off + length bytes.now) }
-    ensures carried { IsCallBelow ⟦<D as BlockDevice>⟧ due (Program block off bytes.now) (is_err result) device.old device.new }
-    ensures stored { IfSome due (λ extent. NoFault ⟦<D as BlockDevice>⟧ device.old device.new
+    requires unprogrammed { AreBytesUnprogrammed (D.history device.old) block off (off + length bytes.now) }
+    ensures carried { CarriesOutCallBelow ⟦<D as BlockDevice>⟧ due (Program block off bytes.now) (is_err result) device.old device.new }
+    ensures stored { IfSome due (λ extent. HasNoFaultBelow ⟦<D as BlockDevice>⟧ device.old device.new
         → D.blocks device.new ≡ programmed (D.blocks device.old) block off (stored extent bytes.now)) }
     ensures ok { OnOk result (D.blocks device.new ≡ programmed (D.blocks device.old) block off bytes.now) }
-    ensures part { ChangesPart D.BlockDevice block off (off + length bytes.now) device.old device.new }
+    ensures part { ChangesOnlyPartOfBlock D.BlockDevice block off (off + length bytes.now) device.old device.new }
     ensures error { IfErr result (λ e. e ≡ Error.Io) }
 {
     match due {
         None => device.prog(block, off, bytes),
         Some(Extent::Nothing) => Err(Error::Io),
         Some(Extent::FirstBytes(k)) => {
-            let _ = program_first(device, block, off, bytes, k);
+            let _ = program_first_bytes(device, block, off, bytes, k);
             Err(Error::Io)
         }
         Some(Extent::Whole) => {
@@ -78,12 +78,12 @@ pub(crate) fn carry_out_erase<D: BlockDevice>(
     block: u32,
 ) -> Result<(), Error>
     requires { block < (D.geometry device.old).block_count }
-    ensures carried { IsCallBelow ⟦<D as BlockDevice>⟧ due (Erase block) (is_err result) device.old device.new }
-    ensures others { SameBut block (D.blocks device.old) (D.blocks device.new) }
+    ensures carried { CarriesOutCallBelow ⟦<D as BlockDevice>⟧ due (Erase block) (is_err result) device.old device.new }
+    ensures others { AreBlocksEqualExceptOne block (D.blocks device.old) (D.blocks device.new) }
     ensures geometry { D.geometry device.new ≡ D.geometry device.old }
     ensures error { IfErr result (λ e. e ≡ Error.Io) }
     ensures faults { faults (D.history device.old) ≤ faults (D.history device.new) }
-    ensures keeps { (b k : ℕ) → unprogrammed_after (Erase block) (is_err result) b k (unprogrammed (D.history device.old) b k) ≡ true → unprogrammed (D.history device.new) b k ≡ true }
+    ensures keeps { (b k : ℕ) → is_byte_unprogrammed_after_call (Erase block) (is_err result) b k (unprogrammed (D.history device.old) b k) ≡ true → unprogrammed (D.history device.new) b k ≡ true }
 {
     match due {
         None => device.erase(block),
@@ -97,7 +97,7 @@ pub(crate) fn carry_out_erase<D: BlockDevice>(
 
 /// Programs the first `k` of these bytes, all where there are fewer. The bytes after them stay as
 /// they are.
-pub(crate) fn program_first<D: BlockDevice>(
+pub(crate) fn program_first_bytes<D: BlockDevice>(
     device: &mut D,
     block: u32,
     off: u32,
@@ -108,9 +108,9 @@ pub(crate) fn program_first<D: BlockDevice>(
     requires in_block { off + length bytes.now ≤ (D.geometry device.old).block_size }
     requires begins { off % (D.geometry device.old).page ≡ 0 }
     requires ends { (off + length bytes.now) % (D.geometry device.old).page ≡ 0 }
-    requires unprogrammed { AllUnprogrammed (D.history device.old) block off (off + length bytes.now) }
+    requires unprogrammed { AreBytesUnprogrammed (D.history device.old) block off (off + length bytes.now) }
     ensures ok { OnOk result (D.blocks device.new ≡ programmed (D.blocks device.old) block off (take k bytes.now)) }
-    ensures part { ChangesPart D.BlockDevice block off (off + length bytes.now) device.old device.new }
+    ensures part { ChangesOnlyPartOfBlock D.BlockDevice block off (off + length bytes.now) device.old device.new }
     ensures err { OnErr result (faults (D.history device.old) < faults (D.history device.new)) }
 {
     let stored = (k as usize).min(bytes.len());
@@ -120,11 +120,11 @@ pub(crate) fn program_first<D: BlockDevice>(
     if whole == stored {
         return Ok(());
     }
-    program_beginning(device, block, off + whole as u32, &bytes[whole..stored])
+    program_beginning_of_page(device, block, off + whole as u32, &bytes[whole..stored])
 }
 
 // Programs the beginning of a page, and the remaining bytes of the page with what it holds.
-fn program_beginning<D: BlockDevice>(
+fn program_beginning_of_page<D: BlockDevice>(
     device: &mut D,
     block: u32,
     off: u32,
@@ -134,9 +134,9 @@ fn program_beginning<D: BlockDevice>(
     requires in_page { length bytes.now ≤ (D.geometry device.old).page }
     requires in_block { off + (D.geometry device.old).page ≤ (D.geometry device.old).block_size }
     requires begins { off % (D.geometry device.old).page ≡ 0 }
-    requires unprogrammed { AllUnprogrammed (D.history device.old) block off (off + (D.geometry device.old).page) }
+    requires unprogrammed { AreBytesUnprogrammed (D.history device.old) block off (off + (D.geometry device.old).page) }
     ensures ok { OnOk result (D.blocks device.new ≡ programmed (D.blocks device.old) block off bytes.now) }
-    ensures part { ChangesPart D.BlockDevice block off (off + (D.geometry device.old).page) device.old device.new }
+    ensures part { ChangesOnlyPartOfBlock D.BlockDevice block off (off + (D.geometry device.old).page) device.old device.new }
     ensures err { OnErr result (faults (D.history device.old) < faults (D.history device.new)) }
 {
     let mut buffer = [0u8; 512];

@@ -1,12 +1,12 @@
 ghost use Rattle.std.specs.Prelude.{◌≡◌, ◌≤◌, ◌<◌, ◌+◌, ◌*◌, ◌%◌, [], ◌∷◌, false, length, replicate, slice_range, IsOk, IfOk, IfErr, OnErr, MatchResult};
-ghost use Rattle.lfs_model.specs.Blocks.{SameBut, block_in, cut, overwritten, programmed};
-ghost use Rattle.lfs_model.specs.History.{event, faults, AllUnprogrammed, IsNewest};
+ghost use Rattle.lfs_model.specs.Blocks.{AreBlocksEqualExceptOne, block_bytes_in, cut, bytes_after_overwrite_at, programmed};
+ghost use Rattle.lfs_model.specs.History.{call_event_with, faults, AreBytesUnprogrammed, IsLeftByNewestCall};
 ghost use Rattle.lfs_model.specs.History.Call.{Read, Program, Erase};
-ghost use Rattle.lfs_model.specs.Conformance.{AllConform};
-ghost use Rattle.lfs_model.specs.Premises.{MeetsPremises};
+ghost use Rattle.lfs_model.specs.Conformance.{AreConformingCalls};
+ghost use Rattle.lfs_model.specs.Premises.{MeetsPowerLossPremises};
 ghost use Rattle.lfs_device.specs.Bytes.{AreBytes};
-ghost use Rattle.lfs_device.specs.Premises.{AreReliable};
-ghost use Rattle.lfs_device.specs.Erased.{FillsByByte, erased_block, erased_bytes};
+ghost use Rattle.lfs_device.specs.Premises.{AreAllDevicesReliable};
+ghost use Rattle.lfs_device.specs.Erased.{ErasedFillIsByte, block_bytes_after_erase, bytes_after_erase_of_part};
 
 use crate::{BlockDevice, Error, Geometry, Trace};
 use std::alloc::Global;
@@ -30,13 +30,13 @@ pub struct RamDevice {
     ghost are_bytes: { AreBytes bytes.items },
     ghost size: { length bytes.items ≡ geometry.block_size * geometry.block_count },
     pub ghost no_fault: { faults trace.events ≡ 0 },
-    ghost newest: { IsNewest trace.events (cut geometry.block_size geometry.block_count bytes.items) },
-    ghost conforms: { AllConform trace.events },
-    pub ghost premises: { ∥ MeetsPremises trace.events ∥₁ },
+    ghost newest: { IsLeftByNewestCall trace.events (cut geometry.block_size geometry.block_count bytes.items) },
+    ghost conforms: { AreConformingCalls trace.events },
+    pub ghost premises: { ∥ MeetsPowerLossPremises trace.events ∥₁ },
 }
 
 impl RamDevice {
-    ghost use Rattle.lfs_device.specs.RamDevice.{geometry_of, bytes_of, ram_blocks, erased_of, history_of};
+    ghost use Rattle.lfs_device.specs.RamDevice.{geometry_of, bytes_of, ram_blocks, erase_effect_of_ram, history_of};
 
     /// Makes a device that holds 0xff in every byte. An erase fills a block with 0xff. Every byte
     /// counts as programmed.
@@ -45,7 +45,7 @@ impl RamDevice {
     pub fn blank(alloc: Global, geometry: Geometry) -> Result<RamDevice, Error>
         ensures geometry { IfOk result (λ d. geometry_of d ≡ geometry) }
         ensures bytes { IfOk result (λ d. bytes_of d ≡ replicate (geometry.block_size * geometry.block_count) 255) }
-        ensures erased { IfOk result (λ d. erased_of d ≡ Erased.Fill 255) }
+        ensures erased { IfOk result (λ d. erase_effect_of_ram d ≡ Erased.Fill 255) }
         ensures no_call { IfOk result (λ d. history_of d ≡ []) }
         ensures err { OnErr result (result ≡ Err Error.NoMemory) }
     {
@@ -65,7 +65,7 @@ impl RamDevice {
     /// Errors: `Invalid` exactly where the number of bytes isn't that of the geometry.
     pub fn from_bytes(geometry: Geometry, bytes: Vec<u8>) -> Result<RamDevice, Error>
         ensures made { MatchResult result
-            (λ d. (geometry_of d ≡ geometry) × (bytes_of d ≡ bytes.items) × (erased_of d ≡ Erased.Fill 255))
+            (λ d. (geometry_of d ≡ geometry) × (bytes_of d ≡ bytes.items) × (erase_effect_of_ram d ≡ Erased.Fill 255))
             (λ e. (e ≡ Error.Invalid) × (¬ (length bytes.items ≡ geometry.block_size * geometry.block_count))) }
         ensures no_call { IfOk result (λ d. history_of d ≡ []) }
     {
@@ -84,7 +84,7 @@ impl RamDevice {
     pub fn erased_as(self, erased: Erased) -> RamDevice
         ensures geometry { geometry_of result ≡ geometry_of self }
         ensures bytes { bytes_of result ≡ bytes_of self }
-        ensures erased { erased_of result ≡ erased }
+        ensures erased { erase_effect_of_ram result ≡ erased }
         ensures history { history_of result ≡ history_of self }
     {
         let RamDevice {
@@ -131,13 +131,13 @@ impl RamDevice {
 /// erase leaves no log or the one that was there, and no call fails. The call does nothing at run
 /// time.
 pub fn ram_devices_are_reliable()
-    ensures { AreReliable ⟦<RamDevice as BlockDevice>⟧ }
+    ensures { AreAllDevicesReliable ⟦<RamDevice as BlockDevice>⟧ }
 {}
 
 // Writes bytes over those from an offset on.
 fn overwrite(all: &mut Vec<u8>, at: usize, bytes: &[u8])
     requires { at + length bytes.now ≤ length all.old.items }
-    ensures { all.new.items ≡ overwritten all.old.items at bytes.now }
+    ensures { all.new.items ≡ bytes_after_overwrite_at all.old.items at bytes.now }
 {
     all[at..at + bytes.len()].copy_from_slice(bytes);
 }
@@ -145,9 +145,9 @@ fn overwrite(all: &mut Vec<u8>, at: usize, bytes: &[u8])
 // Fills the bytes from an offset on with what an erase leaves.
 fn erase_at(all: &mut Vec<u8>, at: usize, len: usize, erased: Erased)
     requires { at + len ≤ length all.old.items }
-    ensures erased { all.new.items ≡ erased_bytes erased all.old.items at len }
+    ensures erased { all.new.items ≡ bytes_after_erase_of_part erased all.old.items at len }
     ensures are_bytes { AreBytes all.old.items → AreBytes all.new.items }
-    ensures by_byte { FillsByByte erased }
+    ensures by_byte { ErasedFillIsByte erased }
 {
     match erased {
         Erased::Fill(byte) => all[at..at + len].fill(byte),
@@ -156,9 +156,9 @@ fn erase_at(all: &mut Vec<u8>, at: usize, len: usize, erased: Erased)
 }
 
 impl BlockDevice for RamDevice {
-    ghost use Rattle.lfs_model.proofs.Cuts.{IsDivided-cut};
+    ghost use Rattle.lfs_model.proofs.Cuts.{HasBlocksOfCountAndSize-cut};
     ghost use Rattle.lfs_device.specs.ByteLists.{HasBytes-cut};
-    ghost use Rattle.lfs_device.specs.RamDevice.{geometry_of, bytes_of, ram_blocks, erased_of, history_of};
+    ghost use Rattle.lfs_device.specs.RamDevice.{geometry_of, bytes_of, ram_blocks, erase_effect_of_ram, history_of};
 
     ghost geometry = { geometry_of };
 
@@ -166,7 +166,7 @@ impl BlockDevice for RamDevice {
 
     ghost history = { history_of };
 
-    ghost shape = { λ d. IsDivided-cut d.geometry.block_size d.geometry.block_count d.bytes.items d.size };
+    ghost shape = { λ d. HasBlocksOfCountAndSize-cut d.geometry.block_size d.geometry.block_count d.bytes.items d.size };
 
     ghost bytes = { λ d. HasBytes-cut d.geometry.block_size d.geometry.block_count d.bytes.items d.are_bytes };
 
@@ -182,11 +182,11 @@ impl BlockDevice for RamDevice {
         requires in_device { block < (geometry_of self.old).block_count }
         requires in_block { off + length buf.old ≤ (geometry_of self.old).block_size }
         ensures ok { IsOk result }
-        ensures bytes { buf.new ≡ slice_range (block_in (ram_blocks self.old) block) off (off + length buf.old) }
+        ensures bytes { buf.new ≡ slice_range (block_bytes_in (ram_blocks self.old) block) off (off + length buf.old) }
         ensures same { ram_blocks self.new ≡ ram_blocks self.old }
         ensures geometry { geometry_of self.new ≡ geometry_of self.old }
-        ensures erased { erased_of self.new ≡ erased_of self.old }
-        ensures history { history_of self.new ≡ event (Read block off (length buf.old)) (ram_blocks self.old) (ram_blocks self.new) false ∷ history_of self.old }
+        ensures erased { erase_effect_of_ram self.new ≡ erase_effect_of_ram self.old }
+        ensures history { history_of self.new ≡ call_event_with (Read block off (length buf.old)) (ram_blocks self.old) (ram_blocks self.new) false ∷ history_of self.old }
     {
         let start = self.position(block, off);
         buf.copy_from_slice(&self.bytes[start..start + buf.len()]);
@@ -199,13 +199,13 @@ impl BlockDevice for RamDevice {
         requires in_block { off + length bytes.now ≤ (geometry_of self.old).block_size }
         requires begins { off % (geometry_of self.old).page ≡ 0 }
         requires ends { (off + length bytes.now) % (geometry_of self.old).page ≡ 0 }
-        requires unprogrammed { AllUnprogrammed (history_of self.old) block off (off + length bytes.now) }
+        requires unprogrammed { AreBytesUnprogrammed (history_of self.old) block off (off + length bytes.now) }
         ensures ok { IsOk result }
         ensures bytes { ram_blocks self.new ≡ programmed (ram_blocks self.old) block off bytes.now }
-        ensures others { SameBut block (ram_blocks self.old) (ram_blocks self.new) }
+        ensures others { AreBlocksEqualExceptOne block (ram_blocks self.old) (ram_blocks self.new) }
         ensures geometry { geometry_of self.new ≡ geometry_of self.old }
-        ensures erased { erased_of self.new ≡ erased_of self.old }
-        ensures history { history_of self.new ≡ event (Program block off bytes.now) (ram_blocks self.old) (ram_blocks self.new) false ∷ history_of self.old }
+        ensures erased { erase_effect_of_ram self.new ≡ erase_effect_of_ram self.old }
+        ensures history { history_of self.new ≡ call_event_with (Program block off bytes.now) (ram_blocks self.old) (ram_blocks self.new) false ∷ history_of self.old }
     {
         let trace = Trace::from_proof(self, &(block, off, bytes));
         let start = self.position(block, off);
@@ -217,11 +217,11 @@ impl BlockDevice for RamDevice {
     fn erase(&mut self, block: u32) -> Result<(), Error>
         requires { block < (geometry_of self.old).block_count }
         ensures ok { IsOk result }
-        ensures bytes { block_in (ram_blocks self.new) block ≡ erased_block (erased_of self.old) (block_in (ram_blocks self.old) block) }
-        ensures others { SameBut block (ram_blocks self.old) (ram_blocks self.new) }
+        ensures bytes { block_bytes_in (ram_blocks self.new) block ≡ block_bytes_after_erase (erase_effect_of_ram self.old) (block_bytes_in (ram_blocks self.old) block) }
+        ensures others { AreBlocksEqualExceptOne block (ram_blocks self.old) (ram_blocks self.new) }
         ensures geometry { geometry_of self.new ≡ geometry_of self.old }
-        ensures erased { erased_of self.new ≡ erased_of self.old }
-        ensures history { history_of self.new ≡ event (Erase block) (ram_blocks self.old) (ram_blocks self.new) false ∷ history_of self.old }
+        ensures erased { erase_effect_of_ram self.new ≡ erase_effect_of_ram self.old }
+        ensures history { history_of self.new ≡ call_event_with (Erase block) (ram_blocks self.old) (ram_blocks self.new) false ∷ history_of self.old }
     {
         let trace = Trace::from_proof(self, &block);
         let start = self.position(block, 0);

@@ -4,6 +4,6 @@ ghost use Rattle.lfs_device.specs.Bytes.{HasBytes};
 use lfs_device::BlockDevice;
 
 /// Whatever a device is, it holds bytes.
-pub fn holds_bytes<D: BlockDevice>(_device: &D)
+pub fn blocks_of_device_are_bytes<D: BlockDevice>(_device: &D)
     ensures { HasBytes (D.blocks _device.now) }
 {}

@@ -1,6 +1,6 @@
 ghost use Rattle.std.specs.Prelude.{◌≡◌, ◌⊎◌, ◌+◌, ◌/◌, ◌<◌, IfErr, OnOk, IsErrOf, slice_set};
-ghost use Rattle.lfs_device.specs.Calls.{ChangesBlock, ReportsFaults};
-ghost use Rattle.lfs_model.specs.Blocks.{block_in};
+ghost use Rattle.lfs_device.specs.Calls.{ChangesOnlyThisBlock, ReportsFaults};
+ghost use Rattle.lfs_model.specs.Blocks.{block_bytes_in};
 ghost use Rattle.lfs_model.specs.History.{erases, programs};
 
 use lfs_device::{BlockDevice, Error, read_block};
@@ -19,8 +19,8 @@ pub fn copy_block<D: BlockDevice>(
 ) -> Result<(), Error>
     requires from { from < (D.geometry device.old).block_count }
     requires to { to < (D.geometry device.old).block_count }
-    ensures copied { OnOk result (D.blocks device.new ≡ slice_set (D.blocks device.old) to (block_in (D.blocks device.old) from)) }
-    ensures device { ChangesBlock D.BlockDevice to device.old device.new }
+    ensures copied { OnOk result (D.blocks device.new ≡ slice_set (D.blocks device.old) to (block_bytes_in (D.blocks device.old) from)) }
+    ensures device { ChangesOnlyThisBlock D.BlockDevice to device.old device.new }
     ensures erases { OnOk result (erases (D.history device.new) ≡ erases (D.history device.old) + 1) }
     ensures programs { OnOk result (programs (D.history device.new)
         ≡ programs (D.history device.old) + (D.geometry device.old).block_size / (D.geometry device.old).page) }

@@ -3,7 +3,7 @@
 use std::alloc::{AllocError, Global};
 
 /// The entries of a commit: each tag with its bytes.
-pub type Entries<'a> = &'a [(u32, &'a [u8])];
+pub type FixtureEntries<'a> = &'a [(u32, &'a [u8])];
 
 // The superblock's struct: version 2.0, 16 blocks of 4,096 bytes, and three limits.
 const FIELDS: [u8; 24] = [
@@ -28,7 +28,11 @@ fn checksum(bytes: &[u8]) -> u32 {
 
 // Adds a commit after the last tag, up to the next page of 256 bytes. Returns the commit's own last
 // tag.
-fn push_commit(bytes: &mut Vec<u8>, last: u32, entries: Entries<'_>) -> Result<u32, AllocError> {
+fn push_commit(
+    bytes: &mut Vec<u8>,
+    last: u32,
+    entries: FixtureEntries<'_>,
+) -> Result<u32, AllocError> {
     let start = match bytes.len() {
         4 => 0,
         len => len,
@@ -50,7 +54,10 @@ fn push_commit(bytes: &mut Vec<u8>, last: u32, entries: Entries<'_>) -> Result<u
 }
 
 // Makes a block with the superblock in its first commit. Returns also the last tag of that commit.
-fn superblock_commit(alloc: Global, revision: u32) -> Result<(Vec<u8>, u32), AllocError> {
+fn block_with_superblock_commit(
+    alloc: Global,
+    revision: u32,
+) -> Result<(Vec<u8>, u32), AllocError> {
     let mut bytes = Vec::from_slice(alloc, &revision.to_le_bytes())?;
     let superblock = [
         (0x0ff0_0008, b"littlefs".as_slice()),
@@ -61,12 +68,12 @@ fn superblock_commit(alloc: Global, revision: u32) -> Result<(Vec<u8>, u32), All
 }
 
 /// Makes a block with the superblock in its first commit, and these commits after it.
-pub fn first_block(
+pub fn block_with_superblock_and_commits(
     alloc: Global,
     revision: u32,
-    commits: &[Entries<'_>],
+    commits: &[FixtureEntries<'_>],
 ) -> Result<Vec<u8>, AllocError> {
-    let (mut bytes, mut last) = superblock_commit(alloc, revision)?;
+    let (mut bytes, mut last) = block_with_superblock_commit(alloc, revision)?;
     for entries in commits {
         last = push_commit(&mut bytes, last, entries)?;
     }
@@ -74,12 +81,12 @@ pub fn first_block(
 }
 
 /// Makes a block with a commit of these after the superblock's, where there are any.
-pub fn block_with(
+pub fn block_with_superblock_and_entries(
     alloc: Global,
     revision: u32,
-    entries: Entries<'_>,
+    entries: FixtureEntries<'_>,
 ) -> Result<Vec<u8>, AllocError> {
-    let (mut bytes, last) = superblock_commit(alloc, revision)?;
+    let (mut bytes, last) = block_with_superblock_commit(alloc, revision)?;
     if !entries.is_empty() {
         push_commit(&mut bytes, last, entries)?;
     }
@@ -87,7 +94,7 @@ pub fn block_with(
 }
 
 // Makes a block with one commit of these.
-fn block_of(alloc: Global, entries: Entries<'_>) -> Result<Vec<u8>, AllocError> {
+fn block_of_one_commit(alloc: Global, entries: FixtureEntries<'_>) -> Result<Vec<u8>, AllocError> {
     let mut bytes = Vec::from_slice(alloc, &[1, 0, 0, 0])?;
     push_commit(&mut bytes, 0xffff_ffff, entries)?;
     Ok(bytes)
@@ -95,8 +102,8 @@ fn block_of(alloc: Global, entries: Entries<'_>) -> Result<Vec<u8>, AllocError> 
 
 /// What a block holds: a commit, or bytes.
 #[derive(Clone, Copy)]
-pub enum Held<'a> {
-    Commit(Entries<'a>),
+pub enum BlockFilling<'a> {
+    Commit(FixtureEntries<'a>),
     Bytes(&'a [u8]),
 }
 
@@ -108,35 +115,43 @@ fn put(image: &mut [u8], block: usize, bytes: &[u8]) {
     }
 }
 
-fn put_content(
+fn put_block_content(
     alloc: Global,
     image: &mut [u8],
     block: usize,
-    held: Held<'_>,
+    held: BlockFilling<'_>,
 ) -> Result<(), AllocError> {
     match held {
-        Held::Commit(entries) => put(image, block, block_of(alloc, entries)?.as_slice()),
-        Held::Bytes(bytes) => put(image, block, bytes),
+        BlockFilling::Commit(entries) => put(
+            image,
+            block,
+            block_of_one_commit(alloc, entries)?.as_slice(),
+        ),
+        BlockFilling::Bytes(bytes) => put(image, block, bytes),
     }
     Ok(())
 }
 
 /// Makes an image of a second commit of its first block, and its other blocks.
-pub fn image_with(
+pub fn image_with_second_commit(
     alloc: Global,
-    entries: Entries<'_>,
-    others: &[(usize, Held<'_>)],
+    entries: FixtureEntries<'_>,
+    others: &[(usize, BlockFilling<'_>)],
 ) -> Result<Vec<u8>, AllocError> {
-    let first = block_with(alloc, 1, entries)?;
-    let mut image = image_of(alloc, first.as_slice(), &[])?;
+    let first = block_with_superblock_and_entries(alloc, 1, entries)?;
+    let mut image = image_of_two_blocks(alloc, first.as_slice(), &[])?;
     for (block, held) in others {
-        put_content(alloc, image.as_mut_slice(), *block, *held)?;
+        put_block_content(alloc, image.as_mut_slice(), *block, *held)?;
     }
     Ok(image)
 }
 
 /// Makes an image of which these are the first two blocks.
-pub fn image_of(alloc: Global, first: &[u8], second: &[u8]) -> Result<Vec<u8>, AllocError> {
+pub fn image_of_two_blocks(
+    alloc: Global,
+    first: &[u8],
+    second: &[u8],
+) -> Result<Vec<u8>, AllocError> {
     let mut image = Vec::from_slice(alloc, first)?;
     image.resize(4096, 0xff)?;
     image.extend_from_slice(second)?;

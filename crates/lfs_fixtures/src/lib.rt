@@ -6,7 +6,10 @@ mod copy;
 mod image;
 mod marking;
 
-pub use bytes::holds_bytes;
+pub use bytes::blocks_of_device_are_bytes;
 pub use copy::copy_block;
-pub use image::{Entries, Held, block_with, first_block, image_of, image_with};
+pub use image::{
+    BlockFilling, Entries, block_with_superblock_and_commits, block_with_superblock_and_entries,
+    image_of_two_blocks, image_with_second_commit,
+};
 pub use marking::mark_list;

@@ -1,5 +1,5 @@
 ghost use Rattle.std.specs.Prelude.{◌≡◌, length, OnOk};
-ghost use Rattle.lfs_model.specs.SkipLists.{IsList};
+ghost use Rattle.lfs_model.specs.SkipLists.{IsSkipList};
 
 use lfs_alloc::BlockMap;
 use lfs_ctz::walk;
@@ -15,7 +15,7 @@ pub fn mark_list<D: BlockDevice>(
     head: u32,
     size: u32,
 ) -> Result<bool, Error>
-    ensures list { OnOk result (IsList (D.blocks device.old) (D.geometry device.old).block_size head size) }
+    ensures list { OnOk result (IsSkipList (D.blocks device.old) (D.geometry device.old).block_size head size) }
     ensures blocks { D.blocks device.new ≡ D.blocks device.old }
 {
     let mut is_taken = false;

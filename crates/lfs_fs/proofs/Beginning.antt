@@ -3,32 +3,32 @@ use Rattle.std.proofs.Common.{ℕ, ◌≡◌, ◌+◌, ◌*◌, ◌≤◌, Bool,
 use Rattle.std.proofs.lemmas.Bool.{le-leb, lt-ltb}
 use Rattle.lfs_model.specs.TreeEdits.{bytes_at, is_file}
 use Rattle.lfs_model.specs.Disk.{block_count, inline_limit}
-use Rattle.lfs_model.specs.SkipLists.{blocks_for}
+use Rattle.lfs_model.specs.SkipLists.{list_block_count_for_size}
 use Rattle.lfs_model.specs.Operations.{Flags}
-use Rattle.lfs_model.specs.Slots.{no_gstate}
+use Rattle.lfs_model.specs.Slots.{zero_gstate}
 use Rattle.lfs_model.specs.Thread.{gstate_of}
 use Rattle.lfs_model.specs.Session as session
-use Rattle.lfs_model.specs.Writers.{opened_writer}
-use Rattle.lfs_model.specs.Effects.{node_size}
+use Rattle.lfs_model.specs.Writers.{writer_after_open}
+use Rattle.lfs_model.specs.Effects.{file_size_of_node}
 use Rattle.lfs_model.specs.Tree.{Node, FileNode, DirectoryNode, Path}
-use Rattle.lfs_tree.specs.OpenContents.{IsOver, FitsInlineLimit, bytes_held, kept_of}
-use Rattle.lfs_tree.specs.TreeState.{IsAppliedOn, TreeState, surroundings_of, tree_view}
-use Rattle.lfs_writer.specs.Contents.{form_of}
+use Rattle.lfs_tree.specs.OpenContents.{AreWriterContentsOverTreeFile, IsInMemoryIfWithinInlineLimit, bytes_of_writer_contents, kept_of}
+use Rattle.lfs_tree.specs.TreeState.{IsOperationAppliedToTree, TreeState, disk_summary_of_tree, tree_view}
+use Rattle.lfs_writer.specs.Contents.{form_of_contents}
 use Rattle.lfs_writer.specs.Form as shape_of
-use Rattle.lfs_writer.specs.Form.{IsWriterForm}
-use Rattle.lfs_writer.specs.declared.contents.Contents.{Contents}
-use Rattle.lfs_fs.specs.WriterChanges.{CanOpenWriter, IsOpenedAs}
-use Rattle.lfs_fs.specs.FileView.{held_for}
+use Rattle.lfs_writer.specs.Form.{IsFormOfWriterContents}
+use Rattle.lfs_writer.specs.declared.contents.WriterContents.{WriterContents}
+use Rattle.lfs_fs.specs.WriterChanges.{CanOpenWriter, IsOpenedWriterSeenAs}
+use Rattle.lfs_fs.specs.FileView.{blocks_reserved_for_size}
 use Rattle.lfs_fs.specs.declared.files.Writer.{Writer}
 use Rattle.lfs_model.proofs.Paths.{path_itself}
-use Rattle.lfs_model.specs.TreeEdits.{tree_with_node, change_at, last_name, parent_of, with_name, with_names}
+use Rattle.lfs_model.specs.TreeEdits.{tree_after_creation, tree_after_change_of_node, last_name_of_path, parent_path_of, names_with_added_name, node_after_change_of_names}
 use Rattle.lfs_model.specs.Operations as ops
-use Rattle.lfs_model.specs.Refusals.{as_path}
+use Rattle.lfs_model.specs.Refusals.{path_or_root}
 use Rattle.lfs_model.specs.Tree.{Tree}
-use Rattle.lfs_tree.specs.Permissions.{CanCreate}
+use Rattle.lfs_tree.specs.Permissions.{CanCreateFileAtPath}
 use Rattle.std.specs.Prelude.{is_none, is_some, if◌then◌else◌}
 
-file_there : (n : Option Node) (size : ℕ) → node_size n ≡ Some size → (is_file n ≡ true) × (length (bytes_at n) ≡ size)
+file_there : (n : Option Node) (size : ℕ) → file_size_of_node n ≡ Some size → (is_file n ≡ true) × (length (bytes_at n) ≡ size)
 file_there None size e = absurd (cc)
 file_there (Some (FileNode attributes bytes)) size e = (refl, ap or_else e)
   where
@@ -43,16 +43,16 @@ is_file_there t path size truncates can = (file_there (tree_view t path) size ca
 -- The file is there in an image of which nothing is to be recovered, with room for two blocks where it is to be written anew.
 pub record IsAtRest (t : TreeState) (path : Path) (size : ℕ) (truncates : Bool) : Type 0 where
   pub writable : t.writable ≡ true
-  pub settled : gstate_of t.pairs ≡ no_gstate
-  pub there : node_size (tree_view t path) ≡ Some size
-  pub room : truncates ≡ true → 1 ≤ size → length (surroundings_of t).used + 2 ≤ block_count t.disk
+  pub settled : gstate_of t.pairs ≡ zero_gstate
+  pub there : file_size_of_node (tree_view t path) ≡ Some size
+  pub room : truncates ≡ true → 1 ≤ size → length (disk_summary_of_tree t).used + 2 ≤ block_count t.disk
 
 -- so it is once the image is recovered, which takes no block
-pub at_rest : (t new : TreeState) (path : Path) (size : ℕ) (truncates : Bool) → CanOpenWriter t path size truncates → IsAppliedOn t ops.Recover new → length (surroundings_of new).used ≤ length (surroundings_of t).used + 0 → IsAtRest new path size truncates
+pub at_rest : (t new : TreeState) (path : Path) (size : ℕ) (truncates : Bool) → CanOpenWriter t path size truncates → IsOperationAppliedToTree t ops.Recover new → length (disk_summary_of_tree new).used ≤ length (disk_summary_of_tree t).used + 0 → IsAtRest new path size truncates
 at_rest t new path size truncates can carried few = record {
   writable = carried.writable;
   settled = carried.recovered.gstate;
-  there = ap (λ (z : Tree). node_size (z path)) (carried.shows (surroundings_of t) []) ∙ can.there;
+  there = ap (λ (z : Tree). file_size_of_node (z path)) (carried.shows (disk_summary_of_tree t) []) ∙ can.there;
   room = λ e some. let k = can.room e some in let g = carried.geometry.count in omega (arith, k, few, g);
 }
 
@@ -62,7 +62,7 @@ no_elements (x ∷ xs) e = absurd (let k = sym (lt-ltb 0 (length (x ∷ xs)) (om
 
 -- one with the bytes of the file
 pub begun_clean : (t : TreeState) (path : Path) (size : ℕ) (flags : Flags) → IsAtRest t path size flags.truncate → (flags.truncate && nat_lt 0 size) ≡ false →
-    IsOpenedAs t (opened_writer path flags (bytes_at (tree_view t path))) (record { path = path; position = 0; size = size; appends = flags.append; unsaved = None })
+    IsOpenedWriterSeenAs t (writer_after_open path flags (bytes_at (tree_view t path))) (record { path = path; position = 0; size = size; appends = flags.append; unsaved = None })
 begun_clean t path size flags can none = record {
   seen = seen flags.truncate none;
   written = record { writable = can.writable; settled = can.settled; there = file.0; size = file.1; changed = tt };
@@ -81,8 +81,8 @@ begun_clean t path size flags can none = record {
         ap₂ made (no_elements (bytes_at (tree_view t path)) few) (sym few)
 
 -- one without bytes, where the file has some
-pub begun_anew : (t : TreeState) (path : Path) (size : ℕ) (flags : Flags) (c : Contents) → IsAtRest t path size flags.truncate → flags.truncate ≡ true → 1 ≤ size → IsOver t path c → bytes_held (kept_of t) c ≡ [] → form_of c ≡ shape_of.InMemory 0 →
-    IsOpenedAs t (opened_writer path flags (bytes_at (tree_view t path))) (record { path = path; position = 0; size = 0; appends = flags.append; unsaved = Some (record { contents = c; has_turned = false; last_end = None }) })
+pub begun_anew : (t : TreeState) (path : Path) (size : ℕ) (flags : Flags) (c : WriterContents) → IsAtRest t path size flags.truncate → flags.truncate ≡ true → 1 ≤ size → AreWriterContentsOverTreeFile t path c → bytes_of_writer_contents (kept_of t) c ≡ [] → form_of_contents c ≡ shape_of.InMemory 0 →
+    IsOpenedWriterSeenAs t (writer_after_open path flags (bytes_at (tree_view t path))) (record { path = path; position = 0; size = 0; appends = flags.append; unsaved = Some (record { contents = c; has_turned = false; last_end = None }) })
 begun_anew t path size flags c can truncates some over none shape = record {
   seen = seen;
   written = record {
@@ -92,9 +92,9 @@ begun_anew t path size flags c can truncates some over none shape = record {
     size = ap (λ xs. length xs) none;
     changed = record {
       over = over;
-      kept = subst (λ f. IsWriterForm t.disk.block_size f (made (bytes_held (kept_of t) c) true)) (sym shape) kept;
-      form = subst (FitsInlineLimit (inline_limit t.disk.block_size)) (sym shape) (omega arith);
-      room = subst (λ n. length (surroundings_of t).used + n ≤ block_count t.disk) (sym two) (can.room truncates some);
+      kept = subst (λ f. IsFormOfWriterContents t.disk.block_size f (made (bytes_of_writer_contents (kept_of t) c) true)) (sym shape) kept;
+      form = subst (IsInMemoryIfWithinInlineLimit (inline_limit t.disk.block_size)) (sym shape) (omega arith);
+      room = subst (λ n. length (disk_summary_of_tree t).used + n ≤ block_count t.disk) (sym two) (can.room truncates some);
     };
   };
 }
@@ -108,13 +108,13 @@ begun_anew t path size flags c can truncates some over none shape = record {
     small : 0 ≤ inline_limit t.disk.block_size
     small = omega arith
 
-    kept : IsWriterForm t.disk.block_size (shape_of.InMemory 0) (made (bytes_held (kept_of t) c) true)
+    kept : IsFormOfWriterContents t.disk.block_size (shape_of.InMemory 0) (made (bytes_of_writer_contents (kept_of t) c) true)
     kept = record { size = sym (ap (λ xs. length xs) none); fits = small }
 
-    two : held_for t.disk.block_size false 0 ≡ 2
-    two = ap (λ z. 2 + 1 * cond z 0 (blocks_for t.disk.block_size 0)) (le-leb 0 (inline_limit t.disk.block_size) (omega arith))
+    two : blocks_reserved_for_size t.disk.block_size false 0 ≡ 2
+    two = ap (λ z. 2 + 1 * cond z 0 (list_block_count_for_size t.disk.block_size 0)) (le-leb 0 (inline_limit t.disk.block_size) (omega arith))
 
-    seen : made (bytes_held (kept_of t) c) true ≡ made (cond flags.truncate [] (bytes_at (tree_view t path))) (flags.truncate && nat_lt 0 (length (bytes_at (tree_view t path))))
+    seen : made (bytes_of_writer_contents (kept_of t) c) true ≡ made (cond flags.truncate [] (bytes_at (tree_view t path))) (flags.truncate && nat_lt 0 (length (bytes_at (tree_view t path))))
     seen =
         ap (λ xs. made xs true) none
         ∙ ap (λ b. made [] b) (sym (lt-ltb 0 (length (bytes_at (tree_view t path))) (omega (arith, file.1, some))))
@@ -122,31 +122,31 @@ begun_anew t path size flags c can truncates some over none shape = record {
 
 -- ---- once the image is recovered
 
-pub begun_as_is : (t new : TreeState) (path : Path) (size : ℕ) (flags : Flags) (appends : Bool) → CanOpenWriter t path size flags.truncate → IsAppliedOn t ops.Recover new → length (surroundings_of new).used ≤ length (surroundings_of t).used + 0 →
+pub begun_as_is : (t new : TreeState) (path : Path) (size : ℕ) (flags : Flags) (appends : Bool) → CanOpenWriter t path size flags.truncate → IsOperationAppliedToTree t ops.Recover new → length (disk_summary_of_tree new).used ≤ length (disk_summary_of_tree t).used + 0 →
     (flags.truncate && nat_lt 0 size) ≡ false → appends ≡ flags.append →
-    IsOpenedAs new (opened_writer path flags (bytes_at (tree_view t path))) (record { path = path; position = 0; size = size; appends = appends; unsaved = None })
+    IsOpenedWriterSeenAs new (writer_after_open path flags (bytes_at (tree_view t path))) (record { path = path; position = 0; size = size; appends = appends; unsaved = None })
 begun_as_is t new path size flags appends can carried few none are =
-    subst (λ (z : Tree). IsOpenedAs new (opened_writer path flags (bytes_at (z path))) (record { path = path; position = 0; size = size; appends = appends; unsaved = None })) (carried.shows (surroundings_of t) [])
-    (subst (λ b. IsOpenedAs new (opened_writer path flags (bytes_at (tree_view new path))) (record { path = path; position = 0; size = size; appends = b; unsaved = None })) (sym are)
+    subst (λ (z : Tree). IsOpenedWriterSeenAs new (writer_after_open path flags (bytes_at (z path))) (record { path = path; position = 0; size = size; appends = appends; unsaved = None })) (carried.shows (disk_summary_of_tree t) [])
+    (subst (λ b. IsOpenedWriterSeenAs new (writer_after_open path flags (bytes_at (tree_view new path))) (record { path = path; position = 0; size = size; appends = b; unsaved = None })) (sym are)
     (begun_clean new path size flags (at_rest t new path size flags.truncate can carried few) none))
 
-pub begun_empty : (t new : TreeState) (path : Path) (size : ℕ) (flags : Flags) (appends : Bool) (c : Contents) → CanOpenWriter t path size flags.truncate → IsAppliedOn t ops.Recover new → length (surroundings_of new).used ≤ length (surroundings_of t).used + 0 →
-    flags.truncate ≡ true → 1 ≤ size → appends ≡ flags.append → IsOver new path c → bytes_held (kept_of new) c ≡ bytes_held (kept_of t) c → bytes_held (kept_of t) c ≡ [] → form_of c ≡ shape_of.InMemory 0 →
-    IsOpenedAs new (opened_writer path flags (bytes_at (tree_view t path))) (record { path = path; position = 0; size = 0; appends = appends; unsaved = Some (record { contents = c; has_turned = false; last_end = None }) })
+pub begun_empty : (t new : TreeState) (path : Path) (size : ℕ) (flags : Flags) (appends : Bool) (c : WriterContents) → CanOpenWriter t path size flags.truncate → IsOperationAppliedToTree t ops.Recover new → length (disk_summary_of_tree new).used ≤ length (disk_summary_of_tree t).used + 0 →
+    flags.truncate ≡ true → 1 ≤ size → appends ≡ flags.append → AreWriterContentsOverTreeFile new path c → bytes_of_writer_contents (kept_of new) c ≡ bytes_of_writer_contents (kept_of t) c → bytes_of_writer_contents (kept_of t) c ≡ [] → form_of_contents c ≡ shape_of.InMemory 0 →
+    IsOpenedWriterSeenAs new (writer_after_open path flags (bytes_at (tree_view t path))) (record { path = path; position = 0; size = 0; appends = appends; unsaved = Some (record { contents = c; has_turned = false; last_end = None }) })
 begun_empty t new path size flags appends c can carried few truncates some are over same none shape =
-    subst (λ (z : Tree). IsOpenedAs new (opened_writer path flags (bytes_at (z path))) (begun appends)) (carried.shows (surroundings_of t) [])
-    (subst (λ b. IsOpenedAs new (opened_writer path flags (bytes_at (tree_view new path))) (begun b)) (sym are)
+    subst (λ (z : Tree). IsOpenedWriterSeenAs new (writer_after_open path flags (bytes_at (z path))) (begun appends)) (carried.shows (disk_summary_of_tree t) [])
+    (subst (λ b. IsOpenedWriterSeenAs new (writer_after_open path flags (bytes_at (tree_view new path))) (begun b)) (sym are)
     (begun_anew new path size flags c (at_rest t new path size flags.truncate can carried few) truncates some over (same ∙ none) shape))
   where
     begun : Bool → Writer
     begun b = record { path = path; position = 0; size = 0; appends = b; unsaved = Some (record { contents = c; has_turned = false; last_end = None }) }
 
 -- a file that is made is empty
-made_node : (t new : TreeState) (bytes : List ℕ) (flags : Flags) (path : Path) → as_path bytes ≡ path → CanCreate t path → IsAppliedOn t (ops.Open bytes flags) new → tree_view new path ≡ Some (FileNode [] [])
+made_node : (t new : TreeState) (bytes : List ℕ) (flags : Flags) (path : Path) → path_or_root bytes ≡ path → CanCreateFileAtPath t path → IsOperationAppliedToTree t (ops.Open bytes flags) new → tree_view new path ≡ Some (FileNode [] [])
 made_node t new bytes flags path is can carried =
-    ap (λ (z : Tree). z path) (carried.shows (surroundings_of t) [] ∙ ap (λ p. if is_none (tree_view t p) then tree_with_node p (FileNode [] []) (tree_view t) else tree_view t) is)
-    ∙ ap (λ b. (if b then tree_with_node path (FileNode [] []) (tree_view t) else tree_view t) path) (nothing (tree_view t path) can.nothing)
-    ∙ ap (λ b. if b then Some (FileNode [] []) else change_at (parent_of path) (with_names (with_name (last_name path))) (tree_view t) path) (path_itself path)
+    ap (λ (z : Tree). z path) (carried.shows (disk_summary_of_tree t) [] ∙ ap (λ p. if is_none (tree_view t p) then tree_after_creation p (FileNode [] []) (tree_view t) else tree_view t) is)
+    ∙ ap (λ b. (if b then tree_after_creation path (FileNode [] []) (tree_view t) else tree_view t) path) (nothing (tree_view t path) can.nothing)
+    ∙ ap (λ b. if b then Some (FileNode [] []) else tree_after_change_of_node (parent_path_of path) (node_after_change_of_names (names_with_added_name (last_name_of_path path))) (tree_view t) path) (path_itself path)
   where
     nothing : (n : Option Node) → is_some n ≡ false → is_none n ≡ true
     nothing None e = refl
@@ -160,8 +160,8 @@ no_bytes : (b : Bool) (xs : List ℕ) → xs ≡ [] → xs ≡ (if b then [] els
 no_bytes true xs e = e
 no_bytes false xs e = e
 
-pub begun_made : (t new : TreeState) (bytes : List ℕ) (given : Flags) (path : Path) (flags : Flags) (appends : Bool) → as_path bytes ≡ path → CanCreate t path → IsAppliedOn t (ops.Open bytes given) new → appends ≡ flags.append →
-    IsOpenedAs new (opened_writer path flags []) (record { path = path; position = 0; size = 0; appends = appends; unsaved = None })
+pub begun_made : (t new : TreeState) (bytes : List ℕ) (given : Flags) (path : Path) (flags : Flags) (appends : Bool) → path_or_root bytes ≡ path → CanCreateFileAtPath t path → IsOperationAppliedToTree t (ops.Open bytes given) new → appends ≡ flags.append →
+    IsOpenedWriterSeenAs new (writer_after_open path flags []) (record { path = path; position = 0; size = 0; appends = appends; unsaved = None })
 begun_made t new bytes given path flags appends is can carried appends_is = record {
   seen = ap₂ (λ xs b. made xs b false) (ap bytes_at node) appends_is ∙ ap₂ (λ xs d. made xs flags.append d) (no_bytes flags.truncate [] refl) (none_dirty flags.truncate);
   written = record {

@@ -1,27 +1,27 @@
 -- How many reads a look-up takes, by the calls that came.
 use Rattle.std.proofs.Common.{ℕ, ◌≡◌, ◌≤◌, ◌+◌, List, [], ◌∷◌, ◌++◌, Option, Some, unwrap_or, ap, arith}
 use Rattle.std.specs.Prelude.{sum_by}
-use Rattle.lfs_model.specs.Frame.{ReadsFew, pairs_of_path}
-use Rattle.lfs_model.specs.History.{Event, reads}
-use Rattle.lfs_model.specs.Operations.{Operation, path_of}
-use Rattle.lfs_model.specs.Refusals.{as_path}
+use Rattle.lfs_model.specs.Frame.{AreReadsWithinPairCount, pair_count_of_directory_at}
+use Rattle.lfs_model.specs.History.{CallEvent, reads}
+use Rattle.lfs_model.specs.Operations.{Operation, path_of_bytes}
+use Rattle.lfs_model.specs.Refusals.{path_or_root}
 use Rattle.lfs_model.specs.Tree.{Path}
 use Rattle.lfs_tree.specs.TreeState.{TreeState}
-use Rattle.lfs_fs.specs.LookUps.{AddsFewReads}
+use Rattle.lfs_fs.specs.LookUps.{ReadsAtMostSearchedPairs}
 
 -- a bound by the path of bytes
-pub few_given : (old new : TreeState) (f : Path → List Path) (bytes : List ℕ) (p : Path) → Some p ≡ path_of bytes → reads new.history ≤ reads old.history + sum_by (pairs_of_path old.pairs) (f p)
-    → reads new.history ≤ reads old.history + sum_by (pairs_of_path old.pairs) (f (as_path bytes))
+pub few_given : (old new : TreeState) (f : Path → List Path) (bytes : List ℕ) (p : Path) → Some p ≡ path_of_bytes bytes → reads new.history ≤ reads old.history + sum_by (pair_count_of_directory_at old.pairs) (f p)
+    → reads new.history ≤ reads old.history + sum_by (pair_count_of_directory_at old.pairs) (f (path_or_root bytes))
 few_given old new f bytes p is few =
-    let e = ap (λ (o : Option Path). sum_by (pairs_of_path old.pairs) (f (unwrap_or o []))) is in
+    let e = ap (λ (o : Option Path). sum_by (pair_count_of_directory_at old.pairs) (f (unwrap_or o []))) is in
     omega (arith, e, few)
 
-pub reads_over : (calls older : List Event) → reads (calls ++ older) ≡ reads calls + reads older
+pub reads_over : (calls older : List CallEvent) → reads (calls ++ older) ≡ reads calls + reads older
 reads_over [] older = omega arith
 reads_over (e ∷ calls) older = let k = reads_over calls older in omega (arith, k)
 
 -- by the calls that came
-pub reads_few : (old new : TreeState) (op : Operation) → AddsFewReads old op new → (calls : List Event) → new.history ≡ calls ++ old.history → ReadsFew old.pairs op calls
+pub reads_few : (old new : TreeState) (op : Operation) → ReadsAtMostSearchedPairs old op new → (calls : List CallEvent) → new.history ≡ calls ++ old.history → AreReadsWithinPairCount old.pairs op calls
 reads_few old new op few calls is looks =
     let e = ap reads is in
     let k = reads_over calls old.history in

@@ -6,31 +6,31 @@ use Rattle.std.proofs.lemmas.Bool.{lt-ltb, ltb-true}
 use Rattle.std.proofs.lemmas.Bool.Decides.{nat_tests}
 use Rattle.lfs_device.specs.declared.error.Error.{Error}
 use Rattle.lfs_device.specs.declared.error.Error.TheVariants.{NoMemory}
-use Rattle.lfs_model.specs.TreeEdits.{tree_with_node, bytes_at, is_directory, last_name, same_path}
+use Rattle.lfs_model.specs.TreeEdits.{tree_after_creation, bytes_at, is_directory, last_name_of_path, same_path}
 use Rattle.lfs_model.specs.BlockSets.{in_flight_count}
 use Rattle.lfs_model.specs.Disk.{block_count}
 use Rattle.lfs_model.specs.Cache.{CachedBlocks}
-use Rattle.lfs_model.specs.History.{Event}
+use Rattle.lfs_model.specs.History.{CallEvent}
 use Rattle.lfs_model.specs.Operations as ops
-use Rattle.lfs_model.specs.Operations.{Flags, path_of}
+use Rattle.lfs_model.specs.Operations.{Flags, path_of_bytes}
 use Rattle.lfs_model.specs.Run.{IsSessionStep}
 use Rattle.lfs_model.specs.Session as session
-use Rattle.lfs_model.specs.Session.{Files, Session, Reading, Writing, free_number, blocks_held_by_all, is_long, is_open_at, is_overcharged, lacks, overfills, parent_fault, put_file, readers, writers}
-use Rattle.lfs_model.specs.Writers.{opened_writer}
+use Rattle.lfs_model.specs.Session.{Files, Session, Reading, Writing, free_file_number, reserved_block_count_of_writers, has_too_long_name, has_open_file_at, is_entry_over_charge_limit, lacks_free_blocks, overfills_disk, refusal_of_parents, put_file, readers, writers}
+use Rattle.lfs_model.specs.Writers.{writer_after_open}
 use Rattle.lfs_model.specs.State.{Healthy}
-use Rattle.lfs_model.specs.Refusals.{as_path}
-use Rattle.lfs_model.specs.Effects.{effect_of, node_size}
+use Rattle.lfs_model.specs.Refusals.{path_or_root}
+use Rattle.lfs_model.specs.Effects.{effect_of_operation, file_size_of_node}
 use Rattle.lfs_model.specs.Tree.{DirectoryNode, FileNode, Node, Path}
 use Rattle.lfs_model.proofs.Committed.{recovered_from}
 use Rattle.lfs_model.proofs.StepsMade.{completed_step}
-use Rattle.lfs_tree.specs.Permissions.{CanCreate}
-use Rattle.lfs_lookup.specs.Refusals.{refusal_in}
-use Rattle.lfs_tree.specs.TreeState.{WasOnlyRead, IsFailedTree, IsAppliedOn, IsError, IsSound, TreeState, surroundings_of, tree_view}
-use Rattle.lfs_fs.specs.WriterChanges.{CanOpenWriter, IsOpenedAs}
-use Rattle.lfs_fs.specs.FileView.{OpenFiles, open_file_at, files_view, free_entry, has_unsaved, put_entry, readers_in, writer_in, writer_view, writers_in}
-use Rattle.lfs_fs.specs.SessionView.{Answers, AreReadersOf, SessionView, IsReady, IsUnderWriter, session_view_of, session_view_with, system_state_of, refused_by, session_of}
-use Rattle.lfs_fs.specs.Replies.{reply_in}
-use Rattle.lfs_fs.specs.OpenFilesStay.{KeepsWriters}
+use Rattle.lfs_tree.specs.Permissions.{CanCreateFileAtPath}
+use Rattle.lfs_lookup.specs.Refusals.{refusal_of_error}
+use Rattle.lfs_tree.specs.TreeState.{WasTreeOnlyRead, IsFailedTree, IsOperationAppliedToTree, IsErrorWithCause, IsSoundTreeState, TreeState, disk_summary_of_tree, tree_view}
+use Rattle.lfs_fs.specs.WriterChanges.{CanOpenWriter, IsOpenedWriterSeenAs}
+use Rattle.lfs_fs.specs.FileView.{OpenFiles, open_file_at, open_files_view, least_free_number, has_unsaved_writer, open_files_with_number_set, readers_among, open_file_as_writer, writer_view, writers_among}
+use Rattle.lfs_fs.specs.SessionView.{IsSessionStepOrFailure, AreReadersApartFromWriters, SessionView, IsSessionReadyForCalls, IsWriterOverWritableImage, session_view_of_tree_and_files, session_view_with_files_view, system_state_of, refusal_by_checks, session_of}
+use Rattle.lfs_fs.specs.Replies.{reply_from_result}
+use Rattle.lfs_fs.specs.OpenFilesStay.{KeepsFilesOfWriters}
 use Rattle.lfs_fs.specs.declared.files.OpenFile.{OpenFile}
 use Rattle.lfs_fs.specs.declared.files.OpenFile.TheVariants as file
 use Rattle.lfs_fs.specs.declared.files.Writer.{Writer}
@@ -48,22 +48,22 @@ use Rattle.lfs_fs.proofs.OpenReaders.{read_opened}
 pub record IsPassed (h : SessionView) (bytes : List ℕ) (p : Path) (flags : Flags) : Type 0 where
   pub works : h.tree.failed ≡ false
   pub writable : h.tree.writable ≡ true
-  pub given : is_some (path_of bytes) ≡ true
-  pub parents : parent_fault (tree_view h.tree) [] p ≡ None
-  pub name : (is_none (tree_view h.tree p) && flags.create && is_long p) ≡ false
+  pub given : is_some (path_of_bytes bytes) ≡ true
+  pub parents : refusal_of_parents (tree_view h.tree) [] p ≡ None
+  pub name : (is_none (tree_view h.tree p) && flags.create && has_too_long_name p) ≡ false
   pub creates : (is_none (tree_view h.tree p) && not flags.create) ≡ false
   pub directory : is_directory (tree_view h.tree p) ≡ false
   pub few : nat_lt 0 (length (writers h.files)) ≡ false
-  pub closed : is_open_at (same_path p) h.files ≡ false
-  pub fits : (is_none (tree_view h.tree p) && is_overcharged (surroundings_of h.tree) (last_name p) []) ≡ false
-  pub room : (is_none (tree_view h.tree p) && lacks (surroundings_of h.tree) h.files 2) ≡ false
-  pub anew : (flags.truncate && overfills (surroundings_of h.tree) (opened_writer p flags (bytes_at (tree_view h.tree p)))) ≡ false
+  pub closed : has_open_file_at (same_path p) h.files ≡ false
+  pub fits : (is_none (tree_view h.tree p) && is_entry_over_charge_limit (disk_summary_of_tree h.tree) (last_name_of_path p) []) ≡ false
+  pub room : (is_none (tree_view h.tree p) && lacks_free_blocks (disk_summary_of_tree h.tree) h.files 2) ≡ false
+  pub anew : (flags.truncate && overfills_disk (disk_summary_of_tree h.tree) (writer_after_open p flags (bytes_at (tree_view h.tree p)))) ≡ false
 
 both_false : (a b : Bool) → (a || b) ≡ false → (a ≡ false) × (b ≡ false)
 both_false true b e = absurd (cc)
 both_false false b e = (refl, e)
 
-pub open_passed : (h : SessionView) (bytes : List ℕ) (flags : Flags) → flags.write ≡ true → refused_by h (ops.Open bytes flags) ≡ None → IsPassed h bytes (as_path bytes) flags
+pub open_passed : (h : SessionView) (bytes : List ℕ) (flags : Flags) → flags.write ≡ true → refusal_by_checks h (ops.Open bytes flags) ≡ None → IsPassed h bytes (path_or_root bytes) flags
 open_passed h bytes flags write e =
     let a = neither _ _ (not_refused h (ops.Open bytes flags) e) in
     let b = neither _ _ a.1 in
@@ -79,15 +79,15 @@ open_passed h bytes flags write e =
     record {
       works = not_failed h (ops.Open bytes flags) e;
       writable = negated h.tree.writable (sym (ap (λ w. w && not h.tree.writable) write) ∙ unrefused _ _ a.0);
-      given = there (path_of bytes) ∙ ap not (both_false (is_none (path_of bytes)) _ (unrefused _ _ b.0)).0;
+      given = there (path_of_bytes bytes) ∙ ap not (both_false (is_none (path_of_bytes bytes)) _ (unrefused _ _ b.0)).0;
       parents = c.0;
       name = unrefused _ _ d.0;
       creates = unrefused _ _ i.0;
       directory = unrefused _ _ k.0;
-      few = (both_false (nat_lt 0 (length (writers h.files))) _ (sym (ap (λ w. if w then nat_lt 0 (length (writers h.files)) || is_open_at (same_path (as_path bytes)) h.files
-          else list_any (λ x. same_path (as_path bytes) x.path) (writers h.files) || nat_le 16 (length (readers h.files))) write) ∙ unrefused _ _ l.0)).0;
-      closed = (both_false (nat_lt 0 (length (writers h.files))) _ (sym (ap (λ w. if w then nat_lt 0 (length (writers h.files)) || is_open_at (same_path (as_path bytes)) h.files
-          else list_any (λ x. same_path (as_path bytes) x.path) (writers h.files) || nat_le 16 (length (readers h.files))) write) ∙ unrefused _ _ l.0)).1;
+      few = (both_false (nat_lt 0 (length (writers h.files))) _ (sym (ap (λ w. if w then nat_lt 0 (length (writers h.files)) || has_open_file_at (same_path (path_or_root bytes)) h.files
+          else list_any (λ x. same_path (path_or_root bytes) x.path) (writers h.files) || nat_le 16 (length (readers h.files))) write) ∙ unrefused _ _ l.0)).0;
+      closed = (both_false (nat_lt 0 (length (writers h.files))) _ (sym (ap (λ w. if w then nat_lt 0 (length (writers h.files)) || has_open_file_at (same_path (path_or_root bytes)) h.files
+          else list_any (λ x. same_path (path_or_root bytes) x.path) (writers h.files) || nat_le 16 (length (readers h.files))) write) ∙ unrefused _ _ l.0)).1;
       fits = unrefused _ _ m.0;
       room = unrefused _ _ n.0;
       anew = unrefused _ _ o.0;
@@ -99,26 +99,26 @@ not_less n m e = grind (arith, nat_tests)
 room_left : (n m k f l : ℕ) → f ≡ 0 → nat_lt n (m + k + l) ≡ false → m + f + l ≤ n
 room_left n m k f l none e = grind (arith, nat_tests)
 
-room_anew : (h : SessionView) (p : Path) (flags : Flags) (size : ℕ) → node_size (tree_view h.tree p) ≡ Some size →
-    (flags.truncate && overfills (surroundings_of h.tree) (opened_writer p flags (bytes_at (tree_view h.tree p)))) ≡ false → flags.truncate ≡ true → 1 ≤ size → length (surroundings_of h.tree).used + 2 ≤ block_count h.tree.disk
+room_anew : (h : SessionView) (p : Path) (flags : Flags) (size : ℕ) → file_size_of_node (tree_view h.tree p) ≡ Some size →
+    (flags.truncate && overfills_disk (disk_summary_of_tree h.tree) (writer_after_open p flags (bytes_at (tree_view h.tree p)))) ≡ false → flags.truncate ≡ true → 1 ≤ size → length (disk_summary_of_tree h.tree).used + 2 ≤ block_count h.tree.disk
 room_anew h p flags size sizes fits truncates some =
-    not_less (block_count h.tree.disk) (length (surroundings_of h.tree).used + 2)
-    (sym (ap₂ (λ t s. t && nat_lt (block_count h.tree.disk) (length (surroundings_of h.tree).used + (if s then 2 else 0))) truncates (lt-ltb 0 size (omega (arith, some))))
-    ∙ writes_anew h p flags (Some size) (nat_lt (block_count h.tree.disk) (length (surroundings_of h.tree).used + (if nat_lt 0 size then 2 else 0))) sizes refl ∙ fits)
+    not_less (block_count h.tree.disk) (length (disk_summary_of_tree h.tree).used + 2)
+    (sym (ap₂ (λ t s. t && nat_lt (block_count h.tree.disk) (length (disk_summary_of_tree h.tree).used + (if s then 2 else 0))) truncates (lt-ltb 0 size (omega (arith, some))))
+    ∙ writes_anew h p flags (Some size) (nat_lt (block_count h.tree.disk) (length (disk_summary_of_tree h.tree).used + (if nat_lt 0 size then 2 else 0))) sizes refl ∙ fits)
 
 nothing_left : {A : Type 0} (xs : List A) → length xs ≤ 0 → xs ≡ []
 nothing_left [] h = refl
 nothing_left (x ∷ xs) h = absurd (omega (arith, h))
 
-pub no_writer : (t : TreeState) (fs : OpenFiles) (bytes : List ℕ) (flags : Flags) → flags.write ≡ true → refused_by (session_view_of t fs) (ops.Open bytes flags) ≡ None → writers_in fs ≡ []
+pub no_writer : (t : TreeState) (fs : OpenFiles) (bytes : List ℕ) (flags : Flags) → flags.write ≡ true → refusal_by_checks (session_view_of_tree_and_files t fs) (ops.Open bytes flags) ≡ None → writers_among fs ≡ []
 no_writer t fs bytes flags write e =
-    nothing_left (writers_in fs) (not_less 0 (length (writers_in fs)) (ap (nat_lt 0) (sym (writer_count t fs)) ∙ (open_passed (session_view_of t fs) bytes flags write e).few))
+    nothing_left (writers_among fs) (not_less 0 (length (writers_among fs)) (ap (nat_lt 0) (sym (writer_count t fs)) ∙ (open_passed (session_view_of_tree_and_files t fs) bytes flags write e).few))
 
-none_saved : (fs : OpenFiles) → writers_in fs ≡ [] → has_unsaved fs ≡ false
+none_saved : (fs : OpenFiles) → writers_among fs ≡ [] → has_unsaved_writer fs ≡ false
 none_saved fs none = ap (list_any (λ w. is_some w.unsaved)) none
 
-pub can_begin : (t mid : TreeState) (fs : OpenFiles) (bytes : List ℕ) (flags : Flags) (p : Path) (size : ℕ) → (t.failed ≡ false → IsReady t fs) → WasOnlyRead t mid → refused_by (session_view_of t fs) (ops.Open bytes flags) ≡ None →
-    flags.write ≡ true → p ≡ as_path bytes → node_size (tree_view t p) ≡ Some size → CanOpenWriter mid p size flags.truncate
+pub can_begin : (t mid : TreeState) (fs : OpenFiles) (bytes : List ℕ) (flags : Flags) (p : Path) (size : ℕ) → (t.failed ≡ false → IsSessionReadyForCalls t fs) → WasTreeOnlyRead t mid → refusal_by_checks (session_view_of_tree_and_files t fs) (ops.Open bytes flags) ≡ None →
+    flags.write ≡ true → p ≡ path_or_root bytes → file_size_of_node (tree_view t p) ≡ Some size → CanOpenWriter mid p size flags.truncate
 can_begin t mid fs bytes flags p size ready asked e write is sizes =
     subst (λ z. CanOpenWriter z p size flags.truncate) (sym asked.same)
     (subst (λ q. CanOpenWriter (record t { history = mid.history; cache = mid.cache }) q size flags.truncate) (sym is) (record {
@@ -127,45 +127,45 @@ can_begin t mid fs bytes flags p size ready asked e write is sizes =
       sound = record { accepted = now.sound.accepted; fits = now.sound.fits; is_kept = now.sound.is_kept; used = now.sound.used; size = now.sound.size };
       idle = now.idle (none_saved fs (no_writer t fs bytes flags write e));
       there = sized;
-      room = room_anew (session_view_of t fs) (as_path bytes) flags size sized passed.anew;
+      room = room_anew (session_view_of_tree_and_files t fs) (path_or_root bytes) flags size sized passed.anew;
     }))
   where
-    passed : IsPassed (session_view_of t fs) bytes (as_path bytes) flags
-    passed = open_passed (session_view_of t fs) bytes flags write e
+    passed : IsPassed (session_view_of_tree_and_files t fs) bytes (path_or_root bytes) flags
+    passed = open_passed (session_view_of_tree_and_files t fs) bytes flags write e
 
-    now : IsReady t fs
+    now : IsSessionReadyForCalls t fs
     now = ready passed.works
 
-    sized : node_size (tree_view t (as_path bytes)) ≡ Some size
-    sized = sym (ap (λ q. node_size (tree_view t q)) is) ∙ sizes
+    sized : file_size_of_node (tree_view t (path_or_root bytes)) ≡ Some size
+    sized = sym (ap (λ q. file_size_of_node (tree_view t q)) is) ∙ sizes
 
-no_node : (n : Option Node) → node_size n ≡ None → is_directory n ≡ false → n ≡ None
+no_node : (n : Option Node) → file_size_of_node n ≡ None → is_directory n ≡ false → n ≡ None
 no_node None e d = refl
 no_node (Some (FileNode attributes bytes)) e d = absurd (cc)
 no_node (Some (DirectoryNode attributes names)) e d = absurd (cc)
 
-pub can_create : (t mid : TreeState) (fs : OpenFiles) (bytes : List ℕ) (flags : Flags) (p : Path) → (t.failed ≡ false → IsReady t fs) → WasOnlyRead t mid → refused_by (session_view_of t fs) (ops.Open bytes flags) ≡ None →
-    flags.write ≡ true → p ≡ as_path bytes → node_size (tree_view t p) ≡ None → CanCreate mid p
+pub can_create : (t mid : TreeState) (fs : OpenFiles) (bytes : List ℕ) (flags : Flags) (p : Path) → (t.failed ≡ false → IsSessionReadyForCalls t fs) → WasTreeOnlyRead t mid → refusal_by_checks (session_view_of_tree_and_files t fs) (ops.Open bytes flags) ≡ None →
+    flags.write ≡ true → p ≡ path_or_root bytes → file_size_of_node (tree_view t p) ≡ None → CanCreateFileAtPath mid p
 can_create t mid fs bytes flags p ready asked e write is sizes =
-    subst (λ z. CanCreate z p) (sym asked.same)
-    (subst (λ q. CanCreate (record t { history = mid.history; cache = mid.cache }) q) (sym is) (record {
+    subst (λ z. CanCreateFileAtPath z p) (sym asked.same)
+    (subst (λ q. CanCreateFileAtPath (record t { history = mid.history; cache = mid.cache }) q) (sym is) (record {
       works = passed.works;
       writable = passed.writable;
       parents = passed.parents;
-      name = sym (ap₂ (λ x c. x && c && is_long (as_path bytes)) absent creates) ∙ passed.name;
+      name = sym (ap₂ (λ x c. x && c && has_too_long_name (path_or_root bytes)) absent creates) ∙ passed.name;
       nothing = ap is_some none;
-      fits = sym (ap (λ x. x && is_overcharged (surroundings_of t) (last_name (as_path bytes)) []) absent) ∙ passed.fits;
-      room = room_left (block_count t.disk) (length (surroundings_of t).used) (blocks_held_by_all t.disk.block_size (files_view t fs)) (in_flight_count t.map) 2 ((ready passed.works).idle (none_saved fs (no_writer t fs bytes flags write e)))
-          (sym (ap (λ x. x && lacks (surroundings_of t) (files_view t fs) 2) absent) ∙ passed.room);
+      fits = sym (ap (λ x. x && is_entry_over_charge_limit (disk_summary_of_tree t) (last_name_of_path (path_or_root bytes)) []) absent) ∙ passed.fits;
+      room = room_left (block_count t.disk) (length (disk_summary_of_tree t).used) (reserved_block_count_of_writers t.disk.block_size (open_files_view t fs)) (in_flight_count t.map) 2 ((ready passed.works).idle (none_saved fs (no_writer t fs bytes flags write e)))
+          (sym (ap (λ x. x && lacks_free_blocks (disk_summary_of_tree t) (open_files_view t fs) 2) absent) ∙ passed.room);
     }))
   where
-    passed : IsPassed (session_view_of t fs) bytes (as_path bytes) flags
-    passed = open_passed (session_view_of t fs) bytes flags write e
+    passed : IsPassed (session_view_of_tree_and_files t fs) bytes (path_or_root bytes) flags
+    passed = open_passed (session_view_of_tree_and_files t fs) bytes flags write e
 
-    none : tree_view t (as_path bytes) ≡ None
-    none = no_node (tree_view t (as_path bytes)) (sym (ap (λ q. node_size (tree_view t q)) is) ∙ sizes) passed.directory
+    none : tree_view t (path_or_root bytes) ≡ None
+    none = no_node (tree_view t (path_or_root bytes)) (sym (ap (λ q. file_size_of_node (tree_view t q)) is) ∙ sizes) passed.directory
 
-    absent : is_none (tree_view t (as_path bytes)) ≡ true
+    absent : is_none (tree_view t (path_or_root bytes)) ≡ true
     absent = ap is_none none
 
     creates : flags.create ≡ true
@@ -198,97 +198,97 @@ one_more n = omega arith
 one_back : (n m : ℕ) → nat_lt (1 + n) (suc m) ≡ false → nat_lt n m ≡ false
 one_back n m e = grind (arith, nat_tests)
 
-set_behind : (fs : OpenFiles) (x y : Option OpenFile) → nat_lt (free_entry fs) (length fs) ≡ false → set (fs ++ x ∷ []) (free_entry fs) y ≡ fs ++ y ∷ []
+set_behind : (fs : OpenFiles) (x y : Option OpenFile) → nat_lt (least_free_number fs) (length fs) ≡ false → set (fs ++ x ∷ []) (least_free_number fs) y ≡ fs ++ y ∷ []
 set_behind [] x y e = refl
 set_behind (None ∷ fs) x y e = absurd (let k = sym (lt-ltb 0 (length (None ∷ fs)) (omega arith)) ∙ e in cc)
 set_behind (Some f ∷ fs) x y e =
-    ap (λ n. set (Some f ∷ fs ++ x ∷ []) n y) (one_more (free_entry fs))
-    ∙ ap (λ gs. Some f ∷ gs) (set_behind fs x y (one_back (free_entry fs) (length fs) e))
+    ap (λ n. set (Some f ∷ fs ++ x ∷ []) n y) (one_more (least_free_number fs))
+    ∙ ap (λ gs. Some f ∷ gs) (set_behind fs x y (one_back (least_free_number fs) (length fs) e))
 
-room_inside : (fs : OpenFiles) → free_entry fs < length (put_entry fs (free_entry fs) None)
-room_inside fs = go (nat_lt (free_entry fs) (length fs)) refl
+room_inside : (fs : OpenFiles) → least_free_number fs < length (open_files_with_number_set fs (least_free_number fs) None)
+room_inside fs = go (nat_lt (least_free_number fs) (length fs)) refl
   where
-    go : (b : Bool) → nat_lt (free_entry fs) (length fs) ≡ b → free_entry fs < length (put_entry fs (free_entry fs) None)
-    go true e = rw e (let k = ltb-true (free_entry fs) (length fs) e in let l = set_length fs (free_entry fs) None in omega (arith, k, l))
+    go : (b : Bool) → nat_lt (least_free_number fs) (length fs) ≡ b → least_free_number fs < length (open_files_with_number_set fs (least_free_number fs) None)
+    go true e = rw e (let k = ltb-true (least_free_number fs) (length fs) e in let l = set_length fs (least_free_number fs) None in omega (arith, k, l))
     go false e = rw e (let k = free_at_most fs in let l = behind_length fs None in omega (arith, k, l))
 
-room_filled : (fs : OpenFiles) (y : Option OpenFile) → set (put_entry fs (free_entry fs) None) (free_entry fs) y ≡ put_entry fs (free_entry fs) y
-room_filled fs y = go (nat_lt (free_entry fs) (length fs)) refl
+room_filled : (fs : OpenFiles) (y : Option OpenFile) → set (open_files_with_number_set fs (least_free_number fs) None) (least_free_number fs) y ≡ open_files_with_number_set fs (least_free_number fs) y
+room_filled fs y = go (nat_lt (least_free_number fs) (length fs)) refl
   where
-    go : (b : Bool) → nat_lt (free_entry fs) (length fs) ≡ b → set (put_entry fs (free_entry fs) None) (free_entry fs) y ≡ put_entry fs (free_entry fs) y
-    go true e = rw e (set_twice fs (free_entry fs) None y)
+    go : (b : Bool) → nat_lt (least_free_number fs) (length fs) ≡ b → set (open_files_with_number_set fs (least_free_number fs) None) (least_free_number fs) y ≡ open_files_with_number_set fs (least_free_number fs) y
+    go true e = rw e (set_twice fs (least_free_number fs) None y)
     go false e = rw e (set_behind fs None y e)
 
 -- what there is once room is made
 pub record HasRoomFor (fs gs : OpenFiles) (n : ℕ) : Type 0 where
   pub inside : n < length gs
   pub free : open_file_at gs n ≡ None
-  pub none : writers_in gs ≡ []
-  pub filled : (w : Writer) → set gs n (Some (file.Writing w)) ≡ put_entry fs (free_entry fs) (Some (file.Writing w))
-  pub alone : (w : Writer) → writers_in (put_entry fs (free_entry fs) (Some (file.Writing w))) ≡ w ∷ []
+  pub none : writers_among gs ≡ []
+  pub filled : (w : Writer) → set gs n (Some (file.Writing w)) ≡ open_files_with_number_set fs (least_free_number fs) (Some (file.Writing w))
+  pub alone : (w : Writer) → writers_among (open_files_with_number_set fs (least_free_number fs) (Some (file.Writing w))) ≡ w ∷ []
 
-pub room_made : (fs gs : OpenFiles) (n : ℕ) → writers_in fs ≡ [] → n ≡ free_entry fs → gs ≡ put_entry fs (free_entry fs) None → HasRoomFor fs gs n
+pub room_made : (fs gs : OpenFiles) (n : ℕ) → writers_among fs ≡ [] → n ≡ least_free_number fs → gs ≡ open_files_with_number_set fs (least_free_number fs) None → HasRoomFor fs gs n
 room_made fs gs n none number is =
-    subst (λ m. HasRoomFor fs gs m) (sym number) (subst (λ xs. HasRoomFor fs xs (free_entry fs)) (sym is) (record {
+    subst (λ m. HasRoomFor fs gs m) (sym number) (subst (λ xs. HasRoomFor fs xs (least_free_number fs)) (sym is) (record {
       inside = room_inside fs;
-      free = sym (ap (λ xs. open_file_at xs (free_entry fs)) (room_filled fs None)) ∙ set_there (put_entry fs (free_entry fs) None) (free_entry fs) None (room_inside fs);
-      none = nothing_left (writers_in (put_entry fs (free_entry fs) None)) (let k = count_put writer_in fs (free_entry fs) None in let l = ap (λ ws. length ws) none in omega (arith, k, l));
+      free = sym (ap (λ xs. open_file_at xs (least_free_number fs)) (room_filled fs None)) ∙ set_there (open_files_with_number_set fs (least_free_number fs) None) (least_free_number fs) None (room_inside fs);
+      none = nothing_left (writers_among (open_files_with_number_set fs (least_free_number fs) None)) (let k = count_put open_file_as_writer fs (least_free_number fs) None in let l = ap (λ ws. length ws) none in omega (arith, k, l));
       filled = λ w. room_filled fs (Some (file.Writing w));
-      alone = λ w. (only (put_entry fs (free_entry fs) (Some (file.Writing w))) (free_entry fs) w
-          (sym (ap (λ xs. open_file_at xs (free_entry fs)) (room_filled fs (Some (file.Writing w)))) ∙ set_there (put_entry fs (free_entry fs) None) (free_entry fs) (Some (file.Writing w)) (room_inside fs))
-          (let k = count_put writer_in fs (free_entry fs) (Some (file.Writing w)) in let l = ap (λ ws. length ws) none in omega (arith, k, l))).writers;
+      alone = λ w. (only (open_files_with_number_set fs (least_free_number fs) (Some (file.Writing w))) (least_free_number fs) w
+          (sym (ap (λ xs. open_file_at xs (least_free_number fs)) (room_filled fs (Some (file.Writing w)))) ∙ set_there (open_files_with_number_set fs (least_free_number fs) None) (least_free_number fs) (Some (file.Writing w)) (room_inside fs))
+          (let k = count_put open_file_as_writer fs (least_free_number fs) (Some (file.Writing w)) in let l = ap (λ ws. length ws) none in omega (arith, k, l))).writers;
     }))
 
 -- ---- the session once the writer is open
 
-ready_with : (t : TreeState) (fs gs : OpenFiles) (w : Writer) → writers_in fs ≡ [] → writers_in gs ≡ w ∷ [] → IsReady t fs → IsUnderWriter t w → AreReadersOf t.pairs gs → IsReady t gs
+ready_with : (t : TreeState) (fs gs : OpenFiles) (w : Writer) → writers_among fs ≡ [] → writers_among gs ≡ w ∷ [] → IsSessionReadyForCalls t fs → IsWriterOverWritableImage t w → AreReadersApartFromWriters t.pairs gs → IsSessionReadyForCalls t gs
 ready_with t fs gs w none alone h written read = record {
   sound = h.sound;
   called = h.called;
   one = subst (λ ws. length ws ≤ 1) (sym alone) (omega arith);
   idle = λ e. h.idle (ap (list_any (λ w. is_some w.unsaved)) none);
-  written = subst (AllByRecursion (IsUnderWriter t)) (sym alone) (written, tt);
+  written = subst (AllByRecursion (IsWriterOverWritableImage t)) (sym alone) (written, tt);
   read = read;
 }
 
-keeps_none : (t s : TreeState) (fs : OpenFiles) → writers_in fs ≡ [] → KeepsWriters t s (writers_in fs)
-keeps_none t s fs none = subst (λ ws. KeepsWriters t s ws) (sym none) tt
+keeps_none : (t s : TreeState) (fs : OpenFiles) → writers_among fs ≡ [] → KeepsFilesOfWriters t s (writers_among fs)
+keeps_none t s fs none = subst (λ ws. KeepsFilesOfWriters t s ws) (sym none) tt
 
 -- what either way of opening comes to: the session is ready but for the writer, which is as the definitions have it
 pub record IsOpenedBy (t : TreeState) (fs : OpenFiles) (bytes : List ℕ) (flags : Flags) (new : TreeState) (w : Writer) : Type 0 where
-  pub ready : IsReady new fs
-  pub unread : AllByRecursion (λ r. same_path (as_path bytes) r.path ≡ false) (readers_in fs)
-  pub begun : IsOpenedAs new (opened_writer (as_path bytes) flags (bytes_at (tree_view t (as_path bytes)))) w
-  pub turn : (files : Files) → (effect_of (surroundings_of t) (session_of (session_view_of t fs)) (ops.Open bytes flags)).1.files ≡ files →
-      IsSessionStep (system_state_of (session_view_of t fs)) (ops.Open bytes flags) (effect_of (surroundings_of t) (session_of (session_view_of t fs)) (ops.Open bytes flags)).0 (system_state_of (session_view_with new files))
+  pub ready : IsSessionReadyForCalls new fs
+  pub unread : AllByRecursion (λ r. same_path (path_or_root bytes) r.path ≡ false) (readers_among fs)
+  pub begun : IsOpenedWriterSeenAs new (writer_after_open (path_or_root bytes) flags (bytes_at (tree_view t (path_or_root bytes)))) w
+  pub turn : (files : Files) → (effect_of_operation (disk_summary_of_tree t) (session_of (session_view_of_tree_and_files t fs)) (ops.Open bytes flags)).1.files ≡ files →
+      IsSessionStep (system_state_of (session_view_of_tree_and_files t fs)) (ops.Open bytes flags) (effect_of_operation (disk_summary_of_tree t) (session_of (session_view_of_tree_and_files t fs)) (ops.Open bytes flags)).0 (system_state_of (session_view_with_files_view new files))
 
-later : TreeState → List Event → CachedBlocks → TreeState
+later : TreeState → List CallEvent → CachedBlocks → TreeState
 later t events cache = record t { history = events ++ t.history; cache = cache }
 
-asked_later : (old new : TreeState) (asked : WasOnlyRead old new) → new ≡ later old asked.reads.events new.cache
+asked_later : (old new : TreeState) (asked : WasTreeOnlyRead old new) → new ≡ later old asked.reads.events new.cache
 unfolding later
 asked_later old new asked = asked.same ∙ ap (λ history. record old { history = history; cache = new.cache }) asked.reads.extends
 
 -- a file that is there, once the image is recovered
-there_turn : (old : SessionView) (bytes : List ℕ) (flags : Flags) (mid new : TreeState) (files : Files) (n : Node) → (old.tree.failed ≡ false → IsSound old.tree) → WasOnlyRead old.tree mid →
-    refused_by old (ops.Open bytes flags) ≡ None → flags.write ≡ true → tree_view old.tree (as_path bytes) ≡ Some n → IsAppliedOn mid ops.Recover new →
-    (effect_of (surroundings_of old.tree) (session_of old) (ops.Open bytes flags)).1.files ≡ files →
-    IsSessionStep (system_state_of old) (ops.Open bytes flags) (effect_of (surroundings_of old.tree) (session_of old) (ops.Open bytes flags)).0 (system_state_of (session_view_with new files))
+there_turn : (old : SessionView) (bytes : List ℕ) (flags : Flags) (mid new : TreeState) (files : Files) (n : Node) → (old.tree.failed ≡ false → IsSoundTreeState old.tree) → WasTreeOnlyRead old.tree mid →
+    refusal_by_checks old (ops.Open bytes flags) ≡ None → flags.write ≡ true → tree_view old.tree (path_or_root bytes) ≡ Some n → IsOperationAppliedToTree mid ops.Recover new →
+    (effect_of_operation (disk_summary_of_tree old.tree) (session_of old) (ops.Open bytes flags)).1.files ≡ files →
+    IsSessionStep (system_state_of old) (ops.Open bytes flags) (effect_of_operation (disk_summary_of_tree old.tree) (session_of old) (ops.Open bytes flags)).0 (system_state_of (session_view_with_files_view new files))
 unfolding later
 there_turn old bytes flags mid new files n sound asked e write node carried opened =
     let op = ops.Open bytes flags in
     let works = not_failed old op e in
     let good = sound works in
     let events = asked.reads.events in
-    let c = subst (λ t. IsAppliedOn t ops.Recover new) (asked_later old.tree mid asked) carried in
-    let kept : tree_view old.tree ≡ (if is_none (tree_view old.tree (as_path bytes)) then tree_with_node (as_path bytes) (FileNode [] []) (tree_view old.tree) else tree_view old.tree) =
-    sym (ap (λ o. if is_none o then tree_with_node (as_path bytes) (FileNode [] []) (tree_view old.tree) else tree_view old.tree) node) in
-    let is : record { tree = tree_view new; files = files } ≡ (effect_of (surroundings_of old.tree) (session_of old) op).1 = ap₂ (λ t f. record { tree = t; files = f }) (c.shows (surroundings_of old.tree) old.files ∙ kept) (sym opened) in
-    let to = healthy_system (session_view_with new files) c.works
-    ∙ ap₂ (λ (calls : List Event) (s : Session). record { disk = new.disk; calls = calls; state = Healthy s }) (c.called ∙ sym (append_assoc c.calls events old.tree.history)) is in
-    subst (λ m. IsSessionStep m op (effect_of (surroundings_of old.tree) (session_of old) op).0 (system_state_of (session_view_with new files))) (sym (healthy_system old works))
-    (subst (λ m. IsSessionStep (record { disk = old.tree.disk; calls = old.tree.history; state = Healthy (session_of old) }) op (effect_of (surroundings_of old.tree) (session_of old) op).0 m) (sym to)
-    (completed_step old.tree.disk old.tree.pairs (session_of old) (surroundings_of old.tree) op new.disk new.pairs (c.calls ++ events) old.tree.history (is_over old.tree old.files good) (not_refused old op e)
+    let c = subst (λ t. IsOperationAppliedToTree t ops.Recover new) (asked_later old.tree mid asked) carried in
+    let kept : tree_view old.tree ≡ (if is_none (tree_view old.tree (path_or_root bytes)) then tree_after_creation (path_or_root bytes) (FileNode [] []) (tree_view old.tree) else tree_view old.tree) =
+    sym (ap (λ o. if is_none o then tree_after_creation (path_or_root bytes) (FileNode [] []) (tree_view old.tree) else tree_view old.tree) node) in
+    let is : record { tree = tree_view new; files = files } ≡ (effect_of_operation (disk_summary_of_tree old.tree) (session_of old) op).1 = ap₂ (λ t f. record { tree = t; files = f }) (c.shows (disk_summary_of_tree old.tree) old.files ∙ kept) (sym opened) in
+    let to = healthy_system (session_view_with_files_view new files) c.works
+    ∙ ap₂ (λ (calls : List CallEvent) (s : Session). record { disk = new.disk; calls = calls; state = Healthy s }) (c.called ∙ sym (append_assoc c.calls events old.tree.history)) is in
+    subst (λ m. IsSessionStep m op (effect_of_operation (disk_summary_of_tree old.tree) (session_of old) op).0 (system_state_of (session_view_with_files_view new files))) (sym (healthy_system old works))
+    (subst (λ m. IsSessionStep (record { disk = old.tree.disk; calls = old.tree.history; state = Healthy (session_of old) }) op (effect_of_operation (disk_summary_of_tree old.tree) (session_of old) op).0 m) (sym to)
+    (completed_step old.tree.disk old.tree.pairs (session_of old) (disk_summary_of_tree old.tree) op new.disk new.pairs (c.calls ++ events) old.tree.history (is_over old.tree old.files good) (not_refused old op e)
     (record {
       geometry = c.geometry;
       other = refl;
@@ -307,73 +307,73 @@ there_turn old bytes flags mid new files n sound asked e write node carried open
       arranged = there_arranged old.tree.disk new.disk old.tree.pairs new.pairs (session_of old) bytes flags n node (c.arranged old.files);
     })))
 
-file_node : (n : Option Node) (size : ℕ) → node_size n ≡ Some size → (m : Node) × (n ≡ Some m)
+file_node : (n : Option Node) (size : ℕ) → file_size_of_node n ≡ Some size → (m : Node) × (n ≡ Some m)
 file_node None size e = absurd (cc)
 file_node (Some m) size e = (m, refl)
 
-pub opened_there : (t mid new : TreeState) (fs : OpenFiles) (bytes : List ℕ) (flags : Flags) (w : Writer) (p : Path) (size : ℕ) → (t.failed ≡ false → IsReady t fs) → WasOnlyRead t mid →
-    refused_by (session_view_of t fs) (ops.Open bytes flags) ≡ None → flags.write ≡ true → p ≡ as_path bytes → node_size (tree_view t p) ≡ Some size →
-    IsAppliedOn mid ops.Recover new → IsOpenedAs new (opened_writer p flags (bytes_at (tree_view mid p))) w → IsOpenedBy t fs bytes flags new w
+pub opened_there : (t mid new : TreeState) (fs : OpenFiles) (bytes : List ℕ) (flags : Flags) (w : Writer) (p : Path) (size : ℕ) → (t.failed ≡ false → IsSessionReadyForCalls t fs) → WasTreeOnlyRead t mid →
+    refusal_by_checks (session_view_of_tree_and_files t fs) (ops.Open bytes flags) ≡ None → flags.write ≡ true → p ≡ path_or_root bytes → file_size_of_node (tree_view t p) ≡ Some size →
+    IsOperationAppliedToTree mid ops.Recover new → IsOpenedWriterSeenAs new (writer_after_open p flags (bytes_at (tree_view mid p))) w → IsOpenedBy t fs bytes flags new w
 opened_there t mid new fs bytes flags w p size ready asked e write is sizes carried begun =
-    let passed = open_passed (session_view_of t fs) bytes flags write e in
-    let node = file_node (tree_view t (as_path bytes)) size (sym (ap (λ q. node_size (tree_view t q)) is) ∙ sizes) in
+    let passed = open_passed (session_view_of_tree_and_files t fs) bytes flags write e in
+    let node = file_node (tree_view t (path_or_root bytes)) size (sym (ap (λ q. file_size_of_node (tree_view t q)) is) ∙ sizes) in
     let none = no_writer t fs bytes flags write e in
     record {
-      unread = no_reader_at t fs (same_path (as_path bytes)) passed.closed;
+      unread = no_reader_at t fs (same_path (path_or_root bytes)) passed.closed;
       ready = carried_ready mid new fs ops.Recover (λ p. refl) (ready_later t mid fs (ready passed.works) asked) (none_saved fs none) (keeps_none mid new fs none) carried;
-      begun = subst (λ (z : TreeState). IsOpenedAs new (opened_writer (as_path bytes) flags (bytes_at (tree_view z (as_path bytes)))) w) asked.same
-          (subst (λ q. IsOpenedAs new (opened_writer q flags (bytes_at (tree_view mid q))) w) is begun);
-      turn = λ files opened. there_turn (session_view_of t fs) bytes flags mid new files node.0 (sound_by t fs ready) asked e write node.1 carried opened;
+      begun = subst (λ (z : TreeState). IsOpenedWriterSeenAs new (writer_after_open (path_or_root bytes) flags (bytes_at (tree_view z (path_or_root bytes)))) w) asked.same
+          (subst (λ q. IsOpenedWriterSeenAs new (writer_after_open q flags (bytes_at (tree_view mid q))) w) is begun);
+      turn = λ files opened. there_turn (session_view_of_tree_and_files t fs) bytes flags mid new files node.0 (sound_by t fs ready) asked e write node.1 carried opened;
     }
 
-pub opened_new : (t mid new : TreeState) (fs : OpenFiles) (bytes : List ℕ) (flags : Flags) (w : Writer) (p : Path) → (t.failed ≡ false → IsReady t fs) → WasOnlyRead t mid →
-    refused_by (session_view_of t fs) (ops.Open bytes flags) ≡ None → flags.write ≡ true → p ≡ as_path bytes → node_size (tree_view t p) ≡ None →
-    IsAppliedOn mid (ops.Open bytes flags) new → IsOpenedAs new (opened_writer p flags []) w → IsOpenedBy t fs bytes flags new w
+pub opened_new : (t mid new : TreeState) (fs : OpenFiles) (bytes : List ℕ) (flags : Flags) (w : Writer) (p : Path) → (t.failed ≡ false → IsSessionReadyForCalls t fs) → WasTreeOnlyRead t mid →
+    refusal_by_checks (session_view_of_tree_and_files t fs) (ops.Open bytes flags) ≡ None → flags.write ≡ true → p ≡ path_or_root bytes → file_size_of_node (tree_view t p) ≡ None →
+    IsOperationAppliedToTree mid (ops.Open bytes flags) new → IsOpenedWriterSeenAs new (writer_after_open p flags []) w → IsOpenedBy t fs bytes flags new w
 opened_new t mid new fs bytes flags w p ready asked e write is sizes carried begun =
-    let passed = open_passed (session_view_of t fs) bytes flags write e in
-    let node : tree_view t (as_path bytes) ≡ None = no_node (tree_view t (as_path bytes)) (sym (ap (λ q. node_size (tree_view t q)) is) ∙ sizes) passed.directory in
+    let passed = open_passed (session_view_of_tree_and_files t fs) bytes flags write e in
+    let node : tree_view t (path_or_root bytes) ≡ None = no_node (tree_view t (path_or_root bytes)) (sym (ap (λ q. file_size_of_node (tree_view t q)) is) ∙ sizes) passed.directory in
     let none = no_writer t fs bytes flags write e in
     record {
-      unread = no_reader_at t fs (same_path (as_path bytes)) passed.closed;
+      unread = no_reader_at t fs (same_path (path_or_root bytes)) passed.closed;
       ready = carried_ready mid new fs (ops.Open bytes flags) (λ p. refl) (ready_later t mid fs (ready passed.works) asked) (none_saved fs none) (keeps_none mid new fs none) carried;
-      begun = subst (λ n. IsOpenedAs new (opened_writer (as_path bytes) flags (bytes_at n)) w) (sym node) (subst (λ q. IsOpenedAs new (opened_writer q flags []) w) is begun);
-      turn = λ files opened. carried_answer (session_view_of t fs) (ops.Open bytes flags) mid new files (sound_by t fs ready) asked e carried refl (ap not write) refl (ap is_some node) refl opened;
+      begun = subst (λ n. IsOpenedWriterSeenAs new (writer_after_open (path_or_root bytes) flags (bytes_at n)) w) (sym node) (subst (λ q. IsOpenedWriterSeenAs new (writer_after_open q flags []) w) is begun);
+      turn = λ files opened. carried_answer (session_view_of_tree_and_files t fs) (ops.Open bytes flags) mid new files (sound_by t fs ready) asked e carried refl (ap not write) refl (ap is_some node) refl opened;
     }
 
 -- ---- answers
 
-pub writer_ready : (t new : TreeState) (fs gs : OpenFiles) (bytes : List ℕ) (flags : Flags) (w : Writer) → IsOpenedBy t fs bytes flags new w → writers_in fs ≡ [] → writers_in (put_entry fs (free_entry fs) (Some (file.Writing w))) ≡ w ∷ [] →
-    gs ≡ put_entry fs (free_entry fs) (Some (file.Writing w)) → IsReady new gs
+pub writer_ready : (t new : TreeState) (fs gs : OpenFiles) (bytes : List ℕ) (flags : Flags) (w : Writer) → IsOpenedBy t fs bytes flags new w → writers_among fs ≡ [] → writers_among (open_files_with_number_set fs (least_free_number fs) (Some (file.Writing w))) ≡ w ∷ [] →
+    gs ≡ open_files_with_number_set fs (least_free_number fs) (Some (file.Writing w)) → IsSessionReadyForCalls new gs
 writer_ready t new fs gs bytes flags w opened none alone is =
-    let path : as_path bytes ≡ w.path = sym (ap (λ (x : session.Writer). x.path) opened.begun.seen) in
-    ready_with new fs gs w none (ap (λ xs. writers_in xs) is ∙ alone) opened.ready opened.begun.written
-    (subst (AreReadersOf new.pairs) (sym is) (read_opened new.pairs fs (free_entry fs) w (ap (map (λ x. x.path)) alone) (subst (λ p. AllByRecursion (λ r. same_path p r.path ≡ false) (readers_in fs)) path opened.unread) opened.ready.read))
+    let path : path_or_root bytes ≡ w.path = sym (ap (λ (x : session.Writer). x.path) opened.begun.seen) in
+    ready_with new fs gs w none (ap (λ xs. writers_among xs) is ∙ alone) opened.ready opened.begun.written
+    (subst (AreReadersApartFromWriters new.pairs) (sym is) (read_opened new.pairs fs (least_free_number fs) w (ap (map (λ x. x.path)) alone) (subst (λ p. AllByRecursion (λ r. same_path p r.path ≡ false) (readers_among fs)) path opened.unread) opened.ready.read))
 
-pub writer_opened : (t new : TreeState) (fs gs : OpenFiles) (now : SessionView) (bytes : List ℕ) (flags : Flags) (w : Writer) (n : ℕ) → session_view_of t fs ≡ now → IsOpenedBy t fs bytes flags new w → flags.write ≡ true → writers_in fs ≡ [] →
-    n ≡ free_entry fs → gs ≡ put_entry fs (free_entry fs) (Some (file.Writing w)) → Answers now (ops.Open bytes flags) (Ok (ops.Opened n)) (session_view_of new gs)
+pub writer_opened : (t new : TreeState) (fs gs : OpenFiles) (now : SessionView) (bytes : List ℕ) (flags : Flags) (w : Writer) (n : ℕ) → session_view_of_tree_and_files t fs ≡ now → IsOpenedBy t fs bytes flags new w → flags.write ≡ true → writers_among fs ≡ [] →
+    n ≡ least_free_number fs → gs ≡ open_files_with_number_set fs (least_free_number fs) (Some (file.Writing w)) → IsSessionStepOrFailure now (ops.Open bytes flags) (Ok (ops.Opened n)) (session_view_of_tree_and_files new gs)
 writer_opened t new fs gs now bytes flags w n same opened write none number is =
-    subst (λ z. Answers z (ops.Open bytes flags) (Ok (ops.Opened n)) (session_view_of new gs)) same
-    (subst (λ m. IsSessionStep (system_state_of (session_view_of t fs)) (ops.Open bytes flags) (ops.Opened m) (system_state_of (session_view_of new gs))) (sym (number ∙ free_is t fs))
-    (opened.turn (files_view new gs) (sym brought)))
+    subst (λ z. IsSessionStepOrFailure z (ops.Open bytes flags) (Ok (ops.Opened n)) (session_view_of_tree_and_files new gs)) same
+    (subst (λ m. IsSessionStep (system_state_of (session_view_of_tree_and_files t fs)) (ops.Open bytes flags) (ops.Opened m) (system_state_of (session_view_of_tree_and_files new gs))) (sym (number ∙ free_is t fs))
+    (opened.turn (open_files_view new gs) (sym brought)))
   where
-    brought : files_view new gs ≡ put_file (files_view t fs) (free_number (files_view t fs)) (Some (if flags.write then Writing (opened_writer (as_path bytes) flags (bytes_at (tree_view t (as_path bytes)))) else Reading (record { path = as_path bytes; position = 0 })))
-    brought = ap (files_view new) is ∙ put_is new fs (free_entry fs) (Some (file.Writing w))
+    brought : open_files_view new gs ≡ put_file (open_files_view t fs) (free_file_number (open_files_view t fs)) (Some (if flags.write then Writing (writer_after_open (path_or_root bytes) flags (bytes_at (tree_view t (path_or_root bytes)))) else Reading (record { path = path_or_root bytes; position = 0 })))
+    brought = ap (open_files_view new) is ∙ put_is new fs (least_free_number fs) (Some (file.Writing w))
         ∙ ap₂ (λ files m. put_file files m (Some (Writing (writer_view new w)))) (sym (kept_files t new fs (none_saved fs none) (keeps_none t new fs none))) (free_is t fs)
-        ∙ ap (λ x. put_file (files_view t fs) (free_number (files_view t fs)) (Some (Writing x))) opened.begun.seen
-        ∙ ap (λ b. put_file (files_view t fs) (free_number (files_view t fs)) (Some (if b then Writing (opened_writer (as_path bytes) flags (bytes_at (tree_view t (as_path bytes)))) else Reading (record { path = as_path bytes; position = 0 })))) (sym write)
+        ∙ ap (λ x. put_file (open_files_view t fs) (free_file_number (open_files_view t fs)) (Some (Writing x))) opened.begun.seen
+        ∙ ap (λ b. put_file (open_files_view t fs) (free_file_number (open_files_view t fs)) (Some (if b then Writing (writer_after_open (path_or_root bytes) flags (bytes_at (tree_view t (path_or_root bytes)))) else Reading (record { path = path_or_root bytes; position = 0 })))) (sym write)
 
-pub writer_breaks : (t mid new : TreeState) (fs gs : OpenFiles) (now : SessionView) (bytes : List ℕ) (flags : Flags) (e : Error) (r : Result ℕ Error) → session_view_of t fs ≡ now → WasOnlyRead t mid → refused_by (session_view_of t fs) (ops.Open bytes flags) ≡ None →
-    IsSound t → flags.write ≡ true → IsFailedTree mid new → IsError mid new e → r ≡ Err e → Answers now (ops.Open bytes flags) (reply_in ops.Opened r) (session_view_of new gs)
+pub writer_breaks : (t mid new : TreeState) (fs gs : OpenFiles) (now : SessionView) (bytes : List ℕ) (flags : Flags) (e : Error) (r : Result ℕ Error) → session_view_of_tree_and_files t fs ≡ now → WasTreeOnlyRead t mid → refusal_by_checks (session_view_of_tree_and_files t fs) (ops.Open bytes flags) ≡ None →
+    IsSoundTreeState t → flags.write ≡ true → IsFailedTree mid new → IsErrorWithCause mid new e → r ≡ Err e → IsSessionStepOrFailure now (ops.Open bytes flags) (reply_from_result ops.Opened r) (session_view_of_tree_and_files new gs)
 writer_breaks t mid new fs gs now bytes flags e r same asked passed sound write broken error is =
-    subst (λ z. Answers z (ops.Open bytes flags) (reply_in ops.Opened r) (session_view_of new gs)) same
-    (subst (λ z. Answers (session_view_of t fs) (ops.Open bytes flags) (reply_in ops.Opened z) (session_view_of new gs)) (sym is)
-    (error_answers (session_view_of t fs) (ops.Open bytes flags) e (session_view_of new gs) (ops.Refused (refusal_in e)) error.errors
-    (broken_fails e (session_view_of t fs) (ops.Open bytes flags) mid new (files_view new gs) (not_failed (session_view_of t fs) (ops.Open bytes flags) passed) refl (ap not write) refl sound (open_passed (session_view_of t fs) bytes flags write passed).writable asked broken error)))
+    subst (λ z. IsSessionStepOrFailure z (ops.Open bytes flags) (reply_from_result ops.Opened r) (session_view_of_tree_and_files new gs)) same
+    (subst (λ z. IsSessionStepOrFailure (session_view_of_tree_and_files t fs) (ops.Open bytes flags) (reply_from_result ops.Opened z) (session_view_of_tree_and_files new gs)) (sym is)
+    (error_answers (session_view_of_tree_and_files t fs) (ops.Open bytes flags) e (session_view_of_tree_and_files new gs) (ops.Refused (refusal_of_error e)) error.errors
+    (broken_fails e (session_view_of_tree_and_files t fs) (ops.Open bytes flags) mid new (open_files_view new gs) (not_failed (session_view_of_tree_and_files t fs) (ops.Open bytes flags) passed) refl (ap not write) refl sound (open_passed (session_view_of_tree_and_files t fs) bytes flags write passed).writable asked broken error)))
 
 -- no memory is found for it
-pub writer_lacks_memory : (t mid left : TreeState) (fs gs : OpenFiles) (now : SessionView) (bytes : List ℕ) (flags : Flags) → session_view_of t fs ≡ now → WasOnlyRead t mid → refused_by (session_view_of t fs) (ops.Open bytes flags) ≡ None →
-    left ≡ record mid { failed = true } → Answers now (ops.Open bytes flags) (Err NoMemory) (session_view_of left gs)
+pub writer_lacks_memory : (t mid left : TreeState) (fs gs : OpenFiles) (now : SessionView) (bytes : List ℕ) (flags : Flags) → session_view_of_tree_and_files t fs ≡ now → WasTreeOnlyRead t mid → refusal_by_checks (session_view_of_tree_and_files t fs) (ops.Open bytes flags) ≡ None →
+    left ≡ record mid { failed = true } → IsSessionStepOrFailure now (ops.Open bytes flags) (Err NoMemory) (session_view_of_tree_and_files left gs)
 writer_lacks_memory t mid left fs gs now bytes flags same asked passed is =
-    subst (λ z. Answers z (ops.Open bytes flags) (Err NoMemory) (session_view_of left gs)) same
-    (subst (λ z. Answers (session_view_of t fs) (ops.Open bytes flags) (Err NoMemory) (session_view_of z gs)) (sym is)
-    (memory_fails (session_view_of t fs) (ops.Open bytes flags) mid (files_view (record mid { failed = true }) gs) (not_failed (session_view_of t fs) (ops.Open bytes flags) passed) asked))
+    subst (λ z. IsSessionStepOrFailure z (ops.Open bytes flags) (Err NoMemory) (session_view_of_tree_and_files left gs)) same
+    (subst (λ z. IsSessionStepOrFailure (session_view_of_tree_and_files t fs) (ops.Open bytes flags) (Err NoMemory) (session_view_of_tree_and_files z gs)) (sym is)
+    (memory_fails (session_view_of_tree_and_files t fs) (ops.Open bytes flags) mid (open_files_view (record mid { failed = true }) gs) (not_failed (session_view_of_tree_and_files t fs) (ops.Open bytes flags) passed) asked))

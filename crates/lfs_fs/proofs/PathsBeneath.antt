@@ -5,10 +5,10 @@ use Rattle.std.specs.Cmp.Lexicographic.{pointwise}
 use Rattle.std.proofs.lemmas.Slice.Eq.{starts_is}
 use Rattle.std.proofs.lemmas.Bool.{and_parts, lt-ltb, ltb-true, ltb-false}
 use Rattle.std.proofs.lemmas.Bool.Decides.{Decides-eqb}
-use Rattle.lfs_model.specs.TreeEdits.{rest_after}
-use Rattle.lfs_model.specs.Names.{Name, is_component, same_name, slash}
-use Rattle.lfs_model.specs.Operations.{path_of}
-use Rattle.lfs_model.specs.Refusals.{as_path, bad_entry}
+use Rattle.lfs_model.specs.TreeEdits.{path_without_prefix}
+use Rattle.lfs_model.specs.Names.{Name, is_path_component, same_name, slash}
+use Rattle.lfs_model.specs.Operations.{path_of_bytes}
+use Rattle.lfs_model.specs.Refusals.{path_or_root, is_root_or_invalid_path}
 use Rattle.lfs_model.specs.Tree.{Path}
 use Rattle.lfs_model.proofs.Paths.{Names, alike, unlike, names, same_itself, unlike_test}
 use Rattle.lfs_fs.specs.RenamePaths.{is_path_prefix}
@@ -47,7 +47,7 @@ abbrev part : ℕ → List ℕ → Path → Path
 part x xs rest = if x == slash then [] ∷ rest else onto_first x rest
 
 abbrev is_on : Path → Path → Bool
-is_on p q = is_some (rest_after p q)
+is_on p q = is_some (path_without_prefix p q)
 
 -- the parts of bytes are at least one
 record IsParts (parts : Path) : Type 0 where
@@ -100,16 +100,16 @@ split_on (x ∷ xs) (y ∷ ys) = go (split_on xs ys) (x == slash) (y == slash) r
     go so false true e f k l = ap (λ z. is_on (onto_first x z) ([] ∷ qs)) k.are ∙ sym (apart (differs false true e f (λ z. absurd (cc))))
     go so false false e f k l =
         ap₂ (λ z w. is_on (onto_first x z) (onto_first y w)) k.are l.are
-        ∙ ap (λ c. is_some (cond c (rest_after k.rest l.rest) None)) (first_names x y k.first l.first)
-        ∙ halves (x == y) (same_name k.first l.first) (rest_after k.rest l.rest)
+        ∙ ap (λ c. is_some (cond c (path_without_prefix k.rest l.rest) None)) (first_names x y k.first l.first)
+        ∙ halves (x == y) (same_name k.first l.first) (path_without_prefix k.rest l.rest)
         ∙ ap (λ b. (x == y) && b) (sym (ap₂ is_on k.are l.are) ∙ so)
       where
         halves : (a b : Bool) (o : Option Path) → is_some (cond (a && b) o None) ≡ (a && is_some (cond b o None))
         halves true b o = refl
         halves false b o = refl
 
-parts_of : (b : ℕ) (xs : List ℕ) → is_some (path_of (b ∷ xs)) ≡ true → (b ≡ slash) × (as_path (b ∷ xs) ≡ cond (nat_lt 0 (length xs)) (slice_split (λ c. c == slash) xs) [])
-parts_of b xs h = go (b == slash) (nat_lt 0 (length xs)) (list_all is_component (slice_split (λ c. c == slash) xs)) refl h
+parts_of : (b : ℕ) (xs : List ℕ) → is_some (path_of_bytes (b ∷ xs)) ≡ true → (b ≡ slash) × (path_or_root (b ∷ xs) ≡ cond (nat_lt 0 (length xs)) (slice_split (λ c. c == slash) xs) [])
+parts_of b xs h = go (b == slash) (nat_lt 0 (length xs)) (list_all is_path_component (slice_split (λ c. c == slash) xs)) refl h
   where
     go : (s l c : Bool) → (b == slash) ≡ s → is_some (cond (not s) None (cond l (cond c (Some (slice_split (λ c. c == slash) xs)) None) (Some []))) ≡ true
         → (b ≡ slash) × (unwrap_or (cond (not s) None (cond l (cond c (Some (slice_split (λ c. c == slash) xs)) None) (Some []))) [] ≡ cond l (slice_split (λ c. c == slash) xs) [])
@@ -118,34 +118,34 @@ parts_of b xs h = go (b == slash) (nat_lt 0 (length xs)) (list_all is_component 
     go true true false e k = absurd (cc)
     go true true true e k = (eqb-true b slash e, refl)
 
-good : (o : Option Path) → bad_entry o ≡ false → is_some o ≡ true
+good : (o : Option Path) → is_root_or_invalid_path o ≡ false → is_some o ≡ true
 good None e = absurd (cc)
 good (Some p) e = refl
 
 -- the path of the second bytes is that of the first, which is an entry's, or lies beneath it
-pub is_beneath_bytes : (xs ys : List ℕ) → bad_entry (path_of xs) ≡ false → is_some (path_of ys) ≡ true → is_path_prefix xs ys ≡ is_some (rest_after (as_path xs) (as_path ys))
-is_beneath_bytes [] ys e f = absurd (let k = good (path_of []) e in cc)
+pub is_beneath_bytes : (xs ys : List ℕ) → is_root_or_invalid_path (path_of_bytes xs) ≡ false → is_some (path_of_bytes ys) ≡ true → is_path_prefix xs ys ≡ is_some (path_without_prefix (path_or_root xs) (path_or_root ys))
+is_beneath_bytes [] ys e f = absurd (let k = good (path_of_bytes []) e in cc)
 is_beneath_bytes (x ∷ []) ys e f = absurd (go (x == slash) e)
   where
-    go : (s : Bool) → bad_entry (cond (not s) None (Some [])) ≡ false → ⊥
+    go : (s : Bool) → is_root_or_invalid_path (cond (not s) None (Some [])) ≡ false → ⊥
     go true k = absurd (cc)
     go false k = absurd (cc)
 is_beneath_bytes (x ∷ a ∷ xs) [] e f = absurd (cc)
-is_beneath_bytes (x ∷ a ∷ xs) (y ∷ ys) e f = both ys (parts_of x (a ∷ xs) (good (path_of (x ∷ a ∷ xs)) e)) (parts_of y ys f) (parts_are (a ∷ xs))
+is_beneath_bytes (x ∷ a ∷ xs) (y ∷ ys) e f = both ys (parts_of x (a ∷ xs) (good (path_of_bytes (x ∷ a ∷ xs)) e)) (parts_of y ys f) (parts_are (a ∷ xs))
   where
     from : Path
     from = slice_split (λ c. c == slash) (a ∷ xs)
 
-    both : (ys : List ℕ) → (x ≡ slash) × (as_path (x ∷ a ∷ xs) ≡ cond (nat_lt 0 (length (a ∷ xs))) from []) → (y ≡ slash) × (as_path (y ∷ ys) ≡ cond (nat_lt 0 (length ys)) (slice_split (λ c. c == slash) ys) []) → IsParts from
-        → is_path_prefix (x ∷ a ∷ xs) (y ∷ ys) ≡ is_some (rest_after (as_path (x ∷ a ∷ xs)) (as_path (y ∷ ys)))
+    both : (ys : List ℕ) → (x ≡ slash) × (path_or_root (x ∷ a ∷ xs) ≡ cond (nat_lt 0 (length (a ∷ xs))) from []) → (y ≡ slash) × (path_or_root (y ∷ ys) ≡ cond (nat_lt 0 (length ys)) (slice_split (λ c. c == slash) ys) []) → IsParts from
+        → is_path_prefix (x ∷ a ∷ xs) (y ∷ ys) ≡ is_some (path_without_prefix (path_or_root (x ∷ a ∷ xs)) (path_or_root (y ∷ ys)))
     both [] h k p =
-        ap (λ b. b && false) first ∙ sym (ap₂ (λ p q. is_some (rest_after p q)) (h.1 ∙ ap (λ b. cond b from []) (lt-ltb 0 (length (a ∷ xs)) (omega arith)) ∙ p.are) k.1)
+        ap (λ b. b && false) first ∙ sym (ap₂ (λ p q. is_some (path_without_prefix p q)) (h.1 ∙ ap (λ b. cond b from []) (lt-ltb 0 (length (a ∷ xs)) (omega arith)) ∙ p.are) k.1)
       where
         first : (x == y) ≡ true
         first = ap₂ (λ z w. z == w) h.0 k.0 ∙ same_number slash
     both (b ∷ ys) h k p =
         ap (λ z. z && is_path_prefix (a ∷ xs) (b ∷ ys)) first ∙ sym (split_on (a ∷ xs) (b ∷ ys))
-        ∙ sym (ap₂ (λ p q. is_some (rest_after p q)) (h.1 ∙ ap (λ z. cond z from []) (lt-ltb 0 (length (a ∷ xs)) (omega arith)))
+        ∙ sym (ap₂ (λ p q. is_some (path_without_prefix p q)) (h.1 ∙ ap (λ z. cond z from []) (lt-ltb 0 (length (a ∷ xs)) (omega arith)))
         (k.1 ∙ ap (λ z. cond z (slice_split (λ c. c == slash) (b ∷ ys)) []) (lt-ltb 0 (length (b ∷ ys)) (omega arith))))
       where
         first : (x == y) ≡ true

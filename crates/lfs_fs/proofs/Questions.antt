@@ -5,72 +5,72 @@ use Rattle.lfs_device.specs.declared.error.Error.{Error}
 use Rattle.lfs_model.specs.History.{faults}
 use Rattle.lfs_model.specs.Operations as ops
 use Rattle.lfs_model.specs.Operations.{Operation, Reply, Failed}
-use Rattle.lfs_model.specs.Refusals.{as_path, refusal_of}
-use Rattle.lfs_model.specs.Effects.{effect_of, items_in}
+use Rattle.lfs_model.specs.Refusals.{path_or_root, refusal_of_operation}
+use Rattle.lfs_model.specs.Effects.{effect_of_operation, items_in}
 use Rattle.std.proofs.lemmas.Bool.{le-leb, leb-true}
 use Rattle.lfs_model.specs.TreeEdits.{is_directory}
 use Rattle.lfs_model.specs.Session.{refuse_if}
 use Rattle.lfs_model.specs.Tree.{Path}
-use Rattle.lfs_model.specs.State.{is_remount}
-use Rattle.lfs_model.specs.Run.{IsSessionStep, needs_no_call}
-use Rattle.lfs_model.specs.Headline.{is_question}
-use Rattle.lfs_model.proofs.Histories.{OnlyReads-trans}
+use Rattle.lfs_model.specs.State.{is_remount_operation}
+use Rattle.lfs_model.specs.Run.{IsSessionStep, needs_no_device_call}
+use Rattle.lfs_model.specs.Headline.{is_query_without_file}
+use Rattle.lfs_model.proofs.Histories.{AreCallsSinceOnlyReads-trans}
 use Rattle.lfs_model.proofs.SessionSteps.{not_remount}
 use Rattle.lfs_lookup.specs.Finds.{list_item_view}
 use Rattle.lfs_lookup.specs.declared.kinds.ListItem.{ListItem}
-use Rattle.lfs_lookup.specs.Refusals.{refusal_in}
-use Rattle.lfs_tree.specs.TreeState.{TreeState, IsSound, tree_view, surroundings_of, WasOnlyRead, FailsInRead, IsError}
-use Rattle.lfs_fs.specs.Replies.{reply_in}
+use Rattle.lfs_lookup.specs.Refusals.{refusal_of_error}
+use Rattle.lfs_tree.specs.TreeState.{TreeState, IsSoundTreeState, tree_view, disk_summary_of_tree, WasTreeOnlyRead, IsTreeFailedByRead, IsErrorWithCause}
+use Rattle.lfs_fs.specs.Replies.{reply_from_result}
 use Rattle.lfs_fs.specs.FileView.{OpenFiles}
-use Rattle.lfs_fs.specs.SessionView.{SessionView, IsReady, session_view_with, session_of, system_state_of, refused_by, Answers}
+use Rattle.lfs_fs.specs.SessionView.{SessionView, IsSessionReadyForCalls, session_view_with_files_view, session_of, system_state_of, refusal_by_checks, IsSessionStepOrFailure}
 use Rattle.lfs_fs.proofs.Answered.{refused_answer, asked_answer, nothing_asked, question_only_asks, question_keeps, question_recovers_nothing, question_lays_nothing}
 
 -- ---- without a call
 
-pub failed_by : (h : SessionView) (op : Operation) → true ≡ h.tree.failed → refused_by h op ≡ Some Failed
-failed_by h op e = ap (λ b. cond b (Some Failed) (refusal_of (surroundings_of h.tree) (session_of h) op)) (sym e)
+pub failed_by : (h : SessionView) (op : Operation) → true ≡ h.tree.failed → refusal_by_checks h op ≡ Some Failed
+failed_by h op e = ap (λ b. cond b (Some Failed) (refusal_of_operation (disk_summary_of_tree h.tree) (session_of h) op)) (sym e)
 
-pub works_by : (h : SessionView) (op : Operation) (r : Option ops.Refusal) → false ≡ h.tree.failed → refusal_of (surroundings_of h.tree) (session_of h) op ≡ r → refused_by h op ≡ r
-works_by h op r e is = ap (λ b. cond b (Some Failed) (refusal_of (surroundings_of h.tree) (session_of h) op)) (sym e) ∙ is
+pub works_by : (h : SessionView) (op : Operation) (r : Option ops.Refusal) → false ≡ h.tree.failed → refusal_of_operation (disk_summary_of_tree h.tree) (session_of h) op ≡ r → refusal_by_checks h op ≡ r
+works_by h op r e is = ap (λ b. cond b (Some Failed) (refusal_of_operation (disk_summary_of_tree h.tree) (session_of h) op)) (sym e) ∙ is
 
-pub refused_kept : (old now : SessionView) (op : Operation) (e : Error) → old ≡ now → (old.tree.failed ≡ false → IsSound old.tree) → is_remount op ≡ false → refused_by old op ≡ Some (refusal_in e) →
-    Answers now op (Ok (ops.Refused (refusal_in e))) now
+pub refused_kept : (old now : SessionView) (op : Operation) (e : Error) → old ≡ now → (old.tree.failed ≡ false → IsSoundTreeState old.tree) → is_remount_operation op ≡ false → refusal_by_checks old op ≡ Some (refusal_of_error e) →
+    IsSessionStepOrFailure now op (Ok (ops.Refused (refusal_of_error e))) now
 refused_kept old now op e same ready other is =
-    subst (λ z. Answers z op (Ok (ops.Refused (refusal_in e))) z) same (refused_answer old op (refusal_in e) old.tree ready other (nothing_asked old.tree) is)
+    subst (λ z. IsSessionStepOrFailure z op (Ok (ops.Refused (refusal_of_error e))) z) same (refused_answer old op (refusal_of_error e) old.tree ready other (nothing_asked old.tree) is)
 
-pub question_kept : (old now : SessionView) (op : Operation) (reply : Reply) → old ≡ now → (old.tree.failed ≡ false → IsSound old.tree) → is_question op ≡ true → refused_by old op ≡ None →
-    reply ≡ (effect_of (surroundings_of old.tree) (session_of old) op).0 → Answers now op (Ok reply) now
+pub question_kept : (old now : SessionView) (op : Operation) (reply : Reply) → old ≡ now → (old.tree.failed ≡ false → IsSoundTreeState old.tree) → is_query_without_file op ≡ true → refusal_by_checks old op ≡ None →
+    reply ≡ (effect_of_operation (disk_summary_of_tree old.tree) (session_of old) op).0 → IsSessionStepOrFailure now op (Ok reply) now
 question_kept old now op reply same ready asks e is =
-    subst (λ z. Answers z op (Ok reply) z) same
+    subst (λ z. IsSessionStepOrFailure z op (Ok reply) z) same
     (subst (λ r. IsSessionStep (system_state_of old) op r (system_state_of old)) (sym is)
-    (asked_answer old op old.tree old.files ready (nothing_asked old.tree) e (not_remount op asks) (question_only_asks (session_of old) op asks) (question_keeps (surroundings_of old.tree) (session_of old) op asks)
+    (asked_answer old op old.tree old.files ready (nothing_asked old.tree) e (not_remount op asks) (question_only_asks (session_of old) op asks) (question_keeps (disk_summary_of_tree old.tree) (session_of old) op asks)
     (question_recovers_nothing op asks) (question_lays_nothing (session_of old) op asks) (λ k. refl)))
 
 -- ---- two calls
 
-pub asked_twice : (a b c : TreeState) → WasOnlyRead a b → WasOnlyRead b c → WasOnlyRead a c
+pub asked_twice : (a b c : TreeState) → WasTreeOnlyRead a b → WasTreeOnlyRead b c → WasTreeOnlyRead a c
 asked_twice a b c h k = record {
   same = k.same ∙ ap (λ (t : TreeState). record t { history = c.history; cache = c.cache }) h.same;
   failed = λ e. k.failed (ap (λ (t : TreeState). t.failed) (h.failed e) ∙ e) ∙ h.failed e;
-  reads = OnlyReads-trans h.reads k.reads (ap (λ (t : TreeState). t.disk.blocks) h.same);
+  reads = AreCallsSinceOnlyReads-trans h.reads k.reads (ap (λ (t : TreeState). t.disk.blocks) h.same);
   no_fault = k.no_fault ∙ h.no_fault;
 }
 
-pub broken_twice : (a b c : TreeState) → WasOnlyRead a b → FailsInRead b c → FailsInRead a c
+pub broken_twice : (a b c : TreeState) → WasTreeOnlyRead a b → IsTreeFailedByRead b c → IsTreeFailedByRead a c
 broken_twice a b c h k = record {
   failed = k.failed;
   disk = k.disk ∙ ap (λ (t : TreeState). t.disk) h.same;
-  reads = OnlyReads-trans h.reads k.reads (ap (λ (t : TreeState). t.disk.blocks) h.same);
+  reads = AreCallsSinceOnlyReads-trans h.reads k.reads (ap (λ (t : TreeState). t.disk.blocks) h.same);
 }
 
-pub error_twice : (a b c : TreeState) (e : Error) → WasOnlyRead a b → IsError b c e → IsError a c e
+pub error_twice : (a b c : TreeState) (e : Error) → WasTreeOnlyRead a b → IsErrorWithCause b c e → IsErrorWithCause a c e
 error_twice a b c e h k = record {
   errors = k.errors;
   fault = λ x. subst (λ n. n < faults c.history) h.no_fault (k.fault x);
   no_fault = λ x. k.no_fault x ∙ h.no_fault;
 }
 
-pub error_either : {A : Type 0} (a b c : TreeState) (r : Result A Error) → WasOnlyRead a b → IfErr r (IsError b c) → IfErr r (IsError a c)
+pub error_either : {A : Type 0} (a b c : TreeState) (r : Result A Error) → WasTreeOnlyRead a b → IfErr r (IsErrorWithCause b c) → IfErr r (IsErrorWithCause a c)
 error_either a b c (Ok x) h k = tt
 error_either a b c (Err e) h k = error_twice a b c e h k
 

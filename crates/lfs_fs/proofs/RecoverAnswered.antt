@@ -4,11 +4,11 @@ use Rattle.std.specs.Prelude.{OnErr, OnOk, IfErr}
 use Rattle.lfs_device.specs.declared.error.Error.{Error}
 use Rattle.lfs_model.specs.Operations as ops
 use Rattle.lfs_model.specs.Tree.{Tree}
-use Rattle.lfs_tree.specs.TreeState.{TreeState, IsFailedTree, IsAppliedOn, IsError, surroundings_of, tree_view}
-use Rattle.lfs_fs.specs.FileView.{OpenFiles, files_view, readers_in, writers_in}
-use Rattle.lfs_fs.specs.SessionView.{Answers, SessionView, IsReady, session_view_of, refused_by}
-use Rattle.lfs_fs.specs.Replies.{reply_in}
-use Rattle.lfs_fs.specs.OpenFilesStay.{FilesAreReady, FilesStay}
+use Rattle.lfs_tree.specs.TreeState.{TreeState, IsFailedTree, IsOperationAppliedToTree, IsErrorWithCause, disk_summary_of_tree, tree_view}
+use Rattle.lfs_fs.specs.FileView.{OpenFiles, open_files_view, readers_among, writers_among}
+use Rattle.lfs_fs.specs.SessionView.{IsSessionStepOrFailure, SessionView, IsSessionReadyForCalls, session_view_of_tree_and_files, refusal_by_checks}
+use Rattle.lfs_fs.specs.Replies.{reply_from_result}
+use Rattle.lfs_fs.specs.OpenFilesStay.{OpenFilesStaySameAndReady, AppliedOperationsKeepOpenFiles}
 use Rattle.lfs_fs.proofs.Answered.{KeepsFiles, done_answers, done_left, keeps_writers, none_concerned, not_refused, nothing_asked, sound_by, with_files}
 use Rattle.lfs_fs.proofs.OpenReaders.{none_read}
 use Rattle.lfs_fs.proofs.Checked.{negated, unrefused}
@@ -20,21 +20,21 @@ ok_then (Ok x) P Q f h = f h
 ok_then (Err e) P Q f h = tt
 
 -- the tree stays, and every file with it
-recover_keeps : (t s : TreeState) → IsAppliedOn t ops.Recover s → KeepsFiles t s
-recover_keeps t s carried q e = subst (λ (z : Tree). SameFile (tree_view t q) (z q)) (sym (carried.shows (surroundings_of t) [])) (λ h. (h, refl)) e
+recover_keeps : (t s : TreeState) → IsOperationAppliedToTree t ops.Recover s → KeepsFiles t s
+recover_keeps t s carried q e = subst (λ (z : Tree). SameFile (tree_view t q) (z q)) (sym (carried.shows (disk_summary_of_tree t) [])) (λ h. (h, refl)) e
 
-pub recovered_left : (t new : TreeState) (files : OpenFiles) (r : Result (Unit {0}) Error) → FilesStay → (t.failed ≡ false → IsReady t files) → refused_by (session_view_of t files) ops.Recover ≡ None →
-    OnOk r (IsAppliedOn t ops.Recover new) → OnErr r (IsFailedTree t new) → new.failed ≡ false → FilesAreReady t new files
+pub recovered_left : (t new : TreeState) (files : OpenFiles) (r : Result (Unit {0}) Error) → AppliedOperationsKeepOpenFiles → (t.failed ≡ false → IsSessionReadyForCalls t files) → refusal_by_checks (session_view_of_tree_and_files t files) ops.Recover ≡ None →
+    OnOk r (IsOperationAppliedToTree t ops.Recover new) → OnErr r (IsFailedTree t new) → new.failed ≡ false → OpenFilesStaySameAndReady t new files
 recovered_left t new files r stay ready e done broken =
-    done_left (IsAppliedOn t ops.Recover new) t t new files ops.Recover r stay ready (nothing_asked t) e (λ was. record { apart = none_concerned ops.Recover (λ p. refl) (writers_in files); unread = none_read ops.Recover (λ p. refl) (readers_in files); room = inl refl })
-    (λ now k. keeps_writers t new (writers_in files) (recover_keeps t new k) now.written) done (λ k. k) broken
+    done_left (IsOperationAppliedToTree t ops.Recover new) t t new files ops.Recover r stay ready (nothing_asked t) e (λ was. record { apart = none_concerned ops.Recover (λ p. refl) (writers_among files); unread = none_read ops.Recover (λ p. refl) (readers_among files); room = inl refl })
+    (λ now k. keeps_writers t new (writers_among files) (recover_keeps t new k) now.written) done (λ k. k) broken
 
 -- ---- once no check refuses it
 
-pub recover_answers : (t new : TreeState) (files : OpenFiles) (now : SessionView) (r : Result (Unit {0}) Error) → FilesStay → session_view_of t files ≡ now → (t.failed ≡ false → IsReady t files) → refused_by (session_view_of t files) ops.Recover ≡ None →
-    OnOk r (IsAppliedOn t ops.Recover new) → OnErr r (IsFailedTree t new) → IfErr r (IsError t new) → Answers now ops.Recover (reply_in (λ u. ops.Done) r) (session_view_of new files)
+pub recover_answers : (t new : TreeState) (files : OpenFiles) (now : SessionView) (r : Result (Unit {0}) Error) → AppliedOperationsKeepOpenFiles → session_view_of_tree_and_files t files ≡ now → (t.failed ≡ false → IsSessionReadyForCalls t files) → refusal_by_checks (session_view_of_tree_and_files t files) ops.Recover ≡ None →
+    OnOk r (IsOperationAppliedToTree t ops.Recover new) → OnErr r (IsFailedTree t new) → IfErr r (IsErrorWithCause t new) → IsSessionStepOrFailure now ops.Recover (reply_from_result (λ u. ops.Done) r) (session_view_of_tree_and_files new files)
 recover_answers t new files now r stay same ready e done broken errors =
-    with_files now ops.Recover (reply_in (λ u. ops.Done) r) new (files_view t files) (files_view new files)
+    with_files now ops.Recover (reply_from_result (λ u. ops.Done) r) new (open_files_view t files) (open_files_view new files)
     (λ works. (recovered_left t new files r stay ready e done broken works).same)
-    (done_answers (IsAppliedOn t ops.Recover new) (session_view_of t files) now ops.Recover t new r same (sound_by t files ready) (nothing_asked t) e refl refl refl refl refl refl refl refl
-    (negated t.writable (unrefused (not t.writable) ops.ReadOnly (not_refused (session_view_of t files) ops.Recover e))) done (λ k. k) broken errors)
+    (done_answers (IsOperationAppliedToTree t ops.Recover new) (session_view_of_tree_and_files t files) now ops.Recover t new r same (sound_by t files ready) (nothing_asked t) e refl refl refl refl refl refl refl refl
+    (negated t.writable (unrefused (not t.writable) ops.ReadOnly (not_refused (session_view_of_tree_and_files t files) ops.Recover e))) done (λ k. k) broken errors)

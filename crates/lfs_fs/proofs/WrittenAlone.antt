@@ -2,40 +2,40 @@
 use Rattle.std.proofs.Common.{ℕ, zero, suc, ◌≡◌, ◌≤◌, [], ◌∷◌, List, ap, arith}
 use Rattle.std.specs.Prelude.{All, Contains}
 use Rattle.std.proofs.lemmas.List.Elements.{All-from_recursion}
-use Rattle.lfs_model.specs.Frame.{LeavesAlone}
-use Rattle.lfs_model.specs.Disk.{Disk, block_at}
+use Rattle.lfs_model.specs.Frame.{LeavesUnrelatedBlocksUnchanged}
+use Rattle.lfs_model.specs.Disk.{Disk, block_bytes_on_disk}
 use Rattle.lfs_model.specs.Operations.{Operation}
 use Rattle.lfs_model.specs.Session.{Session}
-use Rattle.lfs_model.specs.Shown.{all_slots, file_blocks, used_blocks}
+use Rattle.lfs_model.specs.Shown.{all_slots_not_moved, skip_list_blocks_of_struct, used_blocks}
 use Rattle.lfs_model.specs.Slots.{Slot}
-use Rattle.lfs_model.specs.Thread.{Pair, blocks_of}
+use Rattle.lfs_model.specs.Thread.{Pair, blocks_of_pairs}
 use Rattle.lfs_model.proofs.BlockSets.{Contains-count}
 use Rattle.lfs_model.proofs.Counts.{Each, count, count_append, count_here, each_from_counted, each_pieces, each_weaker}
 use Rattle.lfs_model.proofs.Splices.{files_of}
-use Rattle.lfs_thread.specs.Device.{two_of}
+use Rattle.lfs_thread.specs.Device.{blocks_of_address}
 
-owner_counted : (b : ℕ) (p : Pair) (zs : List Pair) → Contains zs p → 1 ≤ count b (two_of p.at) → 1 ≤ count b (blocks_of zs)
+owner_counted : (b : ℕ) (p : Pair) (zs : List Pair) → Contains zs p → 1 ≤ count b (blocks_of_address p.at) → 1 ≤ count b (blocks_of_pairs zs)
 owner_counted b p [] (k, l, e) some = absurd (omega arith)
-owner_counted b p (z ∷ zs) (zero, l, e) some = let m = ap (λ (x : Pair). count b (two_of x.at)) e in let c = count_append b (two_of z.at) (blocks_of zs) in omega arith
-owner_counted b p (z ∷ zs) (suc k, l, e) some = let o = owner_counted b p zs (k, omega arith, e) some in let c = count_append b (two_of z.at) (blocks_of zs) in omega arith
+owner_counted b p (z ∷ zs) (zero, l, e) some = let m = ap (λ (x : Pair). count b (blocks_of_address x.at)) e in let c = count_append b (blocks_of_address z.at) (blocks_of_pairs zs) in omega arith
+owner_counted b p (z ∷ zs) (suc k, l, e) some = let o = owner_counted b p zs (k, omega arith, e) some in let c = count_append b (blocks_of_address z.at) (blocks_of_pairs zs) in omega arith
 
-module _ (disk new : Disk) (ps : List Pair) (stay : (b : ℕ) → Contains (used_blocks disk ps) b → block_at new b ≡ block_at disk b) where
+module _ (disk new : Disk) (ps : List Pair) (stay : (b : ℕ) → Contains (used_blocks disk ps) b → block_bytes_on_disk new b ≡ block_bytes_on_disk disk b) where
   abbrev IsSame : ℕ → Type 0
-  IsSame b = block_at new b ≡ block_at disk b
+  IsSame b = block_bytes_on_disk new b ≡ block_bytes_on_disk disk b
 
-  of_pair : (p : Pair) → Contains ps p → (b : ℕ) → 1 ≤ count b (two_of p.at) → block_at new b ≡ block_at disk b
+  of_pair : (p : Pair) → Contains ps p → (b : ℕ) → 1 ≤ count b (blocks_of_address p.at) → block_bytes_on_disk new b ≡ block_bytes_on_disk disk b
   of_pair p has b some =
       stay b (Contains-count (used_blocks disk ps) b
-      (let o = owner_counted b p ps has some in let e = count_append b (blocks_of ps) (files_of disk (all_slots ps)) in omega arith))
+      (let o = owner_counted b p ps has some in let e = count_append b (blocks_of_pairs ps) (files_of disk (all_slots_not_moved ps)) in omega arith))
 
-  of_files : Each (λ (s : Slot). Each IsSame (file_blocks disk s.struct)) (all_slots ps)
-  of_files = each_pieces IsSame (λ (s : Slot). file_blocks disk s.struct) (all_slots ps) (each_from_counted IsSame (files_of disk (all_slots ps))
-      (λ b some. stay b (Contains-count (used_blocks disk ps) b (let e = count_append b (blocks_of ps) (files_of disk (all_slots ps)) in omega arith))))
+  of_files : Each (λ (s : Slot). Each IsSame (skip_list_blocks_of_struct disk s.struct)) (all_slots_not_moved ps)
+  of_files = each_pieces IsSame (λ (s : Slot). skip_list_blocks_of_struct disk s.struct) (all_slots_not_moved ps) (each_from_counted IsSame (files_of disk (all_slots_not_moved ps))
+      (λ b some. stay b (Contains-count (used_blocks disk ps) b (let e = count_append b (blocks_of_pairs ps) (files_of disk (all_slots_not_moved ps)) in omega arith))))
 
-  pub written_alone : (qs : List Pair) (s : Session) (op : Operation) → LeavesAlone disk ps s op new qs
+  pub written_alone : (qs : List Pair) (s : Session) (op : Operation) → LeavesUnrelatedBlocksUnchanged disk ps s op new qs
   written_alone qs s op = record {
-    files = All-from_recursion (λ (s : Slot). All IsSame (file_blocks disk s.struct)) (all_slots ps)
-        (each_weaker (λ (s : Slot). Each IsSame (file_blocks disk s.struct)) (λ (s : Slot). All IsSame (file_blocks disk s.struct)) (λ s h. All-from_recursion IsSame (file_blocks disk s.struct) h) (all_slots ps) of_files);
+    files = All-from_recursion (λ (s : Slot). All IsSame (skip_list_blocks_of_struct disk s.struct)) (all_slots_not_moved ps)
+        (each_weaker (λ (s : Slot). Each IsSame (skip_list_blocks_of_struct disk s.struct)) (λ (s : Slot). All IsSame (skip_list_blocks_of_struct disk s.struct)) (λ s h. All-from_recursion IsSame (skip_list_blocks_of_struct disk s.struct) h) (all_slots_not_moved ps) of_files);
     pairs = λ p has now about. (
       of_pair p has p.at.0 (let k = count_here p.at.0 (p.at.1 ∷ []) in omega arith),
       of_pair p has p.at.1 (let k = count_here p.at.1 [] in let c = count_append p.at.1 (p.at.0 ∷ []) (p.at.1 ∷ []) in omega arith),

@@ -2,44 +2,44 @@
 -- many reads it takes.
 use Rattle.std.specs.Prelude.{ℕ, ◌≡◌, true, false, List, Result, Ok, is_err}
 use Rattle.lfs_device.specs.declared.error.Error.{Error}
-use Rattle.lfs_model.specs.Frame.{LeavesAlone, is_answered_from_memory, looks_up, searched_directories}
+use Rattle.lfs_model.specs.Frame.{LeavesUnrelatedBlocksUnchanged, is_answered_from_memory, is_look_up_operation, paths_of_searched_directories}
 use Rattle.lfs_model.specs.Operations as ops
 use Rattle.lfs_model.specs.Operations.{Operation, Reply}
-use Rattle.lfs_model.specs.PowerLoss.{SurvivesLoss}
+use Rattle.lfs_model.specs.PowerLoss.{IsOperationSurvivingPowerLoss}
 use Rattle.lfs_model.specs.Run.{SystemState, is_refusal}
 use Rattle.lfs_model.specs.Session.{Session}
-use Rattle.lfs_model.specs.Slots.{no_gstate}
+use Rattle.lfs_model.specs.Slots.{zero_gstate}
 use Rattle.lfs_model.specs.State.{Healthy}
 use Rattle.lfs_model.specs.Thread.{Pair, gstate_of}
-use Rattle.lfs_model.specs.ReadBounds.{AsksFew}
-use Rattle.lfs_model.specs.View.{IsAccepted}
-use Rattle.lfs_lookup.specs.CachedPairs.{AreSmall}
-use Rattle.lfs_tree.specs.Reads.{HasCached}
-use Rattle.lfs_fs.specs.CallEnds.{EndsWell}
-use Rattle.lfs_fs.specs.SessionView.{Answers, SessionView, system_state_of}
-use Rattle.lfs_fs.specs.LookUps.{AddsNoReadsSince}
+use Rattle.lfs_model.specs.ReadBounds.{AreReadsBoundedEvenOnError}
+use Rattle.lfs_model.specs.View.{IsAcceptedImage}
+use Rattle.lfs_lookup.specs.CachedPairs.{AreFewDirectoriesOfOnePairEach}
+use Rattle.lfs_tree.specs.Reads.{HasCachedDirectories}
+use Rattle.lfs_fs.specs.CallEnds.{MeetsReplyRules}
+use Rattle.lfs_fs.specs.SessionView.{IsSessionStepOrFailure, SessionView, system_state_of}
+use Rattle.lfs_fs.specs.LookUps.{CallsSinceReadNothingIfCached}
 
 -- where nothing was to recover, the operation left alone what it isn't about
-abbrev pub LeavesOthers : SystemState → Operation → SystemState → Type 0
-LeavesOthers from op to = (s : Session) → from.state ≡ Healthy s → (ps qs : List Pair) → IsAccepted from.disk ps → IsAccepted to.disk qs → gstate_of ps ≡ no_gstate
-    → LeavesAlone from.disk ps s op to.disk qs
+abbrev pub LeavesBlocksOfOthersAlone : SystemState → Operation → SystemState → Type 0
+LeavesBlocksOfOthersAlone from op to = (s : Session) → from.state ≡ Healthy s → (ps qs : List Pair) → IsAcceptedImage from.disk ps → IsAcceptedImage to.disk qs → gstate_of ps ≡ zero_gstate
+    → LeavesUnrelatedBlocksUnchanged from.disk ps s op to.disk qs
 
 -- after an accepted stat the directories that it searched are cached, if they are small
-abbrev pub CachesSearched : Operation → Result Reply Error → SessionView → Type 0
-CachesSearched op r new = (path : List ℕ) (reply : Reply) → op ≡ ops.Stat path → r ≡ Ok reply → is_refusal reply ≡ false → (s : Session) → (system_state_of new).state ≡ Healthy s → (ps : List Pair) → IsAccepted new.tree.disk ps
-    → AreSmall ps (searched_directories op) → HasCached new.tree (searched_directories op)
+abbrev pub CachesSearchedDirectories : Operation → Result Reply Error → SessionView → Type 0
+CachesSearchedDirectories op r new = (path : List ℕ) (reply : Reply) → op ≡ ops.Stat path → r ≡ Ok reply → is_refusal reply ≡ false → (s : Session) → (system_state_of new).state ≡ Healthy s → (ps : List Pair) → IsAcceptedImage new.tree.disk ps
+    → AreFewDirectoriesOfOnePairEach ps (paths_of_searched_directories op) → HasCachedDirectories new.tree (paths_of_searched_directories op)
 
 -- How often a call reads: never where the session has the reply, seldom in a look-up.
-pub record ReadsSeldom (old : SessionView) (op : Operation) (r : Result Reply Error) (new : SessionView) : Type 0 where
+pub record MeetsReadBoundsOfCall (old : SessionView) (op : Operation) (r : Result Reply Error) (new : SessionView) : Type 0 where
   pub asked : is_answered_from_memory op ≡ true → new ≡ old
-  pub few : AsksFew (system_state_of old) op (system_state_of new)
-  pub none : looks_up op ≡ true → AddsNoReadsSince old.tree op new.tree
-  pub hand : CachesSearched op r new
+  pub few : AreReadsBoundedEvenOnError (system_state_of old) op (system_state_of new)
+  pub none : is_look_up_operation op ≡ true → CallsSinceReadNothingIfCached old.tree op new.tree
+  pub hand : CachesSearchedDirectories op r new
 
 -- A call that ends in that reply or error.
-pub record IsCall (old : SessionView) (op : Operation) (r : Result Reply Error) (new : SessionView) : Type 0 where
-  pub answers : Answers old op r new
-  pub ends : EndsWell old op r new
-  pub survives_loss : SurvivesLoss (system_state_of old) op (system_state_of new)
-  pub alone : is_err r ≡ false → LeavesOthers (system_state_of old) op (system_state_of new)
-  pub asks : ReadsSeldom old op r new
+pub record IsSessionCallWithResult (old : SessionView) (op : Operation) (r : Result Reply Error) (new : SessionView) : Type 0 where
+  pub answers : IsSessionStepOrFailure old op r new
+  pub ends : MeetsReplyRules old op r new
+  pub survives_loss : IsOperationSurvivingPowerLoss (system_state_of old) op (system_state_of new)
+  pub alone : is_err r ≡ false → LeavesBlocksOfOthersAlone (system_state_of old) op (system_state_of new)
+  pub asks : MeetsReadBoundsOfCall old op r new

@@ -4,14 +4,14 @@ use Rattle.std.specs.List.{list_any, position_or_len}
 use Rattle.std.specs.Option.{option_flatten, option_map}
 use Rattle.lfs_model.specs.TreeEdits.{bytes_at}
 use Rattle.lfs_model.specs.Session as session
-use Rattle.lfs_model.specs.Session.{ctz_blocks}
+use Rattle.lfs_model.specs.Session.{ctz_block_count}
 use Rattle.lfs_model.specs.Disk.{Disk}
 use Rattle.lfs_model.specs.Tree.{Path, Tree}
 use Rattle.lfs_tree.specs.TreeState.{TreeState, tree_view}
-use Rattle.lfs_writer.specs.Contents.{bytes_in}
+use Rattle.lfs_writer.specs.Contents.{contents_bytes_in_blocks}
 use Rattle.lfs_fs.specs.declared.files.Reader.{Reader}
 use Rattle.lfs_fs.specs.declared.files.Writer.{Writer}
-use Rattle.lfs_fs.specs.declared.files.Unsaved.{Unsaved}
+use Rattle.lfs_fs.specs.declared.files.UnsavedContents.{UnsavedContents}
 use Rattle.lfs_fs.specs.declared.files.OpenFile.{OpenFile}
 use Rattle.lfs_fs.specs.declared.files.OpenFile.TheVariants as file
 
@@ -24,112 +24,112 @@ OpenFiles = List (Option OpenFile)
 abbrev pub reader_view : Reader → session.Reader
 reader_view r = record { path = r.path; position = r.position }
 
-abbrev pub turned_in : Option Unsaved → Bool
-turned_in None = false
-turned_in (Some u) = u.has_turned
+abbrev pub is_unsaved_nonsequential : Option UnsavedContents → Bool
+is_unsaved_nonsequential None = false
+is_unsaved_nonsequential (Some u) = u.has_turned
 
-abbrev pub end_in : Option Unsaved → Option ℕ
-end_in None = None
-end_in (Some u) = u.last_end
+abbrev pub last_end_of_unsaved : Option UnsavedContents → Option ℕ
+last_end_of_unsaved None = None
+last_end_of_unsaved (Some u) = u.last_end
 
 -- the bytes of a writer: those of the file, where none were changed
-abbrev pub bytes_over : Disk → Tree → Path → Option Unsaved → List ℕ
-bytes_over disk tree path None = bytes_at (tree path)
-bytes_over disk tree path (Some u) = bytes_in disk.blocks disk.block_size u.contents
+abbrev pub writer_bytes_over_tree : Disk → Tree → Path → Option UnsavedContents → List ℕ
+writer_bytes_over_tree disk tree path None = bytes_at (tree path)
+writer_bytes_over_tree disk tree path (Some u) = contents_bytes_in_blocks disk.blocks disk.block_size u.contents
 
-abbrev pub writer_over : Disk → Tree → Writer → session.Writer
-writer_over disk tree w = record {
+abbrev pub writer_view_over_tree : Disk → Tree → Writer → session.Writer
+writer_view_over_tree disk tree w = record {
   path = w.path;
-  contents = bytes_over disk tree w.path w.unsaved;
+  contents = writer_bytes_over_tree disk tree w.path w.unsaved;
   position = w.position;
   append = w.appends;
   dirty = is_some w.unsaved;
-  turned = turned_in w.unsaved;
-  last_end = end_in w.unsaved;
+  turned = is_unsaved_nonsequential w.unsaved;
+  last_end = last_end_of_unsaved w.unsaved;
 }
 
-abbrev pub file_over : Disk → Tree → OpenFile → session.OpenFile
-file_over disk tree (file.Reading r) = session.Reading (reader_view r)
-file_over disk tree (file.Writing w) = session.Writing (writer_over disk tree w)
+abbrev pub open_file_view_over_tree : Disk → Tree → OpenFile → session.OpenFile
+open_file_view_over_tree disk tree (file.Reading r) = session.Reading (reader_view r)
+open_file_view_over_tree disk tree (file.Writing w) = session.Writing (writer_view_over_tree disk tree w)
 
-abbrev pub bytes_of : TreeState → Path → Option Unsaved → List ℕ
-bytes_of t path unsaved = bytes_over t.disk (tree_view t) path unsaved
+abbrev pub bytes_of_writer_at_path : TreeState → Path → Option UnsavedContents → List ℕ
+bytes_of_writer_at_path t path unsaved = writer_bytes_over_tree t.disk (tree_view t) path unsaved
 
 abbrev pub writer_view : TreeState → Writer → session.Writer
-writer_view t w = writer_over t.disk (tree_view t) w
+writer_view t w = writer_view_over_tree t.disk (tree_view t) w
 
-abbrev pub file_view : TreeState → OpenFile → session.OpenFile
-file_view t f = file_over t.disk (tree_view t) f
+abbrev pub open_file_view : TreeState → OpenFile → session.OpenFile
+open_file_view t f = open_file_view_over_tree t.disk (tree_view t) f
 
-abbrev pub files_view : TreeState → OpenFiles → session.Files
-files_view t files = map (option_map (file_over t.disk (tree_view t))) files
+abbrev pub open_files_view : TreeState → OpenFiles → session.Files
+open_files_view t files = map (option_map (open_file_view_over_tree t.disk (tree_view t))) files
 
 -- ---- as they are kept
 
 abbrev pub open_file_at : OpenFiles → ℕ → Option OpenFile
 open_file_at files fd = option_flatten (slice_get files fd)
 
-abbrev pub reader_in : Option OpenFile → Option Reader
-reader_in None = None
-reader_in (Some (file.Reading r)) = Some r
-reader_in (Some (file.Writing w)) = None
+abbrev pub open_file_as_reader : Option OpenFile → Option Reader
+open_file_as_reader None = None
+open_file_as_reader (Some (file.Reading r)) = Some r
+open_file_as_reader (Some (file.Writing w)) = None
 
-abbrev pub writer_in : Option OpenFile → Option Writer
-writer_in None = None
-writer_in (Some (file.Reading r)) = None
-writer_in (Some (file.Writing w)) = Some w
+abbrev pub open_file_as_writer : Option OpenFile → Option Writer
+open_file_as_writer None = None
+open_file_as_writer (Some (file.Reading r)) = None
+open_file_as_writer (Some (file.Writing w)) = Some w
 
-abbrev pub with_first : {A : Type 0} → Option A → List A → List A
-with_first None rest = rest
-with_first (Some x) rest = x ∷ rest
+abbrev pub prepended_if_some : {A : Type 0} → Option A → List A → List A
+prepended_if_some None rest = rest
+prepended_if_some (Some x) rest = x ∷ rest
 
-abbrev pub entries_picked : {A : Type 0} → (Option OpenFile → Option A) → OpenFiles → List A
-entries_picked kind [] = []
-entries_picked kind (f ∷ files) = with_first (kind f) (entries_picked kind files)
+abbrev pub open_files_selected_by : {A : Type 0} → (Option OpenFile → Option A) → OpenFiles → List A
+open_files_selected_by kind [] = []
+open_files_selected_by kind (f ∷ files) = prepended_if_some (kind f) (open_files_selected_by kind files)
 
-abbrev pub readers_in : OpenFiles → List Reader
-readers_in files = entries_picked reader_in files
+abbrev pub readers_among : OpenFiles → List Reader
+readers_among files = open_files_selected_by open_file_as_reader files
 
-abbrev pub writers_in : OpenFiles → List Writer
-writers_in files = entries_picked writer_in files
+abbrev pub writers_among : OpenFiles → List Writer
+writers_among files = open_files_selected_by open_file_as_writer files
 
 -- the paths of the writers
-abbrev pub written_paths : OpenFiles → List Path
-written_paths files = map (λ w. w.path) (writers_in files)
+abbrev pub paths_of_writers : OpenFiles → List Path
+paths_of_writers files = map (λ w. w.path) (writers_among files)
 
 -- the least number that isn't open
-abbrev pub free_entry : OpenFiles → ℕ
-free_entry files = position_or_len is_none files
+abbrev pub least_free_number : OpenFiles → ℕ
+least_free_number files = position_or_len is_none files
 
-abbrev pub put_entry : OpenFiles → ℕ → Option OpenFile → OpenFiles
-put_entry files fd entry = if nat_lt fd (length files) then slice_set files fd entry else files ++ entry ∷ []
+abbrev pub open_files_with_number_set : OpenFiles → ℕ → Option OpenFile → OpenFiles
+open_files_with_number_set files fd entry = if nat_lt fd (length files) then slice_set files fd entry else files ++ entry ∷ []
 
-abbrev pub moved_entry : ℕ → OpenFile → OpenFile
-moved_entry position (file.Reading r) = file.Reading (record r { position = position })
-moved_entry position (file.Writing w) = file.Writing (record w { position = position })
+abbrev pub open_file_with_position : ℕ → OpenFile → OpenFile
+open_file_with_position position (file.Reading r) = file.Reading (record r { position = position })
+open_file_with_position position (file.Writing w) = file.Writing (record w { position = position })
 
 -- how many blocks are held for contents of so many bytes that were changed
-abbrev pub held_for : ℕ → Bool → ℕ → ℕ
-held_for block_size turned size = 2 + (if turned then 2 else 1) * ctz_blocks block_size size
+abbrev pub blocks_reserved_for_size : ℕ → Bool → ℕ → ℕ
+blocks_reserved_for_size block_size turned size = 2 + (if turned then 2 else 1) * ctz_block_count block_size size
 
 -- how many blocks are held for a writer, by its size
-abbrev pub held_by_size : ℕ → Writer → ℕ
-held_by_size block_size w = if is_none w.unsaved then 0 else held_for block_size (turned_in w.unsaved) w.size
+abbrev pub blocks_reserved_by_writer : ℕ → Writer → ℕ
+blocks_reserved_by_writer block_size w = if is_none w.unsaved then 0 else blocks_reserved_for_size block_size (is_unsaved_nonsequential w.unsaved) w.size
 
-abbrev pub held_by_all : ℕ → OpenFiles → ℕ
-held_by_all block_size files = sum_by (held_by_size block_size) (writers_in files)
+abbrev pub blocks_reserved_by_writers : ℕ → OpenFiles → ℕ
+blocks_reserved_by_writers block_size files = sum_by (blocks_reserved_by_writer block_size) (writers_among files)
 
 -- a writer has changes that aren't in the tree
-abbrev pub has_unsaved : OpenFiles → Bool
-has_unsaved files = list_any (λ w. is_some w.unsaved) (writers_in files)
+abbrev pub has_unsaved_writer : OpenFiles → Bool
+has_unsaved_writer files = list_any (λ w. is_some w.unsaved) (writers_among files)
 
 -- a file is open at such a path
-abbrev pub is_entry_at : (Path → Bool) → Option OpenFile → Bool
-is_entry_at p None = false
-is_entry_at p (Some (file.Reading r)) = p r.path
-is_entry_at p (Some (file.Writing w)) = p w.path
+abbrev pub is_open_at_path_such_that : (Path → Bool) → Option OpenFile → Bool
+is_open_at_path_such_that p None = false
+is_open_at_path_such_that p (Some (file.Reading r)) = p r.path
+is_open_at_path_such_that p (Some (file.Writing w)) = p w.path
 
-abbrev pub is_unsaved_entry : Option OpenFile → Bool
-is_unsaved_entry None = false
-is_unsaved_entry (Some (file.Reading r)) = false
-is_unsaved_entry (Some (file.Writing w)) = is_some w.unsaved
+abbrev pub is_unsaved_writer : Option OpenFile → Bool
+is_unsaved_writer None = false
+is_unsaved_writer (Some (file.Reading r)) = false
+is_unsaved_writer (Some (file.Writing w)) = is_some w.unsaved

@@ -3,9 +3,9 @@ use Rattle.std.specs.Prelude.{◌≡◌, true, map, Result, Ok, Err}
 use Rattle.lfs_device.specs.declared.error.Error.{Error}
 use Rattle.lfs_model.specs.Operations as ops
 use Rattle.lfs_model.specs.Operations.{Operation}
-use Rattle.lfs_lookup.specs.Refusals.{is_refusal, refusal_in}
+use Rattle.lfs_lookup.specs.Refusals.{is_refusal, refusal_of_error}
 use Rattle.lfs_lookup.specs.Finds.{list_item_view, stat_view}
-use Rattle.lfs_fs.specs.GstateView.{gstate_reply}
+use Rattle.lfs_fs.specs.GstateView.{reply_of_returned_gstate}
 use Rattle.lfs_fs.specs.FlagsView.{flags_view}
 use Rattle.lfs_fs.specs.declared.run.Op.{Op}
 use Rattle.lfs_fs.specs.declared.run.Op.TheVariants as op
@@ -41,16 +41,16 @@ reply_view (reply.Bytes bytes) = ops.Bytes bytes.items
 reply_view (reply.Count count) = ops.Count count
 reply_view (reply.Items items) = ops.Items (map list_item_view items.items)
 reply_view (reply.Stat stat) = ops.StatIs (stat_view stat)
-reply_view (reply.Gstate gstate) = gstate_reply gstate
+reply_view (reply.Gstate gstate) = reply_of_returned_gstate gstate
 reply_view (reply.Yes is) = ops.Yes is
-reply_view (reply.Refused error) = ops.Refused (refusal_in error)
+reply_view (reply.Refused error) = ops.Refused (refusal_of_error error)
 
 -- a reply that refuses names an error that is a refusal
-abbrev pub NamesRefusal : Reply → Type 0
-NamesRefusal (reply.Refused error) = is_refusal error ≡ true
-NamesRefusal _ = Unit {0}
+abbrev pub RefusesOnlyWithRefusalError : Reply → Type 0
+RefusesOnlyWithRefusalError (reply.Refused error) = is_refusal error ≡ true
+RefusesOnlyWithRefusalError _ = Unit {0}
 
 -- the reply, or the error in its place
-abbrev pub performed : Result Reply Error → Result ops.Reply Error
-performed (Ok r) = Ok (reply_view r)
-performed (Err e) = Err e
+abbrev pub reply_result_view : Result Reply Error → Result ops.Reply Error
+reply_result_view (Ok r) = Ok (reply_view r)
+reply_result_view (Err e) = Err e

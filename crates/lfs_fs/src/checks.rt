@@ -2,23 +2,23 @@
 
 ghost use Rattle.std.specs.Prelude.{if◌then◌else◌, nat_lt, ◌+◌, ◌≡◌, ◌<◌, ◌^◌, ℕ, List, [], length, map, true, false, is_some, unwrap_or};
 ghost use Rattle.lfs_model.specs.Operations as ops;
-ghost use Rattle.lfs_model.specs.Session.{is_overcharged};
+ghost use Rattle.lfs_model.specs.Session.{is_entry_over_charge_limit};
 ghost use Rattle.lfs_model.specs.Disk.{block_count};
-ghost use Rattle.lfs_fs.specs.FileView.{open_file_at, files_view, held_by_all, held_for, writer_in};
-ghost use Rattle.lfs_model.specs.Refusals.{as_path};
-ghost use Rattle.lfs_model.specs.Effects.{items_in, node_size};
+ghost use Rattle.lfs_fs.specs.FileView.{open_file_at, open_files_view, blocks_reserved_by_writers, blocks_reserved_for_size, open_file_as_writer};
+ghost use Rattle.lfs_model.specs.Refusals.{path_or_root};
+ghost use Rattle.lfs_model.specs.Effects.{items_in, file_size_of_node};
 ghost use Rattle.lfs_fs.specs.FlagsView.{flags_view};
-ghost use Rattle.lfs_model.specs.TreeEdits.{attributes_of};
-ghost use Rattle.lfs_model.specs.Content.{attribute_of};
-ghost use Rattle.lfs_fs.specs.EntryPaths.{entry_path};
-ghost use Rattle.lfs_fs.specs.SessionView.{Checks, ChecksWithoutReads, IsOpening, IsReadableAs, IsReady, session_view_of};
-ghost use Rattle.lfs_fs.specs.LookUps.{AddsFewReads, AddsNoReads, LeavesCachedBeneath};
+ghost use Rattle.lfs_model.specs.TreeEdits.{attributes_of_node};
+ghost use Rattle.lfs_model.specs.Content.{attribute_bytes_of_type};
+ghost use Rattle.lfs_fs.specs.EntryPaths.{path_of_bytes_unless_root};
+ghost use Rattle.lfs_fs.specs.SessionView.{ChecksOperation, ChecksWithoutReads, IsOpeningToWrite, IsReadablePathWithContents, IsSessionReadyForCalls, session_view_of_tree_and_files};
+ghost use Rattle.lfs_fs.specs.LookUps.{ReadsAtMostSearchedPairs, AddsNoReadsWhereCached, CachesSmallSearchedDirectories};
 ghost use Rattle.lfs_lookup.specs.Finds.{list_item_view, stat_view};
-ghost use Rattle.lfs_tree.specs.TreeState.{surroundings_of, tree_view};
+ghost use Rattle.lfs_tree.specs.TreeState.{disk_summary_of_tree, tree_view};
 ghost use Rattle.lfs_model.specs.Slots.{Attributes, attributes_size};
-ghost use Rattle.lfs_fs.specs.Replacements.{CanReplace, replaced_size};
+ghost use Rattle.lfs_fs.specs.Replacements.{IsReplacedAmongAttributes, replaced_attribute_size};
 
-use crate::check_order::{both, unless_refused};
+use crate::check_order::{both, value_unless_checks_refuse};
 use crate::files::{Files, held_for};
 use crate::flags::OpenFlags;
 use bitflags::Flags;
@@ -31,20 +31,20 @@ use std::alloc::Global;
 // Returns whether a new entry with a name of that length takes too much of its pair.
 fn is_overcharged<D: BlockDevice>(tree: &Tree<D>, name_len: usize) -> bool
     requires { name_len < 2 ^ 63 }
-    ensures { (name : List ℕ) → length name ≡ name_len → result ≡ is_overcharged (surroundings_of tree.now) name [] }
+    ensures { (name : List ℕ) → length name ≡ name_len → result ≡ is_entry_over_charge_limit (disk_summary_of_tree tree.now) name [] }
 {
-    is_overcharged_with(tree, name_len, 0)
+    is_overcharged_with_attributes(tree, name_len, 0)
 }
 
 // Returns whether an entry takes too much of its pair, by the length of its name and the size of
 // its attributes.
-pub(crate) fn is_overcharged_with<D: BlockDevice>(
+pub(crate) fn is_overcharged_with_attributes<D: BlockDevice>(
     tree: &Tree<D>,
     name_len: usize,
     attributes_len: usize,
 ) -> bool
     requires { name_len < 2 ^ 63 }
-    ensures { (name : List ℕ) (attributes : Attributes) → length name ≡ name_len → attributes_size attributes ≡ attributes_len → result ≡ is_overcharged (surroundings_of tree.now) name attributes }
+    ensures { (name : List ℕ) (attributes : Attributes) → length name ≡ name_len → attributes_size attributes ≡ attributes_len → result ≡ is_entry_over_charge_limit (disk_summary_of_tree tree.now) name attributes }
 {
     let geometry = tree.geometry();
     let entry = 4 + name_len as u64 + (4 + u64::from(geometry.inline_limit()));
@@ -55,7 +55,7 @@ pub(crate) fn is_overcharged_with<D: BlockDevice>(
 pub(crate) fn lacks<D: BlockDevice>(tree: &Tree<D>, files: &Files, need: u32) -> bool
     requires works { tree.now.failed ≡ false }
     requires small { need < 16 }
-    ensures { result ≡ nat_lt (block_count tree.now.disk) (length (surroundings_of tree.now).used + held_by_all tree.now.disk.block_size files.now + need) }
+    ensures { result ≡ nat_lt (block_count tree.now.disk) (length (disk_summary_of_tree tree.now).used + blocks_reserved_by_writers tree.now.disk.block_size files.now + need) }
 {
     let held = files.held(tree.geometry());
     (tree.geometry().block_count as u64) < tree.used_count() as u64 + held + need as u64
@@ -68,10 +68,10 @@ pub fn check_stat<D: BlockDevice>(
     files: &Files,
     bytes: &[u8],
 ) -> Result<Stat, Error>
-    ensures checks { Checks (session_view_of tree.old files.now) (ops.Stat bytes.now) (λ stat. node_size (tree_view tree.old (as_path bytes.now)) ≡ stat_view stat) result tree.new }
-    ensures few { AddsFewReads tree.old (ops.Stat bytes.now) tree.new }
-    ensures kept { AddsNoReads tree.old (ops.Stat bytes.now) tree.new }
-    ensures hand { LeavesCachedBeneath tree.old (ops.Stat bytes.now) result tree.new }
+    ensures checks { ChecksOperation (session_view_of_tree_and_files tree.old files.now) (ops.Stat bytes.now) (λ stat. file_size_of_node (tree_view tree.old (path_or_root bytes.now)) ≡ stat_view stat) result tree.new }
+    ensures few { ReadsAtMostSearchedPairs tree.old (ops.Stat bytes.now) tree.new }
+    ensures kept { AddsNoReadsWhereCached tree.old (ops.Stat bytes.now) tree.new }
+    ensures hand { CachesSmallSearchedDirectories tree.old (ops.Stat bytes.now) result tree.new }
 {
     if tree.has_failed() {
         return Err(Error::Failed);
@@ -84,7 +84,7 @@ pub fn check_stat<D: BlockDevice>(
         found.fault,
         refuse_if(found.node.is_nothing(), Error::NoEnt),
     ];
-    unless_refused(&checks, Stat::from_size(found.node.size()))
+    value_unless_checks_refuse(&checks, Stat::from_size(found.node.size()))
 }
 
 /// Returns the path at which a directory may be made, where no check refuses it.
@@ -94,8 +94,8 @@ pub fn check_mkdir<'a, D: BlockDevice>(
     files: &Files,
     bytes: &'a [u8],
 ) -> Result<Path<'a>, Error>
-    requires { tree.old.failed ≡ false → IsReady tree.old files.now }
-    ensures { Checks (session_view_of tree.old files.now) (ops.Mkdir bytes.now) (λ path. path ≡ as_path bytes.now) result tree.new }
+    requires { tree.old.failed ≡ false → IsSessionReadyForCalls tree.old files.now }
+    ensures { ChecksOperation (session_view_of_tree_and_files tree.old files.now) (ops.Mkdir bytes.now) (λ path. path ≡ path_or_root bytes.now) result tree.new }
 {
     if tree.has_failed() {
         return Err(Error::Failed);
@@ -117,7 +117,7 @@ pub fn check_mkdir<'a, D: BlockDevice>(
         refuse_if(is_overcharged(tree, path.name_len()), Error::EntryFull),
         refuse_if(lacks(tree, files, 4), Error::NoSpace),
     ];
-    unless_refused(&checks, path)
+    value_unless_checks_refuse(&checks, path)
 }
 
 /// Checks whether the open file of that number may have the position.
@@ -127,7 +127,7 @@ pub fn check_seek<D: BlockDevice>(
     fd: u32,
     position: u32,
 ) -> Result<(), Error>
-    ensures { ChecksWithoutReads (session_view_of tree.now files.now) (ops.Seek fd position) (λ _. is_some (open_file_at files.now fd) ≡ true) result }
+    ensures { ChecksWithoutReads (session_view_of_tree_and_files tree.now files.now) (ops.Seek fd position) (λ _. is_some (open_file_at files.now fd) ≡ true) result }
 {
     if tree.has_failed() {
         return Err(Error::Failed);
@@ -150,7 +150,7 @@ pub fn check_open_reader<D: BlockDevice>(
     flags: OpenFlags,
 ) -> Result<FileContents, Error>
     requires { (flags_view flags).write ≡ false }
-    ensures { Checks (session_view_of tree.old files.now) (ops.Open bytes.now (flags_view flags)) (IsReadableAs tree.old (files_view tree.old files.now) bytes.now) result tree.new }
+    ensures { ChecksOperation (session_view_of_tree_and_files tree.old files.now) (ops.Open bytes.now (flags_view flags)) (IsReadablePathWithContents tree.old (open_files_view tree.old files.now) bytes.now) result tree.new }
 {
     if tree.has_failed() {
         return Err(Error::Failed);
@@ -170,7 +170,7 @@ pub fn check_open_reader<D: BlockDevice>(
         refuse_if(files.is_busy_for_reading(bytes), Error::Busy),
     ];
     let none = FileContents::Inline(Vec::new(alloc));
-    unless_refused(&checks, contents.unwrap_or(none))
+    value_unless_checks_refuse(&checks, contents.unwrap_or(none))
 }
 
 /// A file that may be opened for writing.
@@ -182,9 +182,9 @@ pub struct Opening<'a> {
 }
 
 // Returns whether there is no room to write a file of that size anew.
-fn overfills_anew<D: BlockDevice>(tree: &Tree<D>, size: Option<u32>) -> bool
+fn lacks_room_to_replace<D: BlockDevice>(tree: &Tree<D>, size: Option<u32>) -> bool
     requires { tree.now.failed ≡ false }
-    ensures { result ≡ nat_lt (block_count tree.now.disk) (length (surroundings_of tree.now).used + (if nat_lt 0 (unwrap_or size 0) then 2 else 0)) }
+    ensures { result ≡ nat_lt (block_count tree.now.disk) (length (disk_summary_of_tree tree.now).used + (if nat_lt 0 (unwrap_or size 0) then 2 else 0)) }
 {
     let need = if size.unwrap_or(0) > 0 { 2 } else { 0 };
     (tree.geometry().block_count as u64) < tree.used_count() as u64 + need
@@ -199,8 +199,8 @@ pub fn check_open_writer<'a, D: BlockDevice>(
     flags: OpenFlags,
 ) -> Result<Opening<'a>, Error>
     requires write { (flags_view flags).write ≡ true }
-    requires ready { tree.old.failed ≡ false → IsReady tree.old files.now }
-    ensures { Checks (session_view_of tree.old files.now) (ops.Open bytes.now (flags_view flags)) (λ found. IsOpening (tree_view tree.old) bytes.now found) result tree.new }
+    requires ready { tree.old.failed ≡ false → IsSessionReadyForCalls tree.old files.now }
+    ensures { ChecksOperation (session_view_of_tree_and_files tree.old files.now) (ops.Open bytes.now (flags_view flags)) (λ found. IsOpeningToWrite (tree_view tree.old) bytes.now found) result tree.new }
 {
     if tree.has_failed() {
         return Err(Error::Failed);
@@ -238,14 +238,17 @@ pub fn check_open_writer<'a, D: BlockDevice>(
             Error::EntryFull,
         ),
         refuse_if(both(is_absent, lacks(tree, files, 2)), Error::NoSpace),
-        refuse_if(both(truncates, overfills_anew(tree, size)), Error::NoSpace),
+        refuse_if(
+            both(truncates, lacks_room_to_replace(tree, size)),
+            Error::NoSpace,
+        ),
     ];
-    unless_refused(&checks, Opening { path, size })
+    value_unless_checks_refuse(&checks, Opening { path, size })
 }
 
 // Returns the path of these bytes, if it is well formed and isn't the root's.
-pub(crate) fn parse_entry<'a>(bytes: &'a [u8]) -> Option<Path<'a>>
-    ensures { result ≡ entry_path bytes.now }
+pub(crate) fn parse_path_unless_root<'a>(bytes: &'a [u8]) -> Option<Path<'a>>
+    ensures { result ≡ path_of_bytes_unless_root bytes.now }
 {
     if bytes.len() == 1 {
         None
@@ -261,9 +264,9 @@ pub fn check_list<D: BlockDevice>(
     files: &Files,
     bytes: &[u8],
 ) -> Result<Vec<ListItem>, Error>
-    ensures checks { Checks (session_view_of tree.old files.now) (ops.ListAll bytes.now) (λ items. items_in (tree_view tree.old) (as_path bytes.now) ≡ map list_item_view items.items) result tree.new }
-    ensures few { AddsFewReads tree.old (ops.ListAll bytes.now) tree.new }
-    ensures kept { AddsNoReads tree.old (ops.ListAll bytes.now) tree.new }
+    ensures checks { ChecksOperation (session_view_of_tree_and_files tree.old files.now) (ops.ListAll bytes.now) (λ items. items_in (tree_view tree.old) (path_or_root bytes.now) ≡ map list_item_view items.items) result tree.new }
+    ensures few { ReadsAtMostSearchedPairs tree.old (ops.ListAll bytes.now) tree.new }
+    ensures kept { AddsNoReadsWhereCached tree.old (ops.ListAll bytes.now) tree.new }
 {
     if tree.has_failed() {
         return Err(Error::Failed);
@@ -278,7 +281,7 @@ pub fn check_list<D: BlockDevice>(
         refuse_if(node.is_nothing(), Error::NoEnt),
         refuse_if(node.is_file(), Error::NotDir),
     ];
-    unless_refused(&checks, listing.items)
+    value_unless_checks_refuse(&checks, listing.items)
 }
 
 /// Returns an attribute's bytes, where no check refuses the path.
@@ -289,14 +292,14 @@ pub fn check_get_attr<D: BlockDevice>(
     bytes: &[u8],
     kind: u8,
 ) -> Result<Vec<u8>, Error>
-    ensures checks { Checks (session_view_of tree.old files.now) (ops.GetAttr bytes.now kind) (λ v. unwrap_or (attribute_of kind (attributes_of (tree_view tree.old (as_path bytes.now)))) [] ≡ v.items) result tree.new }
-    ensures few { AddsFewReads tree.old (ops.GetAttr bytes.now kind) tree.new }
-    ensures kept { AddsNoReads tree.old (ops.GetAttr bytes.now kind) tree.new }
+    ensures checks { ChecksOperation (session_view_of_tree_and_files tree.old files.now) (ops.GetAttr bytes.now kind) (λ v. unwrap_or (attribute_bytes_of_type kind (attributes_of_node (tree_view tree.old (path_or_root bytes.now)))) [] ≡ v.items) result tree.new }
+    ensures few { ReadsAtMostSearchedPairs tree.old (ops.GetAttr bytes.now kind) tree.new }
+    ensures kept { AddsNoReadsWhereCached tree.old (ops.GetAttr bytes.now kind) tree.new }
 {
     if tree.has_failed() {
         return Err(Error::Failed);
     }
-    let Some(path) = parse_entry(bytes) else {
+    let Some(path) = parse_path_unless_root(bytes) else {
         return Err(Error::Invalid);
     };
     let found = tree.get_attr(alloc, &path, kind)?;
@@ -305,7 +308,7 @@ pub fn check_get_attr<D: BlockDevice>(
         refuse_if(found.finding.node.is_nothing(), Error::NoEnt),
         refuse_if(found.bytes.is_none(), Error::NoAttr),
     ];
-    unless_refused(&checks, found.bytes.unwrap_or(Vec::new(alloc)))
+    value_unless_checks_refuse(&checks, found.bytes.unwrap_or(Vec::new(alloc)))
 }
 
 /// Returns the path of an entry that has the attribute, where no check refuses it.
@@ -316,7 +319,7 @@ pub fn check_remove_attr<'a, D: BlockDevice>(
     bytes: &'a [u8],
     kind: u8,
 ) -> Result<Path<'a>, Error>
-    ensures { Checks (session_view_of tree.old files.now) (ops.RemoveAttr bytes.now kind) (λ path. path ≡ as_path bytes.now) result tree.new }
+    ensures { ChecksOperation (session_view_of_tree_and_files tree.old files.now) (ops.RemoveAttr bytes.now kind) (λ path. path ≡ path_or_root bytes.now) result tree.new }
 {
     if tree.has_failed() {
         return Err(Error::Failed);
@@ -324,7 +327,7 @@ pub fn check_remove_attr<'a, D: BlockDevice>(
     if !tree.is_writable() {
         return Err(Error::ReadOnly);
     }
-    let Some(path) = parse_entry(bytes) else {
+    let Some(path) = parse_path_unless_root(bytes) else {
         return Err(Error::Invalid);
     };
     let found = tree.get_attr(alloc, &path, kind)?;
@@ -333,7 +336,7 @@ pub fn check_remove_attr<'a, D: BlockDevice>(
         refuse_if(found.finding.node.is_nothing(), Error::NoEnt),
         refuse_if(found.bytes.is_none(), Error::NoAttr),
     ];
-    unless_refused(&checks, path)
+    value_unless_checks_refuse(&checks, path)
 }
 
 /// Returns the path of a file, or of a directory without entries, that isn't open, where no check
@@ -344,7 +347,7 @@ pub fn check_remove<'a, D: BlockDevice>(
     files: &Files,
     bytes: &'a [u8],
 ) -> Result<Path<'a>, Error>
-    ensures { Checks (session_view_of tree.old files.now) (ops.Remove bytes.now) (λ path. path ≡ as_path bytes.now) result tree.new }
+    ensures { ChecksOperation (session_view_of_tree_and_files tree.old files.now) (ops.Remove bytes.now) (λ path. path ≡ path_or_root bytes.now) result tree.new }
 {
     if tree.has_failed() {
         return Err(Error::Failed);
@@ -352,7 +355,7 @@ pub fn check_remove<'a, D: BlockDevice>(
     if !tree.is_writable() {
         return Err(Error::ReadOnly);
     }
-    let Some(path) = parse_entry(bytes) else {
+    let Some(path) = parse_path_unless_root(bytes) else {
         return Err(Error::Invalid);
     };
     let inside = tree.look_inside(alloc, &path)?;
@@ -362,13 +365,13 @@ pub fn check_remove<'a, D: BlockDevice>(
         refuse_if(inside.has_entries, Error::NotEmpty),
         refuse_if(files.is_open_at(bytes), Error::Busy),
     ];
-    unless_refused(&checks, path)
+    value_unless_checks_refuse(&checks, path)
 }
 
 // Returns how many bytes attributes take after one of them was replaced by another of that length.
-fn size_with(taken: usize, replaced: &Option<Vec<u8>>, len: usize) -> usize
-    requires { CanReplace taken replaced.now len }
-    ensures { result + replaced_size replaced.now ≡ taken + (4 + len) }
+fn attributes_size_after_replacement(taken: usize, replaced: &Option<Vec<u8>>, len: usize) -> usize
+    requires { IsReplacedAmongAttributes taken replaced.now len }
+    ensures { result + replaced_attribute_size replaced.now ≡ taken + (4 + len) }
 {
     let gone = match replaced {
         Some(bytes) => 4 + bytes.len(),
@@ -386,8 +389,8 @@ pub fn check_set_attr<'a, D: BlockDevice>(
     kind: u8,
     value: &[u8],
 ) -> Result<Path<'a>, Error>
-    requires { tree.old.failed ≡ false → IsReady tree.old files.now }
-    ensures { Checks (session_view_of tree.old files.now) (ops.SetAttr bytes.now kind value.now) (λ path. path ≡ as_path bytes.now) result tree.new }
+    requires { tree.old.failed ≡ false → IsSessionReadyForCalls tree.old files.now }
+    ensures { ChecksOperation (session_view_of_tree_and_files tree.old files.now) (ops.SetAttr bytes.now kind value.now) (λ path. path ≡ path_or_root bytes.now) result tree.new }
 {
     if tree.has_failed() {
         return Err(Error::Failed);
@@ -395,29 +398,29 @@ pub fn check_set_attr<'a, D: BlockDevice>(
     if !tree.is_writable() {
         return Err(Error::ReadOnly);
     }
-    let Some(path) = parse_entry(bytes) else {
+    let Some(path) = parse_path_unless_root(bytes) else {
         return Err(Error::Invalid);
     };
     let found = tree.get_attr(alloc, &path, kind)?;
     let taken = tree.attributes_size(alloc, &path)?;
-    let size = size_with(taken, &found.bytes, value.len());
+    let size = attributes_size_after_replacement(taken, &found.bytes, value.len());
     let checks = [
         found.finding.fault,
         refuse_if(found.finding.node.is_nothing(), Error::NoEnt),
         refuse_if(value.len() > Superblock::ATTR_MAX as usize, Error::TooBig),
         refuse_if(
-            is_overcharged_with(tree, path.name_len(), size),
+            is_overcharged_with_attributes(tree, path.name_len(), size),
             Error::EntryFull,
         ),
         refuse_if(lacks(tree, files, 2), Error::NoSpace),
     ];
-    unless_refused(&checks, path)
+    value_unless_checks_refuse(&checks, path)
 }
 
 // Returns whether there is no room for the blocks that a writer would hold.
 fn overfills<D: BlockDevice>(tree: &Tree<D>, has_turned: bool, size: u32) -> bool
     requires { tree.now.failed ≡ false }
-    ensures { result ≡ nat_lt (block_count tree.now.disk) (length (surroundings_of tree.now).used + held_for tree.now.disk.block_size has_turned size) }
+    ensures { result ≡ nat_lt (block_count tree.now.disk) (length (disk_summary_of_tree tree.now).used + blocks_reserved_for_size tree.now.disk.block_size has_turned size) }
 {
     let held = held_for(tree.geometry(), has_turned, size);
     (tree.geometry().block_count as u64) < tree.used_count() as u64 + held
@@ -430,8 +433,8 @@ pub fn check_write<D: BlockDevice>(
     fd: u32,
     bytes: &[u8],
 ) -> Result<(), Error>
-    requires { tree.now.failed ≡ false → IsReady tree.now files.now }
-    ensures { ChecksWithoutReads (session_view_of tree.now files.now) (ops.Write fd bytes.now) (λ _. is_some (writer_in (open_file_at files.now fd)) ≡ true) result }
+    requires { tree.now.failed ≡ false → IsSessionReadyForCalls tree.now files.now }
+    ensures { ChecksWithoutReads (session_view_of_tree_and_files tree.now files.now) (ops.Write fd bytes.now) (λ _. is_some (open_file_as_writer (open_file_at files.now fd)) ≡ true) result }
 {
     if tree.has_failed() {
         return Err(Error::Failed);
@@ -447,7 +450,11 @@ pub fn check_write<D: BlockDevice>(
         return Err(Error::TooBig);
     }
     let size = writer.size.max(place + bytes.len() as u32);
-    if overfills(tree, writer.has_turned_at(place.min(writer.size)), size) {
+    if overfills(
+        tree,
+        writer.is_nonsequential_after_change_at(place.min(writer.size)),
+        size,
+    ) {
         return Err(Error::NoSpace);
     }
     Ok(())
@@ -460,8 +467,8 @@ pub fn check_truncate<D: BlockDevice>(
     fd: u32,
     size: u32,
 ) -> Result<(), Error>
-    requires { tree.now.failed ≡ false → IsReady tree.now files.now }
-    ensures { ChecksWithoutReads (session_view_of tree.now files.now) (ops.Truncate fd size) (λ _. is_some (writer_in (open_file_at files.now fd)) ≡ true) result }
+    requires { tree.now.failed ≡ false → IsSessionReadyForCalls tree.now files.now }
+    ensures { ChecksWithoutReads (session_view_of_tree_and_files tree.now files.now) (ops.Truncate fd size) (λ _. is_some (open_file_as_writer (open_file_at files.now fd)) ≡ true) result }
 {
     if tree.has_failed() {
         return Err(Error::Failed);
@@ -472,15 +479,19 @@ pub fn check_truncate<D: BlockDevice>(
     if size > Superblock::FILE_MAX {
         return Err(Error::TooBig);
     }
-    if size != writer.size && overfills(tree, writer.has_turned_by_size(), size) {
+    if size != writer.size && overfills(tree, writer.is_nonsequential_after_resize(), size) {
         return Err(Error::NoSpace);
     }
     Ok(())
 }
 
 /// Checks whether a file is open under the number.
-pub fn check_open<D: BlockDevice>(tree: &Tree<D>, files: &Files, fd: u32) -> Result<(), Error>
-    ensures { ChecksWithoutReads (session_view_of tree.now files.now) (ops.Close fd) (λ _. is_some (open_file_at files.now fd) ≡ true) result }
+pub fn check_is_file_open<D: BlockDevice>(
+    tree: &Tree<D>,
+    files: &Files,
+    fd: u32,
+) -> Result<(), Error>
+    ensures { ChecksWithoutReads (session_view_of_tree_and_files tree.now files.now) (ops.Close fd) (λ _. is_some (open_file_at files.now fd) ≡ true) result }
 {
     if tree.has_failed() {
         return Err(Error::Failed);
@@ -493,7 +504,7 @@ pub fn check_open<D: BlockDevice>(tree: &Tree<D>, files: &Files, fd: u32) -> Res
 
 /// Checks whether a file is open under the number, for a sync.
 pub fn check_sync<D: BlockDevice>(tree: &Tree<D>, files: &Files, fd: u32) -> Result<(), Error>
-    ensures { ChecksWithoutReads (session_view_of tree.now files.now) (ops.Sync fd) (λ _. is_some (open_file_at files.now fd) ≡ true) result }
+    ensures { ChecksWithoutReads (session_view_of_tree_and_files tree.now files.now) (ops.Sync fd) (λ _. is_some (open_file_at files.now fd) ≡ true) result }
 {
     if tree.has_failed() {
         return Err(Error::Failed);

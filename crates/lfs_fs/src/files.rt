@@ -4,19 +4,19 @@ ghost use Rattle.std.specs.Prelude.{◌==◌, ℕ, if◌then◌else◌, nat_lt, 
 ghost use Rattle.std.specs.List.{list_any};
 ghost use Rattle.std.specs.Option.{option_flatten, option_map};
 ghost use Rattle.lfs_model.specs.TreeEdits.{same_path};
-ghost use Rattle.lfs_model.specs.Operations.{path_of};
-ghost use Rattle.lfs_model.specs.Session.{is_open_at};
+ghost use Rattle.lfs_model.specs.Operations.{path_of_bytes};
+ghost use Rattle.lfs_model.specs.Session.{has_open_file_at};
 ghost use Rattle.lfs_model.specs.Writers.{turns};
-ghost use Rattle.lfs_model.specs.Refusals.{as_path, bad_entry};
-ghost use Rattle.lfs_fs.specs.RenamePaths.{is_in_the_way};
+ghost use Rattle.lfs_model.specs.Refusals.{path_or_root, is_root_or_invalid_path};
+ghost use Rattle.lfs_fs.specs.RenamePaths.{prevents_rename};
 ghost use Rattle.lfs_tree.specs.TreeState.{TreeState};
-ghost use Rattle.lfs_fs.specs.FileView.{end_in, open_file_at, files_view, is_entry_at, is_unsaved_entry, free_entry, held_by_all, held_by_size, held_for, moved_entry, put_entry, reader_in, readers_in, turned_in, writer_in, writers_in};
+ghost use Rattle.lfs_fs.specs.FileView.{last_end_of_unsaved, open_file_at, open_files_view, is_open_at_path_such_that, is_unsaved_writer, least_free_number, blocks_reserved_by_writers, blocks_reserved_by_writer, blocks_reserved_for_size, open_file_with_position, open_files_with_number_set, open_file_as_reader, readers_among, is_unsaved_nonsequential, open_file_as_writer, writers_among};
 
 use crate::owned_path::OwnedPath;
 use lfs_ctz::blocks_for;
 use lfs_device::{Error, Geometry};
 use lfs_lookup::FileContents;
-use lfs_writer::Contents;
+use lfs_writer::WriterContents;
 use std::alloc::Global;
 use std::marker::Model;
 
@@ -42,13 +42,13 @@ pub struct Writer {
     /// Whether the writer writes at the end only.
     pub appends: bool,
     /// The changes that aren't in the tree yet. None where the contents are those of the file.
-    pub unsaved: Option<Unsaved>,
+    pub unsaved: Option<UnsavedContents>,
 }
 
 /// Contents of a writer that were changed.
 #[derive(Drop)]
-pub struct Unsaved {
-    pub contents: Contents,
+pub struct UnsavedContents {
+    pub contents: WriterContents,
     /// Whether a change began elsewhere than at the end of the last one. The writer is then
     /// nonsequential.
     pub has_turned: bool,
@@ -75,18 +75,18 @@ impl Writer {
     }
 
     /// Returns whether the writer is nonsequential after a change that begins there.
-    pub fn has_turned_at(&self, begin: u32) -> bool
-        ensures { result ≡ (turned_in self.now.unsaved || turns (end_in self.now.unsaved) begin) }
+    pub fn is_nonsequential_after_change_at(&self, begin: u32) -> bool
+        ensures { result ≡ (is_unsaved_nonsequential self.now.unsaved || turns (last_end_of_unsaved self.now.unsaved) begin) }
     {
         match &self.unsaved {
-            Some(unsaved) => unsaved.has_turned || is_elsewhere(unsaved.last_end, begin),
+            Some(unsaved) => unsaved.has_turned || is_write_elsewhere(unsaved.last_end, begin),
             None => false,
         }
     }
 
     /// Returns whether the writer is nonsequential after its contents get another size.
-    pub fn has_turned_by_size(&self) -> bool
-        ensures { result ≡ (turned_in self.now.unsaved || is_some (end_in self.now.unsaved)) }
+    pub fn is_nonsequential_after_resize(&self) -> bool
+        ensures { result ≡ (is_unsaved_nonsequential self.now.unsaved || is_some (last_end_of_unsaved self.now.unsaved)) }
     {
         match &self.unsaved {
             Some(unsaved) => unsaved.has_turned || unsaved.last_end.is_some(),
@@ -95,18 +95,18 @@ impl Writer {
     }
 
     /// Returns where the last change ends after the contents get that size.
-    pub fn end_by_size(&self, new_size: u32) -> Option<u32>
-        ensures { result ≡ (if nat_lt self.now.size new_size then Some new_size else end_in self.now.unsaved) }
+    pub fn last_end_after_resize(&self, new_size: u32) -> Option<u32>
+        ensures { result ≡ (if nat_lt self.now.size new_size then Some new_size else last_end_of_unsaved self.now.unsaved) }
     {
         match &self.unsaved {
-            Some(unsaved) => end_after(self.size, new_size, unsaved.last_end),
-            None => end_after(self.size, new_size, None),
+            Some(unsaved) => last_end_for_new_size(self.size, new_size, unsaved.last_end),
+            None => last_end_for_new_size(self.size, new_size, None),
         }
     }
 
     // Returns how many blocks are held for the writer.
     fn held(&self, geometry: Geometry) -> u64
-        ensures held { result ≡ held_by_size geometry.block_size self.now }
+        ensures held { result ≡ blocks_reserved_by_writer geometry.block_size self.now }
         ensures few { result < 2 ^ 34 }
     {
         match &self.unsaved {
@@ -116,7 +116,7 @@ impl Writer {
     }
 }
 
-fn end_after(size: u32, new_size: u32, last_end: Option<u32>) -> Option<u32>
+fn last_end_for_new_size(size: u32, new_size: u32, last_end: Option<u32>) -> Option<u32>
     ensures { result ≡ (if nat_lt size new_size then Some new_size else last_end) }
 {
     if size < new_size {
@@ -126,7 +126,7 @@ fn end_after(size: u32, new_size: u32, last_end: Option<u32>) -> Option<u32>
     }
 }
 
-fn is_elsewhere(last_end: Option<u32>, begin: u32) -> bool
+fn is_write_elsewhere(last_end: Option<u32>, begin: u32) -> bool
     ensures { result ≡ turns last_end begin }
 {
     match last_end {
@@ -143,13 +143,13 @@ pub struct Files {
 
 impl Model for Files {
     ghost use Rattle.std.specs.Prelude.{◌≤◌, length, vec_len};
-    ghost use Rattle.lfs_fs.specs.FileView.{OpenFiles, readers_in, writers_in};
+    ghost use Rattle.lfs_fs.specs.FileView.{OpenFiles, readers_among, writers_among};
 
     ghost Value = { OpenFiles };
 
     ghost view = { λ f. f.entries.items };
 
-    ghost invariant = { λ f. (vec_len f.entries ≤ 17) × ((length (readers_in f.entries.items) ≤ 16) × (length (writers_in f.entries.items) ≤ 1)) };
+    ghost invariant = { λ f. (vec_len f.entries ≤ 17) × ((length (readers_among f.entries.items) ≤ 16) × (length (writers_among f.entries.items) ≤ 1)) };
 }
 
 impl Files {
@@ -163,18 +163,18 @@ impl Files {
 
     // Returns how many blocks the open writer holds.
     pub(crate) fn held(&self, geometry: Geometry) -> u64
-        ensures held { result ≡ held_by_all geometry.block_size self.now }
+        ensures held { result ≡ blocks_reserved_by_writers geometry.block_size self.now }
         ensures few { result < 2 ^ 34 }
     {
-        held_among(&self.entries, geometry)
+        blocks_reserved_among(&self.entries, geometry)
     }
 
     // Returns whether a writer of that path prevents a reader, or whether 16 readers are open.
     pub(crate) fn is_busy_for_reading(&self, path: &[u8]) -> bool
-        requires { is_some (path_of path.now) ≡ true }
-        ensures { result ≡ (list_any (λ w. same_path (as_path path.now) w.path) (writers_in self.now) || nat_le 16 (length (readers_in self.now))) }
+        requires { is_some (path_of_bytes path.now) ≡ true }
+        ensures { result ≡ (list_any (λ w. same_path (path_or_root path.now) w.path) (writers_among self.now) || nat_le 16 (length (readers_among self.now))) }
     {
-        is_written_among(&self.entries, path) || reader_count(&self.entries) >= 16
+        is_path_of_writer_among(&self.entries, path) || reader_count(&self.entries) >= 16
     }
 
     /// Opens a reader at the path, at the beginning of its contents, under the least number that is
@@ -187,10 +187,10 @@ impl Files {
         path: &[u8],
         contents: FileContents,
     ) -> Result<u32, Error>
-        requires path { is_some (path_of path.now) ≡ true }
-        requires few { length (readers_in self.old) < 16 }
-        ensures number { IfOk result (λ fd. fd ≡ free_entry self.old) }
-        ensures added { OnOk result (self.new ≡ put_entry self.old (free_entry self.old) (Some (OpenFile.Reading (record { path = as_path path.now; position = 0; contents = contents })))) }
+        requires path { is_some (path_of_bytes path.now) ≡ true }
+        requires few { length (readers_among self.old) < 16 }
+        ensures number { IfOk result (λ fd. fd ≡ least_free_number self.old) }
+        ensures added { OnOk result (self.new ≡ open_files_with_number_set self.old (least_free_number self.old) (Some (OpenFile.Reading (record { path = path_or_root path.now; position = 0; contents = contents })))) }
         ensures same { OnErr result (self.new ≡ self.old) }
         ensures error { IfErr result (λ e. e ≡ Error.NoMemory) }
     {
@@ -206,7 +206,7 @@ impl Files {
 
     /// Borrows the reader of that number.
     pub fn reader(&self, fd: u32) -> Option<&Reader>
-        ensures { option_map (λ r. r.now) result ≡ reader_in (open_file_at self.now fd) }
+        ensures { option_map (λ r. r.now) result ≡ open_file_as_reader (open_file_at self.now fd) }
     {
         match self.entries.get(fd as usize) {
             Some(Some(OpenFile::Reading(reader))) => Some(reader),
@@ -216,7 +216,7 @@ impl Files {
 
     // Borrows the writer of that number.
     pub(crate) fn writer(&self, fd: u32) -> Option<&Writer>
-        ensures { option_map (λ w. w.now) result ≡ writer_in (open_file_at self.now fd) }
+        ensures { option_map (λ w. w.now) result ≡ open_file_as_writer (open_file_at self.now fd) }
     {
         match self.entries.get(fd as usize) {
             Some(Some(OpenFile::Writing(writer))) => Some(writer),
@@ -226,24 +226,24 @@ impl Files {
 
     // Returns whether a file is open for writing.
     pub(crate) fn is_writing(&self) -> bool
-        ensures { result ≡ nat_lt 0 (length (writers_in self.now)) }
+        ensures { result ≡ nat_lt 0 (length (writers_among self.now)) }
     {
         is_writing(&self.entries)
     }
 
     // Returns whether another writer, or an open file at that path, prevents a writer.
     pub(crate) fn is_busy_for_writing(&self, path: &[u8]) -> bool
-        requires { is_some (path_of path.now) ≡ true }
-        ensures { (t : TreeState) → result ≡ (nat_lt 0 (length (writers_in self.now)) || is_open_at (same_path (as_path path.now)) (files_view t self.now)) }
+        requires { is_some (path_of_bytes path.now) ≡ true }
+        ensures { (t : TreeState) → result ≡ (nat_lt 0 (length (writers_among self.now)) || has_open_file_at (same_path (path_or_root path.now)) (open_files_view t self.now)) }
     {
         self.is_writing() || self.is_open_at(path)
     }
 
     /// Makes room for one more open file. Returns its number: the least that is free.
     pub fn make_room(&mut self) -> Result<u32, Error>
-        requires { writers_in self.old ≡ [] }
-        ensures number { IfOk result (λ fd. fd ≡ free_entry self.old) }
-        ensures room { OnOk result (self.new ≡ put_entry self.old (free_entry self.old) None) }
+        requires { writers_among self.old ≡ [] }
+        ensures number { IfOk result (λ fd. fd ≡ least_free_number self.old) }
+        ensures room { OnOk result (self.new ≡ open_files_with_number_set self.old (least_free_number self.old) None) }
         ensures same { OnErr result (self.new ≡ self.old) }
         ensures error { IfErr result (λ e. e ≡ Error.NoMemory) }
     {
@@ -258,7 +258,7 @@ impl Files {
         ensures file { result ≡ open_file_at self.old fd }
         ensures left { self.new ≡ slice_set self.old fd None }
     {
-        take_from(&mut self.entries, fd as usize)
+        take_file_out_of_table(&mut self.entries, fd as usize)
     }
 
     /// Puts a writer back under the number that it had.
@@ -267,10 +267,10 @@ impl Files {
     pub fn put_back(&mut self, fd: u32, writer: Writer)
         requires inside { fd < length self.old }
         requires free { open_file_at self.old fd ≡ None }
-        requires none { writers_in self.old ≡ [] }
+        requires none { writers_among self.old ≡ [] }
         ensures { self.new ≡ slice_set self.old fd (Some (OpenFile.Writing writer)) }
     {
-        set_in(&mut self.entries, fd as usize, OpenFile::Writing(writer));
+        set_file_in_table(&mut self.entries, fd as usize, OpenFile::Writing(writer));
     }
 
     pub(crate) fn is_open(&self, fd: u32) -> bool
@@ -284,7 +284,7 @@ impl Files {
 
     /// Returns whether the file of that number has changes that aren't in the tree.
     pub fn is_unsaved_at(&self, fd: u32) -> bool
-        ensures { result ≡ is_unsaved_entry (open_file_at self.now fd) }
+        ensures { result ≡ is_unsaved_writer (open_file_at self.now fd) }
     {
         match self.entries.get(fd as usize) {
             Some(entry) => is_unsaved(entry),
@@ -294,7 +294,7 @@ impl Files {
 
     /// Returns whether a writer has that number, and contents of that size.
     pub fn has_size(&self, fd: u32, size: u32) -> bool
-        ensures { (w : _) → writer_in (open_file_at self.now fd) ≡ Some w → result ≡ (size == w.size) }
+        ensures { (w : _) → open_file_as_writer (open_file_at self.now fd) ≡ Some w → result ≡ (size == w.size) }
     {
         match self.writer(fd) {
             Some(writer) => size == writer.size,
@@ -304,28 +304,28 @@ impl Files {
 
     // Returns whether a file is open at the path of these bytes.
     pub(crate) fn is_open_at(&self, path: &[u8]) -> bool
-        requires { is_some (path_of path.now) ≡ true }
-        ensures { (t : TreeState) → result ≡ is_open_at (same_path (as_path path.now)) (files_view t self.now) }
+        requires { is_some (path_of_bytes path.now) ≡ true }
+        ensures { (t : TreeState) → result ≡ has_open_file_at (same_path (path_or_root path.now)) (open_files_view t self.now) }
     {
-        is_open_among(&self.entries, path)
+        is_path_of_open_file_among(&self.entries, path)
     }
 
     // Returns whether an open file prevents a rename: one at the first path, which is an entry's,
     // or beneath it, or one at the second path.
     pub(crate) fn is_in_the_way(&self, from: &[u8], to: &[u8]) -> bool
-        requires entry { bad_entry (path_of from.now) ≡ false }
-        requires given { is_some (path_of to.now) ≡ true }
-        ensures { (t : TreeState) → result ≡ is_open_at (is_in_the_way (as_path from.now) (as_path to.now)) (files_view t self.now) }
+        requires entry { is_root_or_invalid_path (path_of_bytes from.now) ≡ false }
+        requires given { is_some (path_of_bytes to.now) ≡ true }
+        ensures { (t : TreeState) → result ≡ has_open_file_at (prevents_rename (path_or_root from.now) (path_or_root to.now)) (open_files_view t self.now) }
     {
-        is_in_the_way_among(&self.entries, from, to)
+        is_rename_prevented_among(&self.entries, from, to)
     }
 
     /// Sets the position of an open file.
     pub fn seek(&mut self, fd: u32, position: u32)
         requires { is_some (open_file_at self.old fd) ≡ true }
-        ensures { self.new ≡ slice_set self.old fd (option_map (moved_entry position) (open_file_at self.old fd)) }
+        ensures { self.new ≡ slice_set self.old fd (option_map (open_file_with_position position) (open_file_at self.old fd)) }
     {
-        seek_in(&mut self.entries, fd as usize, position);
+        seek_file_in_table(&mut self.entries, fd as usize, position);
     }
 
     /// Closes an open file.
@@ -333,7 +333,7 @@ impl Files {
         requires { is_some (open_file_at self.old fd) ≡ true }
         ensures { self.new ≡ slice_set self.old fd None }
     {
-        close_in(&mut self.entries, fd as usize);
+        close_file_in_table(&mut self.entries, fd as usize);
     }
 
     /// Closes all files.
@@ -344,9 +344,9 @@ impl Files {
     }
 }
 
-fn seek_in(entries: &mut Vec<Option<OpenFile>>, index: usize, position: u32)
+fn seek_file_in_table(entries: &mut Vec<Option<OpenFile>>, index: usize, position: u32)
     requires { index < vec_len entries.old }
-    ensures files { entries.new.items ≡ slice_set entries.old.items index (option_map (moved_entry position) (option_flatten (slice_get entries.old.items index))) }
+    ensures files { entries.new.items ≡ slice_set entries.old.items index (option_map (open_file_with_position position) (option_flatten (slice_get entries.old.items index))) }
     ensures len { vec_len entries.new ≡ vec_len entries.old }
 {
     match &mut entries[index] {
@@ -356,7 +356,7 @@ fn seek_in(entries: &mut Vec<Option<OpenFile>>, index: usize, position: u32)
     }
 }
 
-fn take_from(entries: &mut Vec<Option<OpenFile>>, index: usize) -> Option<OpenFile>
+fn take_file_out_of_table(entries: &mut Vec<Option<OpenFile>>, index: usize) -> Option<OpenFile>
     requires { index < vec_len entries.old }
     ensures file { result ≡ option_flatten (slice_get entries.old.items index) }
     ensures files { entries.new.items ≡ slice_set entries.old.items index None }
@@ -366,7 +366,7 @@ fn take_from(entries: &mut Vec<Option<OpenFile>>, index: usize) -> Option<OpenFi
 }
 
 #[inline(always)]
-fn set_in(entries: &mut Vec<Option<OpenFile>>, index: usize, file: OpenFile)
+fn set_file_in_table(entries: &mut Vec<Option<OpenFile>>, index: usize, file: OpenFile)
     requires { index < vec_len entries.old }
     ensures files { entries.new.items ≡ slice_set entries.old.items index (Some file) }
     ensures len { vec_len entries.new ≡ vec_len entries.old }
@@ -374,7 +374,7 @@ fn set_in(entries: &mut Vec<Option<OpenFile>>, index: usize, file: OpenFile)
     entries[index] = Some(file);
 }
 
-fn close_in(entries: &mut Vec<Option<OpenFile>>, index: usize)
+fn close_file_in_table(entries: &mut Vec<Option<OpenFile>>, index: usize)
     requires { index < vec_len entries.old }
     ensures files { entries.new.items ≡ slice_set entries.old.items index None }
     ensures len { vec_len entries.new ≡ vec_len entries.old }
@@ -383,9 +383,9 @@ fn close_in(entries: &mut Vec<Option<OpenFile>>, index: usize)
 }
 
 // Returns how many blocks the writer holds, of which there is one at most.
-fn held_among(entries: &[Option<OpenFile>], geometry: Geometry) -> u64
-    requires { length (writers_in entries.now) ≤ 1 }
-    ensures held { result ≡ held_by_all geometry.block_size entries.now }
+fn blocks_reserved_among(entries: &[Option<OpenFile>], geometry: Geometry) -> u64
+    requires { length (writers_among entries.now) ≤ 1 }
+    ensures held { result ≡ blocks_reserved_by_writers geometry.block_size entries.now }
     ensures few { result < 2 ^ 34 }
 {
     for entry in entries {
@@ -398,7 +398,7 @@ fn held_among(entries: &[Option<OpenFile>], geometry: Geometry) -> u64
 
 // Returns how many blocks are held for changed contents of so many bytes.
 pub(crate) fn held_for(geometry: Geometry, has_turned: bool, size: u32) -> u64
-    ensures held { result ≡ held_for geometry.block_size has_turned size }
+    ensures held { result ≡ blocks_reserved_for_size geometry.block_size has_turned size }
     ensures few { result < 2 ^ 34 }
 {
     if size <= geometry.inline_limit() {
@@ -413,7 +413,7 @@ pub(crate) fn held_for(geometry: Geometry, has_turned: bool, size: u32) -> u64
 }
 
 fn is_unsaved(entry: &Option<OpenFile>) -> bool
-    ensures { result ≡ is_unsaved_entry entry.now }
+    ensures { result ≡ is_unsaved_writer entry.now }
 {
     match entry {
         Some(OpenFile::Writing(writer)) => writer.unsaved.is_some(),
@@ -422,7 +422,7 @@ fn is_unsaved(entry: &Option<OpenFile>) -> bool
 }
 
 fn is_writing(entries: &[Option<OpenFile>]) -> bool
-    ensures { result ≡ nat_lt 0 (length (writers_in entries.now)) }
+    ensures { result ≡ nat_lt 0 (length (writers_among entries.now)) }
 {
     for entry in entries {
         if matches!(entry, Some(OpenFile::Writing(_))) {
@@ -433,9 +433,9 @@ fn is_writing(entries: &[Option<OpenFile>]) -> bool
 }
 
 // Returns whether a writer is open at the path of these bytes.
-fn is_written_among(entries: &[Option<OpenFile>], path: &[u8]) -> bool
-    requires { is_some (path_of path.now) ≡ true }
-    ensures { result ≡ list_any (λ w. same_path (as_path path.now) w.path) (writers_in entries.now) }
+fn is_path_of_writer_among(entries: &[Option<OpenFile>], path: &[u8]) -> bool
+    requires { is_some (path_of_bytes path.now) ≡ true }
+    ensures { result ≡ list_any (λ w. same_path (path_or_root path.now) w.path) (writers_among entries.now) }
 {
     for entry in entries {
         if is_writer_at(entry, path) {
@@ -446,18 +446,18 @@ fn is_written_among(entries: &[Option<OpenFile>], path: &[u8]) -> bool
 }
 
 fn is_writer_at(entry: &Option<OpenFile>, path: &[u8]) -> bool
-    requires { is_some (path_of path.now) ≡ true }
-    ensures { result ≡ list_any (λ w. same_path (as_path path.now) w.path) (writers_in (entry.now ∷ [])) }
+    requires { is_some (path_of_bytes path.now) ≡ true }
+    ensures { result ≡ list_any (λ w. same_path (path_or_root path.now) w.path) (writers_among (entry.now ∷ [])) }
 {
     match entry {
-        Some(OpenFile::Writing(writer)) => writer.path.is_at(path),
+        Some(OpenFile::Writing(writer)) => writer.path.is_path_of_bytes(path),
         _ => false,
     }
 }
 
-fn is_open_among(entries: &[Option<OpenFile>], path: &[u8]) -> bool
-    requires { is_some (path_of path.now) ≡ true }
-    ensures { result ≡ list_any (is_entry_at (same_path (as_path path.now))) entries.now }
+fn is_path_of_open_file_among(entries: &[Option<OpenFile>], path: &[u8]) -> bool
+    requires { is_some (path_of_bytes path.now) ≡ true }
+    ensures { result ≡ list_any (is_open_at_path_such_that (same_path (path_or_root path.now))) entries.now }
 {
     for entry in entries {
         if is_file_at(entry, path) {
@@ -468,19 +468,19 @@ fn is_open_among(entries: &[Option<OpenFile>], path: &[u8]) -> bool
 }
 
 fn is_file_at(entry: &Option<OpenFile>, path: &[u8]) -> bool
-    requires { is_some (path_of path.now) ≡ true }
-    ensures { result ≡ is_entry_at (same_path (as_path path.now)) entry.now }
+    requires { is_some (path_of_bytes path.now) ≡ true }
+    ensures { result ≡ is_open_at_path_such_that (same_path (path_or_root path.now)) entry.now }
 {
     match entry {
-        Some(OpenFile::Reading(reader)) => reader.path.is_at(path),
-        Some(OpenFile::Writing(writer)) => writer.path.is_at(path),
+        Some(OpenFile::Reading(reader)) => reader.path.is_path_of_bytes(path),
+        Some(OpenFile::Writing(writer)) => writer.path.is_path_of_bytes(path),
         None => false,
     }
 }
 
 // Returns how many readers are open.
 fn reader_count(entries: &[Option<OpenFile>]) -> usize
-    ensures { result ≡ length (readers_in entries.now) }
+    ensures { result ≡ length (readers_among entries.now) }
 {
     let mut count = 0;
     for entry in entries {
@@ -492,14 +492,14 @@ fn reader_count(entries: &[Option<OpenFile>]) -> usize
 }
 
 fn is_reader(entry: &Option<OpenFile>) -> bool
-    ensures { result ≡ is_some (reader_in entry.now) }
+    ensures { result ≡ is_some (open_file_as_reader entry.now) }
 {
     matches!(entry, Some(OpenFile::Reading(_)))
 }
 
 // Returns the least number that isn't open.
 fn free_number(entries: &[Option<OpenFile>]) -> usize
-    ensures { result ≡ free_entry entries.now }
+    ensures { result ≡ least_free_number entries.now }
 {
     let mut number = 0;
     for entry in entries {
@@ -520,7 +520,7 @@ fn put(
     requires inside { number ≤ vec_len entries.old }
     requires few { number < 17 }
     ensures few { vec_len entries.old ≤ 17 → vec_len entries.new ≤ 17 }
-    ensures put { OnOk result (entries.new.items ≡ put_entry entries.old.items number entry) }
+    ensures put { OnOk result (entries.new.items ≡ open_files_with_number_set entries.old.items number entry) }
     ensures same { OnErr result (entries.new.items ≡ entries.old.items) }
     ensures error { IfErr result (λ e. e ≡ Error.NoMemory) }
 {
@@ -536,27 +536,29 @@ fn put(
 
 // Returns whether an open file prevents a rename: one at the first path, which is an entry's, or
 // beneath it, or one at the second path.
-fn is_in_the_way_among(entries: &[Option<OpenFile>], from: &[u8], to: &[u8]) -> bool
-    requires entry { bad_entry (path_of from.now) ≡ false }
-    requires given { is_some (path_of to.now) ≡ true }
-    ensures { result ≡ list_any (is_entry_at (is_in_the_way (as_path from.now) (as_path to.now))) entries.now }
+fn is_rename_prevented_among(entries: &[Option<OpenFile>], from: &[u8], to: &[u8]) -> bool
+    requires entry { is_root_or_invalid_path (path_of_bytes from.now) ≡ false }
+    requires given { is_some (path_of_bytes to.now) ≡ true }
+    ensures { result ≡ list_any (is_open_at_path_such_that (prevents_rename (path_or_root from.now) (path_or_root to.now))) entries.now }
 {
     for entry in entries {
-        if is_entry_in_the_way(entry, from, to) {
+        if is_rename_prevented_by_file(entry, from, to) {
             return true;
         }
     }
     false
 }
 
-fn is_entry_in_the_way(entry: &Option<OpenFile>, from: &[u8], to: &[u8]) -> bool
-    requires entry { bad_entry (path_of from.now) ≡ false }
-    requires given { is_some (path_of to.now) ≡ true }
-    ensures { result ≡ is_entry_at (is_in_the_way (as_path from.now) (as_path to.now)) entry.now }
+fn is_rename_prevented_by_file(entry: &Option<OpenFile>, from: &[u8], to: &[u8]) -> bool
+    requires entry { is_root_or_invalid_path (path_of_bytes from.now) ≡ false }
+    requires given { is_some (path_of_bytes to.now) ≡ true }
+    ensures { result ≡ is_open_at_path_such_that (prevents_rename (path_or_root from.now) (path_or_root to.now)) entry.now }
 {
     match entry {
-        Some(OpenFile::Reading(reader)) => reader.path.is_within(from) || reader.path.is_at(to),
-        Some(OpenFile::Writing(writer)) => writer.path.is_within(from) || writer.path.is_at(to),
+        Some(OpenFile::Reading(reader)) => reader.path.is_within(from)
+            || reader.path.is_path_of_bytes(to),
+        Some(OpenFile::Writing(writer)) => writer.path.is_within(from)
+            || writer.path.is_path_of_bytes(to),
         None => false,
     }
 }

@@ -2,7 +2,7 @@
 
 ghost use Rattle.std.specs.Prelude.{◌≡◌};
 ghost use Rattle.lfs_tag.specs.FieldsView.{move_view};
-ghost use Rattle.lfs_fs.specs.GstateView.{gstate_reply, reply_of_gstate};
+ghost use Rattle.lfs_fs.specs.GstateView.{reply_of_returned_gstate, reply_of_disk_gstate};
 
 use lfs_tag::MoveState;
 use lfs_tag::kinds::DELETE;
@@ -18,7 +18,7 @@ pub struct Gstate {
 }
 
 pub(crate) fn gstate_of(state: &MoveState) -> Gstate
-    ensures { gstate_reply result ≡ reply_of_gstate (move_view state.now) }
+    ensures { reply_of_returned_gstate result ≡ reply_of_disk_gstate (move_view state.now) }
 {
     let moving = if state.kind == DELETE {
         Some((state.pair, state.id))

@@ -1,9 +1,9 @@
 // Paths of open files.
 
 ghost use Rattle.std.specs.Prelude.{◌≡◌, false, true, IfOk, IfErr, is_some};
-ghost use Rattle.lfs_model.specs.Operations.{path_of};
-ghost use Rattle.lfs_model.specs.Refusals.{as_path, bad_entry};
-ghost use Rattle.lfs_model.specs.TreeEdits.{rest_after, same_path};
+ghost use Rattle.lfs_model.specs.Operations.{path_of_bytes};
+ghost use Rattle.lfs_model.specs.Refusals.{path_or_root, is_root_or_invalid_path};
+ghost use Rattle.lfs_model.specs.TreeEdits.{path_without_prefix, same_path};
 ghost use Rattle.lfs_model.specs.Names.{same_name};
 
 use crate::rename_checks::is_within;
@@ -20,15 +20,15 @@ pub struct OwnedPath {
 
 impl Model for OwnedPath {
     ghost use Rattle.std.specs.Prelude.{◌≡◌, true, is_some};
-    ghost use Rattle.lfs_model.specs.Operations.{path_of};
-    ghost use Rattle.lfs_model.specs.Refusals.{as_path};
+    ghost use Rattle.lfs_model.specs.Operations.{path_of_bytes};
+    ghost use Rattle.lfs_model.specs.Refusals.{path_or_root};
     ghost use Rattle.lfs_model.specs.Tree.{Path};
 
     ghost Value = { Path };
 
-    ghost view = { λ p. as_path p.bytes.items };
+    ghost view = { λ p. path_or_root p.bytes.items };
 
-    ghost invariant = { λ p. is_some (path_of p.bytes.items) ≡ true };
+    ghost invariant = { λ p. is_some (path_of_bytes p.bytes.items) ≡ true };
 }
 
 impl OwnedPath {
@@ -36,8 +36,8 @@ impl OwnedPath {
     ///
     /// Errors: `AllocError` where memory for them isn't granted.
     pub fn of(alloc: Global, bytes: &[u8]) -> Result<OwnedPath, Error>
-        requires { is_some (path_of bytes.now) ≡ true }
-        ensures path { IfOk result (λ path. path ≡ as_path bytes.now) }
+        requires { is_some (path_of_bytes bytes.now) ≡ true }
+        ensures path { IfOk result (λ path. path ≡ path_or_root bytes.now) }
         ensures error { IfErr result (λ e. e ≡ Error.NoMemory) }
     {
         match Vec::from_slice(alloc, bytes) {
@@ -54,17 +54,17 @@ impl OwnedPath {
     }
 
     // Returns whether this is the path of these bytes.
-    pub(crate) fn is_at(&self, bytes: &[u8]) -> bool
-        requires { is_some (path_of bytes.now) ≡ true }
-        ensures { result ≡ same_path (as_path bytes.now) self.now }
+    pub(crate) fn is_path_of_bytes(&self, bytes: &[u8]) -> bool
+        requires { is_some (path_of_bytes bytes.now) ≡ true }
+        ensures { result ≡ same_path (path_or_root bytes.now) self.now }
     {
         is_same(self.bytes.as_slice(), bytes)
     }
 
     // Returns whether this is the path of these bytes, which are an entry's, or is beneath it.
     pub(crate) fn is_within(&self, bytes: &[u8]) -> bool
-        requires { bad_entry (path_of bytes.now) ≡ false }
-        ensures { result ≡ is_some (rest_after (as_path bytes.now) self.now) }
+        requires { is_root_or_invalid_path (path_of_bytes bytes.now) ≡ false }
+        ensures { result ≡ is_some (path_without_prefix (path_or_root bytes.now) self.now) }
     {
         is_within(bytes, self.bytes.as_slice())
     }

@@ -3,8 +3,8 @@
 ghost use Rattle.std.specs.Prelude.{◌≡◌, ◌+◌, ◌<◌, ◌^◌, List, drop, false, take, IfErr, IfOk, OnErr, OnOk, vec_len};
 ghost use Rattle.lfs_model.specs.Tree.{Path};
 ghost use Rattle.lfs_model.specs.TreeEdits.{bytes_at};
-ghost use Rattle.lfs_fs.specs.SessionView.{IsReaderOf};
-ghost use Rattle.lfs_tree.specs.TreeState.{WasOnlyRead, FailsInRead, IsError, tree_view};
+ghost use Rattle.lfs_fs.specs.SessionView.{IsReaderApartFromWriters};
+ghost use Rattle.lfs_tree.specs.TreeState.{WasTreeOnlyRead, IsTreeFailedByRead, IsErrorWithCause, tree_view};
 
 use crate::files::Reader;
 use lfs_device::{BlockDevice, Error};
@@ -12,19 +12,19 @@ use lfs_tree::Tree;
 use std::alloc::Global;
 
 // Returns the bytes of a reader's file from its position on, at most `count`. Nothing is looked up.
-pub(crate) fn read_from<D: BlockDevice>(
+pub(crate) fn bytes_for_reader<D: BlockDevice>(
     alloc: Global,
     tree: &mut Tree<D>,
     reader: &Reader,
     count: u32,
 ) -> Result<Vec<u8>, Error>
     requires works { tree.old.failed ≡ false }
-    requires kept { (written : List Path) × IsReaderOf tree.old.pairs written reader.now }
-    ensures asked { OnOk result (WasOnlyRead tree.old tree.new) }
+    requires kept { (written : List Path) × IsReaderApartFromWriters tree.old.pairs written reader.now }
+    ensures asked { OnOk result (WasTreeOnlyRead tree.old tree.new) }
     ensures bytes { IfOk result (λ v. v.items ≡ take count (drop reader.now.position (bytes_at (tree_view tree.old reader.now.path)))) }
     ensures end { IfOk result (λ v. reader.now.position + vec_len v < 2 ^ 32) }
-    ensures broken { OnErr result (FailsInRead tree.old tree.new) }
-    ensures errors { IfErr result (IsError tree.old tree.new) }
+    ensures broken { OnErr result (IsTreeFailedByRead tree.old tree.new) }
+    ensures errors { IfErr result (IsErrorWithCause tree.old tree.new) }
 {
     tree.read(alloc, &reader.contents, reader.position, count as usize)
 }

@@ -1,17 +1,17 @@
 // The paths and the checks of a rename.
 
 ghost use Rattle.std.specs.Prelude.{◌≡◌, ◌&&◌, false, is_some, not, true};
-ghost use Rattle.lfs_model.specs.TreeEdits.{is_beneath, rest_after, same_path};
+ghost use Rattle.lfs_model.specs.TreeEdits.{is_path_beneath, path_without_prefix, same_path};
 ghost use Rattle.lfs_model.specs.Operations as ops;
-ghost use Rattle.lfs_model.specs.Operations.{path_of};
-ghost use Rattle.lfs_model.specs.Refusals.{as_path, bad_entry};
+ghost use Rattle.lfs_model.specs.Operations.{path_of_bytes};
+ghost use Rattle.lfs_model.specs.Refusals.{path_or_root, is_root_or_invalid_path};
 ghost use Rattle.lfs_model.specs.Session.{refuse_if};
-ghost use Rattle.lfs_lookup.specs.Refusals.{is_refusal, refusal_in};
-ghost use Rattle.lfs_fs.specs.SessionView.{Checks, IsReady, session_view_of};
-ghost use Rattle.lfs_fs.specs.RenamePaths.{IsRenaming, is_path_prefix};
+ghost use Rattle.lfs_lookup.specs.Refusals.{is_refusal, refusal_of_error};
+ghost use Rattle.lfs_fs.specs.SessionView.{ChecksOperation, IsSessionReadyForCalls, session_view_of_tree_and_files};
+ghost use Rattle.lfs_fs.specs.RenamePaths.{IsRenamingOfPaths, is_path_prefix};
 
-use crate::check_order::{both, unless_refused};
-use crate::checks::{is_overcharged_with, lacks, parse_entry};
+use crate::check_order::{both, value_unless_checks_refuse};
+use crate::checks::{is_overcharged_with_attributes, lacks, parse_path_unless_root};
 use crate::files::Files;
 use crate::owned_path::is_same;
 use lfs_device::{BlockDevice, Error};
@@ -33,27 +33,27 @@ fn is_path_prefix(bytes: &[u8], other: &[u8]) -> bool
 // Returns whether the path of the other bytes is that of these, which are an entry's, or is beneath
 // it.
 pub(crate) fn is_within(bytes: &[u8], other: &[u8]) -> bool
-    requires entry { bad_entry (path_of bytes.now) ≡ false }
-    requires given { is_some (path_of other.now) ≡ true }
-    ensures { result ≡ is_some (rest_after (as_path bytes.now) (as_path other.now)) }
+    requires entry { is_root_or_invalid_path (path_of_bytes bytes.now) ≡ false }
+    requires given { is_some (path_of_bytes other.now) ≡ true }
+    ensures { result ≡ is_some (path_without_prefix (path_or_root bytes.now) (path_or_root other.now)) }
 {
     is_path_prefix(bytes, other)
 }
 
 // Returns whether the bytes are of the same path.
 fn is_same_path(bytes: &[u8], other: &[u8]) -> bool
-    requires given { is_some (path_of bytes.now) ≡ true }
-    requires other { is_some (path_of other.now) ≡ true }
-    ensures { result ≡ same_path (as_path bytes.now) (as_path other.now) }
+    requires given { is_some (path_of_bytes bytes.now) ≡ true }
+    requires other { is_some (path_of_bytes other.now) ≡ true }
+    ensures { result ≡ same_path (path_or_root bytes.now) (path_or_root other.now) }
 {
     is_same(other, bytes)
 }
 
 // Returns whether the path of the other bytes is beneath that of these, which are an entry's.
 fn is_beneath(bytes: &[u8], other: &[u8]) -> bool
-    requires entry { bad_entry (path_of bytes.now) ≡ false }
-    requires given { is_some (path_of other.now) ≡ true }
-    ensures { result ≡ is_beneath (as_path bytes.now) (as_path other.now) }
+    requires entry { is_root_or_invalid_path (path_of_bytes bytes.now) ≡ false }
+    requires given { is_some (path_of_bytes other.now) ≡ true }
+    ensures { result ≡ is_path_beneath (path_or_root bytes.now) (path_or_root other.now) }
 {
     is_within(bytes, other) && !is_same_path(bytes, other)
 }
@@ -61,7 +61,7 @@ fn is_beneath(bytes: &[u8], other: &[u8]) -> bool
 // Checks the entry at the new path. A rename to the same path passes.
 fn refuse_replacing(is_same: bool, is_bad: bool, error: Error) -> Option<Refusal>
     requires { is_refusal error ≡ true }
-    ensures { result ≡ refuse_if (not is_same && is_bad) (refusal_in error) }
+    ensures { result ≡ refuse_if (not is_same && is_bad) (refusal_of_error error) }
 {
     refuse_if(both(!is_same, is_bad), error)
 }
@@ -85,8 +85,8 @@ pub fn check_rename<'a, D: BlockDevice>(
     old: &'a [u8],
     new: &'a [u8],
 ) -> Result<Renaming<'a>, Error>
-    requires { tree.old.failed ≡ false → IsReady tree.old files.now }
-    ensures { Checks (session_view_of tree.old files.now) (ops.Rename old.now new.now) (IsRenaming tree.new old.now new.now) result tree.new }
+    requires { tree.old.failed ≡ false → IsSessionReadyForCalls tree.old files.now }
+    ensures { ChecksOperation (session_view_of_tree_and_files tree.old files.now) (ops.Rename old.now new.now) (IsRenamingOfPaths tree.new old.now new.now) result tree.new }
 {
     if tree.has_failed() {
         return Err(Error::Failed);
@@ -94,10 +94,10 @@ pub fn check_rename<'a, D: BlockDevice>(
     if !tree.is_writable() {
         return Err(Error::ReadOnly);
     }
-    let Some(from) = parse_entry(old) else {
+    let Some(from) = parse_path_unless_root(old) else {
         return Err(Error::Invalid);
     };
-    let Some(to) = parse_entry(new) else {
+    let Some(to) = parse_path_unless_root(new) else {
         return Err(Error::Invalid);
     };
     if is_beneath(old, new) {
@@ -115,7 +115,7 @@ pub fn check_rename<'a, D: BlockDevice>(
     let name_len = to.name_len();
     let puts_directory = both(entry.node.is_directory(), replaces.is_file());
     let puts_file = both(entry.node.is_file(), replaces.is_directory());
-    let overfills = is_overcharged_with(tree, name_len, attributes_size);
+    let overfills = is_overcharged_with_attributes(tree, name_len, attributes_size);
     let checks = [
         entry.fault,
         target.finding.fault,
@@ -134,5 +134,5 @@ pub fn check_rename<'a, D: BlockDevice>(
         is_same,
         targets,
     };
-    unless_refused(&checks, renaming)
+    value_unless_checks_refuse(&checks, renaming)
 }

@@ -4,9 +4,9 @@ ghost use Rattle.std.specs.Prelude.{◌≡◌, map, IfOk};
 ghost use Rattle.lfs_model.specs.Operations as operations;
 ghost use Rattle.lfs_lookup.specs.Finds.{list_item_view, stat_view};
 ghost use Rattle.lfs_lookup.specs.Refusals.{is_refusal};
-ghost use Rattle.lfs_fs.specs.GstateView.{gstate_reply};
-ghost use Rattle.lfs_fs.specs.Replies.{reply_in};
-ghost use Rattle.lfs_fs.specs.OpView.{NamesRefusal, performed};
+ghost use Rattle.lfs_fs.specs.GstateView.{reply_of_returned_gstate};
+ghost use Rattle.lfs_fs.specs.Replies.{reply_from_result};
+ghost use Rattle.lfs_fs.specs.OpView.{RefusesOnlyWithRefusalError, reply_result_view};
 
 use crate::files::Fd;
 use crate::flags::OpenFlags;
@@ -92,8 +92,8 @@ fn is_refusal(error: Error) -> bool
 }
 
 fn refused_reply(error: Error) -> Result<Reply, Error>
-    ensures seen { performed result ≡ reply_in (λ r. r) (Err error) }
-    ensures named { IfOk result NamesRefusal }
+    ensures seen { reply_result_view result ≡ reply_from_result (λ r. r) (Err error) }
+    ensures named { IfOk result RefusesOnlyWithRefusalError }
 {
     if is_refusal(error) {
         Ok(Reply::Refused(error))
@@ -103,8 +103,8 @@ fn refused_reply(error: Error) -> Result<Reply, Error>
 }
 
 pub(crate) fn done(answer: Result<(), Error>) -> Result<Reply, Error>
-    ensures seen { performed result ≡ reply_in (λ _. operations.Done) answer }
-    ensures named { IfOk result NamesRefusal }
+    ensures seen { reply_result_view result ≡ reply_from_result (λ _. operations.Done) answer }
+    ensures named { IfOk result RefusesOnlyWithRefusalError }
 {
     match answer {
         Ok(()) => Ok(Reply::Done),
@@ -113,8 +113,8 @@ pub(crate) fn done(answer: Result<(), Error>) -> Result<Reply, Error>
 }
 
 pub(crate) fn fd(answer: Result<Fd, Error>) -> Result<Reply, Error>
-    ensures seen { performed result ≡ reply_in operations.Opened answer }
-    ensures named { IfOk result NamesRefusal }
+    ensures seen { reply_result_view result ≡ reply_from_result operations.Opened answer }
+    ensures named { IfOk result RefusesOnlyWithRefusalError }
 {
     match answer {
         Ok(fd) => Ok(Reply::Fd(fd)),
@@ -123,8 +123,8 @@ pub(crate) fn fd(answer: Result<Fd, Error>) -> Result<Reply, Error>
 }
 
 pub(crate) fn bytes(answer: Result<Vec<u8>, Error>) -> Result<Reply, Error>
-    ensures seen { performed result ≡ reply_in (λ v. operations.Bytes v.items) answer }
-    ensures named { IfOk result NamesRefusal }
+    ensures seen { reply_result_view result ≡ reply_from_result (λ v. operations.Bytes v.items) answer }
+    ensures named { IfOk result RefusesOnlyWithRefusalError }
 {
     match answer {
         Ok(bytes) => Ok(Reply::Bytes(bytes)),
@@ -133,8 +133,8 @@ pub(crate) fn bytes(answer: Result<Vec<u8>, Error>) -> Result<Reply, Error>
 }
 
 pub(crate) fn count(answer: Result<u32, Error>) -> Result<Reply, Error>
-    ensures seen { performed result ≡ reply_in operations.Count answer }
-    ensures named { IfOk result NamesRefusal }
+    ensures seen { reply_result_view result ≡ reply_from_result operations.Count answer }
+    ensures named { IfOk result RefusesOnlyWithRefusalError }
 {
     match answer {
         Ok(count) => Ok(Reply::Count(count)),
@@ -143,8 +143,8 @@ pub(crate) fn count(answer: Result<u32, Error>) -> Result<Reply, Error>
 }
 
 pub(crate) fn items(answer: Result<Vec<Item>, Error>) -> Result<Reply, Error>
-    ensures seen { performed result ≡ reply_in (λ items. operations.Items (map list_item_view items.items)) answer }
-    ensures named { IfOk result NamesRefusal }
+    ensures seen { reply_result_view result ≡ reply_from_result (λ items. operations.Items (map list_item_view items.items)) answer }
+    ensures named { IfOk result RefusesOnlyWithRefusalError }
 {
     match answer {
         Ok(items) => Ok(Reply::Items(items)),
@@ -153,8 +153,8 @@ pub(crate) fn items(answer: Result<Vec<Item>, Error>) -> Result<Reply, Error>
 }
 
 pub(crate) fn stat(answer: Result<Stat, Error>) -> Result<Reply, Error>
-    ensures seen { performed result ≡ reply_in (λ stat. operations.StatIs (stat_view stat)) answer }
-    ensures named { IfOk result NamesRefusal }
+    ensures seen { reply_result_view result ≡ reply_from_result (λ stat. operations.StatIs (stat_view stat)) answer }
+    ensures named { IfOk result RefusesOnlyWithRefusalError }
 {
     match answer {
         Ok(stat) => Ok(Reply::Stat(stat)),
@@ -163,8 +163,8 @@ pub(crate) fn stat(answer: Result<Stat, Error>) -> Result<Reply, Error>
 }
 
 pub(crate) fn gstate(answer: Result<Gstate, Error>) -> Result<Reply, Error>
-    ensures seen { performed result ≡ reply_in gstate_reply answer }
-    ensures named { IfOk result NamesRefusal }
+    ensures seen { reply_result_view result ≡ reply_from_result reply_of_returned_gstate answer }
+    ensures named { IfOk result RefusesOnlyWithRefusalError }
 {
     match answer {
         Ok(gstate) => Ok(Reply::Gstate(gstate)),
@@ -173,8 +173,8 @@ pub(crate) fn gstate(answer: Result<Gstate, Error>) -> Result<Reply, Error>
 }
 
 pub(crate) fn yes(answer: Result<bool, Error>) -> Result<Reply, Error>
-    ensures seen { performed result ≡ reply_in operations.Yes answer }
-    ensures named { IfOk result NamesRefusal }
+    ensures seen { reply_result_view result ≡ reply_from_result operations.Yes answer }
+    ensures named { IfOk result RefusesOnlyWithRefusalError }
 {
     match answer {
         Ok(yes) => Ok(Reply::Yes(yes)),

@@ -1,38 +1,38 @@
 ghost use Rattle.lfs_model.specs.Operations as ops;
 ghost use Rattle.lfs_model.specs.Operations.{Operation, Reply as Answer};
-ghost use Rattle.lfs_fs.specs.Replies.{reply_in};
+ghost use Rattle.lfs_fs.specs.Replies.{reply_from_result};
 ghost use Rattle.std.specs.Prelude.{◌≡◌, ◌⊎◌, ◌++◌, None, false, true, List, [], map, All, IfOk, IfErr, OnOk};
 ghost use Rattle.lfs_model.specs.Disk.{SameGeometry};
 ghost use Rattle.lfs_model.specs.Thread.{Pair};
 ghost use Rattle.lfs_model.specs.Fresh.{empty_tree};
-ghost use Rattle.lfs_model.specs.Headline.{AgreesWithDisk, IsWhatItsDiskShows};
+ghost use Rattle.lfs_model.specs.Headline.{IsHealthyWithDiskTree, IsWhatItsDiskShows};
 ghost use Rattle.lfs_model.specs.History.{faults};
 ghost use Rattle.lfs_model.specs.State.{Healthy, mounted};
 ghost use Rattle.lfs_model.specs.Run.{AreSessionSteps, SystemState};
-ghost use Rattle.lfs_model.specs.Performed.{ArePerformed};
-ghost use Rattle.lfs_model.specs.RepeatedPowerLoss.{IsJustMounted, MayLosePower, SurvivesPowerLoss};
-ghost use Rattle.lfs_model.specs.PowerLoss.{SurvivesLoss};
+ghost use Rattle.lfs_model.specs.Performed.{ArePerformedOperations};
+ghost use Rattle.lfs_model.specs.RepeatedPowerLoss.{IsJustMounted, IsReadyForPowerLoss, IsRunSurvivingPowerLosses};
+ghost use Rattle.lfs_model.specs.PowerLoss.{IsOperationSurvivingPowerLoss};
 ghost use Rattle.lfs_model.specs.declared.order.NameOrder.{NameOrder};
 ghost use Rattle.lfs_model.specs.declared.order.NameOrder.TheVariants.{LongerFirst, ShorterFirst};
 ghost use Rattle.lfs_device.specs.Shown.{ordered};
-ghost use Rattle.lfs_mount.specs.Either.{GivesDeviceBack};
-ghost use Rattle.lfs_thread.specs.Device.{two_of};
-ghost use Rattle.lfs_thread.specs.Kept.{disk_on, kept_view};
-ghost use Rattle.lfs_model.specs.Thread.{anchor};
-ghost use Rattle.lfs_model.specs.View.{IsAccepted};
+ghost use Rattle.lfs_mount.specs.Either.{ReturnsUnchangedDeviceWithError};
+ghost use Rattle.lfs_thread.specs.Device.{blocks_of_address};
+ghost use Rattle.lfs_thread.specs.Kept.{disk_of_device, kept_thread_view};
+ghost use Rattle.lfs_model.specs.Thread.{anchor_pair_address};
+ghost use Rattle.lfs_model.specs.View.{IsAcceptedImage};
 ghost use Rattle.lfs_lookup.specs.Finds.{list_item_view, stat_view};
-ghost use Rattle.lfs_tree.specs.Formats.{ReturnsAnyDevice, IsFormatted, WritesFirstTwo};
+ghost use Rattle.lfs_tree.specs.Formats.{ReturnsDeviceInEitherNameOrder, IsFreshlyFormatted, WritesFirstTwoBlocks};
 ghost use Rattle.lfs_tree.specs.TreeState.{kept_of};
-ghost use Rattle.lfs_fs.specs.GstateView.{gstate_reply};
-ghost use Rattle.lfs_fs.specs.SessionView.{IsFreshSession, IsEndedBy, system_state_of};
+ghost use Rattle.lfs_fs.specs.GstateView.{reply_of_returned_gstate};
+ghost use Rattle.lfs_fs.specs.SessionView.{IsSessionBegunByMount, EndsRunByError, system_state_of};
 ghost use Rattle.lfs_fs.specs.FlagsView.{flags_view};
-ghost use Rattle.lfs_fs.specs.OpView.{NamesRefusal, op_view, performed, reply_view};
-ghost use Rattle.lfs_fs.specs.CallEffects.{IsCall};
+ghost use Rattle.lfs_fs.specs.OpView.{RefusesOnlyWithRefusalError, op_view, reply_result_view, reply_view};
+ghost use Rattle.lfs_fs.specs.CallEffects.{IsSessionCallWithResult};
 
 use crate::checks::{
-    check_get_attr, check_list, check_mkdir, check_open, check_open_reader, check_open_writer,
-    check_remove, check_remove_attr, check_seek, check_set_attr, check_stat, check_sync,
-    check_truncate, check_write,
+    check_get_attr, check_is_file_open, check_list, check_mkdir, check_open_reader,
+    check_open_writer, check_remove, check_remove_attr, check_seek, check_set_attr, check_stat,
+    check_sync, check_truncate, check_write,
 };
 use crate::device_laws::device_meets_laws;
 use crate::files::{Fd, Files, OpenFile};
@@ -40,10 +40,13 @@ use crate::flags::OpenFlags;
 use crate::gstate::{Gstate, gstate_of};
 use crate::open_files::open_files_stay;
 use crate::owned_path::OwnedPath;
-use crate::reads::read_from;
+use crate::reads::bytes_for_reader;
 use crate::rename_checks::check_rename;
 use crate::run::{Op, Reply, bytes, count, done, fd, gstate, items, stat, yes};
-use crate::writers::{begin_existing, begin_new, save, truncate_by, write_by};
+use crate::writers::{
+    writer_after_saving, writer_after_truncating, writer_after_writing, writer_of_existing_file,
+    writer_of_new_file,
+};
 use bitflags::Flags;
 use lfs_device::{BlockDevice, Error, NameOrder, Ordered};
 use lfs_lookup::{ListItem as Item, Stat};
@@ -68,14 +71,14 @@ pub struct Session<D: BlockDevice> {
 }
 
 impl<D: BlockDevice> Model for Session<D> {
-    ghost use Rattle.lfs_fs.specs.SessionView.{SessionView, session_view_of};
-    ghost use Rattle.lfs_fs.specs.DeviceLaws.{IsBetweenCalls};
+    ghost use Rattle.lfs_fs.specs.SessionView.{SessionView, session_view_of_tree_and_files};
+    ghost use Rattle.lfs_fs.specs.DeviceLaws.{HasSessionInvariant};
 
     ghost Value = { SessionView };
 
-    ghost view = { λ s. session_view_of s.tree s.files };
+    ghost view = { λ s. session_view_of_tree_and_files s.tree s.files };
 
-    ghost invariant = { λ s. IsBetweenCalls s.tree s.files };
+    ghost invariant = { λ s. HasSessionInvariant s.tree s.files };
 }
 
 impl<D: BlockDevice> Session<D> {
@@ -87,7 +90,7 @@ impl<D: BlockDevice> Session<D> {
     /// `Invalid` where the path isn't well formed; `NoEnt` or `NotDir` where a parent is missing or
     /// is a file; `NoEnt` where no entry is there.
     pub fn stat(&mut self, alloc: Global, path: &[u8]) -> Result<Stat, Error>
-        ensures { IsCall self.old (ops.Stat path.now) (reply_in (λ stat. ops.StatIs (stat_view stat)) result) self.new }
+        ensures { IsSessionCallWithResult self.old (ops.Stat path.now) (reply_from_result (λ stat. ops.StatIs (stat_view stat)) result) self.new }
     {
         check_stat(alloc, &mut self.tree, &self.files, path)
     }
@@ -100,7 +103,7 @@ impl<D: BlockDevice> Session<D> {
     /// `Invalid` where the path isn't well formed; `NoEnt` or `NotDir` where a parent is missing or
     /// is a file; `NoEnt` where no entry is there; `NotDir` where a file is there.
     pub fn list(&mut self, alloc: Global, path: &[u8]) -> Result<Vec<Item>, Error>
-        ensures { IsCall self.old (ops.ListAll path.now) (reply_in (λ items. ops.Items (map list_item_view items.items)) result) self.new }
+        ensures { IsSessionCallWithResult self.old (ops.ListAll path.now) (reply_from_result (λ items. ops.Items (map list_item_view items.items)) result) self.new }
     {
         check_list(alloc, &mut self.tree, &self.files, path)
     }
@@ -114,7 +117,7 @@ impl<D: BlockDevice> Session<D> {
     /// parent is missing or is a file; `NoEnt` where no entry is there; `NoAttr` where the entry
     /// has none of that type.
     pub fn get_attr(&mut self, alloc: Global, path: &[u8], kind: u8) -> Result<Vec<u8>, Error>
-        ensures { IsCall self.old (ops.GetAttr path.now kind) (reply_in (λ v. ops.Bytes v.items) result) self.new }
+        ensures { IsSessionCallWithResult self.old (ops.GetAttr path.now kind) (reply_from_result (λ v. ops.Bytes v.items) result) self.new }
     {
         check_get_attr(alloc, &mut self.tree, &self.files, path, kind)
     }
@@ -122,7 +125,7 @@ impl<D: BlockDevice> Session<D> {
     /// Returns the global state. The call makes no call of the device, and is never refused but in
     /// a failed session.
     pub fn gstate(&self) -> Result<Gstate, Error>
-        ensures { IsCall self.now ops.AskGstate (reply_in gstate_reply result) self.now }
+        ensures { IsSessionCallWithResult self.now ops.AskGstate (reply_from_result reply_of_returned_gstate result) self.now }
     {
         if self.tree.has_failed() {
             return Err(Error::Failed);
@@ -136,7 +139,7 @@ impl<D: BlockDevice> Session<D> {
     ///
     /// `Invalid` where the image has no such block.
     pub fn is_used(&self, block: u32) -> Result<bool, Error>
-        ensures { IsCall self.now (ops.IsUsed block) (reply_in ops.Yes result) self.now }
+        ensures { IsSessionCallWithResult self.now (ops.IsUsed block) (reply_from_result ops.Yes result) self.now }
     {
         if self.tree.has_failed() {
             return Err(Error::Failed);
@@ -150,7 +153,7 @@ impl<D: BlockDevice> Session<D> {
     /// Returns how many blocks the image uses. The call makes no call of the device, and is never
     /// refused but in a failed session.
     pub fn used_count(&self) -> Result<u32, Error>
-        ensures { IsCall self.now ops.UsedCount (reply_in ops.Count result) self.now }
+        ensures { IsSessionCallWithResult self.now ops.UsedCount (reply_from_result ops.Count result) self.now }
     {
         if self.tree.has_failed() {
             return Err(Error::Failed);
@@ -167,7 +170,7 @@ impl<D: BlockDevice> Session<D> {
     /// name has more than 255 bytes; `Exist` where an entry is there; `EntryFull` where the name
     /// takes too much of a metadata pair; `NoSpace` where fewer than four blocks are free.
     pub fn mkdir(&mut self, alloc: Global, path: &[u8]) -> Result<(), Error>
-        ensures { IsCall self.old (ops.Mkdir path.now) (reply_in (λ _. ops.Done) result) self.new }
+        ensures { IsSessionCallWithResult self.old (ops.Mkdir path.now) (reply_from_result (λ _. ops.Done) result) self.new }
     {
         open_files_stay();
         let path = check_mkdir(alloc, &mut self.tree, &self.files, path)?;
@@ -185,7 +188,7 @@ impl<D: BlockDevice> Session<D> {
     /// where no entry is there; `NotEmpty` where a directory has entries; `Busy` where the file is
     /// open.
     pub fn remove(&mut self, alloc: Global, path: &[u8]) -> Result<(), Error>
-        ensures { IsCall self.old (ops.Remove path.now) (reply_in (λ _. ops.Done) result) self.new }
+        ensures { IsSessionCallWithResult self.old (ops.Remove path.now) (reply_from_result (λ _. ops.Done) result) self.new }
     {
         open_files_stay();
         let path = check_remove(alloc, &mut self.tree, &self.files, path)?;
@@ -209,7 +212,7 @@ impl<D: BlockDevice> Session<D> {
     /// is open; `EntryFull` where the new name and the attributes take too much of a metadata pair;
     /// `NoSpace` where fewer than two blocks are free.
     pub fn rename(&mut self, alloc: Global, from: &[u8], to: &[u8]) -> Result<(), Error>
-        ensures { IsCall self.old (ops.Rename from.now to.now) (reply_in (λ _. ops.Done) result) self.new }
+        ensures { IsSessionCallWithResult self.old (ops.Rename from.now to.now) (reply_from_result (λ _. ops.Done) result) self.new }
     {
         open_files_stay();
         let renaming = check_rename(alloc, &mut self.tree, &self.files, from, to)?;
@@ -240,7 +243,7 @@ impl<D: BlockDevice> Session<D> {
         kind: u8,
         value: &[u8],
     ) -> Result<(), Error>
-        ensures { IsCall self.old (ops.SetAttr path.now kind value.now) (reply_in (λ _. ops.Done) result) self.new }
+        ensures { IsSessionCallWithResult self.old (ops.SetAttr path.now kind value.now) (reply_from_result (λ _. ops.Done) result) self.new }
     {
         open_files_stay();
         let path = check_set_attr(alloc, &mut self.tree, &self.files, path, kind, value)?;
@@ -257,7 +260,7 @@ impl<D: BlockDevice> Session<D> {
     /// formed or is the root's; `NoEnt` or `NotDir` where a parent is missing or is a file; `NoEnt`
     /// where no entry is there; `NoAttr` where the entry has none of that type.
     pub fn remove_attr(&mut self, alloc: Global, path: &[u8], kind: u8) -> Result<(), Error>
-        ensures { IsCall self.old (ops.RemoveAttr path.now kind) (reply_in (λ _. ops.Done) result) self.new }
+        ensures { IsSessionCallWithResult self.old (ops.RemoveAttr path.now kind) (reply_from_result (λ _. ops.Done) result) self.new }
     {
         open_files_stay();
         let path = check_remove_attr(alloc, &mut self.tree, &self.files, path, kind)?;
@@ -273,7 +276,7 @@ impl<D: BlockDevice> Session<D> {
     ///
     /// `ReadOnly` where the image isn't in the writing profile.
     pub fn recover(&mut self, alloc: Global) -> Result<(), Error>
-        ensures { IsCall self.old ops.Recover (reply_in (λ _. ops.Done) result) self.new }
+        ensures { IsSessionCallWithResult self.old ops.Recover (reply_from_result (λ _. ops.Done) result) self.new }
     {
         open_files_stay();
         if self.tree.has_failed() {
@@ -290,7 +293,7 @@ impl<D: BlockDevice> Session<D> {
     // Opens a file for reading.
     fn open_reader(&mut self, alloc: Global, path: &[u8], flags: OpenFlags) -> Result<Fd, Error>
         requires { (flags_view flags).write ≡ false }
-        ensures { IsCall self.old (ops.Open path.now (flags_view flags)) (reply_in ops.Opened result) self.new }
+        ensures { IsSessionCallWithResult self.old (ops.Open path.now (flags_view flags)) (reply_from_result ops.Opened result) self.new }
     {
         let contents = check_open_reader(alloc, &mut self.tree, &self.files, path, flags)?;
         let answer = self.files.add_reader(alloc, path, contents);
@@ -303,7 +306,7 @@ impl<D: BlockDevice> Session<D> {
     // Opens a file for writing.
     fn open_writer(&mut self, alloc: Global, path: &[u8], flags: OpenFlags) -> Result<Fd, Error>
         requires { (flags_view flags).write ≡ true }
-        ensures { IsCall self.old (ops.Open path.now (flags_view flags)) (reply_in ops.Opened result) self.new }
+        ensures { IsSessionCallWithResult self.old (ops.Open path.now (flags_view flags)) (reply_from_result ops.Opened result) self.new }
     {
         let found = check_open_writer(alloc, &mut self.tree, &self.files, path, flags)?;
         let Ok(owned) = OwnedPath::of(alloc, path) else {
@@ -316,12 +319,12 @@ impl<D: BlockDevice> Session<D> {
         };
         let writer = match found.size {
             Some(size) => {
-                let answer = begin_existing(alloc, &mut self.tree, owned, size, flags);
+                let answer = writer_of_existing_file(alloc, &mut self.tree, owned, size, flags);
                 device_meets_laws(&self.tree);
                 answer?
             }
             None => {
-                let answer = begin_new(alloc, &mut self.tree, owned, flags);
+                let answer = writer_of_new_file(alloc, &mut self.tree, owned, flags);
                 device_meets_laws(&self.tree);
                 answer?
             }
@@ -347,7 +350,7 @@ impl<D: BlockDevice> Session<D> {
     /// than two blocks are free for a file to create, or with [`TRUNCATE`](OpenFlags::TRUNCATE) too
     /// few for the file anew.
     pub fn open(&mut self, alloc: Global, path: &[u8], flags: OpenFlags) -> Result<Fd, Error>
-        ensures { IsCall self.old (ops.Open path.now (flags_view flags)) (reply_in ops.Opened result) self.new }
+        ensures { IsSessionCallWithResult self.old (ops.Open path.now (flags_view flags)) (reply_from_result ops.Opened result) self.new }
     {
         if flags.contains(OpenFlags::WRITE) {
             self.open_writer(alloc, path, flags)
@@ -366,7 +369,7 @@ impl<D: BlockDevice> Session<D> {
     /// have more than 2,147,483,647 bytes; `NoSpace` where too few blocks are free for what the
     /// file would hold.
     pub fn write(&mut self, alloc: Global, fd: Fd, bytes: &[u8]) -> Result<u32, Error>
-        ensures { IsCall self.old (ops.Write fd bytes.now) (reply_in ops.Count result) self.new }
+        ensures { IsSessionCallWithResult self.old (ops.Write fd bytes.now) (reply_from_result ops.Count result) self.new }
     {
         check_write(&self.tree, &self.files, fd, bytes)?;
         if bytes.is_empty() {
@@ -375,7 +378,7 @@ impl<D: BlockDevice> Session<D> {
         let Some(OpenFile::Writing(writer)) = self.files.take(fd) else {
             unreachable!()
         };
-        let answer = write_by(alloc, &mut self.tree, writer, bytes);
+        let answer = writer_after_writing(alloc, &mut self.tree, writer, bytes);
         device_meets_laws(&self.tree);
         let writer = answer?;
         self.files.put_back(fd, writer);
@@ -390,7 +393,7 @@ impl<D: BlockDevice> Session<D> {
     /// `BadFile` where no file is open for writing under the number; `TooBig` for more than
     /// 2,147,483,647 bytes; `NoSpace` where too few blocks are free for what the file would hold.
     pub fn truncate(&mut self, alloc: Global, fd: Fd, size: u32) -> Result<(), Error>
-        ensures { IsCall self.old (ops.Truncate fd size) (reply_in (λ _. ops.Done) result) self.new }
+        ensures { IsSessionCallWithResult self.old (ops.Truncate fd size) (reply_from_result (λ _. ops.Done) result) self.new }
     {
         check_truncate(&self.tree, &self.files, fd, size)?;
         if self.files.has_size(fd, size) {
@@ -399,7 +402,7 @@ impl<D: BlockDevice> Session<D> {
         let Some(OpenFile::Writing(writer)) = self.files.take(fd) else {
             unreachable!()
         };
-        let answer = truncate_by(alloc, &mut self.tree, writer, size);
+        let answer = writer_after_truncating(alloc, &mut self.tree, writer, size);
         device_meets_laws(&self.tree);
         let writer = answer?;
         self.files.put_back(fd, writer);
@@ -412,7 +415,7 @@ impl<D: BlockDevice> Session<D> {
     ///
     /// `BadFile` where no file is open under the number.
     pub fn sync(&mut self, alloc: Global, fd: Fd) -> Result<(), Error>
-        ensures { IsCall self.old (ops.Sync fd) (reply_in (λ _. ops.Done) result) self.new }
+        ensures { IsSessionCallWithResult self.old (ops.Sync fd) (reply_from_result (λ _. ops.Done) result) self.new }
     {
         check_sync(&self.tree, &self.files, fd)?;
         if !self.files.is_unsaved_at(fd) {
@@ -421,7 +424,7 @@ impl<D: BlockDevice> Session<D> {
         let Some(OpenFile::Writing(writer)) = self.files.take(fd) else {
             unreachable!()
         };
-        let answer = save(alloc, &mut self.tree, writer);
+        let answer = writer_after_saving(alloc, &mut self.tree, writer);
         device_meets_laws(&self.tree);
         let writer = answer?;
         self.files.put_back(fd, writer);
@@ -435,7 +438,7 @@ impl<D: BlockDevice> Session<D> {
     ///
     /// `BadFile` where no file is open for reading under the number.
     pub fn read(&mut self, alloc: Global, fd: Fd, count: u32) -> Result<Vec<u8>, Error>
-        ensures { IsCall self.old (ops.Read fd count) (reply_in (λ v. ops.Bytes v.items) result) self.new }
+        ensures { IsSessionCallWithResult self.old (ops.Read fd count) (reply_from_result (λ v. ops.Bytes v.items) result) self.new }
     {
         if self.tree.has_failed() {
             return Err(Error::Failed);
@@ -443,7 +446,7 @@ impl<D: BlockDevice> Session<D> {
         let Some(reader) = self.files.reader(fd) else {
             return Err(Error::BadFile);
         };
-        let bytes = read_from(alloc, &mut self.tree, reader, count)?;
+        let bytes = bytes_for_reader(alloc, &mut self.tree, reader, count)?;
         let position = reader.position + bytes.len() as u32;
         self.files.seek(fd, position);
         Ok(bytes)
@@ -457,7 +460,7 @@ impl<D: BlockDevice> Session<D> {
     /// `BadFile` where no file is open under the number; `Invalid` for a position above
     /// 2,147,483,647.
     pub fn seek(&mut self, fd: Fd, position: u32) -> Result<(), Error>
-        ensures { IsCall self.old (ops.Seek fd position) (reply_in (λ _. ops.Done) result) self.new }
+        ensures { IsSessionCallWithResult self.old (ops.Seek fd position) (reply_from_result (λ _. ops.Done) result) self.new }
     {
         check_seek(&self.tree, &self.files, fd, position)?;
         self.files.seek(fd, position);
@@ -470,9 +473,9 @@ impl<D: BlockDevice> Session<D> {
     ///
     /// `BadFile` where no file is open under the number.
     pub fn close(&mut self, alloc: Global, fd: Fd) -> Result<(), Error>
-        ensures { IsCall self.old (ops.Close fd) (reply_in (λ _. ops.Done) result) self.new }
+        ensures { IsSessionCallWithResult self.old (ops.Close fd) (reply_from_result (λ _. ops.Done) result) self.new }
     {
-        check_open(&self.tree, &self.files, fd)?;
+        check_is_file_open(&self.tree, &self.files, fd)?;
         if !self.files.is_unsaved_at(fd) {
             self.files.close(fd);
             return Ok(());
@@ -480,7 +483,7 @@ impl<D: BlockDevice> Session<D> {
         let Some(OpenFile::Writing(writer)) = self.files.take(fd) else {
             unreachable!()
         };
-        let answer = save(alloc, &mut self.tree, writer);
+        let answer = writer_after_saving(alloc, &mut self.tree, writer);
         device_meets_laws(&self.tree);
         answer?;
         Ok(())
@@ -492,7 +495,7 @@ impl<D: BlockDevice> Session<D> {
     ///
     /// `Corrupt` where the device has no accepted image. After any error the session has failed.
     pub fn remount(&mut self, alloc: Global) -> Result<(), Error>
-        ensures { IsCall self.old ops.Remount (reply_in (λ _. ops.Done) result) self.new }
+        ensures { IsSessionCallWithResult self.old ops.Remount (reply_from_result (λ _. ops.Done) result) self.new }
     {
         self.files.clear();
         let answer = self.tree.remount(alloc);
@@ -502,7 +505,7 @@ impl<D: BlockDevice> Session<D> {
 
     /// Borrows the device, as the last call left it.
     pub fn device(&self) -> &D
-        ensures disk { ordered self.now.tree.disk.order (disk_on D.BlockDevice result.now) ≡ self.now.tree.disk }
+        ensures disk { ordered self.now.tree.disk.order (disk_of_device D.BlockDevice result.now) ≡ self.now.tree.disk }
         ensures history { D.history result.now ≡ self.now.tree.history }
     {
         self.tree.device().inner()
@@ -510,7 +513,7 @@ impl<D: BlockDevice> Session<D> {
 
     /// Ends the session, and returns the device. Nothing is written.
     pub fn unmount(self) -> D
-        ensures disk { ordered self.tree.disk.order (disk_on D.BlockDevice result) ≡ self.tree.disk }
+        ensures disk { ordered self.tree.disk.order (disk_of_device D.BlockDevice result) ≡ self.tree.disk }
         ensures history { D.history result ≡ self.tree.history }
     {
         self.tree.into_device().into_inner()
@@ -526,8 +529,8 @@ impl<D: BlockDevice> Session<D> {
 
     // Performs one operation. A refusal is a reply; after an error the session has failed.
     fn perform(&mut self, alloc: Global, op: Op<'_>) -> Result<Reply, Error>
-        ensures call { IsCall self.old (op_view op.entry) (performed result) self.new }
-        ensures named { IfOk result NamesRefusal }
+        ensures call { IsSessionCallWithResult self.old (op_view op.entry) (reply_result_view result) self.new }
+        ensures named { IfOk result RefusesOnlyWithRefusalError }
     {
         match op {
             Op::Open(path, flags) => fd(self.open(alloc, path, flags)),
@@ -555,7 +558,7 @@ impl<D: BlockDevice> Session<D> {
 
     fn fail(&mut self)
         ensures failed { self.new ≡ record self.old { tree = record self.old.tree { failed = true } } }
-        ensures survives_loss { (op : Operation) → SurvivesLoss (system_state_of self.old) op (system_state_of self.new) }
+        ensures survives_loss { (op : Operation) → IsOperationSurvivingPowerLoss (system_state_of self.old) op (system_state_of self.new) }
     {
         self.tree.fail();
     }
@@ -567,13 +570,13 @@ impl<D: BlockDevice> Session<D> {
     /// `Io`, `NoMemory` and, from a remount, `Corrupt`. The operations before it were applied, and
     /// the session has failed.
     pub fn run(&mut self, alloc: Global, ops: &[Op<'_>]) -> Result<Vec<Reply>, Error>
-        ensures performed { IfOk result (λ replies. ArePerformed None (system_state_of self.old) (map op_view ops.now) (map reply_view replies.items) (system_state_of self.new)) }
-        ensures named { IfOk result (λ replies. All NamesRefusal replies.items) }
+        ensures performed { IfOk result (λ replies. ArePerformedOperations None (system_state_of self.old) (map op_view ops.now) (map reply_view replies.items) (system_state_of self.new)) }
+        ensures named { IfOk result (λ replies. All RefusesOnlyWithRefusalError replies.items) }
         ensures no_fault { OnOk result (faults self.new.tree.history ≡ faults self.old.tree.history) }
-        ensures headline { IfOk result (λ replies. (from : SystemState) (done : List Operation) (answers : List Answer) → AgreesWithDisk from → AreSessionSteps from done answers (system_state_of self.old)
+        ensures headline { IfOk result (λ replies. (from : SystemState) (done : List Operation) (answers : List Answer) → IsHealthyWithDiskTree from → AreSessionSteps from done answers (system_state_of self.old)
             → IsWhatItsDiskShows from (done ++ map op_view ops.now) (answers ++ map reply_view replies.items) (system_state_of self.new)) }
-        ensures survives { MayLosePower (system_state_of self.old) (system_state_of self.new) → SurvivesPowerLoss (system_state_of self.old) (map op_view ops.now) (system_state_of self.new) }
-        ensures ended { IfErr result (λ e. IsEndedBy e (system_state_of self.old) (map op_view ops.now) (system_state_of self.new)) }
+        ensures survives { IsReadyForPowerLoss (system_state_of self.old) (system_state_of self.new) → IsRunSurvivingPowerLosses (system_state_of self.old) (map op_view ops.now) (system_state_of self.new) }
+        ensures ended { IfErr result (λ e. EndsRunByError e (system_state_of self.old) (map op_view ops.now) (system_state_of self.new)) }
     {
         let mut replies = Vec::new(alloc);
         for op in ops {
@@ -599,12 +602,12 @@ impl<D: BlockDevice> Session<D> {
 /// `Corrupt` exactly where the device has no accepted image in either order. `Io` where a read
 /// failed. `NoMemory` where memory isn't granted. An error comes with the device.
 pub fn mount<D: BlockDevice>(alloc: Global, device: D) -> Result<Session<D>, (D, Error)>
-    ensures begun { IfOk result (λ s. IsFreshSession (ordered s.tree.disk.order (disk_on D.BlockDevice device)) (D.history device) s) }
-    ensures state { IfOk result (λ s. IsJustMounted (ordered s.tree.disk.order (disk_on D.BlockDevice device)) (system_state_of s)) }
-    ensures longer { IfOk result (λ s. s.tree.disk.order ≡ ShorterFirst → (ps : List Pair) → ¬ IsAccepted (ordered LongerFirst (disk_on D.BlockDevice device)) ps) }
-    ensures corrupt { IfErr result (λ e. e.1 ≡ Error.Corrupt → (order : NameOrder) (ps : List Pair) → ¬ IsAccepted (ordered order (disk_on D.BlockDevice device)) ps) }
+    ensures begun { IfOk result (λ s. IsSessionBegunByMount (ordered s.tree.disk.order (disk_of_device D.BlockDevice device)) (D.history device) s) }
+    ensures state { IfOk result (λ s. IsJustMounted (ordered s.tree.disk.order (disk_of_device D.BlockDevice device)) (system_state_of s)) }
+    ensures longer { IfOk result (λ s. s.tree.disk.order ≡ ShorterFirst → (ps : List Pair) → ¬ IsAcceptedImage (ordered LongerFirst (disk_of_device D.BlockDevice device)) ps) }
+    ensures corrupt { IfErr result (λ e. e.1 ≡ Error.Corrupt → (order : NameOrder) (ps : List Pair) → ¬ IsAcceptedImage (ordered order (disk_of_device D.BlockDevice device)) ps) }
     ensures errors { IfErr result (λ e. (e.1 ≡ Error.Io) ⊎ (e.1 ≡ Error.Corrupt) ⊎ (e.1 ≡ Error.NoMemory)) }
-    ensures back { IfErr result (λ e. GivesDeviceBack D.BlockDevice device e.0 e.1) }
+    ensures back { IfErr result (λ e. ReturnsUnchangedDeviceWithError D.BlockDevice device e.0 e.1) }
 {
     match mount_either(alloc, device) {
         Ok(tree) => {
@@ -625,11 +628,11 @@ pub fn mount<D: BlockDevice>(alloc: Global, device: D) -> Result<Session<D>, (D,
 ///
 /// Errors are those of [`format_ordered`].
 pub fn format<D: BlockDevice>(alloc: Global, device: D) -> Result<Session<D>, (D, Error)>
-    ensures formatted { IfOk result (λ s. IsFormatted (kept_of s.tree)) }
+    ensures formatted { IfOk result (λ s. IsFreshlyFormatted (kept_of s.tree)) }
     ensures state { IfOk result (λ s. (system_state_of s).state ≡ Healthy (mounted empty_tree)) }
-    ensures geometry { IfOk result (λ s. SameGeometry (ordered LongerFirst (disk_on D.BlockDevice device)) s.tree.disk) }
-    ensures calls { IfOk result (λ s. WritesFirstTwo (kept_view (ordered LongerFirst (disk_on D.BlockDevice device)) (D.history device) [] []) (kept_of s.tree)) }
-    ensures back { IfErr result (λ e. ReturnsAnyDevice D.BlockDevice (two_of anchor) device e.0 e.1) }
+    ensures geometry { IfOk result (λ s. SameGeometry (ordered LongerFirst (disk_of_device D.BlockDevice device)) s.tree.disk) }
+    ensures calls { IfOk result (λ s. WritesFirstTwoBlocks (kept_thread_view (ordered LongerFirst (disk_of_device D.BlockDevice device)) (D.history device) [] []) (kept_of s.tree)) }
+    ensures back { IfErr result (λ e. ReturnsDeviceInEitherNameOrder D.BlockDevice (blocks_of_address anchor_pair_address) device e.0 e.1) }
 {
     format_ordered(alloc, device, NameOrder::LongerFirst)
 }
@@ -647,11 +650,11 @@ pub fn format_ordered<D: BlockDevice>(
     device: D,
     order: NameOrder,
 ) -> Result<Session<D>, (D, Error)>
-    ensures formatted { IfOk result (λ s. IsFormatted (kept_of s.tree)) }
+    ensures formatted { IfOk result (λ s. IsFreshlyFormatted (kept_of s.tree)) }
     ensures state { IfOk result (λ s. (system_state_of s).state ≡ Healthy (mounted empty_tree)) }
-    ensures geometry { IfOk result (λ s. SameGeometry (ordered order (disk_on D.BlockDevice device)) s.tree.disk) }
-    ensures calls { IfOk result (λ s. WritesFirstTwo (kept_view (ordered order (disk_on D.BlockDevice device)) (D.history device) [] []) (kept_of s.tree)) }
-    ensures back { IfErr result (λ e. ReturnsAnyDevice D.BlockDevice (two_of anchor) device e.0 e.1) }
+    ensures geometry { IfOk result (λ s. SameGeometry (ordered order (disk_of_device D.BlockDevice device)) s.tree.disk) }
+    ensures calls { IfOk result (λ s. WritesFirstTwoBlocks (kept_thread_view (ordered order (disk_of_device D.BlockDevice device)) (D.history device) [] []) (kept_of s.tree)) }
+    ensures back { IfErr result (λ e. ReturnsDeviceInEitherNameOrder D.BlockDevice (blocks_of_address anchor_pair_address) device e.0 e.1) }
 {
     match Tree::format(alloc, Ordered::new(device, order)) {
         Ok(tree) => {

@@ -1,44 +1,44 @@
 // The calls of a writer.
 
 ghost use Rattle.std.specs.Prelude.{ℕ, List, [], true, ◌≡◌, length, IfErr, IfOk, OnErr, OnOk};
-ghost use Rattle.lfs_model.specs.Writers.{opened_writer, after_sync, after_truncate, after_write};
-ghost use Rattle.lfs_tree.specs.OpenContents.{IsOver, IsStoredAt, WritesUnusedBlocks, bytes_held, kept_of};
-ghost use Rattle.lfs_tree.specs.TreeState.{tree_view, WasOnlyRead, IsFailedTree, IsAppliedOn, FailsInRead, IsError, IsSound, LeavesRest, SurvivesAs};
-ghost use Rattle.lfs_writer.specs.Contents.{form_of};
-ghost use Rattle.lfs_fs.specs.WriterChanges.{CanOpenWriter, IsOpenedAs, CanSave, CanTruncate, CanWrite, HasFileContents, IsFormOf, IsSavedAs, IsWriterAs};
-ghost use Rattle.lfs_fs.specs.FileView.{bytes_of, writer_view};
+ghost use Rattle.lfs_model.specs.Writers.{writer_after_open, writer_after_sync, writer_after_truncate, writer_after_write};
+ghost use Rattle.lfs_tree.specs.OpenContents.{AreWriterContentsOverTreeFile, HasStoredBytesAt, WritesUnusedBlocks, bytes_of_writer_contents, kept_of};
+ghost use Rattle.lfs_tree.specs.TreeState.{tree_view, WasTreeOnlyRead, IsFailedTree, IsOperationAppliedToTree, IsTreeFailedByRead, IsErrorWithCause, IsSoundTreeState, LeavesUnconcernedBlocksAlone, SurvivesStopsInTreeCall};
+ghost use Rattle.lfs_writer.specs.Contents.{form_of_contents};
+ghost use Rattle.lfs_fs.specs.WriterChanges.{CanOpenWriter, IsOpenedWriterSeenAs, CanSaveWriter, CanTruncateByWriter, CanWriteByWriter, HasFileUnderUnsavedContents, IsFormOfUnsaved, IsSavedWriterSeenAs, IsChangedWriterSeenAs};
+ghost use Rattle.lfs_fs.specs.FileView.{bytes_of_writer_at_path, writer_view};
 ghost use Rattle.lfs_fs.specs.FlagsView.{flags_view};
-ghost use Rattle.lfs_model.specs.TreeEdits.{tree_with_node, bytes_at, change_at};
+ghost use Rattle.lfs_model.specs.TreeEdits.{tree_after_creation, bytes_at, tree_after_change_of_node};
 ghost use Rattle.lfs_model.specs.Operations as ops;
 ghost use Rattle.lfs_model.specs.Operations.{Flags};
-ghost use Rattle.lfs_model.specs.Refusals.{as_path};
-ghost use Rattle.lfs_model.specs.Effects.{with_bytes};
+ghost use Rattle.lfs_model.specs.Refusals.{path_or_root};
+ghost use Rattle.lfs_model.specs.Effects.{node_with_bytes};
 ghost use Rattle.lfs_model.specs.Tree.{FileNode};
-ghost use Rattle.lfs_tree.specs.Permissions.{CanCreate};
+ghost use Rattle.lfs_tree.specs.Permissions.{CanCreateFileAtPath};
 
-use crate::files::{Unsaved, Writer};
+use crate::files::{UnsavedContents, Writer};
 use crate::flags::OpenFlags;
 use crate::owned_path::OwnedPath;
 use bitflags::Flags;
 use lfs_device::{BlockDevice, Error};
 use lfs_tree::{Tree, contents_stay, operations_take_few_blocks};
-use lfs_writer::{Contents, forms_fit_writer, held_blocks_are_room};
+use lfs_writer::{WriterContents, forms_fit_writer, reserved_blocks_suffice_for_calls};
 use std::alloc::Global;
 
 // Returns the contents of a writer: the changed ones, or else those of the file.
-fn contents_of<D: BlockDevice>(
+fn contents_of_writer<D: BlockDevice>(
     alloc: Global,
     tree: &mut Tree<D>,
     path: &OwnedPath,
-    unsaved: Option<Unsaved>,
-) -> Result<Contents, Error>
-    requires { HasFileContents tree.old path.now unsaved }
-    ensures asked { OnOk result (WasOnlyRead tree.old tree.new) }
-    ensures over { IfOk result (IsOver tree.new path.now) }
-    ensures bytes { IfOk result (λ c. bytes_held (kept_of tree.new) c ≡ bytes_of tree.old path.now unsaved) }
-    ensures form { IfOk result (λ c. IsFormOf tree.old.disk.block_size unsaved (length (bytes_of tree.old path.now unsaved)) (form_of c)) }
-    ensures broken { OnErr result (FailsInRead tree.old tree.new) }
-    ensures errors { IfErr result (IsError tree.old tree.new) }
+    unsaved: Option<UnsavedContents>,
+) -> Result<WriterContents, Error>
+    requires { HasFileUnderUnsavedContents tree.old path.now unsaved }
+    ensures asked { OnOk result (WasTreeOnlyRead tree.old tree.new) }
+    ensures over { IfOk result (AreWriterContentsOverTreeFile tree.new path.now) }
+    ensures bytes { IfOk result (λ c. bytes_of_writer_contents (kept_of tree.new) c ≡ bytes_of_writer_at_path tree.old path.now unsaved) }
+    ensures form { IfOk result (λ c. IsFormOfUnsaved tree.old.disk.block_size unsaved (length (bytes_of_writer_at_path tree.old path.now unsaved)) (form_of_contents c)) }
+    ensures broken { OnErr result (IsTreeFailedByRead tree.old tree.new) }
+    ensures errors { IfErr result (IsErrorWithCause tree.old tree.new) }
 {
     match unsaved {
         Some(unsaved) => Ok(unsaved.contents),
@@ -47,23 +47,23 @@ fn contents_of<D: BlockDevice>(
 }
 
 // Returns the writer after it wrote bytes, at least one.
-pub(crate) fn write_by<D: BlockDevice>(
+pub(crate) fn writer_after_writing<D: BlockDevice>(
     alloc: Global,
     tree: &mut Tree<D>,
     writer: Writer,
     bytes: &[u8],
 ) -> Result<Writer, Error>
-    requires { CanWrite tree.old writer bytes.now }
-    ensures written { IfOk result (IsWriterAs tree.new (after_write (writer_view tree.old writer) bytes.now)) }
+    requires { CanWriteByWriter tree.old writer bytes.now }
+    ensures written { IfOk result (IsChangedWriterSeenAs tree.new (writer_after_write (writer_view tree.old writer) bytes.now)) }
     ensures beside { OnOk result (WritesUnusedBlocks tree.old tree.new) }
     ensures broken { OnErr result (IsFailedTree tree.old tree.new) }
-    ensures errors { IfErr result (IsError tree.old tree.new) }
-    ensures survives { IsSound tree.old → SurvivesAs tree.old tree.new (tree_view tree.old) }
+    ensures errors { IfErr result (IsErrorWithCause tree.old tree.new) }
+    ensures survives { IsSoundTreeState tree.old → SurvivesStopsInTreeCall tree.old tree.new (tree_view tree.old) }
 {
     forms_fit_writer();
-    held_blocks_are_room();
+    reserved_blocks_suffice_for_calls();
     let place = writer.place();
-    let has_turned = writer.has_turned_at(place.min(writer.size));
+    let has_turned = writer.is_nonsequential_after_change_at(place.min(writer.size));
     let end = place + bytes.len() as u32;
     let Writer {
         path,
@@ -72,14 +72,14 @@ pub(crate) fn write_by<D: BlockDevice>(
         unsaved,
         ..
     } = writer;
-    let contents = contents_of(alloc, tree, &path, unsaved)?;
+    let contents = contents_of_writer(alloc, tree, &path, unsaved)?;
     let contents = tree.write(alloc, contents, place, bytes)?;
     Ok(Writer {
         path,
         position: end,
         size: size.max(end),
         appends,
-        unsaved: Some(Unsaved {
+        unsaved: Some(UnsavedContents {
             contents,
             has_turned,
             last_end: Some(end),
@@ -88,23 +88,23 @@ pub(crate) fn write_by<D: BlockDevice>(
 }
 
 // Returns the writer after its contents got another size.
-pub(crate) fn truncate_by<D: BlockDevice>(
+pub(crate) fn writer_after_truncating<D: BlockDevice>(
     alloc: Global,
     tree: &mut Tree<D>,
     writer: Writer,
     new_size: u32,
 ) -> Result<Writer, Error>
-    requires { CanTruncate tree.old writer new_size }
-    ensures written { IfOk result (IsWriterAs tree.new (after_truncate (writer_view tree.old writer) new_size)) }
+    requires { CanTruncateByWriter tree.old writer new_size }
+    ensures written { IfOk result (IsChangedWriterSeenAs tree.new (writer_after_truncate (writer_view tree.old writer) new_size)) }
     ensures beside { OnOk result (WritesUnusedBlocks tree.old tree.new) }
     ensures broken { OnErr result (IsFailedTree tree.old tree.new) }
-    ensures errors { IfErr result (IsError tree.old tree.new) }
-    ensures survives { IsSound tree.old → SurvivesAs tree.old tree.new (tree_view tree.old) }
+    ensures errors { IfErr result (IsErrorWithCause tree.old tree.new) }
+    ensures survives { IsSoundTreeState tree.old → SurvivesStopsInTreeCall tree.old tree.new (tree_view tree.old) }
 {
     forms_fit_writer();
-    held_blocks_are_room();
-    let has_turned = writer.has_turned_by_size();
-    let last_end = writer.end_by_size(new_size);
+    reserved_blocks_suffice_for_calls();
+    let has_turned = writer.is_nonsequential_after_resize();
+    let last_end = writer.last_end_after_resize(new_size);
     let Writer {
         path,
         position,
@@ -112,14 +112,14 @@ pub(crate) fn truncate_by<D: BlockDevice>(
         unsaved,
         ..
     } = writer;
-    let contents = contents_of(alloc, tree, &path, unsaved)?;
+    let contents = contents_of_writer(alloc, tree, &path, unsaved)?;
     let contents = tree.truncate(alloc, contents, new_size)?;
     Ok(Writer {
         path,
         position,
         size: new_size,
         appends,
-        unsaved: Some(Unsaved {
+        unsaved: Some(UnsavedContents {
             contents,
             has_turned,
             last_end,
@@ -128,19 +128,19 @@ pub(crate) fn truncate_by<D: BlockDevice>(
 }
 
 // Returns the writer after its changes were committed to the tree.
-pub(crate) fn save<D: BlockDevice>(
+pub(crate) fn writer_after_saving<D: BlockDevice>(
     alloc: Global,
     tree: &mut Tree<D>,
     writer: Writer,
 ) -> Result<Writer, Error>
-    requires { CanSave tree.old writer }
-    ensures stored { OnOk result (IsStoredAt tree.old writer.path (bytes_of tree.old writer.path writer.unsaved) tree.new) }
-    ensures saved { IfOk result (IsSavedAs tree.new (after_sync (writer_view tree.old writer))) }
+    requires { CanSaveWriter tree.old writer }
+    ensures stored { OnOk result (HasStoredBytesAt tree.old writer.path (bytes_of_writer_at_path tree.old writer.path writer.unsaved) tree.new) }
+    ensures saved { IfOk result (IsSavedWriterSeenAs tree.new (writer_after_sync (writer_view tree.old writer))) }
     ensures broken { OnErr result (IsFailedTree tree.old tree.new) }
-    ensures errors { IfErr result (IsError tree.old tree.new) }
-    ensures survives { SurvivesAs tree.old tree.new (change_at writer.path (with_bytes (bytes_of tree.old writer.path writer.unsaved)) (tree_view tree.old)) }
+    ensures errors { IfErr result (IsErrorWithCause tree.old tree.new) }
+    ensures survives { SurvivesStopsInTreeCall tree.old tree.new (tree_after_change_of_node writer.path (node_with_bytes (bytes_of_writer_at_path tree.old writer.path writer.unsaved)) (tree_view tree.old)) }
 {
-    held_blocks_are_room();
+    reserved_blocks_suffice_for_calls();
     let Writer {
         path,
         position,
@@ -162,7 +162,7 @@ pub(crate) fn save<D: BlockDevice>(
 }
 
 // Opens a writer of a file that is there, at its beginning. A recovery comes first.
-pub(crate) fn begin_existing<D: BlockDevice>(
+pub(crate) fn writer_of_existing_file<D: BlockDevice>(
     alloc: Global,
     tree: &mut Tree<D>,
     path: OwnedPath,
@@ -170,11 +170,11 @@ pub(crate) fn begin_existing<D: BlockDevice>(
     flags: OpenFlags,
 ) -> Result<Writer, Error>
     requires { CanOpenWriter tree.old path size (flags_view flags).truncate }
-    ensures recovered { OnOk result (IsAppliedOn tree.old ops.Recover tree.new) }
-    ensures begun { IfOk result (IsOpenedAs tree.new (opened_writer path (flags_view flags) (bytes_at (tree_view tree.old path)))) }
+    ensures recovered { OnOk result (IsOperationAppliedToTree tree.old ops.Recover tree.new) }
+    ensures begun { IfOk result (IsOpenedWriterSeenAs tree.new (writer_after_open path (flags_view flags) (bytes_at (tree_view tree.old path)))) }
     ensures broken { OnErr result (IsFailedTree tree.old tree.new) }
-    ensures errors { IfErr result (IsError tree.old tree.new) }
-    ensures survives { SurvivesAs tree.old tree.new (tree_view tree.old) }
+    ensures errors { IfErr result (IsErrorWithCause tree.old tree.new) }
+    ensures survives { SurvivesStopsInTreeCall tree.old tree.new (tree_view tree.old) }
 {
     operations_take_few_blocks();
     contents_stay();
@@ -187,7 +187,7 @@ pub(crate) fn begin_existing<D: BlockDevice>(
             position: 0,
             size: 0,
             appends,
-            unsaved: Some(Unsaved {
+            unsaved: Some(UnsavedContents {
                 contents,
                 has_turned: false,
                 last_end: None,
@@ -205,18 +205,18 @@ pub(crate) fn begin_existing<D: BlockDevice>(
 }
 
 // Opens a writer of an empty file, which is made.
-pub(crate) fn begin_new<D: BlockDevice>(
+pub(crate) fn writer_of_new_file<D: BlockDevice>(
     alloc: Global,
     tree: &mut Tree<D>,
     path: OwnedPath,
     flags: OpenFlags,
 ) -> Result<Writer, Error>
-    requires { CanCreate tree.old path }
-    ensures made { OnOk result ((bytes : List ℕ) (flags : Flags) → as_path bytes ≡ path → flags.write ≡ true → IsAppliedOn tree.old (ops.Open bytes flags) tree.new × LeavesRest tree.old (ops.Open bytes flags) tree.new) }
-    ensures begun { IfOk result (IsOpenedAs tree.new (opened_writer path (flags_view flags) [])) }
+    requires { CanCreateFileAtPath tree.old path }
+    ensures made { OnOk result ((bytes : List ℕ) (flags : Flags) → path_or_root bytes ≡ path → flags.write ≡ true → IsOperationAppliedToTree tree.old (ops.Open bytes flags) tree.new × LeavesUnconcernedBlocksAlone tree.old (ops.Open bytes flags) tree.new) }
+    ensures begun { IfOk result (IsOpenedWriterSeenAs tree.new (writer_after_open path (flags_view flags) [])) }
     ensures broken { OnErr result (IsFailedTree tree.old tree.new) }
-    ensures errors { IfErr result (IsError tree.old tree.new) }
-    ensures survives { SurvivesAs tree.old tree.new (tree_with_node path (FileNode [] []) (tree_view tree.old)) }
+    ensures errors { IfErr result (IsErrorWithCause tree.old tree.new) }
+    ensures survives { SurvivesStopsInTreeCall tree.old tree.new (tree_after_creation path (FileNode [] []) (tree_view tree.old)) }
 {
     tree.create(alloc, &path.lend())?;
     Ok(Writer {

@@ -4,24 +4,24 @@ use lfs_device::Error;
 use lfs_fs::{Gstate, Item as Listed, Kind, Op, Reply};
 
 /// A name, and a file's size or None for a directory.
-pub type Item<'a> = (&'a [u8], Option<u32>);
+pub type ExpectedItem<'a> = (&'a [u8], Option<u32>);
 
 /// An expected reply.
 #[derive(Clone, Copy)]
-pub enum Answer<'a> {
+pub enum ExpectedReply<'a> {
     Done,
     Fd(u32),
     Bytes(&'a [u8]),
     Count(u32),
-    Items(&'a [Item<'a>]),
+    Items(&'a [ExpectedItem<'a>]),
     Gstate(Gstate),
     Refused(Error),
 }
 
 /// An operation with its answer.
-pub type Row<'a> = (Op<'a>, Answer<'a>);
+pub type Row<'a> = (Op<'a>, ExpectedReply<'a>);
 
-fn are_items(items: &[Listed], rows: &[Item<'_>]) -> bool {
+fn are_items(items: &[Listed], rows: &[ExpectedItem<'_>]) -> bool {
     if items.len() != rows.len() {
         return false;
     }
@@ -38,18 +38,18 @@ fn are_items(items: &[Listed], rows: &[Item<'_>]) -> bool {
 }
 
 /// Whether a reply is the answer.
-pub fn is_answer(reply: &Reply, answer: Answer<'_>) -> bool {
+pub fn is_answer(reply: &Reply, answer: ExpectedReply<'_>) -> bool {
     match answer {
-        Answer::Done => matches!(reply, Reply::Done),
-        Answer::Fd(fd) => matches!(reply, Reply::Fd(found) if *found == fd),
-        Answer::Bytes(bytes) => {
+        ExpectedReply::Done => matches!(reply, Reply::Done),
+        ExpectedReply::Fd(fd) => matches!(reply, Reply::Fd(found) if *found == fd),
+        ExpectedReply::Bytes(bytes) => {
             matches!(reply, Reply::Bytes(found) if found.as_slice() == bytes)
         }
-        Answer::Count(count) => matches!(reply, Reply::Count(found) if *found == count),
-        Answer::Items(rows) => {
+        ExpectedReply::Count(count) => matches!(reply, Reply::Count(found) if *found == count),
+        ExpectedReply::Items(rows) => {
             matches!(reply, Reply::Items(items) if are_items(items.as_slice(), rows))
         }
-        Answer::Gstate(gstate) => matches!(reply, Reply::Gstate(found) if *found == gstate),
-        Answer::Refused(error) => matches!(reply, Reply::Refused(found) if *found == error),
+        ExpectedReply::Gstate(gstate) => matches!(reply, Reply::Gstate(found) if *found == gstate),
+        ExpectedReply::Refused(error) => matches!(reply, Reply::Refused(found) if *found == error),
     }
 }

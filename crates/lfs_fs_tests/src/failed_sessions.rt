@@ -1,7 +1,7 @@
 // What a session answers that has failed.
 
-use crate::answers::Answer::Refused;
-use crate::answers::{Answer, Row};
+use crate::answers::ExpectedReply::Refused;
+use crate::answers::{ExpectedReply, Row};
 use crate::row_runs::first_wrong;
 use lfs_device::{Error, FaultDevice, RamDevice, Which};
 use lfs_fs::Op::{
@@ -13,7 +13,7 @@ use std::alloc::Global;
 /// A device in memory, one of whose calls fails.
 pub type Faulty = FaultDevice<RamDevice>;
 
-const FAILED: Answer<'static> = Refused(Error::Failed);
+const FAILED: ExpectedReply<'static> = Refused(Error::Failed);
 
 // Not even a path is looked at.
 const AFTER: [Row<'static>; 13] = [

@@ -1,6 +1,6 @@
 // A script where any one allocation fails: this holds whichever it is (bench/fail_alloc.py).
 
-use crate::answers::Answer::Done;
+use crate::answers::ExpectedReply::Done;
 use crate::row_runs::first_wrong;
 use crate::scripts::{LENGTH, carry_out_rows, has_lost_nothing, long_rows, long_script};
 use crate::starts::{Start, device_of, mount_image};

@@ -3,19 +3,19 @@
 ghost use Rattle.std.specs.Prelude.{◌≡◌};
 ghost use Rattle.lfs_model.specs.Disk.{Disk};
 ghost use Rattle.lfs_model.specs.Operations as ops;
-ghost use Rattle.lfs_model.specs.PowerLoss.{IsLeftByStop};
-ghost use Rattle.lfs_model.specs.Premises.{MeetsPremises};
-ghost use Rattle.lfs_model.specs.RepeatedPowerLoss.{IsJustMounted, SameBytes};
+ghost use Rattle.lfs_model.specs.PowerLoss.{ShowsTreeBeforeOrAfter};
+ghost use Rattle.lfs_model.specs.Premises.{MeetsPowerLossPremises};
+ghost use Rattle.lfs_model.specs.RepeatedPowerLoss.{IsJustMounted, HasSameDiskBytes};
 ghost use Rattle.lfs_model.specs.Tree.{Tree};
 ghost use Rattle.lfs_model.specs.declared.order.NameOrder.{NameOrder};
 ghost use Rattle.lfs_device.specs.RamDevice.{geometry_of, ram_blocks};
-ghost use Rattle.lfs_device.specs.Shown.{disk_of, ordered};
+ghost use Rattle.lfs_device.specs.Shown.{disk_of_geometry_and_blocks, ordered};
 ghost use Rattle.lfs_fs.specs.SessionView.{system_state_of};
-ghost use Rattle.lfs_fs_tests.specs.Recovered.{Recovers, RecoversFrom};
+ghost use Rattle.lfs_fs_tests.specs.Recovered.{RecoversEitherTree, RecoversFromStoppedOperation};
 
 use lfs_device::{Error, FaultDevice, RamDevice, ram_devices_are_reliable};
 use lfs_fs::{Session, mount};
-use lfs_model::losses_are_survived;
+use lfs_model::stop_leaves_safe_disk;
 use std::alloc::Global;
 
 // The session that a mount began, with nothing left to recover.
@@ -23,10 +23,10 @@ fn recover_session(
     alloc: Global,
     mut session: Session<RamDevice>,
 ) -> Result<Session<RamDevice>, Error>
-    ensures { (left other : Disk) (before after : Tree) → IsLeftByStop left before after → SameBytes left other → IsJustMounted other (system_state_of session)
-        → Recovers before after result }
+    ensures { (left other : Disk) (before after : Tree) → ShowsTreeBeforeOrAfter left before after → HasSameDiskBytes left other → IsJustMounted other (system_state_of session)
+        → RecoversEitherTree before after result }
 {
-    losses_are_survived();
+    stop_leaves_safe_disk();
     match session.recover(alloc) {
         Ok(()) => Ok(session),
         Err(error) => Err(error),
@@ -35,8 +35,8 @@ fn recover_session(
 
 // A session over a device with an image, with nothing left to recover.
 fn recover_device(alloc: Global, device: RamDevice) -> Result<Session<RamDevice>, Error>
-    ensures { (order : NameOrder) (before after : Tree) → IsLeftByStop (ordered order (disk_of (geometry_of device) (ram_blocks device))) before after
-        → Recovers before after result }
+    ensures { (order : NameOrder) (before after : Tree) → ShowsTreeBeforeOrAfter (ordered order (disk_of_geometry_and_blocks (geometry_of device) (ram_blocks device))) before after
+        → RecoversEitherTree before after result }
 {
     match mount(alloc, device) {
         Ok(session) => recover_session(alloc, session),
@@ -54,7 +54,7 @@ pub fn recover_from_stop(
     alloc: Global,
     session: Session<FaultDevice<RamDevice>>,
 ) -> Result<Session<RamDevice>, Error>
-    ensures { (before after : Tree) → (MeetsPremises session.tree.history → IsLeftByStop session.tree.disk before after) → Recovers before after result }
+    ensures { (before after : Tree) → (MeetsPowerLossPremises session.tree.history → ShowsTreeBeforeOrAfter session.tree.disk before after) → RecoversEitherTree before after result }
 {
     ram_devices_are_reliable();
     let device = session.unmount();
@@ -77,7 +77,7 @@ pub fn rename_despite_stop(
     from: &[u8],
     to: &[u8],
 ) -> Result<Session<RamDevice>, Error>
-    ensures { RecoversFrom (system_state_of session) (ops.Rename from.now to.now) result }
+    ensures { RecoversFromStoppedOperation (system_state_of session) (ops.Rename from.now to.now) result }
 {
     let _ = session.rename(alloc, from, to);
     recover_from_stop(alloc, session)

@@ -1,12 +1,12 @@
 // Short scripts, on devices that hold something already.
 
-use crate::answers::Answer::{Done, Fd, Items};
+use crate::answers::ExpectedReply::{Done, Fd, Items};
 use crate::answers::Row;
 use crate::row_runs::first_wrong;
-use crate::scripts::{Script, Tree};
+use crate::scripts::{ExpectedTree, Script};
 use crate::starts::{Start, device_of, mount_image};
 use lfs_device::{Error, RamDevice};
-use lfs_fixtures::Held;
+use lfs_fixtures::BlockFilling;
 use lfs_fs::Op::{Close, List, Mkdir, Open, Recover, Remove, Rename};
 use lfs_fs::OpenFlags;
 use std::alloc::Global;
@@ -51,7 +51,7 @@ const MOVING: Start<'static> = Start::Image(
     ],
     &[(
         2,
-        Held::Commit(&[(0x0010_0001, b"f"), (0x2010_0002, b"hi")]),
+        BlockFilling::Commit(&[(0x0010_0001, b"f"), (0x2010_0002, b"hi")]),
     )],
 );
 
@@ -106,7 +106,7 @@ const MAKING: Script<'static> = Script {
     behind: &[0, 1],
 };
 
-const FOUR: Tree<'static> = (
+const FOUR: ExpectedTree<'static> = (
     &[(
         List(b"/"),
         Items(&[(A, Some(0)), (B, Some(0)), (C, Some(0)), (D, Some(0))]),

@@ -1,7 +1,7 @@
 // A script of operations, and what stands behind each.
 
-use crate::answers::Answer::{Bytes, Count, Done, Fd, Gstate as GstateIs, Items, Refused};
-use crate::answers::{Answer, Row};
+use crate::answers::ExpectedReply::{Bytes, Count, Done, Fd, Gstate as GstateIs, Items, Refused};
+use crate::answers::{ExpectedReply, Row};
 use crate::row_runs::first_wrong;
 use lfs_device::{BlockDevice, Error};
 use lfs_fs::Op::{
@@ -17,13 +17,13 @@ pub const LENGTH: usize = 14;
 const READ: OpenFlags = OpenFlags::READ;
 
 /// A tree, by what is answered of it, and how many blocks it takes, if that isn't free.
-pub type Tree<'a> = (&'a [Row<'a>], Option<u32>);
+pub type ExpectedTree<'a> = (&'a [Row<'a>], Option<u32>);
 
 /// Operations, the trees in turn, and which of these stands behind so many operations.
 #[derive(Clone, Copy)]
 pub struct Script<'a> {
     pub rows: &'a [Row<'a>],
-    pub trees: &'a [Tree<'a>],
+    pub trees: &'a [ExpectedTree<'a>],
     pub behind: &'a [usize],
 }
 
@@ -47,13 +47,13 @@ pub fn long_rows(new: OpenFlags) -> [Row<'static>; LENGTH] {
     ]
 }
 
-const NO_ATTR: Answer<'static> = Refused(Error::NoAttr);
+const NO_ATTR: ExpectedReply<'static> = Refused(Error::NoAttr);
 
-const ONLY_D: Answer<'static> = Items(&[(b"d", None)]);
+const ONLY_D: ExpectedReply<'static> = Items(&[(b"d", None)]);
 
-const ONLY_F: Answer<'static> = Items(&[(b"f", Some(5000))]);
+const ONLY_F: ExpectedReply<'static> = Items(&[(b"f", Some(5000))]);
 
-const TREES: &[Tree<'static>] = &[
+const TREES: &[ExpectedTree<'static>] = &[
     (&[(List(b"/"), Items(&[]))], Some(2)),
     (&[(List(b"/"), ONLY_D), (List(b"/d"), Items(&[]))], Some(4)),
     (
@@ -133,10 +133,10 @@ pub fn carry_out_rows<D: BlockDevice>(
 }
 
 // Whether a tree is seen.
-fn is_seen<D: BlockDevice>(
+fn is_tree_seen<D: BlockDevice>(
     alloc: Global,
     session: &mut Session<D>,
-    tree: Option<&Tree<'_>>,
+    tree: Option<&ExpectedTree<'_>>,
 ) -> Result<bool, Error> {
     match tree {
         Some(tree) => Ok(first_wrong(alloc, session, tree.0)?.is_none()),
@@ -144,16 +144,16 @@ fn is_seen<D: BlockDevice>(
     }
 }
 
-const NO_GSTATE: Answer<'static> = GstateIs(Gstate {
+const NO_GSTATE: ExpectedReply<'static> = GstateIs(Gstate {
     sync: false,
     moving: None,
 });
 
 // Whether nothing is left to recover, and a tree's blocks are those that are used.
-fn is_settled<D: BlockDevice>(
+fn leaves_nothing_to_recover<D: BlockDevice>(
     alloc: Global,
     session: &mut Session<D>,
-    tree: Option<&Tree<'_>>,
+    tree: Option<&ExpectedTree<'_>>,
 ) -> Result<bool, Error> {
     let used = match tree {
         Some((_, used)) => *used,
@@ -170,13 +170,17 @@ fn is_settled<D: BlockDevice>(
 fn stays<D: BlockDevice>(
     alloc: Global,
     session: &mut Session<D>,
-    tree: Option<&Tree<'_>>,
+    tree: Option<&ExpectedTree<'_>>,
 ) -> Result<bool, Error> {
-    if !is_seen(alloc, session, tree)? {
+    if !is_tree_seen(alloc, session, tree)? {
         return Ok(false);
     }
     let recovered = first_wrong(alloc, session, &[(Recover, Done)])?;
-    Ok(recovered.is_none() && is_seen(alloc, session, tree)? && is_settled(alloc, session, tree)?)
+    Ok(
+        recovered.is_none()
+            && is_tree_seen(alloc, session, tree)?
+            && leaves_nothing_to_recover(alloc, session, tree)?,
+    )
 }
 
 // Which trees may stand where so many operations were carried out, and the next one maybe.
@@ -198,7 +202,7 @@ pub fn tree_view<D: BlockDevice>(
     done: usize,
 ) -> Result<usize, Error> {
     let (before, behind) = trees_at(script, done);
-    let is_before = is_seen(alloc, session, script.trees.get(before))?;
+    let is_before = is_tree_seen(alloc, session, script.trees.get(before))?;
     Ok(if is_before { before } else { behind })
 }
 

@@ -1,7 +1,7 @@
 // Devices, made empty or with an image, and sessions over them.
 
 use lfs_device::{BlockDevice, Error, Geometry, RamDevice};
-use lfs_fixtures::{Entries, Held, image_with};
+use lfs_fixtures::{BlockFilling, FixtureEntries, image_with_second_commit};
 use lfs_fs::{Session, format, mount};
 use std::alloc::Global;
 
@@ -12,7 +12,7 @@ pub enum Start<'a> {
     Fresh(u32, u32, u32),
     /// What stands behind the superblock of an image of 16 blocks of 4,096 bytes, and its other
     /// blocks.
-    Image(Entries<'a>, &'a [(usize, Held<'a>)]),
+    Image(FixtureEntries<'a>, &'a [(usize, BlockFilling<'a>)]),
 }
 
 /// The session over the image of a device.
@@ -40,7 +40,7 @@ pub fn device_of(alloc: Global, start: Start<'_>) -> Result<RamDevice, Error> {
             Ok(session.unmount())
         }
         Start::Image(entries, others) => {
-            let bytes = image_with(alloc, entries, others)?;
+            let bytes = image_with_second_commit(alloc, entries, others)?;
             RamDevice::from_bytes(Geometry::new(4096, 256, 16)?, bytes)
         }
     }

@@ -1,6 +1,6 @@
 // Scripts on devices that stop, and one on devices one of whose calls fails.
 
-use crate::answers::Answer::Done;
+use crate::answers::ExpectedReply::Done;
 use crate::answers::Row;
 use crate::failed_sessions::{Faulty, has_failed};
 use crate::row_runs::first_wrong;

@@ -6,22 +6,22 @@ use Rattle.std.proofs.lemmas.List.{map-append}
 use Rattle.std.proofs.lemmas.List.Sums.{sum_by-append, sum_by-cons}
 use Rattle.lfs_device.specs.declared.error.Error.{Error}
 use Rattle.lfs_model.specs.Disk.{Disk}
-use Rattle.lfs_model.specs.Frame.{pairs_of_path, parents}
+use Rattle.lfs_model.specs.Frame.{pair_count_of_directory_at, parents}
 use Rattle.lfs_model.specs.History.{reads}
-use Rattle.lfs_model.specs.InDirectory.{run_length}
+use Rattle.lfs_model.specs.InDirectory.{hard_tail_joined_pair_count}
 use Rattle.lfs_model.specs.Names.{Name}
 use Rattle.lfs_model.specs.Operations.{Refusal}
-use Rattle.lfs_model.specs.Session.{directory_fault, parent_fault}
+use Rattle.lfs_model.specs.Session.{refusal_unless_directory, refusal_of_parents}
 use Rattle.lfs_model.specs.SlotEdits.{slot_of_path}
 use Rattle.lfs_model.specs.Slots.{Slot, Struct, Inline, Ctz, Branch}
 use Rattle.lfs_model.specs.Thread.{gstate_of}
-use Rattle.lfs_model.specs.Tree.{Path, Tree, branch_of, node_of}
-use Rattle.lfs_model.specs.View.{IsAccepted}
-use Rattle.lfs_model.specs.Shown.{PathLeadsTo, contents_in, entries_in, tree_in}
+use Rattle.lfs_model.specs.Tree.{Path, Tree, branch_address_of_struct, node_of_struct_and_attributes}
+use Rattle.lfs_model.specs.View.{IsAcceptedImage}
+use Rattle.lfs_model.specs.Shown.{IsPathToDirectory, skip_list_bytes_on_disk, entries_by_directory_in_thread, tree_on_disk}
 use Rattle.lfs_thread.specs.Kept.{Kept}
-use Rattle.lfs_thread.specs.Steps.{IsOnlyRead}
-use Rattle.lfs_lookup.specs.Paths.{BeginsOnPath, Descends, Enters, HidesOnly, IsShownAt, IsEntryOfName, LeadsTo, ShowsTo}
-use Rattle.lfs_lookup.specs.Search.{HidesFrom}
+use Rattle.lfs_thread.specs.Steps.{IsThreadOnlyRead}
+use Rattle.lfs_lookup.specs.Paths.{PathLeadsToFirstPair, IsParentFoundAlongPath, IsParentAtPath, HidesOnlyMovedSlot, IsEntryBelowRootWithSlotHidden, IsFoundEntryOfName, PathLeadsToFound, IsLookupResultWithSlotHidden}
+use Rattle.lfs_lookup.specs.Search.{HidesMovedSlotFrom}
 use Rattle.lfs_lookup.specs.declared.search.Spot.{Spot}
 use Rattle.lfs_lookup.specs.declared.paths.Shown.{Shown}
 use Rattle.lfs_lookup.specs.declared.paths.Shown.TheVariants as shown
@@ -80,20 +80,20 @@ sum_more f p (n ∷ q) =
 -- ---- faults
 
 fault_step : (t : Tree) (above : Path) (n : Name) (rest : Path) (name : Name)
-    → parent_fault t above (n ∷ (rest ++ name ∷ [])) ≡ option_or (directory_fault (t (above ++ n ∷ []))) (parent_fault t (above ++ n ∷ []) (rest ++ name ∷ []))
+    → refusal_of_parents t above (n ∷ (rest ++ name ∷ [])) ≡ option_or (refusal_unless_directory (t (above ++ n ∷ []))) (refusal_of_parents t (above ++ n ∷ []) (rest ++ name ∷ []))
 fault_step t above n [] name = refl
 fault_step t above n (r ∷ rest) name = refl
 
 -- a directory refuses nothing
-pub directory_is : (t : Kept) (path : Path) (at : ℕ × ℕ) → PathLeadsTo t.pairs path at → directory_fault (tree_in t.disk t.pairs path) ≡ None
+pub directory_is : (t : Kept) (path : Path) (at : ℕ × ℕ) → IsPathToDirectory t.pairs path at → refusal_unless_directory (tree_on_disk t.disk t.pairs path) ≡ None
 directory_is t path at leads = go (slot_of_path t.pairs path) leads
   where
-    by_struct : (f : Slot) (s : Struct) → branch_of s ≡ Some at → directory_fault (Some (node_of (contents_in t.disk) (entries_in t.pairs) f.attributes s)) ≡ None
+    by_struct : (f : Slot) (s : Struct) → branch_address_of_struct s ≡ Some at → refusal_unless_directory (Some (node_of_struct_and_attributes (skip_list_bytes_on_disk t.disk) (entries_by_directory_in_thread t.pairs) f.attributes s)) ≡ None
     by_struct f (Inline bytes) e = absurd (cc)
     by_struct f (Ctz head size) e = absurd (cc)
     by_struct f (Branch to) e = refl
 
-    go : (o : Option Slot) → option_and_then (λ (f : Slot). branch_of f.struct) o ≡ Some at → directory_fault (option_map (λ (f : Slot). node_of (contents_in t.disk) (entries_in t.pairs) f.attributes f.struct) o) ≡ None
+    go : (o : Option Slot) → option_and_then (λ (f : Slot). branch_address_of_struct f.struct) o ≡ Some at → refusal_unless_directory (option_map (λ (f : Slot). node_of_struct_and_attributes (skip_list_bytes_on_disk t.disk) (entries_by_directory_in_thread t.pairs) f.attributes f.struct) o) ≡ None
     go None e = absurd (cc)
     go (Some f) e = by_struct f f.struct e
 
@@ -101,44 +101,44 @@ directory_is t path at leads = go (slot_of_path t.pairs path) leads
 
 -- the first i components of the path are directories, and the last of them begins with the pair of that number
 pub record HasDescended (t now : Kept) (path : Path) (i first : ℕ) : Type 0 where
-  pub begins : BeginsOnPath t.pairs (take i path) first
-  pub still : (name : Name) → parent_fault (tree_in t.disk t.pairs) [] (path ++ name ∷ []) ≡ parent_fault (tree_in t.disk t.pairs) (take i path) (drop i path ++ name ∷ [])
-  pub few : reads now.history ≤ reads t.history + sum_by (pairs_of_path t.pairs) (parents (take i path))
+  pub begins : PathLeadsToFirstPair t.pairs (take i path) first
+  pub still : (name : Name) → refusal_of_parents (tree_on_disk t.disk t.pairs) [] (path ++ name ∷ []) ≡ refusal_of_parents (tree_on_disk t.disk t.pairs) (take i path) (drop i path ++ name ∷ [])
+  pub few : reads now.history ≤ reads t.history + sum_by (pair_count_of_directory_at t.pairs) (parents (take i path))
 
 module _ (t now next : Kept) (path : Path) (i first : ℕ) (n : Name) (d : HasDescended t now path i first) (at : slice_get path i ≡ Some n) where
-  pub refused_by : (name : Name) → parent_fault (tree_in t.disk t.pairs) [] (path ++ name ∷ [])
-      ≡ option_or (directory_fault (tree_in t.disk t.pairs (take i path ++ n ∷ []))) (parent_fault (tree_in t.disk t.pairs) (take i path ++ n ∷ []) (drop (i + 1) path ++ name ∷ []))
-  refused_by name = d.still name ∙ ap (λ z. parent_fault (tree_in t.disk t.pairs) (take i path) (z ++ name ∷ [])) (drop_on path i n at) ∙ fault_step (tree_in t.disk t.pairs) (take i path) n (drop (i + 1) path) name
+  pub refused_by : (name : Name) → refusal_of_parents (tree_on_disk t.disk t.pairs) [] (path ++ name ∷ [])
+      ≡ option_or (refusal_unless_directory (tree_on_disk t.disk t.pairs (take i path ++ n ∷ []))) (refusal_of_parents (tree_on_disk t.disk t.pairs) (take i path ++ n ∷ []) (drop (i + 1) path ++ name ∷ []))
+  refused_by name = d.still name ∙ ap (λ z. refusal_of_parents (tree_on_disk t.disk t.pairs) (take i path) (z ++ name ∷ [])) (drop_on path i n at) ∙ fault_step (tree_on_disk t.disk t.pairs) (take i path) n (drop (i + 1) path) name
 
-  pub stops_at : (refusal : Refusal) → directory_fault (tree_in t.disk t.pairs (take i path ++ n ∷ [])) ≡ Some refusal → (name : Name) → parent_fault (tree_in t.disk t.pairs) [] (path ++ name ∷ []) ≡ Some refusal
-  stops_at refusal e name = refused_by name ∙ ap (λ o. option_or o (parent_fault (tree_in t.disk t.pairs) (take i path ++ n ∷ []) (drop (i + 1) path ++ name ∷ []))) e
+  pub stops_at : (refusal : Refusal) → refusal_unless_directory (tree_on_disk t.disk t.pairs (take i path ++ n ∷ [])) ≡ Some refusal → (name : Name) → refusal_of_parents (tree_on_disk t.disk t.pairs) [] (path ++ name ∷ []) ≡ Some refusal
+  stops_at refusal e name = refused_by name ∙ ap (λ o. option_or o (refusal_of_parents (tree_on_disk t.disk t.pairs) (take i path ++ n ∷ []) (drop (i + 1) path ++ name ∷ []))) e
 
-  module _ (more : reads next.history ≤ reads now.history + pairs_of_path t.pairs (take i path)) where
-    few_on : reads next.history ≤ reads t.history + sum_by (pairs_of_path t.pairs) (parents (take (i + 1) path))
+  module _ (more : reads next.history ≤ reads now.history + pair_count_of_directory_at t.pairs (take i path)) where
+    few_on : reads next.history ≤ reads t.history + sum_by (pair_count_of_directory_at t.pairs) (parents (take (i + 1) path))
     few_on =
-        let e = sum_on (pairs_of_path t.pairs) (take i path) n in
-        let s = ap (λ z. sum_by (pairs_of_path t.pairs) (parents z)) (take_on path i n at) in
+        let e = sum_on (pair_count_of_directory_at t.pairs) (take i path) n in
+        let s = ap (λ z. sum_by (pair_count_of_directory_at t.pairs) (parents z)) (take_on path i n at) in
         let f = d.few in
         omega (arith, e, s, f, more)
 
-    pub few_whole : reads next.history ≤ reads t.history + sum_by (pairs_of_path t.pairs) (parents path)
+    pub few_whole : reads next.history ≤ reads t.history + sum_by (pair_count_of_directory_at t.pairs) (parents path)
     few_whole =
-        let m = sum_more (pairs_of_path t.pairs) (take (i + 1) path) (drop (i + 1) path) in
-        let s = ap (λ z. sum_by (pairs_of_path t.pairs) (parents z)) (take_drop (i + 1) path) in
+        let m = sum_more (pair_count_of_directory_at t.pairs) (take (i + 1) path) (drop (i + 1) path) in
+        let s = ap (λ z. sum_by (pair_count_of_directory_at t.pairs) (parents z)) (take_drop (i + 1) path) in
         let f = few_on in
         omega (arith, m, s, f)
 
-    pub descends_on : (further : ℕ) → BeginsOnPath t.pairs (take i path ++ n ∷ []) further → HasDescended t next path (i + 1) further
+    pub descends_on : (further : ℕ) → PathLeadsToFirstPair t.pairs (take i path ++ n ∷ []) further → HasDescended t next path (i + 1) further
     descends_on further on = record {
-      begins = subst (λ p. BeginsOnPath t.pairs p further) (sym (take_on path i n at)) on;
-      still = λ name. refused_by name ∙ ap₂ (λ o p. option_or o (parent_fault (tree_in t.disk t.pairs) p (drop (i + 1) path ++ name ∷ []))) (directory_is t (take i path ++ n ∷ []) on.at on.leads) (sym (take_on path i n at));
+      begins = subst (λ p. PathLeadsToFirstPair t.pairs p further) (sym (take_on path i n at)) on;
+      still = λ name. refused_by name ∙ ap₂ (λ o p. option_or o (refusal_of_parents (tree_on_disk t.disk t.pairs) p (drop (i + 1) path ++ name ∷ []))) (directory_is t (take i path ++ n ∷ []) on.at on.leads) (sym (take_on path i n at));
       few = few_on;
     }
 
-pub has_descended : (t now : Kept) (path : Path) (i first : ℕ) → HasDescended t now path i first → length path ≤ i → Descends t path (parent.Directory first)
+pub has_descended : (t now : Kept) (path : Path) (i first : ℕ) → HasDescended t now path i first → length path ≤ i → IsParentFoundAlongPath t path (parent.Directory first)
 has_descended t now path i first d l = record {
-  fault = λ name. d.still name ∙ ap (λ z. parent_fault (tree_in t.disk t.pairs) (take i path) (z ++ name ∷ [])) (drop_whole i path l);
-  begins = subst (λ p. BeginsOnPath t.pairs p first) (take_whole i path l) d.begins;
+  fault = λ name. d.still name ∙ ap (λ z. refusal_of_parents (tree_on_disk t.disk t.pairs) (take i path) (z ++ name ∷ [])) (drop_whole i path l);
+  begins = subst (λ p. PathLeadsToFirstPair t.pairs p first) (take_whole i path l) d.begins;
 }
 
 -- the name at an index
@@ -154,16 +154,16 @@ some_at f (y ∷ xs) (suc i) l = some_at f xs i (omega arith)
 
 -- ---- behind calls that only read
 
-pub begins_same : (a b : Kept) → IsOnlyRead a b → (path : Path) (first : ℕ) → BeginsOnPath a.pairs path first → BeginsOnPath b.pairs path first
-begins_same a b r path first on = subst (λ ps. BeginsOnPath ps path first) (sym r.pairs) on
+pub begins_same : (a b : Kept) → IsThreadOnlyRead a b → (path : Path) (first : ℕ) → PathLeadsToFirstPair a.pairs path first → PathLeadsToFirstPair b.pairs path first
+begins_same a b r path first on = subst (λ ps. PathLeadsToFirstPair ps path first) (sym r.pairs) on
 
-pub enters_same : (a b : Kept) → IsOnlyRead a b → (path : Path) (p : Parent) → Enters b path p → Enters a path p
-enters_same a b r path (parent.Directory first) e = subst (λ ps. BeginsOnPath ps path first) r.pairs e
-enters_same a b r path parent.File e = ap₂ (λ d ps. directory_fault (tree_in d ps path)) (sym r.disk) (sym r.pairs) ∙ e
-enters_same a b r path parent.Nothing e = ap₂ (λ d ps. directory_fault (tree_in d ps path)) (sym r.disk) (sym r.pairs) ∙ e
+pub enters_same : (a b : Kept) → IsThreadOnlyRead a b → (path : Path) (p : Parent) → IsParentAtPath b path p → IsParentAtPath a path p
+enters_same a b r path (parent.Directory first) e = subst (λ ps. PathLeadsToFirstPair ps path first) r.pairs e
+enters_same a b r path parent.File e = ap₂ (λ d ps. refusal_unless_directory (tree_on_disk d ps path)) (sym r.disk) (sym r.pairs) ∙ e
+enters_same a b r path parent.Nothing e = ap₂ (λ d ps. refusal_unless_directory (tree_on_disk d ps path)) (sym r.disk) (sym r.pairs) ∙ e
 
-pub few_same : (a b : Kept) → IsAccepted a.disk a.pairs → IsOnlyRead a b → (path : Path) (first : ℕ) → BeginsOnPath a.pairs path first → run_length (drop first b.pairs) ≡ pairs_of_path a.pairs path
-few_same a b ok r path first on = ap (λ ps. run_length (drop first ps)) r.pairs ∙ run_length_is a.disk a.pairs path on.at first ok on.leads on.begins
+pub few_same : (a b : Kept) → IsAcceptedImage a.disk a.pairs → IsThreadOnlyRead a b → (path : Path) (first : ℕ) → PathLeadsToFirstPair a.pairs path first → hard_tail_joined_pair_count (drop first b.pairs) ≡ pair_count_of_directory_at a.pairs path
+few_same a b ok r path first on = ap (λ ps. hard_tail_joined_pair_count (drop first ps)) r.pairs ∙ run_length_is a.disk a.pairs path on.at first ok on.leads on.begins
 
 -- ---- the last name of a path
 
@@ -174,28 +174,28 @@ pub sum_is : (f : Path → ℕ) (path above : Path) (n : Name) → path ≡ abov
 sum_is f path above n e = ap (λ p. sum_by f (parents p)) e ∙ sum_on f above n
 
 module _ (t : Kept) (path above : Path) (n : Name) (is : path ≡ above ++ n ∷ []) where
-  pub leads_there : (found : Found) → parent_fault (tree_in t.disk t.pairs) [] (above ++ n ∷ []) ≡ None → IsEntryOfName t.disk.order t.pairs above n found → LeadsTo t path found
-  leads_there (found.Directory parent slot first) e there = record { parents = ap (parent_fault (tree_in t.disk t.pairs) []) is ∙ e; there = record { above = above; name = n; is = is; there = there } }
-  leads_there (found.File parent slot contents) e there = record { parents = ap (parent_fault (tree_in t.disk t.pairs) []) is ∙ e; there = record { above = above; name = n; is = is; there = there } }
-  leads_there (found.Nothing parent place) e there = record { parents = ap (parent_fault (tree_in t.disk t.pairs) []) is ∙ e; there = record { above = above; name = n; is = is; there = there } }
+  pub leads_there : (found : Found) → refusal_of_parents (tree_on_disk t.disk t.pairs) [] (above ++ n ∷ []) ≡ None → IsFoundEntryOfName t.disk.order t.pairs above n found → PathLeadsToFound t path found
+  leads_there (found.Directory parent slot first) e there = record { parents = ap (refusal_of_parents (tree_on_disk t.disk t.pairs) []) is ∙ e; there = record { above = above; name = n; is = is; there = there } }
+  leads_there (found.File parent slot contents) e there = record { parents = ap (refusal_of_parents (tree_on_disk t.disk t.pairs) []) is ∙ e; there = record { above = above; name = n; is = is; there = there } }
+  leads_there (found.Nothing parent place) e there = record { parents = ap (refusal_of_parents (tree_on_disk t.disk t.pairs) []) is ∙ e; there = record { above = above; name = n; is = is; there = there } }
   leads_there found.Root e there = absurd there
   leads_there found.ParentIsFile e there = absurd there
   leads_there found.ParentIsMissing e there = absurd there
 
-  pub leads_past_file : Descends t above parent.File → LeadsTo t path found.ParentIsFile
-  leads_past_file d = record { parents = ap (parent_fault (tree_in t.disk t.pairs) []) is ∙ d.fault n; there = tt }
+  pub leads_past_file : IsParentFoundAlongPath t above parent.File → PathLeadsToFound t path found.ParentIsFile
+  leads_past_file d = record { parents = ap (refusal_of_parents (tree_on_disk t.disk t.pairs) []) is ∙ d.fault n; there = tt }
 
-  pub leads_past_nothing : Descends t above parent.Nothing → LeadsTo t path found.ParentIsMissing
-  leads_past_nothing d = record { parents = ap (parent_fault (tree_in t.disk t.pairs) []) is ∙ d.fault n; there = tt }
+  pub leads_past_nothing : IsParentFoundAlongPath t above parent.Nothing → PathLeadsToFound t path found.ParentIsMissing
+  leads_past_nothing d = record { parents = ap (refusal_of_parents (tree_on_disk t.disk t.pairs) []) is ∙ d.fault n; there = tt }
 
-pub looked_in : (t next : Kept) → IsOnlyRead t next → (above : Path) (n : Name) (first : ℕ) (result : Result Found Error) → BeginsOnPath t.pairs above first
-    → IfOk result (λ found. (above : Path) → BeginsOnPath next.pairs above first → IsEntryOfName next.disk.order next.pairs above n found) → (path : Path) → path ≡ above ++ n ∷ []
-    → parent_fault (tree_in t.disk t.pairs) [] (above ++ n ∷ []) ≡ None → IfOk result (LeadsTo t path)
+pub looked_in : (t next : Kept) → IsThreadOnlyRead t next → (above : Path) (n : Name) (first : ℕ) (result : Result Found Error) → PathLeadsToFirstPair t.pairs above first
+    → IfOk result (λ found. (above : Path) → PathLeadsToFirstPair next.pairs above first → IsFoundEntryOfName next.disk.order next.pairs above n found) → (path : Path) → path ≡ above ++ n ∷ []
+    → refusal_of_parents (tree_on_disk t.disk t.pairs) [] (above ++ n ∷ []) ≡ None → IfOk result (PathLeadsToFound t path)
 looked_in t next r above n first (Err e) on answer path is fault = tt
 looked_in t next r above n first (Ok found) on answer path is fault =
-    leads_there t path above n is found fault (subst₂ (λ (d : Disk) ps. IsEntryOfName d.order ps above n found) r.disk r.pairs (answer above (begins_same t next r above first on)))
+    leads_there t path above n is found fault (subst₂ (λ (d : Disk) ps. IsFoundEntryOfName d.order ps above n found) r.disk r.pairs (answer above (begins_same t next r above first on)))
 
-shows_there : (t : Kept) (moved : Option Spot) (path : Path) (s : Shown) → parent_fault (tree_in t.disk t.pairs) [] path ≡ None → IsShownAt t.pairs moved path s → ShowsTo t moved path s
+shows_there : (t : Kept) (moved : Option Spot) (path : Path) (s : Shown) → refusal_of_parents (tree_on_disk t.disk t.pairs) [] path ≡ None → IsEntryBelowRootWithSlotHidden t.pairs moved path s → IsLookupResultWithSlotHidden t moved path s
 shows_there t moved path (shown.Directory spot first) e there = (e, there)
 shows_there t moved path (shown.File spot contents) e there = (e, there)
 shows_there t moved path shown.Nothing e there = (e, there)
@@ -203,15 +203,15 @@ shows_there t moved path shown.Root e there = absurd there
 shows_there t moved path shown.ParentIsFile e there = absurd there
 shows_there t moved path shown.ParentIsMissing e there = absurd there
 
-pub showed_in : (t next : Kept) (moved : Option Spot) → IsOnlyRead t next → (above : Path) (n : Name) (first : ℕ) (result : Result Shown Error) → BeginsOnPath t.pairs above first
-    → IfOk result (λ s. (above : Path) → BeginsOnPath next.pairs above first → IsShownAt next.pairs moved (above ++ n ∷ []) s) → (path : Path) → path ≡ above ++ n ∷ []
-    → parent_fault (tree_in t.disk t.pairs) [] (above ++ n ∷ []) ≡ None → IfOk result (ShowsTo t moved path)
+pub showed_in : (t next : Kept) (moved : Option Spot) → IsThreadOnlyRead t next → (above : Path) (n : Name) (first : ℕ) (result : Result Shown Error) → PathLeadsToFirstPair t.pairs above first
+    → IfOk result (λ s. (above : Path) → PathLeadsToFirstPair next.pairs above first → IsEntryBelowRootWithSlotHidden next.pairs moved (above ++ n ∷ []) s) → (path : Path) → path ≡ above ++ n ∷ []
+    → refusal_of_parents (tree_on_disk t.disk t.pairs) [] (above ++ n ∷ []) ≡ None → IfOk result (IsLookupResultWithSlotHidden t moved path)
 showed_in t next moved r above n first (Err e) on answer path is fault = tt
 showed_in t next moved r above n first (Ok s) on answer path is fault =
-    subst (λ p. ShowsTo t moved p s) (sym is) (shows_there t moved (above ++ n ∷ []) s fault (subst (λ ps. IsShownAt ps moved (above ++ n ∷ []) s) r.pairs (answer above (begins_same t next r above first on))))
+    subst (λ p. IsLookupResultWithSlotHidden t moved p s) (sym is) (shows_there t moved (above ++ n ∷ []) s fault (subst (λ ps. IsEntryBelowRootWithSlotHidden ps moved (above ++ n ∷ []) s) r.pairs (answer above (begins_same t next r above first on))))
 
-pub hiding_same : (a b : Kept) (moved : Option Spot) → IsOnlyRead a b → HidesOnly a moved → HidesOnly b moved
+pub hiding_same : (a b : Kept) (moved : Option Spot) → IsThreadOnlyRead a b → HidesOnlyMovedSlot a moved → HidesOnlyMovedSlot b moved
 hiding_same a b moved r h = record {
-  accepted = subst (λ d. IsAccepted d b.pairs) (sym r.disk) (subst (IsAccepted a.disk) (sym r.pairs) h.accepted);
-  hides = subst (λ ps. HidesFrom (gstate_of ps) moved 0 ps) (sym r.pairs) h.hides;
+  accepted = subst (λ d. IsAcceptedImage d b.pairs) (sym r.disk) (subst (IsAcceptedImage a.disk) (sym r.pairs) h.accepted);
+  hides = subst (λ ps. HidesMovedSlotFrom (gstate_of ps) moved 0 ps) (sym r.pairs) h.hides;
 }

@@ -7,11 +7,11 @@ use Rattle.std.proofs.lemmas.List.{take_all}
 use Rattle.lfs_model.specs.Thread.{Pair}
 use Rattle.lfs_model.specs.Tree.{Path}
 use Rattle.std.specs.Prelude.{IsSome}
-use Rattle.lfs_thread.specs.Kept.{State}
+use Rattle.lfs_thread.specs.Kept.{ThreadView}
 use Rattle.lfs_thread.specs.CachedLog.{cached_log}
-use Rattle.lfs_lookup.specs.AttributeAt.{IsPairCached}
-use Rattle.lfs_lookup.specs.BytesAt.{file_shown}
-use Rattle.lfs_lookup.specs.FileContents.{AreContentsAt, AreContentsOf}
+use Rattle.lfs_lookup.specs.AttributeAt.{IsPairOfFoundSlotCached}
+use Rattle.lfs_lookup.specs.BytesAt.{spot_and_storage_of_found_file}
+use Rattle.lfs_lookup.specs.FileContents.{AreFileContentsAtPath, AreFileContentsOfStruct}
 use Rattle.lfs_lookup.specs.declared.entry.FileStorage.{FileStorage}
 use Rattle.lfs_lookup.specs.declared.paths.Shown.{Shown}
 use Rattle.lfs_lookup.specs.declared.search.Spot.{Spot}
@@ -22,9 +22,9 @@ use Rattle.lfs_lookup.specs.declared.file_contents.FileContents.{FileContents}
 pub whole : (bytes : List ℕ) (len : ℕ) → length bytes ≡ len → take len (drop 0 bytes) ≡ bytes
 whole bytes len e = take_all len bytes (omega (arith, e))
 
-pub contents_at : (ps : List Pair) (path : Path) (held : Slot) (contents : FileContents) → slot_of_path ps path ≡ Some held → AreContentsOf held.struct contents → AreContentsAt ps path contents
+pub contents_at : (ps : List Pair) (path : Path) (held : Slot) (contents : FileContents) → slot_of_path ps path ≡ Some held → AreFileContentsOfStruct held.struct contents → AreFileContentsAtPath ps path contents
 contents_at ps path held contents at is = record { struct = ap (option_map (λ (u : Slot). u.struct)) at ∙ ap Some (sym is.struct); fits = is.fits }
 
 -- the block of a file that is shown is cached
-pub file_at_hand : (t : State) (x : Shown) (slot : Spot) (contents : FileStorage) → IsPairCached t x → file_shown x ≡ Some (slot, contents) → IsSome (cached_log t slot.pair)
-file_at_hand t x slot contents h e = subst (λ z. IsPairCached t z) (is_file_of x slot contents e) h
+pub file_at_hand : (t : ThreadView) (x : Shown) (slot : Spot) (contents : FileStorage) → IsPairOfFoundSlotCached t x → spot_and_storage_of_found_file x ≡ Some (slot, contents) → IsSome (cached_log t slot.pair)
+file_at_hand t x slot contents h e = subst (λ z. IsPairOfFoundSlotCached t z) (is_file_of x slot contents e) h

@@ -6,14 +6,14 @@ use Rattle.std.proofs.lemmas.List.Concat.{flat_map-append}
 use Rattle.std.proofs.lemmas.List.Elements.{filter-append}
 use Rattle.std.proofs.Math.Seq.{drop-append_seam}
 use Rattle.lfs_model.specs.declared.order.NameOrder.{NameOrder}
-use Rattle.lfs_model.specs.InDirectory.{BelongsInDirectory, BeginsAbove, HaveNoSuperblock, HasHardTail, PlaceAt, IsHardTailRun, HasNameAtPlace, IsNameAt, entries_only, last_is_joined, run_length, slots_in}
+use Rattle.lfs_model.specs.InDirectory.{IsPlaceWhereNameBelongs, BeginsWithGreaterName, HaveNoSuperblock, HasHardTail, IsIdWhereNameBelongs, HaveHardTailsButLast, IsPlaceOfNameInDirectory, HasEntryOfNameAtId, entries_only, last_has_hard_tail, hard_tail_joined_pair_count, slots_in}
 use Rattle.lfs_model.specs.Names.{Name, name_cmp}
 use Rattle.lfs_model.specs.Slots.{Slot, is_superblock}
-use Rattle.lfs_model.specs.Thread.{Pair, is_hard, starts_with_superblock}
+use Rattle.lfs_model.specs.Thread.{Pair, is_hard_tail, starts_with_superblock}
 use Rattle.lfs_model.proofs.Counts.{each_left, each_right}
-use Rattle.lfs_lookup.specs.Entry.{EntryShows}
-use Rattle.lfs_lookup.specs.declared.entry.Entry.{Entry}
-use Rattle.lfs_lookup.specs.Halves.{EndsSoft}
+use Rattle.lfs_lookup.specs.Entry.{IsEntryOfStruct}
+use Rattle.lfs_lookup.specs.declared.entry.FileOrDirectory.{FileOrDirectory}
+use Rattle.lfs_lookup.specs.Halves.{EndsWithoutHardTail}
 use Rattle.lfs_lookup.specs.Listed.{hard_tail_run}
 use Rattle.lfs_lookup.proofs.Directories.{run_hard_on, run_on as run_here_on}
 use Rattle.lfs_lookup.proofs.Walked.{at_index, run_some}
@@ -22,50 +22,50 @@ use Rattle.lfs_lookup.proofs.Walked.{at_index, run_some}
 
 pub run_part : (xs : List Pair) → (after : List Pair) × (xs ≡ hard_tail_run xs ++ after)
 run_part [] = ([], refl)
-run_part (p ∷ ps) = go (is_hard p.content.tail) (run_part ps)
+run_part (p ∷ ps) = go (is_hard_tail p.content.tail) (run_part ps)
   where
     go : (b : Bool) → ((after : List Pair) × (ps ≡ hard_tail_run ps ++ after)) → (after : List Pair) × (p ∷ ps ≡ (p ∷ cond b (hard_tail_run ps) []) ++ after)
     go true r = (r.0, ap (λ z. p ∷ z) r.1)
     go false r = (ps, refl)
 
-pub run_count : (xs : List Pair) → length (hard_tail_run xs) ≡ run_length xs
+pub run_count : (xs : List Pair) → length (hard_tail_run xs) ≡ hard_tail_joined_pair_count xs
 run_count [] = refl
-run_count (p ∷ ps) = go (is_hard p.content.tail) (run_count ps)
+run_count (p ∷ ps) = go (is_hard_tail p.content.tail) (run_count ps)
   where
-    go : (b : Bool) → length (hard_tail_run ps) ≡ run_length ps → length (p ∷ cond b (hard_tail_run ps) []) ≡ cond b (1 + run_length ps) 1
+    go : (b : Bool) → length (hard_tail_run ps) ≡ hard_tail_joined_pair_count ps → length (p ∷ cond b (hard_tail_run ps) []) ≡ cond b (1 + hard_tail_joined_pair_count ps) 1
     go true e = omega (arith, e)
     go false e = refl
 
 abbrev Chained : List Pair → Type 0
 Chained [] = Unit {0}
-Chained (p ∷ ps) = IsHardTailRun p ps
+Chained (p ∷ ps) = HaveHardTailsButLast p ps
 
-chain_more : (p : Pair) (qs : List Pair) → HasHardTail p → Chained qs → IsHardTailRun p qs
+chain_more : (p : Pair) (qs : List Pair) → HasHardTail p → Chained qs → HaveHardTailsButLast p qs
 chain_more p [] h k = tt
 chain_more p (q ∷ qs) h k = (h, k)
 
 run_chained : (xs : List Pair) → Chained (hard_tail_run xs)
 run_chained [] = tt
-run_chained (p ∷ ps) = go (is_hard p.content.tail) refl (run_chained ps)
+run_chained (p ∷ ps) = go (is_hard_tail p.content.tail) refl (run_chained ps)
   where
-    go : (b : Bool) → is_hard p.content.tail ≡ b → Chained (hard_tail_run ps) → IsHardTailRun p (cond b (hard_tail_run ps) [])
+    go : (b : Bool) → is_hard_tail p.content.tail ≡ b → Chained (hard_tail_run ps) → HaveHardTailsButLast p (cond b (hard_tail_run ps) [])
     go true e k = chain_more p (hard_tail_run ps) e k
     go false e k = tt
 
-chain_left : (left : List Pair) (p : Pair) (rest : List Pair) → Chained (left ++ p ∷ rest) → AllByRecursion HasHardTail left × IsHardTailRun p rest
+chain_left : (left : List Pair) (p : Pair) (rest : List Pair) → Chained (left ++ p ∷ rest) → AllByRecursion HasHardTail left × HaveHardTailsButLast p rest
 chain_left [] p rest h = (tt, h)
 chain_left (x ∷ []) p rest h = ((h.0, tt), h.1)
 chain_left (x ∷ y ∷ left) p rest h = let r = chain_left (y ∷ left) p rest h.1 in ((h.0, r.0), r.1)
 
-runs_front : (p : Pair) (later rest : List Pair) → IsHardTailRun p (later ++ rest) → IsHardTailRun p later
+runs_front : (p : Pair) (later rest : List Pair) → HaveHardTailsButLast p (later ++ rest) → HaveHardTailsButLast p later
 runs_front p [] rest h = tt
 runs_front p (q ∷ later) rest h = (h.0, runs_front q later rest h.1)
 
-last_behind : (x : Pair) (left : List Pair) (p : Pair) (rest : List Pair) → last_is_joined x (left ++ p ∷ rest) ≡ last_is_joined p rest
+last_behind : (x : Pair) (left : List Pair) (p : Pair) (rest : List Pair) → last_has_hard_tail x (left ++ p ∷ rest) ≡ last_has_hard_tail p rest
 last_behind x [] p rest = refl
 last_behind x (y ∷ left) p rest = last_behind y left p rest
 
-soft_end : (left : List Pair) (p : Pair) (rest : List Pair) → EndsSoft (left ++ p ∷ rest) → last_is_joined p rest ≡ false
+soft_end : (left : List Pair) (p : Pair) (rest : List Pair) → EndsWithoutHardTail (left ++ p ∷ rest) → last_has_hard_tail p rest ≡ false
 soft_end [] p rest h = h
 soft_end (x ∷ left) p rest h = sym (last_behind x left p rest) ∙ h
 
@@ -75,8 +75,8 @@ same_behind xs zs ys ws e l = sym (drop-append_seam xs zs) ∙ ap₂ (λ (n : �
 
 -- ---- where they end
 
-pub soft_on : (ps : List Pair) (index next : ℕ) (d : Pair) → next < length ps → is_hard (get_or ps index d).content.tail ≡ true → next ≡ index + 1 → EndsSoft (hard_tail_run (drop next ps)) → EndsSoft (hard_tail_run (drop index ps))
-soft_on ps index next d l hard e h = subst EndsSoft (sym (run_hard_on ps index next d (omega arith) hard e ∙ ap (λ z. get_or ps index d ∷ z) (run_here_on ps next d l))) (subst EndsSoft (run_here_on ps next d l) h)
+pub soft_on : (ps : List Pair) (index next : ℕ) (d : Pair) → next < length ps → is_hard_tail (get_or ps index d).content.tail ≡ true → next ≡ index + 1 → EndsWithoutHardTail (hard_tail_run (drop next ps)) → EndsWithoutHardTail (hard_tail_run (drop index ps))
+soft_on ps index next d l hard e h = subst EndsWithoutHardTail (sym (run_hard_on ps index next d (omega arith) hard e ∙ ap (λ z. get_or ps index d ∷ z) (run_here_on ps next d l))) (subst EndsWithoutHardTail (run_here_on ps next d l) h)
 
 -- ---- a pair by its number
 
@@ -86,7 +86,7 @@ pub record IsAt (run : List Pair) (first index : ℕ) (q : Pair) : Type 0 where
   pub parts : run ≡ before ++ q ∷ behind
   pub number : first + length before ≡ index
 
-pub at_run : (ps : List Pair) (first index : ℕ) (d : Pair) → first ≤ index → index < first + run_length (drop first ps) → IsAt (hard_tail_run (drop first ps)) first index (get_or ps index d)
+pub at_run : (ps : List Pair) (first index : ℕ) (d : Pair) → first ≤ index → index < first + hard_tail_joined_pair_count (drop first ps) → IsAt (hard_tail_run (drop first ps)) first index (get_or ps index d)
 at_run ps first index d from below =
     let part = run_part (drop first ps) in
     let n = run_count (drop first ps) in
@@ -188,7 +188,7 @@ pub record HasGreater (by : NameOrder) (run : List Pair) (first : ℕ) (name : N
   pub behind : List Pair
   pub parts : run ≡ before ++ pair ∷ behind
   pub number : first + length before ≡ high
-  pub above : BeginsAbove by name (entries_only pair.content.slots)
+  pub above : BeginsWithGreaterName by name (entries_only pair.content.slots)
   pub fronted : starts_with_superblock pair.content.slots ≡ false
 
 pub data IsHigh (by : NameOrder) (run : List Pair) (first : ℕ) (name : Name) (high : ℕ) : Type 0 where
@@ -203,7 +203,7 @@ module _ (by : NameOrder) (ps : List Pair) (first : ℕ) (name : Name) (index : 
   joined_here = (chain_left a.before q a.behind (subst Chained a.parts (run_chained (drop first ps)))).0
 
   -- the name stands here
-  pub stands_at : (below : first < length ps) (id : ℕ) (entry : Entry) (s : IsNameAt q.content.slots name id) → EntryShows entry s.slot.struct → (t : HasNameAtPlace ps first name index id) × EntryShows entry t.stands.slot.struct
+  pub stands_at : (below : first < length ps) (id : ℕ) (entry : FileOrDirectory) (s : HasEntryOfNameAtId q.content.slots name id) → IsEntryOfStruct entry s.slot.struct → (t : IsPlaceOfNameInDirectory ps first name index id) × IsEntryOfStruct entry t.stands.slot.struct
   stands_at below id entry s shows = (
     record {
       pair = q;
@@ -222,7 +222,7 @@ module _ (by : NameOrder) (ps : List Pair) (first : ℕ) (name : Name) (index : 
   )
 
   -- all its names are less
-  pub passes : (plain : HaveNoSuperblock (drop (first + 1) ps)) (id : ℕ) → PlaceAt by q.content.slots name id → (index ≡ first) ⊎ (0 < id) → length q.content.slots ≤ id → HasLess by run first name index id (index + 1)
+  pub passes : (plain : HaveNoSuperblock (drop (first + 1) ps)) (id : ℕ) → IsIdWhereNameBelongs by q.content.slots name id → (index ≡ first) ⊎ (0 < id) → length q.content.slots ≤ id → HasLess by run first name index id (index + 1)
   passes plain id pl why all =
       let none = nothing_behind q.content.slots pl.left pl.right pl.held (let n = pl.number in omega arith) in
       let is : q.content.slots ≡ pl.left = pl.held ∙ ap (λ z. pl.left ++ z) none ∙ append-nil pl.left in
@@ -249,7 +249,7 @@ module _ (by : NameOrder) (ps : List Pair) (first : ℕ) (name : Name) (index : 
       go e (inr n) = inr (subst (λ z. entries_only z ≢ []) (sym e) n)
 
   -- all its names are greater
-  pub exceeds : (id : ℕ) → PlaceAt by q.content.slots name id → id ≤ 0 → 0 < length q.content.slots → HasGreater by run first name index
+  pub exceeds : (id : ℕ) → IsIdWhereNameBelongs by q.content.slots name id → id ≤ 0 → 0 < length q.content.slots → HasGreater by run first name index
   exceeds id pl none some = record {
     before = a.before;
     pair = q;
@@ -267,12 +267,12 @@ module _ (by : NameOrder) (ps : List Pair) (first : ℕ) (name : Name) (index : 
       is : q.content.slots ≡ pl.right
       is = whole pl.left pl.held pl.number
 
-      go : (pl.right ≡ []) ⊎ BeginsAbove by name (entries_only pl.right) → BeginsAbove by name (entries_only q.content.slots)
+      go : (pl.right ≡ []) ⊎ BeginsWithGreaterName by name (entries_only pl.right) → BeginsWithGreaterName by name (entries_only q.content.slots)
       go (inl e) = absurd (let k = ap length (is ∙ e) in omega arith)
-      go (inr b) = subst (λ z. BeginsAbove by name (entries_only z)) (sym is) b
+      go (inr b) = subst (λ z. BeginsWithGreaterName by name (entries_only z)) (sym is) b
 
   -- the name belongs here, before one of its slots
-  pub belongs_inside : (below : first < length ps) (plain : HaveNoSuperblock (drop (first + 1) ps)) (id : ℕ) → PlaceAt by q.content.slots name id → (index ≡ first) ⊎ (0 < id) → id < length q.content.slots → BelongsInDirectory by ps first name index id
+  pub belongs_inside : (below : first < length ps) (plain : HaveNoSuperblock (drop (first + 1) ps)) (id : ℕ) → IsIdWhereNameBelongs by q.content.slots name id → (index ≡ first) ⊎ (0 < id) → id < length q.content.slots → IsPlaceWhereNameBelongs by ps first name index id
   belongs_inside below plain id pl why some = record {
     pair = q;
     later = [];
@@ -300,9 +300,9 @@ module _ (by : NameOrder) (ps : List Pair) (first : ℕ) (name : Name) (index : 
       go (inl e) = inl e
       go (inr l) = inr (let n = pl.number in omega arith)
 
-      above : (pl.right ≡ []) ⊎ BeginsAbove by name (entries_only pl.right) → BeginsAbove by name (entries_only (pl.right ++ []))
+      above : (pl.right ≡ []) ⊎ BeginsWithGreaterName by name (entries_only pl.right) → BeginsWithGreaterName by name (entries_only (pl.right ++ []))
       above (inl e) = absurd (let k = ap length pl.held in let m = length-append pl.left pl.right in let r = ap length e in let n = pl.number in omega arith)
-      above (inr b) = subst (λ z. BeginsAbove by name (entries_only z)) (sym (append-nil pl.right)) b
+      above (inr b) = subst (λ z. BeginsWithGreaterName by name (entries_only z)) (sym (append-nil pl.right)) b
 
   -- a pair without slots is passed
   pub passes_empty : (at id : ℕ) → HasLess by run first name at id index → length q.content.slots ≤ 0 → HasLess by run first name at id (index + 1)
@@ -329,7 +329,7 @@ module _ (by : NameOrder) (ps : List Pair) (first : ℕ) (name : Name) (index : 
 
 -- ---- where they meet
 
-module _ (by : NameOrder) (ps : List Pair) (first : ℕ) (name : Name) (below : first < length ps) (soft : EndsSoft (hard_tail_run (drop first ps))) where
+module _ (by : NameOrder) (ps : List Pair) (first : ℕ) (name : Name) (below : first < length ps) (soft : EndsWithoutHardTail (hard_tail_run (drop first ps))) where
   abbrev whole_run : List Pair
   whole_run = hard_tail_run (drop first ps)
 
@@ -337,7 +337,7 @@ module _ (by : NameOrder) (ps : List Pair) (first : ℕ) (name : Name) (below : 
   chained = run_chained (drop first ps)
 
   -- it belongs before all
-  at_front : (high : ℕ) → HasGreater by whole_run first name high → high ≡ first → BelongsInDirectory by ps first name first 0
+  at_front : (high : ℕ) → HasGreater by whole_run first name high → high ≡ first → IsPlaceWhereNameBelongs by ps first name first 0
   at_front high h e =
       let none = empty_list h.before (let n = h.number in omega arith) in
       let is : whole_run ≡ h.pair ∷ h.behind = h.parts ∙ ap (λ z. z ++ h.pair ∷ h.behind) none in
@@ -361,17 +361,17 @@ module _ (by : NameOrder) (ps : List Pair) (first : ℕ) (name : Name) (below : 
         less = tt;
         fronted = h.fronted;
         not_before = inl refl;
-        not_behind = inl (subst (λ z. BeginsAbove by name (entries_only z)) (sym (append-nil h.pair.content.slots)) h.above);
+        not_behind = inl (subst (λ z. BeginsWithGreaterName by name (entries_only z)) (sym (append-nil h.pair.content.slots)) h.above);
       }
 
   -- behind a pair, where no entry is left
-  at_end : (at id low : ℕ) → HasLess by whole_run first name at id low → low ≡ first + length whole_run → BelongsInDirectory by ps first name at id
+  at_end : (at id low : ℕ) → HasLess by whole_run first name at id low → low ≡ first + length whole_run → IsPlaceWhereNameBelongs by ps first name at id
   at_end at id low h e =
       let none : h.more ≡ [] = empty_list h.more (let k = ap length h.parts in let l = length-append h.left (h.pair ∷ (h.empty ++ h.more)) in let m = length-append h.empty h.more in let n = h.next in let b = h.number in omega arith) in
       let parts = h.parts in
       let c = chain_left h.left h.pair (h.empty ++ h.more) (subst Chained h.parts chained) in
-      let last : last_is_joined h.pair h.empty ≡ false =
-      ap (last_is_joined h.pair) (sym (ap (λ z. h.empty ++ z) none ∙ append-nil h.empty)) ∙ soft_end h.left h.pair (h.empty ++ h.more) (subst EndsSoft h.parts soft) in
+      let last : last_has_hard_tail h.pair h.empty ≡ false =
+      ap (last_has_hard_tail h.pair) (sym (ap (λ z. h.empty ++ z) none ∙ append-nil h.empty)) ∙ soft_end h.left h.pair (h.empty ++ h.more) (subst EndsWithoutHardTail h.parts soft) in
       record {
         pair = h.pair;
         later = h.empty;
@@ -396,7 +396,7 @@ module _ (by : NameOrder) (ps : List Pair) (first : ℕ) (name : Name) (below : 
       }
 
   -- behind a pair, where a greater name comes first
-  at_seam : (at id low high : ℕ) → HasLess by whole_run first name at id low → (g : HasGreater by whole_run first name high) → low ≡ high → BelongsInDirectory by ps first name at id
+  at_seam : (at id low high : ℕ) → HasLess by whole_run first name at id low → (g : HasGreater by whole_run first name high) → low ≡ high → IsPlaceWhereNameBelongs by ps first name at id
   at_seam at id low high h g e =
       let counts : length (h.left ++ h.pair ∷ h.empty) ≡ length g.before = (let l = length-append h.left (h.pair ∷ h.empty) in let n = h.next in let m = h.number in let k = g.number in omega arith) in
       let is : h.more ≡ g.pair ∷ g.behind = same_behind (h.left ++ h.pair ∷ h.empty) h.more g.before (g.pair ∷ g.behind) (append_assoc h.left (h.pair ∷ h.empty) h.more ∙ sym h.parts ∙ g.parts) counts in
@@ -423,12 +423,12 @@ module _ (by : NameOrder) (ps : List Pair) (first : ℕ) (name : Name) (below : 
         less = h.less;
         fronted = refl;
         not_before = h.not_before;
-        not_behind = inl (subst (BeginsAbove by name) (sym (entries_on h.empty g.pair h.none)) g.above);
+        not_behind = inl (subst (BeginsWithGreaterName by name) (sym (entries_on h.empty g.pair h.none)) g.above);
       }
 
-  pub belongs_between : (at id low high : ℕ) → IsLow by whole_run first name at id low → IsHigh by whole_run first name high → low ≡ high → BelongsInDirectory by ps first name at id
+  pub belongs_between : (at id low high : ℕ) → IsLow by whole_run first name at id low → IsHigh by whole_run first name high → low ≡ high → IsPlaceWhereNameBelongs by ps first name at id
   belongs_between at id low high (begun e f g) (ends k) m = absurd (let some = run_some ps first below in let n = run_count (drop first ps) in omega arith)
   belongs_between at id low high (begun e f g) (starts h) m =
-      subst (λ (n : ℕ). BelongsInDirectory by ps first name n id) (sym f) (subst (λ (n : ℕ). BelongsInDirectory by ps first name first n) (sym g) (at_front high h (sym m ∙ e)))
+      subst (λ (n : ℕ). IsPlaceWhereNameBelongs by ps first name n id) (sym f) (subst (λ (n : ℕ). IsPlaceWhereNameBelongs by ps first name first n) (sym g) (at_front high h (sym m ∙ e)))
   belongs_between at id low high (passed h) (ends k) m = at_end at id low h (m ∙ k)
   belongs_between at id low high (passed h) (starts g) m = at_seam at id low high h g m

@@ -6,10 +6,10 @@ use Rattle.std.proofs.Math.Nat.{mul-div-le, lt-div-mul-add, pow-succ'}
 use Rattle.lfs_device.specs.declared.error.Error.{Error}
 use Rattle.lfs_model.specs.Thread.{Pair}
 use Rattle.lfs_model.proofs.Counts.{each_right}
-use Rattle.lfs_pair.specs.Pair.{active_at}
-use Rattle.lfs_thread.specs.Kept.{State}
-use Rattle.lfs_lookup.specs.CachedPairs.{AreCached, LoadsPairs, IsLoaded}
-use Rattle.lfs_lookup.specs.Halves.{HaveSlots, halved_within, halvings}
+use Rattle.lfs_pair.specs.Pair.{active_block_at}
+use Rattle.lfs_thread.specs.Kept.{ThreadView}
+use Rattle.lfs_lookup.specs.CachedPairs.{ArePairsCached, LoadsOnlyUncachedPairs, IsBlockMovedToCacheFront}
+use Rattle.lfs_lookup.specs.Halves.{HasSlotInEachPair, halvings_within_steps, halvings_until_zero}
 use Rattle.lfs_lookup.proofs.Halved.{IsAt}
 use Rattle.lfs_lookup.proofs.RecentBlocks.{HasBrought, HasKept, Passes, kept_none, loads_to_here, on_ok}
 
@@ -22,19 +22,19 @@ halves_of n = (mul-div-le n 2, (let k = lt-div-mul-add {a = n} {b = 2} (omega ar
 twice : (k : ℕ) → 2 ^ suc k ≡ 2 * 2 ^ k
 twice k = pow-succ' 2 k
 
-halved_power : (steps n : ℕ) → n ≤ steps → n < 2 ^ halved_within steps n
+halved_power : (steps n : ℕ) → n ≤ steps → n < 2 ^ halvings_within_steps steps n
 halved_power zero zero l = omega arith
 halved_power zero (suc n) l = absurd (omega arith)
 halved_power (suc steps) zero l = omega arith
 halved_power (suc steps) (suc n) l =
     let h = halves_of (suc n) in
     let k = halved_power steps (suc n / 2) (omega (arith, h.0)) in
-    let t = twice (halved_within steps (suc n / 2)) in
-    let one : 1 + halved_within steps (suc n / 2) ≡ suc (halved_within steps (suc n / 2)) = omega arith in
+    let t = twice (halvings_within_steps steps (suc n / 2)) in
+    let one : 1 + halvings_within_steps steps (suc n / 2) ≡ suc (halvings_within_steps steps (suc n / 2)) = omega arith in
     let p = ap (λ (e : ℕ). 2 ^ e) one in
     omega (arith, h.1, k, t, p)
 
-pub power_of_halvings : (n : ℕ) → n < 2 ^ halvings n
+pub power_of_halvings : (n : ℕ) → n < 2 ^ halvings_until_zero n
 power_of_halvings n = halved_power n n (omega arith)
 
 -- So many pairs are left, and they can be halved so often that the reads until then and these are no more than allowed.
@@ -43,8 +43,8 @@ pub record HasHalved (allowed before now size : ℕ) : Type 0 where
   pub fits : size < 2 ^ left
   pub spent : now + left ≤ before + allowed
 
-pub halved_none : (before n : ℕ) → HasHalved (halvings n) before before n
-halved_none before n = record { left = halvings n; fits = power_of_halvings n; spent = omega arith }
+pub halved_none : (before n : ℕ) → HasHalved (halvings_until_zero n) before before n
+halved_none before n = record { left = halvings_until_zero n; fits = power_of_halvings n; spent = omega arith }
 
 pub halved_on : (allowed before now later size half : ℕ) → HasHalved allowed before now size → 0 < size → half ≤ size / 2 → later ≤ now + 1 → HasHalved allowed before later half
 halved_on allowed before now later size half h some small once = go h.left h.fits h.spent
@@ -76,25 +76,25 @@ pub middle_below : (low high : ℕ) → low < high → low + (high - low) / 2 < 
 middle_below low high l = let h = halves_of (high - low) in omega (arith, h.0)
 
 -- a pair of a directory whose pairs all have slots
-pub has_slot : (run : List Pair) (first index : ℕ) (q : Pair) → IsAt run first index q → HaveSlots run → 0 < length q.content.slots
-has_slot run first index q a slots = (each_right (λ (p : Pair). 0 < length p.content.slots) a.before (q ∷ a.behind) (subst HaveSlots a.parts slots)).0
+pub has_slot : (run : List Pair) (first index : ℕ) (q : Pair) → IsAt run first index q → HasSlotInEachPair run → 0 < length q.content.slots
+has_slot run first index q a slots = (each_right (λ (p : Pair). 0 < length p.content.slots) a.before (q ∷ a.behind) (subst HasSlotInEachPair a.parts slots)).0
 
 -- ---- what is cached
 
 -- A directory of one pair is still to be looked at, or its pair is loaded.
-pub data IsLone (run : List Pair) (first low high : ℕ) (old now : State) : Type 0 where
+pub data IsLone (run : List Pair) (first low high : ℕ) (old now : ThreadView) : Type 0 where
   waits : low ≡ first → first < high → now.cache ≡ old.cache → IsLone run first low high old now
-  done : high ≤ low → AllByRecursion (λ p. IsLoaded (active_at old.kept.disk p.at) old.cache now.cache) run → IsLone run first low high old now
+  done : high ≤ low → AllByRecursion (λ p. IsBlockMovedToCacheFront (active_block_at old.kept.disk p.at) old.cache now.cache) run → IsLone run first low high old now
 
-pub record HasLoaded (run : List Pair) (first low high : ℕ) (old now : State) : Type 0 where
+pub record HasLoaded (run : List Pair) (first low high : ℕ) (old now : ThreadView) : Type 0 where
   pub kept : HasKept run run old now
   pub lone : length run ≡ 1 → IsLone run first low high old now
 
-pub loaded_nothing : (run : List Pair) (first high : ℕ) (old : State) → first < high → HasLoaded run first first high old old
+pub loaded_nothing : (run : List Pair) (first high : ℕ) (old : ThreadView) → first < high → HasLoaded run first first high old old
 loaded_nothing run first high old some = record { kept = kept_none run old; lone = λ e. waits refl some refl }
 
-module _ {X : Type 0} (run : List Pair) (first low high index : ℕ) (q : Pair) (old now new : State) (r : Result X Error) (a : IsAt run first index q) (h : HasLoaded run first low high old now) (some : low < high)
-    (b : LoadsPairs (q ∷ []) now new r) where
+module _ {X : Type 0} (run : List Pair) (first low high index : ℕ) (q : Pair) (old now new : ThreadView) (r : Result X Error) (a : IsAt run first index q) (h : HasLoaded run first low high old now) (some : low < high)
+    (b : LoadsOnlyUncachedPairs (q ∷ []) now new r) where
   -- it is one of them, and where there is one alone it is still to be loaded
   brought_to : HasBrought run (q ∷ []) old now
   brought_to = record {
@@ -102,7 +102,7 @@ module _ {X : Type 0} (run : List Pair) (first low high index : ℕ) (q : Pair) 
       disk = h.kept.disk;
       none = h.kept.none;
       stay = h.kept.stay;
-      left = λ there. ((each_right _ a.before (q ∷ a.behind) (subst (AreCached old) a.parts there)).0, tt);
+      left = λ there. ((each_right _ a.before (q ∷ a.behind) (subst (ArePairsCached old) a.parts there)).0, tt);
     };
     begun = λ e. (same (h.lone e), sym (alone e));
   }
@@ -123,7 +123,7 @@ module _ {X : Type 0} (run : List Pair) (first low high index : ℕ) (q : Pair) 
           a.parts ∙ ap (λ z. z ++ q ∷ a.behind) before ∙ ap (λ z. q ∷ z) behind
 
   -- the search ends here
-  pub loads_here : {Y : Type 0} (s : Result Y Error) → Passes r s → LoadsPairs run old new s
+  pub loads_here : {Y : Type 0} (s : Result Y Error) → Passes r s → LoadsOnlyUncachedPairs run old new s
   loads_here s pass = loads_to_here run (q ∷ []) [] q old now new r brought_to refl b s pass
 
   -- or goes on
@@ -136,7 +136,7 @@ module _ {X : Type 0} (run : List Pair) (first low high index : ℕ) (q : Pair) 
       }
 
 -- a pair is passed that isn't the first
-pub loaded_past : (run : List Pair) (first low high : ℕ) (old now : State) → HasLoaded run first low high old now → low < high → first < low → HasLoaded run first (low + 1) high old now
+pub loaded_past : (run : List Pair) (first low high : ℕ) (old now : ThreadView) → HasLoaded run first low high old now → low < high → first < low → HasLoaded run first (low + 1) high old now
 loaded_past run first low high old now h some later = record { kept = h.kept; lone = λ e. go (h.lone e) }
   where
     go : IsLone run first low high old now → IsLone run first (low + 1) high old now
@@ -144,7 +144,7 @@ loaded_past run first low high old now h some later = record { kept = h.kept; lo
     go (done l k) = absurd (omega arith)
 
 -- it ends where none is left
-pub loads_all : {X : Type 0} (run : List Pair) (first low high : ℕ) (old now : State) (s : Result X Error) (x : X) → s ≡ Ok x → HasLoaded run first low high old now → high ≤ low → LoadsPairs run old now s
+pub loads_all : {X : Type 0} (run : List Pair) (first low high : ℕ) (old now : ThreadView) (s : Result X Error) (x : X) → s ≡ Ok x → HasLoaded run first low high old now → high ≤ low → LoadsOnlyUncachedPairs run old now s
 loads_all {X = X} run first low high old now s x is h none = record {
   none = h.kept.none;
   stay = λ there. back _ (h.kept.stay there);
@@ -154,6 +154,6 @@ loads_all {X = X} run first low high old now s x is h none = record {
     back : (P : Type 0) → P → OnOk s P
     back P p = subst (λ (z : Result X Error). OnOk z P) (sym is) p
 
-    go : IsLone run first low high old now → AllByRecursion (λ p. IsLoaded (active_at old.kept.disk p.at) old.cache now.cache) run
+    go : IsLone run first low high old now → AllByRecursion (λ p. IsBlockMovedToCacheFront (active_block_at old.kept.disk p.at) old.cache now.cache) run
     go (waits e f k) = absurd (omega arith)
     go (done l k) = k

@@ -7,10 +7,10 @@ use Rattle.std.proofs.lemmas.List.Elements.{filter-append}
 use Rattle.std.proofs.lemmas.Option.{same_Some}
 use Rattle.std.proofs.Math.Seq.{drop-append_seam}
 use Rattle.lfs_model.specs.declared.order.NameOrder.{NameOrder}
-use Rattle.lfs_model.specs.InDirectory.{BeginsAbove, BelongsInDirectory, HasHardTail, IsHardTailRun, entries_only, last_is_joined, slots_in}
+use Rattle.lfs_model.specs.InDirectory.{BeginsWithGreaterName, IsPlaceWhereNameBelongs, HasHardTail, HaveHardTailsButLast, entries_only, last_has_hard_tail, slots_in}
 use Rattle.lfs_model.specs.Names.{Name, name_cmp}
 use Rattle.lfs_model.specs.Slots.{Gstate, Slot, is_superblock, same_pair}
-use Rattle.lfs_model.specs.Thread.{Pair, gstate_of, is_hard, entries_not_moved}
+use Rattle.lfs_model.specs.Thread.{Pair, gstate_of, is_hard_tail, entries_not_moved}
 use Rattle.lfs_model.specs.Tree.{Path}
 use Rattle.lfs_model.proofs.Counts.{Each, each_append, each_left, each_right, each_weaker}
 use Rattle.lfs_model.proofs.Indexes.{greater_behind, less_before, rise_right}
@@ -19,9 +19,9 @@ use Rattle.lfs_model.proofs.Orders.{less_differs}
 use Rattle.lfs_model.proofs.Searches.{begins_directory, plain_behind}
 use Rattle.lfs_thread.specs.Kept.{Kept}
 use Rattle.lfs_lookup.specs.Listed.{hard_tail_run}
-use Rattle.lfs_lookup.specs.Paths.{BeginsOnPath, HidesOnly}
-use Rattle.lfs_lookup.specs.Search.{HidesFrom, IsAbsentAlong, IsInOrder, IsShown, SearchFinds, hidden_in, skipped_id_in}
-use Rattle.lfs_lookup.specs.declared.entry.Entry.{Entry}
+use Rattle.lfs_lookup.specs.Paths.{PathLeadsToFirstPair, HidesOnlyMovedSlot}
+use Rattle.lfs_lookup.specs.Search.{HidesMovedSlotFrom, IsNameAbsentAlongHardTails, AreDirectoryNamesInOrder, IsUnhiddenNameAtSpot, SearchFindsInDirectory, hidden_id_of_pair, skipped_id_in_pair}
+use Rattle.lfs_lookup.specs.declared.entry.FileOrDirectory.{FileOrDirectory}
 use Rattle.lfs_lookup.specs.declared.search.Sought.TheVariants.{Found, Place}
 use Rattle.lfs_lookup.specs.declared.search.Spot.{Spot}
 use Rattle.lfs_lookup.proofs.Directories.{own_run}
@@ -39,7 +39,7 @@ joined_before : (left : List Pair) (rest : List Pair) → AllByRecursion HasHard
 joined_before [] rest h = refl
 joined_before (x ∷ left) rest h = ap (λ b. x ∷ cond b (hard_tail_run (left ++ rest)) []) h.0 ∙ ap (λ z. x ∷ z) (joined_before left rest h.1)
 
-joined_through : (p : Pair) (later rest : List Pair) → IsHardTailRun p later → hard_tail_run (p ∷ (later ++ rest)) ≡ p ∷ (later ++ cond (last_is_joined p later) (hard_tail_run rest) [])
+joined_through : (p : Pair) (later rest : List Pair) → HaveHardTailsButLast p later → hard_tail_run (p ∷ (later ++ rest)) ≡ p ∷ (later ++ cond (last_has_hard_tail p later) (hard_tail_run rest) [])
 joined_through p [] rest h = refl
 joined_through p (q ∷ later) rest h = ap (λ b. p ∷ cond b (hard_tail_run (q ∷ (later ++ rest))) []) h.0 ∙ ap (λ z. p ∷ z) (joined_through q later rest h.1)
 
@@ -48,9 +48,9 @@ joined_through p (q ∷ later) rest h = ap (λ b. p ∷ cond b (hard_tail_run (q
 abbrev IsOther : Name → Slot → Type 0
 IsOther name s = s.name ≡ name → ⊥
 
-module _ (by : NameOrder) (ps : List Pair) (first : ℕ) (name : Name) (index id : ℕ) (b : BelongsInDirectory by ps first name index id) where
+module _ (by : NameOrder) (ps : List Pair) (first : ℕ) (name : Name) (index id : ℕ) (b : IsPlaceWhereNameBelongs by ps first name index id) where
   tail_pairs : List Pair
-  tail_pairs = cond (last_is_joined b.pair b.later) (hard_tail_run b.rest) []
+  tail_pairs = cond (last_has_hard_tail b.pair b.later) (hard_tail_run b.rest) []
 
   -- what is before the place and behind it, in the directory
   abbrev before : List Slot
@@ -101,7 +101,7 @@ module _ (by : NameOrder) (ps : List Pair) (first : ℕ) (name : Name) (index id
     unfolding tail_pairs
     none_behind = go b.not_behind
       where
-        go : BeginsAbove by name behind ⊎ ((behind ≡ []) × (last_is_joined b.pair b.later ≡ false)) → Each (IsOther name) (behind ++ entries_only (slots_in tail_pairs))
+        go : BeginsWithGreaterName by name behind ⊎ ((behind ≡ []) × (last_has_hard_tail b.pair b.later ≡ false)) → Each (IsOther name) (behind ++ entries_only (slots_in tail_pairs))
         go (inl a) =
             let rise_here = rise_right by (entries_only b.left) (behind ++ entries_only (slots_in tail_pairs)) (rise_right by before (entries_only b.left ++ (behind ++ entries_only (slots_in tail_pairs))) rises) in
             let are : behind ++ entries_only (slots_in tail_pairs) ≡ a.first ∷ (a.rest ++ entries_only (slots_in tail_pairs)) = ap (λ z. z ++ entries_only (slots_in tail_pairs)) a.are in
@@ -129,38 +129,38 @@ each_entry P (x ∷ slots) (suc id) s h e plain = each_entry P slots id s (go (i
     go true k = k
     go false k = k.1
 
-absent_along : (index : ℕ) (ps : List Pair) (name : Name) → Each (IsOther name) (entries_only (slots_in (hard_tail_run ps))) → IsAbsentAlong None index ps name
+absent_along : (index : ℕ) (ps : List Pair) (name : Name) → Each (IsOther name) (entries_only (slots_in (hard_tail_run ps))) → IsNameAbsentAlongHardTails None index ps name
 absent_along index [] name h = tt
 absent_along index (p ∷ ps) name h =
-    let whole = subst (Each (IsOther name)) (entries_append p.content.slots (slots_in (cond (is_hard p.content.tail) (hard_tail_run ps) []))) h in (
-      λ id s at plain kept same. each_entry (IsOther name) p.content.slots id s (each_left (IsOther name) (entries_only p.content.slots) (entries_only (slots_in (cond (is_hard p.content.tail) (hard_tail_run ps) []))) whole) at plain same,
+    let whole = subst (Each (IsOther name)) (entries_append p.content.slots (slots_in (cond (is_hard_tail p.content.tail) (hard_tail_run ps) []))) h in (
+      λ id s at plain kept same. each_entry (IsOther name) p.content.slots id s (each_left (IsOther name) (entries_only p.content.slots) (entries_only (slots_in (cond (is_hard_tail p.content.tail) (hard_tail_run ps) []))) whole) at plain same,
       λ hard. absent_along (index + 1) ps name
           (subst (λ b. Each (IsOther name) (entries_only (slots_in (cond b (hard_tail_run ps) [])))) hard
-          (each_right (IsOther name) (entries_only p.content.slots) (entries_only (slots_in (cond (is_hard p.content.tail) (hard_tail_run ps) []))) whole)),
+          (each_right (IsOther name) (entries_only p.content.slots) (entries_only (slots_in (cond (is_hard_tail p.content.tail) (hard_tail_run ps) []))) whole)),
     )
 
-pub absent_by_order : (by : NameOrder) (ps : List Pair) (first : ℕ) (name : Name) (index id : ℕ) → IsInOrder by ps first → BelongsInDirectory by ps first name index id → IsAbsentAlong None first (drop first ps) name
+pub absent_by_order : (by : NameOrder) (ps : List Pair) (first : ℕ) (name : Name) (index id : ℕ) → AreDirectoryNamesInOrder by ps first → IsPlaceWhereNameBelongs by ps first name index id → IsNameAbsentAlongHardTails None first (drop first ps) name
 absent_by_order by ps first name index id h b = absent_along first (drop first ps) name (none_of_all by ps first name index id b h.rise)
 
 -- ---- what is shown where no slot is passed over
 
-pub found_shown : (by : NameOrder) (ps : List Pair) (moved : Option Spot) (first : ℕ) (name : Name) (spot : Spot) (entry : Entry) → moved ≡ None → SearchFinds by ps first name (Found spot entry) → IsShown ps moved first name spot entry
+pub found_shown : (by : NameOrder) (ps : List Pair) (moved : Option Spot) (first : ℕ) (name : Name) (spot : Spot) (entry : FileOrDirectory) → moved ≡ None → SearchFindsInDirectory by ps first name (Found spot entry) → IsUnhiddenNameAtSpot ps moved first name spot entry
 found_shown by ps moved first name spot entry none found = record {
   stands = found.0;
   shows = found.1;
-  kept = λ e. let k = sym (ap (λ m. skipped_id_in m spot.pair) none) ∙ e in absurd (cc);
+  kept = λ e. let k = sym (ap (λ m. skipped_id_in_pair m spot.pair) none) ∙ e in absurd (cc);
 }
 
-pub nothing_shown : (by : NameOrder) (ps : List Pair) (moved : Option Spot) (first : ℕ) (name : Name) (spot : Spot) → moved ≡ None → IsInOrder by ps first → SearchFinds by ps first name (Place spot) → IsAbsentAlong moved first (drop first ps) name
-nothing_shown by ps moved first name spot none h found = subst (λ m. IsAbsentAlong m first (drop first ps) name) (sym none) (absent_by_order by ps first name spot.pair spot.id h found)
+pub nothing_shown : (by : NameOrder) (ps : List Pair) (moved : Option Spot) (first : ℕ) (name : Name) (spot : Spot) → moved ≡ None → AreDirectoryNamesInOrder by ps first → SearchFindsInDirectory by ps first name (Place spot) → IsNameAbsentAlongHardTails moved first (drop first ps) name
+nothing_shown by ps moved first name spot none h found = subst (λ m. IsNameAbsentAlongHardTails m first (drop first ps) name) (sym none) (absent_by_order by ps first name spot.pair spot.id h found)
 
 -- ---- in an accepted image
 
-hides_each : (g : Gstate) (index : ℕ) (ps : List Pair) → HidesFrom g None index ps → Each (λ p. hidden_in g p ≡ None) ps
+hides_each : (g : Gstate) (index : ℕ) (ps : List Pair) → HidesMovedSlotFrom g None index ps → Each (λ p. hidden_id_of_pair g p ≡ None) ps
 hides_each g index [] h = tt
 hides_each g index (p ∷ ps) h = (sym h.0, hides_each g (index + 1) ps h.1)
 
-shown_whole : (g : Gstate) (ps : List Pair) → Each (λ p. hidden_in g p ≡ None) ps → flat_map (entries_not_moved g) ps ≡ entries_only (slots_in ps)
+shown_whole : (g : Gstate) (ps : List Pair) → Each (λ p. hidden_id_of_pair g p ≡ None) ps → flat_map (entries_not_moved g) ps ≡ entries_only (slots_in ps)
 shown_whole g [] h = refl
 shown_whole g (p ∷ ps) h =
     ap (λ z. entries_not_moved g p ++ z) (shown_whole g ps h.1)
@@ -171,16 +171,16 @@ shown_whole g (p ∷ ps) h =
     one true e = absurd (cc)
     one false e = refl
 
-module _ (t : Kept) (path : Path) (first : ℕ) (h : HidesOnly t None) (on : BeginsOnPath t.pairs path first) where
+module _ (t : Kept) (path : Path) (first : ℕ) (h : HidesOnlyMovedSlot t None) (on : PathLeadsToFirstPair t.pairs path first) where
   here : flat_map (entries_not_moved (gstate_of t.pairs)) (hard_tail_run (drop first t.pairs)) ≡ entries_only (slots_in (hard_tail_run (drop first t.pairs)))
   here =
       let part = run_part (drop first t.pairs) in
       let all = hides_each (gstate_of t.pairs) 0 t.pairs h.hides in
-      let some = each_right (λ p. hidden_in (gstate_of t.pairs) p ≡ None) (take first t.pairs) (drop first t.pairs) (subst (Each (λ p. hidden_in (gstate_of t.pairs) p ≡ None)) (sym (take-append-drop first t.pairs)) all) in
+      let some = each_right (λ p. hidden_id_of_pair (gstate_of t.pairs) p ≡ None) (take first t.pairs) (drop first t.pairs) (subst (Each (λ p. hidden_id_of_pair (gstate_of t.pairs) p ≡ None)) (sym (take-append-drop first t.pairs)) all) in
       shown_whole (gstate_of t.pairs) (hard_tail_run (drop first t.pairs))
-      (each_left (λ p. hidden_in (gstate_of t.pairs) p ≡ None) (hard_tail_run (drop first t.pairs)) part.0 (subst (Each (λ p. hidden_in (gstate_of t.pairs) p ≡ None)) part.1 some))
+      (each_left (λ p. hidden_id_of_pair (gstate_of t.pairs) p ≡ None) (hard_tail_run (drop first t.pairs)) part.0 (subst (Each (λ p. hidden_id_of_pair (gstate_of t.pairs) p ≡ None)) part.1 some))
 
-  pub in_order_on : IsInOrder t.disk.order t.pairs first
+  pub in_order_on : AreDirectoryNamesInOrder t.disk.order t.pairs first
   in_order_on =
       let i = begins_directory t.disk t.pairs path on.at first h.accepted on.leads on.begins in
       record {
@@ -188,5 +188,5 @@ module _ (t : Kept) (path : Path) (first : ℕ) (h : HidesOnly t None) (on : Beg
         plain = plain_behind t.disk t.pairs first h.accepted (let n = i.number in omega (arith, n));
       }
 
-pub in_order_if : (t : Kept) (moved : Option Spot) (path : Path) (first : ℕ) → HidesOnly t moved → BeginsOnPath t.pairs path first → moved ≡ None → IsInOrder t.disk.order t.pairs first
-in_order_if t moved path first h on none = in_order_on t path first (subst (HidesOnly t) none h) on
+pub in_order_if : (t : Kept) (moved : Option Spot) (path : Path) (first : ℕ) → HidesOnlyMovedSlot t moved → PathLeadsToFirstPair t.pairs path first → moved ≡ None → AreDirectoryNamesInOrder t.disk.order t.pairs first
+in_order_if t moved path first h on none = in_order_on t path first (subst (HidesOnlyMovedSlot t) none h) on

@@ -2,28 +2,28 @@
 use Rattle.std.proofs.Common.{ℕ, zero, suc, ◌≡◌, ◌<◌, ◌≤◌, ◌∙◌, Bool, true, false, cond, not, List, [], ◌∷◌, ◌++◌, length, map, filter, get_or, remove, Option, Some, None, refl, sym, ap, ap₂, subst, arith}
 use Rattle.std.proofs.lemmas.Option.{same_Some}
 use Rattle.lfs_model.specs.Slots.{Slot, is_superblock}
-use Rattle.lfs_model.specs.Content.{RawSlot, complete_all}
-use Rattle.lfs_model.specs.LoggedContent.{HasParts, HaveParts}
+use Rattle.lfs_model.specs.Content.{RawSlot, slots_if_all_complete}
+use Rattle.lfs_model.specs.LoggedContent.{IsWellFormedRawSlot, AreWellFormedRawSlots}
 use Rattle.lfs_model.proofs.Completed.{complete_parts, complete_remove}
-use Rattle.lfs_lookup.specs.Items.{Shape, shape_list, shape_of, shapes_in, shapes_among, shape_if_entry, without_id}
+use Rattle.lfs_lookup.specs.Items.{NameAndStruct, list_of_optional_entry, name_and_struct_of, entries_without_moved_slot, entries_of_raw_slots, entry_unless_superblock, slots_without_id}
 
 -- ---- parts
 
-parts_of : {X : Type 0} (f : X → RawSlot) (xs : List X) (i : ℕ) (d : X) → HaveParts (map f xs) → i < length xs → HasParts (f (get_or xs i d))
+parts_of : {X : Type 0} (f : X → RawSlot) (xs : List X) (i : ℕ) (d : X) → AreWellFormedRawSlots (map f xs) → i < length xs → IsWellFormedRawSlot (f (get_or xs i d))
 parts_of f [] i d h l = absurd (omega arith)
 parts_of f (x ∷ xs) zero d h l = h.0
 parts_of f (x ∷ xs) (suc i) d h l = parts_of f xs i d h.1 (omega arith)
 
-pub parts_at : {X : Type 0} (f : X → RawSlot) (xs : List X) (i : ℕ) (x : X) → HaveParts (map f xs) → i < length xs → x ≡ get_or xs i x → HasParts (f x)
-parts_at f xs i x h l at = subst (λ z. HasParts (f z)) (sym at) (parts_of f xs i x h l)
+pub parts_at : {X : Type 0} (f : X → RawSlot) (xs : List X) (i : ℕ) (x : X) → AreWellFormedRawSlots (map f xs) → i < length xs → x ≡ get_or xs i x → IsWellFormedRawSlot (f x)
+parts_at f xs i x h l at = subst (λ z. IsWellFormedRawSlot (f z)) (sym at) (parts_of f xs i x h l)
 
-parts_remove : (xs : List RawSlot) (id : ℕ) → HaveParts xs → HaveParts (remove xs id)
+parts_remove : (xs : List RawSlot) (id : ℕ) → AreWellFormedRawSlots xs → AreWellFormedRawSlots (remove xs id)
 parts_remove [] zero h = tt
 parts_remove [] (suc id) h = tt
 parts_remove (x ∷ xs) zero h = h.1
 parts_remove (x ∷ xs) (suc id) h = (h.0, parts_remove xs id h.1)
 
-pub parts_without : (moved : Option ℕ) (xs : List RawSlot) → HaveParts xs → HaveParts (without_id moved xs)
+pub parts_without : (moved : Option ℕ) (xs : List RawSlot) → AreWellFormedRawSlots xs → AreWellFormedRawSlots (slots_without_id moved xs)
 parts_without None xs h = h
 parts_without (Some id) xs h = parts_remove xs id h
 
@@ -35,31 +35,31 @@ map_remove f [] (suc id) = refl
 map_remove f (x ∷ xs) zero = refl
 map_remove f (x ∷ xs) (suc id) = ap (λ ys. f x ∷ ys) (map_remove f xs id)
 
-pub complete_without : (moved : Option ℕ) (xs : List RawSlot) (us : List Slot) → complete_all xs ≡ Some us → complete_all (without_id moved xs) ≡ Some (without_id moved us)
+pub complete_without : (moved : Option ℕ) (xs : List RawSlot) (us : List Slot) → slots_if_all_complete xs ≡ Some us → slots_if_all_complete (slots_without_id moved xs) ≡ Some (slots_without_id moved us)
 complete_without None xs us h = h
 complete_without (Some id) xs us h = complete_remove xs us id h
 
 -- ---- complete slots show their entries
 
-shown_first : (s : Slot) (slots : List Slot) → shape_list (shape_if_entry s) ++ map shape_of (filter (λ t. not (is_superblock t)) slots) ≡ map shape_of (filter (λ t. not (is_superblock t)) (s ∷ slots))
+shown_first : (s : Slot) (slots : List Slot) → list_of_optional_entry (entry_unless_superblock s) ++ map name_and_struct_of (filter (λ t. not (is_superblock t)) slots) ≡ map name_and_struct_of (filter (λ t. not (is_superblock t)) (s ∷ slots))
 shown_first s slots = go (is_superblock s) refl
   where
     go : (b : Bool) → is_superblock s ≡ b →
-        shape_list (cond b None (Some (shape_of s))) ++ map shape_of (filter (λ t. not (is_superblock t)) slots) ≡ map shape_of (cond (not b) (s ∷ filter (λ t. not (is_superblock t)) slots) (filter (λ t. not (is_superblock t)) slots))
+        list_of_optional_entry (cond b None (Some (name_and_struct_of s))) ++ map name_and_struct_of (filter (λ t. not (is_superblock t)) slots) ≡ map name_and_struct_of (cond (not b) (s ∷ filter (λ t. not (is_superblock t)) slots) (filter (λ t. not (is_superblock t)) slots))
     go true e = refl
     go false e = refl
 
-pub shown_complete : (raw : List RawSlot) (all : List Slot) → complete_all raw ≡ Some all → shapes_among raw ≡ map shape_of (filter (λ s. not (is_superblock s)) all)
-shown_complete [] all h = ap (λ us. map shape_of (filter (λ s. not (is_superblock s)) us)) (same_Some [] all h)
+pub shown_complete : (raw : List RawSlot) (all : List Slot) → slots_if_all_complete raw ≡ Some all → entries_of_raw_slots raw ≡ map name_and_struct_of (filter (λ s. not (is_superblock s)) all)
+shown_complete [] all h = ap (λ us. map name_and_struct_of (filter (λ s. not (is_superblock s)) us)) (same_Some [] all h)
 shown_complete (x ∷ xs) all h =
     let p = complete_parts x xs all h in
-    ap₂ (λ o rest. shape_list (option_shown o) ++ rest) p.is_first (shown_complete xs p.others p.are_others)
+    ap₂ (λ o rest. list_of_optional_entry (option_shown o) ++ rest) p.is_first (shown_complete xs p.others p.are_others)
     ∙ shown_first p.first p.others
-    ∙ ap (λ us. map shape_of (filter (λ s. not (is_superblock s)) us)) (sym p.all_are)
+    ∙ ap (λ us. map name_and_struct_of (filter (λ s. not (is_superblock s)) us)) (sym p.all_are)
   where
-    option_shown : Option Slot → Option Shape
+    option_shown : Option Slot → Option NameAndStruct
     option_shown None = None
-    option_shown (Some s) = shape_if_entry s
+    option_shown (Some s) = entry_unless_superblock s
 
-pub shown_shapes : (moved : Option ℕ) (raw : List RawSlot) (all : List Slot) → complete_all raw ≡ Some all → shapes_among (without_id moved raw) ≡ shapes_in moved all
-shown_shapes moved raw all h = shown_complete (without_id moved raw) (without_id moved all) (complete_without moved raw all h)
+pub shown_shapes : (moved : Option ℕ) (raw : List RawSlot) (all : List Slot) → slots_if_all_complete raw ≡ Some all → entries_of_raw_slots (slots_without_id moved raw) ≡ entries_without_moved_slot moved all
+shown_shapes moved raw all h = shown_complete (slots_without_id moved raw) (slots_without_id moved all) (complete_without moved raw all h)

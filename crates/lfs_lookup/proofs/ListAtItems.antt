@@ -3,24 +3,24 @@ use Rattle.std.proofs.Common.{ℕ, suc, slice_get, ◌≡◌, ◌∙◌, List, [
 use Rattle.std.proofs.lemmas.List.Elements.{recursion_from_All}
 use Rattle.lfs_device.specs.Bytes.{HasBytes}
 use Rattle.lfs_device.specs.declared.device.BlockDevice.{Ghosts}
-use Rattle.lfs_model.specs.TreeEdits.{names_of}
+use Rattle.lfs_model.specs.TreeEdits.{names_of_directory_node}
 use Rattle.lfs_model.specs.Disk.{Disk}
 use Rattle.lfs_model.specs.Operations as ops
 use Rattle.lfs_model.specs.SlotEdits.{slot_of_path}
 use Rattle.lfs_model.specs.Slots.{Slot, Struct, Inline, Ctz, Branch}
-use Rattle.lfs_model.specs.Effects.{items_in, node_size}
+use Rattle.lfs_model.specs.Effects.{items_in, file_size_of_node}
 use Rattle.lfs_model.specs.Thread.{Pair}
-use Rattle.lfs_model.specs.Tree.{Path, node_of}
-use Rattle.lfs_model.specs.View.{IsAccepted, IsListIfCtz}
-use Rattle.lfs_model.specs.Shown.{PathLeadsTo, all_slots, contents_in, entries_in, tree_in}
+use Rattle.lfs_model.specs.Tree.{Path, node_of_struct_and_attributes}
+use Rattle.lfs_model.specs.View.{IsAcceptedImage, IsListIfCtz}
+use Rattle.lfs_model.specs.Shown.{IsPathToDirectory, all_slots_not_moved, skip_list_bytes_on_disk, entries_by_directory_in_thread, tree_on_disk}
 use Rattle.lfs_model.proofs.Counts.{Each, each_both}
 use Rattle.lfs_model.proofs.OneCommit.{slot_there}
-use Rattle.lfs_thread.specs.Kept.{Kept, disk_on}
-use Rattle.lfs_lookup.specs.ByName.{AreByName}
-use Rattle.lfs_lookup.specs.Items.{Shape, shape_of}
-use Rattle.lfs_lookup.specs.ListAt.{AreShortEntries, IsShortEntry, item_listed, size_listed}
-use Rattle.lfs_lookup.specs.Listed.{shapes_from}
-use Rattle.lfs_lookup.specs.Paths.{BeginsOnPath}
+use Rattle.lfs_thread.specs.Kept.{Kept, disk_of_device}
+use Rattle.lfs_lookup.specs.ByName.{AreSortedByName}
+use Rattle.lfs_lookup.specs.Items.{NameAndStruct, name_and_struct_of}
+use Rattle.lfs_lookup.specs.ListAt.{AreEntriesInNameAndInlineLimits, IsEntryInNameAndInlineLimits, listed_item_of_entry, listed_size_of_struct}
+use Rattle.lfs_lookup.specs.Listed.{entries_of_directory_from}
+use Rattle.lfs_lookup.specs.Paths.{PathLeadsToFirstPair}
 use Rattle.lfs_lookup.proofs.AtPaths.{SizedLists, directory_at_path}
 use Rattle.lfs_lookup.proofs.ByName.{AreRows, each_row, rows_by_name}
 use Rattle.lfs_lookup.proofs.Directories.{own_shapes}
@@ -35,55 +35,55 @@ each_got P (x ∷ xs) h = (h 0 x refl, each_got P xs (λ k y e. h (suc k) y e))
 
 module _ (disk : Disk) (ps : List Pair) (path : Path) where
   abbrev IsSized : Slot → Type 0
-  IsSized s = node_size (tree_in disk ps (path ++ s.name ∷ [])) ≡ size_listed s.struct
+  IsSized s = file_size_of_node (tree_on_disk disk ps (path ++ s.name ∷ [])) ≡ listed_size_of_struct s.struct
 
   sized : (s : Slot) → SizedLists disk → slot_of_path ps (path ++ s.name ∷ []) ≡ Some s → IsListIfCtz disk s.struct → IsSized s
-  sized s lists e list = ap (λ o. node_size (option_map (λ (f : Slot). node_of (contents_in disk) (entries_in ps) f.attributes f.struct) o)) e ∙ go s.struct list
+  sized s lists e list = ap (λ o. file_size_of_node (option_map (λ (f : Slot). node_of_struct_and_attributes (skip_list_bytes_on_disk disk) (entries_by_directory_in_thread ps) f.attributes f.struct) o)) e ∙ go s.struct list
     where
-      go : (z : Struct) → IsListIfCtz disk z → node_size (Some (node_of (contents_in disk) (entries_in ps) s.attributes z)) ≡ size_listed z
+      go : (z : Struct) → IsListIfCtz disk z → file_size_of_node (Some (node_of_struct_and_attributes (skip_list_bytes_on_disk disk) (entries_by_directory_in_thread ps) s.attributes z)) ≡ listed_size_of_struct z
       go (Inline bytes) l = refl
       go (Ctz head size) l = ap Some (lists head size l)
       go (Branch to) l = refl
 
-  rows : (slots : List Slot) → Each IsSized slots → map (λ name. let item : ops.Item = record { name = name; size = node_size (tree_in disk ps (path ++ name ∷ [])) } in item) (map (λ (s : Slot). s.name) slots) ≡ map item_listed (map shape_of slots)
+  rows : (slots : List Slot) → Each IsSized slots → map (λ name. let item : ops.Item = record { name = name; size = file_size_of_node (tree_on_disk disk ps (path ++ name ∷ [])) } in item) (map (λ (s : Slot). s.name) slots) ≡ map listed_item_of_entry (map name_and_struct_of slots)
   rows [] h = refl
   rows (s ∷ slots) h = ap₂ (λ z zs. let item : ops.Item = record { name = s.name; size = z } in item ∷ zs) h.0 (rows slots h.1)
 
-  pub items_listed : (at : ℕ × ℕ) (slots : List Slot) → IsAccepted disk ps → PathLeadsTo ps path at → SizedLists disk → AreRows (entries_in ps at) slots → map item_listed (map shape_of slots) ≡ items_in (tree_in disk ps) path
+  pub items_listed : (at : ℕ × ℕ) (slots : List Slot) → IsAcceptedImage disk ps → IsPathToDirectory ps path at → SizedLists disk → AreRows (entries_by_directory_in_thread ps at) slots → map listed_item_of_entry (map name_and_struct_of slots) ≡ items_in (tree_on_disk disk ps) path
   items_listed at slots ok leads lists r =
       let d = directory_at_path disk ps path at leads in
-      sym (ap (λ o. map (λ name. let item : ops.Item = record { name = name; size = node_size (tree_in disk ps (path ++ name ∷ [])) } in item) (names_of o)) d.is
-      ∙ ap (map (λ name. let item : ops.Item = record { name = name; size = node_size (tree_in disk ps (path ++ name ∷ [])) } in item)) (sym r.names)
-      ∙ rows slots (each_row IsSized (entries_in ps at) slots r (each_both (λ s. slot_of_path ps (path ++ s.name ∷ []) ≡ Some s) (λ s. IsListIfCtz disk s.struct) IsSized (λ s e l. sized s lists e l) (entries_in ps at)
-      (each_got (λ s. slot_of_path ps (path ++ s.name ∷ []) ≡ Some s) (entries_in ps at) (λ k u g. slot_there disk ps path at k u ok leads g))
-      (each_entry (λ s. IsListIfCtz disk s.struct) disk ps path at ok leads (recursion_from_All (λ (s : Slot). IsListIfCtz disk s.struct) (all_slots ps) ok.lists)))))
+      sym (ap (λ o. map (λ name. let item : ops.Item = record { name = name; size = file_size_of_node (tree_on_disk disk ps (path ++ name ∷ [])) } in item) (names_of_directory_node o)) d.is
+      ∙ ap (map (λ name. let item : ops.Item = record { name = name; size = file_size_of_node (tree_on_disk disk ps (path ++ name ∷ [])) } in item)) (sym r.names)
+      ∙ rows slots (each_row IsSized (entries_by_directory_in_thread ps at) slots r (each_both (λ s. slot_of_path ps (path ++ s.name ∷ []) ≡ Some s) (λ s. IsListIfCtz disk s.struct) IsSized (λ s e l. sized s lists e l) (entries_by_directory_in_thread ps at)
+      (each_got (λ s. slot_of_path ps (path ++ s.name ∷ []) ≡ Some s) (entries_by_directory_in_thread ps at) (λ k u g. slot_there disk ps path at k u ok leads g))
+      (each_entry (λ s. IsListIfCtz disk s.struct) disk ps path at ok leads (recursion_from_All (λ (s : Slot). IsListIfCtz disk s.struct) (all_slots_not_moved ps) ok.lists)))))
 
 -- ---- of a thread
 
-each_short : (slots : List Slot) → AreShortEntries (map shape_of slots) → Each (λ s. IsShortEntry (shape_of s)) slots
+each_short : (slots : List Slot) → AreEntriesInNameAndInlineLimits (map name_and_struct_of slots) → Each (λ s. IsEntryInNameAndInlineLimits (name_and_struct_of s)) slots
 each_short [] h = tt
 each_short (s ∷ slots) h = (h.0, each_short slots h.1)
 
-short_each : (slots : List Slot) → Each (λ s. IsShortEntry (shape_of s)) slots → AreShortEntries (map shape_of slots)
+short_each : (slots : List Slot) → Each (λ s. IsEntryInNameAndInlineLimits (name_and_struct_of s)) slots → AreEntriesInNameAndInlineLimits (map name_and_struct_of slots)
 short_each [] h = tt
 short_each (s ∷ slots) h = (h.0, short_each slots h.1)
 
 -- what is found in name order: these entries, put in it
-module _ (t : Kept) (path : Path) (ok : IsAccepted t.disk t.pairs) (now : List Pair) (first : ℕ) (found shapes : List Shape) (same : now ≡ t.pairs) (on : BeginsOnPath t.pairs path first)
-    (are : found ≡ shapes_from now (Some first)) (by_name : AreByName found shapes) where
-  slots_there : (slots : List Slot) × (AreRows (entries_in t.pairs on.at) slots × (shapes ≡ map shape_of slots))
+module _ (t : Kept) (path : Path) (ok : IsAcceptedImage t.disk t.pairs) (now : List Pair) (first : ℕ) (found shapes : List NameAndStruct) (same : now ≡ t.pairs) (on : PathLeadsToFirstPair t.pairs path first)
+    (are : found ≡ entries_of_directory_from now (Some first)) (by_name : AreSortedByName found shapes) where
+  slots_there : (slots : List Slot) × (AreRows (entries_by_directory_in_thread t.pairs on.at) slots × (shapes ≡ map name_and_struct_of slots))
   slots_there =
-      let own = are ∙ ap (λ ps. shapes_from ps (Some first)) same ∙ own_shapes t.disk t.pairs path on.at first ok on.leads on.begins in
-      rows_by_name (entries_in t.pairs on.at) shapes (subst (λ (z : List Shape). AreByName z shapes) own by_name)
+      let own = are ∙ ap (λ ps. entries_of_directory_from ps (Some first)) same ∙ own_shapes t.disk t.pairs path on.at first ok on.leads on.begins in
+      rows_by_name (entries_by_directory_in_thread t.pairs on.at) shapes (subst (λ (z : List NameAndStruct). AreSortedByName z shapes) own by_name)
 
-  pub short_there : HasBytes t.disk.blocks → AreShortEntries shapes
+  pub short_there : HasBytes t.disk.blocks → AreEntriesInNameAndInlineLimits shapes
   short_there bytes =
       let (slots, (r, is)) = slots_there in
-      subst AreShortEntries (sym is)
-      (short_each slots (each_row (λ s. IsShortEntry (shape_of s)) (entries_in t.pairs on.at) slots r (each_short (entries_in t.pairs on.at) (short_entries t.disk t.pairs path on.at bytes ok on.leads))))
+      subst AreEntriesInNameAndInlineLimits (sym is)
+      (short_each slots (each_row (λ s. IsEntryInNameAndInlineLimits (name_and_struct_of s)) (entries_by_directory_in_thread t.pairs on.at) slots r (each_short (entries_by_directory_in_thread t.pairs on.at) (short_entries t.disk t.pairs path on.at bytes ok on.leads))))
 
-  pub listed_there : (listed : List ops.Item) → SizedLists t.disk → listed ≡ map item_listed shapes → listed ≡ items_in (tree_in t.disk t.pairs) path
-  listed_there listed lists e = let (slots, (r, is)) = slots_there in e ∙ ap (map item_listed) is ∙ items_listed t.disk t.pairs path on.at slots ok on.leads lists r
+  pub listed_there : (listed : List ops.Item) → SizedLists t.disk → listed ≡ map listed_item_of_entry shapes → listed ≡ items_in (tree_on_disk t.disk t.pairs) path
+  listed_there listed lists e = let (slots, (r, is)) = slots_there in e ∙ ap (map listed_item_of_entry) is ∙ items_listed t.disk t.pairs path on.at slots ok on.leads lists r
 
-pub bytes_on : {D : Type 0} (g : Ghosts D) (d : D) (disk : Disk) → disk_on g d ≡ disk → HasBytes (g.blocks d) → HasBytes disk.blocks
+pub bytes_on : {D : Type 0} (g : Ghosts D) (d : D) (disk : Disk) → disk_of_device g d ≡ disk → HasBytes (g.blocks d) → HasBytes disk.blocks
 bytes_on g d disk e h = subst (λ (z : Disk). HasBytes z.blocks) e h

@@ -4,27 +4,27 @@ use Rattle.std.specs.Prelude.{IfErr}
 use Rattle.lfs_device.specs.declared.error.Error.{Error}
 use Rattle.lfs_device.specs.declared.error.Error.TheVariants.{Io, NoMemory}
 use Rattle.lfs_model.specs.History.{faults}
-use Rattle.lfs_thread.specs.Kept.{State}
-use Rattle.lfs_thread.specs.Steps.{IsOnlyRead}
-use Rattle.lfs_lookup.specs.Reading.{IsReading}
+use Rattle.lfs_thread.specs.Kept.{ThreadView}
+use Rattle.lfs_thread.specs.Steps.{IsThreadOnlyRead}
+use Rattle.lfs_lookup.specs.Reading.{OnlyReadsThreadAndReportsErrors}
 use Rattle.lfs_lookup.proofs.ReadOnly.{only_itself, only_read}
 
 -- calls that answered
-pub record HasRead (old new : State) : Type 0 where
-  pub only : IsOnlyRead old.kept new.kept
+pub record HasRead (old new : ThreadView) : Type 0 where
+  pub only : IsThreadOnlyRead old.kept new.kept
   pub works : new.failed ≡ false
   pub same : faults new.kept.history ≡ faults old.kept.history
 
-pub answered : {X : Type 0} (a b : State) (r : Result X Error) (x : X) → r ≡ Ok x → IsReading a b r → HasRead a b
+pub answered : {X : Type 0} (a b : ThreadView) (r : Result X Error) (x : X) → r ≡ Ok x → OnlyReadsThreadAndReportsErrors a b r → HasRead a b
 answered a b r x e h = record { only = h.only; works = h.works; same = h.reported.no_fault (λ k. let z = sym e ∙ k in absurd (cc)) }
 
-pub has_read_nothing : (a : State) → a.failed ≡ false → HasRead a a
+pub has_read_nothing : (a : ThreadView) → a.failed ≡ false → HasRead a a
 has_read_nothing a works = record { only = only_itself a.kept; works = works; same = refl }
 
-pub both : (a b c : State) → HasRead a b → HasRead b c → HasRead a c
+pub both : (a b c : ThreadView) → HasRead a b → HasRead b c → HasRead a c
 both a b c r s = record { only = only_read a.kept b.kept c.kept r.only s.only; works = s.works; same = s.same ∙ r.same }
 
-pub further : {X : Type 0} (a b c : State) (r : Result X Error) → HasRead a b → IsReading b c r → IsReading a c r
+pub further : {X : Type 0} (a b c : ThreadView) (r : Result X Error) → HasRead a b → OnlyReadsThreadAndReportsErrors b c r → OnlyReadsThreadAndReportsErrors a c r
 further a b c r h s =
     let same = h.same in
     record {
@@ -38,7 +38,7 @@ further a b c r h s =
       };
     }
 
-pub answers : {X : Type 0} (a b : State) (r : Result X Error) (x : X) → r ≡ Ok x → HasRead a b → IsReading a b r
+pub answers : {X : Type 0} (a b : ThreadView) (r : Result X Error) (x : X) → r ≡ Ok x → HasRead a b → OnlyReadsThreadAndReportsErrors a b r
 answers {X = X} a b r x e h = record {
   only = h.only;
   works = h.works;
@@ -50,7 +50,7 @@ answers {X = X} a b r x e h = record {
   };
 }
 
-pub lacks_memory : {X : Type 0} (a b : State) (r : Result X Error) → r ≡ Err NoMemory → HasRead a b → IsReading a b r
+pub lacks_memory : {X : Type 0} (a b : ThreadView) (r : Result X Error) → r ≡ Err NoMemory → HasRead a b → OnlyReadsThreadAndReportsErrors a b r
 lacks_memory {X = X} a b r e h = record {
   only = h.only;
   works = h.works;
@@ -66,7 +66,7 @@ pub same_error : (X : Type 0) (e f : Error) → (let r : Result X Error = Err e 
 same_error X e f h = cc
 
 -- an error is passed on
-pub passed : {X Y : Type 0} (a b : State) (r : Result X Error) (s : Result Y Error) (e f : Error) → r ≡ Err e → s ≡ Err f → f ≡ e → IsReading a b r → IsReading a b s
+pub passed : {X Y : Type 0} (a b : ThreadView) (r : Result X Error) (s : Result Y Error) (e f : Error) → r ≡ Err e → s ≡ Err f → f ≡ e → OnlyReadsThreadAndReportsErrors a b r → OnlyReadsThreadAndReportsErrors a b s
 passed {X = X} {Y = Y} a b r s e f is now same h = record {
   only = h.only;
   works = h.works;
@@ -79,5 +79,5 @@ passed {X = X} {Y = Y} a b r s e f is now same h = record {
 }
 
 -- no call at all
-pub begun : (a : State) → a.failed ≡ false → HasRead a a
+pub begun : (a : ThreadView) → a.failed ≡ false → HasRead a a
 begun a works = record { only = only_itself a.kept; works = works; same = refl }

@@ -2,15 +2,15 @@
 use Rattle.std.proofs.Common.{ℕ, zero, suc, ◌≡◌, ◌+◌, ◌<◌, ◌≤◌, ◌∙◌, ◌&&◌, Bool, true, false, cond, List, [], ◌∷◌, length, drop, get_or, None, Some, refl, sym, ap, subst, arith}
 use Rattle.std.proofs.lemmas.Bool.{and_from, and_parts, and_right}
 use Rattle.lfs_model.specs.Disk.{Disk}
-use Rattle.lfs_model.specs.InDirectory.{BeginsAt}
+use Rattle.lfs_model.specs.InDirectory.{IsPairAtAddress}
 use Rattle.lfs_model.specs.Slots.{Slot}
-use Rattle.lfs_model.specs.Thread.{Pair, is_bare, is_hard, leads_on, meets_superblock, root_of, starts_with_superblock, superblock_or, superblocks_before}
-use Rattle.lfs_model.specs.View.{IsAccepted}
+use Rattle.lfs_model.specs.Thread.{Pair, is_empty_or_superblock, is_hard_tail, leads_on, has_superblock_as_first_slot, root_directory_of_pairs, starts_with_superblock, starts_with_superblock_if_any_slot, pair_count_before_root}
+use Rattle.lfs_model.specs.View.{IsAcceptedImage}
 use Rattle.lfs_model.proofs.Superblocks.{meets_from}
 use Rattle.lfs_thread.specs.Kept.{Kept}
-use Rattle.lfs_thread.specs.Steps.{no_pair, pair_in}
-use Rattle.lfs_lookup.specs.Paths.{BeginsOnPath}
-use Rattle.lfs_lookup.specs.Root.{IsInChain, IsNextInChain, has_few, next_in_chain}
+use Rattle.lfs_thread.specs.Steps.{no_pair, kept_pair_at_index}
+use Rattle.lfs_lookup.specs.Paths.{PathLeadsToFirstPair}
+use Rattle.lfs_lookup.specs.Root.{IsSuperblockInChain, IsNextSuperblockInChain, has_at_most_one_slot, next_pair_in_superblock_chain}
 use Rattle.lfs_lookup.proofs.Roots.{root_begins}
 
 abbrev at : List Pair → ℕ → Pair
@@ -23,15 +23,15 @@ dropped (p ∷ ps) (suc n) l = dropped ps n (omega arith) ∙ ap (λ k. at ps n 
 
 -- the chain goes on behind a pair
 abbrev pub goes_on : List Pair → ℕ → Bool
-goes_on ps n = meets_superblock (drop (n + 1) ps) && leads_on (at ps n)
+goes_on ps n = has_superblock_as_first_slot (drop (n + 1) ps) && leads_on (at ps n)
 
-before_at : (ps : List Pair) (n : ℕ) → n < length ps → superblocks_before (drop n ps) ≡ cond (goes_on ps n) (1 + superblocks_before (drop (n + 1) ps)) 0
-before_at ps n l = ap superblocks_before (dropped ps n l)
+before_at : (ps : List Pair) (n : ℕ) → n < length ps → pair_count_before_root (drop n ps) ≡ cond (goes_on ps n) (1 + pair_count_before_root (drop (n + 1) ps)) 0
+before_at ps n l = ap pair_count_before_root (dropped ps n l)
 
-meets_at : (ps : List Pair) (n : ℕ) → n < length ps → meets_superblock (drop n ps) ≡ superblock_or (at ps n).content.slots (is_hard (at ps n).content.tail && meets_superblock (drop (n + 1) ps))
-meets_at ps n l = ap meets_superblock (dropped ps n l)
+meets_at : (ps : List Pair) (n : ℕ) → n < length ps → has_superblock_as_first_slot (drop n ps) ≡ starts_with_superblock_if_any_slot (at ps n).content.slots (is_hard_tail (at ps n).content.tail && has_superblock_as_first_slot (drop (n + 1) ps))
+meets_at ps n l = ap has_superblock_as_first_slot (dropped ps n l)
 
-meets_slots : (slots : List Slot) (later : Bool) → 0 < length slots → superblock_or slots later ≡ starts_with_superblock slots
+meets_slots : (slots : List Slot) (later : Bool) → 0 < length slots → starts_with_superblock_if_any_slot slots later ≡ starts_with_superblock slots
 meets_slots [] later l = absurd (omega arith)
 meets_slots (s ∷ slots) later l = refl
 
@@ -39,12 +39,12 @@ no_slots : (slots : List Slot) → length slots ≡ 0 → slots ≡ []
 no_slots [] e = refl
 no_slots (s ∷ slots) e = absurd (omega arith)
 
-few_bare : (slots : List Slot) → starts_with_superblock slots ≡ true → has_few slots ≡ true → is_bare slots ≡ true
+few_bare : (slots : List Slot) → starts_with_superblock slots ≡ true → has_at_most_one_slot slots ≡ true → is_empty_or_superblock slots ≡ true
 few_bare [] s f = refl
 few_bare (x ∷ []) s f = s
 few_bare (x ∷ y ∷ slots) s f = absurd (cc)
 
-many_not_bare : (slots : List Slot) → has_few slots ≡ false → is_bare slots ≡ false
+many_not_bare : (slots : List Slot) → has_at_most_one_slot slots ≡ false → is_empty_or_superblock slots ≡ false
 many_not_bare [] f = absurd (cc)
 many_not_bare (x ∷ []) f = absurd (cc)
 many_not_bare (x ∷ y ∷ slots) f = refl
@@ -52,18 +52,18 @@ many_not_bare (x ∷ y ∷ slots) f = refl
 -- ---- up to the first pair that has a slot
 
 pub record IsAhead (ps : List Pair) (index : ℕ) : Type 0 where
-  pub meets : meets_superblock (drop index ps) ≡ true
-  pub root : index + superblocks_before (drop index ps) ≡ superblocks_before ps
+  pub meets : has_superblock_as_first_slot (drop index ps) ≡ true
+  pub root : index + pair_count_before_root (drop index ps) ≡ pair_count_before_root ps
 
-pub ahead_first : (disk : Disk) (ps : List Pair) → IsAccepted disk ps → IsAhead ps 0
+pub ahead_first : (disk : Disk) (ps : List Pair) → IsAcceptedImage disk ps → IsAhead ps 0
 ahead_first disk ps ok = record { meets = meets_from ps ok.root; root = omega arith }
 
 -- a thread with the same pairs has the same chain
-pub in_chain_on : (a b : Kept) (n : ℕ) → b.pairs ≡ a.pairs → IsInChain b n → IsInChain a n
+pub in_chain_on : (a b : Kept) (n : ℕ) → b.pairs ≡ a.pairs → IsSuperblockInChain b n → IsSuperblockInChain a n
 in_chain_on a b n e h = record {
   below = subst (λ (ps : List Pair). n < length ps) e h.below;
   starts = subst (λ (ps : List Pair). starts_with_superblock (get_or ps n no_pair).content.slots ≡ true) e h.starts;
-  root = subst (λ (ps : List Pair). n + superblocks_before (drop n ps) ≡ superblocks_before ps) e h.root;
+  root = subst (λ (ps : List Pair). n + pair_count_before_root (drop n ps) ≡ pair_count_before_root ps) e h.root;
 }
 
 -- ---- from one superblock to the next
@@ -71,89 +71,89 @@ in_chain_on a b n e h = record {
 pub record IsWalked (t : Kept) (superblock index : ℕ) : Type 0 where
   pub below : index < length t.pairs
   pub first : superblock ≤ index
-  pub bare : has_few (pair_in t index).content.slots ≡ true → is_bare (pair_in t index).content.slots ≡ true
-  pub goes : goes_on t.pairs index ≡ true → index + superblocks_before (drop index t.pairs) ≡ superblocks_before t.pairs
-  pub ends : goes_on t.pairs index ≡ false → superblock ≡ superblocks_before t.pairs
+  pub bare : has_at_most_one_slot (kept_pair_at_index t index).content.slots ≡ true → is_empty_or_superblock (kept_pair_at_index t index).content.slots ≡ true
+  pub goes : goes_on t.pairs index ≡ true → index + pair_count_before_root (drop index t.pairs) ≡ pair_count_before_root t.pairs
+  pub ends : goes_on t.pairs index ≡ false → superblock ≡ pair_count_before_root t.pairs
 
-pub walked_first : (t : Kept) (n : ℕ) → IsInChain t n → IsWalked t n n
+pub walked_first : (t : Kept) (n : ℕ) → IsSuperblockInChain t n → IsWalked t n n
 walked_first t n h = record {
   below = h.below;
   first = omega arith;
-  bare = few_bare (pair_in t n).content.slots h.starts;
+  bare = few_bare (kept_pair_at_index t n).content.slots h.starts;
   goes = λ e. h.root;
-  ends = λ e. let none = before_at t.pairs n h.below ∙ ap (λ b. cond b (1 + superblocks_before (drop (n + 1) t.pairs)) 0) e in let root = h.root in omega arith;
+  ends = λ e. let none = before_at t.pairs n h.below ∙ ap (λ b. cond b (1 + pair_count_before_root (drop (n + 1) t.pairs)) 0) e in let root = h.root in omega arith;
 }
 
 -- the chain can't go on
-pub walked_stops : (t : Kept) (superblock n : ℕ) → IsWalked t superblock n → next_in_chain t n ≡ None → superblock ≡ superblocks_before t.pairs
-walked_stops t superblock n h e = h.ends (and_right (meets_superblock (drop (n + 1) t.pairs)) (leads_on (pair_in t n)) (go (has_few (pair_in t n).content.slots) refl (is_hard (pair_in t n).content.tail) refl e))
+pub walked_stops : (t : Kept) (superblock n : ℕ) → IsWalked t superblock n → next_pair_in_superblock_chain t n ≡ None → superblock ≡ pair_count_before_root t.pairs
+walked_stops t superblock n h e = h.ends (and_right (has_superblock_as_first_slot (drop (n + 1) t.pairs)) (leads_on (kept_pair_at_index t n)) (go (has_at_most_one_slot (kept_pair_at_index t n).content.slots) refl (is_hard_tail (kept_pair_at_index t n).content.tail) refl e))
   where
-    go : (few : Bool) → has_few (pair_in t n).content.slots ≡ few → (hard : Bool) → is_hard (pair_in t n).content.tail ≡ hard → cond few (cond hard (Some (n + 1)) None) None ≡ None → leads_on (pair_in t n) ≡ false
-    go false f hard k z = ap (λ b. b && is_hard (pair_in t n).content.tail) (many_not_bare (pair_in t n).content.slots f)
-    go true f false k z = and_right (is_bare (pair_in t n).content.slots) (is_hard (pair_in t n).content.tail) k
+    go : (few : Bool) → has_at_most_one_slot (kept_pair_at_index t n).content.slots ≡ few → (hard : Bool) → is_hard_tail (kept_pair_at_index t n).content.tail ≡ hard → cond few (cond hard (Some (n + 1)) None) None ≡ None → leads_on (kept_pair_at_index t n) ≡ false
+    go false f hard k z = ap (λ b. b && is_hard_tail (kept_pair_at_index t n).content.tail) (many_not_bare (kept_pair_at_index t n).content.slots f)
+    go true f false k z = and_right (is_empty_or_superblock (kept_pair_at_index t n).content.slots) (is_hard_tail (kept_pair_at_index t n).content.tail) k
     go true f true k z = absurd (cc)
 
 record Leads (t : Kept) (n next : ℕ) : Type 0 where
   is : next ≡ n + 1
-  few : has_few (pair_in t n).content.slots ≡ true
-  hard : is_hard (pair_in t n).content.tail ≡ true
+  few : has_at_most_one_slot (kept_pair_at_index t n).content.slots ≡ true
+  hard : is_hard_tail (kept_pair_at_index t n).content.tail ≡ true
 
-leads_to : (t : Kept) (n next : ℕ) → next_in_chain t n ≡ Some next → Leads t n next
-leads_to t n next e = go (has_few (pair_in t n).content.slots) refl (is_hard (pair_in t n).content.tail) refl e
+leads_to : (t : Kept) (n next : ℕ) → next_pair_in_superblock_chain t n ≡ Some next → Leads t n next
+leads_to t n next e = go (has_at_most_one_slot (kept_pair_at_index t n).content.slots) refl (is_hard_tail (kept_pair_at_index t n).content.tail) refl e
   where
-    go : (few : Bool) → has_few (pair_in t n).content.slots ≡ few → (hard : Bool) → is_hard (pair_in t n).content.tail ≡ hard → cond few (cond hard (Some (n + 1)) None) None ≡ Some next → Leads t n next
+    go : (few : Bool) → has_at_most_one_slot (kept_pair_at_index t n).content.slots ≡ few → (hard : Bool) → is_hard_tail (kept_pair_at_index t n).content.tail ≡ hard → cond few (cond hard (Some (n + 1)) None) None ≡ Some next → Leads t n next
     go false f hard k z = absurd (cc)
     go true f false k z = absurd (cc)
     go true f true k z = record { is = (let i : n + 1 ≡ next = cc in sym i); few = f; hard = k }
 
-module _ (t : Kept) (superblock n next : ℕ) (h : IsWalked t superblock n) (e : next_in_chain t n ≡ Some next) (within : next < length t.pairs) where
+module _ (t : Kept) (superblock n next : ℕ) (h : IsWalked t superblock n) (e : next_pair_in_superblock_chain t n ≡ Some next) (within : next < length t.pairs) where
   abbrev l : Leads t n next
   l = leads_to t n next e
 
-  leads : leads_on (pair_in t n) ≡ true
-  leads = and_from (is_bare (pair_in t n).content.slots) (is_hard (pair_in t n).content.tail) (h.bare l.few) l.hard
+  leads : leads_on (kept_pair_at_index t n) ≡ true
+  leads = and_from (is_empty_or_superblock (kept_pair_at_index t n).content.slots) (is_hard_tail (kept_pair_at_index t n).content.tail) (h.bare l.few) l.hard
 
-  goes_by : goes_on t.pairs n ≡ meets_superblock (drop next t.pairs)
-  goes_by = ap (λ b. meets_superblock (drop (n + 1) t.pairs) && b) leads ∙ and_true_right (meets_superblock (drop (n + 1) t.pairs)) ∙ ap (λ k. meets_superblock (drop k t.pairs)) (sym l.is)
+  goes_by : goes_on t.pairs n ≡ has_superblock_as_first_slot (drop next t.pairs)
+  goes_by = ap (λ b. has_superblock_as_first_slot (drop (n + 1) t.pairs) && b) leads ∙ and_true_right (has_superblock_as_first_slot (drop (n + 1) t.pairs)) ∙ ap (λ k. has_superblock_as_first_slot (drop k t.pairs)) (sym l.is)
     where
       and_true_right : (b : Bool) → (b && true) ≡ b
       and_true_right true = refl
       and_true_right false = refl
 
-  meets_next : 0 < length (pair_in t next).content.slots → meets_superblock (drop next t.pairs) ≡ starts_with_superblock (pair_in t next).content.slots
-  meets_next some = meets_at t.pairs next within ∙ meets_slots (pair_in t next).content.slots (is_hard (pair_in t next).content.tail && meets_superblock (drop (next + 1) t.pairs)) some
+  meets_next : 0 < length (kept_pair_at_index t next).content.slots → has_superblock_as_first_slot (drop next t.pairs) ≡ starts_with_superblock (kept_pair_at_index t next).content.slots
+  meets_next some = meets_at t.pairs next within ∙ meets_slots (kept_pair_at_index t next).content.slots (is_hard_tail (kept_pair_at_index t next).content.tail && has_superblock_as_first_slot (drop (next + 1) t.pairs)) some
 
   -- a superblock again
-  pub walked_found : 0 < length (pair_in t next).content.slots → starts_with_superblock (pair_in t next).content.slots ≡ true → IsNextInChain t superblock (Some next)
+  pub walked_found : 0 < length (kept_pair_at_index t next).content.slots → starts_with_superblock (kept_pair_at_index t next).content.slots ≡ true → IsNextSuperblockInChain t superblock (Some next)
   walked_found some starts =
       let goes = goes_by ∙ meets_next some ∙ starts in
-      let more = before_at t.pairs n h.below ∙ ap (λ b. cond b (1 + superblocks_before (drop (n + 1) t.pairs)) 0) goes ∙ ap (λ k. 1 + superblocks_before (drop k t.pairs)) (sym l.is) in
+      let more = before_at t.pairs n h.below ∙ ap (λ b. cond b (1 + pair_count_before_root (drop (n + 1) t.pairs)) 0) goes ∙ ap (λ k. 1 + pair_count_before_root (drop k t.pairs)) (sym l.is) in
       let root = h.goes goes in
       let is = l.is in
       let first = h.first in
       (omega arith, record { below = within; starts = starts; root = omega arith })
 
   -- other slots
-  pub walked_other : 0 < length (pair_in t next).content.slots → starts_with_superblock (pair_in t next).content.slots ≡ false → superblock ≡ superblocks_before t.pairs
+  pub walked_other : 0 < length (kept_pair_at_index t next).content.slots → starts_with_superblock (kept_pair_at_index t next).content.slots ≡ false → superblock ≡ pair_count_before_root t.pairs
   walked_other some starts = h.ends (goes_by ∙ meets_next some ∙ starts)
 
   -- no slot
-  pub walked_on : length (pair_in t next).content.slots ≡ 0 → IsWalked t superblock (n + 1)
+  pub walked_on : length (kept_pair_at_index t next).content.slots ≡ 0 → IsWalked t superblock (n + 1)
   walked_on none = subst (IsWalked t superblock) l.is (record {
     below = within;
     first = (let is = l.is in let first = h.first in omega arith);
-    bare = λ k. ap is_bare empty;
+    bare = λ k. ap is_empty_or_superblock empty;
     goes = λ k.
         let goes = goes_by ∙ meets_hard ∙ k in
-        let more = before_at t.pairs n h.below ∙ ap (λ b. cond b (1 + superblocks_before (drop (n + 1) t.pairs)) 0) goes ∙ ap (λ j. 1 + superblocks_before (drop j t.pairs)) (sym l.is) in
+        let more = before_at t.pairs n h.below ∙ ap (λ b. cond b (1 + pair_count_before_root (drop (n + 1) t.pairs)) 0) goes ∙ ap (λ j. 1 + pair_count_before_root (drop j t.pairs)) (sym l.is) in
         let root = h.goes goes in
         let is = l.is in
         omega arith;
     ends = λ k. h.ends (goes_by ∙ meets_hard ∙ k);
   })
     where
-      empty : (pair_in t next).content.slots ≡ []
-      empty = no_slots (pair_in t next).content.slots none
+      empty : (kept_pair_at_index t next).content.slots ≡ []
+      empty = no_slots (kept_pair_at_index t next).content.slots none
 
       turned : (a b : Bool) → (a && b) ≡ (b && a)
       turned true true = refl
@@ -161,12 +161,12 @@ module _ (t : Kept) (superblock n next : ℕ) (h : IsWalked t superblock n) (e :
       turned false true = refl
       turned false false = refl
 
-      meets_hard : meets_superblock (drop next t.pairs) ≡ goes_on t.pairs next
+      meets_hard : has_superblock_as_first_slot (drop next t.pairs) ≡ goes_on t.pairs next
       meets_hard = meets_at t.pairs next within
-          ∙ ap (λ z. superblock_or z (is_hard (pair_in t next).content.tail && meets_superblock (drop (next + 1) t.pairs))) empty
-          ∙ turned (is_hard (pair_in t next).content.tail) (meets_superblock (drop (next + 1) t.pairs))
-          ∙ ap (λ z. meets_superblock (drop (next + 1) t.pairs) && (is_bare z && is_hard (pair_in t next).content.tail)) (sym empty)
+          ∙ ap (λ z. starts_with_superblock_if_any_slot z (is_hard_tail (kept_pair_at_index t next).content.tail && has_superblock_as_first_slot (drop (next + 1) t.pairs))) empty
+          ∙ turned (is_hard_tail (kept_pair_at_index t next).content.tail) (has_superblock_as_first_slot (drop (next + 1) t.pairs))
+          ∙ ap (λ z. has_superblock_as_first_slot (drop (next + 1) t.pairs) && (is_empty_or_superblock z && is_hard_tail (kept_pair_at_index t next).content.tail)) (sym empty)
 
 -- the root directory begins behind them
-pub root_leads : (disk : Disk) (ps : List Pair) (root : ℕ) → IsAccepted disk ps → root ≡ superblocks_before ps → BeginsOnPath ps [] root
-root_leads disk ps root ok e = record { at = root_of ps; leads = refl; begins = subst (λ n. BeginsAt ps (root_of ps) n) (sym e) (root_begins disk ps ok) }
+pub root_leads : (disk : Disk) (ps : List Pair) (root : ℕ) → IsAcceptedImage disk ps → root ≡ pair_count_before_root ps → PathLeadsToFirstPair ps [] root
+root_leads disk ps root ok e = record { at = root_directory_of_pairs ps; leads = refl; begins = subst (λ n. IsPairAtAddress ps (root_directory_of_pairs ps) n) (sym e) (root_begins disk ps ok) }

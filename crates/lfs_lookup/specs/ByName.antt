@@ -2,13 +2,13 @@
 use Rattle.std.specs.Prelude.{Bool, List}
 use Rattle.std.specs.List.Sorted.{IsPermutation, IsSortedBy}
 use Rattle.lfs_model.specs.declared.order.NameOrder.TheVariants.{ShorterFirst}
-use Rattle.lfs_model.specs.Names.{name_cmp, is_less}
-use Rattle.lfs_lookup.specs.Items.{Shape}
+use Rattle.lfs_model.specs.Names.{name_cmp, is_less_ordering}
+use Rattle.lfs_lookup.specs.Items.{NameAndStruct}
 
-abbrev pub comes_before : Shape → Shape → Bool
-comes_before a b = is_less (name_cmp ShorterFirst a.name b.name)
+abbrev pub comes_before_by_name : NameAndStruct → NameAndStruct → Bool
+comes_before_by_name a b = is_less_ordering (name_cmp ShorterFirst a.name b.name)
 
 -- the same entries, sorted by name
-pub record AreByName (shapes others : List Shape) : Type 0 where
+pub record AreSortedByName (shapes others : List NameAndStruct) : Type 0 where
   pub permutation : IsPermutation shapes others
-  pub sorted : IsSortedBy comes_before others
+  pub sorted : IsSortedBy comes_before_by_name others

@@ -1,7 +1,7 @@
 -- The contents of a file, by its entry.
 use Rattle.std.specs.Prelude.{◌≡◌, ◌<◌, false, List, Option, Some, None, length}
-use Rattle.lfs_model.specs.Keeping.{struct_at}
-use Rattle.lfs_model.specs.Shown.{tree_in}
+use Rattle.lfs_model.specs.Keeping.{struct_of_path}
+use Rattle.lfs_model.specs.Shown.{tree_on_disk}
 use Rattle.lfs_model.specs.Slots.{Struct, Inline, Ctz}
 use Rattle.lfs_model.specs.Thread.{Pair}
 use Rattle.lfs_model.specs.Tree.{Path}
@@ -16,21 +16,21 @@ struct_of (contents.Inline bytes) = Inline bytes.items
 struct_of (contents.List head size) = Ctz head size
 
 -- inline bytes are in an entry
-abbrev pub FitsEntry : FileContents → Type 0
-FitsEntry (contents.Inline bytes) = length bytes.items < 0x3ff
-FitsEntry (contents.List head size) = Unit {0}
+abbrev pub AreContentsInInlineLimit : FileContents → Type 0
+AreContentsInInlineLimit (contents.Inline bytes) = length bytes.items < 0x3ff
+AreContentsInInlineLimit (contents.List head size) = Unit {0}
 
 -- these are the contents that an entry with this struct has
-pub record AreContentsOf (s : Struct) (contents : FileContents) : Type 0 where
+pub record AreFileContentsOfStruct (s : Struct) (contents : FileContents) : Type 0 where
   pub struct : struct_of contents ≡ s
-  pub fits : FitsEntry contents
+  pub fits : AreContentsInInlineLimit contents
 
 -- these are the contents of the entry at the path
-pub record AreContentsAt (ps : List Pair) (path : Path) (contents : FileContents) : Type 0 where
-  pub struct : struct_at ps path ≡ Some (struct_of contents)
-  pub fits : FitsEntry contents
+pub record AreFileContentsAtPath (ps : List Pair) (path : Path) (contents : FileContents) : Type 0 where
+  pub struct : struct_of_path ps path ≡ Some (struct_of contents)
+  pub fits : AreContentsInInlineLimit contents
 
 -- the contents of the file at the path, or none where no file is
-abbrev pub AreFoundAt : Kept → Path → Option FileContents → Type 0
-AreFoundAt t path None = is_file (tree_in t.disk t.pairs path) ≡ false
-AreFoundAt t path (Some contents) = AreContentsAt t.pairs path contents
+abbrev pub AreContentsOfFileAtPathOrNone : Kept → Path → Option FileContents → Type 0
+AreContentsOfFileAtPathOrNone t path None = is_file (tree_on_disk t.disk t.pairs path) ≡ false
+AreContentsOfFileAtPathOrNone t path (Some contents) = AreFileContentsAtPath t.pairs path contents

@@ -1,9 +1,9 @@
 -- What a look-up finds, and what a list returns.
 use Rattle.std.specs.Prelude.{ℕ, ◌≡◌, [], nat_lt, Bool, true, false, length, Option, Some, None, is_none}
-use Rattle.lfs_model.specs.TreeEdits.{is_directory, is_file, names_of}
+use Rattle.lfs_model.specs.TreeEdits.{is_directory, is_file, names_of_directory_node}
 use Rattle.lfs_model.specs.Operations as ops
-use Rattle.lfs_model.specs.Session.{parent_fault}
-use Rattle.lfs_model.specs.Effects.{node_size}
+use Rattle.lfs_model.specs.Session.{refusal_of_parents}
+use Rattle.lfs_model.specs.Effects.{file_size_of_node}
 use Rattle.lfs_model.specs.Tree.{Path, Tree}
 use Rattle.lfs_lookup.specs.declared.found_entries.FoundNode.{FoundNode}
 use Rattle.lfs_lookup.specs.declared.kinds.Kind.{Kind}
@@ -28,30 +28,30 @@ is_directory_node node.Nothing = false
 is_directory_node (node.File size) = false
 is_directory_node node.Directory = true
 
-abbrev pub size_in : Node → Option ℕ
-size_in node.Nothing = None
-size_in (node.File size) = Some size
-size_in node.Directory = None
+abbrev pub size_of_node : Node → Option ℕ
+size_of_node node.Nothing = None
+size_of_node (node.File size) = Some size
+size_of_node node.Directory = None
 
 -- what was found is the node at a path; there is none where a parent refuses
-pub record Finds (t : Tree) (p : Path) (found : FoundNode) : Type 0 where
-  pub parents : parent_fault t [] p ≡ found.fault
+pub record IsFoundNodeAtPath (t : Tree) (p : Path) (found : FoundNode) : Type 0 where
+  pub parents : refusal_of_parents t [] p ≡ found.fault
   pub nothing : is_none (t p) ≡ is_absent found.node
   pub directories : is_directory (t p) ≡ is_directory_node found.node
   pub files : is_file (t p) ≡ is_file_node found.node
-  pub sizes : node_size (t p) ≡ size_in found.node
+  pub sizes : file_size_of_node (t p) ≡ size_of_node found.node
 
 -- whether an entry is beneath a path
-abbrev pub has_names : Tree → Path → Bool
-has_names t p = nat_lt 0 (length (names_of (t p)))
+abbrev pub has_entry_beneath_path : Tree → Path → Bool
+has_entry_beneath_path t p = nat_lt 0 (length (names_of_directory_node (t p)))
 
 -- a file's size; a directory has none
-abbrev pub size_by : Kind → ℕ → Option ℕ
-size_by kind.File size = Some size
-size_by kind.Dir size = None
+abbrev pub size_if_file : Kind → ℕ → Option ℕ
+size_if_file kind.File size = Some size
+size_if_file kind.Dir size = None
 
 abbrev pub stat_view : Stat → Option ℕ
-stat_view stat = size_by stat.kind stat.size
+stat_view stat = size_if_file stat.kind stat.size
 
 abbrev pub list_item_view : ListItem → ops.Item
-list_item_view item = record { name = item.name.items; size = size_by item.kind item.size }
+list_item_view item = record { name = item.name.items; size = size_if_file item.kind item.size }

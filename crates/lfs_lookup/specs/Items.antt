@@ -4,51 +4,51 @@ use Rattle.std.specs.List.{flat_map, remove}
 use Rattle.std.specs.Option.{option_and_then}
 use Rattle.lfs_model.specs.Content.{RawSlot, complete}
 use Rattle.lfs_model.specs.Names.{Name}
-use Rattle.lfs_model.specs.Slots.{Slot, Struct, address_of, is_superblock}
+use Rattle.lfs_model.specs.Slots.{Slot, Struct, pair_address_of_array, is_superblock}
 use Rattle.lfs_model.specs.Slots as slots
-use Rattle.lfs_lookup.specs.declared.items.Item.{Item}
-use Rattle.lfs_lookup.specs.declared.items.Structure.{Structure}
-use Rattle.lfs_lookup.specs.declared.items.Structure.TheVariants as variant
+use Rattle.lfs_lookup.specs.declared.items.NameAndOwnedStruct.{NameAndOwnedStruct}
+use Rattle.lfs_lookup.specs.declared.items.OwnedStruct.{OwnedStruct}
+use Rattle.lfs_lookup.specs.declared.items.OwnedStruct.TheVariants as variant
 
 -- a name and its entry
-pub record Shape : Type 0 where
+pub record NameAndStruct : Type 0 where
   pub name : Name
   pub struct : Struct
 
-abbrev pub shape_of : Slot → Shape
-shape_of s = record { name = s.name; struct = s.struct }
+abbrev pub name_and_struct_of : Slot → NameAndStruct
+name_and_struct_of s = record { name = s.name; struct = s.struct }
 
-abbrev pub structure_view : Structure → Struct
+abbrev pub structure_view : OwnedStruct → Struct
 structure_view (variant.Inline bytes) = slots.Inline bytes.items
 structure_view (variant.Ctz head size) = slots.Ctz head size
-structure_view (variant.Branch to) = slots.Branch (address_of to)
+structure_view (variant.Branch to) = slots.Branch (pair_address_of_array to)
 
-abbrev pub item_view : Item → Shape
+abbrev pub item_view : NameAndOwnedStruct → NameAndStruct
 item_view i = record { name = i.name.items; struct = structure_view i.structure }
 
-abbrev pub items_view : List Item → List Shape
+abbrev pub items_view : List NameAndOwnedStruct → List NameAndStruct
 items_view items = map item_view items
 
 -- the entry of a slot, if it isn't the superblock's
-abbrev pub shape_if_entry : Slot → Option Shape
-shape_if_entry s = if is_superblock s then None else Some (shape_of s)
+abbrev pub entry_unless_superblock : Slot → Option NameAndStruct
+entry_unless_superblock s = if is_superblock s then None else Some (name_and_struct_of s)
 
 -- the entry of a log's slot, if it has a name and a struct
-abbrev pub shape_of_raw : RawSlot → Option Shape
-shape_of_raw s = option_and_then shape_if_entry (complete s)
+abbrev pub entry_of_raw_slot : RawSlot → Option NameAndStruct
+entry_of_raw_slot s = option_and_then entry_unless_superblock (complete s)
 
-abbrev pub shape_list : Option Shape → List Shape
-shape_list None = []
-shape_list (Some x) = x ∷ []
+abbrev pub list_of_optional_entry : Option NameAndStruct → List NameAndStruct
+list_of_optional_entry None = []
+list_of_optional_entry (Some x) = x ∷ []
 
-abbrev pub shapes_among : List RawSlot → List Shape
-shapes_among slots = flat_map (λ s. shape_list (shape_of_raw s)) slots
+abbrev pub entries_of_raw_slots : List RawSlot → List NameAndStruct
+entries_of_raw_slots slots = flat_map (λ s. list_of_optional_entry (entry_of_raw_slot s)) slots
 
 -- the slots without the one of that id
-abbrev pub without_id : {X : Type 0} → Option ℕ → List X → List X
-without_id None slots = slots
-without_id (Some id) slots = remove slots id
+abbrev pub slots_without_id : {X : Type 0} → Option ℕ → List X → List X
+slots_without_id None slots = slots
+slots_without_id (Some id) slots = remove slots id
 
 -- the entries among slots of which one may be moved away
-abbrev pub shapes_in : Option ℕ → List Slot → List Shape
-shapes_in moved slots = map shape_of (filter (λ s. not (is_superblock s)) (without_id moved slots))
+abbrev pub entries_without_moved_slot : Option ℕ → List Slot → List NameAndStruct
+entries_without_moved_slot moved slots = map name_and_struct_of (filter (λ s. not (is_superblock s)) (slots_without_id moved slots))

@@ -3,27 +3,27 @@ use Rattle.std.specs.Prelude.{ℕ, ◌<◌, ◌≤◌, List, [], ◌∷◌, leng
 use Rattle.lfs_model.specs.Names.{name_limit}
 use Rattle.lfs_model.specs.Operations as ops
 use Rattle.lfs_model.specs.Slots.{Struct, Inline, Ctz, Branch}
-use Rattle.lfs_lookup.specs.Items.{Shape}
+use Rattle.lfs_lookup.specs.Items.{NameAndStruct}
 
 -- how many bytes a file has
-abbrev pub size_listed : Struct → Option ℕ
-size_listed (Inline bytes) = Some (length bytes)
-size_listed (Ctz head size) = Some size
-size_listed (Branch to) = None
+abbrev pub listed_size_of_struct : Struct → Option ℕ
+listed_size_of_struct (Inline bytes) = Some (length bytes)
+listed_size_of_struct (Ctz head size) = Some size
+listed_size_of_struct (Branch to) = None
 
-abbrev pub item_listed : Shape → ops.Item
-item_listed x = record { name = x.name; size = size_listed x.struct }
+abbrev pub listed_item_of_entry : NameAndStruct → ops.Item
+listed_item_of_entry x = record { name = x.name; size = listed_size_of_struct x.struct }
 
 -- inline bytes are in an entry
-abbrev pub FitsInline : Struct → Type 0
-FitsInline (Inline bytes) = length bytes < 0x3ff
-FitsInline (Ctz head size) = Unit {0}
-FitsInline (Branch to) = Unit {0}
+abbrev pub IsStructInInlineLimit : Struct → Type 0
+IsStructInInlineLimit (Inline bytes) = length bytes < 0x3ff
+IsStructInInlineLimit (Ctz head size) = Unit {0}
+IsStructInInlineLimit (Branch to) = Unit {0}
 
 -- so do names, which are no longer than a new one may be
-abbrev pub IsShortEntry : Shape → Type 0
-IsShortEntry x = FitsInline x.struct × (length x.name ≤ name_limit)
+abbrev pub IsEntryInNameAndInlineLimits : NameAndStruct → Type 0
+IsEntryInNameAndInlineLimits x = IsStructInInlineLimit x.struct × (length x.name ≤ name_limit)
 
-abbrev pub AreShortEntries : List Shape → Type 0
-AreShortEntries [] = Unit {0}
-AreShortEntries (x ∷ xs) = IsShortEntry x × AreShortEntries xs
+abbrev pub AreEntriesInNameAndInlineLimits : List NameAndStruct → Type 0
+AreEntriesInNameAndInlineLimits [] = Unit {0}
+AreEntriesInNameAndInlineLimits (x ∷ xs) = IsEntryInNameAndInlineLimits x × AreEntriesInNameAndInlineLimits xs

@@ -1,11 +1,11 @@
 -- What calls that only read promise of a thread.
 use Rattle.std.specs.Prelude.{◌≡◌, false, Result}
 use Rattle.lfs_device.specs.declared.error.Error.{Error}
-use Rattle.lfs_thread.specs.Kept.{State}
-use Rattle.lfs_thread.specs.Steps.{HasReported, IsOnlyRead}
+use Rattle.lfs_thread.specs.Kept.{ThreadView}
+use Rattle.lfs_thread.specs.Steps.{HasReportedIoOrUnwrittenNoMemory, IsThreadOnlyRead}
 
 -- The thread is as it was and works. `Io` comes with a fault of the device, and any other result with none.
-pub record IsReading {X : Type 0} (old new : State) (result : Result X Error) : Type 0 where
-  pub only : IsOnlyRead old.kept new.kept
+pub record OnlyReadsThreadAndReportsErrors {X : Type 0} (old new : ThreadView) (result : Result X Error) : Type 0 where
+  pub only : IsThreadOnlyRead old.kept new.kept
   pub works : new.failed ≡ false
-  pub reported : HasReported old.kept new.kept result
+  pub reported : HasReportedIoOrUnwrittenNoMemory old.kept new.kept result

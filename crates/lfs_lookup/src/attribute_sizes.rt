@@ -1,26 +1,26 @@
 // How many bytes of its pair the attributes of an entry take.
 
 ghost use Rattle.std.specs.Prelude.{◌≡◌, ◌≤◌, ◌<◌, ◌+◌, IfErr, IfOk, IsSome, Some, false, length, map, slice_get, sum_by};
-ghost use Rattle.lfs_model.specs.TreeEdits.{attributes_of};
+ghost use Rattle.lfs_model.specs.TreeEdits.{attributes_of_node};
 ghost use Rattle.lfs_model.specs.Content.{slot_of_id};
-ghost use Rattle.lfs_model.specs.Frame.{pairs_of_path, parents};
+ghost use Rattle.lfs_model.specs.Frame.{pair_count_of_directory_at, parents};
 ghost use Rattle.lfs_model.specs.History.{reads};
-ghost use Rattle.lfs_model.specs.LoggedContent.{Ascend, HaveParts};
+ghost use Rattle.lfs_model.specs.LoggedContent.{AreAttributesInTypeOrder, AreWellFormedRawSlots};
 ghost use Rattle.lfs_model.specs.Slots.{Content as ModelContent, Slot as ModelSlot, attributes_size};
-ghost use Rattle.lfs_model.specs.Slots.{no_gstate};
-ghost use Rattle.lfs_model.specs.Thread.{gstate_of, superblocks_before};
-ghost use Rattle.lfs_model.specs.View.{IsAccepted};
-ghost use Rattle.lfs_model.specs.Shown.{tree_in};
+ghost use Rattle.lfs_model.specs.Slots.{zero_gstate};
+ghost use Rattle.lfs_model.specs.Thread.{gstate_of, pair_count_before_root};
+ghost use Rattle.lfs_model.specs.View.{IsAcceptedImage};
+ghost use Rattle.lfs_model.specs.Shown.{tree_on_disk};
 ghost use Rattle.lfs_tag.specs.ContentView.{attribute_view, slot_view};
-ghost use Rattle.lfs_thread.specs.CachedLog.{IsBlockOf, cached_log};
-ghost use Rattle.lfs_lookup.specs.CachedPairs.{AreCachedBeneath};
+ghost use Rattle.lfs_thread.specs.CachedLog.{IsLogBlockOfContent, cached_log};
+ghost use Rattle.lfs_lookup.specs.CachedPairs.{AreDirectoriesCached};
 ghost use Rattle.lfs_lookup.specs.AttributeAt.{IsAttributesSize};
-ghost use Rattle.lfs_lookup.specs.BytesAt.{IsSlotAt};
-ghost use Rattle.lfs_lookup.specs.Halves.{ReadsByHalves};
-ghost use Rattle.lfs_lookup.specs.Reading.{IsReading};
-ghost use Rattle.lfs_lookup.specs.Search.{HoldsContent};
+ghost use Rattle.lfs_lookup.specs.BytesAt.{IsSlotAtSpot};
+ghost use Rattle.lfs_lookup.specs.Halves.{ReadsAtMostHalvingsOfPaths};
+ghost use Rattle.lfs_lookup.specs.Reading.{OnlyReadsThreadAndReportsErrors};
+ghost use Rattle.lfs_lookup.specs.Search.{HasLogWithCompleteContent};
 
-use crate::attributes::slot_of;
+use crate::attributes::spot_of_shown_entry;
 use crate::by_path::shown_at;
 use crate::path::Path;
 use crate::search::Spot;
@@ -30,8 +30,8 @@ use lfs_thread::Thread;
 use std::alloc::Global;
 
 // Returns the sizes of attributes together: each takes its tag and its bytes.
-fn size_of_all(attributes: &[Attribute<'_>]) -> usize
-    requires { Ascend 0 (map attribute_view attributes.now) }
+fn size_of_all_attributes(attributes: &[Attribute<'_>]) -> usize
+    requires { AreAttributesInTypeOrder 0 (map attribute_view attributes.now) }
     ensures { result ≡ attributes_size (map attribute_view attributes.now) }
 {
     let mut size = 0;
@@ -42,28 +42,28 @@ fn size_of_all(attributes: &[Attribute<'_>]) -> usize
 }
 
 // Returns the size of the attributes of the slot at an id. There is no slot past the last.
-fn size_in_slot(slots: &[Slot<'_>], id: u16) -> usize
-    requires { HaveParts (map slot_view slots.now) }
+fn attributes_size_in_slots(slots: &[Slot<'_>], id: u16) -> usize
+    requires { AreWellFormedRawSlots (map slot_view slots.now) }
     ensures { result ≡ attributes_size (slot_of_id (map slot_view slots.now) id).attributes }
 {
     match slots.get(usize::from(id)) {
-        Some(slot) => size_of_all(&slot.attributes),
+        Some(slot) => size_of_all_attributes(&slot.attributes),
         None => 0,
     }
 }
 
 // Returns the size of the attributes of a slot of a log.
-fn size_in_log(alloc: Global, log: &Log<'_>, id: u16) -> Result<usize, Error>
-    requires { HoldsContent log.now }
-    ensures is { (content : ModelContent) (slot : ModelSlot) → IsBlockOf log.now content → slice_get content.slots id ≡ Some slot → IfOk result (IsAttributesSize slot.attributes) }
+fn attributes_size_in_log(alloc: Global, log: &Log<'_>, id: u16) -> Result<usize, Error>
+    requires { HasLogWithCompleteContent log.now }
+    ensures is { (content : ModelContent) (slot : ModelSlot) → IsLogBlockOfContent log.now content → slice_get content.slots id ≡ Some slot → IfOk result (IsAttributesSize slot.attributes) }
     ensures errors { IfErr result (λ e. e ≡ Error.NoMemory) }
 {
     let content = Content::read(alloc, log)?;
-    Ok(size_in_slot(&content.slots, id))
+    Ok(attributes_size_in_slots(&content.slots, id))
 }
 
 // Returns the size of the attributes of a slot, whose block is loaded into the cache.
-fn size_of_slot<D: BlockDevice>(
+fn attributes_size_of_slot<D: BlockDevice>(
     alloc: Global,
     thread: &mut Thread<D>,
     slot: Spot,
@@ -71,12 +71,12 @@ fn size_of_slot<D: BlockDevice>(
     requires works { thread.old.failed ≡ false }
     requires below { slot.pair < length thread.old.kept.pairs }
     requires cached_log { IsSome (cached_log thread.old slot.pair) }
-    ensures is { (held : ModelSlot) → IsSlotAt thread.old.kept slot held → IfOk result (IsAttributesSize held.attributes) }
+    ensures is { (held : ModelSlot) → IsSlotAtSpot thread.old.kept slot held → IfOk result (IsAttributesSize held.attributes) }
     ensures no_call { thread.new.kept ≡ thread.old.kept }
-    ensures reading { IsReading thread.old thread.new result }
+    ensures reading { OnlyReadsThreadAndReportsErrors thread.old thread.new result }
 {
     thread.load_pair(slot.pair)?;
-    size_in_log(alloc, &thread.lend(slot.pair).unwrap(), slot.id)
+    attributes_size_in_log(alloc, &thread.lend(slot.pair).unwrap(), slot.id)
 }
 
 /// Returns how many bytes the attributes of the entry at a path take in its pair, each with its tag
@@ -94,17 +94,17 @@ pub fn attributes_size_at<D: BlockDevice>(
     path: &Path<'_>,
 ) -> Result<usize, Error>
     requires works { thread.old.failed ≡ false }
-    requires accepted { IsAccepted thread.old.kept.disk thread.old.kept.pairs }
-    requires root { root ≡ superblocks_before thread.old.kept.pairs }
-    ensures is { IfOk result (IsAttributesSize (attributes_of (tree_in thread.old.kept.disk thread.old.kept.pairs path.now))) }
-    ensures few { reads thread.new.kept.history ≤ reads thread.old.kept.history + sum_by (pairs_of_path thread.old.kept.pairs) (parents path.now) }
-    ensures halves { gstate_of thread.old.kept.pairs ≡ no_gstate → ReadsByHalves thread.old thread.new (parents path.now) }
-    ensures kept { AreCachedBeneath thread.old (parents path.now) → reads thread.new.kept.history ≡ reads thread.old.kept.history }
-    ensures reading { IsReading thread.old thread.new result }
+    requires accepted { IsAcceptedImage thread.old.kept.disk thread.old.kept.pairs }
+    requires root { root ≡ pair_count_before_root thread.old.kept.pairs }
+    ensures is { IfOk result (IsAttributesSize (attributes_of_node (tree_on_disk thread.old.kept.disk thread.old.kept.pairs path.now))) }
+    ensures few { reads thread.new.kept.history ≤ reads thread.old.kept.history + sum_by (pair_count_of_directory_at thread.old.kept.pairs) (parents path.now) }
+    ensures halves { gstate_of thread.old.kept.pairs ≡ zero_gstate → ReadsAtMostHalvingsOfPaths thread.old thread.new (parents path.now) }
+    ensures kept { AreDirectoriesCached thread.old (parents path.now) → reads thread.new.kept.history ≡ reads thread.old.kept.history }
+    ensures reading { OnlyReadsThreadAndReportsErrors thread.old thread.new result }
 {
     let shown = shown_at(alloc, thread, root, path)?;
-    let Some(slot) = slot_of(shown) else {
+    let Some(slot) = spot_of_shown_entry(shown) else {
         return Ok(0);
     };
-    size_of_slot(alloc, thread, slot)
+    attributes_size_of_slot(alloc, thread, slot)
 }

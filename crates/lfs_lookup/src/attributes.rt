@@ -2,22 +2,22 @@
 
 ghost use Rattle.std.specs.Prelude.{◌≡◌, ◌<◌, ◌≤◌, ◌+◌, IfErr, IfOk, IfSome, IsSome, Some, false, length, slice_get, sum_by};
 ghost use Rattle.std.specs.Option.{option_copied, option_map};
-ghost use Rattle.lfs_model.specs.TreeEdits.{attributes_of};
-ghost use Rattle.lfs_model.specs.Content.{attribute_of};
-ghost use Rattle.lfs_model.specs.Frame.{pairs_of_path, parents};
+ghost use Rattle.lfs_model.specs.TreeEdits.{attributes_of_node};
+ghost use Rattle.lfs_model.specs.Content.{attribute_bytes_of_type};
+ghost use Rattle.lfs_model.specs.Frame.{pair_count_of_directory_at, parents};
 ghost use Rattle.lfs_model.specs.History.{reads};
-ghost use Rattle.lfs_model.specs.Slots.{Attributes, Content as ModelContent, Slot, no_gstate};
-ghost use Rattle.lfs_model.specs.Thread.{gstate_of, superblocks_before};
-ghost use Rattle.lfs_model.specs.View.{IsAccepted};
-ghost use Rattle.lfs_model.specs.Shown.{tree_in};
-ghost use Rattle.lfs_thread.specs.CachedLog.{IsBlockOf, cached_log};
-ghost use Rattle.lfs_lookup.specs.CachedPairs.{AreCachedBeneath};
-ghost use Rattle.lfs_lookup.specs.AttributeAt.{AreAttributesOf, IsAttribute, IsShortAttribute, slot_shown};
-ghost use Rattle.lfs_lookup.specs.BytesAt.{IsSlotAt};
-ghost use Rattle.lfs_lookup.specs.Finds.{Finds};
-ghost use Rattle.lfs_lookup.specs.Halves.{ReadsByHalves};
-ghost use Rattle.lfs_lookup.specs.Reading.{IsReading};
-ghost use Rattle.lfs_lookup.specs.Search.{HoldsContent};
+ghost use Rattle.lfs_model.specs.Slots.{Attributes, Content as ModelContent, Slot, zero_gstate};
+ghost use Rattle.lfs_model.specs.Thread.{gstate_of, pair_count_before_root};
+ghost use Rattle.lfs_model.specs.View.{IsAcceptedImage};
+ghost use Rattle.lfs_model.specs.Shown.{tree_on_disk};
+ghost use Rattle.lfs_thread.specs.CachedLog.{IsLogBlockOfContent, cached_log};
+ghost use Rattle.lfs_lookup.specs.CachedPairs.{AreDirectoriesCached};
+ghost use Rattle.lfs_lookup.specs.AttributeAt.{AreAttributesOfSlotAtSpot, IsAttributeOfTypeOrNone, IsAttributeInSizeLimit, spot_of_lookup_result};
+ghost use Rattle.lfs_lookup.specs.BytesAt.{IsSlotAtSpot};
+ghost use Rattle.lfs_lookup.specs.Finds.{IsFoundNodeAtPath};
+ghost use Rattle.lfs_lookup.specs.Halves.{ReadsAtMostHalvingsOfPaths};
+ghost use Rattle.lfs_lookup.specs.Reading.{OnlyReadsThreadAndReportsErrors};
+ghost use Rattle.lfs_lookup.specs.Search.{HasLogWithCompleteContent};
 
 use crate::by_path::{found_node_of, shown_at};
 use crate::found_entries::FoundAttribute;
@@ -33,15 +33,18 @@ use std::alloc::{AllocError, Global};
 // Returns the bytes of an attribute of a slot of a log. Returns None where the slot hasn't that
 // attribute.
 fn attribute_in_log<'a>(log: &Log<'a>, kind: u8, id: u16) -> Option<&'a [u8]>
-    requires { HoldsContent log.now }
+    requires { HasLogWithCompleteContent log.now }
     ensures short { IfSome result (λ bytes. length bytes.now ≤ 1022) }
-    ensures is { (content : ModelContent) (slot : Slot) → IsBlockOf log.now content → slice_get content.slots id ≡ Some slot → option_copied result ≡ attribute_of kind slot.attributes }
+    ensures is { (content : ModelContent) (slot : Slot) → IsLogBlockOfContent log.now content → slice_get content.slots id ≡ Some slot → option_copied result ≡ attribute_bytes_of_type kind slot.attributes }
 {
     get(log, ATTRIBUTE + u16::from(kind), id, &mut Steps::new())
 }
 
 // Copies bytes, if there are any.
-fn copy_of(alloc: Global, bytes: Option<&[u8]>) -> Result<Option<Vec<u8>>, AllocError>
+fn copy_of_optional_bytes(
+    alloc: Global,
+    bytes: Option<&[u8]>,
+) -> Result<Option<Vec<u8>>, AllocError>
     ensures { IfOk result (λ found. option_map (λ v. v.items) found ≡ option_copied bytes.entry) }
 {
     match bytes {
@@ -55,12 +58,12 @@ fn copy_of(alloc: Global, bytes: Option<&[u8]>) -> Result<Option<Vec<u8>>, Alloc
 
 // Copies an attribute of a slot of a log.
 fn copy_attribute(alloc: Global, log: &Log<'_>, kind: u8, id: u16) -> Result<Option<Vec<u8>>, Error>
-    requires { HoldsContent log.now }
-    ensures short { IfOk result IsShortAttribute }
-    ensures is { (content : ModelContent) (slot : Slot) → IsBlockOf log.now content → slice_get content.slots id ≡ Some slot → IfOk result (IsAttribute kind slot.attributes) }
+    requires { HasLogWithCompleteContent log.now }
+    ensures short { IfOk result IsAttributeInSizeLimit }
+    ensures is { (content : ModelContent) (slot : Slot) → IsLogBlockOfContent log.now content → slice_get content.slots id ≡ Some slot → IfOk result (IsAttributeOfTypeOrNone kind slot.attributes) }
     ensures errors { IfErr result (λ e. e ≡ Error.NoMemory) }
 {
-    let found = copy_of(alloc, attribute_in_log(log, kind, id))?;
+    let found = copy_of_optional_bytes(alloc, attribute_in_log(log, kind, id))?;
     Ok(found)
 }
 
@@ -74,18 +77,18 @@ fn attribute_of_slot<D: BlockDevice>(
     requires works { thread.old.failed ≡ false }
     requires below { slot.pair < length thread.old.kept.pairs }
     requires cached_log { IsSome (cached_log thread.old slot.pair) }
-    ensures short { IfOk result IsShortAttribute }
-    ensures is { (held : Slot) → IsSlotAt thread.old.kept slot held → IfOk result (IsAttribute kind held.attributes) }
+    ensures short { IfOk result IsAttributeInSizeLimit }
+    ensures is { (held : Slot) → IsSlotAtSpot thread.old.kept slot held → IfOk result (IsAttributeOfTypeOrNone kind held.attributes) }
     ensures no_call { thread.new.kept ≡ thread.old.kept }
-    ensures reading { IsReading thread.old thread.new result }
+    ensures reading { OnlyReadsThreadAndReportsErrors thread.old thread.new result }
 {
     thread.load_pair(slot.pair)?;
     copy_attribute(alloc, &thread.lend(slot.pair).unwrap(), kind, slot.id)
 }
 
 // Returns the slot of a file or of a directory. The root has none.
-pub(crate) fn slot_of(shown: Shown) -> Option<Spot>
-    ensures { result ≡ slot_shown shown }
+pub(crate) fn spot_of_shown_entry(shown: Shown) -> Option<Spot>
+    ensures { result ≡ spot_of_lookup_result shown }
 {
     match shown {
         Shown::File { slot, .. } => Some(slot),
@@ -104,10 +107,10 @@ fn attribute_if_slot<D: BlockDevice>(
     requires works { thread.old.failed ≡ false }
     requires below { IfSome slot (λ s. s.pair < length thread.old.kept.pairs) }
     requires cached_log { IfSome slot (λ s. IsSome (cached_log thread.old s.pair)) }
-    ensures short { IfOk result IsShortAttribute }
-    ensures is { (attributes : Attributes) → AreAttributesOf thread.old.kept slot attributes → IfOk result (IsAttribute kind attributes) }
+    ensures short { IfOk result IsAttributeInSizeLimit }
+    ensures is { (attributes : Attributes) → AreAttributesOfSlotAtSpot thread.old.kept slot attributes → IfOk result (IsAttributeOfTypeOrNone kind attributes) }
     ensures no_call { thread.new.kept ≡ thread.old.kept }
-    ensures reading { IsReading thread.old thread.new result }
+    ensures reading { OnlyReadsThreadAndReportsErrors thread.old thread.new result }
 {
     match slot {
         Some(slot) => attribute_of_slot(alloc, thread, slot, kind),
@@ -130,18 +133,18 @@ pub fn attribute_at<D: BlockDevice>(
     kind: u8,
 ) -> Result<FoundAttribute, Error>
     requires works { thread.old.failed ≡ false }
-    requires accepted { IsAccepted thread.old.kept.disk thread.old.kept.pairs }
-    requires root { root ≡ superblocks_before thread.old.kept.pairs }
-    ensures found { IfOk result (λ found. Finds (tree_in thread.old.kept.disk thread.old.kept.pairs) path.now found.finding) }
-    ensures short { IfOk result (λ found. IsShortAttribute found.bytes) }
-    ensures is { IfOk result (λ found. IsAttribute kind (attributes_of (tree_in thread.old.kept.disk thread.old.kept.pairs path.now)) found.bytes) }
-    ensures few { reads thread.new.kept.history ≤ reads thread.old.kept.history + sum_by (pairs_of_path thread.old.kept.pairs) (parents path.now) }
-    ensures halves { gstate_of thread.old.kept.pairs ≡ no_gstate → ReadsByHalves thread.old thread.new (parents path.now) }
-    ensures kept { AreCachedBeneath thread.old (parents path.now) → reads thread.new.kept.history ≡ reads thread.old.kept.history }
-    ensures reading { IsReading thread.old thread.new result }
+    requires accepted { IsAcceptedImage thread.old.kept.disk thread.old.kept.pairs }
+    requires root { root ≡ pair_count_before_root thread.old.kept.pairs }
+    ensures found { IfOk result (λ found. IsFoundNodeAtPath (tree_on_disk thread.old.kept.disk thread.old.kept.pairs) path.now found.finding) }
+    ensures short { IfOk result (λ found. IsAttributeInSizeLimit found.bytes) }
+    ensures is { IfOk result (λ found. IsAttributeOfTypeOrNone kind (attributes_of_node (tree_on_disk thread.old.kept.disk thread.old.kept.pairs path.now)) found.bytes) }
+    ensures few { reads thread.new.kept.history ≤ reads thread.old.kept.history + sum_by (pair_count_of_directory_at thread.old.kept.pairs) (parents path.now) }
+    ensures halves { gstate_of thread.old.kept.pairs ≡ zero_gstate → ReadsAtMostHalvingsOfPaths thread.old thread.new (parents path.now) }
+    ensures kept { AreDirectoriesCached thread.old (parents path.now) → reads thread.new.kept.history ≡ reads thread.old.kept.history }
+    ensures reading { OnlyReadsThreadAndReportsErrors thread.old thread.new result }
 {
     let shown = shown_at(alloc, thread, root, path)?;
-    let bytes = attribute_if_slot(alloc, thread, slot_of(shown), kind)?;
+    let bytes = attribute_if_slot(alloc, thread, spot_of_shown_entry(shown), kind)?;
     // By the sizes of its blocks a list has as many bytes as its entry says.
     let _device = thread.device();
     Ok(FoundAttribute {

@@ -4,15 +4,15 @@ ghost use Rattle.std.specs.Prelude.{◌≡◌, ◌≤◌, ◌<◌, ◌+◌, ◌^
 ghost use Rattle.std.specs.Option.{option_copied};
 ghost use Rattle.lfs_model.specs.TreeEdits.{bytes_at};
 ghost use Rattle.lfs_model.specs.History.{reads};
-ghost use Rattle.lfs_model.specs.SkipLists.{IsList};
+ghost use Rattle.lfs_model.specs.SkipLists.{IsSkipList};
 ghost use Rattle.lfs_model.specs.Slots.{Content as ModelContent, Inline, Slot};
-ghost use Rattle.lfs_model.specs.Thread.{superblocks_before};
-ghost use Rattle.lfs_model.specs.View.{IsAccepted};
-ghost use Rattle.lfs_model.specs.Shown.{contents_in, tree_in};
-ghost use Rattle.lfs_thread.specs.CachedLog.{IsBlockOf, cached_log};
-ghost use Rattle.lfs_lookup.specs.BytesAt.{IsFileAt, IsSlotAt, file_shown};
-ghost use Rattle.lfs_lookup.specs.FileBytes.{bytes_shown};
-ghost use Rattle.lfs_lookup.specs.Reading.{IsReading};
+ghost use Rattle.lfs_model.specs.Thread.{pair_count_before_root};
+ghost use Rattle.lfs_model.specs.View.{IsAcceptedImage};
+ghost use Rattle.lfs_model.specs.Shown.{skip_list_bytes_on_disk, tree_on_disk};
+ghost use Rattle.lfs_thread.specs.CachedLog.{IsLogBlockOfContent, cached_log};
+ghost use Rattle.lfs_lookup.specs.BytesAt.{IsFileSlotAtSpot, IsSlotAtSpot, spot_and_storage_of_found_file};
+ghost use Rattle.lfs_lookup.specs.FileBytes.{file_bytes_of_struct};
+ghost use Rattle.lfs_lookup.specs.Reading.{OnlyReadsThreadAndReportsErrors};
 
 use crate::by_path::shown_at;
 use crate::entry::FileStorage;
@@ -28,7 +28,7 @@ use lfs_thread::Thread;
 use std::alloc::{AllocError, Global};
 
 // Returns the bytes from a position on, at most `count`.
-pub(crate) fn copy_from(
+pub(crate) fn copy_bytes_from_position(
     alloc: Global,
     bytes: &[u8],
     position: u32,
@@ -42,8 +42,8 @@ pub(crate) fn copy_from(
 }
 
 // Returns the inline bytes of a slot of a log. Returns None where the slot has no inline struct.
-fn inline_in_log<'a>(log: &Log<'a>, id: u16) -> Option<&'a [u8]>
-    ensures { (content : ModelContent) (slot : Slot) (bytes : List ℕ) → IsBlockOf log.now content → slice_get content.slots id ≡ Some slot → slot.struct ≡ Inline bytes → option_copied result ≡ Some bytes }
+fn inline_bytes_in_log<'a>(log: &Log<'a>, id: u16) -> Option<&'a [u8]>
+    ensures { (content : ModelContent) (slot : Slot) (bytes : List ℕ) → IsLogBlockOfContent log.now content → slice_get content.slots id ≡ Some slot → slot.struct ≡ Inline bytes → option_copied result ≡ Some bytes }
 {
     get(log, INLINE_STRUCT, id, &mut Steps::new())
 }
@@ -56,20 +56,20 @@ fn copy_inline_in_log(
     position: u32,
     count: usize,
 ) -> Result<Vec<u8>, Error>
-    ensures bytes { (content : ModelContent) (slot : Slot) (bytes : List ℕ) → IsBlockOf log.now content → slice_get content.slots id ≡ Some slot → slot.struct ≡ Inline bytes → IfOk result (λ v. v.items ≡ take count (drop position bytes)) }
+    ensures bytes { (content : ModelContent) (slot : Slot) (bytes : List ℕ) → IsLogBlockOfContent log.now content → slice_get content.slots id ≡ Some slot → slot.struct ≡ Inline bytes → IfOk result (λ v. v.items ≡ take count (drop position bytes)) }
     ensures errors { IfErr result (λ e. e ≡ Error.NoMemory) }
 {
-    let Some(bytes) = inline_in_log(log, id) else {
+    let Some(bytes) = inline_bytes_in_log(log, id) else {
         return Ok(Vec::new(alloc));
     };
-    Ok(copy_from(alloc, bytes, position, count)?)
+    Ok(copy_bytes_from_position(alloc, bytes, position, count)?)
 }
 
 /// Returns the bytes from a position on, at most `count`, of a slot that has an inline struct. The
 /// call takes at most one read, and none where the slot's block is cached.
 ///
 /// Errors: `Io` where a read failed. `NoMemory` where memory isn't granted.
-pub fn inline_at<D: BlockDevice>(
+pub fn read_inline_bytes_at<D: BlockDevice>(
     alloc: Global,
     thread: &mut Thread<D>,
     slot: Spot,
@@ -78,10 +78,10 @@ pub fn inline_at<D: BlockDevice>(
 ) -> Result<Vec<u8>, Error>
     requires works { thread.old.failed ≡ false }
     requires below { slot.pair < length thread.old.kept.pairs }
-    ensures bytes { (held : Slot) (bytes : List ℕ) → IsSlotAt thread.old.kept slot held → held.struct ≡ Inline bytes → IfOk result (λ v. v.items ≡ take count (drop position bytes)) }
+    ensures bytes { (held : Slot) (bytes : List ℕ) → IsSlotAtSpot thread.old.kept slot held → held.struct ≡ Inline bytes → IfOk result (λ v. v.items ≡ take count (drop position bytes)) }
     ensures no_call { IsSome (cached_log thread.old slot.pair) → thread.new.kept ≡ thread.old.kept }
     ensures few { reads thread.new.kept.history ≤ reads thread.old.kept.history + 1 }
-    ensures reading { IsReading thread.old thread.new result }
+    ensures reading { OnlyReadsThreadAndReportsErrors thread.old thread.new result }
 {
     thread.load_pair(slot.pair)?;
     copy_inline_in_log(
@@ -103,9 +103,9 @@ pub(crate) fn list_from<D: BlockDevice>(
     count: usize,
 ) -> Result<Vec<u8>, Error>
     requires works { thread.old.failed ≡ false }
-    requires list { IsList thread.old.kept.disk.blocks thread.old.kept.disk.block_size head size }
-    ensures bytes { IfOk result (λ v. v.items ≡ take count (drop position (contents_in thread.old.kept.disk head size))) }
-    ensures reading { IsReading thread.old thread.new result }
+    requires list { IsSkipList thread.old.kept.disk.blocks thread.old.kept.disk.block_size head size }
+    ensures bytes { IfOk result (λ v. v.items ≡ take count (drop position (skip_list_bytes_on_disk thread.old.kept.disk head size))) }
+    ensures reading { OnlyReadsThreadAndReportsErrors thread.old thread.new result }
 {
     let left = size.saturating_sub(position);
     let mut bytes = zeros(alloc, min(count, left as usize))?;
@@ -116,7 +116,7 @@ pub(crate) fn list_from<D: BlockDevice>(
 /// Returns the slot of a file, and where the file's bytes are. Returns None where no file was
 /// found.
 pub fn file_of(shown: Shown) -> Option<(Spot, FileStorage)>
-    ensures { result ≡ file_shown shown }
+    ensures { result ≡ spot_and_storage_of_found_file shown }
 {
     match shown {
         Shown::File { slot, contents } => Some((slot, contents)),

@@ -1,19 +1,19 @@
 // The entries of a pair and of a directory, and where a directory begins.
 
 ghost use Rattle.std.specs.Prelude.{◌≡◌, ◌<◌, ◌≤◌, ◌+◌, ◌∷◌, [], ℕ, Some, IfNone, IfOk, IfSome, drop, false, length, map};
-ghost use Rattle.lfs_model.specs.Slots.{address_of, same_pair};
+ghost use Rattle.lfs_model.specs.Slots.{pair_address_of_array, same_pair};
 ghost use Rattle.lfs_model.specs.Thread.{gstate_of, entries_not_moved};
 ghost use Rattle.lfs_model.specs.History.{reads};
-ghost use Rattle.lfs_model.specs.InDirectory.{BeginsAt};
+ghost use Rattle.lfs_model.specs.InDirectory.{IsPairAtAddress};
 ghost use Rattle.lfs_tag.specs.FieldsView.{move_view};
-ghost use Rattle.lfs_thread.specs.Steps.{pair_in};
-ghost use Rattle.lfs_lookup.specs.CachedPairs.{AreCached, LoadsPairs};
-ghost use Rattle.lfs_lookup.specs.AtPath.{has_entries_from};
-ghost use Rattle.lfs_lookup.specs.Items.{items_view, shape_of};
-ghost use Rattle.lfs_lookup.specs.Listed.{AreEntries, hard_tail_run, hard_tail_run_length, moved_in, hard_tail_run_from, shapes_from};
-ghost use Rattle.lfs_lookup.specs.Reading.{IsReading};
+ghost use Rattle.lfs_thread.specs.Steps.{kept_pair_at_index};
+ghost use Rattle.lfs_lookup.specs.CachedPairs.{ArePairsCached, LoadsOnlyUncachedPairs};
+ghost use Rattle.lfs_lookup.specs.AtPath.{directory_from_pair_has_entries};
+ghost use Rattle.lfs_lookup.specs.Items.{items_view, name_and_struct_of};
+ghost use Rattle.lfs_lookup.specs.Listed.{AreEntriesOfDirectory, hard_tail_run, hard_tail_run_length_from, moved_id_at_address, hard_tail_run_from, entries_of_directory_from};
+ghost use Rattle.lfs_lookup.specs.Reading.{OnlyReadsThreadAndReportsErrors};
 
-use crate::items::{Item, items_in};
+use crate::items::{NameAndOwnedStruct, items_in};
 use lfs_device::{BlockDevice, Error};
 use lfs_pair::is_same_pair;
 use lfs_tag::MoveState;
@@ -24,7 +24,7 @@ use std::alloc::Global;
 // Returns the id of the slot that a set move names in the pair at an address, if it names one
 // there.
 fn moved_in(state: &MoveState, at: [u32; 2]) -> Option<usize>
-    ensures { result ≡ moved_in (move_view state.now) (address_of at) }
+    ensures { result ≡ moved_id_at_address (move_view state.now) (pair_address_of_array at) }
 {
     if state.kind == DELETE && is_same_pair(state.pair, at) {
         Some(usize::from(state.id))
@@ -34,19 +34,19 @@ fn moved_in(state: &MoveState, at: [u32; 2]) -> Option<usize>
 }
 
 // Returns the entries of one pair, under that global state.
-fn items_under<D: BlockDevice>(
+fn items_of_pair_under_gstate<D: BlockDevice>(
     alloc: Global,
     thread: &mut Thread<D>,
     state: &MoveState,
     index: usize,
-) -> Result<Vec<Item>, Error>
+) -> Result<Vec<NameAndOwnedStruct>, Error>
     requires works { thread.old.failed ≡ false }
     requires below { index < length thread.old.kept.pairs }
     requires state { move_view state.now ≡ gstate_of thread.old.kept.pairs }
-    ensures items { IfOk result (λ items. items_view items.items ≡ map shape_of (entries_not_moved (gstate_of thread.old.kept.pairs) (pair_in thread.old.kept index))) }
+    ensures items { IfOk result (λ items. items_view items.items ≡ map name_and_struct_of (entries_not_moved (gstate_of thread.old.kept.pairs) (kept_pair_at_index thread.old.kept index))) }
     ensures few { reads thread.new.kept.history ≤ reads thread.old.kept.history + 1 }
-    ensures loads { LoadsPairs (pair_in thread.old.kept index ∷ []) thread.old thread.new result }
-    ensures reading { IsReading thread.old thread.new result }
+    ensures loads { LoadsOnlyUncachedPairs (kept_pair_at_index thread.old.kept index ∷ []) thread.old thread.new result }
+    ensures reading { OnlyReadsThreadAndReportsErrors thread.old thread.new result }
 {
     thread.load_pair(index)?;
     let moved = moved_in(state, thread.address(index));
@@ -58,19 +58,19 @@ fn items_under<D: BlockDevice>(
 ///
 /// Errors: `Io` where the read of the pair's block failed. `NoMemory` where memory for the block,
 /// its slots or the entries isn't granted.
-pub fn items_of<D: BlockDevice>(
+pub fn items_of_pair<D: BlockDevice>(
     alloc: Global,
     thread: &mut Thread<D>,
     index: usize,
-) -> Result<Vec<Item>, Error>
+) -> Result<Vec<NameAndOwnedStruct>, Error>
     requires works { thread.old.failed ≡ false }
     requires below { index < length thread.old.kept.pairs }
-    ensures items { IfOk result (λ items. items_view items.items ≡ map shape_of (entries_not_moved (gstate_of thread.old.kept.pairs) (pair_in thread.old.kept index))) }
+    ensures items { IfOk result (λ items. items_view items.items ≡ map name_and_struct_of (entries_not_moved (gstate_of thread.old.kept.pairs) (kept_pair_at_index thread.old.kept index))) }
     ensures few { reads thread.new.kept.history ≤ reads thread.old.kept.history + 1 }
-    ensures reading { IsReading thread.old thread.new result }
+    ensures reading { OnlyReadsThreadAndReportsErrors thread.old thread.new result }
 {
     let state = thread.state();
-    items_under(alloc, thread, &state, index)
+    items_of_pair_under_gstate(alloc, thread, &state, index)
 }
 
 /// Returns the entries of the directory that begins with the pair of that number, where `state` is
@@ -78,24 +78,24 @@ pub fn items_of<D: BlockDevice>(
 /// all these are cached.
 ///
 /// Errors: `Io` where a read failed. `NoMemory` where memory isn't granted.
-pub fn entries_under<D: BlockDevice>(
+pub fn directory_items_under_gstate<D: BlockDevice>(
     alloc: Global,
     thread: &mut Thread<D>,
     state: &MoveState,
     first: usize,
-) -> Result<Vec<Item>, Error>
+) -> Result<Vec<NameAndOwnedStruct>, Error>
     requires works { thread.old.failed ≡ false }
     requires below { first < length thread.old.kept.pairs }
     requires state { move_view state.now ≡ gstate_of thread.old.kept.pairs }
-    ensures items { IfOk result (λ items. items_view items.items ≡ shapes_from thread.old.kept.pairs (Some first)) }
-    ensures few { reads thread.new.kept.history ≤ reads thread.old.kept.history + hard_tail_run_length thread.old.kept.pairs (Some first) }
-    ensures kept { AreCached thread.old (hard_tail_run (drop first thread.old.kept.pairs)) → reads thread.new.kept.history ≡ reads thread.old.kept.history }
-    ensures reading { IsReading thread.old thread.new result }
+    ensures items { IfOk result (λ items. items_view items.items ≡ entries_of_directory_from thread.old.kept.pairs (Some first)) }
+    ensures few { reads thread.new.kept.history ≤ reads thread.old.kept.history + hard_tail_run_length_from thread.old.kept.pairs (Some first) }
+    ensures kept { ArePairsCached thread.old (hard_tail_run (drop first thread.old.kept.pairs)) → reads thread.new.kept.history ≡ reads thread.old.kept.history }
+    ensures reading { OnlyReadsThreadAndReportsErrors thread.old thread.new result }
 {
     let mut items = Vec::new(alloc);
     let mut pair = Some(first);
     while let Some(index) = pair {
-        let mut more = items_under(alloc, thread, state, index)?;
+        let mut more = items_of_pair_under_gstate(alloc, thread, state, index)?;
         items.append(&mut more)?;
         pair = thread.next(index);
     }
@@ -107,37 +107,37 @@ pub fn entries_under<D: BlockDevice>(
 /// LFS_TYPE_HARDTAIL"). In an accepted image they are in the disk's order of names. The call reads
 /// no more pairs than these, and none where all are cached.
 ///
-/// Errors are those of [`items_of`].
+/// Errors are those of [`items_of_pair`].
 pub fn entries<D: BlockDevice>(
     alloc: Global,
     thread: &mut Thread<D>,
     first: usize,
-) -> Result<Vec<Item>, Error>
+) -> Result<Vec<NameAndOwnedStruct>, Error>
     requires works { thread.old.failed ≡ false }
     requires below { first < length thread.old.kept.pairs }
-    ensures items { IfOk result (λ items. items_view items.items ≡ shapes_from thread.old.kept.pairs (Some first)) }
-    ensures entries { IfOk result (λ items. AreEntries thread.old.kept.disk thread.old.kept.pairs first (items_view items.items)) }
-    ensures few { reads thread.new.kept.history ≤ reads thread.old.kept.history + hard_tail_run_length thread.old.kept.pairs (Some first) }
-    ensures kept { AreCached thread.old (hard_tail_run (drop first thread.old.kept.pairs)) → reads thread.new.kept.history ≡ reads thread.old.kept.history }
-    ensures reading { IsReading thread.old thread.new result }
+    ensures items { IfOk result (λ items. items_view items.items ≡ entries_of_directory_from thread.old.kept.pairs (Some first)) }
+    ensures entries { IfOk result (λ items. AreEntriesOfDirectory thread.old.kept.disk thread.old.kept.pairs first (items_view items.items)) }
+    ensures few { reads thread.new.kept.history ≤ reads thread.old.kept.history + hard_tail_run_length_from thread.old.kept.pairs (Some first) }
+    ensures kept { ArePairsCached thread.old (hard_tail_run (drop first thread.old.kept.pairs)) → reads thread.new.kept.history ≡ reads thread.old.kept.history }
+    ensures reading { OnlyReadsThreadAndReportsErrors thread.old thread.new result }
 {
     let state = thread.state();
-    let items = entries_under(alloc, thread, &state, first)?;
+    let items = directory_items_under_gstate(alloc, thread, &state, first)?;
     Ok(items)
 }
 
 // Returns the entries of the directory that begins with that pair, if there is one.
-pub(crate) fn entries_from<D: BlockDevice>(
+pub(crate) fn items_from_first_pair<D: BlockDevice>(
     alloc: Global,
     thread: &mut Thread<D>,
     from: Option<usize>,
-) -> Result<Vec<Item>, Error>
+) -> Result<Vec<NameAndOwnedStruct>, Error>
     requires works { thread.old.failed ≡ false }
     requires below { IfSome from (λ first. first < length thread.old.kept.pairs) }
-    ensures items { IfOk result (λ items. items_view items.items ≡ shapes_from thread.old.kept.pairs from) }
-    ensures few { reads thread.new.kept.history ≤ reads thread.old.kept.history + hard_tail_run_length thread.old.kept.pairs from }
-    ensures kept { AreCached thread.old (hard_tail_run_from thread.old.kept.pairs from) → reads thread.new.kept.history ≡ reads thread.old.kept.history }
-    ensures reading { IsReading thread.old thread.new result }
+    ensures items { IfOk result (λ items. items_view items.items ≡ entries_of_directory_from thread.old.kept.pairs from) }
+    ensures few { reads thread.new.kept.history ≤ reads thread.old.kept.history + hard_tail_run_length_from thread.old.kept.pairs from }
+    ensures kept { ArePairsCached thread.old (hard_tail_run_from thread.old.kept.pairs from) → reads thread.new.kept.history ≡ reads thread.old.kept.history }
+    ensures reading { OnlyReadsThreadAndReportsErrors thread.old thread.new result }
 {
     match from {
         Some(first) => entries(alloc, thread, first),
@@ -148,7 +148,7 @@ pub(crate) fn entries_from<D: BlockDevice>(
 /// Returns whether the directory that begins with the pair of number `from` has an entry. Without
 /// a number there is no directory. The call reads no more pairs than the directory has.
 ///
-/// Errors are those of [`items_of`].
+/// Errors are those of [`items_of_pair`].
 pub fn has_entries<D: BlockDevice>(
     alloc: Global,
     thread: &mut Thread<D>,
@@ -156,13 +156,13 @@ pub fn has_entries<D: BlockDevice>(
 ) -> Result<bool, Error>
     requires works { thread.old.failed ≡ false }
     requires below { IfSome from (λ first. first < length thread.old.kept.pairs) }
-    ensures has { IfOk result (λ has. has ≡ has_entries_from thread.old.kept.pairs from) }
-    ensures few { reads thread.new.kept.history ≤ reads thread.old.kept.history + hard_tail_run_length thread.old.kept.pairs from }
-    ensures reading { IsReading thread.old thread.new result }
+    ensures has { IfOk result (λ has. has ≡ directory_from_pair_has_entries thread.old.kept.pairs from) }
+    ensures few { reads thread.new.kept.history ≤ reads thread.old.kept.history + hard_tail_run_length_from thread.old.kept.pairs from }
+    ensures reading { OnlyReadsThreadAndReportsErrors thread.old thread.new result }
 {
     let mut pair = from;
     while let Some(index) = pair {
-        let items = items_of(alloc, thread, index)?;
+        let items = items_of_pair(alloc, thread, index)?;
         if items.len() > 0 {
             return Ok(true);
         }

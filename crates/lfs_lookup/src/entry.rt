@@ -1,9 +1,9 @@
 // The entry that a slot is.
 
-ghost use Rattle.lfs_model.specs.Content.{struct_typed};
-ghost use Rattle.lfs_model.specs.LoggedContent.{IsPart};
+ghost use Rattle.lfs_model.specs.Content.{struct_of_type_and_bytes};
+ghost use Rattle.lfs_model.specs.LoggedContent.{IsNameOrStructOfClass};
 ghost use Rattle.lfs_tag.specs.ContentView.{part_view};
-ghost use Rattle.lfs_lookup.specs.Entry.{EntryShows};
+ghost use Rattle.lfs_lookup.specs.Entry.{IsEntryOfStruct};
 
 use lfs_tag::{Part, Struct};
 
@@ -18,7 +18,7 @@ pub enum FileStorage {
 
 /// A file or a directory, by its struct (SPEC.md of littlefs, "0x2xx LFS_TYPE_STRUCT").
 #[derive(Clone, Copy, Debug, PartialEq, Eq, Drop)]
-pub enum Entry {
+pub enum FileOrDirectory {
     File(FileStorage),
     /// A directory, by the address of its first pair.
     Directory([u32; 2]),
@@ -26,13 +26,13 @@ pub enum Entry {
 
 /// Returns the entry of a slot's struct: where a file's bytes are, or the address of a directory's
 /// first pair (SPEC.md of littlefs, "0x2xx LFS_TYPE_STRUCT").
-pub fn entry_of(structure: &Part<'_>) -> Entry
-    requires { IsPart 2 (part_view structure.now) }
-    ensures { EntryShows result (struct_typed structure.now.kind structure.now.bytes.now) }
+pub fn entry_of(structure: &Part<'_>) -> FileOrDirectory
+    requires { IsNameOrStructOfClass 2 (part_view structure.now) }
+    ensures { IsEntryOfStruct result (struct_of_type_and_bytes structure.now.kind structure.now.bytes.now) }
 {
     match Struct::of(structure).unwrap() {
-        Struct::Inline(bytes) => Entry::File(FileStorage::Inline { len: bytes.len() }),
-        Struct::Ctz { head, size } => Entry::File(FileStorage::List { head, size }),
-        Struct::Branch(pair) => Entry::Directory(pair),
+        Struct::Inline(bytes) => FileOrDirectory::File(FileStorage::Inline { len: bytes.len() }),
+        Struct::Ctz { head, size } => FileOrDirectory::File(FileStorage::List { head, size }),
+        Struct::Branch(pair) => FileOrDirectory::Directory(pair),
     }
 }

@@ -2,12 +2,12 @@
 
 ghost use Rattle.std.specs.Prelude.{◌≡◌, IfOk, OnOk, false, length};
 ghost use Rattle.lfs_model.specs.View.{IsListIfCtz};
-ghost use Rattle.lfs_model.specs.Shown.{contents_in};
-ghost use Rattle.lfs_lookup.specs.FileBytes.{bytes_shown};
+ghost use Rattle.lfs_model.specs.Shown.{skip_list_bytes_on_disk};
+ghost use Rattle.lfs_lookup.specs.FileBytes.{file_bytes_of_struct};
 ghost use Rattle.lfs_lookup.specs.Items.{structure_view};
-ghost use Rattle.lfs_lookup.specs.Reading.{IsReading};
+ghost use Rattle.lfs_lookup.specs.Reading.{OnlyReadsThreadAndReportsErrors};
 
-use crate::items::Structure;
+use crate::items::OwnedStruct;
 use lfs_device::{BlockDevice, Error};
 use lfs_thread::Thread;
 use std::alloc::{AllocError, Global};
@@ -27,20 +27,20 @@ pub(crate) fn zeros(alloc: Global, len: usize) -> Result<Vec<u8>, AllocError>
 pub fn contents_of<D: BlockDevice>(
     alloc: Global,
     thread: &mut Thread<D>,
-    structure: &Structure,
+    structure: &OwnedStruct,
 ) -> Result<Vec<u8>, Error>
     requires works { thread.old.failed ≡ false }
     requires list { IsListIfCtz thread.old.kept.disk (structure_view structure.now) }
-    ensures bytes { IfOk result (λ bytes. bytes.items ≡ bytes_shown thread.old.kept.disk (structure_view structure.now)) }
-    ensures reading { IsReading thread.old thread.new result }
+    ensures bytes { IfOk result (λ bytes. bytes.items ≡ file_bytes_of_struct thread.old.kept.disk (structure_view structure.now)) }
+    ensures reading { OnlyReadsThreadAndReportsErrors thread.old thread.new result }
 {
     match structure {
-        Structure::Inline(bytes) => Ok(Vec::from_slice(alloc, bytes)?),
-        Structure::Ctz { head, size } => {
+        OwnedStruct::Inline(bytes) => Ok(Vec::from_slice(alloc, bytes)?),
+        OwnedStruct::Ctz { head, size } => {
             let mut bytes = zeros(alloc, *size as usize)?;
             thread.read_list(*head, *size, 0, &mut bytes)?;
             Ok(bytes)
         }
-        Structure::Branch(_) => Ok(Vec::new(alloc)),
+        OwnedStruct::Branch(_) => Ok(Vec::new(alloc)),
     }
 }

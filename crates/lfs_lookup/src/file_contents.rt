@@ -1,25 +1,25 @@
 // The contents of a file, as a reader keeps them.
 
 ghost use Rattle.std.specs.Prelude.{◌≡◌, ◌≤◌, ◌<◌, ◌+◌, ◌^◌, IfOk, IsSome, List, ℕ, drop, false, length, sum_by, take};
-ghost use Rattle.lfs_model.specs.Frame.{pairs_of_path, parents};
+ghost use Rattle.lfs_model.specs.Frame.{pair_count_of_directory_at, parents};
 ghost use Rattle.lfs_model.specs.History.{reads};
-ghost use Rattle.lfs_model.specs.Shown.{tree_in};
+ghost use Rattle.lfs_model.specs.Shown.{tree_on_disk};
 ghost use Rattle.lfs_model.specs.Slots.{Inline, Slot};
-ghost use Rattle.lfs_model.specs.Slots.{no_gstate};
-ghost use Rattle.lfs_model.specs.Thread.{gstate_of, superblocks_before};
+ghost use Rattle.lfs_model.specs.Slots.{zero_gstate};
+ghost use Rattle.lfs_model.specs.Thread.{gstate_of, pair_count_before_root};
 ghost use Rattle.lfs_model.specs.Tree.{Path as ModelPath};
 ghost use Rattle.lfs_model.specs.TreeEdits.{bytes_at};
-ghost use Rattle.lfs_model.specs.View.{IsAccepted, IsListIfCtz};
+ghost use Rattle.lfs_model.specs.View.{IsAcceptedImage, IsListIfCtz};
 ghost use Rattle.lfs_thread.specs.CachedLog.{cached_log};
-ghost use Rattle.lfs_lookup.specs.CachedPairs.{AreCachedBeneath};
-ghost use Rattle.lfs_lookup.specs.BytesAt.{IsFileAt};
-ghost use Rattle.lfs_lookup.specs.FileContents.{AreContentsAt, AreContentsOf, AreFoundAt, FitsEntry, struct_of};
-ghost use Rattle.lfs_lookup.specs.Finds.{Finds};
-ghost use Rattle.lfs_lookup.specs.Halves.{ReadsByHalves};
-ghost use Rattle.lfs_lookup.specs.Reading.{IsReading};
+ghost use Rattle.lfs_lookup.specs.CachedPairs.{AreDirectoriesCached};
+ghost use Rattle.lfs_lookup.specs.BytesAt.{IsFileSlotAtSpot};
+ghost use Rattle.lfs_lookup.specs.FileContents.{AreFileContentsAtPath, AreFileContentsOfStruct, AreContentsOfFileAtPathOrNone, AreContentsInInlineLimit, struct_of};
+ghost use Rattle.lfs_lookup.specs.Finds.{IsFoundNodeAtPath};
+ghost use Rattle.lfs_lookup.specs.Halves.{ReadsAtMostHalvingsOfPaths};
+ghost use Rattle.lfs_lookup.specs.Reading.{OnlyReadsThreadAndReportsErrors};
 
 use crate::by_path::{found_node_of, shown_at};
-use crate::bytes::{copy_from, file_of, inline_at, list_from};
+use crate::bytes::{copy_bytes_from_position, file_of, list_from, read_inline_bytes_at};
 use crate::entry::FileStorage;
 use crate::found_entries::FoundNode;
 use crate::path::Path;
@@ -54,14 +54,14 @@ fn contents_of_slot<D: BlockDevice>(
 ) -> Result<FileContents, Error>
     requires works { thread.old.failed ≡ false }
     requires cached_log { IsSome (cached_log thread.old slot.pair) }
-    requires file { (held : Slot) × IsFileAt thread.old.kept slot contents held }
-    ensures is { (held : Slot) → IsFileAt thread.old.kept slot contents held → IfOk result (AreContentsOf held.struct) }
+    requires file { (held : Slot) × IsFileSlotAtSpot thread.old.kept slot contents held }
+    ensures is { (held : Slot) → IsFileSlotAtSpot thread.old.kept slot contents held → IfOk result (AreFileContentsOfStruct held.struct) }
     ensures no_call { thread.new.kept ≡ thread.old.kept }
-    ensures reading { IsReading thread.old thread.new result }
+    ensures reading { OnlyReadsThreadAndReportsErrors thread.old thread.new result }
 {
     match contents {
         FileStorage::Inline { len } => {
-            let bytes = inline_at(alloc, thread, slot, 0, len)?;
+            let bytes = read_inline_bytes_at(alloc, thread, slot, 0, len)?;
             Ok(FileContents::Inline(bytes))
         }
         FileStorage::List { head, size } => Ok(FileContents::List { head, size }),
@@ -81,14 +81,14 @@ pub fn file_at<D: BlockDevice>(
     path: &Path<'_>,
 ) -> Result<FoundFile, Error>
     requires works { thread.old.failed ≡ false }
-    requires accepted { IsAccepted thread.old.kept.disk thread.old.kept.pairs }
-    requires root { root ≡ superblocks_before thread.old.kept.pairs }
-    ensures found { IfOk result (λ found. Finds (tree_in thread.old.kept.disk thread.old.kept.pairs) path.now found.finding) }
-    ensures contents { IfOk result (λ found. AreFoundAt thread.old.kept path.now found.contents) }
-    ensures few { reads thread.new.kept.history ≤ reads thread.old.kept.history + sum_by (pairs_of_path thread.old.kept.pairs) (parents path.now) }
-    ensures halves { gstate_of thread.old.kept.pairs ≡ no_gstate → ReadsByHalves thread.old thread.new (parents path.now) }
-    ensures kept { AreCachedBeneath thread.old (parents path.now) → reads thread.new.kept.history ≡ reads thread.old.kept.history }
-    ensures reading { IsReading thread.old thread.new result }
+    requires accepted { IsAcceptedImage thread.old.kept.disk thread.old.kept.pairs }
+    requires root { root ≡ pair_count_before_root thread.old.kept.pairs }
+    ensures found { IfOk result (λ found. IsFoundNodeAtPath (tree_on_disk thread.old.kept.disk thread.old.kept.pairs) path.now found.finding) }
+    ensures contents { IfOk result (λ found. AreContentsOfFileAtPathOrNone thread.old.kept path.now found.contents) }
+    ensures few { reads thread.new.kept.history ≤ reads thread.old.kept.history + sum_by (pair_count_of_directory_at thread.old.kept.pairs) (parents path.now) }
+    ensures halves { gstate_of thread.old.kept.pairs ≡ zero_gstate → ReadsAtMostHalvingsOfPaths thread.old thread.new (parents path.now) }
+    ensures kept { AreDirectoriesCached thread.old (parents path.now) → reads thread.new.kept.history ≡ reads thread.old.kept.history }
+    ensures reading { OnlyReadsThreadAndReportsErrors thread.old thread.new result }
 {
     let shown = shown_at(alloc, thread, root, path)?;
     // By the sizes of its blocks a list has as many bytes as its entry says.
@@ -119,15 +119,15 @@ pub fn bytes_of<D: BlockDevice>(
     count: usize,
 ) -> Result<Vec<u8>, Error>
     requires works { thread.old.failed ≡ false }
-    requires fits { FitsEntry contents.now }
+    requires fits { AreContentsInInlineLimit contents.now }
     requires list { IsListIfCtz thread.old.kept.disk (struct_of contents.now) }
-    ensures bytes { (path : ModelPath) → AreContentsAt thread.old.kept.pairs path contents.now → IfOk result (λ v. v.items ≡ take count (drop position (bytes_at (tree_in thread.old.kept.disk thread.old.kept.pairs path)))) }
+    ensures bytes { (path : ModelPath) → AreFileContentsAtPath thread.old.kept.pairs path contents.now → IfOk result (λ v. v.items ≡ take count (drop position (bytes_at (tree_on_disk thread.old.kept.disk thread.old.kept.pairs path)))) }
     ensures end { IfOk result (λ v. position + length v.items < 2 ^ 32) }
     ensures none { (own : List ℕ) → struct_of contents.now ≡ Inline own → thread.new ≡ thread.old }
-    ensures reading { IsReading thread.old thread.new result }
+    ensures reading { OnlyReadsThreadAndReportsErrors thread.old thread.new result }
 {
     match contents {
-        FileContents::Inline(bytes) => Ok(copy_from(alloc, bytes, position, count)?),
+        FileContents::Inline(bytes) => Ok(copy_bytes_from_position(alloc, bytes, position, count)?),
         FileContents::List { head, size } => {
             list_from(alloc, thread, *head, *size, position, count)
         }

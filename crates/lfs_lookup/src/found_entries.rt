@@ -1,7 +1,7 @@
 // The results of calls by a path.
 
 ghost use Rattle.std.specs.Prelude.{◌≡◌};
-ghost use Rattle.lfs_lookup.specs.Finds.{is_absent, is_directory_node, is_file_node, size_in, stat_view};
+ghost use Rattle.lfs_lookup.specs.Finds.{is_absent, is_directory_node, is_file_node, size_of_node, stat_view};
 
 use crate::kinds::{Kind, ListItem, Stat};
 use crate::refusal::Refusal;
@@ -46,7 +46,7 @@ impl Node {
 
     /// Returns how many bytes a file has. Returns None where there is no file.
     pub fn size(self) -> Option<u32>
-        ensures { result ≡ size_in self }
+        ensures { result ≡ size_of_node self }
     {
         match self {
             Node::File { size } => Some(size),

@@ -3,12 +3,12 @@
 ghost use Rattle.std.specs.Prelude.{◌≡◌, ◌++◌, IfOk, IfErr, OnOk, map};
 ghost use Rattle.std.specs.Option.{option_map};
 ghost use Rattle.lfs_model.specs.Slots.{Content as ModelContent};
-ghost use Rattle.lfs_model.specs.Content.{struct_typed};
-ghost use Rattle.lfs_model.specs.LoggedContent.{HasParts, HaveParts, IsPart};
-ghost use Rattle.lfs_thread.specs.CachedLog.{IsBlockOf};
+ghost use Rattle.lfs_model.specs.Content.{struct_of_type_and_bytes};
+ghost use Rattle.lfs_model.specs.LoggedContent.{IsWellFormedRawSlot, AreWellFormedRawSlots, IsNameOrStructOfClass};
+ghost use Rattle.lfs_thread.specs.CachedLog.{IsLogBlockOfContent};
 ghost use Rattle.lfs_tag.specs.ContentView.{part_view, slot_view};
-ghost use Rattle.lfs_lookup.specs.ByName.{AreByName};
-ghost use Rattle.lfs_lookup.specs.Items.{item_view, items_view, shape_list, shapes_in, shapes_among, shape_of_raw, structure_view, without_id};
+ghost use Rattle.lfs_lookup.specs.ByName.{AreSortedByName};
+ghost use Rattle.lfs_lookup.specs.Items.{item_view, items_view, list_of_optional_entry, entries_without_moved_slot, entries_of_raw_slots, entry_of_raw_slot, structure_view, slots_without_id};
 
 use lfs_device::Error;
 use lfs_tag::{Content, Log, Part, Slot, Struct};
@@ -17,7 +17,7 @@ use std::alloc::{AllocError, Global};
 /// The struct of an entry (SPEC.md of littlefs, "0x2xx LFS_TYPE_STRUCT"): where the contents of a
 /// file are, or where a directory begins.
 #[derive(Drop)]
-pub enum Structure {
+pub enum OwnedStruct {
     /// A file's bytes, inline in the pair.
     Inline(Vec<u8>),
     /// A file's skip list: the address of its last block, and its size in bytes.
@@ -28,33 +28,33 @@ pub enum Structure {
 
 /// A file or a directory, as an entry of the directory above it.
 #[derive(Drop)]
-pub struct Item {
+pub struct NameAndOwnedStruct {
     /// The bytes of its name.
     pub name: Vec<u8>,
     /// Its struct.
-    pub structure: Structure,
+    pub structure: OwnedStruct,
 }
 
 /// Returns the struct of a slot's part, with a copy of a file's bytes.
-pub fn structure_of(alloc: Global, part: &Part<'_>) -> Result<Structure, AllocError>
-    requires { IsPart 2 (part_view part.now) }
-    ensures { IfOk result (λ s. structure_view s ≡ struct_typed part.now.kind part.now.bytes.now) }
+pub fn structure_of(alloc: Global, part: &Part<'_>) -> Result<OwnedStruct, AllocError>
+    requires { IsNameOrStructOfClass 2 (part_view part.now) }
+    ensures { IfOk result (λ s. structure_view s ≡ struct_of_type_and_bytes part.now.kind part.now.bytes.now) }
 {
     match Struct::of(part).unwrap() {
         Struct::Inline(bytes) => {
             let bytes = Vec::from_slice(alloc, bytes)?;
-            Ok(Structure::Inline(bytes))
+            Ok(OwnedStruct::Inline(bytes))
         }
-        Struct::Ctz { head, size } => Ok(Structure::Ctz { head, size }),
-        Struct::Branch(pair) => Ok(Structure::Branch(pair)),
+        Struct::Ctz { head, size } => Ok(OwnedStruct::Ctz { head, size }),
+        Struct::Branch(pair) => Ok(OwnedStruct::Branch(pair)),
     }
 }
 
 // Returns the entry of a slot. Returns None for the superblock's slot, and for a slot without a
 // name or a struct.
-fn item_of(alloc: Global, slot: &Slot<'_>) -> Result<Option<Item>, AllocError>
-    requires { HasParts (slot_view slot.now) }
-    ensures { IfOk result (λ item. option_map item_view item ≡ shape_of_raw (slot_view slot.now)) }
+fn item_of(alloc: Global, slot: &Slot<'_>) -> Result<Option<NameAndOwnedStruct>, AllocError>
+    requires { IsWellFormedRawSlot (slot_view slot.now) }
+    ensures { IfOk result (λ item. option_map item_view item ≡ entry_of_raw_slot (slot_view slot.now)) }
 {
     let (Some(name), Some(part)) = (slot.name, slot.structure) else {
         return Ok(None);
@@ -64,13 +64,17 @@ fn item_of(alloc: Global, slot: &Slot<'_>) -> Result<Option<Item>, AllocError>
     }
     let structure = structure_of(alloc, &part)?;
     let name = Vec::from_slice(alloc, name.bytes)?;
-    Ok(Some(Item { name, structure }))
+    Ok(Some(NameAndOwnedStruct { name, structure }))
 }
 
 // Adds the entry of a slot.
-fn push_entry(alloc: Global, items: &mut Vec<Item>, slot: &Slot<'_>) -> Result<(), AllocError>
-    requires { HasParts (slot_view slot.now) }
-    ensures { OnOk result (items_view items.new.items ≡ items_view items.old.items ++ shape_list (shape_of_raw (slot_view slot.now))) }
+fn push_item_of_slot(
+    alloc: Global,
+    items: &mut Vec<NameAndOwnedStruct>,
+    slot: &Slot<'_>,
+) -> Result<(), AllocError>
+    requires { IsWellFormedRawSlot (slot_view slot.now) }
+    ensures { OnOk result (items_view items.new.items ≡ items_view items.old.items ++ list_of_optional_entry (entry_of_raw_slot (slot_view slot.now))) }
 {
     if let Some(item) = item_of(alloc, slot)? {
         items.push(item)?;
@@ -79,20 +83,20 @@ fn push_entry(alloc: Global, items: &mut Vec<Item>, slot: &Slot<'_>) -> Result<(
 }
 
 // Returns the entries of slots.
-fn items_among(alloc: Global, slots: &[Slot<'_>]) -> Result<Vec<Item>, AllocError>
-    requires { HaveParts (map slot_view slots.now) }
-    ensures { IfOk result (λ items. items_view items.items ≡ shapes_among (map slot_view slots.now)) }
+fn items_of_slots(alloc: Global, slots: &[Slot<'_>]) -> Result<Vec<NameAndOwnedStruct>, AllocError>
+    requires { AreWellFormedRawSlots (map slot_view slots.now) }
+    ensures { IfOk result (λ items. items_view items.items ≡ entries_of_raw_slots (map slot_view slots.now)) }
 {
     let mut items = Vec::new(alloc);
     for slot in slots {
-        push_entry(alloc, &mut items, slot)?;
+        push_item_of_slot(alloc, &mut items, slot)?;
     }
     Ok(items)
 }
 
 // Removes the slot of an id, if there is one.
 fn remove_moved_slot(slots: &mut Vec<Slot<'_>>, moved: Option<usize>)
-    ensures { map slot_view slots.new.items ≡ without_id moved (map slot_view slots.old.items) }
+    ensures { map slot_view slots.new.items ≡ slots_without_id moved (map slot_view slots.old.items) }
 {
     if let Some(id) = moved {
         if id < slots.len() {
@@ -106,20 +110,20 @@ pub(crate) fn items_in(
     alloc: Global,
     log: &Log<'_>,
     moved: Option<usize>,
-) -> Result<Vec<Item>, Error>
-    requires { (content : ModelContent) × IsBlockOf log.now content }
-    ensures items { (content : ModelContent) → IsBlockOf log.now content → IfOk result (λ items. items_view items.items ≡ shapes_in moved content.slots) }
+) -> Result<Vec<NameAndOwnedStruct>, Error>
+    requires { (content : ModelContent) × IsLogBlockOfContent log.now content }
+    ensures items { (content : ModelContent) → IsLogBlockOfContent log.now content → IfOk result (λ items. items_view items.items ≡ entries_without_moved_slot moved content.slots) }
     ensures errors { IfErr result (λ e. e ≡ Error.NoMemory) }
 {
     let mut content = Content::read(alloc, log)?;
     remove_moved_slot(&mut content.slots, moved);
-    let items = items_among(alloc, &content.slots)?;
+    let items = items_of_slots(alloc, &content.slots)?;
     Ok(items)
 }
 
 // Sorts entries by their names, the shorter names first.
-pub(crate) fn sort_by_name(items: &mut Vec<Item>)
-    ensures { AreByName (items_view items.old.items) (items_view items.new.items) }
+pub(crate) fn sort_by_name(items: &mut Vec<NameAndOwnedStruct>)
+    ensures { AreSortedByName (items_view items.old.items) (items_view items.new.items) }
 {
     items.sort_unstable_by(|a, b| a.name.cmp(&b.name));
 }

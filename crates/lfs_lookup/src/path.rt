@@ -2,11 +2,11 @@
 
 ghost use Rattle.std.specs.Prelude.{ℕ, List, true, ◌≡◌, ◌<◌, ◌≤◌, ◌^◌, ◌==◌, IfOk, length, map, is_some};
 ghost use Rattle.std.specs.List.{list_all, slice_split};
-ghost use Rattle.lfs_model.specs.TreeEdits.{last_name};
-ghost use Rattle.lfs_model.specs.Names.{is_component, slash};
-ghost use Rattle.lfs_model.specs.Operations.{path_of};
-ghost use Rattle.lfs_model.specs.Refusals.{as_path, is_root};
-ghost use Rattle.lfs_lookup.specs.NameLengths.{length_after_slash};
+ghost use Rattle.lfs_model.specs.TreeEdits.{last_name_of_path};
+ghost use Rattle.lfs_model.specs.Names.{is_path_component, slash};
+ghost use Rattle.lfs_model.specs.Operations.{path_of_bytes};
+ghost use Rattle.lfs_model.specs.Refusals.{path_or_root, is_root};
+ghost use Rattle.lfs_lookup.specs.NameLengths.{length_after_last_slash};
 
 use lfs_tag::is_component;
 use std::alloc::{AllocError, Global};
@@ -14,7 +14,7 @@ use std::marker::Model;
 
 // Returns whether these bytes are names with a slash between each two.
 fn are_components(bytes: &[u8]) -> bool
-    ensures { result ≡ list_all is_component (slice_split (λ c. c == slash) bytes.now) }
+    ensures { result ≡ list_all is_path_component (slice_split (λ c. c == slash) bytes.now) }
 {
     bytes
         .split(|byte| *byte == b'/')
@@ -22,7 +22,7 @@ fn are_components(bytes: &[u8]) -> bool
 }
 
 fn is_path(bytes: &[u8]) -> bool
-    ensures { result ≡ is_some (path_of bytes.now) }
+    ensures { result ≡ is_some (path_of_bytes bytes.now) }
 {
     match bytes {
         [] => false,
@@ -38,8 +38,8 @@ fn parts_of<'a>(alloc: Global, bytes: &'a [u8]) -> Result<Vec<&'a [u8]>, AllocEr
 }
 
 // Returns how many bytes come after the last slash.
-fn len_after_slash(bytes: &[u8]) -> usize
-    ensures len { result ≡ length_after_slash 0 bytes.now }
+fn len_after_last_slash(bytes: &[u8]) -> usize
+    ensures len { result ≡ length_after_last_slash 0 bytes.now }
     ensures bound { result ≤ length bytes.now }
 {
     let mut len = 0;
@@ -57,21 +57,21 @@ pub struct Path<'a> {
 
 impl<'a> Model for Path<'a> {
     ghost use Rattle.std.specs.Prelude.{◌≡◌, true, is_some};
-    ghost use Rattle.lfs_model.specs.Operations.{path_of};
-    ghost use Rattle.lfs_model.specs.Refusals.{as_path};
+    ghost use Rattle.lfs_model.specs.Operations.{path_of_bytes};
+    ghost use Rattle.lfs_model.specs.Refusals.{path_or_root};
     ghost use Rattle.lfs_model.specs.Tree.{Path};
 
     ghost Value = { Path };
 
-    ghost view = { λ p. as_path p.bytes.now };
+    ghost view = { λ p. path_or_root p.bytes.now };
 
-    ghost invariant = { λ p. is_some (path_of p.bytes.now) ≡ true };
+    ghost invariant = { λ p. is_some (path_of_bytes p.bytes.now) ≡ true };
 }
 
 impl<'a> Path<'a> {
     /// Makes the path of these bytes. Returns None where they aren't well formed.
     pub fn parse(bytes: &'a [u8]) -> Option<Path<'a>>
-        ensures { result ≡ path_of bytes.now }
+        ensures { result ≡ path_of_bytes bytes.now }
     {
         if is_path(bytes) {
             Some(Path { bytes })
@@ -101,24 +101,24 @@ impl<'a> Path<'a> {
 
     /// Shows a proof that each name of the path may be a component. The call does nothing at run
     /// time.
-    pub fn know_names(&self)
-        ensures { list_all is_component self.now ≡ true }
+    pub fn show_path_names_to_proof(&self)
+        ensures { list_all is_path_component self.now ≡ true }
     {
         let _len = self.bytes.len();
     }
 
     /// Shows a proof that the path is made of some bytes. The call does nothing at run time.
-    pub fn know_bytes(&self)
-        ensures { (bytes : List ℕ) × (as_path bytes ≡ self.now) }
+    pub fn show_path_bytes_to_proof(&self)
+        ensures { (bytes : List ℕ) × (path_or_root bytes ≡ self.now) }
     {
         let _len = self.bytes.len();
     }
 
     /// Returns how many bytes the last name has; the root's path has none.
     pub fn name_len(&self) -> usize
-        ensures len { result ≡ length (last_name self.now) }
+        ensures len { result ≡ length (last_name_of_path self.now) }
         ensures bound { result < 2 ^ 63 }
     {
-        len_after_slash(self.bytes)
+        len_after_last_slash(self.bytes)
     }
 }

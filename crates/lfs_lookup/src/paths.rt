@@ -1,26 +1,26 @@
 // Paths, from the root down.
 
 ghost use Rattle.std.specs.Prelude.{◌≡◌, None, ◌<◌, ◌≤◌, ◌+◌, false, length, IfOk, map, sum_by, ◌++◌, ◌∷◌, [], drop};
-ghost use Rattle.lfs_model.specs.Frame.{pairs_of_path, parents};
+ghost use Rattle.lfs_model.specs.Frame.{pair_count_of_directory_at, parents};
 ghost use Rattle.lfs_model.specs.History.{reads};
-ghost use Rattle.lfs_model.specs.InDirectory.{run_length};
-ghost use Rattle.lfs_model.specs.Slots.{no_gstate};
+ghost use Rattle.lfs_model.specs.InDirectory.{hard_tail_joined_pair_count};
+ghost use Rattle.lfs_model.specs.Slots.{zero_gstate};
 ghost use Rattle.lfs_model.specs.Thread.{gstate_of};
 ghost use Rattle.lfs_model.specs.Tree.{Path};
-ghost use Rattle.lfs_model.specs.View.{IsAccepted};
-ghost use Rattle.lfs_thread.specs.Steps.{HasReported, IsOnlyRead};
+ghost use Rattle.lfs_model.specs.View.{IsAcceptedImage};
+ghost use Rattle.lfs_thread.specs.Steps.{HasReportedIoOrUnwrittenNoMemory, IsThreadOnlyRead};
 ghost use Rattle.lfs_tag.specs.FieldsView.{move_view};
-ghost use Rattle.lfs_lookup.specs.CachedPairs.{LoadsPairs, LoadsDirectories};
-ghost use Rattle.lfs_lookup.specs.AtPath.{PassesParents};
-ghost use Rattle.lfs_lookup.specs.AttributeAt.{IsPairCached};
-ghost use Rattle.lfs_lookup.specs.Halves.{ReadsByHalves, ReadsByHalvesFrom};
+ghost use Rattle.lfs_lookup.specs.CachedPairs.{LoadsOnlyUncachedPairs, LoadsOnlyUncachedDirectories};
+ghost use Rattle.lfs_lookup.specs.AtPath.{IsNotRefusedByParents};
+ghost use Rattle.lfs_lookup.specs.AttributeAt.{IsPairOfFoundSlotCached};
+ghost use Rattle.lfs_lookup.specs.Halves.{ReadsAtMostHalvingsOfPaths, ReadsAtMostHalvingsOfDirectory};
 ghost use Rattle.lfs_lookup.specs.Listed.{hard_tail_run};
-ghost use Rattle.lfs_lookup.specs.Reading.{IsReading};
-ghost use Rattle.lfs_lookup.specs.Search.{HidesFrom};
-ghost use Rattle.lfs_lookup.specs.Paths.{BeginsOnPath, Descends, Enters, HidesOnly, HasNothingToRecover, IsShownAt, IsEntryOfName, LeadsTo, ShowsTo, fault_of};
+ghost use Rattle.lfs_lookup.specs.Reading.{OnlyReadsThreadAndReportsErrors};
+ghost use Rattle.lfs_lookup.specs.Search.{HidesMovedSlotFrom};
+ghost use Rattle.lfs_lookup.specs.Paths.{PathLeadsToFirstPair, IsParentFoundAlongPath, IsParentAtPath, HidesOnlyMovedSlot, HasNothingToRecover, IsEntryBelowRootWithSlotHidden, IsFoundEntryOfName, PathLeadsToFound, IsLookupResultWithSlotHidden, refusal_of_parent};
 
-use crate::entry::{Entry, FileStorage};
-use crate::search::{Sought, Spot, find_name, find_shown};
+use crate::entry::{FileOrDirectory, FileStorage};
+use crate::search::{Sought, Spot, find_name, find_name_with_slot_hidden};
 use lfs_device::{BlockDevice, Error};
 use lfs_tag::MoveState;
 use lfs_tag::kinds::DELETE;
@@ -87,10 +87,13 @@ pub enum Shown {
 
 // Returns the slot that counts as deleted under a global state: the one that a set move names
 // (DESIGN.md of littlefs, "The move problem"). Returns None where no move is set.
-pub(crate) fn moved_slot<D: BlockDevice>(thread: &Thread<D>, state: &MoveState) -> Option<Spot>
-    requires { IsAccepted thread.now.kept.disk thread.now.kept.pairs }
-    ensures hides { HidesFrom (move_view state.now) result 0 thread.now.kept.pairs }
-    ensures none { move_view state.now ≡ no_gstate → result ≡ None }
+pub(crate) fn spot_of_moved_slot<D: BlockDevice>(
+    thread: &Thread<D>,
+    state: &MoveState,
+) -> Option<Spot>
+    requires { IsAcceptedImage thread.now.kept.disk thread.now.kept.pairs }
+    ensures hides { HidesMovedSlotFrom (move_view state.now) result 0 thread.now.kept.pairs }
+    ensures none { move_view state.now ≡ zero_gstate → result ≡ None }
 {
     if state.kind != DELETE {
         return None;
@@ -102,7 +105,7 @@ pub(crate) fn moved_slot<D: BlockDevice>(thread: &Thread<D>, state: &MoveState) 
 }
 
 // Returns the directory of that name in a directory, where a slot may count as deleted.
-fn enter<D: BlockDevice>(
+fn find_parent_in_directory<D: BlockDevice>(
     alloc: Global,
     thread: &mut Thread<D>,
     first: usize,
@@ -110,20 +113,20 @@ fn enter<D: BlockDevice>(
     moved: Option<Spot>,
 ) -> Result<Parent, Error>
     requires works { thread.old.failed ≡ false }
-    requires hiding { HidesOnly thread.old.kept moved }
-    requires reached { (path : Path) × BeginsOnPath thread.old.kept.pairs path first }
-    ensures answer { IfOk result (λ parent. (path : Path) → BeginsOnPath thread.old.kept.pairs path first → Enters thread.old.kept (path ++ name.now ∷ []) parent) }
-    ensures few { reads thread.new.kept.history ≤ reads thread.old.kept.history + run_length (drop first thread.old.kept.pairs) }
-    ensures halves { moved ≡ None → ReadsByHalvesFrom thread.old thread.new first }
-    ensures loads { LoadsPairs (hard_tail_run (drop first thread.old.kept.pairs)) thread.old thread.new result }
-    ensures reading { IsReading thread.old thread.new result }
+    requires hiding { HidesOnlyMovedSlot thread.old.kept moved }
+    requires reached { (path : Path) × PathLeadsToFirstPair thread.old.kept.pairs path first }
+    ensures answer { IfOk result (λ parent. (path : Path) → PathLeadsToFirstPair thread.old.kept.pairs path first → IsParentAtPath thread.old.kept (path ++ name.now ∷ []) parent) }
+    ensures few { reads thread.new.kept.history ≤ reads thread.old.kept.history + hard_tail_joined_pair_count (drop first thread.old.kept.pairs) }
+    ensures halves { moved ≡ None → ReadsAtMostHalvingsOfDirectory thread.old thread.new first }
+    ensures loads { LoadsOnlyUncachedPairs (hard_tail_run (drop first thread.old.kept.pairs)) thread.old thread.new result }
+    ensures reading { OnlyReadsThreadAndReportsErrors thread.old thread.new result }
 {
-    match find_shown(alloc, thread, first, name, moved)? {
-        Some((_, Entry::Directory(at))) => {
+    match find_name_with_slot_hidden(alloc, thread, first, name, moved)? {
+        Some((_, FileOrDirectory::Directory(at))) => {
             let next = number_of(thread, at).unwrap();
             Ok(Parent::Directory(next))
         }
-        Some((_, Entry::File(_))) => Ok(Parent::File),
+        Some((_, FileOrDirectory::File(_))) => Ok(Parent::File),
         None => Ok(Parent::Nothing),
     }
 }
@@ -133,7 +136,7 @@ fn enter<D: BlockDevice>(
 // is no directory's. It reads no more pairs than the directories above the last one have.
 //
 // Errors are those of `find_name`.
-pub(crate) fn find_directory<D: BlockDevice>(
+pub(crate) fn find_parent_directory_of_path<D: BlockDevice>(
     alloc: Global,
     thread: &mut Thread<D>,
     root: usize,
@@ -141,17 +144,17 @@ pub(crate) fn find_directory<D: BlockDevice>(
     moved: Option<Spot>,
 ) -> Result<Parent, Error>
     requires works { thread.old.failed ≡ false }
-    requires hiding { HidesOnly thread.old.kept moved }
-    requires root { BeginsOnPath thread.old.kept.pairs [] root }
-    ensures answer { IfOk result (Descends thread.old.kept (map (λ name. name.now) path.now)) }
-    ensures few { reads thread.new.kept.history ≤ reads thread.old.kept.history + sum_by (pairs_of_path thread.old.kept.pairs) (parents (map (λ name. name.now) path.now)) }
-    ensures halves { moved ≡ None → ReadsByHalves thread.old thread.new (parents (map (λ name. name.now) path.now)) }
-    ensures loads { LoadsDirectories (λ parent. fault_of parent ≡ None) (parents (map (λ name. name.now) path.now)) thread.old thread.new result }
-    ensures reading { IsReading thread.old thread.new result }
+    requires hiding { HidesOnlyMovedSlot thread.old.kept moved }
+    requires root { PathLeadsToFirstPair thread.old.kept.pairs [] root }
+    ensures answer { IfOk result (IsParentFoundAlongPath thread.old.kept (map (λ name. name.now) path.now)) }
+    ensures few { reads thread.new.kept.history ≤ reads thread.old.kept.history + sum_by (pair_count_of_directory_at thread.old.kept.pairs) (parents (map (λ name. name.now) path.now)) }
+    ensures halves { moved ≡ None → ReadsAtMostHalvingsOfPaths thread.old thread.new (parents (map (λ name. name.now) path.now)) }
+    ensures loads { LoadsOnlyUncachedDirectories (λ parent. refusal_of_parent parent ≡ None) (parents (map (λ name. name.now) path.now)) thread.old thread.new result }
+    ensures reading { OnlyReadsThreadAndReportsErrors thread.old thread.new result }
 {
     let mut first = root;
     for name in path {
-        first = match enter(alloc, thread, first, name, moved)? {
+        first = match find_parent_in_directory(alloc, thread, first, name, moved)? {
             Parent::Directory(next) => next,
             Parent::File => return Ok(Parent::File),
             Parent::Nothing => return Ok(Parent::Nothing),
@@ -161,7 +164,7 @@ pub(crate) fn find_directory<D: BlockDevice>(
 }
 
 // Returns the entry of a name in a directory.
-fn look_in<D: BlockDevice>(
+fn look_up_in_directory<D: BlockDevice>(
     alloc: Global,
     thread: &mut Thread<D>,
     parent: usize,
@@ -169,16 +172,16 @@ fn look_in<D: BlockDevice>(
 ) -> Result<Found, Error>
     requires works { thread.old.failed ≡ false }
     requires settled { HasNothingToRecover thread.old.kept }
-    requires reached { (above : Path) × BeginsOnPath thread.old.kept.pairs above parent }
-    ensures answer { IfOk result (λ found. (above : Path) → BeginsOnPath thread.old.kept.pairs above parent → IsEntryOfName thread.old.kept.disk.order thread.old.kept.pairs above name.now found) }
-    ensures few { reads thread.new.kept.history ≤ reads thread.old.kept.history + run_length (drop parent thread.old.kept.pairs) }
-    ensures halves { ReadsByHalvesFrom thread.old thread.new parent }
-    ensures only { IsOnlyRead thread.old.kept thread.new.kept }
+    requires reached { (above : Path) × PathLeadsToFirstPair thread.old.kept.pairs above parent }
+    ensures answer { IfOk result (λ found. (above : Path) → PathLeadsToFirstPair thread.old.kept.pairs above parent → IsFoundEntryOfName thread.old.kept.disk.order thread.old.kept.pairs above name.now found) }
+    ensures few { reads thread.new.kept.history ≤ reads thread.old.kept.history + hard_tail_joined_pair_count (drop parent thread.old.kept.pairs) }
+    ensures halves { ReadsAtMostHalvingsOfDirectory thread.old thread.new parent }
+    ensures only { IsThreadOnlyRead thread.old.kept thread.new.kept }
     ensures works { thread.new.failed ≡ false }
-    ensures errors { HasReported thread.old.kept thread.new.kept result }
+    ensures errors { HasReportedIoOrUnwrittenNoMemory thread.old.kept thread.new.kept result }
 {
     match find_name(alloc, thread, parent, name)? {
-        Sought::Found(slot, Entry::Directory(at)) => {
+        Sought::Found(slot, FileOrDirectory::Directory(at)) => {
             let first = number_of(thread, at).unwrap();
             Ok(Found::Directory {
                 parent,
@@ -186,7 +189,7 @@ fn look_in<D: BlockDevice>(
                 first,
             })
         }
-        Sought::Found(slot, Entry::File(contents)) => Ok(Found::File {
+        Sought::Found(slot, FileOrDirectory::File(contents)) => Ok(Found::File {
             parent,
             slot,
             contents,
@@ -209,26 +212,26 @@ pub fn look_up<D: BlockDevice>(
 ) -> Result<Found, Error>
     requires works { thread.old.failed ≡ false }
     requires settled { HasNothingToRecover thread.old.kept }
-    requires root { BeginsOnPath thread.old.kept.pairs [] root }
-    ensures answer { IfOk result (LeadsTo thread.old.kept (map (λ name. name.now) path.now)) }
-    ensures few { reads thread.new.kept.history ≤ reads thread.old.kept.history + sum_by (pairs_of_path thread.old.kept.pairs) (parents (map (λ name. name.now) path.now)) }
-    ensures halves { ReadsByHalves thread.old thread.new (parents (map (λ name. name.now) path.now)) }
-    ensures only { IsOnlyRead thread.old.kept thread.new.kept }
+    requires root { PathLeadsToFirstPair thread.old.kept.pairs [] root }
+    ensures answer { IfOk result (PathLeadsToFound thread.old.kept (map (λ name. name.now) path.now)) }
+    ensures few { reads thread.new.kept.history ≤ reads thread.old.kept.history + sum_by (pair_count_of_directory_at thread.old.kept.pairs) (parents (map (λ name. name.now) path.now)) }
+    ensures halves { ReadsAtMostHalvingsOfPaths thread.old thread.new (parents (map (λ name. name.now) path.now)) }
+    ensures only { IsThreadOnlyRead thread.old.kept thread.new.kept }
     ensures works { thread.new.failed ≡ false }
-    ensures errors { HasReported thread.old.kept thread.new.kept result }
+    ensures errors { HasReportedIoOrUnwrittenNoMemory thread.old.kept thread.new.kept result }
 {
     let Some((name, above)) = path.split_last() else {
         return Ok(Found::Root);
     };
-    match find_directory(alloc, thread, root, above, None)? {
-        Parent::Directory(parent) => look_in(alloc, thread, parent, name),
+    match find_parent_directory_of_path(alloc, thread, root, above, None)? {
+        Parent::Directory(parent) => look_up_in_directory(alloc, thread, parent, name),
         Parent::File => Ok(Found::ParentIsFile),
         Parent::Nothing => Ok(Found::ParentIsMissing),
     }
 }
 
 // Returns the entry of a name in a directory, where a slot may count as deleted.
-fn show_in<D: BlockDevice>(
+fn look_up_shown_in_directory<D: BlockDevice>(
     alloc: Global,
     thread: &mut Thread<D>,
     parent: usize,
@@ -236,21 +239,21 @@ fn show_in<D: BlockDevice>(
     moved: Option<Spot>,
 ) -> Result<Shown, Error>
     requires works { thread.old.failed ≡ false }
-    requires hiding { HidesOnly thread.old.kept moved }
-    requires reached { (above : Path) × BeginsOnPath thread.old.kept.pairs above parent }
-    ensures answer { IfOk result (λ shown. (above : Path) → BeginsOnPath thread.old.kept.pairs above parent → IsShownAt thread.old.kept.pairs moved (above ++ name.now ∷ []) shown) }
-    ensures cached_log { IfOk result (IsPairCached thread.new) }
-    ensures few { reads thread.new.kept.history ≤ reads thread.old.kept.history + run_length (drop parent thread.old.kept.pairs) }
-    ensures halves { moved ≡ None → ReadsByHalvesFrom thread.old thread.new parent }
-    ensures loads { LoadsPairs (hard_tail_run (drop parent thread.old.kept.pairs)) thread.old thread.new result }
-    ensures reading { IsReading thread.old thread.new result }
+    requires hiding { HidesOnlyMovedSlot thread.old.kept moved }
+    requires reached { (above : Path) × PathLeadsToFirstPair thread.old.kept.pairs above parent }
+    ensures answer { IfOk result (λ shown. (above : Path) → PathLeadsToFirstPair thread.old.kept.pairs above parent → IsEntryBelowRootWithSlotHidden thread.old.kept.pairs moved (above ++ name.now ∷ []) shown) }
+    ensures cached_log { IfOk result (IsPairOfFoundSlotCached thread.new) }
+    ensures few { reads thread.new.kept.history ≤ reads thread.old.kept.history + hard_tail_joined_pair_count (drop parent thread.old.kept.pairs) }
+    ensures halves { moved ≡ None → ReadsAtMostHalvingsOfDirectory thread.old thread.new parent }
+    ensures loads { LoadsOnlyUncachedPairs (hard_tail_run (drop parent thread.old.kept.pairs)) thread.old thread.new result }
+    ensures reading { OnlyReadsThreadAndReportsErrors thread.old thread.new result }
 {
-    match find_shown(alloc, thread, parent, name, moved)? {
-        Some((slot, Entry::Directory(at))) => {
+    match find_name_with_slot_hidden(alloc, thread, parent, name, moved)? {
+        Some((slot, FileOrDirectory::Directory(at))) => {
             let first = number_of(thread, at).unwrap();
             Ok(Shown::Directory { slot, first })
         }
-        Some((slot, Entry::File(contents))) => Ok(Shown::File { slot, contents }),
+        Some((slot, FileOrDirectory::File(contents))) => Ok(Shown::File { slot, contents }),
         None => Ok(Shown::Nothing),
     }
 }
@@ -260,7 +263,7 @@ fn show_in<D: BlockDevice>(
 // cached then.
 //
 // Errors are those of `find_name`.
-pub(crate) fn look_up_shown<D: BlockDevice>(
+pub(crate) fn look_up_with_moved_slot_hidden<D: BlockDevice>(
     alloc: Global,
     thread: &mut Thread<D>,
     root: usize,
@@ -268,20 +271,20 @@ pub(crate) fn look_up_shown<D: BlockDevice>(
     moved: Option<Spot>,
 ) -> Result<Shown, Error>
     requires works { thread.old.failed ≡ false }
-    requires hiding { HidesOnly thread.old.kept moved }
-    requires root { BeginsOnPath thread.old.kept.pairs [] root }
-    ensures answer { IfOk result (ShowsTo thread.old.kept moved (map (λ name. name.now) path.now)) }
-    ensures cached_log { IfOk result (IsPairCached thread.new) }
-    ensures few { reads thread.new.kept.history ≤ reads thread.old.kept.history + sum_by (pairs_of_path thread.old.kept.pairs) (parents (map (λ name. name.now) path.now)) }
-    ensures halves { moved ≡ None → ReadsByHalves thread.old thread.new (parents (map (λ name. name.now) path.now)) }
-    ensures loads { LoadsDirectories PassesParents (parents (map (λ name. name.now) path.now)) thread.old thread.new result }
-    ensures reading { IsReading thread.old thread.new result }
+    requires hiding { HidesOnlyMovedSlot thread.old.kept moved }
+    requires root { PathLeadsToFirstPair thread.old.kept.pairs [] root }
+    ensures answer { IfOk result (IsLookupResultWithSlotHidden thread.old.kept moved (map (λ name. name.now) path.now)) }
+    ensures cached_log { IfOk result (IsPairOfFoundSlotCached thread.new) }
+    ensures few { reads thread.new.kept.history ≤ reads thread.old.kept.history + sum_by (pair_count_of_directory_at thread.old.kept.pairs) (parents (map (λ name. name.now) path.now)) }
+    ensures halves { moved ≡ None → ReadsAtMostHalvingsOfPaths thread.old thread.new (parents (map (λ name. name.now) path.now)) }
+    ensures loads { LoadsOnlyUncachedDirectories IsNotRefusedByParents (parents (map (λ name. name.now) path.now)) thread.old thread.new result }
+    ensures reading { OnlyReadsThreadAndReportsErrors thread.old thread.new result }
 {
     let Some((name, above)) = path.split_last() else {
         return Ok(Shown::Root);
     };
-    match find_directory(alloc, thread, root, above, moved)? {
-        Parent::Directory(parent) => show_in(alloc, thread, parent, name, moved),
+    match find_parent_directory_of_path(alloc, thread, root, above, moved)? {
+        Parent::Directory(parent) => look_up_shown_in_directory(alloc, thread, parent, name, moved),
         Parent::File => Ok(Shown::ParentIsFile),
         Parent::Nothing => Ok(Shown::ParentIsMissing),
     }

@@ -1,18 +1,18 @@
 // Whether an image is in the writing profile.
 
 ghost use Rattle.std.specs.Prelude.{List, ◌≡◌, ◌↔◌, ◌<◌, IsTrue, All, IfOk, IfErr, Some, false, length, map, true};
-ghost use Rattle.lfs_model.specs.Content.{complete, complete_all, struct_typed};
-ghost use Rattle.lfs_model.specs.EntryTypes.{superblock_at};
-ghost use Rattle.lfs_model.specs.Disk.{file_limit};
+ghost use Rattle.lfs_model.specs.Content.{complete, slots_if_all_complete, struct_of_type_and_bytes};
+ghost use Rattle.lfs_model.specs.EntryTypes.{superblock_fields_at};
+ghost use Rattle.lfs_model.specs.Disk.{file_size_limit};
 ghost use Rattle.lfs_model.specs.Slots.{Content as ModelContent, File, Slot as ModelSlot};
-ghost use Rattle.lfs_model.specs.Thread.{superblocks_before};
-ghost use Rattle.lfs_model.specs.Profile.{FitsEntry, FitsSlot, IsWritable};
-ghost use Rattle.lfs_model.specs.View.{IsAccepted};
+ghost use Rattle.lfs_model.specs.Thread.{pair_count_before_root};
+ghost use Rattle.lfs_model.specs.Profile.{FitsEntryLimits, FitsSlotLimits, IsWritable};
+ghost use Rattle.lfs_model.specs.View.{IsAcceptedImage};
 ghost use Rattle.lfs_tag.specs.ContentView.{attribute_view, slot_view};
-ghost use Rattle.lfs_thread.specs.CachedLog.{IsBlockOf};
-ghost use Rattle.lfs_thread.specs.Steps.{pair_in};
-ghost use Rattle.lfs_lookup.specs.Profile.{IsPairWritable, HasSuperblockStruct, follows_at};
-ghost use Rattle.lfs_lookup.specs.Reading.{IsReading};
+ghost use Rattle.lfs_thread.specs.CachedLog.{IsLogBlockOfContent};
+ghost use Rattle.lfs_thread.specs.Steps.{kept_pair_at_index};
+ghost use Rattle.lfs_lookup.specs.Profile.{IsPairInWritingProfile, HasSuperblockStructOf24Bytes, follows_hard_tail_at};
+ghost use Rattle.lfs_lookup.specs.Reading.{OnlyReadsThreadAndReportsErrors};
 
 use lfs_device::{BlockDevice, Error, Geometry};
 use lfs_pair::{attributes_size, fits};
@@ -23,14 +23,14 @@ use std::alloc::Global;
 
 // Returns whether an entry takes at most half of what a pair may hold, with any contents that it
 // may get. Its inline bytes are within the limit, too.
-fn fits_entry(
+fn is_entry_in_writing_profile(
     geometry: &Geometry,
     name: &Part<'_>,
     structure: &Part<'_>,
     attributes: &[Attribute<'_>],
 ) -> bool
-    ensures { IsTrue result ↔ FitsEntry geometry.now.block_size geometry.now.page
-        (record { kind = File; name = name.now.bytes.now; struct = struct_typed structure.now.kind structure.now.bytes.now; attributes = map attribute_view attributes.now }) }
+    ensures { IsTrue result ↔ FitsEntryLimits geometry.now.block_size geometry.now.page
+        (record { kind = File; name = name.now.bytes.now; struct = struct_of_type_and_bytes structure.now.kind structure.now.bytes.now; attributes = map attribute_view attributes.now }) }
 {
     let limit = geometry.inline_limit();
     let charge = attributes_size(attributes)
@@ -41,9 +41,9 @@ fn fits_entry(
 }
 
 // Returns whether a superblock has the limits of a fresh image.
-fn has_written_limits(structure: &Part<'_>) -> bool
+fn has_limits_of_fresh_superblock(structure: &Part<'_>) -> bool
     requires { length structure.now.bytes.now ≡ 24 }
-    ensures { IsTrue result ↔ (((superblock_at structure.now.bytes.now).name_max ≡ 255) × ((superblock_at structure.now.bytes.now).file_max ≡ file_limit) × ((superblock_at structure.now.bytes.now).attr_max ≡ 1022)) }
+    ensures { IsTrue result ↔ (((superblock_fields_at structure.now.bytes.now).name_max ≡ 255) × ((superblock_fields_at structure.now.bytes.now).file_max ≡ file_size_limit) × ((superblock_fields_at structure.now.bytes.now).attr_max ≡ 1022)) }
 {
     match <&[u8; 24]>::try_from(structure.bytes) {
         Ok(bytes) => {
@@ -55,26 +55,26 @@ fn has_written_limits(structure: &Part<'_>) -> bool
 }
 
 // Returns whether a slot is within the writing profile.
-fn fits_slot(geometry: &Geometry, slot: &Slot<'_>) -> bool
-    requires { (s : ModelSlot) × ((complete (slot_view slot.now) ≡ Some s) × HasSuperblockStruct s) }
-    ensures { (s : ModelSlot) → complete (slot_view slot.now) ≡ Some s → HasSuperblockStruct s → IsTrue result ↔ FitsSlot geometry.now.block_size geometry.now.page s }
+fn is_slot_in_writing_profile(geometry: &Geometry, slot: &Slot<'_>) -> bool
+    requires { (s : ModelSlot) × ((complete (slot_view slot.now) ≡ Some s) × HasSuperblockStructOf24Bytes s) }
+    ensures { (s : ModelSlot) → complete (slot_view slot.now) ≡ Some s → HasSuperblockStructOf24Bytes s → IsTrue result ↔ FitsSlotLimits geometry.now.block_size geometry.now.page s }
 {
     let (Some(name), Some(structure)) = (slot.name, slot.structure) else {
         return false;
     };
     if slot.is_superblock() {
-        return has_written_limits(&structure);
+        return has_limits_of_fresh_superblock(&structure);
     }
-    fits_entry(geometry, &name, &structure, &slot.attributes)
+    is_entry_in_writing_profile(geometry, &name, &structure, &slot.attributes)
 }
 
 // Returns whether all slots are within the writing profile.
-fn fit_all(geometry: &Geometry, slots: &[Slot<'_>]) -> bool
-    requires { (all : List ModelSlot) × ((complete_all (map slot_view slots.now) ≡ Some all) × All HasSuperblockStruct all) }
-    ensures { (all : List ModelSlot) → complete_all (map slot_view slots.now) ≡ Some all → All HasSuperblockStruct all → IsTrue result ↔ All (FitsSlot geometry.now.block_size geometry.now.page) all }
+fn are_slots_in_writing_profile(geometry: &Geometry, slots: &[Slot<'_>]) -> bool
+    requires { (all : List ModelSlot) × ((slots_if_all_complete (map slot_view slots.now) ≡ Some all) × All HasSuperblockStructOf24Bytes all) }
+    ensures { (all : List ModelSlot) → slots_if_all_complete (map slot_view slots.now) ≡ Some all → All HasSuperblockStructOf24Bytes all → IsTrue result ↔ All (FitsSlotLimits geometry.now.block_size geometry.now.page) all }
 {
     for slot in slots {
-        if !fits_slot(geometry, slot) {
+        if !is_slot_in_writing_profile(geometry, slot) {
             return false;
         }
     }
@@ -82,7 +82,7 @@ fn fit_all(geometry: &Geometry, slots: &[Slot<'_>]) -> bool
 }
 
 // Returns whether a pair has a slot, if a hard tail names it.
-fn has_needed_slot(follows: bool, slots: &[Slot<'_>]) -> bool
+fn has_slot_if_after_hard_tail(follows: bool, slots: &[Slot<'_>]) -> bool
     ensures { IsTrue result ↔ (follows ≡ true → ¬ (length slots.now ≡ 0)) }
 {
     !follows || !slots.is_empty()
@@ -90,24 +90,24 @@ fn has_needed_slot(follows: bool, slots: &[Slot<'_>]) -> bool
 
 // Returns whether a pair with that log is within the writing profile. A pair that a hard tail names
 // has a slot.
-fn fits_in_log(
+fn is_log_in_writing_profile(
     alloc: Global,
     geometry: &Geometry,
     log: &Log<'_>,
     follows: bool,
 ) -> Result<bool, Error>
-    requires { (content : ModelContent) × (IsBlockOf log.now content × All HasSuperblockStruct content.slots) }
-    ensures is { (content : ModelContent) → IsBlockOf log.now content → All HasSuperblockStruct content.slots → IfOk result (λ b. IsTrue b ↔ IsPairWritable geometry.now.block_size geometry.now.page follows content) }
+    requires { (content : ModelContent) × (IsLogBlockOfContent log.now content × All HasSuperblockStructOf24Bytes content.slots) }
+    ensures is { (content : ModelContent) → IsLogBlockOfContent log.now content → All HasSuperblockStructOf24Bytes content.slots → IfOk result (λ b. IsTrue b ↔ IsPairInWritingProfile geometry.now.block_size geometry.now.page follows content) }
     ensures errors { IfErr result (λ e. e ≡ Error.NoMemory) }
 {
     let content = Content::read(alloc, log)?;
-    if !has_needed_slot(follows, &content.slots) {
+    if !has_slot_if_after_hard_tail(follows, &content.slots) {
         return Ok(false);
     }
     if !fits(&content, *geometry) {
         return Ok(false);
     }
-    let fit = fit_all(geometry, &content.slots);
+    let fit = are_slots_in_writing_profile(geometry, &content.slots);
     Ok(fit)
 }
 
@@ -121,12 +121,12 @@ fn fits_at<D: BlockDevice>(
 ) -> Result<bool, Error>
     requires works { thread.old.failed ≡ false }
     requires below { index < length thread.old.kept.pairs }
-    requires shaped { All HasSuperblockStruct (pair_in thread.old.kept index).content.slots }
-    ensures is { IfOk result (λ b. IsTrue b ↔ IsPairWritable geometry.now.block_size geometry.now.page follows (pair_in thread.old.kept index).content) }
-    ensures reading { IsReading thread.old thread.new result }
+    requires shaped { All HasSuperblockStructOf24Bytes (kept_pair_at_index thread.old.kept index).content.slots }
+    ensures is { IfOk result (λ b. IsTrue b ↔ IsPairInWritingProfile geometry.now.block_size geometry.now.page follows (kept_pair_at_index thread.old.kept index).content) }
+    ensures reading { OnlyReadsThreadAndReportsErrors thread.old thread.new result }
 {
     thread.load_pair(index)?;
-    fits_in_log(alloc, geometry, &thread.lend(index).unwrap(), follows)
+    is_log_in_writing_profile(alloc, geometry, &thread.lend(index).unwrap(), follows)
 }
 
 /// Returns whether a pair continues the directory of the pair before it. The pairs up to the root's
@@ -134,7 +134,7 @@ fn fits_at<D: BlockDevice>(
 pub fn follows_at<D: BlockDevice>(thread: &Thread<D>, root: usize, index: usize) -> bool
     requires works { thread.now.failed ≡ false }
     requires below { index < length thread.now.kept.pairs }
-    ensures { result ≡ follows_at root thread.now.kept.pairs index }
+    ensures { result ≡ follows_hard_tail_at root thread.now.kept.pairs index }
 {
     index > root && thread.next(index - 1).is_some()
 }
@@ -155,10 +155,10 @@ pub fn is_writable<D: BlockDevice>(
     root: usize,
 ) -> Result<bool, Error>
     requires works { thread.old.failed ≡ false }
-    requires accepted { IsAccepted thread.old.kept.disk thread.old.kept.pairs }
-    requires root { root ≡ superblocks_before thread.old.kept.pairs }
+    requires accepted { IsAcceptedImage thread.old.kept.disk thread.old.kept.pairs }
+    requires root { root ≡ pair_count_before_root thread.old.kept.pairs }
     ensures is { IfOk result (λ b. IsTrue b ↔ IsWritable thread.old.kept.disk thread.old.kept.pairs) }
-    ensures reading { IsReading thread.old thread.new result }
+    ensures reading { OnlyReadsThreadAndReportsErrors thread.old thread.new result }
 {
     let geometry = thread.device().geometry();
     for index in 0..thread.len() {

@@ -2,7 +2,7 @@
 
 ghost use Rattle.std.specs.Prelude.{◌≡◌, true};
 ghost use Rattle.lfs_model.specs.Session.{refuse_if};
-ghost use Rattle.lfs_lookup.specs.Refusals.{error_for, is_refusal, refusal_in};
+ghost use Rattle.lfs_lookup.specs.Refusals.{error_of_refusal, is_refusal, refusal_of_error};
 
 use lfs_device::Error;
 use std::marker::Model;
@@ -17,23 +17,23 @@ pub struct Refusal {
 impl Model for Refusal {
     ghost use Rattle.std.specs.Prelude.{◌≡◌, true};
     ghost use Rattle.lfs_model.specs.Operations as ops;
-    ghost use Rattle.lfs_lookup.specs.Refusals.{error_again, error_for, is_refusal, refusal_in};
+    ghost use Rattle.lfs_lookup.specs.Refusals.{error_refusal_round_trip, error_of_refusal, is_refusal, refusal_of_error};
 
     ghost Value = { ops.Refusal };
 
-    ghost view = { λ r. refusal_in r.error };
+    ghost view = { λ r. refusal_of_error r.error };
 
     ghost invariant = { λ r. is_refusal r.error ≡ true };
 
-    ghost inverse = { λ r. record { error = error_for r } };
+    ghost inverse = { λ r. record { error = error_of_refusal r } };
 
-    ghost inverse_ok = { λ r h. Prim.rw (error_again r.error h) };
+    ghost inverse_ok = { λ r h. Prim.rw (error_refusal_round_trip r.error h) };
 }
 
 impl Refusal {
     /// Returns the error that the refusal is.
     pub fn error(&self) -> Error
-        ensures refusal { refusal_in result ≡ self.now }
+        ensures refusal { refusal_of_error result ≡ self.now }
         ensures is { is_refusal result ≡ true }
     {
         self.error
@@ -43,7 +43,7 @@ impl Refusal {
 /// Returns the refusal that an error is.
 pub fn to_refusal(error: Error) -> Refusal
     requires { is_refusal error ≡ true }
-    ensures { result ≡ refusal_in error }
+    ensures { result ≡ refusal_of_error error }
 {
     Refusal { error }
 }
@@ -51,7 +51,7 @@ pub fn to_refusal(error: Error) -> Refusal
 /// Returns that refusal, if a check fails.
 pub fn refuse_if(is: bool, error: Error) -> Option<Refusal>
     requires { is_refusal error ≡ true }
-    ensures { result ≡ refuse_if is (refusal_in error) }
+    ensures { result ≡ refuse_if is (refusal_of_error error) }
 {
     if is { Some(Refusal { error }) } else { None }
 }

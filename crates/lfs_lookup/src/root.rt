@@ -3,12 +3,12 @@
 ghost use Rattle.std.specs.Prelude.{◌≡◌, ◌≤◌, ◌+◌, ◌<◌, false, length, IfErr, IfOk, IfSome};
 ghost use Rattle.lfs_model.specs.History.{reads};
 ghost use Rattle.lfs_model.specs.Slots.{Content as ModelContent};
-ghost use Rattle.lfs_model.specs.Thread.{starts_with_superblock, superblocks_before};
-ghost use Rattle.lfs_model.specs.View.{IsAccepted};
-ghost use Rattle.lfs_thread.specs.CachedLog.{IsBlockOf};
-ghost use Rattle.lfs_thread.specs.Steps.{pair_in};
-ghost use Rattle.lfs_lookup.specs.Reading.{IsReading};
-ghost use Rattle.lfs_lookup.specs.Root.{IsInChain, IsNextInChain, next_in_chain};
+ghost use Rattle.lfs_model.specs.Thread.{starts_with_superblock, pair_count_before_root};
+ghost use Rattle.lfs_model.specs.View.{IsAcceptedImage};
+ghost use Rattle.lfs_thread.specs.CachedLog.{IsLogBlockOfContent};
+ghost use Rattle.lfs_thread.specs.Steps.{kept_pair_at_index};
+ghost use Rattle.lfs_lookup.specs.Reading.{OnlyReadsThreadAndReportsErrors};
+ghost use Rattle.lfs_lookup.specs.Root.{IsSuperblockInChain, IsNextSuperblockInChain, next_pair_in_superblock_chain};
 
 use lfs_device::{BlockDevice, Error};
 use lfs_tag::{Content, Log};
@@ -17,8 +17,8 @@ use std::alloc::Global;
 
 // Returns whether the first slot of a log is a superblock's.
 fn starts_with_superblock(alloc: Global, log: &Log<'_>) -> Result<bool, Error>
-    requires { (content : ModelContent) × IsBlockOf log.now content }
-    ensures is { (content : ModelContent) → IsBlockOf log.now content → IfOk result (λ b. b ≡ starts_with_superblock content.slots) }
+    requires { (content : ModelContent) × IsLogBlockOfContent log.now content }
+    ensures is { (content : ModelContent) → IsLogBlockOfContent log.now content → IfOk result (λ b. b ≡ starts_with_superblock content.slots) }
     ensures errors { IfErr result (λ e. e ≡ Error.NoMemory) }
 {
     let content = Content::read(alloc, log)?;
@@ -29,16 +29,16 @@ fn starts_with_superblock(alloc: Global, log: &Log<'_>) -> Result<bool, Error>
 }
 
 // Returns whether a pair begins with a superblock.
-fn begins_with_superblock<D: BlockDevice>(
+fn pair_begins_with_superblock<D: BlockDevice>(
     alloc: Global,
     thread: &mut Thread<D>,
     index: usize,
 ) -> Result<bool, Error>
     requires works { thread.old.failed ≡ false }
     requires below { index < length thread.old.kept.pairs }
-    ensures is { IfOk result (λ b. b ≡ starts_with_superblock (pair_in thread.old.kept index).content.slots) }
+    ensures is { IfOk result (λ b. b ≡ starts_with_superblock (kept_pair_at_index thread.old.kept index).content.slots) }
     ensures few { reads thread.new.kept.history ≤ reads thread.old.kept.history + 1 }
-    ensures reading { IsReading thread.old thread.new result }
+    ensures reading { OnlyReadsThreadAndReportsErrors thread.old thread.new result }
 {
     thread.load_pair(index)?;
     starts_with_superblock(alloc, &thread.lend(index).unwrap())
@@ -49,7 +49,7 @@ fn begins_with_superblock<D: BlockDevice>(
 fn next_in_chain<D: BlockDevice>(thread: &Thread<D>, index: usize) -> Option<usize>
     requires works { thread.now.failed ≡ false }
     requires below { index < length thread.now.kept.pairs }
-    ensures next { result ≡ next_in_chain thread.now.kept index }
+    ensures next { result ≡ next_pair_in_superblock_chain thread.now.kept index }
     ensures below { IfSome result (λ next. next < length thread.now.kept.pairs) }
 {
     if thread.slot_count(index) > 1 {
@@ -59,10 +59,10 @@ fn next_in_chain<D: BlockDevice>(thread: &Thread<D>, index: usize) -> Option<usi
 }
 
 // Returns the first pair that has a slot. In an accepted image it begins with a superblock.
-fn first_superblock<D: BlockDevice>(thread: &Thread<D>) -> usize
+fn first_pair_with_superblock<D: BlockDevice>(thread: &Thread<D>) -> usize
     requires works { thread.now.failed ≡ false }
-    requires accepted { IsAccepted thread.now.kept.disk thread.now.kept.pairs }
-    ensures first { IsInChain thread.now.kept result }
+    requires accepted { IsAcceptedImage thread.now.kept.disk thread.now.kept.pairs }
+    ensures first { IsSuperblockInChain thread.now.kept result }
 {
     for index in 0..thread.len() {
         if thread.slot_count(index) > 0 {
@@ -74,23 +74,23 @@ fn first_superblock<D: BlockDevice>(thread: &Thread<D>) -> usize
 
 // Returns the next pair of the chain that has a superblock, after one that has. Returns None where
 // the root begins at that one.
-fn next_superblock<D: BlockDevice>(
+fn next_pair_with_superblock<D: BlockDevice>(
     alloc: Global,
     thread: &mut Thread<D>,
     superblock: usize,
 ) -> Result<Option<usize>, Error>
     requires works { thread.old.failed ≡ false }
-    requires chained { IsInChain thread.old.kept superblock }
-    ensures next { IfOk result (λ next. IsNextInChain thread.old.kept superblock next) }
+    requires chained { IsSuperblockInChain thread.old.kept superblock }
+    ensures next { IfOk result (λ next. IsNextSuperblockInChain thread.old.kept superblock next) }
     ensures few { reads thread.new.kept.history ≤ reads thread.old.kept.history + 1 }
-    ensures reading { IsReading thread.old thread.new result }
+    ensures reading { OnlyReadsThreadAndReportsErrors thread.old thread.new result }
 {
     for index in superblock..thread.len() {
         let Some(next) = next_in_chain(thread, index) else {
             return Ok(None);
         };
         if thread.slot_count(next) > 0 {
-            if !begins_with_superblock(alloc, thread, next)? {
+            if !pair_begins_with_superblock(alloc, thread, next)? {
                 return Ok(None);
             }
             return Ok(Some(next));
@@ -109,13 +109,13 @@ fn next_superblock<D: BlockDevice>(
 /// granted.
 pub fn find_root<D: BlockDevice>(alloc: Global, thread: &mut Thread<D>) -> Result<usize, Error>
     requires works { thread.old.failed ≡ false }
-    requires accepted { IsAccepted thread.old.kept.disk thread.old.kept.pairs }
-    ensures root { IfOk result (λ root. root ≡ superblocks_before thread.old.kept.pairs) }
+    requires accepted { IsAcceptedImage thread.old.kept.disk thread.old.kept.pairs }
+    ensures root { IfOk result (λ root. root ≡ pair_count_before_root thread.old.kept.pairs) }
     ensures few { IfOk result (λ root. reads thread.new.kept.history ≤ reads thread.old.kept.history + root + 1) }
-    ensures reading { IsReading thread.old thread.new result }
+    ensures reading { OnlyReadsThreadAndReportsErrors thread.old thread.new result }
 {
-    let mut root = first_superblock(thread);
-    while let Some(next) = next_superblock(alloc, thread, root)? {
+    let mut root = first_pair_with_superblock(thread);
+    while let Some(next) = next_pair_with_superblock(alloc, thread, root)? {
         root = next;
     }
     Ok(root)

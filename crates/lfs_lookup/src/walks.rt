@@ -2,18 +2,18 @@
 
 ghost use Rattle.std.specs.Prelude.{◌≡◌, ◌++◌, ◌<◌, IfOk, OnOk, false, length, reverse};
 ghost use Rattle.lfs_model.specs.Thread.{gstate_of};
-ghost use Rattle.lfs_model.specs.View.{IsAccepted};
+ghost use Rattle.lfs_model.specs.View.{IsAcceptedImage};
 ghost use Rattle.lfs_tag.specs.FieldsView.{move_view};
 ghost use Rattle.lfs_lookup.specs.Items.{item_view, items_view, structure_view};
-ghost use Rattle.lfs_lookup.specs.Reading.{IsReading};
-ghost use Rattle.lfs_lookup.specs.Walk.{ArePushed, ArePushedFrom, BeginsIfBranch, IsWalked, addresses_in, place_beneath, tree_item_view, tree_items_view, places_beneath};
+ghost use Rattle.lfs_lookup.specs.Reading.{OnlyReadsThreadAndReportsErrors};
+ghost use Rattle.lfs_lookup.specs.Walk.{AreEntriesOfWalkedPushed, AreDirectoryEntriesPushed, HasFirstPairInThreadIfBranch, ArePathsAndStructsOfWalk, addresses_of_thread_pairs, walked_entry_beneath, tree_item_view, tree_items_view, walked_entries_beneath};
 
-use crate::addresses::addresses_of;
-use crate::directory::entries_under;
-use crate::items::{Item, Structure, sort_by_name};
+use crate::addresses::pair_addresses_of_thread;
+use crate::directory::directory_items_under_gstate;
+use crate::items::{NameAndOwnedStruct, OwnedStruct, sort_by_name};
 use lfs_device::{BlockDevice, Error};
 use lfs_tag::MoveState;
-use lfs_thread::{Places, Thread};
+use lfs_thread::{PairAddressList, Thread};
 use std::alloc::{AllocError, Global};
 
 /// A file or a directory of the tree.
@@ -22,12 +22,16 @@ pub struct TreeItem {
     /// Its path from the root: a `/` before each name.
     pub path: Vec<u8>,
     /// Its struct.
-    pub structure: Structure,
+    pub structure: OwnedStruct,
 }
 
 // Returns the tree's entry of an item in the directory at a path.
-fn found_beneath(alloc: Global, path: &[u8], item: Item) -> Result<TreeItem, AllocError>
-    ensures { IfOk result (λ found. tree_item_view found ≡ place_beneath path.now (item_view item)) }
+fn tree_item_beneath_path(
+    alloc: Global,
+    path: &[u8],
+    item: NameAndOwnedStruct,
+) -> Result<TreeItem, AllocError>
+    ensures { IfOk result (λ found. tree_item_view found ≡ walked_entry_beneath path.now (item_view item)) }
 {
     let mut below = Vec::from_slice(alloc, path)?;
     below.push(b'/')?;
@@ -43,12 +47,12 @@ fn push_items(
     alloc: Global,
     pending: &mut Vec<TreeItem>,
     path: &[u8],
-    mut items: Vec<Item>,
+    mut items: Vec<NameAndOwnedStruct>,
 ) -> Result<(), AllocError>
-    ensures { OnOk result (tree_items_view pending.new.items ≡ tree_items_view pending.old.items ++ reverse (places_beneath path.now (items_view items.items))) }
+    ensures { OnOk result (tree_items_view pending.new.items ≡ tree_items_view pending.old.items ++ reverse (walked_entries_beneath path.now (items_view items.items))) }
 {
     while let Some(item) = items.pop() {
-        let found = found_beneath(alloc, path, item)?;
+        let found = tree_item_beneath_path(alloc, path, item)?;
         pending.push(found)?;
     }
     Ok(())
@@ -56,7 +60,7 @@ fn push_items(
 
 // Puts the entries of the directory that begins with the pair of number `first` on top, in name
 // order.
-fn push_directory<D: BlockDevice>(
+fn push_items_of_directory<D: BlockDevice>(
     alloc: Global,
     thread: &mut Thread<D>,
     state: &MoveState,
@@ -67,34 +71,34 @@ fn push_directory<D: BlockDevice>(
     requires works { thread.old.failed ≡ false }
     requires below { first < length thread.old.kept.pairs }
     requires state { move_view state.now ≡ gstate_of thread.old.kept.pairs }
-    ensures pushed { OnOk result (ArePushedFrom thread.old.kept.pairs path.now first (tree_items_view pending.old.items) (tree_items_view pending.new.items)) }
-    ensures reading { IsReading thread.old thread.new result }
+    ensures pushed { OnOk result (AreDirectoryEntriesPushed thread.old.kept.pairs path.now first (tree_items_view pending.old.items) (tree_items_view pending.new.items)) }
+    ensures reading { OnlyReadsThreadAndReportsErrors thread.old thread.new result }
 {
-    let mut items = entries_under(alloc, thread, state, first)?;
+    let mut items = directory_items_under_gstate(alloc, thread, state, first)?;
     sort_by_name(&mut items);
     push_items(alloc, pending, path, items)?;
     Ok(())
 }
 
 // Puts the entries of a directory on top; a file has none.
-fn push_below<D: BlockDevice>(
+fn push_items_below_entry<D: BlockDevice>(
     alloc: Global,
     thread: &mut Thread<D>,
-    addresses: &Places,
+    addresses: &PairAddressList,
     state: &MoveState,
     found: &TreeItem,
     pending: &mut Vec<TreeItem>,
 ) -> Result<(), Error>
     requires works { thread.old.failed ≡ false }
-    requires all { addresses.now ≡ addresses_in thread.old.kept.pairs }
-    requires begins { BeginsIfBranch thread.old.kept.pairs (structure_view found.now.structure) }
+    requires all { addresses.now ≡ addresses_of_thread_pairs thread.old.kept.pairs }
+    requires begins { HasFirstPairInThreadIfBranch thread.old.kept.pairs (structure_view found.now.structure) }
     requires state { move_view state.now ≡ gstate_of thread.old.kept.pairs }
-    ensures pushed { OnOk result (ArePushed thread.old.kept.pairs (tree_item_view found.now) (tree_items_view pending.old.items) (tree_items_view pending.new.items)) }
-    ensures reading { IsReading thread.old thread.new result }
+    ensures pushed { OnOk result (AreEntriesOfWalkedPushed thread.old.kept.pairs (tree_item_view found.now) (tree_items_view pending.old.items) (tree_items_view pending.new.items)) }
+    ensures reading { OnlyReadsThreadAndReportsErrors thread.old thread.new result }
 {
-    if let Structure::Branch(to) = found.structure {
+    if let OwnedStruct::Branch(to) = found.structure {
         let first = addresses.find(to).unwrap() as usize;
-        push_directory(alloc, thread, state, first, &found.path, pending)?;
+        push_items_of_directory(alloc, thread, state, first, &found.path, pending)?;
     }
     Ok(())
 }
@@ -106,18 +110,18 @@ fn push_below<D: BlockDevice>(
 /// isn't granted.
 pub fn walk<D: BlockDevice>(alloc: Global, thread: &mut Thread<D>) -> Result<Vec<TreeItem>, Error>
     requires works { thread.old.failed ≡ false }
-    requires accepted { IsAccepted thread.old.kept.disk thread.old.kept.pairs }
-    ensures walked { IfOk result (λ found. IsWalked thread.old.kept.disk thread.old.kept.pairs (tree_items_view found.items)) }
-    ensures reading { IsReading thread.old thread.new result }
+    requires accepted { IsAcceptedImage thread.old.kept.disk thread.old.kept.pairs }
+    ensures walked { IfOk result (λ found. ArePathsAndStructsOfWalk thread.old.kept.disk thread.old.kept.pairs (tree_items_view found.items)) }
+    ensures reading { OnlyReadsThreadAndReportsErrors thread.old thread.new result }
 {
     let state = thread.state();
-    let addresses = addresses_of(alloc, thread)?;
+    let addresses = pair_addresses_of_thread(alloc, thread)?;
     let mut walked = Vec::new(alloc);
     let mut pending = Vec::new(alloc);
     // The pairs of the superblock's chain, which may come before the root, have no entries.
-    push_directory(alloc, thread, &state, 0, b"", &mut pending)?;
+    push_items_of_directory(alloc, thread, &state, 0, b"", &mut pending)?;
     while let Some(found) = pending.pop() {
-        push_below(alloc, thread, &addresses, &state, &found, &mut pending)?;
+        push_items_below_entry(alloc, thread, &addresses, &state, &found, &mut pending)?;
         walked.push(found)?;
     }
     Ok(walked)

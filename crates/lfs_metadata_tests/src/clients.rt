@@ -2,17 +2,17 @@
 
 ghost use Rattle.std.specs.Prelude.{◌≡◌, ◌<◌, false, true, [], ◌∷◌, IfErr, IfOk, OnOk, Some};
 ghost use Rattle.std.specs.Option.{option_map};
-ghost use Rattle.lfs_device.specs.Shown.{disk_of};
+ghost use Rattle.lfs_device.specs.Shown.{disk_of_geometry_and_blocks};
 ghost use Rattle.lfs_model.specs.Changes.{PutTail};
-ghost use Rattle.lfs_model.specs.FailedCalls.{FailAsStopped, HasFailedWith};
-ghost use Rattle.lfs_model.specs.History.{EachSince};
-ghost use Rattle.lfs_model.specs.Slots.{address_of};
-ghost use Rattle.lfs_model.specs.Stops.{ErasesCleanly};
+ghost use Rattle.lfs_model.specs.FailedCalls.{AreFailedCallsSinceLikeStops, IsLeftByFailedNewestCall};
+ghost use Rattle.lfs_model.specs.History.{IsTrueOfEachCallSince};
+ghost use Rattle.lfs_model.specs.Slots.{pair_address_of_array};
+ghost use Rattle.lfs_model.specs.Stops.{LeavesNoNewLogIfErase};
 ghost use Rattle.lfs_tag.specs.ContentView.{tail_view};
 ghost use Rattle.lfs_pair.specs.ChangeView.{changes_view};
-ghost use Rattle.lfs_pair.specs.Commit.{CanCommit, Commits, LeftByChange};
-ghost use Rattle.lfs_pair.specs.Pair.{address_in};
-ghost use Rattle.lfs_pair.specs.Split.{CanSplit};
+ghost use Rattle.lfs_pair.specs.Commit.{CanCommit, Commits, LeavesOldOrChangedContent};
+ghost use Rattle.lfs_pair.specs.Pair.{address_of_header};
+ghost use Rattle.lfs_pair.specs.Split.{CanSplitPair};
 
 use lfs_device::{BlockDevice, Error};
 use lfs_pair::{Change, Outcome, Pair, commit, split};
@@ -28,12 +28,12 @@ pub fn commit_or_stop<D: BlockDevice>(
     pair: &mut Pair,
     changes: &[Change<'_>],
 ) -> Result<(), Error>
-    requires { CanCommit (disk_of (D.geometry dev.old) (D.blocks dev.old)) (D.history dev.old) pair.old (changes_view changes.now) }
-    ensures done { OnOk result (Commits (disk_of (D.geometry dev.old) (D.blocks dev.old)) (D.history dev.old) (changes_view changes.now) pair.old
-        (disk_of (D.geometry dev.new) (D.blocks dev.new)) (D.history dev.new) pair.new) }
-    ensures left { result ≡ Err Error.Io → EachSince ErasesCleanly (D.history dev.old) (D.history dev.new) → FailAsStopped (D.history dev.old) (D.history dev.new)
-        → HasFailedWith (D.history dev.new) (D.blocks dev.new)
-        → LeftByChange (disk_of (D.geometry dev.old) (D.blocks dev.old)) (address_in pair.old) (changes_view changes.now) (D.blocks dev.new) }
+    requires { CanCommit (disk_of_geometry_and_blocks (D.geometry dev.old) (D.blocks dev.old)) (D.history dev.old) pair.old (changes_view changes.now) }
+    ensures done { OnOk result (Commits (disk_of_geometry_and_blocks (D.geometry dev.old) (D.blocks dev.old)) (D.history dev.old) (changes_view changes.now) pair.old
+        (disk_of_geometry_and_blocks (D.geometry dev.new) (D.blocks dev.new)) (D.history dev.new) pair.new) }
+    ensures left { result ≡ Err Error.Io → IsTrueOfEachCallSince LeavesNoNewLogIfErase (D.history dev.old) (D.history dev.new) → AreFailedCallsSinceLikeStops (D.history dev.old) (D.history dev.new)
+        → IsLeftByFailedNewestCall (D.history dev.new) (D.blocks dev.new)
+        → LeavesOldOrChangedContent (disk_of_geometry_and_blocks (D.geometry dev.old) (D.blocks dev.old)) (address_of_header pair.old) (changes_view changes.now) (D.blocks dev.new) }
 {
     match commit(alloc, dev, pair, changes) {
         Ok(Outcome::Done) => Ok(()),
@@ -53,11 +53,11 @@ pub fn split_before<D: BlockDevice>(
     fresh: [u32; 2],
     next: [u32; 2],
 ) -> Result<Pair, Error>
-    requires can { CanSplit (disk_of (D.geometry dev.old) (D.blocks dev.old)) (D.history dev.old) pair.old (address_of fresh) (PutTail false (Some (address_of next)) ∷ []) }
-    requires first { (address_of next).0 < (D.geometry dev.old).block_count }
-    requires second { (address_of next).1 < (D.geometry dev.old).block_count }
-    ensures front { OnOk result (option_map tail_view pair.new.tail ≡ Some (record { hard = true; to = address_of fresh })) }
-    ensures back { IfOk result (λ fresh_pair. option_map tail_view fresh_pair.tail ≡ Some (record { hard = false; to = address_of next })) }
+    requires can { CanSplitPair (disk_of_geometry_and_blocks (D.geometry dev.old) (D.blocks dev.old)) (D.history dev.old) pair.old (pair_address_of_array fresh) (PutTail false (Some (pair_address_of_array next)) ∷ []) }
+    requires first { (pair_address_of_array next).0 < (D.geometry dev.old).block_count }
+    requires second { (pair_address_of_array next).1 < (D.geometry dev.old).block_count }
+    ensures front { OnOk result (option_map tail_view pair.new.tail ≡ Some (record { hard = true; to = pair_address_of_array fresh })) }
+    ensures back { IfOk result (λ fresh_pair. option_map tail_view fresh_pair.tail ≡ Some (record { hard = false; to = pair_address_of_array next })) }
 {
     let changes = [Change::Tail {
         hard: false,

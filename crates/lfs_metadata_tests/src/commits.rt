@@ -1,7 +1,7 @@
 // Commits, byte for byte.
 
 ghost use Rattle.std.specs.Prelude.{◌≡◌, true};
-ghost use Rattle.lfs_model.specs.Geometry.{is_page};
+ghost use Rattle.lfs_model.specs.Geometry.{is_valid_page_size};
 
 use crate::blocks::{FRESH, SHIFTING, block_of};
 use lfs_device::Error;
@@ -56,7 +56,7 @@ fn build_commit<'a>(
     entries: Entries<'_>,
     next: Option<[u8; 4]>,
 ) -> (u32, Result<&'a [u8], Error>)
-    requires { is_page page ≡ true }
+    requires { is_valid_page_size page ≡ true }
 {
     let mut builder = CommitBuilder::new(page, buf, previous, revision);
     for (kind, id, bytes) in entries {

@@ -5,7 +5,7 @@ ghost use Rattle.lfs_device.specs.RamDevice.{geometry_of};
 
 use crate::images::{Entries, block};
 use lfs_device::{Error, FaultDevice, Geometry, RamDevice, Which};
-use lfs_pair::{Change, Pair, apply_all, fetch, fits};
+use lfs_pair::{Change, Pair, apply_all_changes, fetch, fits};
 use lfs_tag::kinds::{CREATE, FILE_NAME, HARD_TAIL, INLINE_STRUCT, MOVE_STATE, SUPERBLOCK_NAME};
 use lfs_tag::{Content, ContentError, Log, MoveState, Tail};
 use std::alloc::Global;
@@ -173,7 +173,7 @@ fn changes_are_made_in_order(rt: HostRuntime) -> Result<(), Fail> {
     let block = block(alloc, 1024, 128, 0xff, 1, COMPLETE)?;
     let log = Log::read(&block);
     let mut content = Content::read(alloc, &log)?;
-    apply_all(alloc, &mut content, &CHANGES)?;
+    apply_all_changes(alloc, &mut content, &CHANGES)?;
     let attributes = content.slots.get(1).map(|slot| slot.attributes.len());
     assert_eq!(rt;
         (
@@ -185,7 +185,7 @@ fn changes_are_made_in_order(rt: HostRuntime) -> Result<(), Fail> {
         ),
         (2, Some(1), None, false, true)
     );
-    let refusal = apply_all(alloc, &mut content, &[Change::Delete { id: 2 }]).err();
+    let refusal = apply_all_changes(alloc, &mut content, &[Change::Delete { id: 2 }]).err();
     assert_eq!(rt; refusal, Some(ContentError::Malformed));
     Ok(())
 }

@@ -1,7 +1,7 @@
 // Blocks with one commit, and devices with one such block.
 
 ghost use Rattle.std.specs.Prelude.{◌≡◌, true};
-ghost use Rattle.lfs_model.specs.Geometry.{is_page};
+ghost use Rattle.lfs_model.specs.Geometry.{is_valid_page_size};
 
 use lfs_device::{Error, Geometry, RamDevice};
 use lfs_tag::kinds::{FILE_NAME, INLINE_STRUCT};
@@ -23,7 +23,7 @@ pub fn block(
     revision: u32,
     entries: Entries<'_>,
 ) -> Result<Vec<u8>, Error>
-    requires { is_page page ≡ true }
+    requires { is_valid_page_size page ≡ true }
 {
     let mut block = Vec::from_elem(alloc, byte, size)?;
     let first = Tag::from_bits(0xffff_ffff);

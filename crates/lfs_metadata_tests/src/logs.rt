@@ -5,9 +5,9 @@ use lfs_tag::{Entries, Log, crc};
 use std::test::Fail;
 
 // Where a block's log ends, its revision and its last tag.
-type Told = (usize, u32, u32);
+type LogFacts = (usize, u32, u32);
 
-fn log_facts(block: &[u8]) -> Told {
+fn log_facts(block: &[u8]) -> LogFacts {
     let log = Log::read(block);
     (log.end(), log.revision(), log.last().bits())
 }
@@ -37,7 +37,7 @@ const NO_FORWARD: [&[u8]; 2] = [
 
 const REVISION: [&[u8]; 1] = [&[7, 0, 0, 1]];
 
-const NO_LOG: Told = (4, 1, 0xffff_ffff);
+const NO_LOG: LogFacts = (4, 1, 0xffff_ffff);
 
 // Commits in a block of that size, each from a page on, with one byte altered, and the first bytes
 // of it as many as are read. A byte past the end alters none.

@@ -3,25 +3,25 @@
 
 ghost use Rattle.std.specs.Prelude.{◌≡◌, true, false, IfOk, IsTrue, is_some, map};
 ghost use Rattle.std.specs.Option.{option_map};
-ghost use Rattle.lfs_model.specs.Content.{complete_all};
+ghost use Rattle.lfs_model.specs.Content.{slots_if_all_complete};
 ghost use Rattle.lfs_model.specs.Cut.{CanBeCut};
-ghost use Rattle.lfs_model.specs.Slots.{address_of};
-ghost use Rattle.lfs_model.specs.Thread.{next_of};
+ghost use Rattle.lfs_model.specs.Slots.{pair_address_of_array};
+ghost use Rattle.lfs_model.specs.Thread.{pair_named_by_tail};
 ghost use Rattle.lfs_tag.specs.ContentView.{content_view, slot_view, tail_view};
 ghost use Rattle.lfs_pair.specs.ChangeView.{changes_view};
-ghost use Rattle.lfs_thread.specs.Steps.{IsOnlyRead};
-ghost use Rattle.lfs_metadata_tests.specs.Look.{IsMadeIn, IsLookIn, IsLookAt};
+ghost use Rattle.lfs_thread.specs.Steps.{IsThreadOnlyRead};
+ghost use Rattle.lfs_metadata_tests.specs.Look.{IsContentOfBlockAfterChanges, IsPreviewOfBlockChanges, IsPreviewOfPairChanges};
 
 use crate::storable::are_storable;
 use lfs_device::{BlockDevice, Error, Geometry};
-use lfs_pair::{Change, apply_all, fits};
+use lfs_pair::{Change, apply_all_changes, fits};
 use lfs_tag::{Content, Log, MoveState, Slot, Tail};
 use lfs_thread::Thread;
 use std::alloc::Global;
 
 /// What changes make of a pair.
 #[derive(Clone, Copy, Drop)]
-pub struct Look {
+pub struct ChangePreview {
     /// The address that its tail names.
     pub now: Option<[u32; 2]>,
     /// The address that its tail names then.
@@ -32,7 +32,7 @@ pub struct Look {
 
 // Whether each of these slots has a name and a struct.
 fn are_complete(slots: &[Slot<'_>]) -> bool
-    ensures { result ≡ is_some (complete_all (map slot_view slots.now)) }
+    ensures { result ≡ is_some (slots_if_all_complete (map slot_view slots.now)) }
 {
     for slot in slots {
         if slot.name.is_none() || slot.structure.is_none() {
@@ -49,13 +49,13 @@ fn make_content<'a, 'b: 'a>(
     log: &Log<'a>,
     changes: &[Change<'b>],
 ) -> Result<Content<'a>, Error>
-    ensures { IfOk result (λ content. IsMadeIn log.now (changes_view changes.now) (content_view content)) }
+    ensures { IfOk result (λ content. IsContentOfBlockAfterChanges log.now (changes_view changes.now) (content_view content)) }
 {
     if !are_storable(changes) {
         return Err(Error::Invalid);
     }
     let mut content = Content::read(alloc, log)?;
-    apply_all(alloc, &mut content, changes)?;
+    apply_all_changes(alloc, &mut content, changes)?;
     if !are_complete(&content.slots) {
         return Err(Error::Invalid);
     }
@@ -64,7 +64,7 @@ fn make_content<'a, 'b: 'a>(
 
 // The address that a tail names.
 fn address_of_tail(tail: &Option<Tail>) -> Option<[u32; 2]>
-    ensures { option_map address_of result ≡ next_of (option_map tail_view tail.now) }
+    ensures { option_map pair_address_of_array result ≡ pair_named_by_tail (option_map tail_view tail.now) }
 {
     match tail {
         None => None,
@@ -96,15 +96,15 @@ fn look_in<'a, 'b: 'a>(
     log: &Log<'a>,
     changes: &[Change<'b>],
     geometry: Geometry,
-) -> Result<Look, Error>
-    ensures { IfOk result (λ look. IsLookIn log.now (changes_view changes.now) geometry.block_size geometry.page look.now look.next look.can_be_cut) }
+) -> Result<ChangePreview, Error>
+    ensures { IfOk result (λ look. IsPreviewOfBlockChanges log.now (changes_view changes.now) geometry.block_size geometry.page look.now look.next look.can_be_cut) }
 {
     let was = make_content(alloc, log, &[])?;
     let content = make_content(alloc, log, changes)?;
     let now = address_of_tail(&was.tail);
     let next = address_of_tail(&content.tail);
     let can_be_cut = can_be_halved(content, geometry)?;
-    Ok(Look {
+    Ok(ChangePreview {
         now,
         next,
         can_be_cut,
@@ -118,10 +118,10 @@ pub fn look_at<D: BlockDevice>(
     thread: &mut Thread<D>,
     index: usize,
     changes: &[Change<'_>],
-) -> Result<Look, Error>
+) -> Result<ChangePreview, Error>
     requires { thread.old.failed ≡ false }
-    ensures look { IfOk result (λ look. IsLookAt thread.new.kept index (changes_view changes.now) look.now look.next look.can_be_cut) }
-    ensures only { IsOnlyRead thread.old.kept thread.new.kept }
+    ensures look { IfOk result (λ look. IsPreviewOfPairChanges thread.new.kept index (changes_view changes.now) look.now look.next look.can_be_cut) }
+    ensures only { IsThreadOnlyRead thread.old.kept thread.new.kept }
     ensures works { thread.new.failed ≡ false }
 {
     if index >= thread.len() {

@@ -11,78 +11,78 @@ use std::alloc::Global;
 use std::test::Fail;
 
 // What may stand in a pair: its type, id and bytes.
-type Item = (u16, u16, &'static [u8]);
+type TypedBytes = (u16, u16, &'static [u8]);
 
-const NAME: Item = (SUPERBLOCK_NAME, 0, b"littlefs");
+const NAME: TypedBytes = (SUPERBLOCK_NAME, 0, b"littlefs");
 
 // Version 2.0, 16 blocks of 1,024 bytes, and the limits 255, 2,147,483,647 and 1,022.
-const FIELDS: Item = (
+const FIELDS: TypedBytes = (
     INLINE_STRUCT,
     0,
     b"\x00\x00\x02\x00\x00\x04\x00\x00\x10\x00\x00\x00\xff\x00\x00\x00\xff\xff\xff\x7f\xfe\x03\x00\x00",
 );
 
 // The same with a longest name of 254 bytes.
-const OTHER_FIELDS: Item = (
+const OTHER_FIELDS: TypedBytes = (
     INLINE_STRUCT,
     0,
     b"\x00\x00\x02\x00\x00\x04\x00\x00\x10\x00\x00\x00\xfe\x00\x00\x00\xff\xff\xff\x7f\xfe\x03\x00\x00",
 );
 
 // The same with 17 blocks.
-const OTHER_SIZE: Item = (
+const OTHER_SIZE: TypedBytes = (
     INLINE_STRUCT,
     0,
     b"\x00\x00\x02\x00\x00\x04\x00\x00\x11\x00\x00\x00\xff\x00\x00\x00\xff\xff\xff\x7f\xfe\x03\x00\x00",
 );
 
 // A tail to {2, 3}.
-const NEXT: Item = (SOFT_TAIL, 0x3ff, b"\x02\x00\x00\x00\x03\x00\x00\x00");
+const NEXT: TypedBytes = (SOFT_TAIL, 0x3ff, b"\x02\x00\x00\x00\x03\x00\x00\x00");
 
-const GOES_ON: Item = (HARD_TAIL, 0x3ff, b"\x02\x00\x00\x00\x03\x00\x00\x00");
+const GOES_ON: TypedBytes = (HARD_TAIL, 0x3ff, b"\x02\x00\x00\x00\x03\x00\x00\x00");
 
 // A directory at {2, 3}, as id 1 and 2.
-const DIRECTORY: Item = (DIRECTORY_NAME, 1, b"d");
+const DIRECTORY: TypedBytes = (DIRECTORY_NAME, 1, b"d");
 
-const DIRECTORY_AT: Item = (DIRECTORY_STRUCT, 1, b"\x02\x00\x00\x00\x03\x00\x00\x00");
+const DIRECTORY_AT: TypedBytes = (DIRECTORY_STRUCT, 1, b"\x02\x00\x00\x00\x03\x00\x00\x00");
 
-const TWIN: Item = (DIRECTORY_NAME, 2, b"e");
+const TWIN: TypedBytes = (DIRECTORY_NAME, 2, b"e");
 
-const TWIN_AT: Item = (DIRECTORY_STRUCT, 2, b"\x03\x00\x00\x00\x02\x00\x00\x00");
+const TWIN_AT: TypedBytes = (DIRECTORY_STRUCT, 2, b"\x03\x00\x00\x00\x02\x00\x00\x00");
 
 // A file of 1,025 bytes, whose last block is block 4, as id 0 and 1.
-const FIRST: Item = (FILE_NAME, 0, b"f");
+const FIRST: TypedBytes = (FILE_NAME, 0, b"f");
 
-const FIRST_AT: Item = (CTZ_STRUCT, 0, b"\x04\x00\x00\x00\x01\x04\x00\x00");
+const FIRST_AT: TypedBytes = (CTZ_STRUCT, 0, b"\x04\x00\x00\x00\x01\x04\x00\x00");
 
-const FILE: Item = (FILE_NAME, 1, b"f");
+const FILE: TypedBytes = (FILE_NAME, 1, b"f");
 
-const FILE_AT: Item = (CTZ_STRUCT, 1, b"\x04\x00\x00\x00\x01\x04\x00\x00");
+const FILE_AT: TypedBytes = (CTZ_STRUCT, 1, b"\x04\x00\x00\x00\x01\x04\x00\x00");
 
 // A file of a byte in block 5, as id 2.
-const SHARING: Item = (FILE_NAME, 2, b"g");
+const SHARING: TypedBytes = (FILE_NAME, 2, b"g");
 
-const SHARING_AT: Item = (CTZ_STRUCT, 2, b"\x05\x00\x00\x00\x01\x00\x00\x00");
+const SHARING_AT: TypedBytes = (CTZ_STRUCT, 2, b"\x05\x00\x00\x00\x01\x00\x00\x00");
 
 // An empty file whose name comes before the others, as id 2.
-const EARLY: Item = (FILE_NAME, 2, b"a");
+const EARLY: TypedBytes = (FILE_NAME, 2, b"a");
 
-const EARLY_AT: Item = (INLINE_STRUCT, 2, b"");
+const EARLY_AT: TypedBytes = (INLINE_STRUCT, 2, b"");
 
 // A move of id 1 and of id 2 of {0, 1}.
-const MOVE: Item = (
+const MOVE: TypedBytes = (
     MOVE_STATE,
     0x3ff,
     b"\x00\x04\xf0\x4f\x01\x00\x00\x00\x00\x00\x00\x00",
 );
 
-const MOVE_OF_NONE: Item = (
+const MOVE_OF_NONE: TypedBytes = (
     MOVE_STATE,
     0x3ff,
     b"\x00\x08\xf0\x4f\x00\x00\x00\x00\x01\x00\x00\x00",
 );
 
-const SYNC: Item = (
+const SYNC: TypedBytes = (
     MOVE_STATE,
     0x3ff,
     b"\x00\x00\x00\x80\x00\x00\x00\x00\x00\x00\x00\x00",
@@ -106,9 +106,9 @@ pub fn used_after_mount(alloc: Global, first: &[u8], third: &[u8], nth: u64) -> 
 }
 
 // What stands in the pair {0, 1}, and in {2, 3} if there is one.
-type Image = (Entries<'static>, Option<Entries<'static>>);
+type EntriesOfPairs = (Entries<'static>, Option<Entries<'static>>);
 
-fn used_on_image(alloc: Global, image: Image, nth: u64) -> Result<u32, Error> {
+fn used_on_image(alloc: Global, image: EntriesOfPairs, nth: u64) -> Result<u32, Error> {
     let first = block(alloc, 1024, 128, 0xff, 1, image.0)?;
     let third = match image.1 {
         Some(entries) => block(alloc, 1024, 128, 0xff, 1, entries)?,
@@ -119,7 +119,7 @@ fn used_on_image(alloc: Global, image: Image, nth: u64) -> Result<u32, Error> {
 
 const CORRUPT: Result<u32, Error> = Err(Error::Corrupt);
 
-const IMAGES: [(Image, Result<u32, Error>); 16] = [
+const IMAGES: [(EntriesOfPairs, Result<u32, Error>); 16] = [
     ((&[NAME, FIELDS], None), Ok(2)),
     ((&[NAME, FIELDS, FILE, FILE_AT], None), Ok(4)),
     (
@@ -168,7 +168,7 @@ const IMAGES: [(Image, Result<u32, Error>); 16] = [
     ),
 ];
 
-const READ: Image = (
+const READ: EntriesOfPairs = (
     &[NAME, FIELDS, DIRECTORY, DIRECTORY_AT, NEXT],
     Some(&[FIRST, FIRST_AT]),
 );

@@ -5,7 +5,7 @@ ghost use Rattle.std.specs.Prelude.{◌≡◌, false};
 
 use crate::images::{Entries, device};
 use crate::scripts::{Line, SCRIPT, rows_of, run, small};
-use crate::steps::{Step, carry_out};
+use crate::steps::{ThreadAction, carry_out};
 use lfs_device::{BlockDevice, Erased, Error, FaultDevice, Geometry, RamDevice, Which};
 use lfs_pair::{Change, Outcome};
 use lfs_tag::kinds::{FILE_NAME, INLINE_STRUCT, SUPERBLOCK_NAME};
@@ -25,7 +25,7 @@ const ATTRIBUTE: [Change<'static>; 1] = [Change::Attr {
     bytes: b"x",
 }];
 
-const COMMITS: [Line; 17] = [(Step::Change(0, &ATTRIBUTE), Outcome::Done, &[]); 17];
+const COMMITS: [Line; 17] = [(ThreadAction::Change(0, &ATTRIBUTE), Outcome::Done, &[]); 17];
 
 // The first commit behind a mount erases the other block. 15 fill its other pages, and the next one
 // erases again. Both blocks are read once for the thread. Before each commit the pair's block is
@@ -120,31 +120,51 @@ const NO_TAIL: [Change<'static>; 1] = [Change::Tail {
 // 40 + 3 * 208 bytes fit the 857 of a pair, and 40 + 4 * 208 don't. The superblock and one file stay
 // in the first pair.
 const FOUR_FILES: &[Line] = &[
-    (Step::Change(0, &FIRST), Outcome::Done, &[([0, 1], 2)]),
-    (Step::Change(0, &SECOND), Outcome::Done, &[([0, 1], 3)]),
-    (Step::Change(0, &THIRD), Outcome::Done, &[([0, 1], 4)]),
-    (Step::Change(0, &FOURTH), Outcome::Full, &[([0, 1], 4)]),
     (
-        Step::Split(0, &FOURTH),
+        ThreadAction::Change(0, &FIRST),
+        Outcome::Done,
+        &[([0, 1], 2)],
+    ),
+    (
+        ThreadAction::Change(0, &SECOND),
+        Outcome::Done,
+        &[([0, 1], 3)],
+    ),
+    (
+        ThreadAction::Change(0, &THIRD),
+        Outcome::Done,
+        &[([0, 1], 4)],
+    ),
+    (
+        ThreadAction::Change(0, &FOURTH),
+        Outcome::Full,
+        &[([0, 1], 4)],
+    ),
+    (
+        ThreadAction::Split(0, &FOURTH),
         Outcome::Done,
         &[([0, 1], 2), ([2, 3], 3)],
     ),
     (
-        Step::Change(0, &NO_SECOND),
+        ThreadAction::Change(0, &NO_SECOND),
         Outcome::Done,
         &[([0, 1], 1), ([2, 3], 3)],
     ),
     (
-        Step::Change(1, &NO_FIRST),
+        ThreadAction::Change(1, &NO_FIRST),
         Outcome::Done,
         &[([0, 1], 1), ([2, 3], 2)],
     ),
     (
-        Step::Change(1, &NO_FIRST),
+        ThreadAction::Change(1, &NO_FIRST),
         Outcome::Done,
         &[([0, 1], 1), ([2, 3], 1)],
     ),
-    (Step::DropNext(0, &NO_TAIL), Outcome::Done, &[([0, 1], 1)]),
+    (
+        ThreadAction::DropNext(0, &NO_TAIL),
+        Outcome::Done,
+        &[([0, 1], 1)],
+    ),
 ];
 
 // With 40 bytes of the superblock an attribute of 813 bytes makes 857.
@@ -161,8 +181,16 @@ const TOO_LONG: [Change<'static>; 1] = [Change::Attr {
 }];
 
 const ATTRIBUTES: &[Line] = &[
-    (Step::Change(0, &TOO_LONG), Outcome::Full, &[([0, 1], 1)]),
-    (Step::Change(0, &LONG), Outcome::Done, &[([0, 1], 1)]),
+    (
+        ThreadAction::Change(0, &TOO_LONG),
+        Outcome::Full,
+        &[([0, 1], 1)],
+    ),
+    (
+        ThreadAction::Change(0, &LONG),
+        Outcome::Done,
+        &[([0, 1], 1)],
+    ),
 ];
 
 // Of the cuts with at most half of the bytes in front the last, where both parts fit. A slot takes
@@ -191,7 +219,7 @@ const ALIKE_MORE: [Change<'static>; 2] = [
 
 // 309 bytes each, 618 of 1,236 in front.
 const ALIKE_CUT: &[Line] = &[(
-    Step::Split(0, &ALIKE_MORE),
+    ThreadAction::Split(0, &ALIKE_MORE),
     Outcome::Done,
     &[([0, 1], 2), ([2, 3], 2)],
 )];
@@ -223,7 +251,7 @@ const LARGE_FIRST_MORE: [Change<'static>; 4] = [
 
 // 909, 109 and 59 bytes: the only cut has more than half in front.
 const LARGE_FIRST_CUT: &[Line] = &[(
-    Step::Split(0, &LARGE_FIRST_MORE),
+    ThreadAction::Split(0, &LARGE_FIRST_MORE),
     Outcome::Done,
     &[([0, 1], 1), ([2, 3], 2)],
 )];
@@ -250,7 +278,7 @@ const LARGE_LAST_MORE: [Change<'static>; 2] = [
 
 // 109, 59 and 909 bytes: the only cut has less than half in front.
 const LARGE_LAST_CUT: &[Line] = &[(
-    Step::Split(0, &LARGE_LAST_MORE),
+    ThreadAction::Split(0, &LARGE_LAST_MORE),
     Outcome::Done,
     &[([0, 1], 2), ([2, 3], 1)],
 )];
@@ -273,7 +301,11 @@ fn keeps<D: BlockDevice>(
     Ok(true)
 }
 
-fn is_kept(alloc: Global, device: RamDevice, lines: &[Line]) -> Result<bool, Error> {
+fn script_becomes_its_rows(
+    alloc: Global,
+    device: RamDevice,
+    lines: &[Line],
+) -> Result<bool, Error> {
     match Thread::read(alloc, device) {
         Ok(mut thread) => keeps(alloc, &mut thread, lines),
         Err((_, error)) => Err(error),
@@ -291,10 +323,13 @@ fn steps_have_their_rows(rt: HostRuntime) -> Result<(), Fail> {
         (8, LARGE_LAST, LARGE_LAST_CUT),
     ] {
         let device = device(alloc, Geometry::new(1024, page, 64)?, 1, entries)?;
-        assert_eq!(rt; is_kept(alloc, device, lines), Ok(true));
+        assert_eq!(rt; script_becomes_its_rows(alloc, device, lines), Ok(true));
     }
     for erased in [Erased::Fill(0xff), Erased::Fill(0), Erased::Keep] {
-        assert_eq!(rt; is_kept(alloc, small(alloc, erased)?, &SCRIPT), Ok(true));
+        assert_eq!(rt;
+            script_becomes_its_rows(alloc, small(alloc, erased)?, &SCRIPT),
+            Ok(true)
+        );
     }
     Ok(())
 }

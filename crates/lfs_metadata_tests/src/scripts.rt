@@ -3,7 +3,7 @@
 ghost use Rattle.std.specs.Prelude.{◌≡◌, false};
 
 use crate::images::{FILE_A, device};
-use crate::steps::{Step, carry_out};
+use crate::steps::{ThreadAction, carry_out};
 use lfs_device::{BlockDevice, Erased, Error, Geometry, RamDevice};
 use lfs_pair::{Change, Outcome};
 use lfs_tag::kinds::{DIRECTORY_NAME, DIRECTORY_STRUCT, FILE_NAME, INLINE_STRUCT};
@@ -14,7 +14,7 @@ use std::alloc::Global;
 pub type Row = ([u32; 2], usize);
 
 /// A step, what became of it, and the pairs behind it.
-pub type Line = (Step<'static>, Outcome, &'static [Row]);
+pub type Line = (ThreadAction<'static>, Outcome, &'static [Row]);
 
 // With a name of one byte a slot takes 309 bytes, and a pair may have 857.
 const LARGE: [u8; 300] = [9; 300];
@@ -117,45 +117,61 @@ pub const START: &[Row] = &[([0, 1], 1)];
 /// A pair is filled, a directory's pair comes, the first is split where it is full, and what came
 /// goes again.
 pub const SCRIPT: [Line; 11] = [
-    (Step::Change(0, &SECOND), Outcome::Done, &[([0, 1], 2)]),
-    (Step::Change(0, &THIRD), Outcome::Done, &[([0, 1], 3)]),
-    (Step::Change(0, &ATTRIBUTE), Outcome::Done, &[([0, 1], 3)]),
     (
-        Step::ThreadIn(0, &DIRECTORY),
+        ThreadAction::Change(0, &SECOND),
+        Outcome::Done,
+        &[([0, 1], 2)],
+    ),
+    (
+        ThreadAction::Change(0, &THIRD),
+        Outcome::Done,
+        &[([0, 1], 3)],
+    ),
+    (
+        ThreadAction::Change(0, &ATTRIBUTE),
+        Outcome::Done,
+        &[([0, 1], 3)],
+    ),
+    (
+        ThreadAction::ThreadIn(0, &DIRECTORY),
         Outcome::Done,
         &[([0, 1], 4), ([2, 3], 0)],
     ),
     (
-        Step::Change(1, &FIRST),
+        ThreadAction::Change(1, &FIRST),
         Outcome::Done,
         &[([0, 1], 4), ([2, 3], 1)],
     ),
     (
-        Step::Change(0, &FIFTH),
+        ThreadAction::Change(0, &FIFTH),
         Outcome::Full,
         &[([0, 1], 4), ([2, 3], 1)],
     ),
     (
-        Step::Split(0, &FIFTH),
+        ThreadAction::Split(0, &FIFTH),
         Outcome::Done,
         &[([0, 1], 2), ([4, 5], 3), ([2, 3], 1)],
     ),
     (
-        Step::Change(2, &NO_FIRST),
+        ThreadAction::Change(2, &NO_FIRST),
         Outcome::Done,
         &[([0, 1], 2), ([4, 5], 3), ([2, 3], 0)],
     ),
     (
-        Step::DropNext(1, &NO_DIRECTORY),
+        ThreadAction::DropNext(1, &NO_DIRECTORY),
         Outcome::Done,
         &[([0, 1], 2), ([4, 5], 2)],
     ),
     (
-        Step::Change(0, &NO_FIRST),
+        ThreadAction::Change(0, &NO_FIRST),
         Outcome::Done,
         &[([0, 1], 1), ([4, 5], 2)],
     ),
-    (Step::DropNext(0, &NO_TAIL), Outcome::Done, &[([0, 1], 1)]),
+    (
+        ThreadAction::DropNext(0, &NO_TAIL),
+        Outcome::Done,
+        &[([0, 1], 1)],
+    ),
 ];
 
 /// Whether these are the pairs of the moment behind so many steps.

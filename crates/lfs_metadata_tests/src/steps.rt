@@ -2,8 +2,8 @@
 
 ghost use Rattle.std.specs.Prelude.{◌≡◌, false, IfOk, IsTrue, OnOk};
 ghost use Rattle.std.specs.Option.{option_map};
-ghost use Rattle.lfs_model.specs.Slots.{address_of};
-ghost use Rattle.lfs_thread.specs.Steps.{AreFreshInFlight};
+ghost use Rattle.lfs_model.specs.Slots.{pair_address_of_array};
+ghost use Rattle.lfs_thread.specs.Steps.{AreFreshBlocksInFlight};
 
 use crate::look::look_at;
 use lfs_device::{BlockDevice, Error};
@@ -13,7 +13,7 @@ use std::alloc::Global;
 
 /// A step of a thread, at the pair of a number.
 #[derive(Clone, Copy, Drop)]
-pub enum Step<'a> {
+pub enum ThreadAction<'a> {
     /// The pair is changed.
     Change(usize, &'a [Change<'a>]),
     /// It is split.
@@ -26,7 +26,7 @@ pub enum Step<'a> {
 
 // Whether two tails name the same.
 fn is_same(a: Option<[u32; 2]>, b: Option<[u32; 2]>) -> bool
-    ensures { IsTrue result → option_map address_of a ≡ option_map address_of b }
+    ensures { IsTrue result → option_map pair_address_of_array a ≡ option_map pair_address_of_array b }
 {
     match (a, b) {
         (None, None) => true,
@@ -37,7 +37,7 @@ fn is_same(a: Option<[u32; 2]>, b: Option<[u32; 2]>) -> bool
 
 // Two free blocks. `NoSpace` where there are fewer.
 fn take_two<D: BlockDevice>(thread: &mut Thread<D>) -> Result<[u32; 2], Error>
-    ensures held { IfOk result (λ fresh. AreFreshInFlight thread.new.kept.map (address_of fresh)) }
+    ensures held { IfOk result (λ fresh. AreFreshBlocksInFlight thread.new.kept.map (pair_address_of_array fresh)) }
     ensures works { thread.new.failed ≡ thread.old.failed }
 {
     let Some(first) = thread.take() else {
@@ -128,25 +128,25 @@ fn drop_next<D: BlockDevice>(
 pub fn carry_out<D: BlockDevice>(
     alloc: Global,
     thread: &mut Thread<D>,
-    step: Step<'_>,
+    step: ThreadAction<'_>,
 ) -> Result<Outcome, Error>
     requires { thread.old.failed ≡ false }
     ensures { OnOk result (thread.new.failed ≡ false) }
 {
     match step {
-        Step::Change(index, changes) => {
+        ThreadAction::Change(index, changes) => {
             let outcome = change(alloc, thread, index, changes)?;
             Ok(outcome)
         }
-        Step::Split(index, changes) => {
+        ThreadAction::Split(index, changes) => {
             let outcome = split(alloc, thread, index, changes)?;
             Ok(outcome)
         }
-        Step::ThreadIn(index, changes) => {
+        ThreadAction::ThreadIn(index, changes) => {
             let outcome = thread_in(alloc, thread, index, changes)?;
             Ok(outcome)
         }
-        Step::DropNext(index, changes) => {
+        ThreadAction::DropNext(index, changes) => {
             let outcome = drop_next(alloc, thread, index, changes)?;
             Ok(outcome)
         }

@@ -2,21 +2,21 @@
 use Rattle.std.proofs.Common.{◌≡◌, true, List, [], ◌∷◌, None, refl, subst, ap, arith}
 use Rattle.std.specs.Prelude.{codes}
 use Rattle.lfs_model.specs.Disk.{block_count}
-use Rattle.lfs_model.specs.Content.{content_at}
-use Rattle.lfs_model.specs.Slots.{no_gstate}
+use Rattle.lfs_model.specs.Content.{content_of_pair_at}
+use Rattle.lfs_model.specs.Slots.{zero_gstate}
 use Rattle.lfs_model.specs.Thread.{Pair}
-use Rattle.lfs_model.specs.View.{IsAccepted}
+use Rattle.lfs_model.specs.View.{IsAcceptedImage}
 use Rattle.lfs_model.specs.Profile.{IsWritable}
 use Rattle.lfs_model.specs.Fresh.{fresh_pair, empty_tree}
 use Rattle.lfs_model.specs.History.{reads}
 use Rattle.lfs_model.specs.State.{Healthy, mounted}
-use Rattle.lfs_model.specs.Performed.{IsPerformed}
+use Rattle.lfs_model.specs.Performed.{IsPerformedOperation}
 use Rattle.lfs_model.specs.Operations as ops
-use Rattle.lfs_model.specs.Session.{Session, Surroundings}
-use Rattle.lfs_model.specs.Recovery.{IsRecovered}
+use Rattle.lfs_model.specs.Session.{Session, DiskSummary}
+use Rattle.lfs_model.specs.Recovery.{IsNothingLeftToRecover}
 use Rattle.lfs_model.specs.Run.{IsSessionStep, IsEffectOnDisk}
-use Rattle.lfs_model.specs.examples.Images.{small_image}
-use Rattle.lfs_model.specs.examples.Runs.{fresh_system}
+use Rattle.lfs_model.specs.examples.Images.{small_fresh_image}
+use Rattle.lfs_model.specs.examples.Runs.{fresh_system_state}
 use Rattle.lfs_model.proofs.Uniqueness.{one_thread}
 use Rattle.lfs_model.proofs.Fresh.{accepted, writable}
 use Rattle.lfs_model.proofs.Example.{fresh}
@@ -26,41 +26,41 @@ use Rattle.lfs_model.proofs.FreshSession.{surviving}
 abbrev pub op : ops.Operation
 op = ops.Stat (codes "/")
 
-abbrev around : Surroundings
-around = record { writable = true; block_size = 1024; page = 128; block_count = 2; used = 0 ∷ 1 ∷ []; gstate = no_gstate }
+abbrev around : DiskSummary
+around = record { writable = true; block_size = 1024; page = 128; block_count = 2; used = 0 ∷ 1 ∷ []; gstate = zero_gstate }
 
-pub carried : (s : Session) (ps qs : List Pair) → IsAccepted small_image ps → IsAccepted small_image qs → IsEffectOnDisk small_image ps s op [] small_image qs
+pub carried : (s : Session) (ps qs : List Pair) → IsAcceptedImage small_fresh_image ps → IsAcceptedImage small_fresh_image qs → IsEffectOnDisk small_fresh_image ps s op [] small_fresh_image qs
 carried s ps qs a b =
-    let same = one_thread (content_at small_image) (block_count small_image) ps qs a.thread b.thread in
+    let same = one_thread (content_of_pair_at small_fresh_image) (block_count small_fresh_image) ps qs a.thread b.thread in
     record {
       asks = λ e. (refl, (refl, refl));
       opens = λ e. absurd (cc);
       fills = λ e. absurd (cc);
       recovered = λ e. absurd (cc);
-      stays = subst IsRecovered same;
+      stays = subst IsNothingLeftToRecover same;
       arranged = λ e. absurd (cc);
-      profile = subst (IsWritable small_image) same;
+      profile = subst (IsWritable small_fresh_image) same;
       silent = λ e. (refl, refl);
       itself = λ e. absurd (cc);
       nothing_left = λ e. absurd (cc);
     }
 
-pub turn : IsSessionStep fresh_system op (ops.StatIs None) fresh_system
+pub turn : IsSessionStep fresh_system_state op (ops.StatIs None) fresh_system_state
 turn = record {
   answered = record {
     around = around;
     shown = None;
     surrounds = λ session e. (
-      fresh_pair small_image ∷ [],
+      fresh_pair small_fresh_image ∷ [],
       (
-        accepted small_image fresh,
-        record { block_size = refl; page = refl; block_count = refl; used = refl; gstate = refl; writable = ((λ e. writable small_image fresh), λ w. refl) },
+        accepted small_fresh_image fresh,
+        record { block_size = refl; page = refl; block_count = refl; used = refl; gstate = refl; writable = ((λ e. writable small_fresh_image fresh), λ w. refl) },
       ),
     );
     shows = λ e. absurd (cc);
     answers = refl;
   };
-  agrees = fresh_agrees small_image fresh;
+  agrees = fresh_agrees small_fresh_image fresh;
   geometry = record { block_size = refl; page = refl; order = refl; count = refl };
   calls = [];
   called = refl;
@@ -76,7 +76,7 @@ unfolding turn
 silent = refl
 
 -- a stop in it leaves the disk as it is, and it reads nothing
-pub asked : IsPerformed None fresh_system op (ops.StatIs None) fresh_system
+pub asked : IsPerformedOperation None fresh_system_state op (ops.StatIs None) fresh_system_state
 asked = record {
   turn = turn;
   survives_loss = surviving op (Healthy (mounted empty_tree));

@@ -3,37 +3,37 @@ use Rattle.std.proofs.Common.{ℕ, ◌≡◌, ◌+◌, ◌≤◌, ◌⊎◌, inl
 use Rattle.std.specs.List.{Contains, count_by, slice_get}
 use Rattle.std.proofs.lemmas.Bool.{cases_eq}
 use Rattle.std.proofs.lemmas.Option.{slice_get_within, same_Some}
-use Rattle.lfs_model.specs.BlockSets.{BlockState, BlockSets, IsFree, IsInFlight, IsUsed, is_in_flight, is_used, in_flight_count, used_count}
+use Rattle.lfs_model.specs.BlockSets.{BlockState, BlockStateList, IsFree, IsInFlight, IsUsed, is_in_flight, is_used, in_flight_count, used_count}
 use Rattle.lfs_model.specs.BlockSets.BlockState.{Free, InFlight, Used}
 use Rattle.lfs_model.proofs.BlockSets.{Contains-cons, slice_get-set_same, slice_get-set_other, count_by-set, count_by-none, IsTestOf, used_test, in_flight_test}
 
 -- ---- one block's state changed
 
 -- a free block is handed out
-pub in_flight-taken : (sets : BlockSets) (b : ℕ) → IsFree sets b → in_flight_count (set sets b InFlight) ≡ in_flight_count sets + 1
+pub in_flight-taken : (sets : BlockStateList) (b : ℕ) → IsFree sets b → in_flight_count (set sets b InFlight) ≡ in_flight_count sets + 1
 in_flight-taken sets b free = let e = count_by-set is_in_flight sets b Free InFlight free in omega (arith, e)
 
-pub used-taken : (sets : BlockSets) (b : ℕ) → IsFree sets b → used_count (set sets b InFlight) ≡ used_count sets
+pub used-taken : (sets : BlockStateList) (b : ℕ) → IsFree sets b → used_count (set sets b InFlight) ≡ used_count sets
 used-taken sets b free = let e = count_by-set is_used sets b Free InFlight free in omega (arith, e)
 
 -- a block in flight is given back
-pub in_flight-freed : (sets : BlockSets) (b : ℕ) → IsInFlight sets b → in_flight_count (set sets b Free) + 1 ≡ in_flight_count sets
+pub in_flight-freed : (sets : BlockStateList) (b : ℕ) → IsInFlight sets b → in_flight_count (set sets b Free) + 1 ≡ in_flight_count sets
 in_flight-freed sets b flying = let e = count_by-set is_in_flight sets b InFlight Free flying in omega (arith, e)
 
-pub used-freed_in_flight : (sets : BlockSets) (b : ℕ) → IsInFlight sets b → used_count (set sets b Free) ≡ used_count sets
+pub used-freed_in_flight : (sets : BlockStateList) (b : ℕ) → IsInFlight sets b → used_count (set sets b Free) ≡ used_count sets
 used-freed_in_flight sets b flying = let e = count_by-set is_used sets b InFlight Free flying in omega (arith, e)
 
-pub used-settled : (sets : BlockSets) (b : ℕ) → IsInFlight sets b → used_count (set sets b Used) ≡ used_count sets + 1
+pub used-settled : (sets : BlockStateList) (b : ℕ) → IsInFlight sets b → used_count (set sets b Used) ≡ used_count sets + 1
 used-settled sets b flying = let e = count_by-set is_used sets b InFlight Used flying in omega (arith, e)
 
 -- a used block is released
-pub used-freed : (sets : BlockSets) (b : ℕ) → IsUsed sets b → used_count (set sets b Free) + 1 ≡ used_count sets
+pub used-freed : (sets : BlockStateList) (b : ℕ) → IsUsed sets b → used_count (set sets b Free) + 1 ≡ used_count sets
 used-freed sets b used = let e = count_by-set is_used sets b Used Free used in omega (arith, e)
 
 -- ---- at most so many
 
 -- whether a block is in that state
-cases_state : (p : BlockState → Bool) (state : BlockState) → IsTestOf p state → (sets : BlockSets) (b : ℕ) → (slice_get sets b ≡ Some state) ⊎ ((slice_get sets b ≡ Some state) → ⊥)
+cases_state : (p : BlockState → Bool) (state : BlockState) → IsTestOf p state → (sets : BlockStateList) (b : ℕ) → (slice_get sets b ≡ Some state) ⊎ ((slice_get sets b ≡ Some state) → ⊥)
 cases_state p state test sets b = go (slice_get sets b)
   where
     go : (o : Option BlockState) → (o ≡ Some state) ⊎ ((o ≡ Some state) → ⊥)
@@ -44,7 +44,7 @@ abbrev number_of : Bool → ℕ
 number_of t = cond t 1 0
 
 module _ (p : BlockState → Bool) (state : BlockState) (test : IsTestOf p state) where
-  one_less : (sets : BlockSets) (b : ℕ) → slice_get sets b ≡ Some state → count_by p (set sets b test.other) + 1 ≡ count_by p sets
+  one_less : (sets : BlockStateList) (b : ℕ) → slice_get sets b ≡ Some state → count_by p (set sets b test.other) + 1 ≡ count_by p sets
   one_less sets b here =
       let change = count_by-set p sets b state test.other here in
       let before = ap number_of test.passes in
@@ -52,7 +52,7 @@ module _ (p : BlockState → Bool) (state : BlockState) (test : IsTestOf p state
       omega (arith, change, before, after)
 
   -- where all blocks in the state are among some, there are no more
-  pub few_in : (bs : List ℕ) (sets : BlockSets) → ((b : ℕ) → slice_get sets b ≡ Some state → Contains bs b) → count_by p sets ≤ length bs
+  pub few_in : (bs : List ℕ) (sets : BlockStateList) → ((b : ℕ) → slice_get sets b ≡ Some state → Contains bs b) → count_by p sets ≤ length bs
   few_in [] sets all = omega (arith, count_by-none p sets (λ b s is. test.only s (λ e. absurd (omega (arith, (all b (is ∙ ap Some e)).1)))))
   few_in (x ∷ bs) sets all = ⊎_elim
       (λ is.
@@ -70,8 +70,8 @@ module _ (p : BlockState → Bool) (state : BlockState) (test : IsTestOf p state
       omega (arith, behind))
       (cases_state p state test sets x)
 
-pub few_flying : (bs : List ℕ) (sets : BlockSets) → ((b : ℕ) → IsInFlight sets b → Contains bs b) → in_flight_count sets ≤ length bs
+pub few_flying : (bs : List ℕ) (sets : BlockStateList) → ((b : ℕ) → IsInFlight sets b → Contains bs b) → in_flight_count sets ≤ length bs
 few_flying bs sets all = few_in is_in_flight InFlight in_flight_test bs sets all
 
-pub few_used : (bs : List ℕ) (sets : BlockSets) → ((b : ℕ) → IsUsed sets b → Contains bs b) → used_count sets ≤ length bs
+pub few_used : (bs : List ℕ) (sets : BlockStateList) → ((b : ℕ) → IsUsed sets b → Contains bs b) → used_count sets ≤ length bs
 few_used bs sets all = few_in is_used Used used_test bs sets all

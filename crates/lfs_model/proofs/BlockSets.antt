@@ -5,7 +5,7 @@ use Rattle.std.proofs.lemmas.Bool.{cases_eq}
 use Rattle.std.proofs.lemmas.List.{length-set}
 use Rattle.std.proofs.lemmas.List.Sums.{sum_by-cons, sum_by-set}
 use Rattle.std.proofs.lemmas.Option.{slice_get_within, get_or_from_slice_get, same_Some}
-use Rattle.lfs_model.specs.BlockSets.{BlockState, BlockSets, IsFree, AreInFlight, AreUsed, is_in_flight, is_used, in_flight_count, used_count}
+use Rattle.lfs_model.specs.BlockSets.{BlockState, BlockStateList, IsFree, AreExactlyTheInFlightBlocks, AreExactlyTheUsedBlocks, is_in_flight, is_used, in_flight_count, used_count}
 use Rattle.lfs_model.specs.BlockSets.BlockState.{Free, InFlight, Used}
 use Rattle.lfs_model.proofs.Counts.{count, once_from_distinct, count_here}
 
@@ -59,10 +59,10 @@ slice_get-set_other (y ∷ xs) (suc b) zero x ne = refl
 slice_get-set_other (y ∷ xs) (suc b) (suc other) x ne = slice_get-set_other xs b other x (λ e. ne (ap suc e))
 
 -- the blocks of the list are those in that state
-abbrev pub AreIn : BlockState → BlockSets → List ℕ → Type 0
+abbrev pub AreIn : BlockState → BlockStateList → List ℕ → Type 0
 AreIn state sets bs = (b : ℕ) → (slice_get sets b ≡ Some state) ↔ Contains bs b
 
-module _ (state : BlockState) (sets : BlockSets) (b : ℕ) where
+module _ (state : BlockState) (sets : BlockStateList) (b : ℕ) where
   -- after a change to another state the block isn't in this one
   left : (to : BlockState) → to ≢ state → slice_get (set sets b to) b ≡ Some state → ⊥
   left to ne has =
@@ -84,13 +84,13 @@ module _ (state : BlockState) (sets : BlockSets) (b : ℕ) where
 
 -- ---- how many are in a set
 
-pub count_by-set : (p : BlockState → Bool) (sets : BlockSets) (b : ℕ) (was to : BlockState) → slice_get sets b ≡ Some was → count_by p (set sets b to) + cond (p was) 1 0 ≡ count_by p sets + cond (p to) 1 0
+pub count_by-set : (p : BlockState → Bool) (sets : BlockStateList) (b : ℕ) (was to : BlockState) → slice_get sets b ≡ Some was → count_by p (set sets b to) + cond (p was) 1 0 ≡ count_by p sets + cond (p to) 1 0
 count_by-set p sets b was to is =
     ap (λ s. count_by p (set sets b to) + cond (p s) 1 0) (sym (get_or_from_slice_get sets b was Free is))
     ∙ sum_by-set (λ s. cond (p s) 1 0) sets b to Free (slice_get_within sets b was is)
 
 -- none is in it
-pub count_by-none : (p : BlockState → Bool) (sets : BlockSets) → ((b : ℕ) (s : BlockState) → slice_get sets b ≡ Some s → p s ≡ false) → count_by p sets ≡ 0
+pub count_by-none : (p : BlockState → Bool) (sets : BlockStateList) → ((b : ℕ) (s : BlockState) → slice_get sets b ≡ Some s → p s ≡ false) → count_by p sets ≡ 0
 count_by-none p [] none = refl
 count_by-none p (s ∷ sets) none =
     sum_by-cons (λ x. cond (p x) 1 0) s sets
@@ -109,7 +109,7 @@ pub record IsTestOf (p : BlockState → Bool) (state : BlockState) : Type 0 wher
 abbrev number_of : Bool → ℕ
 number_of t = cond t 1 0
 
-count_by-AreIn : (p : BlockState → Bool) (state : BlockState) → IsTestOf p state → (bs : List ℕ) (sets : BlockSets) → IsDistinct nat_eq bs → AreIn state sets bs → count_by p sets ≡ length bs
+count_by-AreIn : (p : BlockState → Bool) (state : BlockState) → IsTestOf p state → (bs : List ℕ) (sets : BlockStateList) → IsDistinct nat_eq bs → AreIn state sets bs → count_by p sets ≡ length bs
 count_by-AreIn p state test [] sets distinct are =
     count_by-none p sets (λ b s is. ⊎_elim (λ same. absurd (omega (arith, ((are b).0 (is ∙ ap Some same)).1))) (test.only s) (test.cases s))
 count_by-AreIn p state test (b ∷ bs) sets distinct are =
@@ -159,14 +159,14 @@ in_flight_test = record {
     cases Used = inr (λ e. cc)
 
 -- each set is counted by a list of its blocks
-pub used_count-AreUsed : (sets : BlockSets) (bs : List ℕ) → IsDistinct nat_eq bs → AreUsed sets bs → used_count sets ≡ length bs
-used_count-AreUsed sets bs distinct are = count_by-AreIn is_used Used used_test bs sets distinct are
+pub used_count-AreExactlyTheUsedBlocks : (sets : BlockStateList) (bs : List ℕ) → IsDistinct nat_eq bs → AreExactlyTheUsedBlocks sets bs → used_count sets ≡ length bs
+used_count-AreExactlyTheUsedBlocks sets bs distinct are = count_by-AreIn is_used Used used_test bs sets distinct are
 
-pub in_flight_count-AreInFlight : (sets : BlockSets) (bs : List ℕ) → IsDistinct nat_eq bs → AreInFlight sets bs → in_flight_count sets ≡ length bs
-in_flight_count-AreInFlight sets bs distinct are = count_by-AreIn is_in_flight InFlight in_flight_test bs sets distinct are
+pub in_flight_count-AreExactlyTheInFlightBlocks : (sets : BlockStateList) (bs : List ℕ) → IsDistinct nat_eq bs → AreExactlyTheInFlightBlocks sets bs → in_flight_count sets ≡ length bs
+in_flight_count-AreExactlyTheInFlightBlocks sets bs distinct are = count_by-AreIn is_in_flight InFlight in_flight_test bs sets distinct are
 
 -- where no block is free, the two sets have all of them
-pub counts_from_none_free : (sets : BlockSets) → ((b : ℕ) → ¬ (IsFree sets b)) → used_count sets + in_flight_count sets ≡ length sets
+pub counts_from_none_free : (sets : BlockStateList) → ((b : ℕ) → ¬ (IsFree sets b)) → used_count sets + in_flight_count sets ≡ length sets
 counts_from_none_free [] none = refl
 counts_from_none_free (s ∷ sets) none =
     let behind = counts_from_none_free sets (λ b free. none (suc b) free) in
@@ -179,7 +179,7 @@ counts_from_none_free (s ∷ sets) none =
     one_of InFlight ne = refl
     one_of Used ne = refl
 
-pub counts_le : (sets : BlockSets) → used_count sets + in_flight_count sets ≤ length sets
+pub counts_le : (sets : BlockStateList) → used_count sets + in_flight_count sets ≤ length sets
 counts_le [] = omega arith
 counts_le (s ∷ sets) =
     let behind = counts_le sets in

@@ -6,7 +6,7 @@ use Rattle.std.proofs.lemmas.List.{length-take, take-map}
 use Rattle.std.proofs.lemmas.List.Elements.{All-cons, All-contains, All-filter, All-take}
 use Rattle.std.proofs.lemmas.Map.Entries.{lookup-filter-keys}
 use Rattle.std.proofs.lemmas.Map.Views.{Contains-from_lookup, exact_unsigned_eq}
-use Rattle.lfs_model.specs.Cache.{CachedBlocks, cache_limit, cached, put_first, without_block}
+use Rattle.lfs_model.specs.Cache.{CachedBlocks, cached_block_limit, cached_bytes_of_block, cache_with_block_first, cache_without_block}
 
 differ : (b other : ℕ) → other ≢ b → nat_eq other b ≡ false
 differ b other ne = go (nat_eq other b) refl
@@ -17,33 +17,33 @@ differ b other ne = go (nat_eq other b) refl
 
 -- ---- a block that goes
 
-pub cached-without_same : (cache : CachedBlocks) (b : ℕ) → cached (without_block cache b) b ≡ None
-cached-without_same cache b = lookup-filter-keys (nat_eq b) (λ k. not (nat_eq b k)) false (λ k is. ap not is) cache
+pub cached_bytes_of_block-without_same : (cache : CachedBlocks) (b : ℕ) → cached_bytes_of_block (cache_without_block cache b) b ≡ None
+cached_bytes_of_block-without_same cache b = lookup-filter-keys (nat_eq b) (λ k. not (nat_eq b k)) false (λ k is. ap not is) cache
 
-pub cached-without_other : (cache : CachedBlocks) (b other : ℕ) → other ≢ b → cached (without_block cache b) other ≡ cached cache other
-cached-without_other cache b other ne =
+pub cached_bytes_of_block-without_other : (cache : CachedBlocks) (b other : ℕ) → other ≢ b → cached_bytes_of_block (cache_without_block cache b) other ≡ cached_bytes_of_block cache other
+cached_bytes_of_block-without_other cache b other ne =
     lookup-filter-keys (nat_eq other) (λ k. not (nat_eq b k)) true
     (λ k is. let same : other ≡ k = eqb-true other k is in ap not (differ k b (λ e. ne (same ∙ sym e)))) cache
 
 -- ---- a block that comes in front
 
-pub cached-put_first_same : (cache : CachedBlocks) (b : ℕ) (bytes : List ℕ) → cached (put_first cache b bytes) b ≡ Some bytes
-cached-put_first_same cache b bytes = ap (λ t. cond t (Some bytes) (cached (take 7 (without_block cache b)) b)) (eq-eqb b b refl)
+pub cached_bytes_of_block-put_first_same : (cache : CachedBlocks) (b : ℕ) (bytes : List ℕ) → cached_bytes_of_block (cache_with_block_first cache b bytes) b ≡ Some bytes
+cached_bytes_of_block-put_first_same cache b bytes = ap (λ t. cond t (Some bytes) (cached_bytes_of_block (take 7 (cache_without_block cache b)) b)) (eq-eqb b b refl)
 
-lookup-take : (n : ℕ) (cache : CachedBlocks) (b : ℕ) (found : List ℕ) → cached (take n cache) b ≡ Some found → cached cache b ≡ Some found
+lookup-take : (n : ℕ) (cache : CachedBlocks) (b : ℕ) (found : List ℕ) → cached_bytes_of_block (take n cache) b ≡ Some found → cached_bytes_of_block cache b ≡ Some found
 lookup-take zero cache b found has = absurd (cc)
 lookup-take (suc n) [] b found has = has
 lookup-take (suc n) (e ∷ cache) b found has = go (nat_eq b e.0) has (lookup-take n cache b found)
   where
-    go : (t : Bool) → cond t (Some e.1) (cached (take n cache) b) ≡ Some found → (cached (take n cache) b ≡ Some found → cached cache b ≡ Some found) → cond t (Some e.1) (cached cache b) ≡ Some found
+    go : (t : Bool) → cond t (Some e.1) (cached_bytes_of_block (take n cache) b) ≡ Some found → (cached_bytes_of_block (take n cache) b ≡ Some found → cached_bytes_of_block cache b ≡ Some found) → cond t (Some e.1) (cached_bytes_of_block cache b) ≡ Some found
     go true is next = is
     go false is next = next is
 
 -- another is there with its old bytes, or it has gone from the end
-pub cached-put_first_other : (cache : CachedBlocks) (b other : ℕ) (bytes found : List ℕ) → other ≢ b → cached (put_first cache b bytes) other ≡ Some found → cached cache other ≡ Some found
-cached-put_first_other cache b other bytes found ne has =
-    sym (cached-without_other cache b other ne)
-    ∙ sym (ap (λ t. cond t (Some bytes) (cached (without_block cache b) other)) (differ b other ne))
-    ∙ lookup-take cache_limit ((b, bytes) ∷ without_block cache b) other found has
+pub cached_bytes_of_block-put_first_other : (cache : CachedBlocks) (b other : ℕ) (bytes found : List ℕ) → other ≢ b → cached_bytes_of_block (cache_with_block_first cache b bytes) other ≡ Some found → cached_bytes_of_block cache other ≡ Some found
+cached_bytes_of_block-put_first_other cache b other bytes found ne has =
+    sym (cached_bytes_of_block-without_other cache b other ne)
+    ∙ sym (ap (λ t. cond t (Some bytes) (cached_bytes_of_block (cache_without_block cache b) other)) (differ b other ne))
+    ∙ lookup-take cached_block_limit ((b, bytes) ∷ cache_without_block cache b) other found has
 
 -- ---- what holds of each block

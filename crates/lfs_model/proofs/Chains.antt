@@ -5,8 +5,8 @@ use Rattle.std.proofs.lemmas.Bool.{ltb-false}
 use Rattle.std.proofs.lemmas.Bool.Decides.{nat_tests}
 use Rattle.std.proofs.lemmas.Option.{cond_some}
 use Rattle.std.proofs.lemmas.List.{length-take, length-drop}
-use Rattle.lfs_model.specs.Tag.{data_size, carried}
-use Rattle.lfs_model.specs.Log.{LogEntry, tag_at, entry_at, end_of_entry, is_checksum, closes, Commit, Chain, with_entry, with_commit, commit_within, commit_at, chain_or_none, chain_within, chain_at, IsCommit, IsChain}
+use Rattle.lfs_model.specs.Tag.{tag_data_size, carried}
+use Rattle.lfs_model.specs.Log.{LogEntry, tag_at, entry_at, end_of_entry, is_checksum_entry, closes, Commit, CommitSequence, commit_with_entry_first, commit_sequence_with_commit_first, commit_within, commit_at, commit_sequence_or_empty, chain_within, longest_commit_sequence_at, IsCommit, IsCommitSequence}
 
 -- where a commit ends, and what its last tag carries
 abbrev pub stop : Commit → ℕ × ℕ
@@ -17,9 +17,9 @@ stop c = (c.end, c.last)
 pub record Lies (block : List ℕ) (at before : ℕ) (e : LogEntry) : Type 0 where
   pub tag : e.tag ≡ tag_at block at before
   pub valid : e.tag < 2 ^ 31
-  pub size : length e.bytes ≡ data_size e.tag
+  pub size : length e.bytes ≡ tag_data_size e.tag
   pub within : at + 4 + length e.bytes ≤ length block
-  pub bytes : e.bytes ≡ take (data_size e.tag) (drop (at + 4) block)
+  pub bytes : e.bytes ≡ take (tag_data_size e.tag) (drop (at + 4) block)
 
 chosen : (a b c : Bool) (x e : LogEntry) → cond (a || (b || c)) None (Some x) ≡ Some e → (a ≡ false) × (b ≡ false) × (c ≡ false) × (x ≡ e)
 chosen true b c x e h = absurd cc
@@ -31,11 +31,11 @@ pub lies : (block : List ℕ) (at before : ℕ) (e : LogEntry) → entry_at bloc
 unfolding entry_at
 lies block at before e h =
     let t = tag_at block at before in
-    let x : LogEntry = record { tag = t; bytes = take (data_size t) (drop (at + 4) block) } in
-    let c = chosen (ltb (length block) (at + 4)) (leb (2 ^ 31) t) (ltb (length block) (at + 4 + data_size t)) x e h in
+    let x : LogEntry = record { tag = t; bytes = take (tag_data_size t) (drop (at + 4) block) } in
+    let c = chosen (ltb (length block) (at + 4)) (leb (2 ^ 31) t) (ltb (length block) (at + 4 + tag_data_size t)) x e h in
     let first : at + 4 ≤ length block = ltb-false _ _ c.0 in
-    let last : at + 4 + data_size t ≤ length block = ltb-false _ _ c.2 in
-    let size : length x.bytes ≡ data_size t = omega (arith, length-take (data_size t) (drop (at + 4) block), length-drop (at + 4) block) in
+    let last : at + 4 + tag_data_size t ≤ length block = ltb-false _ _ c.2 in
+    let size : length x.bytes ≡ tag_data_size t = omega (arith, length-take (tag_data_size t) (drop (at + 4) block), length-drop (at + 4) block) in
     let here : Lies block at before x = record {
       tag = refl;
       valid = grind (arith, nat_tests, c.1);
@@ -61,12 +61,12 @@ commit_fuel (suc n) (suc m) block start at before p q =
       | None ↦ λ is. refl
       | Some e ↦ λ is.
           let l = lies block at before e is in
-          ap (λ (o : Option Commit). cond (is_checksum e) (cond (closes block start at e) (Some (record { entries = e ∷ []; end = end_of_entry at e; last = carried e.tag })) None) (option_map (with_entry e) o))
+          ap (λ (o : Option Commit). cond (is_checksum_entry e) (cond (closes block start at e) (Some (record { entries = e ∷ []; end = end_of_entry at e; last = carried e.tag })) None) (option_map (commit_with_entry_first e) o))
           (commit_fuel n m block start (end_of_entry at e) e.tag (omega (arith, l.within)) (omega (arith, l.within)))
     ] refl
   where
     step : Option LogEntry → ℕ → Option Commit
-    step o k = option_and_then (λ e. cond (is_checksum e) (cond (closes block start at e) (Some (record { entries = e ∷ []; end = end_of_entry at e; last = carried e.tag })) None) (option_map (with_entry e) (commit_within k block start (end_of_entry at e) e.tag))) o
+    step o k = option_and_then (λ e. cond (is_checksum_entry e) (cond (closes block start at e) (Some (record { entries = e ∷ []; end = end_of_entry at e; last = carried e.tag })) None) (option_map (commit_with_entry_first e) (commit_within k block start (end_of_entry at e) e.tag))) o
 
 commit_more : (block : List ℕ) (start at before : ℕ) → commit_at block start at before ≡ commit_within (suc (length block - at)) block start at before
 commit_more block start at before = commit_fuel (length block - at) (suc (length block - at)) block start at before (omega arith) (omega arith)
@@ -75,30 +75,30 @@ pub commit_none : (block : List ℕ) (start at before : ℕ) → entry_at block 
 unfolding commit_within
 commit_none block start at before is = commit_more block start at before ∙ rw is refl
 
-pub commit_closed : (block : List ℕ) (start at before : ℕ) (e : LogEntry) → entry_at block at before ≡ Some e → is_checksum e ≡ true → closes block start at e ≡ true
+pub commit_closed : (block : List ℕ) (start at before : ℕ) (e : LogEntry) → entry_at block at before ≡ Some e → is_checksum_entry e ≡ true → closes block start at e ≡ true
     → commit_at block start at before ≡ Some (record { entries = e ∷ []; end = end_of_entry at e; last = carried e.tag })
 unfolding commit_within
 commit_closed block start at before e is sum right = commit_more block start at before ∙ rw (is, sum, right) refl
 
-pub commit_refused : (block : List ℕ) (start at before : ℕ) (e : LogEntry) → entry_at block at before ≡ Some e → is_checksum e ≡ true → closes block start at e ≡ false
+pub commit_refused : (block : List ℕ) (start at before : ℕ) (e : LogEntry) → entry_at block at before ≡ Some e → is_checksum_entry e ≡ true → closes block start at e ≡ false
     → commit_at block start at before ≡ None
 unfolding commit_within
 commit_refused block start at before e is sum wrong = commit_more block start at before ∙ rw (is, sum, wrong) refl
 
-pub commit_on : (block : List ℕ) (start at before : ℕ) (e : LogEntry) → entry_at block at before ≡ Some e → is_checksum e ≡ false
-    → commit_at block start at before ≡ option_map (with_entry e) (commit_at block start (end_of_entry at e) e.tag)
+pub commit_on : (block : List ℕ) (start at before : ℕ) (e : LogEntry) → entry_at block at before ≡ Some e → is_checksum_entry e ≡ false
+    → commit_at block start at before ≡ option_map (commit_with_entry_first e) (commit_at block start (end_of_entry at e) e.tag)
 unfolding commit_within
 commit_on block start at before e is other =
     let l = lies block at before e is in
-    commit_more block start at before ∙ rw (is, other) (ap (option_map (with_entry e)) (commit_fuel (length block - at) (length block - end_of_entry at e) block start (end_of_entry at e) e.tag (omega (arith, l.within)) (omega arith)))
+    commit_more block start at before ∙ rw (is, other) (ap (option_map (commit_with_entry_first e)) (commit_fuel (length block - at) (length block - end_of_entry at e) block start (end_of_entry at e) e.tag (omega (arith, l.within)) (omega arith)))
 
-pub stop-with : (e : LogEntry) (o : Option Commit) → option_map stop (option_map (with_entry e) o) ≡ option_map stop o
+pub stop-with : (e : LogEntry) (o : Option Commit) → option_map stop (option_map (commit_with_entry_first e) o) ≡ option_map stop o
 stop-with e None = refl
 stop-with e (Some c) = refl
 
 -- ---- what is computed is a commit, and each commit is computed
 
-commit-more : (block : List ℕ) (start at before : ℕ) (e : LogEntry) (es : List LogEntry) (end last : ℕ) → entry_at block at before ≡ Some e → is_checksum e ≡ false
+commit-more : (block : List ℕ) (start at before : ℕ) (e : LogEntry) (es : List LogEntry) (end last : ℕ) → entry_at block at before ≡ Some e → is_checksum_entry e ≡ false
     → IsCommit block start (end_of_entry at e) e.tag es end last → IsCommit block start at before (e ∷ es) end last
 commit-more block start at before e [] end last is other rest = absurd rest
 commit-more block start at before e (f ∷ es) end last is other rest = (is, other, rest)
@@ -113,29 +113,29 @@ commit_sound (suc n) block start at before c h =
     elim (entry_at block at before) as (λ o. entry_at block at before ≡ o → step o n ≡ Some c → IsCommitOf block start at before c) [
       | None ↦ λ is h. absurd cc
       | Some e ↦ λ is h.
-          elim (is_checksum e) as (λ b. is_checksum e ≡ b → cond b (cond (closes block start at e) (Some (record { entries = e ∷ []; end = end_of_entry at e; last = carried e.tag })) None) (option_map (with_entry e) (commit_within n block start (end_of_entry at e) e.tag)) ≡ Some c → IsCommitOf block start at before c) [
+          elim (is_checksum_entry e) as (λ b. is_checksum_entry e ≡ b → cond b (cond (closes block start at e) (Some (record { entries = e ∷ []; end = end_of_entry at e; last = carried e.tag })) None) (option_map (commit_with_entry_first e) (commit_within n block start (end_of_entry at e) e.tag)) ≡ Some c → IsCommitOf block start at before c) [
             | true ↦ λ sum h.
                 let right = cond_some (closes block start at e) (record { entries = e ∷ []; end = end_of_entry at e; last = carried e.tag }) c h in
                 subst (IsCommitOf block start at before) right.1 (is, sum, right.0, refl, refl)
             | false ↦ λ other h.
-                elim (commit_within n block start (end_of_entry at e) e.tag) as (λ o. commit_within n block start (end_of_entry at e) e.tag ≡ o → option_map (with_entry e) o ≡ Some c → IsCommitOf block start at before c) [
+                elim (commit_within n block start (end_of_entry at e) e.tag) as (λ o. commit_within n block start (end_of_entry at e) e.tag ≡ o → option_map (commit_with_entry_first e) o ≡ Some c → IsCommitOf block start at before c) [
                   | None ↦ λ rest h. absurd cc
                   | Some d ↦ λ rest h.
-                      let same : with_entry e d ≡ c = cc in
+                      let same : commit_with_entry_first e d ≡ c = cc in
                       subst (IsCommitOf block start at before) same (commit-more block start at before e d.entries d.end d.last is other (commit_sound n block start (end_of_entry at e) e.tag d rest))
                 ] refl h
           ] refl h
     ] refl h
   where
     step : Option LogEntry → ℕ → Option Commit
-    step o k = option_and_then (λ e. cond (is_checksum e) (cond (closes block start at e) (Some (record { entries = e ∷ []; end = end_of_entry at e; last = carried e.tag })) None) (option_map (with_entry e) (commit_within k block start (end_of_entry at e) e.tag))) o
+    step o k = option_and_then (λ e. cond (is_checksum_entry e) (cond (closes block start at e) (Some (record { entries = e ∷ []; end = end_of_entry at e; last = carried e.tag })) None) (option_map (commit_with_entry_first e) (commit_within k block start (end_of_entry at e) e.tag))) o
 
 pub commit_complete : (block : List ℕ) (start at before : ℕ) (es : List LogEntry) (end last : ℕ) → IsCommit block start at before es end last
     → commit_at block start at before ≡ Some (record { entries = es; end = end; last = last })
 commit_complete block start at before [] end last h = absurd h
 commit_complete block start at before (e ∷ []) end last h = rw (h.3, h.4) (commit_closed block start at before e h.0 h.1 h.2)
 commit_complete block start at before (e ∷ f ∷ es) end last h =
-    commit_on block start at before e h.0 h.1 ∙ ap (option_map (with_entry e)) (commit_complete block start (end_of_entry at e) e.tag (f ∷ es) end last h.2)
+    commit_on block start at before e h.0 h.1 ∙ ap (option_map (commit_with_entry_first e)) (commit_complete block start (end_of_entry at e) e.tag (f ∷ es) end last h.2)
 
 -- a commit takes space within the block
 pub record Within (block : List ℕ) (at end : ℕ) : Type 0 where
@@ -164,28 +164,28 @@ chain_fuel (suc n) (suc m) block start at before p q =
       | None ↦ λ is. refl
       | Some c ↦ λ is.
           let w = commit_space block start at before c.entries c.end c.last (commit_sound (length block - at) block start at before c is) in
-          ap (with_commit c.entries) (chain_fuel n m block c.end c.end c.last (omega (arith, w.after)) (omega (arith, w.after)))
+          ap (commit_sequence_with_commit_first c.entries) (chain_fuel n m block c.end c.end c.last (omega (arith, w.after)) (omega (arith, w.after)))
     ] refl
   where
-    step : ℕ → Option Commit → Chain
-    step k o = chain_or_none at before (option_map (λ c. with_commit c.entries (chain_within k block c.end c.end c.last)) o)
+    step : ℕ → Option Commit → CommitSequence
+    step k o = commit_sequence_or_empty at before (option_map (λ c. commit_sequence_with_commit_first c.entries (chain_within k block c.end c.end c.last)) o)
 
-chain_more : (block : List ℕ) (start at before : ℕ) → chain_at block start at before ≡ chain_within (suc (length block - at)) block start at before
+chain_more : (block : List ℕ) (start at before : ℕ) → longest_commit_sequence_at block start at before ≡ chain_within (suc (length block - at)) block start at before
 chain_more block start at before = chain_fuel (length block - at) (suc (length block - at)) block start at before (omega arith) (omega arith)
 
-pub chain_none : (block : List ℕ) (start at before : ℕ) → commit_at block start at before ≡ None → chain_at block start at before ≡ record { commits = []; end = at; last = before }
+pub chain_none : (block : List ℕ) (start at before : ℕ) → commit_at block start at before ≡ None → longest_commit_sequence_at block start at before ≡ record { commits = []; end = at; last = before }
 unfolding chain_within
 chain_none block start at before is = chain_more block start at before ∙ rw is refl
 
 pub chain_on : (block : List ℕ) (start at before : ℕ) (c : Commit) → commit_at block start at before ≡ Some c
-    → chain_at block start at before ≡ with_commit c.entries (chain_at block c.end c.end c.last)
+    → longest_commit_sequence_at block start at before ≡ commit_sequence_with_commit_first c.entries (longest_commit_sequence_at block c.end c.end c.last)
 unfolding chain_within
 chain_on block start at before c is =
     let w = commit_space block start at before c.entries c.end c.last (commit_sound (length block - at) block start at before c is) in
-    chain_more block start at before ∙ rw is (ap (with_commit c.entries) (chain_fuel (length block - at) (length block - c.end) block c.end c.end c.last (omega (arith, w.after)) (omega arith)))
+    chain_more block start at before ∙ rw is (ap (commit_sequence_with_commit_first c.entries) (chain_fuel (length block - at) (length block - c.end) block c.end c.end c.last (omega (arith, w.after)) (omega arith)))
 
-abbrev pub IsChainAt : List ℕ → ℕ → ℕ → ℕ → Chain → Type 0
-IsChainAt block start at before c = IsChain block start at before c.commits c.end c.last
+abbrev pub IsChainAt : List ℕ → ℕ → ℕ → ℕ → CommitSequence → Type 0
+IsChainAt block start at before c = IsCommitSequence block start at before c.commits c.end c.last
 
 pub chain_sound : (n : ℕ) (block : List ℕ) (start at before : ℕ) → IsChainAt block start at before (chain_within n block start at before)
 unfolding chain_within
@@ -196,11 +196,11 @@ chain_sound (suc n) block start at before =
       | Some c ↦ λ is. (c.end, c.last, commit_sound (length block - at) block start at before c is, chain_sound n block c.end c.end c.last)
     ] refl
   where
-    step : Option Commit → Chain
-    step o = chain_or_none at before (option_map (λ c. with_commit c.entries (chain_within n block c.end c.end c.last)) o)
+    step : Option Commit → CommitSequence
+    step o = commit_sequence_or_empty at before (option_map (λ c. commit_sequence_with_commit_first c.entries (chain_within n block c.end c.end c.last)) o)
 
 -- no chain is longer
-pub chain_longest : (block : List ℕ) (start at before : ℕ) (cs : List (List LogEntry)) (end last : ℕ) → IsChain block start at before cs end last → length cs ≤ length (chain_at block start at before).commits
+pub chain_longest : (block : List ℕ) (start at before : ℕ) (cs : List (List LogEntry)) (end last : ℕ) → IsCommitSequence block start at before cs end last → length cs ≤ length (longest_commit_sequence_at block start at before).commits
 chain_longest block start at before [] end last h = omega arith
 chain_longest block start at before (c ∷ cs) end last (mid, carry, commit, rest) =
     let on = chain_on block start at before (record { entries = c; end = mid; last = carry }) (commit_complete block start at before c mid carry commit) in
@@ -208,7 +208,7 @@ chain_longest block start at before (c ∷ cs) end last (mid, carry, commit, res
     rw on (omega (arith, ih))
 
 -- and each is a beginning of the one that is computed
-pub chain_beginning : (block : List ℕ) (start at before : ℕ) (cs : List (List LogEntry)) (end last : ℕ) → IsChain block start at before cs end last → take (length cs) (chain_at block start at before).commits ≡ cs
+pub chain_beginning : (block : List ℕ) (start at before : ℕ) (cs : List (List LogEntry)) (end last : ℕ) → IsCommitSequence block start at before cs end last → take (length cs) (longest_commit_sequence_at block start at before).commits ≡ cs
 chain_beginning block start at before [] end last h = refl
 chain_beginning block start at before (c ∷ cs) end last (mid, carry, commit, rest) =
     let on = chain_on block start at before (record { entries = c; end = mid; last = carry }) (commit_complete block start at before c mid carry commit) in
@@ -216,23 +216,23 @@ chain_beginning block start at before (c ∷ cs) end last (mid, carry, commit, r
 
 -- ---- steps of the code
 
-abbrev pub chain_stop : Chain → ℕ × ℕ
+abbrev pub chain_stop : CommitSequence → ℕ × ℕ
 chain_stop c = (c.end, c.last)
 
 pub chain_follows : (block : List ℕ) (start at before : ℕ) (r : ℕ × ℕ) → Some r ≡ option_map stop (commit_at block start at before)
-    → chain_stop (chain_at block start at before) ≡ chain_stop (chain_at block r.0 r.0 r.1)
+    → chain_stop (longest_commit_sequence_at block start at before) ≡ chain_stop (longest_commit_sequence_at block r.0 r.0 r.1)
 chain_follows block start at before r h =
-    elim (commit_at block start at before) as (λ o. commit_at block start at before ≡ o → Some r ≡ option_map stop o → chain_stop (chain_at block start at before) ≡ chain_stop (chain_at block r.0 r.0 r.1)) [
+    elim (commit_at block start at before) as (λ o. commit_at block start at before ≡ o → Some r ≡ option_map stop o → chain_stop (longest_commit_sequence_at block start at before) ≡ chain_stop (longest_commit_sequence_at block r.0 r.0 r.1)) [
       | None ↦ λ is h. absurd cc
       | Some c ↦ λ is h.
           let same : r ≡ (c.end, c.last) = cc in
-          ap chain_stop (chain_on block start at before c is) ∙ sym (ap (λ (s : ℕ × ℕ). chain_stop (chain_at block s.0 s.0 s.1)) same)
+          ap chain_stop (chain_on block start at before c is) ∙ sym (ap (λ (s : ℕ × ℕ). chain_stop (longest_commit_sequence_at block s.0 s.0 s.1)) same)
     ] refl h
 
 pub chain_stops : (block : List ℕ) (start at before : ℕ) → None ≡ option_map stop (commit_at block start at before)
-    → chain_stop (chain_at block start at before) ≡ (at, before)
+    → chain_stop (longest_commit_sequence_at block start at before) ≡ (at, before)
 chain_stops block start at before h =
-    elim (commit_at block start at before) as (λ o. commit_at block start at before ≡ o → None ≡ option_map stop o → chain_stop (chain_at block start at before) ≡ (at, before)) [
+    elim (commit_at block start at before) as (λ o. commit_at block start at before ≡ o → None ≡ option_map stop o → chain_stop (longest_commit_sequence_at block start at before) ≡ (at, before)) [
       | None ↦ λ is h. ap chain_stop (chain_none block start at before is)
       | Some c ↦ λ is h. absurd cc
     ] refl h

@@ -1,14 +1,14 @@
 -- Changes, applied on a small pair.
 use Rattle.std.specs.Prelude.{ℕ, ◌≡◌, true, false, List, [], ◌∷◌, ◌++◌, Some, None, map, codes}
 use Rattle.std.proofs.Common.{refl, replicate}
-use Rattle.lfs_model.specs.Slots.{no_gstate}
+use Rattle.lfs_model.specs.Slots.{zero_gstate}
 use Rattle.lfs_model.specs.Log.{LogEntry}
-use Rattle.lfs_model.specs.Content.{RawSlot, RawContent, no_content, content_after_all}
+use Rattle.lfs_model.specs.Content.{RawSlot, RawContent, empty_raw_content, content_after_log_entries}
 use Rattle.lfs_model.specs.EntryTypes.{file_name_type, superblock_name_type, inline_struct_type}
-use Rattle.lfs_model.specs.WrittenContent.{written_entries}
-use Rattle.lfs_model.specs.Changes.{Change, Create, Delete, PutStruct, PutAttribute, PutTail, PutMove, entries_of_changes, changed_by}
+use Rattle.lfs_model.specs.WrittenContent.{log_entries_of_content}
+use Rattle.lfs_model.specs.Changes.{ContentChange, Create, Delete, PutStruct, PutAttribute, PutTail, PutMove, log_entries_of_changes, content_after_changes}
 
-abbrev empty_file : ℕ → List ℕ → List Change
+abbrev empty_file : ℕ → List ℕ → List ContentChange
 empty_file id name = Create id file_name_type name ∷ PutStruct id inline_struct_type [] ∷ []
 
 abbrev superblock : RawSlot
@@ -18,21 +18,21 @@ abbrev file : RawSlot
 file = record { name = Some (file_name_type, codes "b"); struct = Some (inline_struct_type, []); attributes = (0x41, codes "x") ∷ [] }
 
 abbrev holding : List RawSlot → RawContent
-holding slots = record { slots = slots; tail = None; move = no_gstate }
+holding slots = record { slots = slots; tail = None; move = zero_gstate }
 
 -- file b comes, then a before it, which goes again; b gets an attribute
-abbrev changes : List Change
+abbrev changes : List ContentChange
 changes = empty_file 1 (codes "b") ++ (empty_file 1 (codes "a") ++ (Delete 1 ∷ PutAttribute 1 0x41 (codes "x") ∷ []))
 
-pub tags : map (λ (e : LogEntry). e.tag) (entries_of_changes changes)
+pub tags : map (λ (e : LogEntry). e.tag) (log_entries_of_changes changes)
     ≡ 0x40100400 ∷ 0x00100401 ∷ 0x20100400 ∷ 0x40100400 ∷ 0x00100401 ∷ 0x20100400 ∷ 0x4ff00400 ∷ 0x34100401 ∷ []
 tags = refl
 
 -- without a change the content stays; a slot that isn't there can't go
-pub stays : changed_by (holding (superblock ∷ [])) [] ≡ Some (holding (superblock ∷ []))
+pub stays : content_after_changes (holding (superblock ∷ [])) [] ≡ Some (holding (superblock ∷ []))
 stays = refl
 
-pub malformed : changed_by (holding (superblock ∷ [])) (Delete 1 ∷ []) ≡ None
+pub malformed : content_after_changes (holding (superblock ∷ [])) (Delete 1 ∷ []) ≡ None
 malformed = refl
 
 -- a tail and a move state, and none again

@@ -8,7 +8,7 @@ use Rattle.std.proofs.lemmas.Bool.Decides.{nat_tests}
 use Rattle.std.proofs.lemmas.Nat.{xor_comm, xor_lt, xor_block, xor_shr, xor_mod, pow-add, pow_pos, same_from_place, mul-add-lt}
 use Rattle.std.specs.Prelude.{All}
 use Rattle.std.proofs.lemmas.List.Elements.{All-head, All-tail}
-use Rattle.lfs_model.specs.Crc.{generator, low_bits, polynomial, times_generator, IsRemainder, message, IsChecksum, next_bit, next_bits, crc_of}
+use Rattle.lfs_model.specs.Crc.{generator_polynomial, low_bits, polynomial, times_generator, IsRemainder, message_polynomial, IsCrcOfBytes, crc_after_bit, next_bits, crc_of}
 
 -- ---- sums
 
@@ -43,7 +43,7 @@ pub record IsMultiple (m : ℕ) : Type 0 where
   pub is : m ≡ times_generator quotient
 
 scaled : Bool → ℕ
-scaled c = cond c generator 0
+scaled c = cond c generator_polynomial 0
 
 differs : Bool → Bool → Bool
 differs true true = false
@@ -52,9 +52,9 @@ differs false c = c
 
 scaled-differs : (c d : Bool) → bit_xor (scaled c) (scaled d) ≡ scaled (differs c d)
 unfolding scaled differs
-scaled-differs true true = xor_self generator
-scaled-differs true false = xor_zero_r generator
-scaled-differs false d = xor_zero_l (cond d generator 0)
+scaled-differs true true = xor_self generator_polynomial
+scaled-differs true false = xor_zero_r generator_polynomial
+scaled-differs false d = xor_zero_l (cond d generator_polynomial 0)
 
 sum_of : List Bool → List Bool → List Bool
 sum_of [] ds = ds
@@ -73,7 +73,7 @@ pub none : IsMultiple 0
 unfolding times_generator
 none = record { quotient = []; is = refl }
 
-pub one : IsMultiple generator
+pub one : IsMultiple generator_polynomial
 unfolding times_generator
 one = record { quotient = true ∷ []; is = refl }
 
@@ -91,17 +91,17 @@ shifted m (suc k) p =
     rw e (double (m * 2 ^ k) (shifted m k p))
 
 -- a multiple of a degree below 32 is 0
-low : (c : Bool) (t : ℕ) → t ≡ 0 → bit_xor (cond c generator 0) (2 * t) < 2 ^ 32 → bit_xor (cond c generator 0) (2 * t) ≡ 0
+low : (c : Bool) (t : ℕ) → t ≡ 0 → bit_xor (cond c generator_polynomial 0) (2 * t) < 2 ^ 32 → bit_xor (cond c generator_polynomial 0) (2 * t) ≡ 0
 low true t e h = absurd (let f = rw e at h in omega arith)
 low false t e h = rw e refl
 
-scaled_div : (c : Bool) → cond c generator 0 / 2 ^ 33 ≡ 0
+scaled_div : (c : Bool) → cond c generator_polynomial 0 / 2 ^ 33 ≡ 0
 scaled_div true = refl
 scaled_div false = refl
 
-high : (c : Bool) (t : ℕ) → 2 ^ 32 ≤ t → bit_xor (cond c generator 0) (2 * t) < 2 ^ 32 → ⊥
+high : (c : Bool) (t : ℕ) → 2 ^ 32 ≤ t → bit_xor (cond c generator_polynomial 0) (2 * t) < 2 ^ 32 → ⊥
 high c t le h =
-    let parts : bit_xor (cond c generator 0) (2 * t) / 2 ^ 33 ≡ 2 * t / 2 ^ 33 = xor_shr (cond c generator 0) (2 * t) 33 ∙ rw (scaled_div c) (xor_zero_l (2 * t / 2 ^ 33)) in
+    let parts : bit_xor (cond c generator_polynomial 0) (2 * t) / 2 ^ 33 ≡ 2 * t / 2 ^ 33 = xor_shr (cond c generator_polynomial 0) (2 * t) 33 ∙ rw (scaled_div c) (xor_zero_l (2 * t / 2 ^ 33)) in
     omega (arith, parts)
 
 small_multiple : (cs : List Bool) → times_generator cs < 2 ^ 32 → times_generator cs ≡ 0
@@ -221,7 +221,7 @@ one_step x false lt e =
     let sum : 2 * turned 32 x ≡ turned 32 (x / 2) = omega (arith, doubled x lt, even) in
     rw (sum, xor_self (turned 32 (x / 2))) none
 
-next_bit_lt : (x : ℕ) → x < 2 ^ 32 → next_bit x < 2 ^ 32
+next_bit_lt : (x : ℕ) → x < 2 ^ 32 → crc_after_bit x < 2 ^ 32
 next_bit_lt x lt = by_test (eqb (x % 2) 1)
   where
     by_test : (c : Bool) → cond c (bit_xor (x / 2) 0xedb88320) (x / 2) < 2 ^ 32
@@ -231,16 +231,16 @@ next_bit_lt x lt = by_test (eqb (x % 2) 1)
 pub next_bits_lt : (n x : ℕ) → x < 2 ^ 32 → next_bits n x < 2 ^ 32
 unfolding next_bits
 next_bits_lt zero x lt = lt
-next_bits_lt (suc n) x lt = next_bits_lt n (next_bit x) (next_bit_lt x lt)
+next_bits_lt (suc n) x lt = next_bits_lt n (crc_after_bit x) (next_bit_lt x lt)
 
 steps : (n x : ℕ) → x < 2 ^ 32 → IsMultiple (bit_xor (turned 32 x * 2 ^ n) (turned 32 (next_bits n x)))
 unfolding next_bits
 steps zero x lt = let e : turned 32 x * 2 ^ zero ≡ turned 32 x = omega arith in rw (e, xor_self (turned 32 x)) none
 steps (suc n) x lt =
-    let first = shifted (bit_xor (2 * turned 32 x) (turned 32 (next_bit x))) n (one_step x (eqb (x % 2) 1) lt refl) in
-    let moved = rw (xor-mul_pow (2 * turned 32 x) (turned 32 (next_bit x)) n) at first in
+    let first = shifted (bit_xor (2 * turned 32 x) (turned 32 (crc_after_bit x))) n (one_step x (eqb (x % 2) 1) lt refl) in
+    let moved = rw (xor-mul_pow (2 * turned 32 x) (turned 32 (crc_after_bit x)) n) at first in
     let e : turned 32 x * 2 ^ suc n ≡ 2 * turned 32 x * 2 ^ n = rw pow-suc (turn (turned 32 x) (2 ^ n)) in
-    rw e (through (2 * turned 32 x * 2 ^ n) (turned 32 (next_bit x) * 2 ^ n) (turned 32 (next_bits n (next_bit x))) moved (steps n (next_bit x) (next_bit_lt x lt)))
+    rw e (through (2 * turned 32 x * 2 ^ n) (turned 32 (crc_after_bit x) * 2 ^ n) (turned 32 (next_bits n (crc_after_bit x))) moved (steps n (crc_after_bit x) (next_bit_lt x lt)))
   where
     turn : (t p : ℕ) → t * (p * 2) ≡ 2 * t * p
     turn t p = omega arith
@@ -256,35 +256,35 @@ polynomial-append (c ∷ cs) ds =
     spread : (c p q s t : ℕ) → c * (p * q) + (s * q + t) ≡ (c * p + s) * q + t
     spread c p q s t = grind arith
 
-length-message : (bytes : List ℕ) → length (flat_map (low_bits 8) bytes) ≡ 8 * length bytes
-length-message [] = refl
-length-message (b ∷ bs) = omega (arith, length-append (low_bits 8 b) (flat_map (low_bits 8) bs), length-low_bits 8 b, length-message bs)
+length-message_polynomial : (bytes : List ℕ) → length (flat_map (low_bits 8) bytes) ≡ 8 * length bytes
+length-message_polynomial [] = refl
+length-message_polynomial (b ∷ bs) = omega (arith, length-append (low_bits 8 b) (flat_map (low_bits 8) bs), length-low_bits 8 b, length-message_polynomial bs)
 
-message-more : (b : ℕ) (bs : List ℕ) → message (b ∷ bs) ≡ turned 8 b * 2 ^ (8 * length bs) + message bs
-message-more b bs = polynomial-append (low_bits 8 b) (flat_map (low_bits 8) bs) ∙ rw (length-message bs) refl
+message_polynomial-more : (b : ℕ) (bs : List ℕ) → message_polynomial (b ∷ bs) ≡ turned 8 b * 2 ^ (8 * length bs) + message_polynomial bs
+message_polynomial-more b bs = polynomial-append (low_bits 8 b) (flat_map (low_bits 8) bs) ∙ rw (length-message_polynomial bs) refl
 
-message_lt : (bytes : List ℕ) → message bytes < 2 ^ (8 * length bytes)
+message_lt : (bytes : List ℕ) → message_polynomial bytes < 2 ^ (8 * length bytes)
 unfolding polynomial
 message_lt [] = omega arith
 message_lt (b ∷ bs) =
     let e : 8 * length (b ∷ bs) ≡ 8 + 8 * length bs = omega arith in
-    rw (message-more b bs, e, pow-add 2 8 (8 * length bs), mul_comm (2 ^ 8) (2 ^ (8 * length bs))) (mul-add-lt (turned 8 b) (2 ^ (8 * length bs)) (message bs) (2 ^ 8) (turned_lt 8 b) (message_lt bs))
+    rw (message_polynomial-more b bs, e, pow-add 2 8 (8 * length bs), mul_comm (2 ^ 8) (2 ^ (8 * length bs))) (mul-add-lt (turned 8 b) (2 ^ (8 * length bs)) (message_polynomial bs) (2 ^ 8) (turned_lt 8 b) (message_lt bs))
 
 abbrev dividend : ℕ → List ℕ → ℕ
-dividend start bytes = bit_xor (message bytes * 2 ^ 32) (turned 32 start * 2 ^ (8 * length bytes))
+dividend start bytes = bit_xor (message_polynomial bytes * 2 ^ 32) (turned 32 start * 2 ^ (8 * length bytes))
 
 byte_step : (x b : ℕ) (bs : List ℕ) → x < 2 ^ 32 → b < 2 ^ 8 → IsMultiple (bit_xor (dividend x (b ∷ bs)) (dividend (next_bits 8 (bit_xor x b)) bs))
 byte_step x b bs lt small =
     let k = 8 * length bs in
     let a = turned 8 b in
-    let m = message bs * 2 ^ 32 in
+    let m = message_polynomial bs * 2 ^ 32 in
     let w = turned 32 x in
     let mixed = bit_xor x b in
     let mixed_lt : mixed < 2 ^ 32 = xor_lt 32 x b lt (omega arith) in
     let after = turned 32 (next_bits 8 mixed) in
     let len : 8 * length (b ∷ bs) ≡ 8 + k = omega arith in
-    let front : message (b ∷ bs) * 2 ^ 32 ≡ bit_xor (a * 2 ^ 24 * 2 ^ 8 * 2 ^ k) m =
-    ap (λ (t : ℕ). t * 2 ^ 32) (message-more b bs ∙ sym (xor_shifted a k (message bs) (message_lt bs))) ∙ xor-mul_pow (a * 2 ^ k) (message bs) 32 ∙ ap (λ (t : ℕ). bit_xor t m) (moved a (2 ^ k)) in
+    let front : message_polynomial (b ∷ bs) * 2 ^ 32 ≡ bit_xor (a * 2 ^ 24 * 2 ^ 8 * 2 ^ k) m =
+    ap (λ (t : ℕ). t * 2 ^ 32) (message_polynomial-more b bs ∙ sym (xor_shifted a k (message_polynomial bs) (message_lt bs))) ∙ xor-mul_pow (a * 2 ^ k) (message_polynomial bs) 32 ∙ ap (λ (t : ℕ). bit_xor t m) (moved a (2 ^ k)) in
     let back : w * 2 ^ (8 * length (b ∷ bs)) ≡ w * 2 ^ 8 * 2 ^ k = rw (len, pow-add 2 8 k) (sym (mul_assoc w (2 ^ 8) (2 ^ k))) in
     let word_is : turned 32 mixed ≡ bit_xor (a * 2 ^ 24) w = turned-xor 32 x b ∙ xor_comm w (turned 32 b) ∙ ap (λ (t : ℕ). bit_xor t w) (turned-more 8 24 b small) in
     let joined : bit_xor (a * 2 ^ 24 * 2 ^ 8 * 2 ^ k) (w * 2 ^ 8 * 2 ^ k) ≡ turned 32 mixed * 2 ^ 8 * 2 ^ k =
@@ -326,11 +326,11 @@ crc_multiple x (b ∷ bs) lt fits =
     (crc_multiple next bs (next_bits_lt 8 (bit_xor x b) mixed_lt) (AreBytes-rest b bs fits))
 
 -- what is computed is the remainder
-pub crc_is_remainder : (start : ℕ) (bytes : List ℕ) → start < 2 ^ 32 → AreBytes bytes → IsChecksum start bytes (crc_of start bytes)
+pub crc_is_remainder : (start : ℕ) (bytes : List ℕ) → start < 2 ^ 32 → AreBytes bytes → IsCrcOfBytes start bytes (crc_of start bytes)
 crc_is_remainder start bytes lt fits = from_multiple (dividend start bytes) (turned 32 (crc_of start bytes)) (turned_lt 32 (crc_of start bytes)) (crc_multiple start bytes lt fits)
 
 -- and nothing else is
-pub one_checksum : (start : ℕ) (bytes : List ℕ) (x y : ℕ) → x < 2 ^ 32 → y < 2 ^ 32 → IsChecksum start bytes x → IsChecksum start bytes y → x ≡ y
+pub one_checksum : (start : ℕ) (bytes : List ℕ) (x y : ℕ) → x < 2 ^ 32 → y < 2 ^ 32 → IsCrcOfBytes start bytes x → IsCrcOfBytes start bytes y → x ≡ y
 one_checksum start bytes x y p q a b = turned_same 32 x y p q (one_remainder (dividend start bytes) (turned 32 x) (turned 32 y) a b)
 
 -- ---- the checksum of parts
@@ -346,6 +346,6 @@ unfolding crc_of
 crc-drop x i bytes lt = rw (add-one, drop-cons bytes i 0) refl
 
 -- one more bit of those that are left
-pub next_bits-drop : (n i x : ℕ) → i < n → next_bits (n - i) x ≡ next_bits (n - (i + 1)) (next_bit x)
+pub next_bits-drop : (n i x : ℕ) → i < n → next_bits (n - i) x ≡ next_bits (n - (i + 1)) (crc_after_bit x)
 unfolding next_bits
 next_bits-drop n i x lt = let e : n - i ≡ suc (n - (i + 1)) = omega arith in rw e refl

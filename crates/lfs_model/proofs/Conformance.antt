@@ -4,12 +4,12 @@ use Rattle.std.specs.Prelude.{Contains}
 use Rattle.std.proofs.lemmas.Bool.{cases_lt}
 use Rattle.std.proofs.lemmas.List.{get_or_past}
 use Rattle.std.proofs.lemmas.List.Elements.{All-same, All-cons, All-contains}
-use Rattle.lfs_model.specs.Blocks.{Blocks, SameBut, block_in, programmed}
-use Rattle.lfs_model.specs.Log.{log_of}
-use Rattle.lfs_model.specs.History.{Call, Read, Program, Erase, Event, event}
-use Rattle.lfs_model.specs.Conformance.{Conforms, AllConform}
-use Rattle.lfs_model.specs.Stops.{Stops, stops_in, LeftByProgram, ErasesCleanly, erases_cleanly}
-use Rattle.lfs_model.proofs.Overwrites.{block_in-programmed}
+use Rattle.lfs_model.specs.Blocks.{Blocks, AreBlocksEqualExceptOne, block_bytes_in, programmed}
+use Rattle.lfs_model.specs.Log.{log_of_block}
+use Rattle.lfs_model.specs.History.{Call, Read, Program, Erase, CallEvent, call_event_with}
+use Rattle.lfs_model.specs.Conformance.{IsConformingCall, AreConformingCalls}
+use Rattle.lfs_model.specs.Stops.{IsLeftByStopIn, is_left_by_stop_in, IsLeftByStoppedProgram, LeavesNoNewLogIfErase, leaves_no_new_log_if_erase}
+use Rattle.lfs_model.proofs.Overwrites.{block_bytes_in-programmed}
 
 -- ---- one call more
 
@@ -24,7 +24,7 @@ place_of (Read block off len) = block
 place_of (Program block off bytes) = block
 place_of (Erase block) = block
 
-pub conforms_read : (block off len : ℕ) (before after : Blocks) (failed : Bool) → after ≡ before → Conforms (event (Read block off len) before after failed)
+pub conforms_read : (block off len : ℕ) (before after : Blocks) (failed : Bool) → after ≡ before → IsConformingCall (call_event_with (Read block off len) before after failed)
 conforms_read block off len before after failed same = record {
   reads = λ b o n is ok. same;
   programs = λ b o bytes is ok. absurd (cc);
@@ -32,44 +32,44 @@ conforms_read block off len before after failed same = record {
   erases = λ b is ok. absurd (cc);
 }
 
-pub conforms_program : (block off : ℕ) (bytes : List ℕ) (before after : Blocks) (failed : Bool) → (failed ≡ false → after ≡ programmed before block off bytes) → SameBut block before after
-    → Conforms (event (Program block off bytes) before after failed)
+pub conforms_program : (block off : ℕ) (bytes : List ℕ) (before after : Blocks) (failed : Bool) → (failed ≡ false → after ≡ programmed before block off bytes) → AreBlocksEqualExceptOne block before after
+    → IsConformingCall (call_event_with (Program block off bytes) before after failed)
 conforms_program block off bytes before after failed done same = record {
   reads = λ b o n is ok. absurd (cc);
   programs = λ b o other is ok. done ok ∙ ap (λ call. written_by call before) is;
-  others = λ b o other is ok. subst (λ call. SameBut (place_of call) before after) is same;
+  others = λ b o other is ok. subst (λ call. AreBlocksEqualExceptOne (place_of call) before after) is same;
   erases = λ b is ok. absurd (cc);
 }
 
-pub conforms_erase : (block : ℕ) (before after : Blocks) (failed : Bool) → SameBut block before after → Conforms (event (Erase block) before after failed)
+pub conforms_erase : (block : ℕ) (before after : Blocks) (failed : Bool) → AreBlocksEqualExceptOne block before after → IsConformingCall (call_event_with (Erase block) before after failed)
 conforms_erase block before after failed same = record {
   reads = λ b o n is ok. absurd (cc);
   programs = λ b o bytes is ok. absurd (cc);
   others = λ b o bytes is ok. absurd (cc);
-  erases = λ b is ok. subst (λ call. SameBut (place_of call) before after) is same;
+  erases = λ b is ok. subst (λ call. AreBlocksEqualExceptOne (place_of call) before after) is same;
 }
 
-pub conforms_next : {e : Event} {older later : List Event} → later ≡ e ∷ older → Conforms e → AllConform older → AllConform later
-conforms_next {e} {older} {later} is here so_far = All-same Conforms later (e ∷ older) is (All-cons Conforms e older here so_far)
+pub conforms_next : {e : CallEvent} {older later : List CallEvent} → later ≡ e ∷ older → IsConformingCall e → AreConformingCalls older → AreConformingCalls later
+conforms_next {e} {older} {later} is here so_far = All-same IsConformingCall later (e ∷ older) is (All-cons IsConformingCall e older here so_far)
 
 -- ---- what was left
 
-left_by_program : (block off : ℕ) (bytes : List ℕ) (before after : Blocks) → SameBut block before after → after ≡ programmed before block off bytes
-    → LeftByProgram off bytes (block_in before block) (block_in after block)
+left_by_program : (block off : ℕ) (bytes : List ℕ) (before after : Blocks) → AreBlocksEqualExceptOne block before after → after ≡ programmed before block off bytes
+    → IsLeftByStoppedProgram off bytes (block_bytes_in before block) (block_bytes_in after block)
 left_by_program block off bytes before after same done = elim (cases_lt block (length before)) [
-  | inl there ↦ inr (inl (ap log_of (ap (λ (blocks : Blocks). block_in blocks block) done ∙ block_in-programmed before block off bytes there)))
-  | inr beyond ↦ let count = same.count in inl (ap log_of (get_or_past after block [] (omega arith) ∙ sym (get_or_past before block [] beyond)))
+  | inl there ↦ inr (inl (ap log_of_block (ap (λ (blocks : Blocks). block_bytes_in blocks block) done ∙ block_bytes_in-programmed before block off bytes there)))
+  | inr beyond ↦ let count = same.count in inl (ap log_of_block (get_or_past after block [] (omega arith) ∙ sym (get_or_past before block [] beyond)))
 ]
 
-pub conforming_stops : (e : Event) → Conforms e → e.failed ≡ false → ErasesCleanly e → Stops e e.after
+pub conforming_stops : (e : CallEvent) → IsConformingCall e → e.failed ≡ false → LeavesNoNewLogIfErase e → IsLeftByStopIn e e.after
 conforming_stops e conforms ok cleanly = go e.call refl cleanly
   where
-    go : (call : Call) → e.call ≡ call → erases_cleanly call e.failed e.before e.after → stops_in call e.before e.after
+    go : (call : Call) → e.call ≡ call → leaves_no_new_log_if_erase call e.failed e.before e.after → is_left_by_stop_in call e.before e.after
     go (Read block off len) is clean = conforms.reads block off len is ok
     go (Program block off bytes) is clean =
         let same = conforms.others block off bytes is ok in
         (same, left_by_program block off bytes e.before e.after same (conforms.programs block off bytes is ok))
-    go (Erase block) is clean = (conforms.erases block is ok, subst (λ failed. erases_cleanly (Erase block) failed e.before e.after) ok clean)
+    go (Erase block) is clean = (conforms.erases block is ok, subst (λ failed. leaves_no_new_log_if_erase (Erase block) failed e.before e.after) ok clean)
 
-pub conforming_stops_among : (history : List Event) (e : Event) → AllConform history → Contains history e → e.failed ≡ false → ErasesCleanly e → Stops e e.after
-conforming_stops_among history e all among = conforming_stops e (All-contains Conforms history e all among)
+pub conforming_stops_among : (history : List CallEvent) (e : CallEvent) → AreConformingCalls history → Contains history e → e.failed ≡ false → LeavesNoNewLogIfErase e → IsLeftByStopIn e e.after
+conforming_stops_among history e all among = conforming_stops e (All-contains IsConformingCall history e all among)

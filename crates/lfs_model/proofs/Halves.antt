@@ -4,13 +4,13 @@ use Rattle.std.specs.List.{insert}
 use Rattle.std.proofs.lemmas.Bool.{cases_lt}
 use Rattle.std.proofs.lemmas.List.{take_at, drop_at, take-append-drop}
 use Rattle.std.proofs.lemmas.List.Sums.{sum_by-cons, sum_by-append, sum_by-take-drop}
-use Rattle.lfs_model.specs.Disk.{pair_capacity, entry_limit, inline_limit, slot_limit}
-use Rattle.lfs_model.specs.Slots.{Slot, Struct, Inline, Ctz, Branch, slot_size, struct_len, attributes_size, Content, FitsPair}
-use Rattle.lfs_model.specs.Content.{RawSlot, RawContent, completed, complete, complete_all}
-use Rattle.lfs_model.specs.WrittenContent.{raw_slot_size, FitsRaw}
-use Rattle.lfs_model.specs.LoggedContent.{HasParts, HaveParts, IsLogged}
+use Rattle.lfs_model.specs.Disk.{pair_capacity, entry_charge_limit, inline_limit, slots_per_pair_limit}
+use Rattle.lfs_model.specs.Slots.{Slot, Struct, Inline, Ctz, Branch, slot_size, struct_len, attributes_size, Content, IsContentFittingPair}
+use Rattle.lfs_model.specs.Content.{RawSlot, RawContent, content_if_slots_are_complete, complete, slots_if_all_complete}
+use Rattle.lfs_model.specs.WrittenContent.{raw_slot_size, IsRawContentFittingPair}
+use Rattle.lfs_model.specs.LoggedContent.{IsWellFormedRawSlot, AreWellFormedRawSlots, IsWellFormedRawContent}
 use Rattle.lfs_model.specs.Cut.{FitSlots, IsCutOfSlots, CanBeCut}
-use Rattle.lfs_model.specs.Profile.{FitsEntry, HasInline}
+use Rattle.lfs_model.specs.Profile.{FitsEntryLimits, HasInlineBytesWithin}
 use Rattle.lfs_model.proofs.Completed.{complete_parts, completed_parts, complete_cons, complete_length, slot_size_is, slots_size_is, fits_pair}
 
 -- ---- slots of any log
@@ -27,12 +27,12 @@ cut_between block_size page front back f b = record {
 }
 
 -- It is cut before the slot or after it. After it only where there is room for one slot more.
-pub can_be_cut : (block_size page : ℕ) (front : List RawSlot) (s : RawSlot) (back : List RawSlot) → raw_slot_size s ≤ entry_limit block_size page
-    → sum_by raw_slot_size front + sum_by raw_slot_size back ≤ pair_capacity block_size page → length front + length back ≤ slot_limit → CanBeCut block_size page (front ++ s ∷ back)
+pub can_be_cut : (block_size page : ℕ) (front : List RawSlot) (s : RawSlot) (back : List RawSlot) → raw_slot_size s ≤ entry_charge_limit block_size page
+    → sum_by raw_slot_size front + sum_by raw_slot_size back ≤ pair_capacity block_size page → length front + length back ≤ slots_per_pair_limit → CanBeCut block_size page (front ++ s ∷ back)
 can_be_cut block_size page front s back small size count = ⊎_elim
     (λ few. ⊎_elim (λ light. behind light few) (λ heavy. in_front (omega (arith, sum_by-cons raw_slot_size s back)) (omega (arith, some front (omega arith)))) (cases_lt (2 * sum_by raw_slot_size front) (pair_capacity block_size page + 1)))
     (λ many. in_front (omega (arith, sum_by-cons raw_slot_size s back, ap (sum_by raw_slot_size) (none many))) (omega (arith, ap length (none many))))
-    (cases_lt (length front) slot_limit)
+    (cases_lt (length front) slots_per_pair_limit)
   where
     empty : (xs : List RawSlot) → length xs ≡ 0 → xs ≡ []
     empty [] e = refl
@@ -42,13 +42,13 @@ can_be_cut block_size page front s back small size count = ⊎_elim
     some [] l = absurd (omega arith)
     some (x ∷ xs) l = omega arith
 
-    none : slot_limit ≤ length front → back ≡ []
+    none : slots_per_pair_limit ≤ length front → back ≡ []
     none many = empty back (omega arith)
 
-    in_front : sum_by raw_slot_size (s ∷ back) ≤ pair_capacity block_size page → length back + 1 ≤ slot_limit → CanBeCut block_size page (front ++ s ∷ back)
+    in_front : sum_by raw_slot_size (s ∷ back) ≤ pair_capacity block_size page → length back + 1 ≤ slots_per_pair_limit → CanBeCut block_size page (front ++ s ∷ back)
     in_front fits few = cut_between block_size page front (s ∷ back) (record { size = omega arith; count = omega arith }) (record { size = fits; count = omega arith })
 
-    behind : 2 * sum_by raw_slot_size front < pair_capacity block_size page + 1 → length front < slot_limit → CanBeCut block_size page (front ++ s ∷ back)
+    behind : 2 * sum_by raw_slot_size front < pair_capacity block_size page + 1 → length front < slots_per_pair_limit → CanBeCut block_size page (front ++ s ∷ back)
     behind light few = subst (CanBeCut block_size page) (append_assoc front (s ∷ []) back) (cut_between block_size page (front ++ s ∷ []) back
         (record { size = omega (arith, sum_by-append raw_slot_size front (s ∷ []), sum_by-cons raw_slot_size s []); count = omega (arith, length-append front (s ∷ [])) })
         (record { size = omega arith; count = omega arith }))
@@ -74,25 +74,25 @@ cut_inside block_size page slots cut full is = record { some = some cut is; fewe
     fewer : cut < length slots
     fewer = ⊎_elim (λ less. less) (λ all. absurd (full (subst (FitSlots block_size page) (whole slots cut all) is.front))) (cases_lt cut (length slots))
 
-pub slots_fit : (block_size page : ℕ) (raw : RawContent) → FitSlots block_size page raw.slots → FitsRaw block_size page raw
+pub slots_fit : (block_size page : ℕ) (raw : RawContent) → FitSlots block_size page raw.slots → IsRawContentFittingPair block_size page raw
 slots_fit block_size page raw fits = record { size = fits.size; count = fits.count }
 
 -- ---- complete ones
 
 -- an entry of the profile takes at most half of a pair
-pub entry_small : (block_size page : ℕ) (s : Slot) → 1024 ≤ block_size → FitsEntry block_size page s → slot_size s ≤ entry_limit block_size page
+pub entry_small : (block_size page : ℕ) (s : Slot) → 1024 ≤ block_size → FitsEntryLimits block_size page s → slot_size s ≤ entry_charge_limit block_size page
 entry_small block_size page s large fits = go s.struct refl fits.inline
   where
-    charge : 4 + length s.name + (4 + inline_limit block_size) + attributes_size s.attributes ≤ entry_limit block_size page
+    charge : 4 + length s.name + (4 + inline_limit block_size) + attributes_size s.attributes ≤ entry_charge_limit block_size page
     charge = fits.charge
 
     eight : 8 ≤ inline_limit block_size
     eight = omega arith
 
-    bounded : struct_len s.struct ≤ inline_limit block_size → slot_size s ≤ entry_limit block_size page
+    bounded : struct_len s.struct ≤ inline_limit block_size → slot_size s ≤ entry_charge_limit block_size page
     bounded l = omega arith
 
-    go : (t : Struct) → s.struct ≡ t → HasInline (inline_limit block_size) t → slot_size s ≤ entry_limit block_size page
+    go : (t : Struct) → s.struct ≡ t → HasInlineBytesWithin (inline_limit block_size) t → slot_size s ≤ entry_charge_limit block_size page
     go (Inline bytes) e h = bounded (omega (arith, ap struct_len e))
     go (Ctz head size) e h = bounded (omega (arith, ap struct_len e))
     go (Branch to) e h = bounded (omega (arith, ap struct_len e))
@@ -103,17 +103,17 @@ record AreRaw (xs : List RawSlot) (front : List Slot) (s : Slot) (back : List Sl
   pub here : RawSlot
   pub behind : List RawSlot
   pub are : xs ≡ before ++ here ∷ behind
-  pub front_is : complete_all before ≡ Some front
+  pub front_is : slots_if_all_complete before ≡ Some front
   pub here_is : complete here ≡ Some s
-  pub back_is : complete_all behind ≡ Some back
-  pub front_parts : HaveParts before
-  pub here_parts : HasParts here
-  pub back_parts : HaveParts behind
+  pub back_is : slots_if_all_complete behind ≡ Some back
+  pub front_parts : AreWellFormedRawSlots before
+  pub here_parts : IsWellFormedRawSlot here
+  pub back_parts : AreWellFormedRawSlots behind
 
-are_raw : (xs : List RawSlot) (front : List Slot) (s : Slot) (back : List Slot) → HaveParts xs → complete_all xs ≡ Some (front ++ s ∷ back) → AreRaw xs front s back
+are_raw : (xs : List RawSlot) (front : List Slot) (s : Slot) (back : List Slot) → AreWellFormedRawSlots xs → slots_if_all_complete xs ≡ Some (front ++ s ∷ back) → AreRaw xs front s back
 are_raw [] front s back h e = absurd (none front e)
   where
-    none : (front : List Slot) → complete_all [] ≡ Some (front ++ s ∷ back) → ⊥
+    none : (front : List Slot) → slots_if_all_complete [] ≡ Some (front ++ s ∷ back) → ⊥
     none [] k = cc
     none (t ∷ front) k = cc
 are_raw (x ∷ xs) [] s back h e =
@@ -159,8 +159,8 @@ are_raw (x ∷ xs) (t ∷ front) s back h e =
     rest k = cc
 
 -- A content whose slots but one fit a pair can be cut in two.
-pub content_cut : (block_size page : ℕ) (raw : RawContent) (c : Content) (front : List Slot) (s : Slot) (back : List Slot) → IsLogged raw → completed raw ≡ Some c → c.slots ≡ front ++ s ∷ back
-    → slot_size s ≤ entry_limit block_size page → sum_by slot_size front + sum_by slot_size back ≤ pair_capacity block_size page → length front + length back ≤ slot_limit → CanBeCut block_size page raw.slots
+pub content_cut : (block_size page : ℕ) (raw : RawContent) (c : Content) (front : List Slot) (s : Slot) (back : List Slot) → IsWellFormedRawContent raw → content_if_slots_are_complete raw ≡ Some c → c.slots ≡ front ++ s ∷ back
+    → slot_size s ≤ entry_charge_limit block_size page → sum_by slot_size front + sum_by slot_size back ≤ pair_capacity block_size page → length front + length back ≤ slots_per_pair_limit → CanBeCut block_size page raw.slots
 content_cut block_size page raw c front s back logged is slots small size count =
     let r = are_raw raw.slots front s back logged.slots ((completed_parts raw c is).slots ∙ ap Some slots) in
     subst (CanBeCut block_size page) (sym r.are) (can_be_cut block_size page r.before r.here r.behind
@@ -169,23 +169,23 @@ content_cut block_size page raw c front s back logged is slots small size count 
     (omega (arith, complete_length r.before front r.front_is, complete_length r.behind back r.back_is)))
 
 -- a slot comes into a pair that fitted
-pub insert_cut : (block_size page : ℕ) (raw : RawContent) (c old : Content) (id : ℕ) (s : Slot) → IsLogged raw → completed raw ≡ Some c → c.slots ≡ insert old.slots id s
-    → slot_size s ≤ entry_limit block_size page → FitsPair block_size page old → CanBeCut block_size page raw.slots
+pub insert_cut : (block_size page : ℕ) (raw : RawContent) (c old : Content) (id : ℕ) (s : Slot) → IsWellFormedRawContent raw → content_if_slots_are_complete raw ≡ Some c → c.slots ≡ insert old.slots id s
+    → slot_size s ≤ entry_charge_limit block_size page → IsContentFittingPair block_size page old → CanBeCut block_size page raw.slots
 insert_cut block_size page raw c old id s logged is slots small fits =
     content_cut block_size page raw c (take id old.slots) s (drop id old.slots) logged is slots small
     (omega (arith, sum_by-take-drop slot_size old.slots id, fits.size))
     (omega (arith, ap length (take-append-drop id old.slots), length-append (take id old.slots) (drop id old.slots), fits.count))
 
 -- a slot of a pair that fitted changes
-pub set_cut : (block_size page : ℕ) (raw : RawContent) (c old : Content) (front : List Slot) (was s : Slot) (back : List Slot) → IsLogged raw → completed raw ≡ Some c
-    → old.slots ≡ front ++ was ∷ back → c.slots ≡ front ++ s ∷ back → slot_size s ≤ entry_limit block_size page → FitsPair block_size page old → CanBeCut block_size page raw.slots
+pub set_cut : (block_size page : ℕ) (raw : RawContent) (c old : Content) (front : List Slot) (was s : Slot) (back : List Slot) → IsWellFormedRawContent raw → content_if_slots_are_complete raw ≡ Some c
+    → old.slots ≡ front ++ was ∷ back → c.slots ≡ front ++ s ∷ back → slot_size s ≤ entry_charge_limit block_size page → IsContentFittingPair block_size page old → CanBeCut block_size page raw.slots
 set_cut block_size page raw c old front was s back logged is before slots small fits =
     content_cut block_size page raw c front s back logged is slots small
     (omega (arith, ap (sum_by slot_size) before, sum_by-append slot_size front (was ∷ back), sum_by-cons slot_size was back, fits.size))
     (omega (arith, ap length before, length-append front (was ∷ back), fits.count))
 
 -- where the content doesn't fit, the cut leaves slots before and after
-pub content_cut_inside : (block_size page : ℕ) (raw : RawContent) (c : Content) (cut : ℕ) → IsLogged raw → completed raw ≡ Some c → ¬ (FitsPair block_size page c) → IsCutOfSlots block_size page raw.slots cut
+pub content_cut_inside : (block_size page : ℕ) (raw : RawContent) (c : Content) (cut : ℕ) → IsWellFormedRawContent raw → content_if_slots_are_complete raw ≡ Some c → ¬ (IsContentFittingPair block_size page c) → IsCutOfSlots block_size page raw.slots cut
     → IsInside raw.slots cut
 content_cut_inside block_size page raw c cut logged is full cuts =
     cut_inside block_size page raw.slots cut (λ fits. full (fits_pair block_size page raw c logged is (slots_fit block_size page raw fits))) cuts

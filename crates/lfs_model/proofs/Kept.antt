@@ -2,23 +2,23 @@
 use Rattle.std.proofs.Common.{◌≡◌, Bool, true, false, cond, List, [], ◌∷◌, Option, Some, None, refl, sym, ap, subst, ◌∙◌}
 use Rattle.std.proofs.lemmas.Option.{same_Some}
 use Rattle.lfs_model.specs.Disk.{Disk, block_count}
-use Rattle.lfs_model.specs.Content.{content_at}
+use Rattle.lfs_model.specs.Content.{content_of_pair_at}
 use Rattle.lfs_model.specs.Thread.{Pair}
 use Rattle.lfs_model.specs.Tree.{Tree}
-use Rattle.lfs_model.specs.View.{IsAccepted}
+use Rattle.lfs_model.specs.View.{IsAcceptedImage}
 use Rattle.lfs_model.specs.Profile.{IsWritable}
-use Rattle.lfs_model.specs.Shown.{tree_in}
-use Rattle.lfs_model.specs.History.{Event}
+use Rattle.lfs_model.specs.Shown.{tree_on_disk}
+use Rattle.lfs_model.specs.History.{CallEvent}
 use Rattle.lfs_model.specs.Operations as ops
 use Rattle.lfs_model.specs.Operations.{Operation, Reply, Refusal}
-use Rattle.lfs_model.specs.Session.{Session, Surroundings}
-use Rattle.lfs_model.specs.Effects.{refusal_or_effect, effect_of, reply_or}
-use Rattle.lfs_model.specs.Refusals.{refusal_of}
-use Rattle.lfs_model.specs.State.{State, HasFailed, Healthy, is_remount, remounted, answer_of_state, mounted}
-use Rattle.lfs_model.specs.Fresh.{IsFresh, fresh_pair, empty_tree}
-use Rattle.lfs_model.specs.Recovery.{IsRecovered}
-use Rattle.lfs_model.specs.Run.{SystemState, Shows, AgreesWithTree, is_refusal, IsEffectOnDisk, IsSessionStep, AreSessionSteps}
-use Rattle.lfs_model.specs.Headline.{ComesFromFresh, session_after, session_after_all, AgreesWithDisk, IsSettled, IsWhatItsDiskShows}
+use Rattle.lfs_model.specs.Session.{Session, DiskSummary}
+use Rattle.lfs_model.specs.Effects.{refusal_or_effect, effect_of_operation, result_after_refusal_check}
+use Rattle.lfs_model.specs.Refusals.{refusal_of_operation}
+use Rattle.lfs_model.specs.State.{SessionHealth, HasFailed, Healthy, is_remount_operation, remounted, reply_and_state_unless_remount, mounted}
+use Rattle.lfs_model.specs.Fresh.{IsFreshDisk, fresh_pair, empty_tree}
+use Rattle.lfs_model.specs.Recovery.{IsNothingLeftToRecover}
+use Rattle.lfs_model.specs.Run.{SystemState, ShowsTree, HasDiskTreeIfHealthy, is_refusal, IsEffectOnDisk, IsSessionStep, AreSessionSteps}
+use Rattle.lfs_model.specs.Headline.{ComesFromFreshDisk, session_after_operation, session_after_operations, IsHealthyWithDiskTree, IsWritableAndRecovered, IsWhatItsDiskShows}
 use Rattle.lfs_model.specs.RepeatedPowerLoss.{IsJustMounted}
 use Rattle.lfs_model.proofs.Uniqueness.{one_thread}
 use Rattle.lfs_model.proofs.Fresh.{accepted, writable}
@@ -28,7 +28,7 @@ use Rattle.lfs_model.proofs.StepsMade.{no_refusal}
 -- ---- what the accepted operations define
 
 -- what an operation makes of a session doesn't depend on the disk
-same_effect : (around other : Surroundings) (s : Session) (op : Operation) → (effect_of around s op).1 ≡ (effect_of other s op).1
+same_effect : (around other : DiskSummary) (s : Session) (op : Operation) → (effect_of_operation around s op).1 ≡ (effect_of_operation other s op).1
 same_effect around other s (ops.Open path flags) = refl
 same_effect around other s (ops.Read fd count) = refl
 same_effect around other s (ops.Write fd bytes) = refl
@@ -44,62 +44,62 @@ same_effect around other s (ops.RemoveAttr path kind) = refl
 same_effect around other s _ = refl
 
 -- the trees of two accepted threads of a disk
-pub one_tree : (disk : Disk) (t u : Tree) → Shows disk (Some t) → Shows disk (Some u) → t ≡ u
-one_tree disk t u (ps, (a, e)) (qs, (b, f)) = e ∙ ap (tree_in disk) (one_thread (content_at disk) (block_count disk) ps qs a.thread b.thread) ∙ sym f
+pub one_tree : (disk : Disk) (t u : Tree) → ShowsTree disk (Some t) → ShowsTree disk (Some u) → t ≡ u
+one_tree disk t u (ps, (a, e)) (qs, (b, f)) = e ∙ ap (tree_on_disk disk) (one_thread (content_of_pair_at disk) (block_count disk) ps qs a.thread b.thread) ∙ sym f
 
-defined_next : (around : Surroundings) (from to : SystemState) (op : Operation) (reply : Reply) (s : Session) → from.state ≡ Healthy s → AgreesWithTree from.disk from.state → IsSessionStep from op reply to →
-    to.state ≡ Healthy (session_after around s op reply)
+defined_next : (around : DiskSummary) (from to : SystemState) (op : Operation) (reply : Reply) (s : Session) → from.state ≡ Healthy s → HasDiskTreeIfHealthy from.disk from.state → IsSessionStep from op reply to →
+    to.state ≡ Healthy (session_after_operation around s op reply)
 defined_next around from to op reply s healthy agrees turn =
-    go (is_remount op) refl (sym (ap (λ z. cond (is_remount op) (remounted turn.answered.shown) (answer_of_state turn.answered.around z op)) healthy) ∙ turn.answered.answers)
+    go (is_remount_operation op) refl (sym (ap (λ z. cond (is_remount_operation op) (remounted turn.answered.shown) (reply_and_state_unless_remount turn.answered.around z op)) healthy) ∙ turn.answered.answers)
   where
     effect : Session
-    effect = (effect_of around s op).1
+    effect = (effect_of_operation around s op).1
 
-    refused : (a : Surroundings) (r : Option Refusal) → (reply_or r s (effect_of a s op)).0 ≡ reply → (reply_or r s (effect_of a s op)).1 ≡ cond (is_refusal reply) s (effect_of around s op).1
+    refused : (a : DiskSummary) (r : Option Refusal) → (result_after_refusal_check r s (effect_of_operation a s op)).0 ≡ reply → (result_after_refusal_check r s (effect_of_operation a s op)).1 ≡ cond (is_refusal reply) s (effect_of_operation around s op).1
     refused a None e = same_effect a around s op ∙ sym (ap (λ b. cond b s effect) (no_refusal a s op)) ∙ ap (λ r. cond (is_refusal r) s effect) e
     refused a (Some error) e = ap (λ r. cond (is_refusal r) s effect) e
 
-    remount : (shown : Option Tree) → Shows from.disk shown → remounted shown ≡ (Some reply, to.state) → to.state ≡ Healthy (cond (is_refusal reply) s (mounted s.tree))
-    remount None h e = absurd (let k = ap (λ (z : Option Reply × State). z.0) e in cc)
+    remount : (shown : Option Tree) → ShowsTree from.disk shown → remounted shown ≡ (Some reply, to.state) → to.state ≡ Healthy (cond (is_refusal reply) s (mounted s.tree))
+    remount None h e = absurd (let k = ap (λ (z : Option Reply × SessionHealth). z.0) e in cc)
     remount (Some tree) h e =
-        let done = same_Some ops.Done reply (ap (λ (z : Option Reply × State). z.0) e) in
-        let same = one_tree from.disk tree s.tree h (subst (AgreesWithTree from.disk) healthy agrees) in
-        sym (ap (λ (z : Option Reply × State). z.1) e) ∙ ap (λ t. Healthy (mounted t)) same ∙ ap (λ r. Healthy (cond (is_refusal r) s (mounted s.tree))) done
+        let done = same_Some ops.Done reply (ap (λ (z : Option Reply × SessionHealth). z.0) e) in
+        let same = one_tree from.disk tree s.tree h (subst (HasDiskTreeIfHealthy from.disk) healthy agrees) in
+        sym (ap (λ (z : Option Reply × SessionHealth). z.1) e) ∙ ap (λ t. Healthy (mounted t)) same ∙ ap (λ r. Healthy (cond (is_refusal r) s (mounted s.tree))) done
 
-    go : (b : Bool) → is_remount op ≡ b → cond b (remounted turn.answered.shown) (answer_of_state turn.answered.around (Healthy s) op) ≡ (Some reply, to.state) →
-        to.state ≡ Healthy (cond (is_refusal reply) s (cond b (mounted s.tree) (effect_of around s op).1))
+    go : (b : Bool) → is_remount_operation op ≡ b → cond b (remounted turn.answered.shown) (reply_and_state_unless_remount turn.answered.around (Healthy s) op) ≡ (Some reply, to.state) →
+        to.state ≡ Healthy (cond (is_refusal reply) s (cond b (mounted s.tree) (effect_of_operation around s op).1))
     go true is e = remount turn.answered.shown (turn.answered.shows is) e
     go false is e =
         let a = turn.answered.around in
-        let k = same_Some (refusal_or_effect a s op).0 reply (ap (λ (z : Option Reply × State). z.0) e) in
-        sym (ap (λ (z : Option Reply × State). z.1) e) ∙ ap Healthy (refused a (refusal_of a s op) k)
+        let k = same_Some (refusal_or_effect a s op).0 reply (ap (λ (z : Option Reply × SessionHealth). z.0) e) in
+        sym (ap (λ (z : Option Reply × SessionHealth). z.1) e) ∙ ap Healthy (refused a (refusal_of_operation a s op) k)
 
-pub defined : (around : Surroundings) (operations : List Operation) (replies : List Reply) (from to : SystemState) (s : Session) → from.state ≡ Healthy s → AgreesWithTree from.disk from.state →
-    AreSessionSteps from operations replies to → to.state ≡ Healthy (session_after_all around s operations replies)
+pub defined : (around : DiskSummary) (operations : List Operation) (replies : List Reply) (from to : SystemState) (s : Session) → from.state ≡ Healthy s → HasDiskTreeIfHealthy from.disk from.state →
+    AreSessionSteps from operations replies to → to.state ≡ Healthy (session_after_operations around s operations replies)
 defined around [] [] from to s h agrees e = sym (ap (λ (m : SystemState). m.state) e) ∙ h
 defined around [] (reply ∷ replies) from to s h agrees e = absurd e
 defined around (op ∷ operations) [] from to s h agrees e = absurd e
 defined around (op ∷ operations) (reply ∷ replies) from to s h agrees (next, (turn, rest)) =
-    defined around operations replies next to (session_after around s op reply) (defined_next around from next op reply s h agrees turn) turn.agrees rest
+    defined around operations replies next to (session_after_operation around s op reply) (defined_next around from next op reply s h agrees turn) turn.agrees rest
 
 -- ---- what holds of the disk's pairs
 
 -- the disk is accepted, and its pairs have Q
 abbrev pub ArePairs : (Disk → List Pair → Type 0) → Disk → Type 0
-ArePairs Q disk = (ps : List Pair) × (IsAccepted disk ps × Q disk ps)
+ArePairs Q disk = (ps : List Pair) × (IsAcceptedImage disk ps × Q disk ps)
 
 -- each operation that is applied keeps it
 abbrev pub StaysCarried : (Disk → List Pair → Type 0) → Type 0
-StaysCarried Q = (disk new : Disk) (ps qs : List Pair) (s : Session) (op : Operation) (calls : List Event) → IsEffectOnDisk disk ps s op calls new qs → Q disk ps → Q new qs
+StaysCarried Q = (disk new : Disk) (ps qs : List Pair) (s : Session) (op : Operation) (calls : List CallEvent) → IsEffectOnDisk disk ps s op calls new qs → Q disk ps → Q new qs
 
 pub turn_keeps : (Q : Disk → List Pair → Type 0) → StaysCarried Q → (from to : SystemState) (op : Operation) (reply : Reply) → IsSessionStep from op reply to → IsHealthy from.state → ArePairs Q from.disk →
     ArePairs Q to.disk
 turn_keeps Q carries from to op reply turn h (ps, (ok, q)) = go (is_refusal reply) refl from.state refl h
   where
-    known : AgreesWithDisk to
+    known : IsHealthyWithDiskTree to
     known = true_from to (session_step_is_healthy from to op reply turn h) turn.agrees
 
-    go : (b : Bool) → is_refusal reply ≡ b → (state : State) → from.state ≡ state → IsHealthy state → ArePairs Q to.disk
+    go : (b : Bool) → is_refusal reply ≡ b → (state : SessionHealth) → from.state ≡ state → IsHealthy state → ArePairs Q to.disk
     go true is state e k = subst (ArePairs Q) (sym (turn.refused is).0) (ps, (ok, q))
     go false is HasFailed e k = absurd k
     go false is (Healthy s) e k =
@@ -118,11 +118,11 @@ pub profile_stays : StaysCarried IsWritable
 profile_stays disk new ps qs s op calls c h = c.profile h
 
 abbrev WritableRecovered : Disk → List Pair → Type 0
-WritableRecovered disk ps = IsWritable disk ps × IsRecovered ps
+WritableRecovered disk ps = IsWritable disk ps × IsNothingLeftToRecover ps
 
 -- ---- the headline
 
-pub session_shows : (from at : SystemState) (operations : List Operation) (replies : List Reply) → AgreesWithDisk from → AreSessionSteps from operations replies at → IsWhatItsDiskShows from operations replies at
+pub session_shows : (from at : SystemState) (operations : List Operation) (replies : List Reply) → IsHealthyWithDiskTree from → AreSessionSteps from operations replies at → IsWhatItsDiskShows from operations replies at
 session_shows from at operations replies known session_steps = record {
   answers = session_steps;
   shows = here;
@@ -133,16 +133,16 @@ session_shows from at operations replies known session_steps = record {
   settled = settled;
 }
   where
-    agrees : AgreesWithTree from.disk from.state
-    agrees = subst (AgreesWithTree from.disk) (sym known.healthy) known.shows
+    agrees : HasDiskTreeIfHealthy from.disk from.state
+    agrees = subst (HasDiskTreeIfHealthy from.disk) (sym known.healthy) known.shows
 
     healthy : IsHealthy from.state
     healthy = subst IsHealthy (sym known.healthy) tt
 
-    here : AgreesWithDisk at
+    here : IsHealthyWithDiskTree at
     here = true_from at (session_steps_are_healthy operations replies from at session_steps healthy) (session_steps_agree operations replies from at session_steps agrees)
 
-    settled : IsSettled from.disk → IsSettled at.disk
+    settled : IsWritableAndRecovered from.disk → IsWritableAndRecovered at.disk
     settled was =
         let end = session_steps_keep WritableRecovered (λ disk new ps qs s op calls k q. (k.profile q.0, k.stays q.1)) operations replies from at session_steps healthy (was.pairs, (was.accepted, (was.writable, was.recovered))) in
         record { pairs = end.0; accepted = end.1.0; writable = end.1.1.0; recovered = end.1.1.1 }
@@ -150,7 +150,7 @@ session_shows from at operations replies known session_steps = record {
 -- ---- where it begins
 
 -- on a fresh disk
-pub fresh_begins : (from : SystemState) → IsFresh from.disk → from.state ≡ Healthy (mounted empty_tree) → AgreesWithDisk from × IsSettled from.disk
+pub fresh_begins : (from : SystemState) → IsFreshDisk from.disk → from.state ≡ Healthy (mounted empty_tree) → IsHealthyWithDiskTree from × IsWritableAndRecovered from.disk
 fresh_begins from fresh mounts =
     let ok = accepted from.disk fresh in (
       record { session = mounted empty_tree; healthy = mounts; shows = fresh_agrees from.disk fresh },
@@ -158,30 +158,30 @@ fresh_begins from fresh mounts =
     )
 
 -- with a mount
-pub mount_begins : (disk : Disk) (at : SystemState) → IsJustMounted disk at → AgreesWithDisk at
-mount_begins disk at m = record { session = mounted m.tree; healthy = m.healthy; shows = subst (λ d. Shows d (Some m.tree)) (sym m.on) m.shows }
+pub mount_begins : (disk : Disk) (at : SystemState) → IsJustMounted disk at → IsHealthyWithDiskTree at
+mount_begins disk at m = record { session = mounted m.tree; healthy = m.healthy; shows = subst (λ d. ShowsTree d (Some m.tree)) (sym m.on) m.shows }
 
 -- a remount is a mount, also of a session that had failed
 pub remount_mounts : (from to : SystemState) → IsSessionStep from ops.Remount ops.Done to → IsJustMounted to.disk to
 remount_mounts from to turn = go turn.answered.shown turn.answered.answers
   where
     go : (shown : Option Tree) → remounted shown ≡ (Some ops.Done, to.state) → IsJustMounted to.disk to
-    go None e = absurd (let k = ap (λ (z : Option Reply × State). z.0) e in cc)
+    go None e = absurd (let k = ap (λ (z : Option Reply × SessionHealth). z.0) e in cc)
     go (Some tree) e =
-        let healthy = sym (ap (λ (z : Option Reply × State). z.1) e) in
-        record { on = refl; tree = tree; shows = subst (AgreesWithTree to.disk) healthy turn.agrees; healthy = healthy }
+        let healthy = sym (ap (λ (z : Option Reply × SessionHealth). z.1) e) in
+        record { on = refl; tree = tree; shows = subst (HasDiskTreeIfHealthy to.disk) healthy turn.agrees; healthy = healthy }
 
 -- ---- from a fresh disk
 
-fresh_shows : (operations : List Operation) (replies : List Reply) (at : SystemState) (c : ComesFromFresh operations replies at) → IsWhatItsDiskShows c.from operations replies at
+fresh_shows : (operations : List Operation) (replies : List Reply) (at : SystemState) (c : ComesFromFreshDisk operations replies at) → IsWhatItsDiskShows c.from operations replies at
 fresh_shows operations replies at c = session_shows c.from at operations replies (fresh_begins c.from c.fresh c.mounts).0 c.session_steps
 
-pub fresh_true : (operations : List Operation) (replies : List Reply) (at : SystemState) → ComesFromFresh operations replies at → AgreesWithDisk at
+pub fresh_true : (operations : List Operation) (replies : List Reply) (at : SystemState) → ComesFromFreshDisk operations replies at → IsHealthyWithDiskTree at
 fresh_true operations replies at c = (fresh_shows operations replies at c).shows
 
-pub fresh_defined : (operations : List Operation) (replies : List Reply) (at : SystemState) (around : Surroundings) → ComesFromFresh operations replies at →
-    at.state ≡ Healthy (session_after_all around (mounted empty_tree) operations replies)
+pub fresh_defined : (operations : List Operation) (replies : List Reply) (at : SystemState) (around : DiskSummary) → ComesFromFreshDisk operations replies at →
+    at.state ≡ Healthy (session_after_operations around (mounted empty_tree) operations replies)
 fresh_defined operations replies at around c = (fresh_shows operations replies at c).defined around (mounted empty_tree) c.mounts
 
-pub fresh_settled : (operations : List Operation) (replies : List Reply) (at : SystemState) → ComesFromFresh operations replies at → IsSettled at.disk
+pub fresh_settled : (operations : List Operation) (replies : List Reply) (at : SystemState) → ComesFromFreshDisk operations replies at → IsWritableAndRecovered at.disk
 fresh_settled operations replies at c = (fresh_shows operations replies at c).settled (fresh_begins c.from c.fresh c.mounts).1

@@ -5,16 +5,16 @@ use Rattle.std.specs.Option.{option_map}
 use Rattle.lfs_model.specs.Disk.{Disk}
 use Rattle.lfs_model.specs.Slots.{Slot, Struct, Inline, Ctz, Branch, Attributes}
 use Rattle.lfs_model.specs.Thread.{Pair}
-use Rattle.lfs_model.specs.Tree.{Path, Node, Tree, branch_of, node_of}
-use Rattle.lfs_model.specs.Shown.{contents_in, entries_in, tree_in}
-use Rattle.lfs_model.specs.TreeEdits.{same_path, rest_after, is_file, tree_with_node, tree_without, renamed, change_at}
+use Rattle.lfs_model.specs.Tree.{Path, Node, Tree, branch_address_of_struct, node_of_struct_and_attributes}
+use Rattle.lfs_model.specs.Shown.{skip_list_bytes_on_disk, entries_by_directory_in_thread, tree_on_disk}
+use Rattle.lfs_model.specs.TreeEdits.{same_path, path_without_prefix, is_file, tree_after_creation, tree_after_removal, renamed, tree_after_change_of_node}
 use Rattle.lfs_model.specs.Operations as ops
 use Rattle.lfs_model.specs.Operations.{Operation}
-use Rattle.lfs_model.specs.Session.{Session, Writing, Writer, file_of}
-use Rattle.lfs_model.specs.Refusals.{as_path}
-use Rattle.lfs_model.specs.Effects.{with_bytes}
+use Rattle.lfs_model.specs.Session.{Session, Writing, Writer, open_file_of}
+use Rattle.lfs_model.specs.Refusals.{path_or_root}
+use Rattle.lfs_model.specs.Effects.{node_with_bytes}
 use Rattle.lfs_model.specs.SlotEdits.{slot_of_path}
-use Rattle.lfs_model.specs.Keeping.{takes_or_moves, is_at_path, stores_at, struct_at, KeepsStructs}
+use Rattle.lfs_model.specs.Keeping.{removes_or_moves_path, is_open_file_at_path, may_store_contents_at_path, struct_of_path, KeepsStructsOfUntouchedFiles}
 use Rattle.lfs_model.proofs.Paths.{Paths, path_alike, path_unlike, paths}
 use Rattle.lfs_model.proofs.Trees.{not_before}
 use Rattle.lfs_model.proofs.Laws.{Walk}
@@ -23,25 +23,25 @@ use Rattle.lfs_model.proofs.Changes.{Follows}
 
 -- what the change makes of a tree leaves the bytes of the files that the operation isn't about
 abbrev pub LeavesFiles : Tree → Session → Operation → (Tree → Tree) → Type 0
-LeavesFiles t s op change = (q : Path) → is_file (t q) ≡ true → takes_or_moves op q ≡ false → stores_at s op q ≡ false → LeavesBytes change q
+LeavesFiles t s op change = (q : Path) → is_file (t q) ≡ true → removes_or_moves_path op q ≡ false → may_store_contents_at_path s op q ≡ false → LeavesBytes change q
 
 -- where a tree shows a file there is a file's slot
-pub struct_stays : (disk : Disk) (ps qs : List Pair) (q : Path) → is_file (tree_in disk ps q) ≡ true → StaysFile (slot_of_path ps q) (slot_of_path qs q) → struct_at qs q ≡ struct_at ps q
+pub struct_stays : (disk : Disk) (ps qs : List Pair) (q : Path) → is_file (tree_on_disk disk ps q) ≡ true → StaysFile (slot_of_path ps q) (slot_of_path qs q) → struct_of_path qs q ≡ struct_of_path ps q
 struct_stays disk ps qs q file stays = go (slot_of_path ps q) refl file
   where
-    none : (attributes : Attributes) (t : Struct) → is_file (Some (node_of (contents_in disk) (entries_in ps) attributes t)) ≡ true → branch_of t ≡ None
+    none : (attributes : Attributes) (t : Struct) → is_file (Some (node_of_struct_and_attributes (skip_list_bytes_on_disk disk) (entries_by_directory_in_thread ps) attributes t)) ≡ true → branch_address_of_struct t ≡ None
     none attributes (Inline bytes) e = refl
     none attributes (Ctz head size) e = refl
     none attributes (Branch to) e = absurd (cc)
 
-    go : (o : Option Slot) → slot_of_path ps q ≡ o → is_file (option_map (λ (u : Slot). node_of (contents_in disk) (entries_in ps) u.attributes u.struct) o) ≡ true → struct_at qs q ≡ struct_at ps q
+    go : (o : Option Slot) → slot_of_path ps q ≡ o → is_file (option_map (λ (u : Slot). node_of_struct_and_attributes (skip_list_bytes_on_disk disk) (entries_by_directory_in_thread ps) u.attributes u.struct) o) ≡ true → struct_of_path qs q ≡ struct_of_path ps q
     go None e h = absurd (cc)
     go (Some u) e h =
         let k = stays u e (none u.attributes u.struct h) in
         ap (option_map (λ (z : Slot). z.struct)) k.1.0 ∙ ap Some k.1.1 ∙ sym (ap (option_map (λ (z : Slot). z.struct)) e)
 
 pub structs_left : (disk : Disk) (ps : List Pair) (new : Disk) (qs : List Pair) (change : Tree → Tree) (walk : Walk → Walk) (s : Session) (op : Operation) →
-    Follows disk ps new qs change walk → LeavesFiles (tree_in disk ps) s op change → KeepsStructs disk ps s op qs
+    Follows disk ps new qs change walk → LeavesFiles (tree_on_disk disk ps) s op change → KeepsStructsOfUntouchedFiles disk ps s op qs
 structs_left disk ps new qs change walk s op follows leaves q file off elsewhere = struct_stays disk ps qs q file (follows.stays q (leaves q file off elsewhere))
 
 -- ---- the operations
@@ -55,31 +55,31 @@ neither true b e = absurd (cc)
 neither false b e = (refl, e)
 
 -- an entry comes where none was
-pub creation_leaves : (t : Tree) (s : Session) (op : Operation) (p : Path) (node : Node) → t p ≡ None → LeavesFiles t s op (tree_with_node p node)
+pub creation_leaves : (t : Tree) (s : Session) (op : Operation) (p : Path) (node : Node) → t p ≡ None → LeavesFiles t s op (tree_after_creation p node)
 creation_leaves t s op p node absent q file off elsewhere = go (paths p q)
   where
-    go : Paths p q → LeavesBytes (tree_with_node p node) q
+    go : Paths p q → LeavesBytes (tree_after_creation p node) q
     go (path_alike e f) = absurd (let k = sym (ap (λ z. is_file (t z)) (sym e) ∙ ap is_file absent) ∙ file in cc)
     go (path_unlike n f) = added_leaves p node q f
 
-pub removal_leaves : (t : Tree) (s : Session) (path : List ℕ) (p : Path) → as_path path ≡ p → LeavesFiles t s (ops.Remove path) (tree_without p)
-removal_leaves t s path p is q file off elsewhere = removed_leaves p q (not_before p q (none_left (rest_after p q) (ap (λ z. is_some (rest_after z q)) (sym is) ∙ off)))
+pub removal_leaves : (t : Tree) (s : Session) (path : List ℕ) (p : Path) → path_or_root path ≡ p → LeavesFiles t s (ops.Remove path) (tree_after_removal p)
+removal_leaves t s path p is q file off elsewhere = removed_leaves p q (not_before p q (none_left (path_without_prefix p q) (ap (λ z. is_some (path_without_prefix z q)) (sym is) ∙ off)))
 
-pub renaming_leaves : (t : Tree) (s : Session) (old_bytes new_bytes : List ℕ) (old new : Path) → as_path old_bytes ≡ old → as_path new_bytes ≡ new →
+pub renaming_leaves : (t : Tree) (s : Session) (old_bytes new_bytes : List ℕ) (old new : Path) → path_or_root old_bytes ≡ old → path_or_root new_bytes ≡ new →
     LeavesFiles t s (ops.Rename old_bytes new_bytes) (renamed old new)
 renaming_leaves t s old_bytes new_bytes old new old_is new_is q file off elsewhere =
-    let both = neither (is_some (rest_after (as_path old_bytes) q)) (is_some (rest_after (as_path new_bytes) q)) off in
-    renamed_leaves old new q (none_left (rest_after old q) (ap (λ z. is_some (rest_after z q)) (sym old_is) ∙ both.0))
-    (none_left (rest_after new q) (ap (λ z. is_some (rest_after z q)) (sym new_is) ∙ both.1))
+    let both = neither (is_some (path_without_prefix (path_or_root old_bytes) q)) (is_some (path_without_prefix (path_or_root new_bytes) q)) off in
+    renamed_leaves old new q (none_left (path_without_prefix old q) (ap (λ z. is_some (path_without_prefix z q)) (sym old_is) ∙ both.0))
+    (none_left (path_without_prefix new q) (ap (λ z. is_some (path_without_prefix z q)) (sym new_is) ∙ both.1))
 
 -- a writer's contents come into its own slot
-pub storing_leaves : (s : Session) (fd : ℕ) (writer : Writer) (p : Path) (bytes : List ℕ) → file_of s.files fd ≡ Some (Writing writer) → writer.path ≡ p →
-    (q : Path) → is_at_path (file_of s.files fd) q ≡ false → LeavesBytes (change_at p (with_bytes bytes)) q
+pub storing_leaves : (s : Session) (fd : ℕ) (writer : Writer) (p : Path) (bytes : List ℕ) → open_file_of s.files fd ≡ Some (Writing writer) → writer.path ≡ p →
+    (q : Path) → is_open_file_at_path (open_file_of s.files fd) q ≡ false → LeavesBytes (tree_after_change_of_node p (node_with_bytes bytes)) q
 storing_leaves s fd writer p bytes opened is q elsewhere =
-    change_leaves p (with_bytes bytes) q (ap (λ z. same_path z q) (sym is) ∙ ap (λ o. is_at_path o q) (sym opened) ∙ elsewhere)
+    change_leaves p (node_with_bytes bytes) q (ap (λ z. same_path z q) (sym is) ∙ ap (λ o. is_open_file_at_path o q) (sym opened) ∙ elsewhere)
 
 -- with no open file nothing is stored
-pub none_stored : (t : Tree) (op : Operation) (q : Path) → stores_at (record { tree = t; files = [] }) op q ≡ false
+pub none_stored : (t : Tree) (op : Operation) (q : Path) → may_store_contents_at_path (record { tree = t; files = [] }) op q ≡ false
 none_stored t (ops.Open path flags) q = refl
 none_stored t (ops.Read fd count) q = refl
 none_stored t (ops.Write fd bytes) q = refl

@@ -6,30 +6,30 @@ use Rattle.lfs_model.specs.Tree.{Path, Node, FileNode, DirectoryNode, Tree}
 use Rattle.lfs_model.specs.TreeEdits.{same_path}
 use Rattle.lfs_model.specs.Operations as ops
 use Rattle.lfs_model.specs.Operations.{Operation}
-use Rattle.lfs_model.specs.Listing.{Entry, IsWalkOf, lines_of, IsListing, MakeDirectory, PutFile, IsUnpacking, new_file_flags, IsCarryingOver}
+use Rattle.lfs_model.specs.Listing.{PathAndNode, IsWalkOfTree, lines_of, IsListingOfTree, MakeDirectory, PutFile, AreActionsUnpackingTree, new_file_flags, AreOperationsCopyingTree}
 
 -- file `a` with `hello`, and directory `d` with an empty file `x`
-abbrev nodes : List Entry
+abbrev nodes : List PathAndNode
 nodes =
     record { path = codes "a" ∷ []; node = FileNode [] (codes "hello") }
     ∷ record { path = codes "d" ∷ []; node = DirectoryNode [] (codes "x" ∷ []) }
     ∷ record { path = codes "d" ∷ codes "x" ∷ []; node = FileNode [] [] }
     ∷ []
 
-abbrev node_in : List Entry → Path → Option Node
+abbrev node_in : List PathAndNode → Path → Option Node
 node_in [] path = None
 node_in (e ∷ es) path = if same_path e.path path then Some e.node else node_in es path
 
 abbrev tree : Tree
 tree path = node_in (record { path = []; node = DirectoryNode [] (codes "a" ∷ codes "d" ∷ []) } ∷ nodes) path
 
-walk : IsWalkOf tree nodes
+walk : IsWalkOfTree tree nodes
 walk = (refl, refl, (refl, refl, (refl, refl, tt)))
 
-pub listed : IsListing tree (codes "f 5 /a\nd 0 /d\nf 0 /d/x\n")
+pub listed : IsListingOfTree tree (codes "f 5 /a\nd 0 /d\nf 0 /d/x\n")
 listed = (nodes, (walk, rw (decimal_digit 5 (omega arith), decimal_digit 0 (omega arith)) refl))
 
-pub unpacked : IsUnpacking tree (PutFile (codes "/a") (codes "hello") ∷ MakeDirectory (codes "/d") ∷ PutFile (codes "/d/x") [] ∷ [])
+pub unpacked : AreActionsUnpackingTree tree (PutFile (codes "/a") (codes "hello") ∷ MakeDirectory (codes "/d") ∷ PutFile (codes "/d/x") [] ∷ [])
 unpacked = (nodes, (walk, refl))
 
 -- a name with a newline, a backslash and two bytes above 0x7e

@@ -2,19 +2,19 @@
 use Rattle.std.proofs.Common.{ℕ, ◌≡◌, true, List, [], ◌∷◌, ◌++◌, refl, sym, ap, subst, ◌∙◌, append_assoc, append-nil, subst₂}
 use Rattle.lfs_model.specs.Disk.{Disk}
 use Rattle.lfs_model.specs.Names.{Name}
-use Rattle.lfs_model.specs.Slots.{Slot, no_gstate, same_pair, FitsPair}
-use Rattle.lfs_model.specs.Thread.{Pair, first_at, gstate_of, superblocks_before}
-use Rattle.lfs_model.specs.Tree.{Path, Tree, DirectoryNode, directory_from}
-use Rattle.lfs_model.specs.View.{IsAccepted}
+use Rattle.lfs_model.specs.Slots.{Slot, zero_gstate, same_pair, IsContentFittingPair}
+use Rattle.lfs_model.specs.Thread.{Pair, first_pair_address, gstate_of, pair_count_before_root}
+use Rattle.lfs_model.specs.Tree.{Path, Tree, DirectoryNode, directory_address_from_slot}
+use Rattle.lfs_model.specs.View.{IsAcceptedImage}
 use Rattle.lfs_model.specs.Profile.{IsWritable}
-use Rattle.lfs_model.specs.Shown.{PathLeadsTo, entries_in, tree_in}
-use Rattle.lfs_model.specs.TreeEdits.{tree_with_node, with_subtree_moved}
+use Rattle.lfs_model.specs.Shown.{IsPathToDirectory, entries_by_directory_in_thread, tree_on_disk}
+use Rattle.lfs_model.specs.TreeEdits.{tree_after_creation, tree_after_subtree_replacement}
 use Rattle.lfs_model.specs.Operations as ops
 use Rattle.lfs_model.specs.Session.{Session}
-use Rattle.lfs_model.specs.Refusals.{as_path}
-use Rattle.lfs_model.specs.SlotEdits.{with_slots, new_directory}
-use Rattle.lfs_model.specs.Layout.{FitsOnDisk}
-use Rattle.lfs_model.specs.PowerLoss.{IsLeftByStop}
+use Rattle.lfs_model.specs.Refusals.{path_or_root}
+use Rattle.lfs_model.specs.SlotEdits.{pair_with_slots, new_directory_slot}
+use Rattle.lfs_model.specs.Layout.{FitsPairOnDisk}
+use Rattle.lfs_model.specs.PowerLoss.{ShowsTreeBeforeOrAfter}
 use Rattle.lfs_model.proofs.Names.{IsPlace}
 use Rattle.lfs_model.proofs.Sites.{Site, thread_at, begin_of}
 use Rattle.lfs_model.proofs.Moves.{IsStep, place_at}
@@ -31,19 +31,19 @@ use Rattle.lfs_model.proofs.StepsTaken.{IsOnlyStep, IsPut, IsPutBeside, beside_t
 -- ---- in one commit
 
 module _ (disk new : Disk) (chain before left after : List Pair) (p q : Pair) (more : List Pair) (f : Pair) (extra : List ℕ) (l r : List Slot) (P : Path) (name : Name)
-    (step : IsStepBeside disk new chain before left after p [] q more f extra [] l [] (new_directory name f.at ∷ []) r)
-    (put : IsPutBeside disk (last_site chain before left after) p q more f l [] (new_directory name f.at ∷ []) r)
-    (a : ℕ × ℕ) (leads : PathLeadsTo (thread_at (last_site chain before left after) (p ∷ [])) P a) (same : same_pair (begin_of (last_site chain before left after) (p ∷ [])) a ≡ true)
-    (place : IsPlace disk.order (entries_in (thread_at (last_site chain before left after) (p ∷ [])) a) (place_at (last_site chain before left after) l) name)
-    (settled : gstate_of (thread_at (last_site chain before left after) (p ∷ [])) ≡ no_gstate)
-    (still : gstate_of (thread_at (last_site chain before left after) (q ∷ (more ++ f ∷ []))) ≡ no_gstate) where
+    (step : IsStepBeside disk new chain before left after p [] q more f extra [] l [] (new_directory_slot name f.at ∷ []) r)
+    (put : IsPutBeside disk (last_site chain before left after) p q more f l [] (new_directory_slot name f.at ∷ []) r)
+    (a : ℕ × ℕ) (leads : IsPathToDirectory (thread_at (last_site chain before left after) (p ∷ [])) P a) (same : same_pair (begin_of (last_site chain before left after) (p ∷ [])) a ≡ true)
+    (place : IsPlace disk.order (entries_by_directory_in_thread (thread_at (last_site chain before left after) (p ∷ [])) a) (place_at (last_site chain before left after) l) name)
+    (settled : gstate_of (thread_at (last_site chain before left after) (p ∷ [])) ≡ zero_gstate)
+    (still : gstate_of (thread_at (last_site chain before left after) (q ∷ (more ++ f ∷ []))) ≡ zero_gstate) where
   abbrev w : Site
   w = last_site chain before left after
 
-  taken : IsOnlyStep disk (thread_at (last_site chain before left after) (p ∷ [])) new (thread_at (last_site chain before left after) (q ∷ (more ++ f ∷ []))) (tree_with_node (P ++ name ∷ []) (DirectoryNode [] []))
-      (with_subtree_moved (P ++ name ∷ []) (directory_from (entries_in (thread_at (last_site chain before left after) (p ∷ []))) (new_directory name f.at)))
-  taken = beside_taken disk new chain before left after p q more f l [] (new_directory name f.at ∷ []) r put extra [] _ _ step P a leads same
-      (directory_comes_beside disk new chain before left after p [] q more f extra l r (new_directory name f.at) step P a leads same place refl (λ e. (recovered_from disk (thread_at (last_site chain before left after) (p ∷ [])) step.accepted settled).reached))
+  taken : IsOnlyStep disk (thread_at (last_site chain before left after) (p ∷ [])) new (thread_at (last_site chain before left after) (q ∷ (more ++ f ∷ []))) (tree_after_creation (P ++ name ∷ []) (DirectoryNode [] []))
+      (tree_after_subtree_replacement (P ++ name ∷ []) (directory_address_from_slot (entries_by_directory_in_thread (thread_at (last_site chain before left after) (p ∷ []))) (new_directory_slot name f.at)))
+  taken = beside_taken disk new chain before left after p q more f l [] (new_directory_slot name f.at ∷ []) r put extra [] _ _ step P a leads same
+      (directory_comes_beside disk new chain before left after p [] q more f extra l r (new_directory_slot name f.at) step P a leads same place refl (λ e. (recovered_from disk (thread_at (last_site chain before left after) (p ∷ [])) step.accepted settled).reached))
 
   placed : thread_at (last_site chain before left after) (q ∷ (more ++ f ∷ [])) ≡ (chain ++ ((before ++ left) ++ (q ∷ more))) ++ (f ∷ after)
   placed = ap (λ z. chain ++ ((before ++ left) ++ q ∷ z)) (append_assoc more (f ∷ []) after)
@@ -76,15 +76,15 @@ module _ (disk new : Disk) (chain before left after : List Pair) (p q : Pair) (m
 module _ (disk middle new : Disk) (chain before front mid after : List Pair) (x y f : Pair) (extra : List ℕ) (l0 r0 : List Slot) (p q : Pair) (more : List Pair) (extra2 : List ℕ) (l r : List Slot) (P : Path) (name : Name)
     (step : IsStepBeside disk middle chain before (front ++ p ∷ mid) after x [] y [] f extra [] l0 [] [] r0)
     (put : IsPutBeside disk (last_site chain before (front ++ p ∷ mid) after) x y [] f l0 [] [] r0)
-    (step2 : IsStep middle new (record { chain = chain; before = before; left = front; right = mid ++ y ∷ []; after = f ∷ after }) p [] q more extra2 [] l [] (new_directory name f.at ∷ []) r)
-    (put2 : IsPut middle (record { chain = chain; before = before; left = front; right = mid ++ y ∷ []; after = f ∷ after }) p q more l [] (new_directory name f.at ∷ []) r)
-    (a : ℕ × ℕ) (leads : PathLeadsTo (thread_at (last_site chain before (front ++ p ∷ mid) after) (x ∷ [])) P a)
+    (step2 : IsStep middle new (record { chain = chain; before = before; left = front; right = mid ++ y ∷ []; after = f ∷ after }) p [] q more extra2 [] l [] (new_directory_slot name f.at ∷ []) r)
+    (put2 : IsPut middle (record { chain = chain; before = before; left = front; right = mid ++ y ∷ []; after = f ∷ after }) p q more l [] (new_directory_slot name f.at ∷ []) r)
+    (a : ℕ × ℕ) (leads : IsPathToDirectory (thread_at (last_site chain before (front ++ p ∷ mid) after) (x ∷ [])) P a)
     (same : same_pair (begin_of (last_site chain before (front ++ p ∷ mid) after) (x ∷ [])) a ≡ true)
-    (place : IsPlace middle.order (entries_in (thread_at (record { chain = chain; before = before; left = front; right = mid ++ y ∷ []; after = f ∷ after }) (p ∷ [])) a)
+    (place : IsPlace middle.order (entries_by_directory_in_thread (thread_at (record { chain = chain; before = before; left = front; right = mid ++ y ∷ []; after = f ∷ after }) (p ∷ [])) a)
     (place_at (record { chain = chain; before = before; left = front; right = mid ++ y ∷ []; after = f ∷ after }) l) name)
     (sync : (gstate_of (thread_at (last_site chain before (front ++ p ∷ mid) after) (y ∷ ([] ++ f ∷ [])))).sync ≡ true)
-    (settled : gstate_of (thread_at (last_site chain before (front ++ p ∷ mid) after) (x ∷ [])) ≡ no_gstate)
-    (still : gstate_of (thread_at (record { chain = chain; before = before; left = front; right = mid ++ y ∷ []; after = f ∷ after }) (q ∷ more)) ≡ no_gstate) where
+    (settled : gstate_of (thread_at (last_site chain before (front ++ p ∷ mid) after) (x ∷ [])) ≡ zero_gstate)
+    (still : gstate_of (thread_at (record { chain = chain; before = before; left = front; right = mid ++ y ∷ []; after = f ∷ after }) (q ∷ more)) ≡ zero_gstate) where
   abbrev here : Site
   here = last_site chain before (front ++ p ∷ mid) after
 
@@ -108,25 +108,25 @@ module _ (disk middle new : Disk) (chain before front mid after : List Pair) (x 
   first = beside_taken disk middle chain before (front ++ p ∷ mid) after x y [] f l0 [] [] r0 put extra [] (λ t. t) (λ d. d) step P a leads same
       (threaded disk middle chain before (front ++ p ∷ mid) after x [] y [] f extra l0 r0 step P a leads same sync)
 
-  leads2 : PathLeadsTo (thread_at (record { chain = chain; before = before; left = front; right = mid ++ y ∷ []; after = f ∷ after }) (p ∷ [])) P a
-  leads2 = subst (λ z. PathLeadsTo z P a) same_thread (ap (λ d. d P) first.follows.leads ∙ leads)
+  leads2 : IsPathToDirectory (thread_at (record { chain = chain; before = before; left = front; right = mid ++ y ∷ []; after = f ∷ after }) (p ∷ [])) P a
+  leads2 = subst (λ z. IsPathToDirectory z P a) same_thread (ap (λ d. d P) first.follows.leads ∙ leads)
 
   same2 : same_pair (begin_of (record { chain = chain; before = before; left = front; right = mid ++ y ∷ []; after = f ∷ after }) (p ∷ [])) a ≡ true
   same2 = ap (λ z. same_pair z a) (go front) ∙ same
     where
-      go : (xs : List Pair) → first_at (xs ++ p ∷ []) ≡ first_at ((xs ++ p ∷ mid) ++ x ∷ [])
+      go : (xs : List Pair) → first_pair_address (xs ++ p ∷ []) ≡ first_pair_address ((xs ++ p ∷ mid) ++ x ∷ [])
       go [] = refl
       go (z ∷ xs) = refl
 
   both : InTwo disk (thread_at (last_site chain before (front ++ p ∷ mid) after) (x ∷ [])) middle (thread_at (record { chain = chain; before = before; left = front; right = mid ++ y ∷ []; after = f ∷ after }) (p ∷ []))
-      new (thread_at (record { chain = chain; before = before; left = front; right = mid ++ y ∷ []; after = f ∷ after }) (q ∷ more)) (λ t. t) (tree_with_node (P ++ name ∷ []) (DirectoryNode [] []))
+      new (thread_at (record { chain = chain; before = before; left = front; right = mid ++ y ∷ []; after = f ∷ after }) (q ∷ more)) (λ t. t) (tree_after_creation (P ++ name ∷ []) (DirectoryNode [] []))
   both = mkdir_in_two disk middle new chain before (front ++ p ∷ mid) after x [] y [] f extra l0 r0 step P a leads same sync
-      (record { chain = chain; before = before; left = front; right = mid ++ y ∷ []; after = f ∷ after }) p q more extra2 l r (new_directory name f.at) step2 same_thread P a leads2 same2 place refl
+      (record { chain = chain; before = before; left = front; right = mid ++ y ∷ []; after = f ∷ after }) p q more extra2 l r (new_directory_slot name f.at) step2 same_thread P a leads2 same2 place refl
       (recovered_from disk (thread_at (last_site chain before (front ++ p ∷ mid) after) (x ∷ [])) step.accepted settled).reached
 
   second : IsWritable new (thread_at (record { chain = chain; before = before; left = front; right = mid ++ y ∷ []; after = f ∷ after }) (q ∷ more))
-  second = step_writable middle new (record { chain = chain; before = before; left = front; right = mid ++ y ∷ []; after = f ∷ after }) p [] q more extra2 [] l [] (new_directory name f.at ∷ []) r step2 put2.writable
-      (put_within middle there p q more l [] (new_directory name f.at ∷ []) r put2) (put_filled middle there p q more l [] (new_directory name f.at ∷ []) r put2)
+  second = step_writable middle new (record { chain = chain; before = before; left = front; right = mid ++ y ∷ []; after = f ∷ after }) p [] q more extra2 [] l [] (new_directory_slot name f.at ∷ []) r step2 put2.writable
+      (put_within middle there p q more l [] (new_directory_slot name f.at ∷ []) r put2) (put_filled middle there p q more l [] (new_directory_slot name f.at ∷ []) r put2)
 
   -- where the pairs are before and after
   were : thread_at (last_site chain before (front ++ p ∷ mid) after) (x ∷ []) ≡ chain ++ ((before ++ front) ++ (p ∷ [] ++ (mid ++ x ∷ after)))
@@ -153,15 +153,15 @@ module _ (disk middle new : Disk) (chain before front mid after : List Pair) (x 
   made2 : IsMkdir disk new (thread_at (record { chain = chain; before = before; left = front; right = mid ++ y ∷ []; after = f ∷ after }) (q ∷ more)) chain (before ++ front) (mid ++ x ∷ after) p q more
       (chain ++ ((before ++ front) ++ ((q ∷ more) ++ (mid ++ y ∷ [])))) after f l r P name
   made2 = record {
-    is_chain = ap superblocks_before (sym were) ∙ step.site.chain;
-    accepted = subst (IsAccepted disk) were step.accepted;
+    is_chain = ap pair_count_before_root (sym were) ∙ step.site.chain;
+    accepted = subst (IsAcceptedImage disk) were step.accepted;
     writable = subst (IsWritable disk) were put.writable;
     settled = ap gstate_of (sym were) ∙ settled;
     still = still;
     walk = both.walk_on;
-    follows = subst (λ z. Follows disk z new (thread_at (record { chain = chain; before = before; left = front; right = mid ++ y ∷ []; after = f ∷ after }) (q ∷ more)) (tree_with_node (P ++ name ∷ []) (DirectoryNode [] [])) both.walk_on) were both.end;
+    follows = subst (λ z. Follows disk z new (thread_at (record { chain = chain; before = before; left = front; right = mid ++ y ∷ []; after = f ∷ after }) (q ∷ more)) (tree_after_creation (P ++ name ∷ []) (DirectoryNode [] [])) both.walk_on) were both.end;
     still_writable = second;
-    absent = ap (λ z. tree_in disk z (P ++ name ∷ [])) (sym were) ∙ sym (ap (λ t. t (P ++ name ∷ [])) both.between.shows)
+    absent = ap (λ z. tree_on_disk disk z (P ++ name ∷ [])) (sym were) ∙ sym (ap (λ t. t (P ++ name ∷ [])) both.between.shows)
         ∙ none_there middle (thread_at there (p ∷ [])) P a (place_at there l) name leads2 place;
     was = put2.was;
     at = step2.shape.at;
@@ -173,19 +173,19 @@ module _ (disk middle new : Disk) (chain before front mid after : List Pair) (x 
   }
     where
       -- the tails don't matter, and the sizes are the same on both disks
-      sized : (d : Pair) → FitsOnDisk middle d → FitsOnDisk disk d
-      sized d h = subst₂ (λ b g. FitsPair b g d.content) step.device.geometry.block_size step.device.geometry.page h
+      sized : (d : Pair) → FitsPairOnDisk middle d → FitsPairOnDisk disk d
+      sized d h = subst₂ (λ b g. IsContentFittingPair b g d.content) step.device.geometry.block_size step.device.geometry.page h
 
-      resized : (d : Pair) → FitsOnDisk disk d → FitsOnDisk middle d
-      resized d h = subst₂ (λ b g. FitsPair b g d.content) (sym step.device.geometry.block_size) (sym step.device.geometry.page) h
+      resized : (d : Pair) → FitsPairOnDisk disk d → FitsPairOnDisk middle d
+      resized d h = subst₂ (λ b g. IsContentFittingPair b g d.content) (sym step.device.geometry.block_size) (sym step.device.geometry.page) h
 
-      became_cut : (more : List Pair) → Became middle p (with_slots (l ++ (new_directory name f.at ∷ [] ++ r)) p) q more → Cut disk (with_slots (l ++ new_directory name f.at ∷ r) p) q more
-      became_cut [] h = sized (with_slots (l ++ new_directory name f.at ∷ r) p) h.1
-      became_cut (g ∷ []) h = ((λ k. h.2 (resized (with_slots (l ++ new_directory name f.at ∷ r) p) k)), sized q h.3, sized g h.4)
+      became_cut : (more : List Pair) → Became middle p (pair_with_slots (l ++ (new_directory_slot name f.at ∷ [] ++ r)) p) q more → Cut disk (pair_with_slots (l ++ new_directory_slot name f.at ∷ r) p) q more
+      became_cut [] h = sized (pair_with_slots (l ++ new_directory_slot name f.at ∷ r) p) h.1
+      became_cut (g ∷ []) h = ((λ k. h.2 (resized (pair_with_slots (l ++ new_directory_slot name f.at ∷ r) p) k)), sized q h.3, sized g h.4)
       became_cut (g ∷ i ∷ more) h = absurd h
 
-  pub mkdir_in_two_completed : (s : Session) (path : List ℕ) → s.tree ≡ tree_in disk (thread_at (last_site chain before (front ++ p ∷ mid) after) (x ∷ [])) → as_path path ≡ P ++ name ∷ []
+  pub mkdir_in_two_completed : (s : Session) (path : List ℕ) → s.tree ≡ tree_on_disk disk (thread_at (last_site chain before (front ++ p ∷ mid) after) (x ∷ [])) → path_or_root path ≡ P ++ name ∷ []
       → IsCompleted disk (thread_at (last_site chain before (front ++ p ∷ mid) after) (x ∷ [])) s (ops.Mkdir path) new (thread_at (record { chain = chain; before = before; left = front; right = mid ++ y ∷ []; after = f ∷ after }) (q ∷ more))
   mkdir_in_two_completed s path tree is =
       subst (λ z. IsCompleted disk z s (ops.Mkdir path) new (thread_at (record { chain = chain; before = before; left = front; right = mid ++ y ∷ []; after = f ∷ after }) (q ∷ more))) (sym were)
-      (mkdir_completed disk new rs chain (before ++ front) (mid ++ x ∷ after) p q more (chain ++ ((before ++ front) ++ ((q ∷ more) ++ (mid ++ y ∷ [])))) after f l r P name made2 s path (tree ∙ ap (tree_in disk) were) is)
+      (mkdir_completed disk new rs chain (before ++ front) (mid ++ x ∷ after) p q more (chain ++ ((before ++ front) ++ ((q ∷ more) ++ (mid ++ y ∷ [])))) after f l r P name made2 s path (tree ∙ ap (tree_on_disk disk) were) is)

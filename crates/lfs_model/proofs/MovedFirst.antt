@@ -2,8 +2,8 @@
 use Rattle.std.proofs.Common.{ℕ, ◌≡◌, true, false, List, [], ◌∷◌, ◌++◌, Option, None, refl, sym, ap₂, subst, ◌∙◌, append-nil}
 use Rattle.lfs_model.specs.Disk.{Disk}
 use Rattle.lfs_model.specs.Slots.{Slot, same_pair}
-use Rattle.lfs_model.specs.Thread.{Pair, is_hard, gstate_of, slots_not_moved}
-use Rattle.lfs_model.specs.Layout.{directory_after}
+use Rattle.lfs_model.specs.Thread.{Pair, is_hard_tail, gstate_of, slots_not_moved}
+use Rattle.lfs_model.specs.Layout.{directory_address_after_pair}
 use Rattle.lfs_model.proofs.Counts.{Each, each_left, each_right, each_weaker}
 use Rattle.lfs_model.proofs.Changes.{chain_now}
 use Rattle.lfs_model.proofs.Sites.{Site, dirs_at, thread_at}
@@ -16,13 +16,13 @@ use Rattle.lfs_model.proofs.Unthreaded.{IsReady}
 -- pairs that the move doesn't name wait as they are
 wait_same : (ps : List Pair) (from : Option (ℕ × ℕ)) (xs : List Pair) → Each (λ p. slots_not_moved (gstate_of ps) p ≡ p.content.slots) xs → AllWait ps from xs (singles xs)
 wait_same ps from [] h = tt
-wait_same ps from (x ∷ xs) h = ((refl, sym h.0), wait_same ps (directory_after from x) xs h.1)
+wait_same ps from (x ∷ xs) h = ((refl, sym h.0), wait_same ps (directory_address_after_pair from x) xs h.1)
 
 wait_append : (ps : List Pair) (from : Option (ℕ × ℕ)) (xs ys : List Pair) (us vs : List (List Pair)) → AllWait ps from xs us → AllWait ps (onward_all from xs) ys vs → AllWait ps from (xs ++ ys) (us ++ vs)
 wait_append ps from [] ys [] vs h k = k
 wait_append ps from [] ys (u ∷ us) vs h k = absurd h
 wait_append ps from (x ∷ xs) ys [] vs h k = absurd h
-wait_append ps from (x ∷ xs) ys (u ∷ us) vs h k = (h.0, wait_append ps (directory_after from x) xs ys us vs h.1 k)
+wait_append ps from (x ∷ xs) ys (u ∷ us) vs h k = (h.0, wait_append ps (directory_address_after_pair from x) xs ys us vs h.1 k)
 
 module _ (disk new : Disk) (w : Site) (p : Pair) (mid : List Pair) (y : Pair) (l : List Slot) (u : Slot) (r : List Slot) (step : IsMoveEnd disk new w p mid y [] l u r)
     (taken : IsOnlyStep disk (thread_at w (p ∷ mid)) new (thread_at w (y ∷ [])) (λ t. t) (λ d. d)) where
@@ -70,7 +70,7 @@ module _ (disk new : Disk) (w : Site) (p : Pair) (mid : List Pair) (y : Pair) (l
 
 -- the pair o after p goes: p becomes y, with p's slots
 pub moved_goes : (disk new : Disk) (w : Site) (p o y : Pair) (l : List Slot) (u : Slot) (r : List Slot) → IsMoveEnd disk new w p (o ∷ []) y [] l u r
-    → IsOnlyStep disk (thread_at w (p ∷ o ∷ [])) new (thread_at w (y ∷ [])) (λ t. t) (λ d. d) → is_hard p.content.tail ≡ true → slots_not_moved (gstate_of (thread_at w (p ∷ o ∷ []))) o ≡ []
+    → IsOnlyStep disk (thread_at w (p ∷ o ∷ [])) new (thread_at w (y ∷ [])) (λ t. t) (λ d. d) → is_hard_tail p.content.tail ≡ true → slots_not_moved (gstate_of (thread_at w (p ∷ o ∷ []))) o ≡ []
     → y.content.slots ≡ slots_not_moved (gstate_of (thread_at w (p ∷ o ∷ []))) p
     → IsRecovering disk (thread_at w (p ∷ o ∷ [])) new w.chain [] (dirs_at w (p ∷ o ∷ [])) [] (singles (w.before ++ w.left) ++ (((y ∷ []) ∷ [] ∷ []) ++ singles (w.right ++ w.after))) []
 moved_goes disk new w p o y l u r step taken hard none same =

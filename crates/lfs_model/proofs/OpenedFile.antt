@@ -5,22 +5,22 @@ use Rattle.std.specs.List.{IsDistinct}
 use Rattle.std.proofs.lemmas.List.Elements.{All-from_recursion}
 use Rattle.lfs_model.specs.Crc.{crc_of, next_bits}
 use Rattle.lfs_model.specs.Log.{chain_of, chain_within, commit_within, entry_at, closes}
-use Rattle.lfs_model.specs.Content.{content_at, holder_at}
-use Rattle.lfs_model.specs.Slots.{Slot, no_gstate}
-use Rattle.lfs_model.specs.Thread.{Pair, anchor}
-use Rattle.lfs_model.specs.View.{BeginsWithEntry, superblock_entry}
+use Rattle.lfs_model.specs.Content.{content_of_pair_at, current_block_of_pair_at}
+use Rattle.lfs_model.specs.Slots.{Slot, zero_gstate}
+use Rattle.lfs_model.specs.Thread.{Pair, anchor_pair_address}
+use Rattle.lfs_model.specs.View.{BeginsWithLogEntry, superblock_name_log_entry}
 use Rattle.lfs_model.specs.Shown.{used_blocks}
-use Rattle.lfs_model.specs.Fresh.{IsFresh, fresh_pair, superblock_slot}
-use Rattle.lfs_model.specs.SlotEdits.{new_file}
+use Rattle.lfs_model.specs.Fresh.{IsFreshDisk, fresh_pair, superblock_slot}
+use Rattle.lfs_model.specs.SlotEdits.{new_file_slot}
 use Rattle.lfs_model.specs.Operations as ops
-use Rattle.lfs_model.specs.Session.{Session, Surroundings}
+use Rattle.lfs_model.specs.Session.{Session, DiskSummary}
 use Rattle.lfs_model.specs.State.{mounted}
 use Rattle.lfs_model.specs.Fresh.{empty_tree}
-use Rattle.lfs_model.specs.Effects.{effect_of}
+use Rattle.lfs_model.specs.Effects.{effect_of_operation}
 use Rattle.lfs_model.specs.Run.{IsSessionStep}
-use Rattle.lfs_model.specs.examples.Sessions.{for_new}
-use Rattle.lfs_model.specs.examples.Images.{large_image}
-use Rattle.lfs_model.specs.examples.Runs.{large_system, large_appended, opened_system}
+use Rattle.lfs_model.specs.examples.Sessions.{flags_to_open_new_file}
+use Rattle.lfs_model.specs.examples.Images.{large_fresh_image}
+use Rattle.lfs_model.specs.examples.Runs.{large_fresh_system_state, large_image_with_file, system_state_after_open}
 use Rattle.lfs_model.proofs.Files.{HasSameFile}
 use Rattle.lfs_model.proofs.Sites.{Site}
 use Rattle.lfs_model.proofs.Fresh.{accepted, shows, writable}
@@ -31,27 +31,27 @@ use Rattle.lfs_model.proofs.Arranged.{finished_settled}
 use Rattle.lfs_model.proofs.StepsMade.{IsOver, IsProper, completed_step, idle_step}
 
 abbrev pub op : ops.Operation
-op = ops.Open (codes "/b") for_new
+op = ops.Open (codes "/b") flags_to_open_new_file
 
-abbrev pub around : Surroundings
-around = record { writable = true; block_size = 4096; page = 256; block_count = 16; used = 0 ∷ 1 ∷ []; gstate = no_gstate }
+abbrev pub around : DiskSummary
+around = record { writable = true; block_size = 4096; page = 256; block_count = 16; used = 0 ∷ 1 ∷ []; gstate = zero_gstate }
 
 abbrev superblock : Slot
 superblock = superblock_slot 4096 16
 
 abbrev pub pair : Pair
-pair = fresh_pair large_image
+pair = fresh_pair large_fresh_image
 
 abbrev file : Slot
-file = new_file (codes "b")
+file = new_file_slot (codes "b")
 
 abbrev pub next : Pair
-next = record { at = anchor; content = record { slots = superblock ∷ file ∷ []; tail = None; move = no_gstate } }
+next = record { at = anchor_pair_address; content = record { slots = superblock ∷ file ∷ []; tail = None; move = zero_gstate } }
 
 abbrev site : Site
 site = record { chain = []; before = []; left = []; right = []; after = [] }
 
-pub fresh : IsFresh large_image
+pub fresh : IsFreshDisk large_fresh_image
 unfolding chain_of chain_within commit_within entry_at closes crc_of next_bits
 fresh = record {
   geometry = record { power = refl; pages = omega arith; no_smaller = omega arith; no_larger = omega arith; whole_pages = refl; no_fewer = omega arith; no_more = omega arith; bytes = omega arith };
@@ -59,53 +59,53 @@ fresh = record {
   first = refl;
 }
 
-holds : content_at large_appended anchor ≡ Some next.content
+holds : content_of_pair_at large_image_with_file anchor_pair_address ≡ Some next.content
 unfolding chain_of chain_within commit_within entry_at closes crc_of next_bits
 holds = refl
 
-begins : BeginsWithEntry (holder_at large_appended anchor) superblock_entry
+begins : BeginsWithLogEntry (current_block_of_pair_at large_image_with_file anchor_pair_address) superblock_name_log_entry
 unfolding chain_of chain_within commit_within entry_at closes crc_of next_bits
 begins = refl
 
-distinct : IsDistinct nat_eq (([] ++ []) ++ used_blocks large_image (pair ∷ []))
+distinct : IsDistinct nat_eq (([] ++ []) ++ used_blocks large_fresh_image (pair ∷ []))
 unfolding IsDistinct
 distinct = ((refl, tt), (tt, tt))
 
-pub commit : IsCommit large_image large_appended site pair next [] [] (superblock ∷ []) [] (file ∷ []) []
+pub commit : IsCommit large_fresh_image large_image_with_file site pair next [] [] (superblock ∷ []) [] (file ∷ []) []
 commit = record {
-  accepted = accepted large_image fresh;
-  writable = writable large_image fresh;
+  accepted = accepted large_fresh_image fresh;
+  writable = writable large_fresh_image fresh;
   settled = refl;
   still = refl;
   site = record { chain = refl; ends = tt; run = refl };
   device = record {
     geometry = record { block_size = refl; page = refl; order = refl; count = refl };
-    contents = All-from_recursion (λ r. content_at large_appended r.at ≡ Some r.content) (next ∷ []) (holds, tt);
+    contents = All-from_recursion (λ r. content_of_pair_at large_image_with_file r.at ≡ Some r.content) (next ∷ []) (holds, tt);
     first = begins;
-    files = All-from_recursion (λ s. HasSameFile large_image large_appended s.struct) (superblock ∷ []) (tt, tt);
+    files = All-from_recursion (λ s. HasSameFile large_fresh_image large_image_with_file s.struct) (superblock ∷ []) (tt, tt);
   };
   free = record { distinct = distinct; in_range = λ k d l. absurd (omega arith) };
   at = refl;
   was = refl;
   is = refl;
-  became = (refl, one_more_fits large_image (fresh_pair large_image) (superblock ∷ []) [] file refl (omega arith) (omega arith));
+  became = (refl, one_more_fits large_fresh_image (fresh_pair large_fresh_image) (superblock ∷ []) [] file refl (omega arith) (omega arith));
   splice = record { front = λ e. absurd (cc); entries = (record { name = refl; struct = tt }, tt); lists = (tt, tt); blocks = λ b. omega arith };
   fit = (((λ e. absurd (cc)), (λ e. record { charge = omega arith; inline = omega arith })), tt);
 }
 
-pub completed : IsCompleted large_image (pair ∷ []) (mounted empty_tree) op large_appended (next ∷ [])
-completed = create_completed large_image large_appended site pair next [] (superblock ∷ []) [] (codes "b") commit [] anchor refl refl
+pub completed : IsCompleted large_fresh_image (pair ∷ []) (mounted empty_tree) op large_image_with_file (next ∷ [])
+completed = create_completed large_fresh_image large_image_with_file site pair next [] (superblock ∷ []) [] (codes "b") commit [] anchor_pair_address refl refl
     (record { within = omega arith; below = λ j d l. absurd (omega arith); above = λ j d l m. absurd (omega arith) })
-    (mounted empty_tree) (codes "/b") for_new (sym (shows large_image)) refl refl
+    (mounted empty_tree) (codes "/b") flags_to_open_new_file (sym (shows large_fresh_image)) refl refl
 
-pub over : IsOver large_image (pair ∷ []) (mounted empty_tree) around
+pub over : IsOver large_fresh_image (pair ∷ []) (mounted empty_tree) around
 over = record {
-  accepted = accepted large_image fresh;
-  surrounds = record { block_size = refl; page = refl; block_count = refl; used = refl; gstate = refl; writable = ((λ e. writable large_image fresh), λ w. refl) };
-  tree = sym (shows large_image);
+  accepted = accepted large_fresh_image fresh;
+  surrounds = record { block_size = refl; page = refl; block_count = refl; used = refl; gstate = refl; writable = ((λ e. writable large_fresh_image fresh), λ w. refl) };
+  tree = sym (shows large_fresh_image);
 }
 
-proper : IsProper large_image (pair ∷ []) (mounted empty_tree) op opened_system.calls large_appended
+proper : IsProper large_fresh_image (pair ∷ []) (mounted empty_tree) op system_state_after_open.calls large_image_with_file
 proper = record {
   geometry = record { block_size = refl; page = refl; order = refl; count = refl };
   other = refl;
@@ -117,21 +117,21 @@ proper = record {
   nothing_left = λ e. absurd (cc);
 }
 
-pub turn : IsSessionStep large_system op (ops.Opened 0) opened_system
-turn = completed_step large_image (pair ∷ []) (mounted empty_tree) around op large_appended (next ∷ []) opened_system.calls [] over refl proper
-    (finished_settled large_image (pair ∷ []) (mounted empty_tree) op large_appended (next ∷ []) commit.accepted commit.writable refl completed)
+pub turn : IsSessionStep large_fresh_system_state op (ops.Opened 0) system_state_after_open
+turn = completed_step large_fresh_image (pair ∷ []) (mounted empty_tree) around op large_image_with_file (next ∷ []) system_state_after_open.calls [] over refl proper
+    (finished_settled large_fresh_image (pair ∷ []) (mounted empty_tree) op large_image_with_file (next ∷ []) commit.accepted commit.writable refl completed)
 
 -- ---- the open file is clean, so a sync finds nothing to do
 
 abbrev pub opened : Session
-opened = (effect_of around (mounted empty_tree) op).1
+opened = (effect_of_operation around (mounted empty_tree) op).1
 
-pub opened_over : IsOver large_appended (next ∷ []) opened around
+pub opened_over : IsOver large_image_with_file (next ∷ []) opened around
 opened_over = record {
   accepted = completed.accepted;
   surrounds = record { block_size = refl; page = refl; block_count = refl; used = refl; gstate = refl; writable = ((λ e. completed.writable), λ w. refl) };
   tree = sym (completed.tree around);
 }
 
-pub sync_step : IsSessionStep opened_system (ops.Sync 0) ops.Done opened_system
-sync_step = idle_step large_appended (next ∷ []) opened around (ops.Sync 0) [] opened_system.calls opened_over refl refl refl refl refl (refl, refl) (λ e. refl)
+pub sync_step : IsSessionStep system_state_after_open (ops.Sync 0) ops.Done system_state_after_open
+sync_step = idle_step large_image_with_file (next ∷ []) opened around (ops.Sync 0) [] system_state_after_open.calls opened_over refl refl refl refl refl (refl, refl) (λ e. refl)

@@ -2,16 +2,16 @@
 use Rattle.std.proofs.Common.{ℕ, ◌≡◌, ◌≢◌, inl, inr, true, List, [], ◌∷◌, ◌++◌, length, take, Option, None, refl, sym, ap, subst, ◌∙◌, append_assoc, append-nil, subst₂}
 use Rattle.std.specs.Prelude.{is_some}
 use Rattle.lfs_model.specs.Disk.{Disk}
-use Rattle.lfs_model.specs.Slots.{no_gstate}
-use Rattle.lfs_model.specs.Thread.{Pair, gstate_of, slots_not_moved, superblocks_before, directory_pairs}
+use Rattle.lfs_model.specs.Slots.{zero_gstate}
+use Rattle.lfs_model.specs.Thread.{Pair, gstate_of, slots_not_moved, pair_count_before_root, pairs_of_all_directories}
 use Rattle.lfs_model.specs.Tree.{Tree}
-use Rattle.lfs_model.specs.View.{IsAccepted}
-use Rattle.lfs_model.specs.Shown.{IsReached, tree_in}
+use Rattle.lfs_model.specs.View.{IsAcceptedImage}
+use Rattle.lfs_model.specs.Shown.{IsDirectoryReached, tree_on_disk}
 use Rattle.lfs_model.specs.Profile.{IsWritable}
 use Rattle.lfs_model.specs.Operations as ops
 use Rattle.lfs_model.specs.Session.{Session}
-use Rattle.lfs_model.specs.PowerLoss.{IsLeftByStop}
-use Rattle.lfs_model.specs.Layout.{directory_begin, directory_after}
+use Rattle.lfs_model.specs.PowerLoss.{ShowsTreeBeforeOrAfter}
+use Rattle.lfs_model.specs.Layout.{directory_address_of_pair, directory_address_after_pair}
 use Rattle.lfs_model.proofs.Changes.{follows_itself}
 use Rattle.lfs_model.proofs.LeftFiles.{ends_same}
 use Rattle.lfs_model.proofs.Counts.{Each}
@@ -38,7 +38,7 @@ abbrev pub AllWait : List Pair → Option (ℕ × ℕ) → List Pair → List (L
 AllWait ps from [] [] = Unit {0}
 AllWait ps from [] (x ∷ xs) = ⊥
 AllWait ps from (p ∷ todo) [] = ⊥
-AllWait ps from (p ∷ todo) (now ∷ waits) = Waits ps from p now × AllWait ps (directory_after from p) todo waits
+AllWait ps from (p ∷ todo) (now ∷ waits) = Waits ps from p now × AllWait ps (directory_address_after_pair from p) todo waits
 
 -- ---- on the way
 
@@ -57,15 +57,15 @@ fates_append : (ps : List Pair) (from : Option (ℕ × ℕ)) (xs ys : List Pair)
 fates_append ps from [] ys [] vs h k = k
 fates_append ps from [] ys (u ∷ us) vs h k = absurd h
 fates_append ps from (x ∷ xs) ys [] vs h k = absurd h
-fates_append ps from (x ∷ xs) ys (u ∷ us) vs h k = (h.0, fates_append ps (directory_after from x) xs ys us vs h.1 k)
+fates_append ps from (x ∷ xs) ys (u ∷ us) vs h k = (h.0, fates_append ps (directory_address_after_pair from x) xs ys us vs h.1 k)
 
 fates_behind : (ps chain xs : List Pair) (us : List (List Pair)) → Each (λ p. slots_not_moved (gstate_of ps) p ≡ p.content.slots) chain → Fates ps 0 None xs us → Fates ps (length chain) None (chain ++ xs) (singles chain ++ us)
 fates_behind ps [] xs us h k = k
 fates_behind ps (c ∷ chain) xs us h k = (refl, h.0, fates_behind ps chain xs us h.1 k)
 
-onward_end : (from : Option (ℕ × ℕ)) (xs : List Pair) (p : Pair) → onward_all from (xs ++ p ∷ []) ≡ directory_after (onward_all from xs) p
+onward_end : (from : Option (ℕ × ℕ)) (xs : List Pair) (p : Pair) → onward_all from (xs ++ p ∷ []) ≡ directory_address_after_pair (onward_all from xs) p
 onward_end from [] p = refl
-onward_end from (x ∷ xs) p = onward_end (directory_after from x) xs p
+onward_end from (x ∷ xs) p = onward_end (directory_address_after_pair from x) xs p
 
 -- one that is seen more
 seen_more : (chain seen : List Pair) (p : Pair) (todo : List Pair) → chain ++ (seen ++ p ∷ todo) ≡ chain ++ ((seen ++ p ∷ []) ++ todo)
@@ -79,11 +79,11 @@ alike_last (x ∷ xs) (y ∷ front) p q e f h = (h.0, h.1, alike_last xs front p
 
 module _ (disk : Disk) (ps : List Pair) (now : Disk) (chain seen : List Pair) (p : Pair) (todo : List Pair) (parts waits : List (List Pair)) (kept : List Pair) where
   -- a pair whose directory is reached stays
-  pub recovery_keeps : (x : Pair) → IsRecovering disk ps now chain seen (p ∷ todo) parts ((x ∷ []) ∷ waits) kept → IsReached ps (directory_begin (onward_all None seen) p)
+  pub recovery_keeps : (x : Pair) → IsRecovering disk ps now chain seen (p ∷ todo) parts ((x ∷ []) ∷ waits) kept → IsDirectoryReached ps (directory_address_of_pair (onward_all None seen) p)
       → (is_some (onward_all None seen) ≡ true → slots_not_moved (gstate_of ps) p ≢ []) → IsRecovering disk ps now chain (seen ++ p ∷ []) todo (parts ++ (x ∷ []) ∷ []) waits (kept ++ x ∷ [])
   recovery_keeps x r reached some = record {
     are = r.are ∙ seen_more chain seen p todo;
-    was_chain = ap superblocks_before (sym (seen_more chain seen p todo)) ∙ r.was_chain;
+    was_chain = ap pair_count_before_root (sym (seen_more chain seen p todo)) ∙ r.was_chain;
     plain = r.plain;
     fates = fates_append ps None seen (p ∷ []) parts ((x ∷ []) ∷ []) r.fates ((r.wait.0.0, r.wait.0.1, reached, some), tt);
     alike = subst (λ z. AreAlike z (kept ++ x ∷ [])) (sym (joined_append parts ((x ∷ []) ∷ []))) (alike_append (joined_parts parts) (x ∷ []) kept (x ∷ []) r.alike (alike_itself (x ∷ [])));
@@ -94,7 +94,7 @@ module _ (disk : Disk) (ps : List Pair) (now : Disk) (chain seen : List Pair) (p
 
   -- a pair whose directory isn't reached goes
   pub recovery_drops : (new : Disk) (front : List Pair) (before o q : Pair) → kept ≡ front ++ before ∷ [] → IsRecovering disk ps now chain seen (p ∷ todo) parts ((o ∷ []) ∷ waits) kept
-      → (IsReached ps (directory_begin (onward_all None seen) p) → ⊥) → IsUnthreaded now new chain front before o q (joined_parts waits)
+      → (IsDirectoryReached ps (directory_address_of_pair (onward_all None seen) p) → ⊥) → IsUnthreaded now new chain front before o q (joined_parts waits)
       → IsRecovering disk ps new chain (seen ++ p ∷ []) todo (parts ++ [] ∷ []) waits (front ++ q ∷ [])
   recovery_drops new front before o q is r unreached c =
       let here : kept ++ o ∷ joined_parts waits ≡ front ++ before ∷ o ∷ joined_parts waits = ap (λ z. z ++ o ∷ joined_parts waits) is ∙ append_assoc front (before ∷ []) (o ∷ joined_parts waits) in
@@ -102,7 +102,7 @@ module _ (disk : Disk) (ps : List Pair) (now : Disk) (chain seen : List Pair) (p
       let there : front ++ q ∷ joined_parts waits ≡ (front ++ q ∷ []) ++ joined_parts waits = sym (append_assoc front (q ∷ []) (joined_parts waits)) in
       record {
         are = r.are ∙ seen_more chain seen p todo;
-        was_chain = ap superblocks_before (sym (seen_more chain seen p todo)) ∙ r.was_chain;
+        was_chain = ap pair_count_before_root (sym (seen_more chain seen p todo)) ∙ r.was_chain;
         plain = r.plain;
         fates = fates_append ps None seen (p ∷ []) parts ([] ∷ []) r.fates (inl unreached, tt);
         alike = subst (λ z. AreAlike z (front ++ q ∷ [])) (sym (joined_append parts ([] ∷ []) ∙ append-nil (joined_parts parts)))
@@ -115,28 +115,28 @@ module _ (disk : Disk) (ps : List Pair) (now : Disk) (chain seen : List Pair) (p
 
 -- ---- its ends
 
-nothing_done : (disk : Disk) (ps : List Pair) → IsAccepted disk ps → IsWritable disk ps → IsOnlyStep disk ps disk ps (λ t. t) (λ d. d)
+nothing_done : (disk : Disk) (ps : List Pair) → IsAcceptedImage disk ps → IsWritable disk ps → IsOnlyStep disk ps disk ps (λ t. t) (λ d. d)
 nothing_done disk ps ok fits = record { follows = follows_itself disk ps ok; writable = fits }
 
 -- where no move is set, all pairs wait as they are
-pub recovery_begins : (disk : Disk) (ps : List Pair) → IsAccepted disk ps → IsWritable disk ps → HasNoMove (gstate_of ps)
-    → IsRecovering disk ps disk (take (superblocks_before ps) ps) [] (directory_pairs ps) [] (singles (directory_pairs ps)) []
+pub recovery_begins : (disk : Disk) (ps : List Pair) → IsAcceptedImage disk ps → IsWritable disk ps → HasNoMove (gstate_of ps)
+    → IsRecovering disk ps disk (take (pair_count_before_root ps) ps) [] (pairs_of_all_directories ps) [] (singles (pairs_of_all_directories ps)) []
 recovery_begins disk ps ok fits none =
     let e = chain_of_thread ps in
-    let same : ps ≡ take (superblocks_before ps) ps ++ joined_parts (singles (directory_pairs ps)) = e.0 ∙ ap (λ z. take (superblocks_before ps) ps ++ z) (sym (joined_singles (directory_pairs ps))) in
+    let same : ps ≡ take (pair_count_before_root ps) ps ++ joined_parts (singles (pairs_of_all_directories ps)) = e.0 ∙ ap (λ z. take (pair_count_before_root ps) ps ++ z) (sym (joined_singles (pairs_of_all_directories ps))) in
     record {
       are = e.0;
       was_chain = e.1;
-      plain = all_plain (take (superblocks_before ps) ps);
+      plain = all_plain (take (pair_count_before_root ps) ps);
       fates = tt;
       alike = tt;
-      wait = all_wait None (directory_pairs ps);
+      wait = all_wait None (pairs_of_all_directories ps);
       taken = subst (λ z. IsOnlyStep disk ps disk z (λ t. t) (λ d. d)) same (nothing_done disk ps ok fits);
       ready = record {
-        accepted = subst (IsAccepted disk) same ok;
+        accepted = subst (IsAcceptedImage disk) same ok;
         writable = subst (IsWritable disk) same fits;
         no_move = subst (λ z. HasNoMove (gstate_of z)) same none;
-        is_chain = ap superblocks_before (sym same) ∙ ap superblocks_before e.0 ∙ e.1;
+        is_chain = ap pair_count_before_root (sym same) ∙ ap pair_count_before_root e.0 ∙ e.1;
       };
     }
   where
@@ -146,16 +146,16 @@ recovery_begins disk ps ok fits none =
 
     all_wait : (from : Option (ℕ × ℕ)) (xs : List Pair) → AllWait ps from xs (singles xs)
     all_wait from [] = tt
-    all_wait from (x ∷ xs) = ((refl, sym (unmoved_all (gstate_of ps) none x)), all_wait (directory_after from x) xs)
+    all_wait from (x ∷ xs) = ((refl, sym (unmoved_all (gstate_of ps) none x)), all_wait (directory_address_after_pair from x) xs)
 
 -- All pairs were seen. A last commit may have changed a delta of the global state, which now is none.
 pub recovery_ends : (disk : Disk) (ps : List Pair) (now : Disk) (chain seen : List Pair) (parts : List (List Pair)) (kept : List Pair) (new : Disk) (rs : List Pair) (walk : Walk → Walk) (s : Session)
-    → IsRecovering disk ps now chain seen [] parts [] kept → IsWritable disk ps → IsOnlyStep now (chain ++ (kept ++ [])) new rs (λ t. t) walk → AreAlike (chain ++ kept) rs → gstate_of rs ≡ no_gstate
-    → s.tree ≡ tree_in disk ps → IsCompleted disk ps s ops.Recover new rs
+    → IsRecovering disk ps now chain seen [] parts [] kept → IsWritable disk ps → IsOnlyStep now (chain ++ (kept ++ [])) new rs (λ t. t) walk → AreAlike (chain ++ kept) rs → gstate_of rs ≡ zero_gstate
+    → s.tree ≡ tree_on_disk disk ps → IsCompleted disk ps s ops.Recover new rs
 recovery_ends disk ps now chain seen parts kept new rs walk s r fits last alike settled tree =
     let t = taken_then disk now new ps (chain ++ (kept ++ [])) rs (λ t. t) (λ t. t) (λ d. d) walk (ends_same (λ t. t)) r.taken last in
     let are : ps ≡ chain ++ seen = r.are ∙ ap (λ z. chain ++ z) (append-nil seen) in
-    let count : superblocks_before ps ≡ length chain = ap superblocks_before r.are ∙ r.was_chain in
+    let count : pair_count_before_root ps ≡ length chain = ap pair_count_before_root r.are ∙ r.was_chain in
     recover_completed disk ps new rs (singles chain ++ parts) s (λ d. walk d) fits t.follows t.writable settled
     (subst₂ (λ n z. Fates ps n None z (singles chain ++ parts)) (sym count) (sym are) (fates_behind ps chain seen parts r.plain r.fates))
     (alike_through (joined_parts (singles chain ++ parts)) (chain ++ kept) rs

@@ -9,18 +9,18 @@ use Rattle.std.proofs.lemmas.List.Elements.{All-from_recursion, All-head, All-ta
 use Rattle.std.proofs.lemmas.List.Folds.{list_any-from_Any}
 use Rattle.byteorder.specs.Endian.{little_number}
 use Rattle.lfs_model.specs.declared.order.NameOrder.{NameOrder}
-use Rattle.lfs_model.specs.Disk.{Disk, block_count, block_at}
-use Rattle.lfs_model.specs.Names.{Name, name_cmp, is_less, is_name}
-use Rattle.lfs_model.specs.Slots.{Content, Slot, Kind, File, Directory, Superblock, Struct, Inline, Ctz, Branch, Gstate, same_pair}
-use Rattle.lfs_model.specs.Content.{content_at, has_commit}
-use Rattle.lfs_model.specs.Thread.{Pair, anchor, LinkByTails, next_of, blocks_of, directory_pairs, starts_with_superblock, gstate_of, root_of, ThreadDirectory}
-use Rattle.lfs_model.specs.Tree.{Path, root_slot, names_at}
+use Rattle.lfs_model.specs.Disk.{Disk, block_count, block_bytes_on_disk}
+use Rattle.lfs_model.specs.Names.{Name, name_cmp, is_less_ordering, is_name}
+use Rattle.lfs_model.specs.Slots.{Content, Slot, KindOfSlot, File, Directory, Superblock, Struct, Inline, Ctz, Branch, Gstate, same_pair}
+use Rattle.lfs_model.specs.Content.{content_of_pair_at, has_commit}
+use Rattle.lfs_model.specs.Thread.{Pair, anchor_pair_address, AreLinkedByTails, pair_named_by_tail, blocks_of_pairs, pairs_of_all_directories, starts_with_superblock, gstate_of, root_directory_of_pairs, ThreadDirectory}
+use Rattle.lfs_model.specs.Tree.{Path, root_slot, names_of_directory_at}
 use Rattle.lfs_model.specs.TreeEdits.{same_path}
-use Rattle.lfs_model.specs.View.{IsAccepted, first_slots, IsMove, NamesSlot, IsOtherSlot, IsEntry, Suits, MayHaveSuperblock, IsSuperblockStruct, superblock_pairs, other_pairs, IsListIfCtz}
-use Rattle.lfs_model.specs.Profile.{IsWritable, FitsSlot}
-use Rattle.lfs_model.specs.Shown.{PathLeadsTo, IsReached, directories_in, entries_in, used_blocks, all_slots}
-use Rattle.lfs_model.specs.examples.Images.{IsRefused, IsReadOnly}
-use Rattle.lfs_model.proofs.Acceptance.{are_apart, apart_from, all_to, rise, begins, led, on_branches, outline_in, is_move, names_slot, is_other, is_entry, suits, is_inline, has_superblock, is_struct}
+use Rattle.lfs_model.specs.View.{IsAcceptedImage, first_pair_slots, IsMoveOrNone, IsSlotInThread, IsNoSuperblockSlot, IsFileOrDirectoryEntry, IsStructOfKind, HasSuperblockOfBytesIfAny, IsSuperblockStruct, pairs_of_superblock_chain, pairs_after_superblock_chain, IsListIfCtz}
+use Rattle.lfs_model.specs.Profile.{IsWritable, FitsSlotLimits}
+use Rattle.lfs_model.specs.Shown.{IsPathToDirectory, IsDirectoryReached, directories_in_thread, entries_by_directory_in_thread, used_blocks, all_slots_not_moved}
+use Rattle.lfs_model.specs.examples.Images.{IsNoAcceptedImage, IsOutsideWritingProfile}
+use Rattle.lfs_model.proofs.Acceptance.{are_apart, apart_from, all_to, rise, begins, led, on_branches, outline_in, is_move, names_slot, is_other, is_entry, has_struct_of_its_kind, is_inline, has_superblock, is_struct}
 use Rattle.lfs_model.proofs.Outlines.{is_outlined}
 use Rattle.lfs_model.proofs.Paths.{path_itself, same_itself}
 use Rattle.lfs_model.proofs.Skips.{is_list, list_to}
@@ -32,48 +32,48 @@ use Rattle.lfs_model.proofs.Uniqueness.{one_way}
 record Begun (disk : Disk) (at : Option (ℕ × ℕ)) (ps : List Pair) (c : Content) (here : ℕ × ℕ) : Type 0 where
   rest : List Pair
   is : ps ≡ record { at = here; content = c } ∷ rest
-  links : LinkByTails (next_of c.tail) rest
-  contents : All (λ p. content_at disk p.at ≡ Some p.content) rest
+  links : AreLinkedByTails (pair_named_by_tail c.tail) rest
+  contents : All (λ p. content_of_pair_at disk p.at ≡ Some p.content) rest
 
-begun : (disk : Disk) (ps : List Pair) (c : Content) (here : ℕ × ℕ) → LinkByTails (Some here) ps → All (λ p. content_at disk p.at ≡ Some p.content) ps → content_at disk here ≡ Some c → Begun disk (Some here) ps c here
+begun : (disk : Disk) (ps : List Pair) (c : Content) (here : ℕ × ℕ) → AreLinkedByTails (Some here) ps → All (λ p. content_of_pair_at disk p.at ≡ Some p.content) ps → content_of_pair_at disk here ≡ Some c → Begun disk (Some here) ps c here
 begun disk [] c here l all is = absurd (cc)
 begun disk (p ∷ ps) c here l all is =
-    let P : Pair → Type 0 = λ p. content_at disk p.at ≡ Some p.content in
+    let P : Pair → Type 0 = λ p. content_of_pair_at disk p.at ≡ Some p.content in
     let at : here ≡ p.at = same_Some here p.at l.0 in
-    let content : c ≡ p.content = same_Some c p.content (sym is ∙ ap (content_at disk) at ∙ All-head P p ps all) in
+    let content : c ≡ p.content = same_Some c p.content (sym is ∙ ap (content_of_pair_at disk) at ∙ All-head P p ps all) in
     record { rest = ps; is = rw (at, content) refl; links = rw content l.1; contents = All-tail P p ps all }
 
-none_stands : (disk : Disk) (ps : List Pair) (here : ℕ × ℕ) → LinkByTails (Some here) ps → All (λ p. content_at disk p.at ≡ Some p.content) ps → content_at disk here ≡ None → ⊥
+none_stands : (disk : Disk) (ps : List Pair) (here : ℕ × ℕ) → AreLinkedByTails (Some here) ps → All (λ p. content_of_pair_at disk p.at ≡ Some p.content) ps → content_of_pair_at disk here ≡ None → ⊥
 none_stands disk [] here l all is = cc
 none_stands disk (p ∷ ps) here l all is =
     let at : here ≡ p.at = same_Some here p.at l.0 in
-    let no : None ≡ Some p.content = sym is ∙ ap (content_at disk) at ∙ All-head (λ p. content_at disk p.at ≡ Some p.content) p ps all in
+    let no : None ≡ Some p.content = sym is ∙ ap (content_of_pair_at disk) at ∙ All-head (λ p. content_of_pair_at disk p.at ≡ Some p.content) p ps all in
     cc
 
 -- the first pair holds nothing
-pub no_first : (disk : Disk) → content_at disk anchor ≡ None → IsRefused disk
-no_first disk is ps a = none_stands disk ps anchor a.thread.links a.thread.contents is
+pub no_first : (disk : Disk) → content_of_pair_at disk anchor_pair_address ≡ None → IsNoAcceptedImage disk
+no_first disk is ps a = none_stands disk ps anchor_pair_address a.thread.links a.thread.contents is
 
 -- neither of its blocks has a commit
-pub no_commit : (disk : Disk) → has_commit (block_at disk 0) ≡ false → has_commit (block_at disk 1) ≡ false → IsRefused disk
+pub no_commit : (disk : Disk) → has_commit (block_bytes_on_disk disk 0) ≡ false → has_commit (block_bytes_on_disk disk 1) ≡ false → IsNoAcceptedImage disk
 no_commit disk first second = no_first disk (rw (first, second) refl)
 
 -- the second pair holds nothing
-pub no_second : (disk : Disk) (c : Content) (to : ℕ × ℕ) → content_at disk anchor ≡ Some c → next_of c.tail ≡ Some to → content_at disk to ≡ None → IsRefused disk
+pub no_second : (disk : Disk) (c : Content) (to : ℕ × ℕ) → content_of_pair_at disk anchor_pair_address ≡ Some c → pair_named_by_tail c.tail ≡ Some to → content_of_pair_at disk to ≡ None → IsNoAcceptedImage disk
 no_second disk c to first next none ps a =
-    let b = begun disk ps c anchor a.thread.links a.thread.contents first in
+    let b = begun disk ps c anchor_pair_address a.thread.links a.thread.contents first in
     none_stands disk b.rest to (rw (← next) b.links) b.contents none
 
 -- the second pair has a block of the first, or one block twice
-pub no_distinct : (disk : Disk) (c d : Content) (to : ℕ × ℕ) → content_at disk anchor ≡ Some c → next_of c.tail ≡ Some to → content_at disk to ≡ Some d →
-    are_apart (0 ∷ 1 ∷ to.0 ∷ to.1 ∷ []) ≡ false → IsRefused disk
+pub no_distinct : (disk : Disk) (c d : Content) (to : ℕ × ℕ) → content_of_pair_at disk anchor_pair_address ≡ Some c → pair_named_by_tail c.tail ≡ Some to → content_of_pair_at disk to ≡ Some d →
+    are_apart (0 ∷ 1 ∷ to.0 ∷ to.1 ∷ []) ≡ false → IsNoAcceptedImage disk
 unfolding IsDistinct
 no_distinct disk c d to first next second twice ps a =
-    let b = begun disk ps c anchor a.thread.links a.thread.contents first in
+    let b = begun disk ps c anchor_pair_address a.thread.links a.thread.contents first in
     let e = begun disk b.rest d to (rw (← next) b.links) b.contents second in
-    let is : ps ≡ record { at = anchor; content = c } ∷ record { at = to; content = d } ∷ e.rest = b.is ∙ ap (λ (xs : List Pair). record { at = anchor; content = c } ∷ xs) e.is in
-    let distinct : IsDistinct nat_eq (0 ∷ 1 ∷ to.0 ∷ to.1 ∷ blocks_of e.rest) = subst (λ xs. IsDistinct nat_eq (blocks_of xs)) is a.thread.distinct in
-    let apart : are_apart (0 ∷ 1 ∷ to.0 ∷ to.1 ∷ []) ≡ true = apart_from (0 ∷ 1 ∷ to.0 ∷ to.1 ∷ []) (front (0 ∷ 1 ∷ to.0 ∷ to.1 ∷ []) (blocks_of e.rest) distinct) in
+    let is : ps ≡ record { at = anchor_pair_address; content = c } ∷ record { at = to; content = d } ∷ e.rest = b.is ∙ ap (λ (xs : List Pair). record { at = anchor_pair_address; content = c } ∷ xs) e.is in
+    let distinct : IsDistinct nat_eq (0 ∷ 1 ∷ to.0 ∷ to.1 ∷ blocks_of_pairs e.rest) = subst (λ xs. IsDistinct nat_eq (blocks_of_pairs xs)) is a.thread.distinct in
+    let apart : are_apart (0 ∷ 1 ∷ to.0 ∷ to.1 ∷ []) ≡ true = apart_from (0 ∷ 1 ∷ to.0 ∷ to.1 ∷ []) (front (0 ∷ 1 ∷ to.0 ∷ to.1 ∷ []) (blocks_of_pairs e.rest) distinct) in
     absurd (cc)
   where
     left : (x : ℕ) (xs ys : List ℕ) → AllByRecursion (λ y. nat_eq x y ≡ false) (xs ++ ys) → AllByRecursion (λ y. nat_eq x y ≡ false) xs
@@ -85,34 +85,34 @@ no_distinct disk c d to first next second twice ps a =
     front (x ∷ xs) ys h = (left x xs ys h.0, front xs ys h.1)
 
 -- these pairs are the thread, so no others are accepted
-pub refused_with : (disk : Disk) (qs : List Pair) → LinkByTails (Some anchor) qs → AllByRecursion (λ p. content_at disk p.at ≡ Some p.content) qs → (IsAccepted disk qs → ⊥) → IsRefused disk
+pub refused_with : (disk : Disk) (qs : List Pair) → AreLinkedByTails (Some anchor_pair_address) qs → AllByRecursion (λ p. content_of_pair_at disk p.at ≡ Some p.content) qs → (IsAcceptedImage disk qs → ⊥) → IsNoAcceptedImage disk
 refused_with disk qs links contents never ps a =
-    let is : ps ≡ qs = one_way (content_at disk) (Some anchor) ps qs a.thread.links links a.thread.contents (All-from_recursion (λ p. content_at disk p.at ≡ Some p.content) qs contents) in
-    never (subst (IsAccepted disk) is a)
+    let is : ps ≡ qs = one_way (content_of_pair_at disk) (Some anchor_pair_address) ps qs a.thread.links links a.thread.contents (All-from_recursion (λ p. content_of_pair_at disk p.at ≡ Some p.content) qs contents) in
+    never (subst (IsAcceptedImage disk) is a)
 
 -- ---- rules that fail
 
 rise_to : (by : NameOrder) (ns : List Name) → AllPairs (λ a b. name_cmp by a b ≡ Less) ns → rise by ns ≡ true
 rise_to by [] h = refl
 rise_to by (n ∷ ns) h =
-    and_from (list_all (λ m. is_less (name_cmp by n m)) ns) (rise by ns)
-    (all_to (λ m. is_less (name_cmp by n m)) (λ m. name_cmp by n m ≡ Less) (λ m e. ap is_less e) ns (λ j d l. h 0 (suc j) d (omega arith) (omega arith)))
+    and_from (list_all (λ m. is_less_ordering (name_cmp by n m)) ns) (rise by ns)
+    (all_to (λ m. is_less_ordering (name_cmp by n m)) (λ m. name_cmp by n m ≡ Less) (λ m e. ap is_less_ordering e) ns (λ j d l. h 0 (suc j) d (omega arith) (omega arith)))
     (rise_to by ns (λ i j d l m. h (suc i) (suc j) d (omega arith) (omega arith)))
 
 -- a block isn't there
-pub fails_range : (disk : Disk) (ps : List Pair) → list_all (λ b. nat_lt b (block_count disk)) (blocks_of ps) ≡ false → IsAccepted disk ps → ⊥
-fails_range disk ps fails a = let e = all_to (λ b. nat_lt b (block_count disk)) (λ b. b < block_count disk) (λ b. lt-ltb b (block_count disk)) (blocks_of ps) a.thread.in_range in cc
+pub fails_range : (disk : Disk) (ps : List Pair) → list_all (λ b. nat_lt b (block_count disk)) (blocks_of_pairs ps) ≡ false → IsAcceptedImage disk ps → ⊥
+fails_range disk ps fails a = let e = all_to (λ b. nat_lt b (block_count disk)) (λ b. b < block_count disk) (λ b. lt-ltb b (block_count disk)) (blocks_of_pairs ps) a.thread.in_range in cc
 
 -- the names of a directory don't rise
-pub fails_order : (disk : Disk) (ps : List Pair) (path : Path) (at : ℕ × ℕ) → PathLeadsTo ps path at → rise disk.order (names_at (entries_in ps) at) ≡ false → IsAccepted disk ps → ⊥
-fails_order disk ps path at leads fails a = let e = rise_to disk.order (names_at (entries_in ps) at) (a.order path at leads) in cc
+pub fails_order : (disk : Disk) (ps : List Pair) (path : Path) (at : ℕ × ℕ) → IsPathToDirectory ps path at → rise disk.order (names_of_directory_at (entries_by_directory_in_thread ps) at) ≡ false → IsAcceptedImage disk ps → ⊥
+fails_order disk ps path at leads fails a = let e = rise_to disk.order (names_of_directory_at (entries_by_directory_in_thread ps) at) (a.order path at leads) in cc
 
 -- a path leads to what is no directory
-pub fails_branches : (disk : Disk) (ps : List Pair) (path : Path) (at : ℕ × ℕ) → PathLeadsTo ps path at → begins ps at ≡ false → IsAccepted disk ps → ⊥
-fails_branches disk ps path at leads fails a = let e = list_any-from_Any (λ d. same_pair d.at at) (directories_in ps) (a.branches path at leads) in cc
+pub fails_branches : (disk : Disk) (ps : List Pair) (path : Path) (at : ℕ × ℕ) → IsPathToDirectory ps path at → begins ps at ≡ false → IsAcceptedImage disk ps → ⊥
+fails_branches disk ps path at leads fails a = let e = list_any-from_Any (λ d. same_pair d.at at) (directories_in_thread ps) (a.branches path at leads) in cc
 
 -- two paths lead to one directory
-pub fails_once : (disk : Disk) (ps : List Pair) (path other : Path) (at to : ℕ × ℕ) → PathLeadsTo ps path at → PathLeadsTo ps other to → same_pair at to ≡ true → same_path path other ≡ false → IsAccepted disk ps → ⊥
+pub fails_once : (disk : Disk) (ps : List Pair) (path other : Path) (at to : ℕ × ℕ) → IsPathToDirectory ps path at → IsPathToDirectory ps other to → same_pair at to ≡ true → same_path path other ≡ false → IsAcceptedImage disk ps → ⊥
 fails_once disk ps path other at to leads second same apart a =
     let is = a.once path other at to leads second same in
     let e : same_path path path ≡ false = rw (← is) at apart in
@@ -120,17 +120,17 @@ fails_once disk ps path other at to leads second same apart a =
     cc
 
 -- no path leads to a directory, and the sync bit is clear
-pub fails_reached : (disk : Disk) (ps : List Pair) (k : ℕ) → (gstate_of ps).sync ≡ false → is_outlined k (entries_in ps) (root_slot (root_of ps)) ≡ true →
-    (i : ℕ) (d : ThreadDirectory) → slice_get (directories_in ps) i ≡ Some d → on_branches (λ path at. not (same_pair d.at at)) (outline_in k ps) ≡ true → IsAccepted disk ps → ⊥
+pub fails_reached : (disk : Disk) (ps : List Pair) (k : ℕ) → (gstate_of ps).sync ≡ false → is_outlined k (entries_by_directory_in_thread ps) (root_slot (root_directory_of_pairs ps)) ≡ true →
+    (i : ℕ) (d : ThreadDirectory) → slice_get (directories_in_thread ps) i ≡ Some d → on_branches (λ path at. not (same_pair d.at at)) (outline_in k ps) ≡ true → IsAcceptedImage disk ps → ⊥
 fails_reached disk ps k clear whole i d is none a =
-    let within = slice_get_within (directories_in ps) i d is in
-    let here : get_or (directories_in ps) i d ≡ d = get_or_from_slice_get (directories_in ps) i d d is in
-    let r : IsReached ps d.at = subst (λ x. IsReached ps x.at) here (a.reached clear i d within) in
+    let within = slice_get_within (directories_in_thread ps) i d is in
+    let here : get_or (directories_in_thread ps) i d ≡ d = get_or_from_slice_get (directories_in_thread ps) i d d is in
+    let r : IsDirectoryReached ps d.at = subst (λ x. IsDirectoryReached ps x.at) here (a.reached clear i d within) in
     let e = led k ps whole (λ path at. not (same_pair d.at at)) none r.0 r.1 r.2.0 in
     let f : not (same_pair d.at r.1) ≡ not true = ap not r.2.1 in
     cc
 
-move_to : (ps : List Pair) (g : Gstate) → IsMove ps g → is_move ps g ≡ true
+move_to : (ps : List Pair) (g : Gstate) → IsMoveOrNone ps g → is_move ps g ≡ true
 move_to ps g (inl h) =
     or_left (g.kind == 0x000 && (g.id == 0 && (g.pair.0 == 0 && g.pair.1 == 0))) (g.kind == 0x4ff && names_slot ps g.pair g.id)
     (and_from _ _ (eq-eqb g.kind 0 h.0) (and_from _ _ (eq-eqb g.id 0 h.1) (and_from _ _ (eq-eqb g.pair.0 0 (ap (λ (x : ℕ × ℕ). x.0) h.2)) (eq-eqb g.pair.1 0 (ap (λ (x : ℕ × ℕ). x.1) h.2)))))
@@ -138,23 +138,23 @@ move_to ps g (inr h) =
     or_right (g.kind == 0x000 && (g.id == 0 && (g.pair.0 == 0 && g.pair.1 == 0))) (g.kind == 0x4ff && names_slot ps g.pair g.id)
     (and_from _ _ (eq-eqb g.kind 0x4ff h.0) (named_to h.1))
   where
-    other_to : (o : Option Slot) → IsOtherSlot o → is_other o ≡ true
+    other_to : (o : Option Slot) → IsNoSuperblockSlot o → is_other o ≡ true
     other_to None e = absurd e
     other_to (Some s) e = ap not e
 
-    named_to : NamesSlot ps g.pair g.id → names_slot ps g.pair g.id ≡ true
+    named_to : IsSlotInThread ps g.pair g.id → names_slot ps g.pair g.id ≡ true
     named_to n = list_any-from_Any (λ p. same_pair g.pair p.at && is_other (slice_get p.content.slots g.id)) ps
         (n.0, n.1, n.2, n.3, and_from (same_pair g.pair n.1.at) (is_other (slice_get n.1.content.slots g.id)) n.4.0 (other_to (slice_get n.1.content.slots g.id) n.4.1))
 
 -- the global state names no slot, and isn't zero
-pub fails_move : (disk : Disk) (ps : List Pair) → is_move ps (gstate_of ps) ≡ false → IsAccepted disk ps → ⊥
+pub fails_move : (disk : Disk) (ps : List Pair) → is_move ps (gstate_of ps) ≡ false → IsAcceptedImage disk ps → ⊥
 fails_move disk ps fails a = let e = move_to ps (gstate_of ps) a.move in cc
 
 -- a block is owned twice
-pub fails_owners : (disk : Disk) (ps : List Pair) → are_apart (used_blocks disk ps) ≡ false → IsAccepted disk ps → ⊥
+pub fails_owners : (disk : Disk) (ps : List Pair) → are_apart (used_blocks disk ps) ≡ false → IsAcceptedImage disk ps → ⊥
 fails_owners disk ps fails a = let e = apart_from (used_blocks disk ps) a.owned_once in cc
 
-suits_to : (k : Kind) (s : Struct) → Suits k s → suits k s ≡ true
+suits_to : (k : KindOfSlot) (s : Struct) → IsStructOfKind k s → has_struct_of_its_kind k s ≡ true
 suits_to File (Inline bytes) e = refl
 suits_to File (Ctz head size) e = refl
 suits_to File (Branch to) e = absurd e
@@ -163,23 +163,23 @@ suits_to Directory (Ctz head size) e = absurd e
 suits_to Directory (Branch to) e = refl
 suits_to Superblock s e = absurd e
 
-entry_to : (s : Slot) → IsEntry s → is_entry s ≡ true
-entry_to s h = and_from (is_name s.name) (suits s.kind s.struct) h.name (suits_to s.kind s.struct h.struct)
+entry_to : (s : Slot) → IsFileOrDirectoryEntry s → is_entry s ≡ true
+entry_to s h = and_from (is_name s.name) (has_struct_of_its_kind s.kind s.struct) h.name (suits_to s.kind s.struct h.struct)
 
 -- a slot after the superblock's pairs is no entry
-pub fails_slots : (disk : Disk) (ps : List Pair) → list_all (λ p. list_all is_entry p.content.slots) (other_pairs ps) ≡ false → IsAccepted disk ps → ⊥
-fails_slots disk ps fails a = let e = all_to (λ p. list_all is_entry p.content.slots) (λ p. All IsEntry p.content.slots) (λ p. all_to is_entry IsEntry entry_to p.content.slots) (other_pairs ps) a.slots in cc
+pub fails_slots : (disk : Disk) (ps : List Pair) → list_all (λ p. list_all is_entry p.content.slots) (pairs_after_superblock_chain ps) ≡ false → IsAcceptedImage disk ps → ⊥
+fails_slots disk ps fails a = let e = all_to (λ p. list_all is_entry p.content.slots) (λ p. All IsFileOrDirectoryEntry p.content.slots) (λ p. all_to is_entry IsFileOrDirectoryEntry entry_to p.content.slots) (pairs_after_superblock_chain ps) a.slots in cc
 
 -- the root directory doesn't begin with a superblock
-pub fails_root : (disk : Disk) (ps : List Pair) → starts_with_superblock (first_slots (directory_pairs ps)) ≡ false → IsAccepted disk ps → ⊥
+pub fails_root : (disk : Disk) (ps : List Pair) → starts_with_superblock (first_pair_slots (pairs_of_all_directories ps)) ≡ false → IsAcceptedImage disk ps → ⊥
 fails_root disk ps fails a = let e = sym a.root ∙ fails in cc
 
 inline_to : (bytes : List ℕ) (s : Struct) → s ≡ Inline bytes → is_inline bytes s ≡ true
 inline_to bytes s e = rw e (same_itself bytes)
 
-superblock_to : (bytes : List ℕ) (slots : List Slot) → MayHaveSuperblock bytes slots → has_superblock bytes slots ≡ true
+superblock_to : (bytes : List ℕ) (slots : List Slot) → HasSuperblockOfBytesIfAny bytes slots → has_superblock bytes slots ≡ true
 superblock_to bytes [] h = refl
-superblock_to bytes (s ∷ slots) h = and_from _ _ h.0 (and_from _ _ (inline_to bytes s.struct h.1) (all_to is_entry IsEntry entry_to slots h.2))
+superblock_to bytes (s ∷ slots) h = and_from _ _ h.0 (and_from _ _ (inline_to bytes s.struct h.1) (all_to is_entry IsFileOrDirectoryEntry entry_to slots h.2))
 
 struct_to : (disk : Disk) (bytes : List ℕ) → IsSuperblockStruct disk bytes → is_struct disk bytes ≡ true
 struct_to disk bytes h =
@@ -187,16 +187,16 @@ struct_to disk bytes h =
     (and_from _ _ (eq-eqb (little_number 4 (drop 4 bytes)) disk.block_size h.block_size) (eq-eqb (little_number 4 (drop 8 bytes)) (block_count disk) h.block_count)))
 
 -- the superblock's bytes aren't those of the disk, or not those of each of its pairs
-pub fails_superblock : (disk : Disk) (ps : List Pair) (p : Pair) (rest : List Pair) (bytes : List ℕ) → superblock_pairs ps ≡ p ∷ rest → ((held : List ℕ) → MayHaveSuperblock held p.content.slots → Inline bytes ≡ Inline held) →
-    (is_struct disk bytes && list_all (λ q. has_superblock bytes q.content.slots) (superblock_pairs ps)) ≡ false → IsAccepted disk ps → ⊥
+pub fails_superblock : (disk : Disk) (ps : List Pair) (p : Pair) (rest : List Pair) (bytes : List ℕ) → pairs_of_superblock_chain ps ≡ p ∷ rest → ((held : List ℕ) → HasSuperblockOfBytesIfAny held p.content.slots → Inline bytes ≡ Inline held) →
+    (is_struct disk bytes && list_all (λ q. has_superblock bytes q.content.slots) (pairs_of_superblock_chain ps)) ≡ false → IsAcceptedImage disk ps → ⊥
 fails_superblock disk ps p rest bytes are first fails a =
     let held = a.superblock.0 in
     let each = a.superblock.1.1 in
-    let here : MayHaveSuperblock held p.content.slots = All-head (λ q. MayHaveSuperblock held q.content.slots) p rest (subst (All (λ q. MayHaveSuperblock held q.content.slots)) are each) in
+    let here : HasSuperblockOfBytesIfAny held p.content.slots = All-head (λ q. HasSuperblockOfBytesIfAny held q.content.slots) p rest (subst (All (λ q. HasSuperblockOfBytesIfAny held q.content.slots)) are each) in
     let same : bytes ≡ held = let e = first held here in cc in
     let struct = struct_to disk held a.superblock.1.0 in
-    let pairs = all_to (λ q. has_superblock held q.content.slots) (λ q. MayHaveSuperblock held q.content.slots) (λ q. superblock_to held q.content.slots) (superblock_pairs ps) each in
-    let pass : (is_struct disk held && list_all (λ q. has_superblock held q.content.slots) (superblock_pairs ps)) ≡ true = and_from (is_struct disk held) (list_all (λ q. has_superblock held q.content.slots) (superblock_pairs ps)) struct pairs in
+    let pairs = all_to (λ q. has_superblock held q.content.slots) (λ q. HasSuperblockOfBytesIfAny held q.content.slots) (λ q. superblock_to held q.content.slots) (pairs_of_superblock_chain ps) each in
+    let pass : (is_struct disk held && list_all (λ q. has_superblock held q.content.slots) (pairs_of_superblock_chain ps)) ≡ true = and_from (is_struct disk held) (list_all (λ q. has_superblock held q.content.slots) (pairs_of_superblock_chain ps)) struct pairs in
     let now = rw (← same) at pass in
     cc
 
@@ -211,19 +211,19 @@ ctz_to disk (Inline bytes) h = refl
 ctz_to disk (Branch to) h = refl
 
 -- a file's list isn't well formed
-pub fails_lists : (disk : Disk) (ps : List Pair) → list_all (λ s. is_list_if_ctz disk s.struct) (all_slots ps) ≡ false → IsAccepted disk ps → ⊥
-fails_lists disk ps fails a = let e = all_to (λ s. is_list_if_ctz disk s.struct) (λ s. IsListIfCtz disk s.struct) (λ s. ctz_to disk s.struct) (all_slots ps) a.lists in cc
+pub fails_lists : (disk : Disk) (ps : List Pair) → list_all (λ s. is_list_if_ctz disk s.struct) (all_slots_not_moved ps) ≡ false → IsAcceptedImage disk ps → ⊥
+fails_lists disk ps fails a = let e = all_to (λ s. is_list_if_ctz disk s.struct) (λ s. IsListIfCtz disk s.struct) (λ s. ctz_to disk s.struct) (all_slots_not_moved ps) a.lists in cc
 
 -- ---- images that may not be written
 
-pub read_only_with : (disk : Disk) (qs : List Pair) → LinkByTails (Some anchor) qs → AllByRecursion (λ p. content_at disk p.at ≡ Some p.content) qs → (IsWritable disk qs → ⊥) → IsReadOnly disk
+pub read_only_with : (disk : Disk) (qs : List Pair) → AreLinkedByTails (Some anchor_pair_address) qs → AllByRecursion (λ p. content_of_pair_at disk p.at ≡ Some p.content) qs → (IsWritable disk qs → ⊥) → IsOutsideWritingProfile disk
 read_only_with disk qs links contents never ps a w =
-    let is : ps ≡ qs = one_way (content_at disk) (Some anchor) ps qs a.thread.links links a.thread.contents (All-from_recursion (λ p. content_at disk p.at ≡ Some p.content) qs contents) in
+    let is : ps ≡ qs = one_way (content_of_pair_at disk) (Some anchor_pair_address) ps qs a.thread.links links a.thread.contents (All-from_recursion (λ p. content_of_pair_at disk p.at ≡ Some p.content) qs contents) in
     never (subst (IsWritable disk) is w)
 
 -- a slot of a pair that doesn't fit
-pub fails_slot : (disk : Disk) (ps : List Pair) (i k : ℕ) (p : Pair) (s : Slot) → slice_get ps i ≡ Some p → slice_get p.content.slots k ≡ Some s → (FitsSlot disk.block_size disk.page s → ⊥) → IsWritable disk ps → ⊥
+pub fails_slot : (disk : Disk) (ps : List Pair) (i k : ℕ) (p : Pair) (s : Slot) → slice_get ps i ≡ Some p → slice_get p.content.slots k ≡ Some s → (FitsSlotLimits disk.block_size disk.page s → ⊥) → IsWritable disk ps → ⊥
 fails_slot disk ps i k p s pair slot never w =
-    let P : Pair → Type 0 = λ p. All (FitsSlot disk.block_size disk.page) p.content.slots in
+    let P : Pair → Type 0 = λ p. All (FitsSlotLimits disk.block_size disk.page) p.content.slots in
     let held : P p = subst P (get_or_from_slice_get ps i p p pair) (w.slots i p (slice_get_within ps i p pair)) in
-    never (subst (FitsSlot disk.block_size disk.page) (get_or_from_slice_get p.content.slots k s s slot) (held k s (slice_get_within p.content.slots k s slot)))
+    never (subst (FitsSlotLimits disk.block_size disk.page) (get_or_from_slice_get p.content.slots k s s slot) (held k s (slice_get_within p.content.slots k s slot)))

@@ -4,12 +4,12 @@ use Rattle.std.proofs.lemmas.List.Elements.{filter-append}
 use Rattle.std.proofs.Math.Seq.{set-append_seam}
 use Rattle.lfs_model.specs.Disk.{Disk}
 use Rattle.lfs_model.specs.Slots.{Slot, is_superblock, same_pair}
-use Rattle.lfs_model.specs.Thread.{Pair, blocks_of}
-use Rattle.lfs_model.specs.Tree.{Path, branch_of}
-use Rattle.lfs_model.specs.Shown.{PathLeadsTo, entries_in, tree_in}
+use Rattle.lfs_model.specs.Thread.{Pair, blocks_of_pairs}
+use Rattle.lfs_model.specs.Tree.{Path, branch_address_of_struct}
+use Rattle.lfs_model.specs.Shown.{IsPathToDirectory, entries_by_directory_in_thread, tree_on_disk}
 use Rattle.lfs_model.specs.Operations as ops
 use Rattle.lfs_model.specs.Session.{Session}
-use Rattle.lfs_model.specs.Refusals.{as_path}
+use Rattle.lfs_model.specs.Refusals.{path_or_root}
 use Rattle.lfs_model.specs.InDirectory.{entries_only}
 use Rattle.lfs_model.proofs.Paths.{last_is}
 use Rattle.lfs_model.proofs.Sites.{Site, thread_at, begin_of}
@@ -30,40 +30,40 @@ entry_among xs u ys other = both_entries xs (u ∷ ys) ∙ ap (λ z. entries_onl
 
 -- the file is after the old slot
 module _ (disk new : Disk) (w : Site) (p q : Pair) (more : List Pair) (l : List Slot) (u : Slot) (passed : List Slot) (target : Slot) (r : List Slot)
-    (c : IsCommit disk new w p q more [] l (u ∷ (passed ++ target ∷ [])) (passed ++ record u { name = target.name } ∷ []) r) (other : is_superblock u ≡ false) (entry : is_superblock target ≡ false) (file : branch_of target.struct ≡ None)
+    (c : IsCommit disk new w p q more [] l (u ∷ (passed ++ target ∷ [])) (passed ++ record u { name = target.name } ∷ []) r) (other : is_superblock u ≡ false) (entry : is_superblock target ≡ false) (file : branch_address_of_struct target.struct ≡ None)
     (differs : target.name ≡ u.name → ⊥)
-    (P : Path) (a : ℕ × ℕ) (leads : PathLeadsTo (thread_at w (p ∷ [])) P a) (same : same_pair (begin_of w (p ∷ [])) a ≡ true)
-    (s : Session) (old_bytes new_bytes : List ℕ) (tree : s.tree ≡ tree_in disk (thread_at w (p ∷ []))) (old_is : as_path old_bytes ≡ P ++ u.name ∷ []) (new_is : as_path new_bytes ≡ P ++ target.name ∷ []) where
+    (P : Path) (a : ℕ × ℕ) (leads : IsPathToDirectory (thread_at w (p ∷ [])) P a) (same : same_pair (begin_of w (p ∷ [])) a ≡ true)
+    (s : Session) (old_bytes new_bytes : List ℕ) (tree : s.tree ≡ tree_on_disk disk (thread_at w (p ∷ []))) (old_is : path_or_root old_bytes ≡ P ++ u.name ∷ []) (new_is : path_or_root new_bytes ≡ P ++ target.name ∷ []) where
   abbrev moved : Slot
   moved = record u { name = target.name }
 
   abbrev ahead : List Slot
   ahead = shown_before w l ++ entries_only passed
 
-  shows : entries_in (thread_at w (p ∷ [])) a ≡ shown_before w l ++ u ∷ (entries_only passed ++ target ∷ shown_behind w r)
+  shows : entries_by_directory_in_thread (thread_at w (p ∷ [])) a ≡ shown_before w l ++ u ∷ (entries_only passed ++ target ∷ shown_behind w r)
   shows = site_shows disk w p l (u ∷ (passed ++ target ∷ [])) r a c.accepted c.site (no_move_from (thread_at w (p ∷ [])) c.settled) same c.was
       ∙ ap (λ z. shown_before w l ++ (z ++ shown_behind w r)) (entry_among [] u (passed ++ target ∷ []) other ∙ ap (λ z. u ∷ z) (entry_among passed target [] entry))
       ∙ ap (λ z. shown_before w l ++ u ∷ z) (append_assoc (entries_only passed) (target ∷ []) (shown_behind w r))
 
-  at_old : slice_get (entries_in (thread_at w (p ∷ [])) a) (place_at w l) ≡ Some u
+  at_old : slice_get (entries_by_directory_in_thread (thread_at w (p ∷ [])) a) (place_at w l) ≡ Some u
   at_old = ap (λ z. slice_get z (place_at w l)) shows ∙ get_here (shown_before w l) (entries_only passed ++ target ∷ shown_behind w r) u
 
-  left_over : remove (entries_in (thread_at w (p ∷ [])) a) (place_at w l) ≡ (shown_before w l ++ entries_only passed) ++ target ∷ shown_behind w r
+  left_over : remove (entries_by_directory_in_thread (thread_at w (p ∷ [])) a) (place_at w l) ≡ (shown_before w l ++ entries_only passed) ++ target ∷ shown_behind w r
   left_over = ap (λ z. remove z (place_at w l)) shows ∙ remove_here (shown_before w l) (entries_only passed ++ target ∷ shown_behind w r) u ∙ sym (append_assoc (shown_before w l) (entries_only passed) (target ∷ shown_behind w r))
 
   abbrev number : ℕ
   number = length (shown_before w l ++ entries_only passed)
 
-  there : slice_get (remove (entries_in (thread_at w (p ∷ [])) a) (place_at w l)) (length (shown_before w l ++ entries_only passed)) ≡ Some target
+  there : slice_get (remove (entries_by_directory_in_thread (thread_at w (p ∷ [])) a) (place_at w l)) (length (shown_before w l ++ entries_only passed)) ≡ Some target
   there = ap (λ z. slice_get z number) left_over ∙ get_here ahead (shown_behind w r) target
 
   shown_moved : shown_before w l ++ (entries_only (passed ++ record u { name = target.name } ∷ []) ++ shown_behind w r)
-      ≡ set (remove (entries_in (thread_at w (p ∷ [])) a) (place_at w l)) (length (shown_before w l ++ entries_only passed)) (record u { name = target.name })
+      ≡ set (remove (entries_by_directory_in_thread (thread_at w (p ∷ [])) a) (place_at w l)) (length (shown_before w l ++ entries_only passed)) (record u { name = target.name })
   shown_moved = ap (λ z. shown_before w l ++ (z ++ shown_behind w r)) (entry_among passed moved [] other)
       ∙ ap (λ z. shown_before w l ++ z) (append_assoc (entries_only passed) (moved ∷ []) (shown_behind w r)) ∙ sym (append_assoc (shown_before w l) (entries_only passed) (moved ∷ shown_behind w r))
       ∙ sym (set-append_seam ahead target (shown_behind w r) moved) ∙ ap (λ z. set z number moved) (sym left_over)
 
-  at_target : slice_get (entries_in (thread_at w (p ∷ [])) a) (length (shown_before w l ++ u ∷ entries_only passed)) ≡ Some target
+  at_target : slice_get (entries_by_directory_in_thread (thread_at w (p ∷ [])) a) (length (shown_before w l ++ u ∷ entries_only passed)) ≡ Some target
   at_target = ap (λ z. slice_get z (length (shown_before w l ++ u ∷ entries_only passed))) (shows ∙ sym (append_assoc (shown_before w l) (u ∷ entries_only passed) (target ∷ shown_behind w r)))
       ∙ get_here (shown_before w l ++ u ∷ entries_only passed) (shown_behind w r) target
 
@@ -73,22 +73,22 @@ module _ (disk new : Disk) (w : Site) (p q : Pair) (more : List Pair) (l : List 
       s old_bytes new_bytes (P ++ u.name ∷ []) (P ++ target.name ∷ []) tree old_is new_is (last_is P target.name)
       (slot_there disk (thread_at w (p ∷ [])) P a (place_at w l) u c.accepted leads at_old)
       (slot_there disk (thread_at w (p ∷ [])) P a (length (shown_before w l ++ u ∷ entries_only passed)) target c.accepted leads at_target) file
-      _ (entry_moves_onto disk new w p [] q more (blocks_of more) [] l (u ∷ (passed ++ target ∷ [])) (passed ++ moved ∷ []) r (commit_step disk new w p q more [] l (u ∷ (passed ++ target ∷ [])) (passed ++ moved ∷ []) r c)
+      _ (entry_moves_onto disk new w p [] q more (blocks_of_pairs more) [] l (u ∷ (passed ++ target ∷ [])) (passed ++ moved ∷ []) r (commit_step disk new w p q more [] l (u ∷ (passed ++ target ∷ [])) (passed ++ moved ∷ []) r c)
       P a leads same (place_at w l) u at_old number target there shown_moved (sibling_apart P u.name target.name differs) (λ e. (file, (recovered_from disk (thread_at w (p ∷ [])) c.accepted c.settled).reached)))
 
 -- the file is before it
 module _ (disk new : Disk) (w : Site) (p q : Pair) (more : List Pair) (l : List Slot) (u : Slot) (passed : List Slot) (target : Slot) (r : List Slot)
-    (c : IsCommit disk new w p q more [] l (target ∷ (passed ++ u ∷ [])) (record u { name = target.name } ∷ passed) r) (other : is_superblock u ≡ false) (entry : is_superblock target ≡ false) (file : branch_of target.struct ≡ None)
+    (c : IsCommit disk new w p q more [] l (target ∷ (passed ++ u ∷ [])) (record u { name = target.name } ∷ passed) r) (other : is_superblock u ≡ false) (entry : is_superblock target ≡ false) (file : branch_address_of_struct target.struct ≡ None)
     (differs : target.name ≡ u.name → ⊥)
-    (P : Path) (a : ℕ × ℕ) (leads : PathLeadsTo (thread_at w (p ∷ [])) P a) (same : same_pair (begin_of w (p ∷ [])) a ≡ true)
-    (s : Session) (old_bytes new_bytes : List ℕ) (tree : s.tree ≡ tree_in disk (thread_at w (p ∷ []))) (old_is : as_path old_bytes ≡ P ++ u.name ∷ []) (new_is : as_path new_bytes ≡ P ++ target.name ∷ []) where
+    (P : Path) (a : ℕ × ℕ) (leads : IsPathToDirectory (thread_at w (p ∷ [])) P a) (same : same_pair (begin_of w (p ∷ [])) a ≡ true)
+    (s : Session) (old_bytes new_bytes : List ℕ) (tree : s.tree ≡ tree_on_disk disk (thread_at w (p ∷ []))) (old_is : path_or_root old_bytes ≡ P ++ u.name ∷ []) (new_is : path_or_root new_bytes ≡ P ++ target.name ∷ []) where
   abbrev moved2 : Slot
   moved2 = record u { name = target.name }
 
   abbrev before_old : List Slot
   before_old = shown_before w l ++ target ∷ entries_only passed
 
-  shows2 : entries_in (thread_at w (p ∷ [])) a ≡ (shown_before w l ++ target ∷ entries_only passed) ++ u ∷ shown_behind w r
+  shows2 : entries_by_directory_in_thread (thread_at w (p ∷ [])) a ≡ (shown_before w l ++ target ∷ entries_only passed) ++ u ∷ shown_behind w r
   shows2 = site_shows disk w p l (target ∷ (passed ++ u ∷ [])) r a c.accepted c.site (no_move_from (thread_at w (p ∷ [])) c.settled) same c.was
       ∙ ap (λ z. shown_before w l ++ (z ++ shown_behind w r)) (entry_among [] target (passed ++ u ∷ []) entry ∙ ap (λ z. target ∷ z) (entry_among passed u [] other))
       ∙ ap (λ z. shown_before w l ++ target ∷ z) (append_assoc (entries_only passed) (u ∷ []) (shown_behind w r)) ∙ sym (append_assoc (shown_before w l) (target ∷ entries_only passed) (u ∷ shown_behind w r))
@@ -96,21 +96,21 @@ module _ (disk new : Disk) (w : Site) (p q : Pair) (more : List Pair) (l : List 
   abbrev old_number : ℕ
   old_number = length (shown_before w l ++ target ∷ entries_only passed)
 
-  at_old2 : slice_get (entries_in (thread_at w (p ∷ [])) a) (length (shown_before w l ++ target ∷ entries_only passed)) ≡ Some u
+  at_old2 : slice_get (entries_by_directory_in_thread (thread_at w (p ∷ [])) a) (length (shown_before w l ++ target ∷ entries_only passed)) ≡ Some u
   at_old2 = ap (λ z. slice_get z old_number) shows2 ∙ get_here before_old (shown_behind w r) u
 
-  left_over2 : remove (entries_in (thread_at w (p ∷ [])) a) (length (shown_before w l ++ target ∷ entries_only passed)) ≡ shown_before w l ++ target ∷ (entries_only passed ++ shown_behind w r)
+  left_over2 : remove (entries_by_directory_in_thread (thread_at w (p ∷ [])) a) (length (shown_before w l ++ target ∷ entries_only passed)) ≡ shown_before w l ++ target ∷ (entries_only passed ++ shown_behind w r)
   left_over2 = ap (λ z. remove z old_number) shows2 ∙ remove_here before_old (shown_behind w r) u ∙ append_assoc (shown_before w l) (target ∷ entries_only passed) (shown_behind w r)
 
-  there2 : slice_get (remove (entries_in (thread_at w (p ∷ [])) a) (length (shown_before w l ++ target ∷ entries_only passed))) (place_at w l) ≡ Some target
+  there2 : slice_get (remove (entries_by_directory_in_thread (thread_at w (p ∷ [])) a) (length (shown_before w l ++ target ∷ entries_only passed))) (place_at w l) ≡ Some target
   there2 = ap (λ z. slice_get z (place_at w l)) left_over2 ∙ get_here (shown_before w l) (entries_only passed ++ shown_behind w r) target
 
   shown_moved2 : shown_before w l ++ (entries_only (record u { name = target.name } ∷ passed) ++ shown_behind w r)
-      ≡ set (remove (entries_in (thread_at w (p ∷ [])) a) (length (shown_before w l ++ target ∷ entries_only passed))) (place_at w l) (record u { name = target.name })
+      ≡ set (remove (entries_by_directory_in_thread (thread_at w (p ∷ [])) a) (length (shown_before w l ++ target ∷ entries_only passed))) (place_at w l) (record u { name = target.name })
   shown_moved2 = ap (λ z. shown_before w l ++ (z ++ shown_behind w r)) (entry_among [] moved2 passed other)
       ∙ sym (set-append_seam (shown_before w l) target (entries_only passed ++ shown_behind w r) moved2) ∙ ap (λ z. set z (place_at w l) moved2) (sym left_over2)
 
-  at_target2 : slice_get (entries_in (thread_at w (p ∷ [])) a) (place_at w l) ≡ Some target
+  at_target2 : slice_get (entries_by_directory_in_thread (thread_at w (p ∷ [])) a) (place_at w l) ≡ Some target
   at_target2 = ap (λ z. slice_get z (place_at w l)) (shows2 ∙ append_assoc (shown_before w l) (target ∷ entries_only passed) (u ∷ shown_behind w r))
       ∙ get_here (shown_before w l) (entries_only passed ++ u ∷ shown_behind w r) target
 
@@ -120,5 +120,5 @@ module _ (disk new : Disk) (w : Site) (p q : Pair) (more : List Pair) (l : List 
       s old_bytes new_bytes (P ++ u.name ∷ []) (P ++ target.name ∷ []) tree old_is new_is (last_is P target.name)
       (slot_there disk (thread_at w (p ∷ [])) P a old_number u c.accepted leads at_old2)
       (slot_there disk (thread_at w (p ∷ [])) P a (place_at w l) target c.accepted leads at_target2) file
-      _ (entry_moves_onto disk new w p [] q more (blocks_of more) [] l (target ∷ (passed ++ u ∷ [])) (moved2 ∷ passed) r (commit_step disk new w p q more [] l (target ∷ (passed ++ u ∷ [])) (moved2 ∷ passed) r c)
+      _ (entry_moves_onto disk new w p [] q more (blocks_of_pairs more) [] l (target ∷ (passed ++ u ∷ [])) (moved2 ∷ passed) r (commit_step disk new w p q more [] l (target ∷ (passed ++ u ∷ [])) (moved2 ∷ passed) r c)
       P a leads same old_number u at_old2 (place_at w l) target there2 shown_moved2 (sibling_apart P u.name target.name differs) (λ e. (file, (recovered_from disk (thread_at w (p ∷ [])) c.accepted c.settled).reached)))

@@ -9,13 +9,13 @@ use Rattle.lfs_model.specs.declared.order.NameOrder.{NameOrder}
 use Rattle.lfs_model.specs.Disk.{Disk}
 use Rattle.lfs_model.specs.Names.{Name, name_cmp}
 use Rattle.lfs_model.specs.Slots.{Slot, is_superblock, same_pair}
-use Rattle.lfs_model.specs.Thread.{Pair, blocks_of}
+use Rattle.lfs_model.specs.Thread.{Pair, blocks_of_pairs}
 use Rattle.lfs_model.specs.Tree.{Path}
-use Rattle.lfs_model.specs.Shown.{PathLeadsTo, entries_in, tree_in}
-use Rattle.lfs_model.specs.TreeEdits.{renamed, rest_after}
+use Rattle.lfs_model.specs.Shown.{IsPathToDirectory, entries_by_directory_in_thread, tree_on_disk}
+use Rattle.lfs_model.specs.TreeEdits.{renamed, path_without_prefix}
 use Rattle.lfs_model.specs.Operations as ops
 use Rattle.lfs_model.specs.Session.{Session}
-use Rattle.lfs_model.specs.Refusals.{as_path}
+use Rattle.lfs_model.specs.Refusals.{path_or_root}
 use Rattle.lfs_model.specs.InDirectory.{entries_only, slots_in}
 use Rattle.lfs_model.proofs.Edits.{not_after}
 use Rattle.lfs_model.proofs.Paths.{last_is}
@@ -32,7 +32,7 @@ use Rattle.lfs_model.proofs.RenamedWithin.{within_completed}
 -- ---- names and places
 
 -- a sibling of another name is not beneath
-pub sibling_apart : (P : Path) (n m : Name) → (m ≡ n → ⊥) → rest_after (P ++ n ∷ []) (P ++ m ∷ []) ≡ None
+pub sibling_apart : (P : Path) (n m : Name) → (m ≡ n → ⊥) → path_without_prefix (P ++ n ∷ []) (P ++ m ∷ []) ≡ None
 sibling_apart P n m apart = not_after (P ++ n ∷ []) (P ++ m ∷ []) (λ r e. apart (go P r e))
   where
     go : (P r : Path) → P ++ m ∷ [] ≡ (P ++ n ∷ []) ++ r → m ≡ n
@@ -94,8 +94,8 @@ entries_of_both xs ys = filter-append (λ (s : Slot). not (is_superblock s)) xs 
 
 module _ (disk new : Disk) (w : Site) (p q : Pair) (more : List Pair) (l : List Slot) (u : Slot) (passed r : List Slot) (name : Name)
     (c : IsCommit disk new w p q more [] l (u ∷ passed) (passed ++ record u { name = name } ∷ []) r) (other : is_superblock u ≡ false)
-    (P : Path) (a : ℕ × ℕ) (leads : PathLeadsTo (thread_at w (p ∷ [])) P a) (same : same_pair (begin_of w (p ∷ [])) a ≡ true)
-    (place : IsPlace disk.order (entries_in (thread_at w (p ∷ [])) a) (place_at w (l ++ u ∷ passed)) name) where
+    (P : Path) (a : ℕ × ℕ) (leads : IsPathToDirectory (thread_at w (p ∷ [])) P a) (same : same_pair (begin_of w (p ∷ [])) a ≡ true)
+    (place : IsPlace disk.order (entries_by_directory_in_thread (thread_at w (p ∷ [])) a) (place_at w (l ++ u ∷ passed)) name) where
   abbrev moved : Slot
   moved = record u { name = name }
 
@@ -105,14 +105,14 @@ module _ (disk new : Disk) (w : Site) (p q : Pair) (more : List Pair) (l : List 
   abbrev rest : List Slot
   rest = entries_only passed ++ shown_behind w r
 
-  shows : entries_in (thread_at w (p ∷ [])) a ≡ shown_before w l ++ u ∷ (entries_only passed ++ shown_behind w r)
+  shows : entries_by_directory_in_thread (thread_at w (p ∷ [])) a ≡ shown_before w l ++ u ∷ (entries_only passed ++ shown_behind w r)
   shows = site_shows disk w p l (u ∷ passed) r a c.accepted c.site (no_move_from (thread_at w (p ∷ [])) c.settled) same c.was
       ∙ ap (λ z. ahead ++ (z ++ shown_behind w r)) (entries_of_both (u ∷ []) passed ∙ ap (λ z. z ++ entries_only passed) (entry_only u other))
 
-  at_old : slice_get (entries_in (thread_at w (p ∷ [])) a) (place_at w l) ≡ Some u
+  at_old : slice_get (entries_by_directory_in_thread (thread_at w (p ∷ [])) a) (place_at w l) ≡ Some u
   at_old = ap (λ z. slice_get z (place_at w l)) shows ∙ get_here ahead rest u
 
-  left_over : remove (entries_in (thread_at w (p ∷ [])) a) (place_at w l) ≡ shown_before w l ++ (entries_only passed ++ shown_behind w r)
+  left_over : remove (entries_by_directory_in_thread (thread_at w (p ∷ [])) a) (place_at w l) ≡ shown_before w l ++ (entries_only passed ++ shown_behind w r)
   left_over = ap (λ z. remove z (place_at w l)) shows ∙ remove_here ahead rest u
 
   abbrev number : ℕ
@@ -127,11 +127,11 @@ module _ (disk new : Disk) (w : Site) (p q : Pair) (more : List Pair) (l : List 
   place_there : IsPlace disk.order (shown_before w l ++ u ∷ (entries_only passed ++ shown_behind w r)) (suc (length (shown_before w l ++ entries_only passed))) name
   place_there = subst (λ k. IsPlace disk.order (ahead ++ u ∷ rest) k name) number_is (subst (λ z. IsPlace disk.order z (place_at w (l ++ u ∷ passed)) name) shows place)
 
-  new_place : IsPlace disk.order (remove (entries_in (thread_at w (p ∷ [])) a) (place_at w l)) (length (shown_before w l ++ entries_only passed)) name
+  new_place : IsPlace disk.order (remove (entries_by_directory_in_thread (thread_at w (p ∷ [])) a) (place_at w l)) (length (shown_before w l ++ entries_only passed)) name
   new_place = subst (λ z. IsPlace disk.order z number name) (sym left_over) (place_behind ahead u rest number name (omega (arith, length-append ahead (entries_only passed))) place_there)
 
   shown_moved : shown_before w l ++ (entries_only (passed ++ record u { name = name } ∷ []) ++ shown_behind w r)
-      ≡ insert (remove (entries_in (thread_at w (p ∷ [])) a) (place_at w l)) (length (shown_before w l ++ entries_only passed)) (record u { name = name })
+      ≡ insert (remove (entries_by_directory_in_thread (thread_at w (p ∷ [])) a) (place_at w l)) (length (shown_before w l ++ entries_only passed)) (record u { name = name })
   shown_moved = ap (λ z. ahead ++ (z ++ shown_behind w r)) (entries_of_both passed (moved ∷ []) ∙ ap (λ z. entries_only passed ++ z) (entry_only moved other))
       ∙ ap (λ z. ahead ++ z) (append_assoc (entries_only passed) (moved ∷ []) (shown_behind w r)) ∙ sym (append_assoc ahead (entries_only passed) (moved ∷ shown_behind w r))
       ∙ sym (insert_here (ahead ++ entries_only passed) (shown_behind w r) moved)
@@ -141,10 +141,10 @@ module _ (disk new : Disk) (w : Site) (p q : Pair) (more : List Pair) (l : List 
   differs = behind_differs ahead u rest number name (omega (arith, length-append (shown_before w l) (entries_only passed))) place_there
 
   pub behind_follows : Follows disk (thread_at w (p ∷ [])) new (thread_at w (q ∷ more)) (renamed (P ++ u.name ∷ []) (P ++ name ∷ [])) (rename_walk (P ++ u.name ∷ []) (P ++ name ∷ []))
-  behind_follows = entry_moves disk new w p [] q more (blocks_of more) [] l (u ∷ passed) (passed ++ moved ∷ []) r (commit_step disk new w p q more [] l (u ∷ passed) (passed ++ moved ∷ []) r c)
+  behind_follows = entry_moves disk new w p [] q more (blocks_of_pairs more) [] l (u ∷ passed) (passed ++ moved ∷ []) r (commit_step disk new w p q more [] l (u ∷ passed) (passed ++ moved ∷ []) r c)
       P a leads same (place_at w l) u at_old name number shown_moved (sibling_apart P u.name name differs) new_place (λ e. (recovered_from disk (thread_at w (p ∷ [])) c.accepted c.settled).reached)
 
-  pub renamed_behind_completed : (s : Session) (old_bytes new_bytes : List ℕ) → s.tree ≡ tree_in disk (thread_at w (p ∷ [])) → as_path old_bytes ≡ P ++ u.name ∷ [] → as_path new_bytes ≡ P ++ name ∷ []
+  pub renamed_behind_completed : (s : Session) (old_bytes new_bytes : List ℕ) → s.tree ≡ tree_on_disk disk (thread_at w (p ∷ [])) → path_or_root old_bytes ≡ P ++ u.name ∷ [] → path_or_root new_bytes ≡ P ++ name ∷ []
       → IsCompleted disk (thread_at w (p ∷ [])) s (ops.Rename old_bytes new_bytes) new (thread_at w (q ∷ more))
   renamed_behind_completed s old_bytes new_bytes tree old_is new_is = within_completed disk new w p q more l (u ∷ passed) (passed ++ moved ∷ []) r c l u (passed ++ r) (l ++ passed) None r name
       c.was (sym (append_assoc l passed r)) (ap (λ z. l ++ z) (append_assoc passed (moved ∷ []) r) ∙ sym (append_assoc l passed (moved ∷ r)))
@@ -157,15 +157,15 @@ module _ (disk new : Disk) (w : Site) (p q : Pair) (more : List Pair) (l : List 
 
 module _ (disk new : Disk) (w : Site) (p q : Pair) (more : List Pair) (l : List Slot) (u : Slot) (passed r : List Slot) (name : Name)
     (c : IsCommit disk new w p q more [] l (passed ++ u ∷ []) (record u { name = name } ∷ passed) r) (other : is_superblock u ≡ false)
-    (P : Path) (a : ℕ × ℕ) (leads : PathLeadsTo (thread_at w (p ∷ [])) P a) (same : same_pair (begin_of w (p ∷ [])) a ≡ true)
-    (place : IsPlace disk.order (entries_in (thread_at w (p ∷ [])) a) (place_at w l) name) where
+    (P : Path) (a : ℕ × ℕ) (leads : IsPathToDirectory (thread_at w (p ∷ [])) P a) (same : same_pair (begin_of w (p ∷ [])) a ≡ true)
+    (place : IsPlace disk.order (entries_by_directory_in_thread (thread_at w (p ∷ [])) a) (place_at w l) name) where
   abbrev moved2 : Slot
   moved2 = record u { name = name }
 
   abbrev ahead2 : List Slot
   ahead2 = shown_before w l ++ entries_only passed
 
-  shows2 : entries_in (thread_at w (p ∷ [])) a ≡ (shown_before w l ++ entries_only passed) ++ u ∷ shown_behind w r
+  shows2 : entries_by_directory_in_thread (thread_at w (p ∷ [])) a ≡ (shown_before w l ++ entries_only passed) ++ u ∷ shown_behind w r
   shows2 = site_shows disk w p l (passed ++ u ∷ []) r a c.accepted c.site (no_move_from (thread_at w (p ∷ [])) c.settled) same c.was
       ∙ ap (λ z. shown_before w l ++ (z ++ shown_behind w r)) (entries_of_both passed (u ∷ []) ∙ ap (λ z. entries_only passed ++ z) (entry_only u other))
       ∙ ap (λ z. shown_before w l ++ z) (append_assoc (entries_only passed) (u ∷ []) (shown_behind w r)) ∙ sym (append_assoc (shown_before w l) (entries_only passed) (u ∷ shown_behind w r))
@@ -173,10 +173,10 @@ module _ (disk new : Disk) (w : Site) (p q : Pair) (more : List Pair) (l : List 
   abbrev old_number : ℕ
   old_number = length (shown_before w l ++ entries_only passed)
 
-  at_old2 : slice_get (entries_in (thread_at w (p ∷ [])) a) (length (shown_before w l ++ entries_only passed)) ≡ Some u
+  at_old2 : slice_get (entries_by_directory_in_thread (thread_at w (p ∷ [])) a) (length (shown_before w l ++ entries_only passed)) ≡ Some u
   at_old2 = ap (λ z. slice_get z old_number) shows2 ∙ get_here ahead2 (shown_behind w r) u
 
-  left_over2 : remove (entries_in (thread_at w (p ∷ [])) a) (length (shown_before w l ++ entries_only passed)) ≡ (shown_before w l ++ entries_only passed) ++ shown_behind w r
+  left_over2 : remove (entries_by_directory_in_thread (thread_at w (p ∷ [])) a) (length (shown_before w l ++ entries_only passed)) ≡ (shown_before w l ++ entries_only passed) ++ shown_behind w r
   left_over2 = ap (λ z. remove z old_number) shows2 ∙ remove_here ahead2 (shown_behind w r) u
 
   few : place_at w l ≤ length (shown_before w l ++ entries_only passed)
@@ -185,21 +185,21 @@ module _ (disk new : Disk) (w : Site) (p q : Pair) (more : List Pair) (l : List 
   place_there2 : IsPlace disk.order ((shown_before w l ++ entries_only passed) ++ u ∷ shown_behind w r) (place_at w l) name
   place_there2 = subst (λ z. IsPlace disk.order z (place_at w l) name) shows2 place
 
-  new_place2 : IsPlace disk.order (remove (entries_in (thread_at w (p ∷ [])) a) (length (shown_before w l ++ entries_only passed))) (place_at w l) name
+  new_place2 : IsPlace disk.order (remove (entries_by_directory_in_thread (thread_at w (p ∷ [])) a) (length (shown_before w l ++ entries_only passed))) (place_at w l) name
   new_place2 = subst (λ z. IsPlace disk.order z (place_at w l) name) (sym left_over2) (place_ahead ahead2 u (shown_behind w r) (place_at w l) name few place_there2)
 
   shown_moved2 : shown_before w l ++ (entries_only (record u { name = name } ∷ passed) ++ shown_behind w r)
-      ≡ insert (remove (entries_in (thread_at w (p ∷ [])) a) (length (shown_before w l ++ entries_only passed))) (place_at w l) (record u { name = name })
+      ≡ insert (remove (entries_by_directory_in_thread (thread_at w (p ∷ [])) a) (length (shown_before w l ++ entries_only passed))) (place_at w l) (record u { name = name })
   shown_moved2 = ap (λ z. shown_before w l ++ (z ++ shown_behind w r)) (entries_of_both (moved2 ∷ []) passed ∙ ap (λ z. z ++ entries_only passed) (entry_only moved2 other))
       ∙ sym (insert_here (shown_before w l) (entries_only passed ++ shown_behind w r) moved2)
       ∙ ap (λ z. insert z (place_at w l) moved2) (sym (append_assoc (shown_before w l) (entries_only passed) (shown_behind w r)) ∙ sym left_over2)
 
   pub ahead_follows : Follows disk (thread_at w (p ∷ [])) new (thread_at w (q ∷ more)) (renamed (P ++ u.name ∷ []) (P ++ name ∷ [])) (rename_walk (P ++ u.name ∷ []) (P ++ name ∷ []))
-  ahead_follows = entry_moves disk new w p [] q more (blocks_of more) [] l (passed ++ u ∷ []) (moved2 ∷ passed) r (commit_step disk new w p q more [] l (passed ++ u ∷ []) (moved2 ∷ passed) r c)
+  ahead_follows = entry_moves disk new w p [] q more (blocks_of_pairs more) [] l (passed ++ u ∷ []) (moved2 ∷ passed) r (commit_step disk new w p q more [] l (passed ++ u ∷ []) (moved2 ∷ passed) r c)
       P a leads same old_number u at_old2 name (place_at w l) shown_moved2 (sibling_apart P u.name name (ahead_differs ahead2 u (shown_behind w r) (place_at w l) name few place_there2)) new_place2
       (λ e. (recovered_from disk (thread_at w (p ∷ [])) c.accepted c.settled).reached)
 
-  pub renamed_ahead_completed : (s : Session) (old_bytes new_bytes : List ℕ) → s.tree ≡ tree_in disk (thread_at w (p ∷ [])) → as_path old_bytes ≡ P ++ u.name ∷ [] → as_path new_bytes ≡ P ++ name ∷ []
+  pub renamed_ahead_completed : (s : Session) (old_bytes new_bytes : List ℕ) → s.tree ≡ tree_on_disk disk (thread_at w (p ∷ [])) → path_or_root old_bytes ≡ P ++ u.name ∷ [] → path_or_root new_bytes ≡ P ++ name ∷ []
       → IsCompleted disk (thread_at w (p ∷ [])) s (ops.Rename old_bytes new_bytes) new (thread_at w (q ∷ more))
   renamed_ahead_completed s old_bytes new_bytes tree old_is new_is = within_completed disk new w p q more l (passed ++ u ∷ []) (moved2 ∷ passed) r c (l ++ passed) u r l None (passed ++ r) name
       (c.was ∙ ap (λ z. l ++ z) (append_assoc passed (u ∷ []) r) ∙ sym (append_assoc l passed (u ∷ r))) (append_assoc l passed r) refl

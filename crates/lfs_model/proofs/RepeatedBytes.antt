@@ -8,7 +8,7 @@ use Rattle.std.proofs.lemmas.Bool.Decides.{nat_tests}
 use Rattle.std.proofs.lemmas.List.{drop-replicate, length-replicate}
 use Rattle.byteorder.specs.Endian.{big_number}
 use Rattle.lfs_model.specs.Tag.{kind_of, ends_commit}
-use Rattle.lfs_model.specs.Log.{LogEntry, Chain, with_entry, entry_at, end_of_entry, is_checksum, closes, commit_at, chain_of, log_with, revision_of}
+use Rattle.lfs_model.specs.Log.{LogEntry, CommitSequence, commit_with_entry_first, entry_at, end_of_entry, is_checksum_entry, closes, commit_at, chain_of, log_unless_empty, revision_of_block}
 use Rattle.lfs_model.specs.Stops.{HasNoLog}
 use Rattle.lfs_model.proofs.Chains.{lies, commit_none, commit_refused, commit_on, chain_none}
 use Rattle.lfs_model.proofs.Skips.{all_below, below_from}
@@ -73,17 +73,17 @@ no_first n byte small =
       | None ↦ λ is. commit_none block 0 4 0xffffffff is
       | Some e ↦ λ is.
           let tag : e.tag ≡ first_tag byte = tag_of n byte 4 0xffffffff e is in
-          elim (is_checksum e) as (λ b. is_checksum e ≡ b → commit_at block 0 4 0xffffffff ≡ None) [
+          elim (is_checksum_entry e) as (λ b. is_checksum_entry e ≡ b → commit_at block 0 4 0xffffffff ≡ None) [
             | true ↦ λ sum.
                 let other = ap (λ t. kind_of t == 0x500 || kind_of t == 0x501) tag ∙ right.0 (sym (ap ends_commit tag) ∙ sum) in
                 commit_refused block 0 4 0xffffffff e is sum (not_closed block 0 4 e other)
             | false ↦ λ other.
                 commit_on block 0 4 0xffffffff e is other
-                ∙ ap (option_map (with_entry e)) (commit_none block 0 (end_of_entry 4 e) e.tag (no_second n byte (end_of_entry 4 e) e tag right.1))
+                ∙ ap (option_map (commit_with_entry_first e)) (commit_none block 0 (end_of_entry 4 e) e.tag (no_second n byte (end_of_entry 4 e) e tag right.1))
           ] refl
     ] refl
 
 pub no_log-repeated : (n byte : ℕ) → byte < 256 → HasNoLog (replicate n byte)
 unfolding chain_of
 no_log-repeated n byte small =
-    ap (λ (c : Chain). log_with (revision_of (replicate n byte)) c.commits) (chain_none (replicate n byte) 0 4 0xffffffff (no_first n byte small))
+    ap (λ (c : CommitSequence). log_unless_empty (revision_of_block (replicate n byte)) c.commits) (chain_none (replicate n byte) 0 4 0xffffffff (no_first n byte small))

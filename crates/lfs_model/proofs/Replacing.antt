@@ -5,13 +5,13 @@ use Rattle.std.proofs.lemmas.List.Elements.{All-from_recursion, recursion_from_A
 use Rattle.std.proofs.lemmas.Option.{same_Some}
 use Rattle.lfs_model.specs.Disk.{Disk}
 use Rattle.lfs_model.specs.Slots.{same_pair}
-use Rattle.lfs_model.specs.Thread.{Pair, ThreadDirectory, is_hard, root_of}
-use Rattle.lfs_model.specs.Tree.{Path, Tree, directory_at}
-use Rattle.lfs_model.specs.TreeEdits.{rest_after, with_subtree_moved, renamed}
-use Rattle.lfs_model.specs.Shown.{IsReached, directories_in, entries_in, tree_in}
-use Rattle.lfs_model.specs.PowerLoss.{IsLeftByStop}
+use Rattle.lfs_model.specs.Thread.{Pair, ThreadDirectory, is_hard_tail, root_directory_of_pairs}
+use Rattle.lfs_model.specs.Tree.{Path, Tree, directory_address_at_path}
+use Rattle.lfs_model.specs.TreeEdits.{path_without_prefix, tree_after_subtree_replacement, renamed}
+use Rattle.lfs_model.specs.Shown.{IsDirectoryReached, directories_in_thread, entries_by_directory_in_thread, tree_on_disk}
+use Rattle.lfs_model.specs.PowerLoss.{ShowsTreeBeforeOrAfter}
 use Rattle.lfs_model.proofs.LeftFiles.{ends_same}
-use Rattle.lfs_model.proofs.Paths.{Rest, beyond, aside, rest, rest_itself}
+use Rattle.lfs_model.proofs.Paths.{RestLocation, beyond, aside, rest, rest_itself}
 use Rattle.lfs_model.proofs.Pairs.{pair_back, pair_on}
 use Rattle.lfs_model.proofs.Edits.{planted_off, planted_on}
 use Rattle.lfs_model.proofs.Counts.{each_weaker}
@@ -25,38 +25,38 @@ use Rattle.lfs_model.proofs.RmdirSteps.{IsGone}
 
 -- The path `new` leads to the directory at d, beneath which nothing is, and isn't beneath `old`. No two paths lead to one directory.
 pub record IsReplaced (was : Path → Option (ℕ × ℕ)) (old new : Path) (d : ℕ × ℕ) : Type 0 where
-  pub apart : rest_after old new ≡ None
+  pub apart : path_without_prefix old new ≡ None
   pub there : was new ≡ Some d
   pub alone : (t : Path) (at : ℕ × ℕ) → was (new ++ t) ≡ Some at → t ≡ []
   pub once : (path other : Path) (at to : ℕ × ℕ) → was path ≡ Some at → was other ≡ Some to → same_pair at to ≡ true → path ≡ other
 
 module _ (was : Path → Option (ℕ × ℕ)) (old new : Path) (d : ℕ × ℕ) (c : IsReplaced was old new d) where
   not_old : (t : Path) → old ++ t ≡ new → ⊥
-  not_old t e = absurd (let k : rest_after old new ≡ Some t = ap (rest_after old) (sym e) ∙ rest_itself old t in let a = c.apart in cc)
+  not_old t e = absurd (let k : path_without_prefix old new ≡ Some t = ap (path_without_prefix old) (sym e) ∙ rest_itself old t in let a = c.apart in cc)
 
   pub replaced_unled : (path : Path) (x : ℕ × ℕ) → rename_walk old new was path ≡ Some x → same_pair d x ≡ true → ⊥
   replaced_unled path x h s = at_new (rest new path)
     where
-      at_new : Rest new path → ⊥
-      at_new (beyond t e f) = not_old t (c.once (old ++ t) new x d (sym (planted_on new (λ t. was (old ++ t)) (with_subtree_moved old (λ t. None) was) path t f) ∙ h) c.there (pair_back d x s))
+      at_new : RestLocation new path → ⊥
+      at_new (beyond t e f) = not_old t (c.once (old ++ t) new x d (sym (planted_on new (λ t. was (old ++ t)) (tree_after_subtree_replacement old (λ t. None) was) path t f) ∙ h) c.there (pair_back d x s))
       at_new (aside n f) = at_old (rest old path)
         where
-          left : with_subtree_moved old (λ t. None) was path ≡ Some x
-          left = sym (planted_off new (λ t. was (old ++ t)) (with_subtree_moved old (λ t. None) was) path f) ∙ h
+          left : tree_after_subtree_replacement old (λ t. None) was path ≡ Some x
+          left = sym (planted_off new (λ t. was (old ++ t)) (tree_after_subtree_replacement old (λ t. None) was) path f) ∙ h
 
-          at_old : Rest old path → ⊥
+          at_old : RestLocation old path → ⊥
           at_old (beyond t e g) = absurd (let k = sym (planted_on old (λ t. None) was path t g) ∙ left in cc)
           at_old (aside m g) = n [] (c.once path new x d (sym (planted_off old (λ t. None) was path g) ∙ left) c.there (pair_back d x s) ∙ sym (append-nil new))
 
   pub replaced_reached : (x : ℕ × ℕ) → IsLedTo was x → IsLedTo (rename_walk old new was) x ⊎ (same_pair x d ≡ true)
   replaced_reached x (path, at, (k, s)) = at_old (rest old path)
     where
-      at_old : Rest old path → IsLedTo (rename_walk old new was) x ⊎ (same_pair x d ≡ true)
-      at_old (beyond t e f) = inl (new ++ t, at, (planted_on new (λ t. was (old ++ t)) (with_subtree_moved old (λ t. None) was) (new ++ t) t (rest_itself new t) ∙ ap was (sym e) ∙ k, s))
+      at_old : RestLocation old path → IsLedTo (rename_walk old new was) x ⊎ (same_pair x d ≡ true)
+      at_old (beyond t e f) = inl (new ++ t, at, (planted_on new (λ t. was (old ++ t)) (tree_after_subtree_replacement old (λ t. None) was) (new ++ t) t (rest_itself new t) ∙ ap was (sym e) ∙ k, s))
       at_old (aside n f) = at_new (rest new path)
         where
-          at_new : Rest new path → IsLedTo (rename_walk old new was) x ⊎ (same_pair x d ≡ true)
-          at_new (aside m g) = inl (path, at, (planted_off new (λ t. was (old ++ t)) (with_subtree_moved old (λ t. None) was) path g ∙ planted_off old (λ t. None) was path f ∙ k, s))
+          at_new : RestLocation new path → IsLedTo (rename_walk old new was) x ⊎ (same_pair x d ≡ true)
+          at_new (aside m g) = inl (path, at, (planted_off new (λ t. was (old ++ t)) (tree_after_subtree_replacement old (λ t. None) was) path g ∙ planted_off old (λ t. None) was path f ∙ k, s))
           at_new (beyond t e g) =
               let none : t ≡ [] = c.alone t at (ap was (sym e) ∙ k) in
               let here : at ≡ d = same_Some at d (sym k ∙ ap was (e ∙ ap (λ z. new ++ z) none ∙ append-nil new) ∙ c.there) in
@@ -67,18 +67,18 @@ module _ (was : Path → Option (ℕ × ℕ)) (old new : Path) (d : ℕ × ℕ) 
 -- The first step makes the rename, with the sync bit set; the second drops the pair o of the directory.
 module _ (disk middle new : Disk) (ps : List Pair) (old_path new_path : Path) (d : ℕ × ℕ) (chain front : List Pair) (x o y : Pair) (back : List Pair)
     (first : IsOnlyStep disk ps middle (chain ++ (front ++ x ∷ o ∷ back)) (renamed old_path new_path) (rename_walk old_path new_path)) (ready : IsReady middle chain (front ++ x ∷ o ∷ back))
-    (replaced : IsReplaced (directory_at (entries_in ps) (root_of ps)) old_path new_path d) (reached : AllReached ps)
-    (every : (Q : ℕ × ℕ → Type 0) → All (λ z. Q z.at) (directories_in ps) → All (λ z. Q z.at) (directories_in (chain ++ (front ++ x ∷ o ∷ back))))
-    (address : same_pair o.at d ≡ true) (alone : is_hard o.content.tail ≡ false) (gone : IsGone middle new chain front x o y back) where
+    (replaced : IsReplaced (directory_address_at_path (entries_by_directory_in_thread ps) (root_directory_of_pairs ps)) old_path new_path d) (reached : AllReached ps)
+    (every : (Q : ℕ × ℕ → Type 0) → All (λ z. Q z.at) (directories_in_thread ps) → All (λ z. Q z.at) (directories_in_thread (chain ++ (front ++ x ∷ o ∷ back))))
+    (address : same_pair o.at d ≡ true) (alone : is_hard_tail o.content.tail ≡ false) (gone : IsGone middle new chain front x o y back) where
   abbrev qs : List Pair
   qs = chain ++ (front ++ x ∷ o ∷ back)
 
   but_o : AllReachedBut (chain ++ (front ++ x ∷ o ∷ back)) o.at
-  but_o = every (λ z. IsReached qs z ⊎ (same_pair z o.at ≡ true)) (All-from_recursion (λ (z : ThreadDirectory). IsReached qs z.at ⊎ (same_pair z.at o.at ≡ true)) (directories_in ps)
-      (each_weaker (λ (z : ThreadDirectory). IsReached ps z.at) (λ (z : ThreadDirectory). IsReached qs z.at ⊎ (same_pair z.at o.at ≡ true)) (λ z h. go z.at (replaced_reached (directory_at (entries_in ps) (root_of ps)) old_path new_path d replaced z.at h))
-      (directories_in ps) (recursion_from_All (λ (z : ThreadDirectory). IsReached ps z.at) (directories_in ps) reached)))
+  but_o = every (λ z. IsDirectoryReached qs z ⊎ (same_pair z o.at ≡ true)) (All-from_recursion (λ (z : ThreadDirectory). IsDirectoryReached qs z.at ⊎ (same_pair z.at o.at ≡ true)) (directories_in_thread ps)
+      (each_weaker (λ (z : ThreadDirectory). IsDirectoryReached ps z.at) (λ (z : ThreadDirectory). IsDirectoryReached qs z.at ⊎ (same_pair z.at o.at ≡ true)) (λ z h. go z.at (replaced_reached (directory_address_at_path (entries_by_directory_in_thread ps) (root_directory_of_pairs ps)) old_path new_path d replaced z.at h))
+      (directories_in_thread ps) (recursion_from_All (λ (z : ThreadDirectory). IsDirectoryReached ps z.at) (directories_in_thread ps) reached)))
     where
-      go : (z : ℕ × ℕ) → IsLedTo (rename_walk old_path new_path (directory_at (entries_in ps) (root_of ps))) z ⊎ (same_pair z d ≡ true) → IsReached qs z ⊎ (same_pair z o.at ≡ true)
+      go : (z : ℕ × ℕ) → IsLedTo (rename_walk old_path new_path (directory_address_at_path (entries_by_directory_in_thread ps) (root_directory_of_pairs ps))) z ⊎ (same_pair z d ≡ true) → IsDirectoryReached qs z ⊎ (same_pair z o.at ≡ true)
       go z (inl (path, at, (k, s))) = inl (path, at, (ap (λ walk. walk path) first.follows.leads ∙ k, s))
       go z (inr e) = inr (pair_on z d o.at e (pair_back o.at d address))
 
@@ -91,6 +91,6 @@ module _ (disk middle new : Disk) (ps : List Pair) (old_path new_path : Path) (d
         at = gone.at;
         slots = gone.slots;
         tail = gone.tail;
-        unled = λ path z k e. replaced_unled (directory_at (entries_in ps) (root_of ps)) old_path new_path d replaced path z (sym (ap (λ walk. walk path) first.follows.leads) ∙ k) (pair_on d o.at z (pair_back o.at d address) e);
+        unled = λ path z k e. replaced_unled (directory_address_at_path (entries_by_directory_in_thread ps) (root_directory_of_pairs ps)) old_path new_path d replaced path z (sym (ap (λ walk. walk path) first.follows.leads) ∙ k) (pair_on d o.at z (pair_back o.at d address) e);
         reached = λ e. (alone, but_o);
       })).taken

@@ -5,19 +5,19 @@ use Rattle.std.specs.List.{IsDistinct}
 use Rattle.std.proofs.Common.{nat_eq}
 use Rattle.std.proofs.lemmas.List.Elements.{All-from_recursion, recursion_from_All}
 use Rattle.lfs_model.specs.Disk.{Disk}
-use Rattle.lfs_model.specs.Slots.{Slot, Tail, Branch, no_gstate, is_superblock, same_pair}
-use Rattle.lfs_model.specs.Thread.{Pair, ThreadDirectory, blocks_of, gstate_of, is_hard, superblocks_before}
+use Rattle.lfs_model.specs.Slots.{Slot, Tail, Branch, zero_gstate, is_superblock, same_pair}
+use Rattle.lfs_model.specs.Thread.{Pair, ThreadDirectory, blocks_of_pairs, gstate_of, is_hard_tail, pair_count_before_root}
 use Rattle.lfs_model.specs.Tree.{Path, Tree}
-use Rattle.lfs_model.specs.View.{IsAccepted}
-use Rattle.lfs_model.specs.Shown.{IsReached, PathLeadsTo, directories_in, entries_in, tree_in}
-use Rattle.lfs_model.specs.Profile.{IsWritable, FitsSlot, HaveSlots}
-use Rattle.lfs_model.specs.TreeEdits.{tree_without, with_subtree_moved}
+use Rattle.lfs_model.specs.View.{IsAcceptedImage}
+use Rattle.lfs_model.specs.Shown.{IsDirectoryReached, IsPathToDirectory, directories_in_thread, entries_by_directory_in_thread, tree_on_disk}
+use Rattle.lfs_model.specs.Profile.{IsWritable, FitsSlotLimits, HaveSlotsAfterHardTail}
+use Rattle.lfs_model.specs.TreeEdits.{tree_after_removal, tree_after_subtree_replacement}
 use Rattle.lfs_model.specs.Operations as ops
 use Rattle.lfs_model.specs.Session.{Session}
-use Rattle.lfs_model.specs.Refusals.{as_path}
-use Rattle.lfs_model.specs.SlotEdits.{with_slots, slot_of_path}
-use Rattle.lfs_model.specs.Layout.{directory_begin, directory_after}
-use Rattle.lfs_model.specs.PowerLoss.{IsLeftByStop}
+use Rattle.lfs_model.specs.Refusals.{path_or_root}
+use Rattle.lfs_model.specs.SlotEdits.{pair_with_slots, slot_of_path}
+use Rattle.lfs_model.specs.Layout.{directory_address_of_pair, directory_address_after_pair}
+use Rattle.lfs_model.specs.PowerLoss.{ShowsTreeBeforeOrAfter}
 use Rattle.lfs_model.proofs.LeftFiles.{ends_same}
 use Rattle.lfs_model.proofs.Counts.{Each, each_append, each_left, each_right, each_weaker}
 use Rattle.lfs_model.proofs.Pairs.{pair_back, pair_on}
@@ -53,18 +53,18 @@ step_chain disk new w p mid q more extra fresh l olds news r step =
 -- the pair o after x goes in the second step, and x becomes y
 pub record IsGone (middle new : Disk) (chain front : List Pair) (x o y : Pair) (back : List Pair) : Type 0 where
   pub device : IsDevice middle new (chain ++ (front ++ x ∷ o ∷ back)) (chain ++ (front ++ y ∷ back))
-  pub settled : gstate_of (chain ++ (front ++ y ∷ back)) ≡ no_gstate
-  pub soft : is_hard x.content.tail ≡ false
+  pub settled : gstate_of (chain ++ (front ++ y ∷ back)) ≡ zero_gstate
+  pub soft : is_hard_tail x.content.tail ≡ false
   pub at : y.at ≡ x.at
   pub slots : y.content.slots ≡ x.content.slots
   pub tail : y.content.tail ≡ softened o.content.tail
 
 module _ (disk middle new : Disk) (w : Site) (p : Pair) (mids : List Pair) (q : Pair) (l r : List Slot) (u : Slot) (step : IsStep disk middle w p mids q [] [] [] l (u ∷ []) [] r) (other : is_superblock u ≡ false)
     (writable : IsWritable middle (thread_at w (q ∷ [])))
-    (P : Path) (a : ℕ × ℕ) (leads : PathLeadsTo (thread_at w (p ∷ mids)) P a) (same : same_pair (begin_of w (p ∷ mids)) a ≡ true)
-    (d : ℕ × ℕ) (branch : u.struct ≡ Branch d) (empty : entries_in (thread_at w (p ∷ mids)) d ≡ []) (sync : (gstate_of (thread_at w (q ∷ []))).sync ≡ true)
-    (settled : gstate_of (thread_at w (p ∷ mids)) ≡ no_gstate)
-    (front : List Pair) (x o y : Pair) (back : List Pair) (there : dirs_at w (q ∷ []) ≡ front ++ x ∷ o ∷ back) (address : same_pair o.at d ≡ true) (alone : is_hard o.content.tail ≡ false)
+    (P : Path) (a : ℕ × ℕ) (leads : IsPathToDirectory (thread_at w (p ∷ mids)) P a) (same : same_pair (begin_of w (p ∷ mids)) a ≡ true)
+    (d : ℕ × ℕ) (branch : u.struct ≡ Branch d) (empty : entries_by_directory_in_thread (thread_at w (p ∷ mids)) d ≡ []) (sync : (gstate_of (thread_at w (q ∷ []))).sync ≡ true)
+    (settled : gstate_of (thread_at w (p ∷ mids)) ≡ zero_gstate)
+    (front : List Pair) (x o y : Pair) (back : List Pair) (there : dirs_at w (q ∷ []) ≡ front ++ x ∷ o ∷ back) (address : same_pair o.at d ≡ true) (alone : is_hard_tail o.content.tail ≡ false)
     (gone : IsGone middle new w.chain front x o y back) where
   abbrev ps : List Pair
   ps = thread_at w (p ∷ mids)
@@ -72,26 +72,26 @@ module _ (disk middle new : Disk) (w : Site) (p : Pair) (mids : List Pair) (q : 
   abbrev path : Path
   path = P ++ u.name ∷ []
 
-  first : IsOnlyStep disk (thread_at w (p ∷ mids)) middle (thread_at w (q ∷ [])) (tree_without (P ++ u.name ∷ [])) (with_subtree_moved (P ++ u.name ∷ []) (λ t. None))
+  first : IsOnlyStep disk (thread_at w (p ∷ mids)) middle (thread_at w (q ∷ [])) (tree_after_removal (P ++ u.name ∷ [])) (tree_after_subtree_replacement (P ++ u.name ∷ []) (λ t. None))
   first = record { follows = directory_goes disk middle w p mids q [] [] [] l r u step other P a leads same d branch empty sync; writable = writable }
 
   thread_is : thread_at w (q ∷ []) ≡ w.chain ++ (front ++ x ∷ o ∷ back)
   thread_is = ap (λ z. w.chain ++ z) there
 
   but_o : AllReachedBut (thread_at w (q ∷ [])) o.at
-  but_o = All-from_recursion (λ z. IsReached (thread_at w (q ∷ [])) z.at ⊎ (same_pair z.at o.at ≡ true)) (directories_in (thread_at w (q ∷ [])))
-      (each_weaker (λ (z : ThreadDirectory). IsReached (thread_at w (q ∷ [])) z.at ⊎ (same_pair z.at d ≡ true)) (λ (z : ThreadDirectory). IsReached (thread_at w (q ∷ [])) z.at ⊎ (same_pair z.at o.at ≡ true)) (λ z k. go z k) (directories_in (thread_at w (q ∷ [])))
-      (recursion_from_All (λ (z : ThreadDirectory). IsReached (thread_at w (q ∷ [])) z.at ⊎ (same_pair z.at d ≡ true)) (directories_in (thread_at w (q ∷ [])))
+  but_o = All-from_recursion (λ z. IsDirectoryReached (thread_at w (q ∷ [])) z.at ⊎ (same_pair z.at o.at ≡ true)) (directories_in_thread (thread_at w (q ∷ [])))
+      (each_weaker (λ (z : ThreadDirectory). IsDirectoryReached (thread_at w (q ∷ [])) z.at ⊎ (same_pair z.at d ≡ true)) (λ (z : ThreadDirectory). IsDirectoryReached (thread_at w (q ∷ [])) z.at ⊎ (same_pair z.at o.at ≡ true)) (λ z k. go z k) (directories_in_thread (thread_at w (q ∷ [])))
+      (recursion_from_All (λ (z : ThreadDirectory). IsDirectoryReached (thread_at w (q ∷ [])) z.at ⊎ (same_pair z.at d ≡ true)) (directories_in_thread (thread_at w (q ∷ [])))
       (directory_goes_reached disk middle w p mids q [] [] [] l r u step other P a leads same d branch empty sync (recovered_from disk (thread_at w (p ∷ mids)) step.accepted settled).reached)))
     where
-      go : (z : ThreadDirectory) → IsReached (thread_at w (q ∷ [])) z.at ⊎ (same_pair z.at d ≡ true) → IsReached (thread_at w (q ∷ [])) z.at ⊎ (same_pair z.at o.at ≡ true)
+      go : (z : ThreadDirectory) → IsDirectoryReached (thread_at w (q ∷ [])) z.at ⊎ (same_pair z.at d ≡ true) → IsDirectoryReached (thread_at w (q ∷ [])) z.at ⊎ (same_pair z.at o.at ≡ true)
       go z (inl k) = inl k
       go z (inr k) = inr (pair_on z.at d o.at k (pair_back o.at d address))
 
   second : Unthreads middle new w.chain (front ++ x ∷ o ∷ back) (front ++ y ∷ back)
   second = unthread middle new w.chain front x o y back
       (record {
-        accepted = subst (IsAccepted middle) thread_is first.follows.accepted;
+        accepted = subst (IsAcceptedImage middle) thread_is first.follows.accepted;
         writable = subst (IsWritable middle) thread_is writable;
         no_move = subst (λ z. HasNoMove (gstate_of z)) thread_is step.still_none;
         is_chain = subst (IsChain w.chain) there (step_chain disk middle w p mids q [] [] [] l (u ∷ []) [] r step);
@@ -104,30 +104,30 @@ module _ (disk middle new : Disk) (w : Site) (p : Pair) (mids : List Pair) (q : 
         slots = gone.slots;
         tail = gone.tail;
         unled = λ other_path z k e. directory_goes_unled disk middle w p mids q [] [] [] l r u step other P a leads same d branch empty sync other_path z
-            (subst (λ xs. PathLeadsTo xs other_path z) (sym thread_is) k) (pair_on d o.at z (pair_back o.at d address) e);
+            (subst (λ xs. IsPathToDirectory xs other_path z) (sym thread_is) k) (pair_on d o.at z (pair_back o.at d address) e);
         reached = λ e. (alone, subst (λ xs. AllReachedBut xs o.at) thread_is but_o);
       })
 
-  pub rmdir_taken : IsOnlyStep disk (thread_at w (p ∷ mids)) new (w.chain ++ (front ++ y ∷ back)) (tree_without (P ++ u.name ∷ [])) (with_subtree_moved (P ++ u.name ∷ []) (λ t. None))
-  rmdir_taken = taken_then disk middle new ps (thread_at w (q ∷ [])) (w.chain ++ (front ++ y ∷ back)) (tree_without (P ++ u.name ∷ [])) (λ t. t) (with_subtree_moved (P ++ u.name ∷ []) (λ t. None)) (λ z. z) (ends_same (tree_without (P ++ u.name ∷ []))) first
+  pub rmdir_taken : IsOnlyStep disk (thread_at w (p ∷ mids)) new (w.chain ++ (front ++ y ∷ back)) (tree_after_removal (P ++ u.name ∷ [])) (tree_after_subtree_replacement (P ++ u.name ∷ []) (λ t. None))
+  rmdir_taken = taken_then disk middle new ps (thread_at w (q ∷ [])) (w.chain ++ (front ++ y ∷ back)) (tree_after_removal (P ++ u.name ∷ [])) (λ t. t) (tree_after_subtree_replacement (P ++ u.name ∷ []) (λ t. None)) (λ z. z) (ends_same (tree_after_removal (P ++ u.name ∷ []))) first
       (subst (λ z. IsOnlyStep middle z new (w.chain ++ (front ++ y ∷ back)) (λ t. t) (λ z. z)) (sym thread_is) second.taken)
 
   pub rmdir_named : slot_of_path (thread_at w (p ∷ mids)) (P ++ u.name ∷ []) ≡ Some u
   rmdir_named = slot_there disk ps P a (place_at w l) u step.accepted leads (goes_from disk middle w p mids q [] [] [] l r u step other P a leads same)
 
 -- nothing goes on after a soft tail
-soft_end : (from : Option (ℕ × ℕ)) (xs : List Pair) (x : Pair) → is_hard x.content.tail ≡ false → onward_all from (xs ++ x ∷ []) ≡ None
-soft_end from [] x e = ap (λ b. cond b (Some (directory_begin from x)) None) e
-soft_end from (z ∷ xs) x e = soft_end (directory_after from z) xs x e
+soft_end : (from : Option (ℕ × ℕ)) (xs : List Pair) (x : Pair) → is_hard_tail x.content.tail ≡ false → onward_all from (xs ++ x ∷ []) ≡ None
+soft_end from [] x e = ap (λ b. cond b (Some (directory_address_of_pair from x)) None) e
+soft_end from (z ∷ xs) x e = soft_end (directory_address_after_pair from z) xs x e
 
 -- ---- the pair of the entry stays, ahead of the one that goes
 
 module _ (disk middle new : Disk) (w : Site) (p q : Pair) (l r : List Slot) (u : Slot) (step : IsStep disk middle w p [] q [] [] [] l (u ∷ []) [] r) (other : is_superblock u ≡ false)
     (old_writable : IsWritable disk (thread_at w (p ∷ []))) (writable : IsWritable middle (thread_at w (q ∷ [])))
-    (P : Path) (a : ℕ × ℕ) (leads : PathLeadsTo (thread_at w (p ∷ [])) P a) (same : same_pair (begin_of w (p ∷ [])) a ≡ true)
-    (d : ℕ × ℕ) (branch : u.struct ≡ Branch d) (empty : entries_in (thread_at w (p ∷ [])) d ≡ []) (sync : (gstate_of (thread_at w (q ∷ []))).sync ≡ true)
-    (settled : gstate_of (thread_at w (p ∷ [])) ≡ no_gstate)
-    (mid : List Pair) (x o y : Pair) (back : List Pair) (ahead : w.right ++ w.after ≡ mid ++ x ∷ o ∷ back) (address : same_pair o.at d ≡ true) (alone : is_hard o.content.tail ≡ false)
+    (P : Path) (a : ℕ × ℕ) (leads : IsPathToDirectory (thread_at w (p ∷ [])) P a) (same : same_pair (begin_of w (p ∷ [])) a ≡ true)
+    (d : ℕ × ℕ) (branch : u.struct ≡ Branch d) (empty : entries_by_directory_in_thread (thread_at w (p ∷ [])) d ≡ []) (sync : (gstate_of (thread_at w (q ∷ []))).sync ≡ true)
+    (settled : gstate_of (thread_at w (p ∷ [])) ≡ zero_gstate)
+    (mid : List Pair) (x o y : Pair) (back : List Pair) (ahead : w.right ++ w.after ≡ mid ++ x ∷ o ∷ back) (address : same_pair o.at d ≡ true) (alone : is_hard_tail o.content.tail ≡ false)
     (held : p.content.slots ≡ l ++ u ∷ r) (kept : q.content.slots ≡ l ++ r) (some : is_some (onward_all None (w.before ++ w.left)) ≡ true → l ++ r ≢ [])
     (gone : IsGone middle new w.chain ((w.before ++ w.left) ++ q ∷ mid) x o y back) where
   abbrev in_front : List Pair
@@ -136,14 +136,14 @@ module _ (disk middle new : Disk) (w : Site) (p q : Pair) (l r : List Slot) (u :
   there : dirs_at w (q ∷ []) ≡ ((w.before ++ w.left) ++ q ∷ mid) ++ x ∷ o ∷ back
   there = ap (λ z. in_front ++ q ∷ z) ahead ∙ sym (append_assoc in_front (q ∷ mid) (x ∷ o ∷ back))
 
-  taken : IsOnlyStep disk (thread_at w (p ∷ [])) new (w.chain ++ (((w.before ++ w.left) ++ q ∷ mid) ++ y ∷ back)) (tree_without (P ++ u.name ∷ [])) (with_subtree_moved (P ++ u.name ∷ []) (λ t. None))
+  taken : IsOnlyStep disk (thread_at w (p ∷ [])) new (w.chain ++ (((w.before ++ w.left) ++ q ∷ mid) ++ y ∷ back)) (tree_after_removal (P ++ u.name ∷ [])) (tree_after_subtree_replacement (P ++ u.name ∷ []) (λ t. None))
   taken = rmdir_taken disk middle new w p [] q l r u step other writable P a leads same d branch empty sync settled ((w.before ++ w.left) ++ q ∷ mid) x o y back there address alone gone
 
   were : thread_at w (p ∷ []) ≡ w.chain ++ two true (w.before ++ w.left) (p ∷ []) (mid ++ x ∷ []) (o ∷ []) back
   were = ap (λ z. w.chain ++ (in_front ++ p ∷ z)) (ahead ∙ sym (append_assoc mid (x ∷ []) (o ∷ back)))
 
-  distinct : IsDistinct nat_eq (blocks_of ((w.chain ++ ((w.before ++ w.left) ++ p ∷ (mid ++ x ∷ []))) ++ o ∷ back))
-  distinct = subst (λ z. IsDistinct nat_eq (blocks_of z))
+  distinct : IsDistinct nat_eq (blocks_of_pairs ((w.chain ++ ((w.before ++ w.left) ++ p ∷ (mid ++ x ∷ []))) ++ o ∷ back))
+  distinct = subst (λ z. IsDistinct nat_eq (blocks_of_pairs z))
       (were ∙ ap (λ z. w.chain ++ z) (sym (append_assoc in_front (p ∷ (mid ++ x ∷ [])) (o ∷ back))) ∙ sym (append_assoc w.chain (in_front ++ p ∷ (mid ++ x ∷ [])) (o ∷ back))) step.accepted.thread.distinct
 
   apart : Each (λ z. same_pair z.at d ≡ false) (two true (w.before ++ w.left) (p ∷ []) (mid ++ x ∷ []) [] back)
@@ -163,13 +163,13 @@ module _ (disk middle new : Disk) (w : Site) (p q : Pair) (l r : List Slot) (u :
 
   made : IsRmdir disk new (w.chain ++ (((w.before ++ w.left) ++ q ∷ mid) ++ y ∷ back)) true w.chain (w.before ++ w.left) (mid ++ x ∷ []) back p o (q ∷ []) l u r d (P ++ u.name ∷ [])
   made = record {
-    is_chain = ap superblocks_before (sym were) ∙ step.site.chain;
-    accepted = subst (IsAccepted disk) were step.accepted;
+    is_chain = ap pair_count_before_root (sym were) ∙ step.site.chain;
+    accepted = subst (IsAcceptedImage disk) were step.accepted;
     writable = subst (IsWritable disk) were old_writable;
     settled = ap gstate_of (sym were) ∙ settled;
     still = gone.settled;
-    walk = with_subtree_moved (P ++ u.name ∷ []) (λ t. None);
-    follows = subst (λ z. Follows disk z new (w.chain ++ (((w.before ++ w.left) ++ q ∷ mid) ++ y ∷ back)) (tree_without (P ++ u.name ∷ [])) (with_subtree_moved (P ++ u.name ∷ []) (λ t. None))) were taken.follows;
+    walk = tree_after_subtree_replacement (P ++ u.name ∷ []) (λ t. None);
+    follows = subst (λ z. Follows disk z new (w.chain ++ (((w.before ++ w.left) ++ q ∷ mid) ++ y ∷ back)) (tree_after_removal (P ++ u.name ∷ [])) (tree_after_subtree_replacement (P ++ u.name ∷ []) (λ t. None))) were taken.follows;
     still_writable = taken.writable;
     held = held;
     branch = branch;
@@ -183,20 +183,20 @@ module _ (disk middle new : Disk) (w : Site) (p q : Pair) (l r : List Slot) (u :
         (rmdir_named disk middle new w p [] q l r u step other writable P a leads same d branch empty sync settled ((w.before ++ w.left) ++ q ∷ mid) x o y back there address alone gone);
   }
 
-  pub rmdir_ahead_completed : (s : Session) (path : List ℕ) → s.tree ≡ tree_in disk (thread_at w (p ∷ [])) → as_path path ≡ P ++ u.name ∷ []
+  pub rmdir_ahead_completed : (s : Session) (path : List ℕ) → s.tree ≡ tree_on_disk disk (thread_at w (p ∷ [])) → path_or_root path ≡ P ++ u.name ∷ []
       → IsCompleted disk (thread_at w (p ∷ [])) s (ops.Remove path) new (w.chain ++ (((w.before ++ w.left) ++ q ∷ mid) ++ y ∷ back))
   rmdir_ahead_completed s path tree is =
       subst (λ z. IsCompleted disk z s (ops.Remove path) new (w.chain ++ (((w.before ++ w.left) ++ q ∷ mid) ++ y ∷ back))) (sym were)
-      (rmdir_completed disk new (w.chain ++ (((w.before ++ w.left) ++ q ∷ mid) ++ y ∷ back)) true w.chain (w.before ++ w.left) (mid ++ x ∷ []) back p o (q ∷ []) l u r d (P ++ u.name ∷ []) made s path (tree ∙ ap (tree_in disk) were) is)
+      (rmdir_completed disk new (w.chain ++ (((w.before ++ w.left) ++ q ∷ mid) ++ y ∷ back)) true w.chain (w.before ++ w.left) (mid ++ x ∷ []) back p o (q ∷ []) l u r d (P ++ u.name ∷ []) made s path (tree ∙ ap (tree_on_disk disk) were) is)
 
 -- ---- behind it
 
 module _ (disk middle new : Disk) (w : Site) (p q : Pair) (l r : List Slot) (u : Slot) (step : IsStep disk middle w p [] q [] [] [] l (u ∷ []) [] r) (other : is_superblock u ≡ false)
     (old_writable : IsWritable disk (thread_at w (p ∷ []))) (writable : IsWritable middle (thread_at w (q ∷ [])))
-    (P : Path) (a : ℕ × ℕ) (leads : PathLeadsTo (thread_at w (p ∷ [])) P a) (same : same_pair (begin_of w (p ∷ [])) a ≡ true)
-    (d : ℕ × ℕ) (branch : u.struct ≡ Branch d) (empty : entries_in (thread_at w (p ∷ [])) d ≡ []) (sync : (gstate_of (thread_at w (q ∷ []))).sync ≡ true)
-    (settled : gstate_of (thread_at w (p ∷ [])) ≡ no_gstate)
-    (front : List Pair) (x o y : Pair) (mid : List Pair) (behind : w.before ++ w.left ≡ front ++ x ∷ o ∷ mid) (address : same_pair o.at d ≡ true) (alone : is_hard o.content.tail ≡ false)
+    (P : Path) (a : ℕ × ℕ) (leads : IsPathToDirectory (thread_at w (p ∷ [])) P a) (same : same_pair (begin_of w (p ∷ [])) a ≡ true)
+    (d : ℕ × ℕ) (branch : u.struct ≡ Branch d) (empty : entries_by_directory_in_thread (thread_at w (p ∷ [])) d ≡ []) (sync : (gstate_of (thread_at w (q ∷ []))).sync ≡ true)
+    (settled : gstate_of (thread_at w (p ∷ [])) ≡ zero_gstate)
+    (front : List Pair) (x o y : Pair) (mid : List Pair) (behind : w.before ++ w.left ≡ front ++ x ∷ o ∷ mid) (address : same_pair o.at d ≡ true) (alone : is_hard_tail o.content.tail ≡ false)
     (held : p.content.slots ≡ l ++ u ∷ r) (kept : q.content.slots ≡ l ++ r) (some : is_some (onward_all None (w.before ++ w.left)) ≡ true → l ++ r ≢ [])
     (gone : IsGone middle new w.chain front x o y (mid ++ q ∷ (w.right ++ w.after))) where
   abbrev back : List Pair
@@ -206,24 +206,24 @@ module _ (disk middle new : Disk) (w : Site) (p q : Pair) (l r : List Slot) (u :
   turned : (z : Pair) → (w.before ++ w.left) ++ z ∷ (w.right ++ w.after) ≡ front ++ x ∷ o ∷ (mid ++ z ∷ (w.right ++ w.after))
   turned z = ap (λ xs. xs ++ z ∷ back) behind ∙ append_assoc front (x ∷ o ∷ mid) (z ∷ back)
 
-  taken2 : IsOnlyStep disk (thread_at w (p ∷ [])) new (w.chain ++ (front ++ y ∷ (mid ++ q ∷ (w.right ++ w.after)))) (tree_without (P ++ u.name ∷ [])) (with_subtree_moved (P ++ u.name ∷ []) (λ t. None))
+  taken2 : IsOnlyStep disk (thread_at w (p ∷ [])) new (w.chain ++ (front ++ y ∷ (mid ++ q ∷ (w.right ++ w.after)))) (tree_after_removal (P ++ u.name ∷ [])) (tree_after_subtree_replacement (P ++ u.name ∷ []) (λ t. None))
   taken2 = rmdir_taken disk middle new w p [] q l r u step other writable P a leads same d branch empty sync settled front x o y (mid ++ q ∷ (w.right ++ w.after)) (turned q) address alone gone
 
   were2 : thread_at w (p ∷ []) ≡ w.chain ++ two false (front ++ x ∷ []) (p ∷ []) mid (o ∷ []) (w.right ++ w.after)
   were2 = ap (λ z. w.chain ++ z) (turned p ∙ sym (append_assoc front (x ∷ []) (o ∷ (mid ++ p ∷ back))))
 
-  distinct2 : IsDistinct nat_eq (blocks_of ((w.chain ++ (front ++ x ∷ [])) ++ o ∷ (mid ++ p ∷ (w.right ++ w.after))))
-  distinct2 = subst (λ z. IsDistinct nat_eq (blocks_of z)) (were2 ∙ sym (append_assoc w.chain (front ++ x ∷ []) (o ∷ (mid ++ p ∷ back)))) step.accepted.thread.distinct
+  distinct2 : IsDistinct nat_eq (blocks_of_pairs ((w.chain ++ (front ++ x ∷ [])) ++ o ∷ (mid ++ p ∷ (w.right ++ w.after))))
+  distinct2 = subst (λ z. IsDistinct nat_eq (blocks_of_pairs z)) (were2 ∙ sym (append_assoc w.chain (front ++ x ∷ []) (o ∷ (mid ++ p ∷ back)))) step.accepted.thread.distinct
 
   made2 : IsRmdir disk new (w.chain ++ (front ++ y ∷ (mid ++ q ∷ (w.right ++ w.after)))) false w.chain (front ++ x ∷ []) mid (w.right ++ w.after) p o (q ∷ []) l u r d (P ++ u.name ∷ [])
   made2 = record {
-    is_chain = ap superblocks_before (sym were2) ∙ step.site.chain;
-    accepted = subst (IsAccepted disk) were2 step.accepted;
+    is_chain = ap pair_count_before_root (sym were2) ∙ step.site.chain;
+    accepted = subst (IsAcceptedImage disk) were2 step.accepted;
     writable = subst (IsWritable disk) were2 old_writable;
     settled = ap gstate_of (sym were2) ∙ settled;
     still = gone.settled;
-    walk = with_subtree_moved (P ++ u.name ∷ []) (λ t. None);
-    follows = subst (λ z. Follows disk z new (w.chain ++ (front ++ y ∷ (mid ++ q ∷ (w.right ++ w.after)))) (tree_without (P ++ u.name ∷ [])) (with_subtree_moved (P ++ u.name ∷ []) (λ t. None))) were2 taken2.follows;
+    walk = tree_after_subtree_replacement (P ++ u.name ∷ []) (λ t. None);
+    follows = subst (λ z. Follows disk z new (w.chain ++ (front ++ y ∷ (mid ++ q ∷ (w.right ++ w.after)))) (tree_after_removal (P ++ u.name ∷ [])) (tree_after_subtree_replacement (P ++ u.name ∷ []) (λ t. None))) were2 taken2.follows;
     still_writable = taken2.writable;
     held = held;
     branch = branch;
@@ -241,21 +241,21 @@ module _ (disk middle new : Disk) (w : Site) (p q : Pair) (l r : List Slot) (u :
         (rmdir_named disk middle new w p [] q l r u step other writable P a leads same d branch empty sync settled front x o y (mid ++ q ∷ (w.right ++ w.after)) (turned q) address alone gone);
   }
 
-  pub rmdir_behind_completed : (s : Session) (path : List ℕ) → s.tree ≡ tree_in disk (thread_at w (p ∷ [])) → as_path path ≡ P ++ u.name ∷ []
+  pub rmdir_behind_completed : (s : Session) (path : List ℕ) → s.tree ≡ tree_on_disk disk (thread_at w (p ∷ [])) → path_or_root path ≡ P ++ u.name ∷ []
       → IsCompleted disk (thread_at w (p ∷ [])) s (ops.Remove path) new (w.chain ++ (front ++ y ∷ (mid ++ q ∷ (w.right ++ w.after))))
   rmdir_behind_completed s path tree is =
       subst (λ z. IsCompleted disk z s (ops.Remove path) new (w.chain ++ (front ++ y ∷ (mid ++ q ∷ (w.right ++ w.after))))) (sym were2)
-      (rmdir_completed disk new (w.chain ++ (front ++ y ∷ (mid ++ q ∷ (w.right ++ w.after)))) false w.chain (front ++ x ∷ []) mid (w.right ++ w.after) p o (q ∷ []) l u r d (P ++ u.name ∷ []) made2 s path (tree ∙ ap (tree_in disk) were2) is)
+      (rmdir_completed disk new (w.chain ++ (front ++ y ∷ (mid ++ q ∷ (w.right ++ w.after)))) false w.chain (front ++ x ∷ []) mid (w.right ++ w.after) p o (q ∷ []) l u r d (P ++ u.name ∷ []) made2 s path (tree ∙ ap (tree_on_disk disk) were2) is)
 
 -- ---- in one commit, where the pair of the entry is the one in front
 
 module _ (disk new : Disk) (chain before left after : List Pair) (p o q : Pair) (l r : List Slot) (u : Slot) (step : IsStepDrop disk new chain before left after p [] o q [] [] [] l (u ∷ []) [] r) (other : is_superblock u ≡ false)
     (old_writable : IsWritable disk (thread_at (last_site chain before left after) (p ∷ ([] ++ o ∷ []))))
-    (P : Path) (a : ℕ × ℕ) (leads : PathLeadsTo (thread_at (last_site chain before left after) (p ∷ ([] ++ o ∷ []))) P a)
+    (P : Path) (a : ℕ × ℕ) (leads : IsPathToDirectory (thread_at (last_site chain before left after) (p ∷ ([] ++ o ∷ []))) P a)
     (same : same_pair (begin_of (last_site chain before left (o ∷ after)) (p ∷ [])) a ≡ true)
-    (d : ℕ × ℕ) (branch : u.struct ≡ Branch d) (empty : entries_in (thread_at (last_site chain before left after) (p ∷ ([] ++ o ∷ []))) d ≡ [])
-    (settled : gstate_of (thread_at (last_site chain before left after) (p ∷ ([] ++ o ∷ []))) ≡ no_gstate) (still : gstate_of (thread_at (last_site chain before left after) (q ∷ [])) ≡ no_gstate)
-    (address : same_pair o.at d ≡ true) (alone : is_hard o.content.tail ≡ false) (soft : is_hard p.content.tail ≡ false) (tail : q.content.tail ≡ softened o.content.tail)
+    (d : ℕ × ℕ) (branch : u.struct ≡ Branch d) (empty : entries_by_directory_in_thread (thread_at (last_site chain before left after) (p ∷ ([] ++ o ∷ []))) d ≡ [])
+    (settled : gstate_of (thread_at (last_site chain before left after) (p ∷ ([] ++ o ∷ []))) ≡ zero_gstate) (still : gstate_of (thread_at (last_site chain before left after) (q ∷ [])) ≡ zero_gstate)
+    (address : same_pair o.at d ≡ true) (alone : is_hard_tail o.content.tail ≡ false) (soft : is_hard_tail p.content.tail ≡ false) (tail : q.content.tail ≡ softened o.content.tail)
     (held : p.content.slots ≡ l ++ u ∷ r) (kept : q.content.slots ≡ l ++ r) (some : is_some (onward_all None (before ++ left)) ≡ true → l ++ r ≢ []) (full : ends_in_hard_tail false (before ++ left) ≡ true → l ++ r ≢ []) where
   abbrev all : List Pair
   all = thread_at (last_site chain before left after) (p ∷ ([] ++ o ∷ []))
@@ -263,7 +263,7 @@ module _ (disk new : Disk) (chain before left after : List Pair) (p o q : Pair) 
   abbrev those : List Pair
   those = thread_at (last_site chain before left after) (q ∷ [])
 
-  follows : Follows disk (thread_at (last_site chain before left after) (p ∷ ([] ++ o ∷ []))) new (thread_at (last_site chain before left after) (q ∷ [])) (tree_without (P ++ u.name ∷ [])) (with_subtree_moved (P ++ u.name ∷ []) (λ t. None))
+  follows : Follows disk (thread_at (last_site chain before left after) (p ∷ ([] ++ o ∷ []))) new (thread_at (last_site chain before left after) (q ∷ [])) (tree_after_removal (P ++ u.name ∷ [])) (tree_after_subtree_replacement (P ++ u.name ∷ []) (λ t. None))
   follows = directory_goes_beside disk new chain before left after p [] o q [] [] [] l r u step other P a leads same d branch (pair_back o.at d address) empty
       (λ e. (alone, (recovered_from disk (thread_at (last_site chain before left after) (p ∷ ([] ++ o ∷ []))) step.accepted settled).reached))
 
@@ -272,15 +272,15 @@ module _ (disk new : Disk) (chain before left after : List Pair) (p o q : Pair) 
 
   within : IsWithin disk.block_size disk.page q
   within = record {
-    pair = fits_same disk (with_slots (l ++ r) p) q kept (fits_fewer disk p l r u held old_within.pair);
-    slots = subst (All (FitsSlot disk.block_size disk.page)) (sym kept)
-        (All-from_recursion (FitsSlot disk.block_size disk.page) (l ++ r) (fit_spliced disk p l (u ∷ []) [] r old_within held tt));
+    pair = fits_same disk (pair_with_slots (l ++ r) p) q kept (fits_fewer disk p l r u held old_within.pair);
+    slots = subst (All (FitsSlotLimits disk.block_size disk.page)) (sym kept)
+        (All-from_recursion (FitsSlotLimits disk.block_size disk.page) (l ++ r) (fit_spliced disk p l (u ∷ []) [] r old_within held tt));
   }
 
   still_writable : IsWritable new (thread_at (last_site chain before left after) (q ∷ []))
   still_writable = drop_writable disk new chain before left after p [] o q [] [] [] l (u ∷ []) [] r step old_writable (within, tt)
-      (λ h. ((λ e n. full e (sym kept ∙ n)), subst (λ b. HaveSlots b after) (alone ∙ sym (ap is_hard tail ∙ soft_tail o.content.tail)) h.1.1))
+      (λ h. ((λ e n. full e (sym kept ∙ n)), subst (λ b. HaveSlotsAfterHardTail b after) (alone ∙ sym (ap is_hard_tail tail ∙ soft_tail o.content.tail)) h.1.1))
     where
-      soft_tail : (t : Option Tail) → is_hard (softened t) ≡ false
+      soft_tail : (t : Option Tail) → is_hard_tail (softened t) ≡ false
       soft_tail None = refl
       soft_tail (Some t) = refl

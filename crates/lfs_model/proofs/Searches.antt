@@ -10,13 +10,13 @@ use Rattle.std.proofs.lemmas.Bool.{false_from_ne_true}
 use Rattle.lfs_model.specs.Disk.{Disk}
 use Rattle.lfs_model.specs.Names.{Name, name_cmp}
 use Rattle.lfs_model.specs.Slots.{Slot, is_superblock, same_pair}
-use Rattle.lfs_model.specs.Thread.{Pair, is_hard, blocks_of, gstate_of, superblocks_before, directory_pairs}
+use Rattle.lfs_model.specs.Thread.{Pair, is_hard_tail, blocks_of_pairs, gstate_of, pair_count_before_root, pairs_of_all_directories}
 use Rattle.lfs_model.specs.Tree.{Path}
-use Rattle.lfs_model.specs.View.{IsAccepted, IsEntry}
-use Rattle.lfs_model.specs.Shown.{PathLeadsTo, entries_in}
+use Rattle.lfs_model.specs.View.{IsAcceptedImage, IsFileOrDirectoryEntry}
+use Rattle.lfs_model.specs.Shown.{IsPathToDirectory, entries_by_directory_in_thread}
 use Rattle.lfs_model.specs.SlotEdits.{slot_of_path}
-use Rattle.lfs_model.specs.Frame.{run_of, pairs_at, pairs_of_path}
-use Rattle.lfs_model.specs.InDirectory.{entries_only, slots_in, BeginsAbove, HaveNoSuperblock, HasHardTail, run_length, IsHardTailRun, last_is_joined, IsPairOfDirectory, BeginsAt, HasNameAtPlace, BelongsInDirectory}
+use Rattle.lfs_model.specs.Frame.{pairs_joined_by_hard_tails, pairs_of_directory, pair_count_of_directory_at}
+use Rattle.lfs_model.specs.InDirectory.{entries_only, slots_in, BeginsWithGreaterName, HaveNoSuperblock, HasHardTail, hard_tail_joined_pair_count, HaveHardTailsButLast, last_has_hard_tail, IsPairOfDirectory, IsPairAtAddress, IsPlaceOfNameInDirectory, IsPlaceWhereNameBelongs}
 use Rattle.lfs_model.proofs.Counts.{Each, each_append, each_right, each_weaker}
 use Rattle.lfs_model.proofs.Global.{HasNoMove}
 use Rattle.lfs_model.proofs.Pairs.{pair_back, pair_on}
@@ -39,7 +39,7 @@ each_at P (x ∷ xs) (suc i) p h e = each_at P xs i p h.1 e
 not_again : (x : Pair) (xs : List Pair) (j : ℕ) (p q : Pair) → Each (λ r. same_pair x.at r.at ≡ false) xs → x ≡ p → slice_get xs j ≡ Some q → same_pair p.at q.at ≡ true → ⊥
 not_again x xs j p q h e f s = absurd (let k = each_at (λ r. same_pair x.at r.at ≡ false) xs j q h f in let m = ap (λ (y : Pair). same_pair y.at q.at) e in cc)
 
-pub same_number : (xs : List Pair) (i j : ℕ) (p q : Pair) → IsDistinct nat_eq (blocks_of xs) → slice_get xs i ≡ Some p → slice_get xs j ≡ Some q → same_pair p.at q.at ≡ true → i ≡ j
+pub same_number : (xs : List Pair) (i j : ℕ) (p q : Pair) → IsDistinct nat_eq (blocks_of_pairs xs) → slice_get xs i ≡ Some p → slice_get xs j ≡ Some q → same_pair p.at q.at ≡ true → i ≡ j
 unfolding IsDistinct
 same_number [] i j p q h e f s = absurd (cc)
 same_number (x ∷ xs) zero zero p q h e f s = refl
@@ -53,34 +53,34 @@ get_behind (x ∷ xs) p ys = get_behind xs p ys
 
 -- the pair at a directory's address is the directory's first
 pub record IsDirectory (ps : List Pair) (a : ℕ × ℕ) (first : ℕ) : Type 0 where
-  pub directory : HasDirectory (directory_pairs ps) a
-  pub number : first ≡ superblocks_before ps + length directory.before
+  pub directory : HasDirectory (pairs_of_all_directories ps) a
+  pub number : first ≡ pair_count_before_root ps + length directory.before
 
-pub begins_directory : (disk : Disk) (ps : List Pair) (P : Path) (a : ℕ × ℕ) (first : ℕ) → IsAccepted disk ps → PathLeadsTo ps P a → BeginsAt ps a first → IsDirectory ps a first
+pub begins_directory : (disk : Disk) (ps : List Pair) (P : Path) (a : ℕ × ℕ) (first : ℕ) → IsAcceptedImage disk ps → IsPathToDirectory ps P a → IsPairAtAddress ps a first → IsDirectory ps a first
 begins_directory disk ps P a first ok leads b = record { directory = d; number = number }
   where
-    d : HasDirectory (directory_pairs ps) a
+    d : HasDirectory (pairs_of_all_directories ps) a
     d = led_directory disk ps P a ok leads
 
     chain : List Pair
-    chain = take (superblocks_before ps) ps
+    chain = take (pair_count_before_root ps) ps
 
-    chain_length : length (take (superblocks_before ps) ps) ≡ superblocks_before ps
-    chain_length = let e = chain_of_thread ps in sym (ap superblocks_before e.0 ∙ e.1)
+    chain_length : length (take (pair_count_before_root ps) ps) ≡ pair_count_before_root ps
+    chain_length = let e = chain_of_thread ps in sym (ap pair_count_before_root e.0 ∙ e.1)
 
-    whole : ps ≡ (take (superblocks_before ps) ps ++ d.before) ++ (d.first ∷ (d.run ++ d.after))
-    whole = (chain_of_thread ps).0 ∙ ap (λ z. take (superblocks_before ps) ps ++ z) d.is ∙ sym (append_assoc (take (superblocks_before ps) ps) d.before (d.first ∷ (d.run ++ d.after)))
+    whole : ps ≡ (take (pair_count_before_root ps) ps ++ d.before) ++ (d.first ∷ (d.run ++ d.after))
+    whole = (chain_of_thread ps).0 ∙ ap (λ z. take (pair_count_before_root ps) ps ++ z) d.is ∙ sym (append_assoc (take (pair_count_before_root ps) ps) d.before (d.first ∷ (d.run ++ d.after)))
 
-    there : slice_get ps (length (take (superblocks_before ps) ps ++ d.before)) ≡ Some d.first
-    there = ap (λ z. slice_get z (length (take (superblocks_before ps) ps ++ d.before))) whole ∙ get_behind (take (superblocks_before ps) ps ++ d.before) d.first (d.run ++ d.after)
+    there : slice_get ps (length (take (pair_count_before_root ps) ps ++ d.before)) ≡ Some d.first
+    there = ap (λ z. slice_get z (length (take (pair_count_before_root ps) ps ++ d.before))) whole ∙ get_behind (take (pair_count_before_root ps) ps ++ d.before) d.first (d.run ++ d.after)
 
-    number : first ≡ superblocks_before ps + length d.before
+    number : first ≡ pair_count_before_root ps + length d.before
     number =
-        let e = same_number ps first (length (take (superblocks_before ps) ps ++ d.before)) b.pair d.first ok.thread.distinct b.there there (pair_on b.pair.at a d.first.at b.same (pair_back d.first.at a d.at)) in
-        omega (arith, e, length-append (take (superblocks_before ps) ps) d.before, chain_length)
+        let e = same_number ps first (length (take (pair_count_before_root ps) ps ++ d.before)) b.pair d.first ok.thread.distinct b.there there (pair_on b.pair.at a d.first.at b.same (pair_back d.first.at a d.at)) in
+        omega (arith, e, length-append (take (pair_count_before_root ps) ps) d.before, chain_length)
 
 -- the pairs in front aren't at that address
-pub avoids_front : (xs : List Pair) (p : Pair) (ys : List Pair) (a : ℕ × ℕ) → IsDistinct nat_eq (blocks_of (xs ++ p ∷ ys)) → same_pair p.at a ≡ true → Each (λ x. same_pair x.at a ≡ false) xs
+pub avoids_front : (xs : List Pair) (p : Pair) (ys : List Pair) (a : ℕ × ℕ) → IsDistinct nat_eq (blocks_of_pairs (xs ++ p ∷ ys)) → same_pair p.at a ≡ true → Each (λ x. same_pair x.at a ≡ false) xs
 unfolding IsDistinct
 avoids_front [] p ys a h s = tt
 avoids_front (x ∷ xs) p ys a h s = (
@@ -89,34 +89,34 @@ avoids_front (x ∷ xs) p ys a h s = (
 )
 
 -- nor are those after
-pub avoids_behind : (xs : List Pair) (p : Pair) (ys : List Pair) (a : ℕ × ℕ) → IsDistinct nat_eq (blocks_of (xs ++ p ∷ ys)) → same_pair p.at a ≡ true → Each (λ x. same_pair x.at a ≡ false) ys
+pub avoids_behind : (xs : List Pair) (p : Pair) (ys : List Pair) (a : ℕ × ℕ) → IsDistinct nat_eq (blocks_of_pairs (xs ++ p ∷ ys)) → same_pair p.at a ≡ true → Each (λ x. same_pair x.at a ≡ false) ys
 unfolding IsDistinct
 avoids_behind [] p ys a h s = each_weaker (λ (x : Pair). same_pair p.at x.at ≡ false) (λ (x : Pair). same_pair x.at a ≡ false)
     (λ x e. false_from_ne_true (same_pair x.at a) (λ t. let k = pair_on p.at a x.at s (pair_back x.at a t) in absurd (cc))) ys (blocks_avoid p.at ys h.0.1)
 avoids_behind (x ∷ xs) p ys a h s = avoids_behind xs p ys a h.1.1 s
 
-pairs_past : (xs ys : List Pair) (a : ℕ × ℕ) → Each (λ x. same_pair x.at a ≡ false) xs → pairs_at (xs ++ ys) a ≡ pairs_at ys a
+pairs_past : (xs ys : List Pair) (a : ℕ × ℕ) → Each (λ x. same_pair x.at a ≡ false) xs → pairs_of_directory (xs ++ ys) a ≡ pairs_of_directory ys a
 pairs_past [] ys a h = refl
-pairs_past (x ∷ xs) ys a h = ap (λ b. cond b (run_of x (xs ++ ys)) (pairs_at (xs ++ ys) a)) h.0 ∙ pairs_past xs ys a h.1
+pairs_past (x ∷ xs) ys a h = ap (λ b. cond b (pairs_joined_by_hard_tails x (xs ++ ys)) (pairs_of_directory (xs ++ ys) a)) h.0 ∙ pairs_past xs ys a h.1
 
-run_is : (p : Pair) (run after : List Pair) → IsRun (p ∷ run) → run_of p (run ++ after) ≡ p ∷ run
+run_is : (p : Pair) (run after : List Pair) → IsRun (p ∷ run) → pairs_joined_by_hard_tails p (run ++ after) ≡ p ∷ run
 run_is p [] [] h = refl
-run_is p [] (q ∷ after) h = ap (λ b. p ∷ cond b (run_of q after) []) h
-run_is p (q ∷ run) after h = ap (λ b. p ∷ cond b (run_of q (run ++ after)) []) h.0 ∙ ap (λ z. p ∷ z) (run_is q run after h.1)
+run_is p [] (q ∷ after) h = ap (λ b. p ∷ cond b (pairs_joined_by_hard_tails q after) []) h
+run_is p (q ∷ run) after h = ap (λ b. p ∷ cond b (pairs_joined_by_hard_tails q (run ++ after)) []) h.0 ∙ ap (λ z. p ∷ z) (run_is q run after h.1)
 
-length_run : (p : Pair) (run after : List Pair) → IsRun (p ∷ run) → run_length (p ∷ (run ++ after)) ≡ length (p ∷ run)
-length_run p [] after h = ap (λ b. cond b (1 + run_length after) 1) h
-length_run p (q ∷ run) after h = ap (λ b. cond b (1 + run_length (q ∷ (run ++ after))) 1) h.0 ∙ (let e = length_run q run after h.1 in omega (arith, e))
+length_run : (p : Pair) (run after : List Pair) → IsRun (p ∷ run) → hard_tail_joined_pair_count (p ∷ (run ++ after)) ≡ length (p ∷ run)
+length_run p [] after h = ap (λ b. cond b (1 + hard_tail_joined_pair_count after) 1) h
+length_run p (q ∷ run) after h = ap (λ b. cond b (1 + hard_tail_joined_pair_count (q ∷ (run ++ after))) 1) h.0 ∙ (let e = length_run q run after h.1 in omega (arith, e))
 
 -- the pairs of a directory that a path leads to, and how many they are
-pub directory_pairs_at : (disk : Disk) (ps : List Pair) (P : Path) (a : ℕ × ℕ) (ok : IsAccepted disk ps) → PathLeadsTo ps P a → (d : HasDirectory (directory_pairs ps) a) → pairs_at ps a ≡ d.first ∷ d.run
+pub directory_pairs_at : (disk : Disk) (ps : List Pair) (P : Path) (a : ℕ × ℕ) (ok : IsAcceptedImage disk ps) → IsPathToDirectory ps P a → (d : HasDirectory (pairs_of_all_directories ps) a) → pairs_of_directory ps a ≡ d.first ∷ d.run
 directory_pairs_at disk ps P a ok leads d =
-    let whole : ps ≡ (take (superblocks_before ps) ps ++ d.before) ++ (d.first ∷ (d.run ++ d.after))
-    = (chain_of_thread ps).0 ∙ ap (λ z. take (superblocks_before ps) ps ++ z) d.is ∙ sym (append_assoc (take (superblocks_before ps) ps) d.before (d.first ∷ (d.run ++ d.after))) in
-    ap (λ z. pairs_at z a) whole
-    ∙ pairs_past (take (superblocks_before ps) ps ++ d.before) (d.first ∷ (d.run ++ d.after)) a
-    (avoids_front (take (superblocks_before ps) ps ++ d.before) d.first (d.run ++ d.after) a (subst (λ z. IsDistinct nat_eq (blocks_of z)) whole ok.thread.distinct) d.at)
-    ∙ ap (λ b. cond b (run_of d.first (d.run ++ d.after)) (pairs_at (d.run ++ d.after) a)) d.at
+    let whole : ps ≡ (take (pair_count_before_root ps) ps ++ d.before) ++ (d.first ∷ (d.run ++ d.after))
+    = (chain_of_thread ps).0 ∙ ap (λ z. take (pair_count_before_root ps) ps ++ z) d.is ∙ sym (append_assoc (take (pair_count_before_root ps) ps) d.before (d.first ∷ (d.run ++ d.after))) in
+    ap (λ z. pairs_of_directory z a) whole
+    ∙ pairs_past (take (pair_count_before_root ps) ps ++ d.before) (d.first ∷ (d.run ++ d.after)) a
+    (avoids_front (take (pair_count_before_root ps) ps ++ d.before) d.first (d.run ++ d.after) a (subst (λ z. IsDistinct nat_eq (blocks_of_pairs z)) whole ok.thread.distinct) d.at)
+    ∙ ap (λ b. cond b (pairs_joined_by_hard_tails d.first (d.run ++ d.after)) (pairs_of_directory (d.run ++ d.after) a)) d.at
     ∙ run_is d.first d.run d.after d.is_run
 
 drop_behind : (xs ys : List Pair) (n : ℕ) → n ≡ length xs → drop n (xs ++ ys) ≡ ys
@@ -125,20 +125,20 @@ drop_behind (x ∷ xs) ys n e = ap (λ k. drop k (x ∷ (xs ++ ys))) e ∙ drop_
 
 abbrev count_at : List Pair → Option (ℕ × ℕ) → ℕ
 count_at ps None = 0
-count_at ps (Some at) = length (pairs_at ps at)
+count_at ps (Some at) = length (pairs_of_directory ps at)
 
-pub run_length_is : (disk : Disk) (ps : List Pair) (P : Path) (a : ℕ × ℕ) (first : ℕ) → IsAccepted disk ps → PathLeadsTo ps P a → BeginsAt ps a first → run_length (drop first ps) ≡ pairs_of_path ps P
+pub run_length_is : (disk : Disk) (ps : List Pair) (P : Path) (a : ℕ × ℕ) (first : ℕ) → IsAcceptedImage disk ps → IsPathToDirectory ps P a → IsPairAtAddress ps a first → hard_tail_joined_pair_count (drop first ps) ≡ pair_count_of_directory_at ps P
 run_length_is disk ps P a first ok leads b =
     let i = begins_directory disk ps P a first ok leads b in
     let d = i.directory in
     let e = chain_of_thread ps in
-    let front : List Pair = take (superblocks_before ps) ps ++ d.before in
-    let whole : ps ≡ (take (superblocks_before ps) ps ++ d.before) ++ (d.first ∷ (d.run ++ d.after))
-    = e.0 ∙ ap (λ z. take (superblocks_before ps) ps ++ z) d.is ∙ sym (append_assoc (take (superblocks_before ps) ps) d.before (d.first ∷ (d.run ++ d.after))) in
-    let many : length (take (superblocks_before ps) ps) ≡ superblocks_before ps = sym (ap superblocks_before e.0 ∙ e.1) in
-    let at_first : first ≡ length (take (superblocks_before ps) ps ++ d.before) = omega (arith, i.number, length-append (take (superblocks_before ps) ps) d.before, many) in
-    ap (λ z. run_length (drop first z)) whole
-    ∙ ap run_length (drop_behind (take (superblocks_before ps) ps ++ d.before) (d.first ∷ (d.run ++ d.after)) first at_first)
+    let front : List Pair = take (pair_count_before_root ps) ps ++ d.before in
+    let whole : ps ≡ (take (pair_count_before_root ps) ps ++ d.before) ++ (d.first ∷ (d.run ++ d.after))
+    = e.0 ∙ ap (λ z. take (pair_count_before_root ps) ps ++ z) d.is ∙ sym (append_assoc (take (pair_count_before_root ps) ps) d.before (d.first ∷ (d.run ++ d.after))) in
+    let many : length (take (pair_count_before_root ps) ps) ≡ pair_count_before_root ps = sym (ap pair_count_before_root e.0 ∙ e.1) in
+    let at_first : first ≡ length (take (pair_count_before_root ps) ps ++ d.before) = omega (arith, i.number, length-append (take (pair_count_before_root ps) ps) d.before, many) in
+    ap (λ z. hard_tail_joined_pair_count (drop first z)) whole
+    ∙ ap hard_tail_joined_pair_count (drop_behind (take (pair_count_before_root ps) ps ++ d.before) (d.first ∷ (d.run ++ d.after)) first at_first)
     ∙ length_run d.first d.run d.after d.is_run
     ∙ sym (ap (count_at ps) leads ∙ ap length (directory_pairs_at disk ps P a ok leads d))
 
@@ -163,7 +163,7 @@ run_parts [] left pair rest after some is joined e = absurd (some refl)
 run_parts (r ∷ run) [] pair rest after some is joined e =
     let h : pair ≡ r = cc in let t : rest ≡ run ++ after = cc in
     record { ys = run; is = ap (λ z. z ∷ run) (sym h); rest_is = t; runs = subst (λ z. IsRun (z ∷ run)) (sym h) is }
-run_parts (r ∷ []) (l ∷ left) pair rest after some is joined e = let h : l ≡ r = cc in absurd (let k = ap (λ (p : Pair). is_hard p.content.tail) h in let j = joined.0 in cc)
+run_parts (r ∷ []) (l ∷ left) pair rest after some is joined e = let h : l ≡ r = cc in absurd (let k = ap (λ (p : Pair). is_hard_tail p.content.tail) h in let j = joined.0 in cc)
 run_parts (r ∷ q ∷ run) (l ∷ left) pair rest after some is joined e =
     let h : l ≡ r = cc in let t : left ++ pair ∷ rest ≡ q ∷ run ++ after = cc in
     let p = run_parts (q ∷ run) left pair rest after (λ k. absurd (cc)) is.1 joined.1 t in
@@ -172,9 +172,9 @@ run_parts (r ∷ q ∷ run) (l ∷ left) pair rest after some is joined e =
 record Goes (pair : Pair) (ys later : List Pair) : Type 0 where
   more : List Pair
   is : ys ≡ later ++ more
-  last : last_is_joined pair later ≡ false → more ≡ []
+  last : last_has_hard_tail pair later ≡ false → more ≡ []
 
-goes : (pair : Pair) (ys later rest after : List Pair) → IsRun (pair ∷ ys) → IsHardTailRun pair later → later ++ rest ≡ ys ++ after → Goes pair ys later
+goes : (pair : Pair) (ys later rest after : List Pair) → IsRun (pair ∷ ys) → HaveHardTailsButLast pair later → later ++ rest ≡ ys ++ after → Goes pair ys later
 goes pair [] [] rest after is runs e = record { more = []; is = refl; last = λ k. refl }
 goes pair (y ∷ ys) [] rest after is runs e = record { more = y ∷ ys; is = refl; last = λ k. absurd (let j = is.0 in cc) }
 goes pair [] (q ∷ later) rest after is runs e = absurd (let j = runs.0 in cc)
@@ -185,19 +185,19 @@ goes pair (y ∷ ys) (q ∷ later) rest after is runs e =
 
 -- ---- the site
 
-module _ (disk : Disk) (ps : List Pair) (P : Path) (a : ℕ × ℕ) (ok : IsAccepted disk ps) (leads : PathLeadsTo ps P a) (first index : ℕ) (pair : Pair) (rest : List Pair) (b : IsPairOfDirectory ps first index pair rest)
-    (begins : BeginsAt ps a first) where
+module _ (disk : Disk) (ps : List Pair) (P : Path) (a : ℕ × ℕ) (ok : IsAcceptedImage disk ps) (leads : IsPathToDirectory ps P a) (first index : ℕ) (pair : Pair) (rest : List Pair) (b : IsPairOfDirectory ps first index pair rest)
+    (begins : IsPairAtAddress ps a first) where
   abbrev chain : List Pair
-  chain = take (superblocks_before ps) ps
+  chain = take (pair_count_before_root ps) ps
 
   pub begun : IsDirectory ps a first
   begun = begins_directory disk ps P a first ok leads begins
 
-  abbrev d : HasDirectory (directory_pairs ps) a
+  abbrev d : HasDirectory (pairs_of_all_directories ps) a
   d = begun.directory
 
-  chain_length : length chain ≡ superblocks_before ps
-  chain_length = let e = chain_of_thread ps in sym (ap superblocks_before e.0 ∙ e.1)
+  chain_length : length chain ≡ pair_count_before_root ps
+  chain_length = let e = chain_of_thread ps in sym (ap pair_count_before_root e.0 ∙ e.1)
 
   first_is : first ≡ length chain + length d.before
   first_is = begun.number ∙ ap (λ (n : ℕ). n + length d.before) (sym chain_length)
@@ -215,8 +215,8 @@ module _ (disk : Disk) (ps : List Pair) (P : Path) (a : ℕ × ℕ) (ok : IsAcce
   pub site : Site
   site = record { chain = chain; before = d.before; left = b.left; right = parted.ys; after = d.after }
 
-  in_directory : IsInDirectory chain (directory_pairs ps) a pair (record { chain = chain; before = d.before; left = b.left; right = parted.ys; after = d.after })
-  in_directory = site_in_directory chain (directory_pairs ps) a (chain_of_thread ps).1 d b.left pair parted.ys parted.is
+  in_directory : IsInDirectory chain (pairs_of_all_directories ps) a pair (record { chain = chain; before = d.before; left = b.left; right = parted.ys; after = d.after })
+  in_directory = site_in_directory chain (pairs_of_all_directories ps) a (chain_of_thread ps).1 d b.left pair parted.ys parted.is
 
   pub thread_is : ps ≡ thread_at site (pair ∷ [])
   unfolding site
@@ -236,15 +236,15 @@ module _ (disk : Disk) (ps : List Pair) (P : Path) (a : ℕ × ℕ) (ok : IsAcce
 
 -- ---- a name that stands there
 
-pub slot_of_stands : (disk : Disk) (ps : List Pair) (P : Path) (a : ℕ × ℕ) (ok : IsAccepted disk ps) (leads : PathLeadsTo ps P a) (first index id : ℕ) (name : Name) → HasNoMove (gstate_of ps)
-    → (s : HasNameAtPlace ps first name index id) → BeginsAt ps a first → slot_of_path ps (P ++ name ∷ []) ≡ Some s.stands.slot
+pub slot_of_stands : (disk : Disk) (ps : List Pair) (P : Path) (a : ℕ × ℕ) (ok : IsAcceptedImage disk ps) (leads : IsPathToDirectory ps P a) (first index id : ℕ) (name : Name) → HasNoMove (gstate_of ps)
+    → (s : IsPlaceOfNameInDirectory ps first name index id) → IsPairAtAddress ps a first → slot_of_path ps (P ++ name ∷ []) ≡ Some s.stands.slot
 slot_of_stands disk ps P a ok leads first index id name none s begins =
     let w = site disk ps P a ok leads first index s.pair s.rest s.place begins in
     let is = thread_is disk ps P a ok leads first index s.pair s.rest s.place begins in
     subst (λ z. slot_of_path ps (P ++ z ∷ []) ≡ Some s.stands.slot) s.stands.named
     (subst (λ z. slot_of_path z (P ++ s.stands.slot.name ∷ []) ≡ Some s.stands.slot) (sym is)
-    (slot_found disk w s.pair s.stands.left s.stands.slot s.stands.right P a (subst (IsAccepted disk) is ok) (is_site disk ps P a ok leads first index s.pair s.rest s.place begins)
-    (subst (λ z. HasNoMove (gstate_of z)) is none) (subst (λ z. PathLeadsTo z P a) is leads) (same disk ps P a ok leads first index s.pair s.rest s.place begins) s.stands.held s.stands.entry))
+    (slot_found disk w s.pair s.stands.left s.stands.slot s.stands.right P a (subst (IsAcceptedImage disk) is ok) (is_site disk ps P a ok leads first index s.pair s.rest s.place begins)
+    (subst (λ z. HasNoMove (gstate_of z)) is none) (subst (λ z. IsPathToDirectory z P a) is leads) (same disk ps P a ok leads first index s.pair s.rest s.place begins) s.stands.held s.stands.entry))
 
 -- ---- a name that belongs there
 
@@ -259,8 +259,8 @@ last_of [] n = absurd (n refl)
 last_of (x ∷ []) n = record { front = []; last = x; is = refl }
 last_of (x ∷ y ∷ xs) n = let l = last_of (y ∷ xs) (λ e. absurd (cc)) in record { front = x ∷ l.front; last = l.last; is = ap (λ z. x ∷ z) l.is }
 
-module _ (disk : Disk) (ps : List Pair) (P : Path) (a : ℕ × ℕ) (ok : IsAccepted disk ps) (leads : PathLeadsTo ps P a) (first index id : ℕ) (name : Name) (none : HasNoMove (gstate_of ps))
-    (b : BelongsInDirectory disk.order ps first name index id) (begins : BeginsAt ps a first) where
+module _ (disk : Disk) (ps : List Pair) (P : Path) (a : ℕ × ℕ) (ok : IsAcceptedImage disk ps) (leads : IsPathToDirectory ps P a) (first index id : ℕ) (name : Name) (none : HasNoMove (gstate_of ps))
+    (b : IsPlaceWhereNameBelongs disk.order ps first name index id) (begins : IsPairAtAddress ps a first) where
   abbrev at_site : Site
   at_site = site disk ps P a ok leads first index b.pair (b.later ++ b.rest) b.place begins
 
@@ -273,9 +273,9 @@ module _ (disk : Disk) (ps : List Pair) (P : Path) (a : ℕ × ℕ) (ok : IsAcce
       let p = parted disk ps P a ok leads first index b.pair (b.later ++ b.rest) b.place begins in
       goes b.pair p.ys b.later b.rest (begun disk ps P a ok leads first index b.pair (b.later ++ b.rest) b.place begins).directory.after p.runs b.runs p.rest_is
 
-  shows : entries_in ps a ≡ shown_before at_site b.left ++ shown_behind at_site b.right
-  shows = ap (λ z. entries_in z a) whole
-      ∙ site_shows disk at_site b.pair b.left [] b.right a (subst (IsAccepted disk) whole ok) (is_site disk ps P a ok leads first index b.pair (b.later ++ b.rest) b.place begins)
+  shows : entries_by_directory_in_thread ps a ≡ shown_before at_site b.left ++ shown_behind at_site b.right
+  shows = ap (λ z. entries_by_directory_in_thread z a) whole
+      ∙ site_shows disk at_site b.pair b.left [] b.right a (subst (IsAcceptedImage disk) whole ok) (is_site disk ps P a ok leads first index b.pair (b.later ++ b.rest) b.place begins)
       (subst (λ z. HasNoMove (gstate_of z)) whole none) (same disk ps P a ok leads first index b.pair (b.later ++ b.rest) b.place begins) b.held
 
   rises : Rise disk.order (shown_before at_site b.left ++ shown_behind at_site b.right)
@@ -312,7 +312,7 @@ module _ (disk : Disk) (ps : List Pair) (P : Path) (a : ℕ × ℕ) (ok : IsAcce
           ∙ ap entries_only (sym (append_assoc b.right (slots_in b.later) (slots_in goes_there.more)))
           ∙ filter-append (λ (s : Slot). not (is_superblock s)) (b.right ++ slots_in b.later) (slots_in goes_there.more)
 
-      go : BeginsAbove disk.order name (entries_only (b.right ++ slots_in b.later)) ⊎ ((entries_only (b.right ++ slots_in b.later) ≡ []) × (last_is_joined b.pair b.later ≡ false)) →
+      go : BeginsWithGreaterName disk.order name (entries_only (b.right ++ slots_in b.later)) ⊎ ((entries_only (b.right ++ slots_in b.later) ≡ []) × (last_has_hard_tail b.pair b.later ≡ false)) →
           Each (λ s. name_cmp disk.order name s.name ≡ Less) (entries_only (b.right ++ slots_in at_site.right))
       go (inl begins) =
           let are : entries_only (b.right ++ slots_in at_site.right) ≡ begins.first ∷ (begins.rest ++ entries_only (slots_in goes_there.more)) =
@@ -325,7 +325,7 @@ module _ (disk : Disk) (ps : List Pair) (P : Path) (a : ℕ × ℕ) (ok : IsAcce
       go (inr (nothing, last)) =
           subst (Each (λ s. name_cmp disk.order name s.name ≡ Less)) (sym (behind_is ∙ ap₂ (λ x (y : List Pair). x ++ entries_only (slots_in y)) nothing (goes_there.last last))) tt
 
-  pub place_of_belongs : IsPlace disk.order (entries_in ps a) (place_at at_site b.left) name
+  pub place_of_belongs : IsPlace disk.order (entries_by_directory_in_thread ps a) (place_at at_site b.left) name
   place_of_belongs = subst (λ z. IsPlace disk.order z (place_at at_site b.left) name) (sym shows) (place_between (shown_before at_site b.left) (shown_behind at_site b.right) name less greater)
 
 -- ---- where no superblock stands
@@ -339,8 +339,8 @@ each_dropped P (suc m) (suc n) [] l h = tt
 each_dropped P (suc m) (suc n) (p ∷ ps) l h = each_dropped P m n ps (omega arith) h
 
 -- after the first pair of a directory
-pub plain_behind : (disk : Disk) (ps : List Pair) (first : ℕ) → IsAccepted disk ps → superblocks_before ps ≤ first → HaveNoSuperblock (drop (first + 1) ps)
+pub plain_behind : (disk : Disk) (ps : List Pair) (first : ℕ) → IsAcceptedImage disk ps → pair_count_before_root ps ≤ first → HaveNoSuperblock (drop (first + 1) ps)
 plain_behind disk ps first ok low =
-    each_weaker (λ (p : Pair). All IsEntry p.content.slots) (λ (p : Pair). Each (λ s. is_superblock s ≡ false) p.content.slots)
-    (λ p h. each_weaker IsEntry (λ s. is_superblock s ≡ false) entry_is_other p.content.slots (recursion_from_All IsEntry p.content.slots h)) (drop (first + 1) ps)
-    (each_dropped (λ (p : Pair). All IsEntry p.content.slots) (superblocks_before ps + 1) (first + 1) ps (omega arith) (recursion_from_All (λ (p : Pair). All IsEntry p.content.slots) (drop (superblocks_before ps + 1) ps) ok.slots))
+    each_weaker (λ (p : Pair). All IsFileOrDirectoryEntry p.content.slots) (λ (p : Pair). Each (λ s. is_superblock s ≡ false) p.content.slots)
+    (λ p h. each_weaker IsFileOrDirectoryEntry (λ s. is_superblock s ≡ false) entry_is_other p.content.slots (recursion_from_All IsFileOrDirectoryEntry p.content.slots h)) (drop (first + 1) ps)
+    (each_dropped (λ (p : Pair). All IsFileOrDirectoryEntry p.content.slots) (pair_count_before_root ps + 1) (first + 1) ps (omega arith) (recursion_from_All (λ (p : Pair). All IsFileOrDirectoryEntry p.content.slots) (drop (pair_count_before_root ps + 1) ps) ok.slots))

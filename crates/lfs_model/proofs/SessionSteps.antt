@@ -2,17 +2,17 @@
 use Rattle.std.proofs.Common.{ℕ, ◌≡◌, Bool, true, false, cond, List, [], ◌∷◌, ◌++◌, Option, Some, None, is_none, refl, sym, ap, subst, ◌∙◌}
 use Rattle.std.proofs.lemmas.Option.{same_Some}
 use Rattle.lfs_model.specs.Disk.{Disk, block_count}
-use Rattle.lfs_model.specs.Content.{content_at}
-use Rattle.lfs_model.specs.Shown.{tree_in}
+use Rattle.lfs_model.specs.Content.{content_of_pair_at}
+use Rattle.lfs_model.specs.Shown.{tree_on_disk}
 use Rattle.lfs_model.specs.Operations as ops
 use Rattle.lfs_model.specs.Operations.{Operation, Reply, Refusal, BadFile}
-use Rattle.lfs_model.specs.Session.{Session, Surroundings, Reader, reader_of, file_of, refuse_if}
-use Rattle.lfs_model.specs.Effects.{refusal_or_effect, reply_or, read_effect}
-use Rattle.lfs_model.specs.Refusals.{refusal_of}
-use Rattle.lfs_model.specs.State.{State, HasFailed, Healthy, is_remount, answer_of_state, remounted, mounted}
-use Rattle.lfs_model.specs.Fresh.{IsFresh, fresh_pair, empty_tree}
-use Rattle.lfs_model.specs.Headline.{AgreesWithDisk, is_question, IsFromScratch, read_from, IsReadFromScratch, AreRunParts}
-use Rattle.lfs_model.specs.Run.{SystemState, Shows, AgreesWithTree, IsSessionStep, AreSessionSteps}
+use Rattle.lfs_model.specs.Session.{Session, DiskSummary, Reader, reader_of_open_file, open_file_of, refuse_if}
+use Rattle.lfs_model.specs.Effects.{refusal_or_effect, result_after_refusal_check, read_effect}
+use Rattle.lfs_model.specs.Refusals.{refusal_of_operation}
+use Rattle.lfs_model.specs.State.{SessionHealth, HasFailed, Healthy, is_remount_operation, reply_and_state_unless_remount, remounted, mounted}
+use Rattle.lfs_model.specs.Fresh.{IsFreshDisk, fresh_pair, empty_tree}
+use Rattle.lfs_model.specs.Headline.{IsHealthyWithDiskTree, is_query_without_file, IsReplyOfFreshMount, read_reply_from_tree, IsReadReplyFromDisk, IsRunInTwoParts}
+use Rattle.lfs_model.specs.Run.{SystemState, ShowsTree, HasDiskTreeIfHealthy, IsSessionStep, AreSessionSteps}
 use Rattle.lfs_model.proofs.Uniqueness.{one_thread}
 use Rattle.lfs_model.proofs.Fresh.{accepted, shows}
 
@@ -26,7 +26,7 @@ session_steps_joined (op ∷ operations) more [] others a b c e h = absurd e
 session_steps_joined (op ∷ operations) more (reply ∷ replies) others a b c (next, (turn, rest)) h =
     (next, (turn, session_steps_joined operations more replies others next b c rest h))
 
-pub session_steps_parted : (operations more : List Operation) (replies : List Reply) (a c : SystemState) → AreSessionSteps a (operations ++ more) replies c → AreRunParts operations more replies a c
+pub session_steps_parted : (operations more : List Operation) (replies : List Reply) (a c : SystemState) → AreSessionSteps a (operations ++ more) replies c → IsRunInTwoParts operations more replies a c
 session_steps_parted [] more replies a c h = record { between = a; front = []; back = replies; joined = refl; first = refl; second = h }
 session_steps_parted (op ∷ operations) more [] a c h = absurd h
 session_steps_parted (op ∷ operations) more (reply ∷ replies) a c (next, (turn, rest)) =
@@ -35,21 +35,21 @@ session_steps_parted (op ∷ operations) more (reply ∷ replies) a c (next, (tu
 
 -- ---- health
 
-abbrev pub IsHealthy : State → Type 0
+abbrev pub IsHealthy : SessionHealth → Type 0
 IsHealthy HasFailed = ⊥
 IsHealthy (Healthy session) = Unit {0}
 
 pub session_step_is_healthy : (from to : SystemState) (op : Operation) (reply : Reply) → IsSessionStep from op reply to → IsHealthy from.state → IsHealthy to.state
-session_step_is_healthy from to op reply turn h = go (is_remount op) (from.state) h turn.answered.shown turn.answered.answers
+session_step_is_healthy from to op reply turn h = go (is_remount_operation op) (from.state) h turn.answered.shown turn.answered.answers
   where
     remounts : (shown : Option _) → remounted shown ≡ (Some reply, to.state) → IsHealthy to.state
-    remounts None e = absurd (let k = ap (λ (z : Option Reply × State). z.0) e in cc)
-    remounts (Some tree) e = subst IsHealthy (ap (λ (z : Option Reply × State). z.1) e) tt
+    remounts None e = absurd (let k = ap (λ (z : Option Reply × SessionHealth). z.0) e in cc)
+    remounts (Some tree) e = subst IsHealthy (ap (λ (z : Option Reply × SessionHealth). z.1) e) tt
 
-    go : (b : Bool) (state : State) → IsHealthy state → (shown : Option _) → cond b (remounted shown) (answer_of_state turn.answered.around state op) ≡ (Some reply, to.state) → IsHealthy to.state
+    go : (b : Bool) (state : SessionHealth) → IsHealthy state → (shown : Option _) → cond b (remounted shown) (reply_and_state_unless_remount turn.answered.around state op) ≡ (Some reply, to.state) → IsHealthy to.state
     go true state k shown e = remounts shown e
     go false HasFailed k shown e = absurd k
-    go false (Healthy s) k shown e = subst IsHealthy (ap (λ (z : Option Reply × State). z.1) e) tt
+    go false (Healthy s) k shown e = subst IsHealthy (ap (λ (z : Option Reply × SessionHealth). z.1) e) tt
 
 pub session_steps_are_healthy : (operations : List Operation) (replies : List Reply) (from to : SystemState) → AreSessionSteps from operations replies to → IsHealthy from.state → IsHealthy to.state
 session_steps_are_healthy [] [] from to e h = subst (λ (m : SystemState). IsHealthy m.state) e h
@@ -58,45 +58,45 @@ session_steps_are_healthy (op ∷ operations) [] from to e h = absurd e
 session_steps_are_healthy (op ∷ operations) (reply ∷ replies) from to (next, (turn, rest)) h =
     session_steps_are_healthy operations replies next to rest (session_step_is_healthy from next op reply turn h)
 
-pub session_steps_agree : (operations : List Operation) (replies : List Reply) (from to : SystemState) → AreSessionSteps from operations replies to → AgreesWithTree from.disk from.state → AgreesWithTree to.disk to.state
-session_steps_agree [] [] from to e h = subst (λ (m : SystemState). AgreesWithTree m.disk m.state) e h
+pub session_steps_agree : (operations : List Operation) (replies : List Reply) (from to : SystemState) → AreSessionSteps from operations replies to → HasDiskTreeIfHealthy from.disk from.state → HasDiskTreeIfHealthy to.disk to.state
+session_steps_agree [] [] from to e h = subst (λ (m : SystemState). HasDiskTreeIfHealthy m.disk m.state) e h
 session_steps_agree [] (reply ∷ replies) from to e h = absurd e
 session_steps_agree (op ∷ operations) [] from to e h = absurd e
 session_steps_agree (op ∷ operations) (reply ∷ replies) from to (next, (turn, rest)) h = session_steps_agree operations replies next to rest turn.agrees
 
 -- ---- from a fresh disk
 
-pub true_from : (at : SystemState) → IsHealthy at.state → AgreesWithTree at.disk at.state → AgreesWithDisk at
+pub true_from : (at : SystemState) → IsHealthy at.state → HasDiskTreeIfHealthy at.disk at.state → IsHealthyWithDiskTree at
 true_from at h a = go at.state refl h a
   where
-    go : (state : State) → at.state ≡ state → IsHealthy state → AgreesWithTree at.disk state → AgreesWithDisk at
+    go : (state : SessionHealth) → at.state ≡ state → IsHealthy state → HasDiskTreeIfHealthy at.disk state → IsHealthyWithDiskTree at
     go HasFailed e k b = absurd k
     go (Healthy s) e k b = record { session = s; healthy = e; shows = b }
 
-pub fresh_agrees : (disk : Disk) → IsFresh disk → Shows disk (Some empty_tree)
+pub fresh_agrees : (disk : Disk) → IsFreshDisk disk → ShowsTree disk (Some empty_tree)
 fresh_agrees disk fresh = (fresh_pair disk ∷ [], (accepted disk fresh, sym (shows disk)))
 
 -- ---- questions
 
-same_reply : (r : Option Refusal) (s t : Session) (x y : Reply × Session) → x.0 ≡ y.0 → (reply_or r s x).0 ≡ (reply_or r t y).0
+same_reply : (r : Option Refusal) (s t : Session) (x y : Reply × Session) → x.0 ≡ y.0 → (result_after_refusal_check r s x).0 ≡ (result_after_refusal_check r t y).0
 same_reply None s t x y e = e
 same_reply (Some error) s t x y e = refl
 
 -- the answer doesn't depend on open files
-of_tree : (around : Surroundings) (s : Session) (op : Operation) → is_question op ≡ true → (refusal_or_effect around s op).0 ≡ (refusal_or_effect around (mounted s.tree) op).0
-of_tree around s (ops.ListAll path) e = same_reply (refusal_of around s (ops.ListAll path)) s (mounted s.tree) _ _ refl
-of_tree around s (ops.Stat path) e = same_reply (refusal_of around s (ops.Stat path)) s (mounted s.tree) _ _ refl
-of_tree around s (ops.GetAttr path kind) e = same_reply (refusal_of around s (ops.GetAttr path kind)) s (mounted s.tree) _ _ refl
+of_tree : (around : DiskSummary) (s : Session) (op : Operation) → is_query_without_file op ≡ true → (refusal_or_effect around s op).0 ≡ (refusal_or_effect around (mounted s.tree) op).0
+of_tree around s (ops.ListAll path) e = same_reply (refusal_of_operation around s (ops.ListAll path)) s (mounted s.tree) _ _ refl
+of_tree around s (ops.Stat path) e = same_reply (refusal_of_operation around s (ops.Stat path)) s (mounted s.tree) _ _ refl
+of_tree around s (ops.GetAttr path kind) e = same_reply (refusal_of_operation around s (ops.GetAttr path kind)) s (mounted s.tree) _ _ refl
 of_tree around s ops.AskGstate e = refl
-of_tree around s (ops.IsUsed block) e = same_reply (refusal_of around s (ops.IsUsed block)) s (mounted s.tree) _ _ refl
+of_tree around s (ops.IsUsed block) e = same_reply (refusal_of_operation around s (ops.IsUsed block)) s (mounted s.tree) _ _ refl
 of_tree around s ops.UsedCount e = refl
 of_tree around s _ e = absurd (cc)
 
-pub not_remount : (op : Operation) → is_question op ≡ true → is_remount op ≡ false
+pub not_remount : (op : Operation) → is_query_without_file op ≡ true → is_remount_operation op ≡ false
 not_remount ops.Remount e = absurd (cc)
 not_remount _ e = refl
 
-pub question_answered : (from to : SystemState) (op : Operation) (reply : Reply) → AgreesWithDisk from → is_question op ≡ true → IsSessionStep from op reply to → IsFromScratch from op reply
+pub question_answered : (from to : SystemState) (op : Operation) (reply : Reply) → IsHealthyWithDiskTree from → is_query_without_file op ≡ true → IsSessionStep from op reply to → IsReplyOfFreshMount from op reply
 question_answered from to op reply known asks turn =
     let a = turn.answered in
     let s = a.surrounds known.session known.healthy in
@@ -106,25 +106,25 @@ question_answered from to op reply known asks turn =
       accepted = s.1.0;
       around = a.around;
       surrounds = s.1.1;
-      is = is_answer a.around (sym (ap (λ b. cond b (remounted a.shown) (answer_of_state a.around from.state op)) (not_remount op asks)) ∙ a.answers)
+      is = is_answer a.around (sym (ap (λ b. cond b (remounted a.shown) (reply_and_state_unless_remount a.around from.state op)) (not_remount op asks)) ∙ a.answers)
           ∙ of_tree a.around known.session op asks
-          ∙ ap (λ z. (refusal_or_effect a.around (mounted z) op).0) (t.1.1 ∙ ap (tree_in from.disk) (one_thread (content_at from.disk) (block_count from.disk) t.0 s.0 t.1.0.thread s.1.0.thread));
+          ∙ ap (λ z. (refusal_or_effect a.around (mounted z) op).0) (t.1.1 ∙ ap (tree_on_disk from.disk) (one_thread (content_of_pair_at from.disk) (block_count from.disk) t.0 s.0 t.1.0.thread s.1.0.thread));
     }
   where
-    is_answer : (around : Surroundings) → answer_of_state around from.state op ≡ (Some reply, to.state) → reply ≡ (refusal_or_effect around known.session op).0
+    is_answer : (around : DiskSummary) → reply_and_state_unless_remount around from.state op ≡ (Some reply, to.state) → reply ≡ (refusal_or_effect around known.session op).0
     is_answer around e =
-        let k : Some (refusal_or_effect around known.session op).0 ≡ Some reply = ap (λ (z : Option Reply × State). z.0) (sym (ap (λ state. answer_of_state around state op) known.healthy) ∙ e) in
+        let k : Some (refusal_or_effect around known.session op).0 ≡ Some reply = ap (λ (z : Option Reply × SessionHealth). z.0) (sym (ap (λ state. reply_and_state_unless_remount around state op) known.healthy) ∙ e) in
         sym (same_Some (refusal_or_effect around known.session op).0 reply k)
 
-reader_reply : (around : Surroundings) (s : Session) (fd count : ℕ) → (refusal_or_effect around s (ops.Read fd count)).0 ≡ read_from s.tree (reader_of (file_of s.files fd)) count
-reader_reply around s fd count = go (reader_of (file_of s.files fd))
+reader_reply : (around : DiskSummary) (s : Session) (fd count : ℕ) → (refusal_or_effect around s (ops.Read fd count)).0 ≡ read_reply_from_tree s.tree (reader_of_open_file (open_file_of s.files fd)) count
+reader_reply around s fd count = go (reader_of_open_file (open_file_of s.files fd))
   where
-    go : (r : Option Reader) → (reply_or (refuse_if (is_none r) BadFile) s (read_effect s fd count r)).0 ≡ read_from s.tree r count
+    go : (r : Option Reader) → (result_after_refusal_check (refuse_if (is_none r) BadFile) s (read_effect s fd count r)).0 ≡ read_reply_from_tree s.tree r count
     go None = refl
     go (Some r) = refl
 
 -- What an open reader gives is what the disk's tree has there.
-pub reader_answered : (from to : SystemState) (fd count : ℕ) (reply : Reply) → AgreesWithDisk from → IsSessionStep from (ops.Read fd count) reply to → IsReadFromScratch from fd count reply
+pub reader_answered : (from to : SystemState) (fd count : ℕ) (reply : Reply) → IsHealthyWithDiskTree from → IsSessionStep from (ops.Read fd count) reply to → IsReadReplyFromDisk from fd count reply
 reader_answered from to fd count reply known turn =
     let a = turn.answered in
     let t = known.shows in
@@ -133,7 +133,7 @@ reader_answered from to fd count reply known turn =
       accepted = t.1.0;
       session = known.session;
       healthy = known.healthy;
-      is = sym (same_Some (refusal_or_effect a.around known.session (ops.Read fd count)).0 reply (ap (λ (z : Option Reply × State). z.0) (sym (ap (λ state. answer_of_state a.around state (ops.Read fd count)) known.healthy) ∙ a.answers)))
+      is = sym (same_Some (refusal_or_effect a.around known.session (ops.Read fd count)).0 reply (ap (λ (z : Option Reply × SessionHealth). z.0) (sym (ap (λ state. reply_and_state_unless_remount a.around state (ops.Read fd count)) known.healthy) ∙ a.answers)))
           ∙ reader_reply a.around known.session fd count
-          ∙ ap (λ z. read_from z (reader_of (file_of known.session.files fd)) count) t.1.1;
+          ∙ ap (λ z. read_reply_from_tree z (reader_of_open_file (open_file_of known.session.files fd)) count) t.1.1;
     }

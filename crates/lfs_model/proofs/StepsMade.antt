@@ -1,58 +1,58 @@
 -- From what an operation does to the disk to its step in a run.
 use Rattle.std.proofs.Common.{◌≡◌, true, false, cond, List, [], ◌++◌, Option, Some, None, refl, sym, ap, subst, ◌∙◌}
 use Rattle.lfs_model.specs.Disk.{Disk, SameGeometry, block_count}
-use Rattle.lfs_model.specs.Content.{content_at}
-use Rattle.lfs_model.specs.Slots.{no_gstate}
+use Rattle.lfs_model.specs.Content.{content_of_pair_at}
+use Rattle.lfs_model.specs.Slots.{zero_gstate}
 use Rattle.lfs_model.specs.Thread.{Pair, gstate_of}
-use Rattle.lfs_model.specs.View.{IsAccepted, View, HasView, view_in}
-use Rattle.lfs_model.specs.Shown.{tree_in}
+use Rattle.lfs_model.specs.View.{IsAcceptedImage, DiskView, HasDiskView, view_of_disk}
+use Rattle.lfs_model.specs.Shown.{tree_on_disk}
 use Rattle.lfs_model.specs.Profile.{IsWritable}
-use Rattle.lfs_model.specs.History.{Event}
+use Rattle.lfs_model.specs.History.{CallEvent}
 use Rattle.lfs_model.specs.Operations as ops
 use Rattle.lfs_model.specs.Operations.{Operation, Reply, Refusal, Failed}
-use Rattle.lfs_model.specs.Session.{Session, Surroundings, Reader, reader_of, file_of}
-use Rattle.lfs_model.specs.Refusals.{refusal_of}
-use Rattle.lfs_model.specs.Effects.{effect_of, read_effect, reply_or}
-use Rattle.lfs_model.specs.State.{Surrounds, State, HasFailed, Healthy, is_remount, remounted, answer_of_state, mounted}
-use Rattle.lfs_model.specs.Recovery.{IsRecovered, recovers}
-use Rattle.lfs_model.specs.Run.{IsReplyFromDisk, is_refusal, only_asks, creates_nothing, fills, needs_no_call, renames_to_itself, is_recover, lays_out, NoWrites, IsUntouched, IsEffectOnDisk, IsSessionStep}
+use Rattle.lfs_model.specs.Session.{Session, DiskSummary, Reader, reader_of_open_file, open_file_of}
+use Rattle.lfs_model.specs.Refusals.{refusal_of_operation}
+use Rattle.lfs_model.specs.Effects.{effect_of_operation, read_effect, result_after_refusal_check}
+use Rattle.lfs_model.specs.State.{IsSummaryOfDisk, SessionHealth, HasFailed, Healthy, is_remount_operation, remounted, reply_and_state_unless_remount, mounted}
+use Rattle.lfs_model.specs.Recovery.{IsNothingLeftToRecover, recovers}
+use Rattle.lfs_model.specs.Run.{IsReplyFromDisk, is_refusal, is_read_only_operation, opens_existing_file, is_write_or_truncate, needs_no_device_call, renames_to_itself, is_recover_operation, changes_slot_layout, AreCallsWithoutWrites, IsDiskUntouched, IsEffectOnDisk, IsSessionStep}
 use Rattle.lfs_model.proofs.Uniqueness.{one_thread}
 use Rattle.lfs_model.proofs.Arranged.{IsFinished}
 
 same_session : (s t : Session) → Healthy s ≡ Healthy t → s ≡ t
 same_session s t e = ap or_else e
   where
-    or_else : State → Session
+    or_else : SessionHealth → Session
     or_else HasFailed = s
     or_else (Healthy z) = z
 
 -- a session over a disk whose tree it has
-pub record IsOver (disk : Disk) (ps : List Pair) (s : Session) (around : Surroundings) : Type 0 where
-  pub accepted : IsAccepted disk ps
-  pub surrounds : Surrounds disk ps around
-  pub tree : s.tree ≡ tree_in disk ps
+pub record IsOver (disk : Disk) (ps : List Pair) (s : Session) (around : DiskSummary) : Type 0 where
+  pub accepted : IsAcceptedImage disk ps
+  pub surrounds : IsSummaryOfDisk disk ps around
+  pub tree : s.tree ≡ tree_on_disk disk ps
 
-answered_by : (disk : Disk) (ps : List Pair) (s : Session) (around : Surroundings) (op : Operation) (reply : Reply) (after : Session) → IsOver disk ps s around → is_remount op ≡ false →
-    reply_or (refusal_of around s op) s (effect_of around s op) ≡ (reply, after) → IsReplyFromDisk disk (Healthy s) op reply (Healthy after)
+answered_by : (disk : Disk) (ps : List Pair) (s : Session) (around : DiskSummary) (op : Operation) (reply : Reply) (after : Session) → IsOver disk ps s around → is_remount_operation op ≡ false →
+    result_after_refusal_check (refusal_of_operation around s op) s (effect_of_operation around s op) ≡ (reply, after) → IsReplyFromDisk disk (Healthy s) op reply (Healthy after)
 answered_by disk ps s around op reply after over other e = record {
   around = around;
   shown = None;
   surrounds = λ t f. (ps, (over.accepted, over.surrounds));
   shows = λ f. absurd (let k = sym other ∙ f in cc);
-  answers = ap (λ b. cond b (remounted None) (answer_of_state around (Healthy s) op)) other ∙ ap (λ z. (Some z.0, Healthy z.1)) e;
+  answers = ap (λ b. cond b (remounted None) (reply_and_state_unless_remount around (Healthy s) op)) other ∙ ap (λ z. (Some z.0, Healthy z.1)) e;
 }
 
 -- what an applied operation does is said of any pairs, and those of an accepted disk are known
-carried_any : (disk new : Disk) (ps qs : List Pair) (s : Session) (op : Operation) (calls : List Event) → IsAccepted disk ps → IsAccepted new qs → IsEffectOnDisk disk ps s op calls new qs →
-    (t : Session) → Healthy s ≡ Healthy t → (xs ys : List Pair) → IsAccepted disk xs → IsAccepted new ys → IsEffectOnDisk disk xs t op calls new ys
+carried_any : (disk new : Disk) (ps qs : List Pair) (s : Session) (op : Operation) (calls : List CallEvent) → IsAcceptedImage disk ps → IsAcceptedImage new qs → IsEffectOnDisk disk ps s op calls new qs →
+    (t : Session) → Healthy s ≡ Healthy t → (xs ys : List Pair) → IsAcceptedImage disk xs → IsAcceptedImage new ys → IsEffectOnDisk disk xs t op calls new ys
 carried_any disk new ps qs s op calls a b c t e xs ys x y =
     subst (λ z. IsEffectOnDisk disk xs z op calls new ys) (same_session s t e)
-    (subst (λ z. IsEffectOnDisk disk z s op calls new ys) (one_thread (content_at disk) (block_count disk) ps xs a.thread x.thread)
-    (subst (IsEffectOnDisk disk ps s op calls new) (one_thread (content_at new) (block_count new) qs ys b.thread y.thread) c))
+    (subst (λ z. IsEffectOnDisk disk z s op calls new ys) (one_thread (content_of_pair_at disk) (block_count disk) ps xs a.thread x.thread)
+    (subst (IsEffectOnDisk disk ps s op calls new) (one_thread (content_of_pair_at new) (block_count new) qs ys b.thread y.thread) c))
 
 -- an operation that is applied isn't answered by a refusal
-pub no_refusal : (around : Surroundings) (s : Session) (op : Operation) → is_refusal (effect_of around s op).0 ≡ false
-no_refusal around s (ops.Read fd count) = go (reader_of (file_of s.files fd))
+pub no_refusal : (around : DiskSummary) (s : Session) (op : Operation) → is_refusal (effect_of_operation around s op).0 ≡ false
+no_refusal around s (ops.Read fd count) = go (reader_of_open_file (open_file_of s.files fd))
   where
     go : (r : Option Reader) → is_refusal (read_effect s fd count r).0 ≡ false
     go None = refl
@@ -61,11 +61,11 @@ no_refusal around s _ = refl
 
 -- ---- a refusal
 
-pub refused_step : (disk : Disk) (ps : List Pair) (s : Session) (around : Surroundings) (op : Operation) (error : Refusal) (calls old : List Event) → IsOver disk ps s around → is_remount op ≡ false →
-    refusal_of around s op ≡ Some error → NoWrites calls →
+pub refused_step : (disk : Disk) (ps : List Pair) (s : Session) (around : DiskSummary) (op : Operation) (error : Refusal) (calls old : List CallEvent) → IsOver disk ps s around → is_remount_operation op ≡ false →
+    refusal_of_operation around s op ≡ Some error → AreCallsWithoutWrites calls →
     IsSessionStep (record { disk = disk; calls = old; state = Healthy s }) op (ops.Refused error) (record { disk = disk; calls = calls ++ old; state = Healthy s })
 refused_step disk ps s around op error calls old over other e writes = record {
-  answered = answered_by disk ps s around op (ops.Refused error) s over other (ap (λ r. reply_or r s (effect_of around s op)) e);
+  answered = answered_by disk ps s around op (ops.Refused error) s over other (ap (λ r. result_after_refusal_check r s (effect_of_operation around s op)) e);
   agrees = (ps, (over.accepted, over.tree));
   geometry = record { block_size = refl; page = refl; order = refl; count = refl };
   calls = calls;
@@ -79,21 +79,21 @@ refused_step disk ps s around op error calls old over other e writes = record {
 -- ---- an operation that changes the tree, or recovers
 
 -- what is to be known beside what the operation comes to
-pub record IsProper (disk : Disk) (ps : List Pair) (s : Session) (op : Operation) (calls : List Event) (new : Disk) : Type 0 where
+pub record IsProper (disk : Disk) (ps : List Pair) (s : Session) (op : Operation) (calls : List CallEvent) (new : Disk) : Type 0 where
   pub geometry : SameGeometry disk new
-  pub other : is_remount op ≡ false
-  pub asks : only_asks s op ≡ false
-  pub fills : fills op ≡ false
-  pub opens : creates_nothing s op ≡ true → gstate_of ps ≡ no_gstate → new ≡ disk
-  pub silent : needs_no_call s op ≡ true → (new ≡ disk) × (calls ≡ [])
-  pub itself : renames_to_itself op ≡ true → IsUntouched disk calls new
-  pub nothing_left : is_recover op ≡ true → IsRecovered ps → IsUntouched disk calls new
+  pub other : is_remount_operation op ≡ false
+  pub asks : is_read_only_operation s op ≡ false
+  pub fills : is_write_or_truncate op ≡ false
+  pub opens : opens_existing_file s op ≡ true → gstate_of ps ≡ zero_gstate → new ≡ disk
+  pub silent : needs_no_device_call s op ≡ true → (new ≡ disk) × (calls ≡ [])
+  pub itself : renames_to_itself op ≡ true → IsDiskUntouched disk calls new
+  pub nothing_left : is_recover_operation op ≡ true → IsNothingLeftToRecover ps → IsDiskUntouched disk calls new
 
-pub completed_step : (disk : Disk) (ps : List Pair) (s : Session) (around : Surroundings) (op : Operation) (new : Disk) (qs : List Pair) (calls old : List Event) → IsOver disk ps s around →
-    refusal_of around s op ≡ None → IsProper disk ps s op calls new → IsFinished disk ps s op new qs →
-    IsSessionStep (record { disk = disk; calls = old; state = Healthy s }) op (effect_of around s op).0 (record { disk = new; calls = calls ++ old; state = Healthy (effect_of around s op).1 })
+pub completed_step : (disk : Disk) (ps : List Pair) (s : Session) (around : DiskSummary) (op : Operation) (new : Disk) (qs : List Pair) (calls old : List CallEvent) → IsOver disk ps s around →
+    refusal_of_operation around s op ≡ None → IsProper disk ps s op calls new → IsFinished disk ps s op new qs →
+    IsSessionStep (record { disk = disk; calls = old; state = Healthy s }) op (effect_of_operation around s op).0 (record { disk = new; calls = calls ++ old; state = Healthy (effect_of_operation around s op).1 })
 completed_step disk ps s around op new qs calls old over accepted proper done = record {
-  answered = answered_by disk ps s around op (effect_of around s op).0 (effect_of around s op).1 over proper.other (ap (λ r. reply_or r s (effect_of around s op)) accepted);
+  answered = answered_by disk ps s around op (effect_of_operation around s op).0 (effect_of_operation around s op).1 over proper.other (ap (λ r. result_after_refusal_check r s (effect_of_operation around s op)) accepted);
   agrees = (qs, (done.accepted, sym (done.tree around)));
   geometry = proper.geometry;
   calls = calls;
@@ -105,7 +105,7 @@ completed_step disk ps s around op new qs calls old over accepted proper done = 
 }
   where
     -- no effect is a refusal
-    never : is_refusal (effect_of around s op).0 ≡ true → ⊥
+    never : is_refusal (effect_of_operation around s op).0 ≡ true → ⊥
     never h = let k = sym (no_refusal around s op) ∙ h in absurd (cc)
 
     carried : IsEffectOnDisk disk ps s op calls new qs
@@ -124,11 +124,11 @@ completed_step disk ps s around op new qs calls old over accepted proper done = 
 
 -- ---- an operation that leaves the disk: a question, or one that finds nothing to do
 
-pub idle_step : (disk : Disk) (ps : List Pair) (s : Session) (around : Surroundings) (op : Operation) (calls old : List Event) → IsOver disk ps s around → refusal_of around s op ≡ None →
-    is_remount op ≡ false → (effect_of around s op).1.tree ≡ s.tree → recovers op ≡ false → lays_out s op ≡ false → NoWrites calls → (needs_no_call s op ≡ true → calls ≡ []) →
-    IsSessionStep (record { disk = disk; calls = old; state = Healthy s }) op (effect_of around s op).0 (record { disk = disk; calls = calls ++ old; state = Healthy (effect_of around s op).1 })
+pub idle_step : (disk : Disk) (ps : List Pair) (s : Session) (around : DiskSummary) (op : Operation) (calls old : List CallEvent) → IsOver disk ps s around → refusal_of_operation around s op ≡ None →
+    is_remount_operation op ≡ false → (effect_of_operation around s op).1.tree ≡ s.tree → recovers op ≡ false → changes_slot_layout s op ≡ false → AreCallsWithoutWrites calls → (needs_no_device_call s op ≡ true → calls ≡ []) →
+    IsSessionStep (record { disk = disk; calls = old; state = Healthy s }) op (effect_of_operation around s op).0 (record { disk = disk; calls = calls ++ old; state = Healthy (effect_of_operation around s op).1 })
 idle_step disk ps s around op calls old over accepted other same none still writes silent = record {
-  answered = answered_by disk ps s around op (effect_of around s op).0 (effect_of around s op).1 over other (ap (λ r. reply_or r s (effect_of around s op)) accepted);
+  answered = answered_by disk ps s around op (effect_of_operation around s op).0 (effect_of_operation around s op).1 over other (ap (λ r. result_after_refusal_check r s (effect_of_operation around s op)) accepted);
   agrees = (ps, (over.accepted, same ∙ over.tree));
   geometry = record { block_size = refl; page = refl; order = refl; count = refl };
   calls = calls;
@@ -153,19 +153,19 @@ idle_step disk ps s around op calls old over accepted other same none still writ
       nothing_left = λ e h. (refl, writes);
     }
 
-pub asked_step : (disk : Disk) (ps : List Pair) (s : Session) (around : Surroundings) (op : Operation) (calls old : List Event) → IsOver disk ps s around → refusal_of around s op ≡ None →
-    is_remount op ≡ false → only_asks s op ≡ true → (effect_of around s op).1.tree ≡ s.tree → recovers op ≡ false → lays_out s op ≡ false → NoWrites calls → (needs_no_call s op ≡ true → calls ≡ []) →
-    IsSessionStep (record { disk = disk; calls = old; state = Healthy s }) op (effect_of around s op).0 (record { disk = disk; calls = calls ++ old; state = Healthy (effect_of around s op).1 })
+pub asked_step : (disk : Disk) (ps : List Pair) (s : Session) (around : DiskSummary) (op : Operation) (calls old : List CallEvent) → IsOver disk ps s around → refusal_of_operation around s op ≡ None →
+    is_remount_operation op ≡ false → is_read_only_operation s op ≡ true → (effect_of_operation around s op).1.tree ≡ s.tree → recovers op ≡ false → changes_slot_layout s op ≡ false → AreCallsWithoutWrites calls → (needs_no_device_call s op ≡ true → calls ≡ []) →
+    IsSessionStep (record { disk = disk; calls = old; state = Healthy s }) op (effect_of_operation around s op).0 (record { disk = disk; calls = calls ++ old; state = Healthy (effect_of_operation around s op).1 })
 asked_step disk ps s around op calls old over accepted other asks same none still writes silent = idle_step disk ps s around op calls old over accepted other same none still writes silent
 
 -- ---- a write or a truncate: blocks that the view doesn't show
 
-pub filled_step : (disk : Disk) (ps : List Pair) (s : Session) (around : Surroundings) (op : Operation) (new : Disk) (qs : List Pair) (calls old : List Event) → IsOver disk ps s around →
-    refusal_of around s op ≡ None → fills op ≡ true → needs_no_call s op ≡ false → SameGeometry disk new → IsAccepted new qs → qs ≡ ps → view_in new qs ≡ view_in disk ps → IsRecovered qs → (IsWritable disk ps → IsWritable new qs) →
-    IsSessionStep (record { disk = disk; calls = old; state = Healthy s }) op (effect_of around s op).0 (record { disk = new; calls = calls ++ old; state = Healthy (effect_of around s op).1 })
+pub filled_step : (disk : Disk) (ps : List Pair) (s : Session) (around : DiskSummary) (op : Operation) (new : Disk) (qs : List Pair) (calls old : List CallEvent) → IsOver disk ps s around →
+    refusal_of_operation around s op ≡ None → is_write_or_truncate op ≡ true → needs_no_device_call s op ≡ false → SameGeometry disk new → IsAcceptedImage new qs → qs ≡ ps → view_of_disk new qs ≡ view_of_disk disk ps → IsNothingLeftToRecover qs → (IsWritable disk ps → IsWritable new qs) →
+    IsSessionStep (record { disk = disk; calls = old; state = Healthy s }) op (effect_of_operation around s op).0 (record { disk = new; calls = calls ++ old; state = Healthy (effect_of_operation around s op).1 })
 filled_step disk ps s around op new qs calls old over accepted fill needs geometry ok pairs same recovered profile = record {
-  answered = answered_by disk ps s around op (effect_of around s op).0 (effect_of around s op).1 over (other op fill) (ap (λ r. reply_or r s (effect_of around s op)) accepted);
-  agrees = (qs, (ok, tree op fill ∙ over.tree ∙ sym (ap (λ (v : View). v.tree) same)));
+  answered = answered_by disk ps s around op (effect_of_operation around s op).0 (effect_of_operation around s op).1 over (other op fill) (ap (λ r. result_after_refusal_check r s (effect_of_operation around s op)) accepted);
+  agrees = (qs, (ok, tree op fill ∙ over.tree ∙ sym (ap (λ (v : DiskView). v.tree) same)));
   geometry = geometry;
   calls = calls;
   called = refl;
@@ -175,22 +175,22 @@ filled_step disk ps s around op new qs calls old over accepted fill needs geomet
   effect_on_disk = λ h t e xs ys x y. carried_any disk new ps qs s op calls over.accepted ok (carried op fill needs) t e xs ys x y;
 }
   where
-    other : (op : Operation) → fills op ≡ true → is_remount op ≡ false
+    other : (op : Operation) → is_write_or_truncate op ≡ true → is_remount_operation op ≡ false
     other (ops.Write fd bytes) e = refl
     other (ops.Truncate fd size) e = refl
     other _ e = absurd (cc)
 
-    tree : (op : Operation) → fills op ≡ true → (effect_of around s op).1.tree ≡ s.tree
+    tree : (op : Operation) → is_write_or_truncate op ≡ true → (effect_of_operation around s op).1.tree ≡ s.tree
     tree (ops.Write fd bytes) e = refl
     tree (ops.Truncate fd size) e = refl
     tree _ e = absurd (cc)
 
-    views : (view : View) → HasView disk view → HasView new view
+    views : (view : DiskView) → HasDiskView disk view → HasDiskView new view
     views view h =
-        let k = one_thread (content_at disk) (block_count disk) h.0 ps h.1.0.thread over.accepted.thread in
-        (qs, (ok, h.1.1 ∙ ap (view_in disk) k ∙ sym same))
+        let k = one_thread (content_of_pair_at disk) (block_count disk) h.0 ps h.1.0.thread over.accepted.thread in
+        (qs, (ok, h.1.1 ∙ ap (view_of_disk disk) k ∙ sym same))
 
-    carried : (op : Operation) → fills op ≡ true → needs_no_call s op ≡ false → IsEffectOnDisk disk ps s op calls new qs
+    carried : (op : Operation) → is_write_or_truncate op ≡ true → needs_no_device_call s op ≡ false → IsEffectOnDisk disk ps s op calls new qs
     carried (ops.Write fd bytes) e needs = record {
       asks = λ f. absurd (cc);
       opens = λ f. absurd (cc);
@@ -219,7 +219,7 @@ filled_step disk ps s around op new qs calls old over accepted fill needs geomet
 
 -- ---- a failed session, and a remount
 
-pub failed_step : (disk : Disk) (around : Surroundings) (op : Operation) (old : List Event) → is_remount op ≡ false →
+pub failed_step : (disk : Disk) (around : DiskSummary) (op : Operation) (old : List CallEvent) → is_remount_operation op ≡ false →
     IsSessionStep (record { disk = disk; calls = old; state = HasFailed }) op (ops.Refused Failed) (record { disk = disk; calls = old; state = HasFailed })
 failed_step disk around op old other = record {
   answered = record {
@@ -227,7 +227,7 @@ failed_step disk around op old other = record {
     shown = None;
     surrounds = λ s e. absurd (cc);
     shows = λ f. absurd (let k = sym other ∙ f in cc);
-    answers = ap (λ b. cond b (remounted None) (answer_of_state around HasFailed op)) other;
+    answers = ap (λ b. cond b (remounted None) (reply_and_state_unless_remount around HasFailed op)) other;
   };
   agrees = tt;
   geometry = record { block_size = refl; page = refl; order = refl; count = refl };
@@ -240,12 +240,12 @@ failed_step disk around op old other = record {
 }
 
 -- the surroundings are asked for, and not used
-pub remounted_step : (disk : Disk) (ps : List Pair) (around : Surroundings) (state : State) (calls old : List Event) → IsAccepted disk ps → Surrounds disk ps around → NoWrites calls →
-    IsSessionStep (record { disk = disk; calls = old; state = state }) ops.Remount ops.Done (record { disk = disk; calls = calls ++ old; state = Healthy (mounted (tree_in disk ps)) })
+pub remounted_step : (disk : Disk) (ps : List Pair) (around : DiskSummary) (state : SessionHealth) (calls old : List CallEvent) → IsAcceptedImage disk ps → IsSummaryOfDisk disk ps around → AreCallsWithoutWrites calls →
+    IsSessionStep (record { disk = disk; calls = old; state = state }) ops.Remount ops.Done (record { disk = disk; calls = calls ++ old; state = Healthy (mounted (tree_on_disk disk ps)) })
 remounted_step disk ps around state calls old ok surrounds writes = record {
   answered = record {
     around = around;
-    shown = Some (tree_in disk ps);
+    shown = Some (tree_on_disk disk ps);
     surrounds = λ s e. (ps, (ok, surrounds));
     shows = λ f. (ps, (ok, refl));
     answers = refl;
@@ -260,15 +260,15 @@ remounted_step disk ps around state calls old ok surrounds writes = record {
   effect_on_disk = λ h t e xs ys x y. carried_of t xs ys x y;
 }
   where
-    carried_of : (t : Session) (xs ys : List Pair) → IsAccepted disk xs → IsAccepted disk ys → IsEffectOnDisk disk xs t ops.Remount calls disk ys
+    carried_of : (t : Session) (xs ys : List Pair) → IsAcceptedImage disk xs → IsAcceptedImage disk ys → IsEffectOnDisk disk xs t ops.Remount calls disk ys
     carried_of t xs ys x y =
-        let same = one_thread (content_at disk) (block_count disk) xs ys x.thread y.thread in
+        let same = one_thread (content_of_pair_at disk) (block_count disk) xs ys x.thread y.thread in
         record {
           asks = λ f. (refl, writes);
           opens = λ f. absurd (cc);
           fills = λ f. absurd (cc);
           recovered = λ f. absurd (cc);
-          stays = subst IsRecovered same;
+          stays = subst IsNothingLeftToRecover same;
           arranged = λ f. absurd (cc);
           profile = subst (IsWritable disk) same;
           silent = λ f. absurd (cc);

@@ -1,17 +1,17 @@
 -- Session steps that survive stops survive them.
 use Rattle.std.proofs.Common.{ℕ, ◌≡◌, Bool, true, false, cond, List, Option, refl, sym, ap, ap₂, subst, ◌∙◌}
-use Rattle.lfs_model.specs.Content.{content_at}
+use Rattle.lfs_model.specs.Content.{content_of_pair_at}
 use Rattle.lfs_model.specs.Disk.{Disk, block_count}
 use Rattle.lfs_model.specs.Operations.{Operation, Reply}
-use Rattle.lfs_model.specs.PowerLoss.{IsAtWork, IsLeftByStop, SurvivesStops, SurvivesLoss}
-use Rattle.lfs_model.specs.Run.{AgreesWithTree, IsSessionStep, SystemState, is_refusal}
-use Rattle.lfs_model.specs.Session.{Session, Surroundings}
+use Rattle.lfs_model.specs.PowerLoss.{IsHealthyInWritingProfile, ShowsTreeBeforeOrAfter, IsOperationSurvivingStops, IsOperationSurvivingPowerLoss}
+use Rattle.lfs_model.specs.Run.{HasDiskTreeIfHealthy, IsSessionStep, SystemState, is_refusal}
+use Rattle.lfs_model.specs.Session.{Session, DiskSummary}
 use Rattle.lfs_model.specs.Slots.{Gstate}
-use Rattle.lfs_model.specs.State.{Healthy, State, Surrounds, answer_of_state, is_remount, remounted}
+use Rattle.lfs_model.specs.State.{Healthy, SessionHealth, IsSummaryOfDisk, reply_and_state_unless_remount, is_remount_operation, remounted}
 use Rattle.lfs_model.specs.Effects.{refusal_or_effect}
 use Rattle.lfs_model.specs.Thread.{Pair}
-use Rattle.lfs_model.specs.View.{IsAccepted}
-use Rattle.lfs_model.specs.Shown.{tree_in}
+use Rattle.lfs_model.specs.View.{IsAcceptedImage}
+use Rattle.lfs_model.specs.Shown.{tree_on_disk}
 use Rattle.lfs_model.proofs.AfterStops.{left_after, left_before}
 use Rattle.lfs_model.proofs.Kept.{one_tree}
 use Rattle.lfs_model.proofs.Uniqueness.{one_thread}
@@ -24,11 +24,11 @@ same_bit true false f g = sym (f refl)
 same_bit false true f g = g refl
 same_bit false false f g = refl
 
-pub same_surroundings : (disk : Disk) (ps qs : List Pair) (a b : Surroundings) → IsAccepted disk ps → IsAccepted disk qs → Surrounds disk ps a → Surrounds disk qs b → a ≡ b
+pub same_surroundings : (disk : Disk) (ps qs : List Pair) (a b : DiskSummary) → IsAcceptedImage disk ps → IsAcceptedImage disk qs → IsSummaryOfDisk disk ps a → IsSummaryOfDisk disk qs b → a ≡ b
 same_surroundings disk ps qs a b one other around about =
-    all (subst (λ z. Surrounds disk z a) (one_thread (content_at disk) (block_count disk) ps qs one.thread other.thread) around) about
+    all (subst (λ z. IsSummaryOfDisk disk z a) (one_thread (content_of_pair_at disk) (block_count disk) ps qs one.thread other.thread) around) about
   where
-    all : Surrounds disk qs a → Surrounds disk qs b → a ≡ b
+    all : IsSummaryOfDisk disk qs a → IsSummaryOfDisk disk qs b → a ≡ b
     all x y =
         ap₂ (λ (s p : ℕ). record a { block_size = s; page = p }) (x.block_size ∙ sym y.block_size) (x.page ∙ sym y.page)
         ∙ ap₂ (λ (n : ℕ) (u : List ℕ). record a { block_size = b.block_size; page = b.page; block_count = n; used = u }) (x.block_count ∙ sym y.block_count) (x.used ∙ sym y.used)
@@ -37,33 +37,33 @@ same_surroundings disk ps qs a b one other around about =
 -- ---- a turn
 
 -- What is at the end of a session step is what the definitions have there, so a session step that survives stops survives them.
-pub session_step_survives_loss : (from : SystemState) (op : Operation) (reply : Reply) (to : SystemState) → AgreesWithTree from.disk from.state → IsSessionStep from op reply to → SurvivesStops from op to → SurvivesLoss from op to
+pub session_step_survives_loss : (from : SystemState) (op : Operation) (reply : Reply) (to : SystemState) → HasDiskTreeIfHealthy from.disk from.state → IsSessionStep from op reply to → IsOperationSurvivingStops from op to → IsOperationSurvivingPowerLoss from op to
 session_step_survives_loss from op reply to agrees turn survives = record { stops = survives; stands = λ s ps around work clean fails. stands s ps around work }
   where
-    stands : (s : Session) (ps : List Pair) (around : Surroundings) → IsAtWork from s ps around → IsLeftByStop to.disk s.tree (refusal_or_effect around s op).1.tree
-    stands s ps around work = by_op (is_remount op) refl
+    stands : (s : Session) (ps : List Pair) (around : DiskSummary) → IsHealthyInWritingProfile from s ps around → ShowsTreeBeforeOrAfter to.disk s.tree (refusal_or_effect around s op).1.tree
+    stands s ps around work = by_op (is_remount_operation op) refl
       where
-        untouched : to.disk ≡ from.disk → IsLeftByStop to.disk s.tree (refusal_or_effect around s op).1.tree
-        untouched e = subst (λ d. IsLeftByStop d s.tree (refusal_or_effect around s op).1.tree) (sym e)
+        untouched : to.disk ≡ from.disk → ShowsTreeBeforeOrAfter to.disk s.tree (refusal_or_effect around s op).1.tree
+        untouched e = subst (λ d. ShowsTreeBeforeOrAfter d s.tree (refusal_or_effect around s op).1.tree) (sym e)
             (left_before from.disk ps s.tree (refusal_or_effect around s op).1.tree work.accepted work.writable
-            (one_tree from.disk (tree_in from.disk ps) s.tree (ps, (work.accepted, refl)) (subst (AgreesWithTree from.disk) work.healthy agrees)))
+            (one_tree from.disk (tree_on_disk from.disk ps) s.tree (ps, (work.accepted, refl)) (subst (HasDiskTreeIfHealthy from.disk) work.healthy agrees)))
 
-        done : is_remount op ≡ false → is_refusal reply ≡ false → IsLeftByStop to.disk s.tree (refusal_or_effect around s op).1.tree
+        done : is_remount_operation op ≡ false → is_refusal reply ≡ false → ShowsTreeBeforeOrAfter to.disk s.tree (refusal_or_effect around s op).1.tree
         done other accepted =
             let a = turn.answered in
             let about = a.surrounds s work.healthy in
             let same = same_surroundings from.disk about.0 ps a.around around about.1.0 work.accepted about.1.1 work.surrounds in
             let state : Healthy (refusal_or_effect around s op).1 ≡ to.state =
-            ap (λ (z : Option Reply × State). z.1)
-            (sym (ap (λ z. answer_of_state z (Healthy s) op) same) ∙ sym (ap (λ z. answer_of_state a.around z op) work.healthy) ∙ sym (ap (λ b. cond b (remounted a.shown) (answer_of_state a.around from.state op)) other) ∙ a.answers) in
-            let shown = subst (AgreesWithTree to.disk) (sym state) turn.agrees in
+            ap (λ (z : Option Reply × SessionHealth). z.1)
+            (sym (ap (λ z. reply_and_state_unless_remount z (Healthy s) op) same) ∙ sym (ap (λ z. reply_and_state_unless_remount a.around z op) work.healthy) ∙ sym (ap (λ b. cond b (remounted a.shown) (reply_and_state_unless_remount a.around from.state op)) other) ∙ a.answers) in
+            let shown = subst (HasDiskTreeIfHealthy to.disk) (sym state) turn.agrees in
             left_after to.disk shown.0 s.tree (refusal_or_effect around s op).1.tree shown.1.0
             ((turn.effect_on_disk accepted s work.healthy ps shown.0 work.accepted shown.1.0).profile work.writable) (sym shown.1.1)
 
-        by_reply : (b : Bool) → is_refusal reply ≡ b → is_remount op ≡ false → IsLeftByStop to.disk s.tree (refusal_or_effect around s op).1.tree
+        by_reply : (b : Bool) → is_refusal reply ≡ b → is_remount_operation op ≡ false → ShowsTreeBeforeOrAfter to.disk s.tree (refusal_or_effect around s op).1.tree
         by_reply true e other = untouched (turn.refused e).0
         by_reply false e other = done other e
 
-        by_op : (b : Bool) → is_remount op ≡ b → IsLeftByStop to.disk s.tree (refusal_or_effect around s op).1.tree
+        by_op : (b : Bool) → is_remount_operation op ≡ b → ShowsTreeBeforeOrAfter to.disk s.tree (refusal_or_effect around s op).1.tree
         by_op true e = untouched (turn.remounted e).0
         by_op false e = by_reply (is_refusal reply) refl e

@@ -1,12 +1,12 @@
 -- What a ghost field says of a device's calls, as a truncated fact, is so: each case of it is decided.
 use Rattle.std.proofs.Common.{ℕ, ◌≡◌, ◌==◌, ◌⊎◌, inl, inr, Bool, true, false, List, [], ◌∷◌, Option, Some, None, refl, ap, ◌∙◌, eqb-true, eq-eqb}
 use Rattle.std.proofs.Math.Logic.{∥∥₁_map, ∥∥₁_elim}
-use Rattle.lfs_model.specs.Blocks.{Blocks, SameBut, block_in, overwritten}
-use Rattle.lfs_model.specs.Log.{LogEntry, BlockLog, log_of}
-use Rattle.lfs_model.specs.History.{Call, Read, Program, Erase, Event, EachEvent}
-use Rattle.lfs_model.specs.Stops.{LeftByErase, LeftByProgram, stops_in, ErasesCleanly, erases_cleanly}
-use Rattle.lfs_model.specs.PowerLoss.{FailsAsStopped}
-use Rattle.lfs_model.specs.Premises.{MeetsPremises}
+use Rattle.lfs_model.specs.Blocks.{Blocks, AreBlocksEqualExceptOne, block_bytes_in, bytes_after_overwrite_at}
+use Rattle.lfs_model.specs.Log.{LogEntry, BlockLog, log_of_block}
+use Rattle.lfs_model.specs.History.{Call, Read, Program, Erase, CallEvent, IsTrueOfEachCall}
+use Rattle.lfs_model.specs.Stops.{IsLeftByStoppedErase, IsLeftByStoppedProgram, is_left_by_stop_in, LeavesNoNewLogIfErase, leaves_no_new_log_if_erase}
+use Rattle.lfs_model.specs.PowerLoss.{IsLikeStopIfFailed}
+use Rattle.lfs_model.specs.Premises.{MeetsPowerLossPremises}
 
 abbrev Decided : Type 0 → Type 0
 Decided A = A ⊎ (A → ⊥)
@@ -68,13 +68,13 @@ same_logs (Some x) (Some y) = elim (same_log x y) [
   | inr differs ↦ inr (λ is. let logs : x ≡ y = cc in differs logs)
 ]
 
-by_erase : (old new : List ℕ) → Decided (LeftByErase old new)
-by_erase old new = either (same_logs (log_of new) (log_of old)) (same_logs (log_of new) None)
+by_erase : (old new : List ℕ) → Decided (IsLeftByStoppedErase old new)
+by_erase old new = either (same_logs (log_of_block new) (log_of_block old)) (same_logs (log_of_block new) None)
 
-by_program : (off : ℕ) (bytes old new : List ℕ) → Decided (LeftByProgram off bytes old new)
+by_program : (off : ℕ) (bytes old new : List ℕ) → Decided (IsLeftByStoppedProgram off bytes old new)
 by_program off bytes old new =
-    either (same_logs (log_of new) (log_of old))
-    (either (same_logs (log_of new) (log_of (overwritten old off bytes))) (both (same_number off 0) (same_logs (log_of new) None)))
+    either (same_logs (log_of_block new) (log_of_block old))
+    (either (same_logs (log_of_block new) (log_of_block (bytes_after_overwrite_at old off bytes))) (both (same_number off 0) (same_logs (log_of_block new) None)))
 
 -- ---- what is truncated
 
@@ -85,32 +85,32 @@ from_decided : {A : Type 0} → Decided A → ∥ A ∥₁ → A
 from_decided (inl a) is = a
 from_decided (inr differs) is = absurd (∥∥₁_elim is none_is_one differs)
 
-same_but : (b : ℕ) (old new : Blocks) → ∥ SameBut b old new ∥₁ → SameBut b old new
+same_but : (b : ℕ) (old new : Blocks) → ∥ AreBlocksEqualExceptOne b old new ∥₁ → AreBlocksEqualExceptOne b old new
 same_but b old new is = record {
   count = from_decided (same_number _ _) (∥∥₁_map is (λ s. s.count));
   size = from_decided (same_number _ _) (∥∥₁_map is (λ s. s.size));
-  others = λ other d. from_decided (same_list same_number (block_in new other) (block_in old other)) (∥∥₁_map is (λ s. s.others other d));
+  others = λ other d. from_decided (same_list same_number (block_bytes_in new other) (block_bytes_in old other)) (∥∥₁_map is (λ s. s.others other d));
 }
 
-stopped : (call : Call) (before disk : Blocks) → ∥ stops_in call before disk ∥₁ → stops_in call before disk
+stopped : (call : Call) (before disk : Blocks) → ∥ is_left_by_stop_in call before disk ∥₁ → is_left_by_stop_in call before disk
 stopped (Read block off len) before disk is = from_decided (same_list (same_list same_number) disk before) is
 stopped (Program block off bytes) before disk is =
-    (same_but block before disk (∥∥₁_map is (λ s. s.0)), from_decided (by_program off bytes (block_in before block) (block_in disk block)) (∥∥₁_map is (λ s. s.1)))
+    (same_but block before disk (∥∥₁_map is (λ s. s.0)), from_decided (by_program off bytes (block_bytes_in before block) (block_bytes_in disk block)) (∥∥₁_map is (λ s. s.1)))
 stopped (Erase block) before disk is =
-    (same_but block before disk (∥∥₁_map is (λ s. s.0)), from_decided (by_erase (block_in before block) (block_in disk block)) (∥∥₁_map is (λ s. s.1)))
+    (same_but block before disk (∥∥₁_map is (λ s. s.0)), from_decided (by_erase (block_bytes_in before block) (block_bytes_in disk block)) (∥∥₁_map is (λ s. s.1)))
 
-cleanly : (call : Call) (failed : Bool) (before after : Blocks) → ∥ erases_cleanly call failed before after ∥₁ → erases_cleanly call failed before after
+cleanly : (call : Call) (failed : Bool) (before after : Blocks) → ∥ leaves_no_new_log_if_erase call failed before after ∥₁ → leaves_no_new_log_if_erase call failed before after
 cleanly (Read block off len) failed before after is = tt
 cleanly (Program block off bytes) failed before after is = tt
 cleanly (Erase block) true before after is = tt
-cleanly (Erase block) false before after is = from_decided (by_erase (block_in before block) (block_in after block)) is
+cleanly (Erase block) false before after is = from_decided (by_erase (block_bytes_in before block) (block_bytes_in after block)) is
 
-each : (P : Event → Type 0) → ((e : Event) → ∥ P e ∥₁ → P e) → (events : List Event) → ∥ EachEvent P events ∥₁ → EachEvent P events
+each : (P : CallEvent → Type 0) → ((e : CallEvent) → ∥ P e ∥₁ → P e) → (events : List CallEvent) → ∥ IsTrueOfEachCall P events ∥₁ → IsTrueOfEachCall P events
 each P one [] is = tt
 each P one (e ∷ events) is = (one e (∥∥₁_map is (λ all. all.0)), each P one events (∥∥₁_map is (λ all. all.1)))
 
-pub premises_hold : (history : List Event) → ∥ MeetsPremises history ∥₁ → MeetsPremises history
+pub premises_hold : (history : List CallEvent) → ∥ MeetsPowerLossPremises history ∥₁ → MeetsPowerLossPremises history
 premises_hold history is = record {
-  erases = each ErasesCleanly (λ e one. cleanly e.call e.failed e.before e.after one) history (∥∥₁_map is (λ m. m.erases));
-  failed = each FailsAsStopped (λ e one failed. stopped e.call e.before e.after (∥∥₁_map one (λ f. f failed))) history (∥∥₁_map is (λ m. m.failed));
+  erases = each LeavesNoNewLogIfErase (λ e one. cleanly e.call e.failed e.before e.after one) history (∥∥₁_map is (λ m. m.erases));
+  failed = each IsLikeStopIfFailed (λ e one failed. stopped e.call e.before e.after (∥∥₁_map one (λ f. f failed))) history (∥∥₁_map is (λ m. m.failed));
 }

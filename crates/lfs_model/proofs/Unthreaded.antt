@@ -3,11 +3,11 @@
 use Rattle.std.proofs.Common.{ℕ, ◌≡◌, ◌<◌, ◌≤◌, true, false, List, [], ◌∷◌, ◌++◌, length, refl, sym, ap, ap₂, subst, ◌∙◌, arith, append_assoc, append-nil, length-append}
 use Rattle.lfs_model.specs.Disk.{Disk}
 use Rattle.lfs_model.specs.Slots.{same_pair}
-use Rattle.lfs_model.specs.Thread.{Pair, is_hard, gstate_of, superblocks_before, starts_with_superblock}
+use Rattle.lfs_model.specs.Thread.{Pair, is_hard_tail, gstate_of, pair_count_before_root, starts_with_superblock}
 use Rattle.lfs_model.specs.Tree.{Path}
-use Rattle.lfs_model.specs.View.{IsAccepted}
+use Rattle.lfs_model.specs.View.{IsAcceptedImage}
 use Rattle.lfs_model.specs.Profile.{IsWritable}
-use Rattle.lfs_model.specs.Shown.{PathLeadsTo}
+use Rattle.lfs_model.specs.Shown.{IsPathToDirectory}
 use Rattle.lfs_model.proofs.Global.{HasNoMove}
 use Rattle.lfs_model.proofs.Superblocks.{IsChain}
 use Rattle.lfs_model.proofs.Listings.{IsRun}
@@ -38,23 +38,23 @@ same_parts (x ∷ xs) p ys (u ∷ us) q vs n e =
 pub record IsUnthreaded (disk new : Disk) (chain front : List Pair) (p o q : Pair) (back : List Pair) : Type 0 where
   pub device : IsDevice disk new (chain ++ (front ++ p ∷ o ∷ back)) (chain ++ (front ++ q ∷ back))
   pub no_move : HasNoMove (gstate_of (chain ++ (front ++ q ∷ back)))
-  pub soft : is_hard p.content.tail ≡ false
+  pub soft : is_hard_tail p.content.tail ≡ false
   pub at : q.at ≡ p.at
   pub slots : q.content.slots ≡ p.content.slots
   pub tail : q.content.tail ≡ softened o.content.tail
   -- no path leads to o, and where the sync bit isn't set afterwards, one leads to each other directory
-  pub unled : (path : Path) (x : ℕ × ℕ) → PathLeadsTo (chain ++ (front ++ p ∷ o ∷ back)) path x → same_pair o.at x ≡ true → ⊥
-  pub reached : (gstate_of (chain ++ (front ++ q ∷ back))).sync ≡ false → (is_hard o.content.tail ≡ false) × AllReachedBut (chain ++ (front ++ p ∷ o ∷ back)) o.at
+  pub unled : (path : Path) (x : ℕ × ℕ) → IsPathToDirectory (chain ++ (front ++ p ∷ o ∷ back)) path x → same_pair o.at x ≡ true → ⊥
+  pub reached : (gstate_of (chain ++ (front ++ q ∷ back))).sync ≡ false → (is_hard_tail o.content.tail ≡ false) × AllReachedBut (chain ++ (front ++ p ∷ o ∷ back)) o.at
 
 -- the disk is accepted and in the profile, no move is set, and so many pairs are before the root directory
 pub record IsReady (disk : Disk) (chain dirs : List Pair) : Type 0 where
-  pub accepted : IsAccepted disk (chain ++ dirs)
+  pub accepted : IsAcceptedImage disk (chain ++ dirs)
   pub writable : IsWritable disk (chain ++ dirs)
   pub no_move : HasNoMove (gstate_of (chain ++ dirs))
   pub is_chain : IsChain chain dirs
 
 -- a run ends with a soft tail
-run_ends : (left : List Pair) (p : Pair) (right : List Pair) → IsRun (left ++ (p ∷ right)) → is_hard p.content.tail ≡ false → right ≡ []
+run_ends : (left : List Pair) (p : Pair) (right : List Pair) → IsRun (left ++ (p ∷ right)) → is_hard_tail p.content.tail ≡ false → right ≡ []
 run_ends [] p [] h e = refl
 run_ends [] p (q ∷ right) h e = absurd (let k = h.0 in cc)
 run_ends (x ∷ []) p right h e = run_ends [] p right h.1 e
@@ -74,7 +74,7 @@ unthread disk new chain front p o q back r c = record { taken = taken; ready = r
     few : length (chain ++ front) < length (chain ++ (front ++ p ∷ o ∷ back))
     few = omega (arith, length-append chain front, length-append chain (front ++ p ∷ o ∷ back), length-append front (p ∷ o ∷ back))
 
-    behind : superblocks_before (chain ++ (front ++ p ∷ o ∷ back)) ≤ length (chain ++ front)
+    behind : pair_count_before_root (chain ++ (front ++ p ∷ o ∷ back)) ≤ length (chain ++ front)
     behind = let e = r.is_chain in omega (arith, e, length-append chain front)
 
     at : HasSite (chain ++ (front ++ p ∷ o ∷ back)) (length (chain ++ front))
@@ -89,7 +89,7 @@ unthread disk new chain front p o q back r c = record { taken = taken; ready = r
         (append_assoc at.site.chain (at.site.before ++ at.site.left) (at.pair ∷ (at.site.right ++ at.site.after)) ∙ sym at.is ∙ sym (append_assoc chain front (p ∷ o ∷ back)))
 
     none : at.site.right ≡ []
-    none = run_ends at.site.left at.pair at.site.right at.is_site.run (ap (λ (x : Pair). is_hard x.content.tail) same.pair ∙ c.soft)
+    none = run_ends at.site.left at.pair at.site.right at.is_site.run (ap (λ (x : Pair). is_hard_tail x.content.tail) same.pair ∙ c.soft)
 
     after_is : at.site.after ≡ o ∷ back
     after_is = sym (ap (λ (z : List Pair). z ++ at.site.after) none) ∙ same.back
@@ -115,14 +115,14 @@ unthread disk new chain front p o q back r c = record { taken = taken; ready = r
 
     -- as many superblock's pairs
     chain_length : length at.site.chain ≡ length chain
-    chain_length = sym at.is_site.chain ∙ ap superblocks_before (sym at.is) ∙ r.is_chain
+    chain_length = sym at.is_site.chain ∙ ap pair_count_before_root (sym at.is) ∙ r.is_chain
 
     is_chain : IsChain at.site.chain (dirs_at (last_site at.site.chain at.site.before at.site.left back) (p ∷ ([] ++ o ∷ [])))
-    is_chain = ap superblocks_before (sym old_is) ∙ r.is_chain ∙ sym chain_length
+    is_chain = ap pair_count_before_root (sym old_is) ∙ r.is_chain ∙ sym chain_length
 
     step : IsStepDrop disk new at.site.chain at.site.before at.site.left back p [] o q [] [] [] p.content.slots [] [] []
     step = record {
-      accepted = subst (IsAccepted disk) old_is r.accepted;
+      accepted = subst (IsAcceptedImage disk) old_is r.accepted;
       is_chain = is_chain;
       ends = at.is_site.ends;
       run = subst (λ (x : Pair). IsRun (at.site.left ++ x ∷ [])) same.pair (subst (λ (z : List Pair). IsRun (at.site.left ++ (at.pair ∷ [] ++ z))) none at.is_site.run);
@@ -130,7 +130,7 @@ unthread disk new chain front p o q back r c = record { taken = taken; ready = r
       still_none = subst (λ z. HasNoMove (gstate_of z)) new_is c.no_move;
       device = subst (λ z. IsDevice disk new z (thread_at (last_site at.site.chain at.site.before at.site.left back) (q ∷ []))) old_is
           (subst (IsDevice disk new (chain ++ (front ++ p ∷ o ∷ back))) new_is c.device);
-      free = record { distinct = (subst (IsAccepted disk) old_is r.accepted).owned_once; in_range = λ k d l. absurd (omega arith) };
+      free = record { distinct = (subst (IsAcceptedImage disk) old_is r.accepted).owned_once; in_range = λ k d l. absurd (omega arith) };
       shape = unthread_shape p o q c.at c.tail (λ e. ap starts_with_superblock c.slots ∙ e);
       was = refl;
       is = append-nil q.content.slots ∙ c.slots ∙ sym (append-nil p.content.slots);
@@ -142,7 +142,7 @@ unthread disk new chain front p o q back r c = record { taken = taken; ready = r
         (subst (λ z. IsOnlyStep disk (thread_at (last_site at.site.chain at.site.before at.site.left back) (p ∷ ([] ++ o ∷ []))) new z (λ t. t) (λ d. d)) (sym new_is)
         (unthread_taken disk new at.site.chain at.site.before at.site.left back p o q p.content.slots [] (λ t. t) (λ d. d) (subst (IsWritable disk) old_is r.writable) c.tail c.slots step
         (unthreaded disk new at.site.chain at.site.before at.site.left back p [] o q [] p.content.slots [] step
-        (λ path x l e. c.unled path x (subst (λ z. PathLeadsTo z path x) (sym old_is) l) e)
+        (λ path x l e. c.unled path x (subst (λ z. IsPathToDirectory z path x) (sym old_is) l) e)
         (λ e. let k = c.reached (ap (λ z. (gstate_of z).sync) new_is ∙ e) in (k.0, subst (λ z. AllReachedBut z o.at) old_is k.1)))))
 
     ready : IsReady new chain (front ++ q ∷ back)
@@ -150,8 +150,8 @@ unthread disk new chain front p o q back r c = record { taken = taken; ready = r
       accepted = taken.follows.accepted;
       writable = taken.writable;
       no_move = c.no_move;
-      is_chain = ap superblocks_before new_is
-          ∙ chain_now disk new at.site.chain (at.site.before ++ at.site.left) p ([] ++ o ∷ []) q [] back ([] ++ []) is_chain (subst (IsAccepted disk) old_is r.accepted)
+      is_chain = ap pair_count_before_root new_is
+          ∙ chain_now disk new at.site.chain (at.site.before ++ at.site.left) p ([] ++ o ∷ []) q [] back ([] ++ []) is_chain (subst (IsAcceptedImage disk) old_is r.accepted)
           (drop_change disk new at.site.chain at.site.before at.site.left back p [] o q [] [] [] p.content.slots [] [] [] step)
           ∙ chain_length;
     }

@@ -3,12 +3,12 @@ use Rattle.std.proofs.Common.{ℕ, ◌≡◌, ◌+◌, ◌-◌, ◌^◌, ◌<◌
 use Rattle.std.specs.Prelude.{nat_lt, nat_le}
 use Rattle.std.proofs.lemmas.List.{replicate-append-replicate}
 use Rattle.byteorder.specs.Endian.{big_number}
-use Rattle.lfs_model.specs.Blocks.{Blocks, block_in, overwritten, programmed}
-use Rattle.lfs_model.specs.Tag.{data_size}
-use Rattle.lfs_model.specs.Log.{Chain, entry_at, chain_of}
+use Rattle.lfs_model.specs.Blocks.{Blocks, block_bytes_in, bytes_after_overwrite_at, programmed}
+use Rattle.lfs_model.specs.Tag.{tag_data_size}
+use Rattle.lfs_model.specs.Log.{CommitSequence, entry_at, chain_of}
 use Rattle.lfs_model.specs.Content.{has_commit}
 use Rattle.lfs_model.proofs.Chains.{chain_none, commit_none}
-use Rattle.lfs_model.proofs.Overwrites.{block_in-programmed}
+use Rattle.lfs_model.proofs.Overwrites.{block_bytes_in-programmed}
 
 or_none : {X : Type 0} (few no_room : Bool) (some : Option X) → cond (few || (true || no_room)) None some ≡ None
 or_none true no_room some = refl
@@ -18,24 +18,24 @@ or_none false no_room some = refl
 no_entry : (block : List ℕ) → big_number 4 (drop 4 block) ≡ 0 → entry_at block 4 0xffffffff ≡ None
 unfolding entry_at
 no_entry block zero =
-    ap (λ n. cond (nat_lt (length block) 8 || (nat_le (2 ^ 31) (bit_xor n 0xffffffff) || nat_lt (length block) (8 + data_size (bit_xor n 0xffffffff)))) None
-    (Some (record { tag = bit_xor n 0xffffffff; bytes = take (data_size (bit_xor n 0xffffffff)) (drop 8 block) }))) zero
-    ∙ or_none (nat_lt (length block) 8) (nat_lt (length block) (8 + data_size 0xffffffff)) (Some (record { tag = 0xffffffff; bytes = take (data_size 0xffffffff) (drop 8 block) }))
+    ap (λ n. cond (nat_lt (length block) 8 || (nat_le (2 ^ 31) (bit_xor n 0xffffffff) || nat_lt (length block) (8 + tag_data_size (bit_xor n 0xffffffff)))) None
+    (Some (record { tag = bit_xor n 0xffffffff; bytes = take (tag_data_size (bit_xor n 0xffffffff)) (drop 8 block) }))) zero
+    ∙ or_none (nat_lt (length block) 8) (nat_lt (length block) (8 + tag_data_size 0xffffffff)) (Some (record { tag = 0xffffffff; bytes = take (tag_data_size 0xffffffff) (drop 8 block) }))
 
 no_commit : (block : List ℕ) → big_number 4 (drop 4 block) ≡ 0 → has_commit block ≡ false
 unfolding chain_of
-no_commit block zero = ap (λ (c : Chain). nat_lt 0 (length c.commits)) (chain_none block 0 4 0xffffffff (commit_none block 0 4 0xffffffff (no_entry block zero)))
+no_commit block zero = ap (λ (c : CommitSequence). nat_lt 0 (length c.commits)) (chain_none block 0 4 0xffffffff (commit_none block 0 4 0xffffffff (no_entry block zero)))
 
-pub no_commit-zeros : (block : List ℕ) (n : ℕ) → 8 ≤ n → has_commit (overwritten block 0 (replicate n 0)) ≡ false
+pub no_commit-zeros : (block : List ℕ) (n : ℕ) → 8 ≤ n → has_commit (bytes_after_overwrite_at block 0 (replicate n 0)) ≡ false
 no_commit-zeros block n some =
     let split : replicate n 0 ≡ replicate 8 0 ++ replicate (n - 8) 0 = ap (λ k. replicate k 0) (omega arith) ∙ sym (replicate-append-replicate 8 (n - 8) 0) in
-    ap (λ (l : List ℕ). has_commit (overwritten block 0 l)) split
-    ∙ no_commit (overwritten block 0 (replicate 8 0 ++ replicate (n - 8) 0)) refl
+    ap (λ (l : List ℕ). has_commit (bytes_after_overwrite_at block 0 l)) split
+    ∙ no_commit (bytes_after_overwrite_at block 0 (replicate 8 0 ++ replicate (n - 8) 0)) refl
 
 -- a block whose beginning is programmed with zeros
-pub no_commit-programmed : (old new : Blocks) (b n : ℕ) (bytes : List ℕ) → new ≡ programmed old b 0 bytes → b < length old → bytes ≡ replicate n 0 → 8 ≤ n → has_commit (block_in new b) ≡ false
+pub no_commit-programmed : (old new : Blocks) (b n : ℕ) (bytes : List ℕ) → new ≡ programmed old b 0 bytes → b < length old → bytes ≡ replicate n 0 → 8 ≤ n → has_commit (block_bytes_in new b) ≡ false
 no_commit-programmed old new b n bytes is below zeros some =
-    ap (λ d. has_commit (block_in d b)) is
-    ∙ ap has_commit (block_in-programmed old b 0 bytes below)
-    ∙ ap (λ (l : List ℕ). has_commit (overwritten (block_in old b) 0 l)) zeros
-    ∙ no_commit-zeros (block_in old b) n some
+    ap (λ d. has_commit (block_bytes_in d b)) is
+    ∙ ap has_commit (block_bytes_in-programmed old b 0 bytes below)
+    ∙ ap (λ (l : List ℕ). has_commit (bytes_after_overwrite_at (block_bytes_in old b) 0 l)) zeros
+    ∙ no_commit-zeros (block_bytes_in old b) n some

@@ -2,45 +2,45 @@
 use Rattle.std.specs.Prelude.{ℕ, ◌-◌, List, [], ◌∷◌, ◌++◌, length, replicate}
 use Rattle.byteorder.specs.Endian.{little_bytes}
 use Rattle.lfs_model.specs.Log.{LogEntry}
-use Rattle.lfs_model.specs.Commit.{bytes_of_entries}
+use Rattle.lfs_model.specs.Commit.{encoded_bytes_of_log_entries}
 use Rattle.lfs_model.specs.Names.{Name}
 use Rattle.lfs_model.specs.EntryTypes.{file_name_type, directory_name_type, directory_struct_type, inline_struct_type, ctz_struct_type, move_state_type, no_id}
-use Rattle.lfs_model.specs.WrittenContent.{entry_with, pair_bytes}
-use Rattle.lfs_model.specs.View.{superblock_entry}
-use Rattle.lfs_model.specs.Fresh.{superblock_bytes}
+use Rattle.lfs_model.specs.WrittenContent.{log_entry_with, bytes_of_pair_address}
+use Rattle.lfs_model.specs.View.{superblock_name_log_entry}
+use Rattle.lfs_model.specs.Fresh.{superblock_struct_bytes}
 
 -- storage that nothing was written to
 abbrev pub unwritten : ℕ → List ℕ
 unwritten size = replicate size 0xff
 
 -- these bytes, and unwritten storage to the end of the block
-abbrev pub block_of_bytes : ℕ → List ℕ → List ℕ
-block_of_bytes size bytes = bytes ++ unwritten (size - length bytes)
+abbrev pub bytes_padded_to_block_size : ℕ → List ℕ → List ℕ
+bytes_padded_to_block_size size bytes = bytes ++ unwritten (size - length bytes)
 
 -- ---- entries
 
 -- a slot's name and struct
-abbrev pub file_entries : ℕ → Name → List ℕ → List LogEntry
-file_entries id name bytes = entry_with file_name_type id name ∷ entry_with inline_struct_type id bytes ∷ []
+abbrev pub inline_file_log_entries : ℕ → Name → List ℕ → List LogEntry
+inline_file_log_entries id name bytes = log_entry_with file_name_type id name ∷ log_entry_with inline_struct_type id bytes ∷ []
 
-abbrev pub long_file_entries : ℕ → Name → ℕ → ℕ → List LogEntry
-long_file_entries id name head size = entry_with file_name_type id name ∷ entry_with ctz_struct_type id (pair_bytes (head, size)) ∷ []
+abbrev pub ctz_file_log_entries : ℕ → Name → ℕ → ℕ → List LogEntry
+ctz_file_log_entries id name head size = log_entry_with file_name_type id name ∷ log_entry_with ctz_struct_type id (bytes_of_pair_address (head, size)) ∷ []
 
-abbrev pub directory_entries : ℕ → Name → ℕ × ℕ → List LogEntry
-directory_entries id name to = entry_with directory_name_type id name ∷ entry_with directory_struct_type id (pair_bytes to) ∷ []
+abbrev pub directory_slot_log_entries : ℕ → Name → ℕ × ℕ → List LogEntry
+directory_slot_log_entries id name to = log_entry_with directory_name_type id name ∷ log_entry_with directory_struct_type id (bytes_of_pair_address to) ∷ []
 
-abbrev pub superblock_entries : ℕ → ℕ → List LogEntry
-superblock_entries block_size block_count = superblock_entry ∷ entry_with inline_struct_type 0 (superblock_bytes block_size block_count) ∷ []
+abbrev pub superblock_log_entries : ℕ → ℕ → List LogEntry
+superblock_log_entries block_size block_count = superblock_name_log_entry ∷ log_entry_with inline_struct_type 0 (superblock_struct_bytes block_size block_count) ∷ []
 
 -- a move state by its first word
-abbrev pub move_word_entry : ℕ → ℕ × ℕ → LogEntry
-move_word_entry word pair = entry_with move_state_type no_id (little_bytes 4 word ++ pair_bytes pair)
+abbrev pub move_state_entry_of_word : ℕ → ℕ × ℕ → LogEntry
+move_state_entry_of_word word pair = log_entry_with move_state_type no_id (little_bytes 4 word ++ bytes_of_pair_address pair)
 
 -- the checksum, and so many bytes of padding
 abbrev pub checksum_entry : ℕ → ℕ → LogEntry
-checksum_entry number padding = entry_with 0x500 no_id (little_bytes 4 number ++ unwritten padding)
+checksum_entry number padding = log_entry_with 0x500 no_id (little_bytes 4 number ++ unwritten padding)
 
 -- ---- in bytes
 
-abbrev pub metadata_block : ℕ → ℕ → List LogEntry → List ℕ
-metadata_block block_size revision entries = block_of_bytes block_size (little_bytes 4 revision ++ bytes_of_entries 0xffffffff entries)
+abbrev pub metadata_block_bytes : ℕ → ℕ → List LogEntry → List ℕ
+metadata_block_bytes block_size revision entries = bytes_padded_to_block_size block_size (little_bytes 4 revision ++ encoded_bytes_of_log_entries 0xffffffff entries)

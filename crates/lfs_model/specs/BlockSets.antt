@@ -8,16 +8,16 @@ pub data BlockState : Type 0 where
   Used : BlockState
 
 -- the state of each block, by its number
-abbrev pub BlockSets : Type 0
-BlockSets = List BlockState
+abbrev pub BlockStateList : Type 0
+BlockStateList = List BlockState
 
-abbrev pub IsFree : BlockSets → ℕ → Type 0
+abbrev pub IsFree : BlockStateList → ℕ → Type 0
 IsFree sets b = slice_get sets b ≡ Some Free
 
-abbrev pub IsInFlight : BlockSets → ℕ → Type 0
+abbrev pub IsInFlight : BlockStateList → ℕ → Type 0
 IsInFlight sets b = slice_get sets b ≡ Some InFlight
 
-abbrev pub IsUsed : BlockSets → ℕ → Type 0
+abbrev pub IsUsed : BlockStateList → ℕ → Type 0
 IsUsed sets b = slice_get sets b ≡ Some Used
 
 abbrev pub is_in_flight : BlockState → Bool
@@ -30,16 +30,16 @@ is_used Free = false
 is_used InFlight = false
 is_used Used = true
 
-abbrev pub in_flight_count : BlockSets → ℕ
+abbrev pub in_flight_count : BlockStateList → ℕ
 in_flight_count sets = count_by is_in_flight sets
 
-abbrev pub used_count : BlockSets → ℕ
+abbrev pub used_count : BlockStateList → ℕ
 used_count sets = count_by is_used sets
 
 -- the blocks of the list are those in flight
-abbrev pub AreInFlight : BlockSets → List ℕ → Type 0
-AreInFlight sets bs = (b : ℕ) → IsInFlight sets b ↔ Contains bs b
+abbrev pub AreExactlyTheInFlightBlocks : BlockStateList → List ℕ → Type 0
+AreExactlyTheInFlightBlocks sets bs = (b : ℕ) → IsInFlight sets b ↔ Contains bs b
 
 -- the blocks of the list are the used ones
-abbrev pub AreUsed : BlockSets → List ℕ → Type 0
-AreUsed sets bs = (b : ℕ) → IsUsed sets b ↔ Contains bs b
+abbrev pub AreExactlyTheUsedBlocks : BlockStateList → List ℕ → Type 0
+AreExactlyTheUsedBlocks sets bs = (b : ℕ) → IsUsed sets b ↔ Contains bs b

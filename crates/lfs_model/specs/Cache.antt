@@ -5,17 +5,17 @@ use Rattle.std.specs.Map.{lookup}
 abbrev pub CachedBlocks : Type 0
 CachedBlocks = List (ℕ × List ℕ)
 
-abbrev pub cache_limit : ℕ
-cache_limit = 8
+abbrev pub cached_block_limit : ℕ
+cached_block_limit = 8
 
 -- the bytes of a cached block
-abbrev pub cached : CachedBlocks → ℕ → Option (List ℕ)
-cached cache b = lookup (nat_eq b) cache
+abbrev pub cached_bytes_of_block : CachedBlocks → ℕ → Option (List ℕ)
+cached_bytes_of_block cache b = lookup (nat_eq b) cache
 
 -- all but this block, in their order
-abbrev pub without_block : CachedBlocks → ℕ → CachedBlocks
-without_block cache b = filter (λ e. not (nat_eq b e.0)) cache
+abbrev pub cache_without_block : CachedBlocks → ℕ → CachedBlocks
+cache_without_block cache b = filter (λ e. not (nat_eq b e.0)) cache
 
 -- this block with these bytes, followed by the others without it; the last one is dropped where there is one too many
-abbrev pub put_first : CachedBlocks → ℕ → List ℕ → CachedBlocks
-put_first cache b bytes = take cache_limit ((b, bytes) ∷ without_block cache b)
+abbrev pub cache_with_block_first : CachedBlocks → ℕ → List ℕ → CachedBlocks
+cache_with_block_first cache b bytes = take cached_block_limit ((b, bytes) ∷ cache_without_block cache b)

@@ -6,23 +6,23 @@ use Rattle.lfs_model.specs.Tag.{carried}
 use Rattle.lfs_model.specs.Log.{LogEntry}
 
 -- each tag XORed with the one before it, then its bytes
-abbrev pub bytes_of_entries : ℕ → List LogEntry → List ℕ
-bytes_of_entries before [] = []
-bytes_of_entries before (e ∷ es) = big_bytes 4 (bit_xor e.tag before) ++ e.bytes ++ bytes_of_entries (carried e.tag) es
+abbrev pub encoded_bytes_of_log_entries : ℕ → List LogEntry → List ℕ
+encoded_bytes_of_log_entries before [] = []
+encoded_bytes_of_log_entries before (e ∷ es) = big_bytes 4 (bit_xor e.tag before) ++ e.bytes ++ encoded_bytes_of_log_entries (carried e.tag) es
 
 -- the bytes that entries take, each with its tag
-abbrev pub entries_size : List LogEntry → ℕ
-entries_size es = sum_by (λ e. 4 + length e.bytes) es
+abbrev pub encoded_size_of_log_entries : List LogEntry → ℕ
+encoded_size_of_log_entries es = sum_by (λ e. 4 + length e.bytes) es
 
 -- where a commit ends whose checksum's tag is at `at`: on the next page boundary that leaves room for that tag and four bytes
-abbrev pub page_end : ℕ → ℕ → ℕ
-page_end page at = next_multiple_of (at + 8) page
+abbrev pub page_aligned_commit_end : ℕ → ℕ → ℕ
+page_aligned_commit_end page at = next_multiple_of (at + 8) page
 
 -- the four bytes of a block from an offset on, or none where there are fewer
-abbrev pub next_four_bytes : List ℕ → ℕ → Option (List ℕ)
-next_four_bytes block at = if nat_lt (length block) (at + 4) then None else Some (take 4 (drop at block))
+abbrev pub four_bytes_from_offset : List ℕ → ℕ → Option (List ℕ)
+four_bytes_from_offset block at = if nat_lt (length block) (at + 4) then None else Some (take 4 (drop at block))
 
 -- The type of the checksum before these bytes. They must decode as an invalid tag, and 0x501 inverts the top bit of that tag.
-abbrev pub checksum_type : Option (List ℕ) → ℕ
-checksum_type None = 0x500
-checksum_type (Some next) = if nat_lt (slice_index next 0) 0x80 then 0x501 else 0x500
+abbrev pub checksum_type_before_bytes : Option (List ℕ) → ℕ
+checksum_type_before_bytes None = 0x500
+checksum_type_before_bytes (Some next) = if nat_lt (slice_index next 0) 0x80 then 0x501 else 0x500

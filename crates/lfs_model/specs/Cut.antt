@@ -1,13 +1,13 @@
 -- Slots cut into two parts, each for a pair of its own.
 use Rattle.std.specs.Prelude.{ℕ, ◌≤◌, List, length, take, drop, sum_by}
-use Rattle.lfs_model.specs.Disk.{pair_capacity, slot_limit}
+use Rattle.lfs_model.specs.Disk.{pair_capacity, slots_per_pair_limit}
 use Rattle.lfs_model.specs.Content.{RawSlot}
 use Rattle.lfs_model.specs.WrittenContent.{raw_slot_size}
 
 -- a pair that is written may have these slots
 pub record FitSlots (block_size page : ℕ) (slots : List RawSlot) : Type 0 where
   pub size : sum_by raw_slot_size slots ≤ pair_capacity block_size page
-  pub count : length slots ≤ slot_limit
+  pub count : length slots ≤ slots_per_pair_limit
 
 -- so many slots are before the cut, and both parts fit
 pub record IsCutOfSlots (block_size page : ℕ) (slots : List RawSlot) (cut : ℕ) : Type 0 where

@@ -1,9 +1,9 @@
 -- A device's bytes under a geometry.
 use Rattle.std.specs.Prelude.{ℕ, ◌≡◌, ◌-◌, ◌/◌, ◌%◌, min, List, length}
-use Rattle.lfs_model.specs.Blocks.{Blocks, block_in, cut}
+use Rattle.lfs_model.specs.Blocks.{Blocks, block_bytes_in, cut}
 use Rattle.lfs_model.specs.declared.order.NameOrder.{NameOrder}
-use Rattle.lfs_model.specs.Geometry.{IsGeometry}
-use Rattle.lfs_model.specs.Tag.{data_limit}
+use Rattle.lfs_model.specs.Geometry.{IsValidGeometry}
+use Rattle.lfs_model.specs.Tag.{tag_data_limit}
 
 pub record Disk : Type 0 where
   pub block_size : ℕ
@@ -15,8 +15,8 @@ pub record Disk : Type 0 where
 abbrev pub block_count : Disk → ℕ
 block_count disk = length disk.blocks
 
-abbrev pub block_at : Disk → ℕ → List ℕ
-block_at disk b = block_in disk.blocks b
+abbrev pub block_bytes_on_disk : Disk → ℕ → List ℕ
+block_bytes_on_disk disk b = block_bytes_in disk.blocks b
 
 -- as many blocks and pages, of the same size, and the same order of names
 pub record SameGeometry (disk new : Disk) : Type 0 where
@@ -26,32 +26,32 @@ pub record SameGeometry (disk new : Disk) : Type 0 where
   pub count : block_count new ≡ block_count disk
 
 -- An image of a device: its bytes, a whole number of blocks.
-pub record IsImage (block_size page : ℕ) (bytes : List ℕ) : Type 0 where
-  pub geometry : IsGeometry block_size page (length bytes / block_size)
+pub record IsImageOfWholeBlocks (block_size page : ℕ) (bytes : List ℕ) : Type 0 where
+  pub geometry : IsValidGeometry block_size page (length bytes / block_size)
   pub whole : length bytes % block_size ≡ 0
 
 -- the disk of an image
-abbrev pub disk_of : ℕ → ℕ → NameOrder → List ℕ → Disk
-disk_of block_size page order bytes = record { block_size = block_size; page = page; order = order; blocks = cut block_size (length bytes / block_size) bytes }
+abbrev pub disk_of_image : ℕ → ℕ → NameOrder → List ℕ → Disk
+disk_of_image block_size page order bytes = record { block_size = block_size; page = page; order = order; blocks = cut block_size (length bytes / block_size) bytes }
 
 -- The size of the largest file that is kept inline, in bytes.
 abbrev pub inline_limit : ℕ → ℕ
-inline_limit block_size = min (block_size / 8) data_limit
+inline_limit block_size = min (block_size / 8) tag_data_limit
 
 -- How many bytes the slots of a written pair may take. They take the block without revision (4), tail (12), move state (16),
 -- checksum (8) and the padding to a page (page - 1).
 abbrev pub pair_capacity : ℕ → ℕ → ℕ
 pair_capacity block_size page = block_size - 39 - page
 
-abbrev pub entry_limit : ℕ → ℕ → ℕ
-entry_limit block_size page = pair_capacity block_size page / 2
+abbrev pub entry_charge_limit : ℕ → ℕ → ℕ
+entry_charge_limit block_size page = pair_capacity block_size page / 2
 
-abbrev pub slot_limit : ℕ
-slot_limit = 1000
+abbrev pub slots_per_pair_limit : ℕ
+slots_per_pair_limit = 1000
 
-abbrev pub file_limit : ℕ
-file_limit = 2147483647
+abbrev pub file_size_limit : ℕ
+file_size_limit = 2147483647
 
 -- the most bytes of an attribute
-abbrev pub attribute_limit : ℕ
-attribute_limit = 1022
+abbrev pub attribute_size_limit : ℕ
+attribute_size_limit = 1022

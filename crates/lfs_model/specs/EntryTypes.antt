@@ -1,7 +1,7 @@
 -- The types of entries, and the fields of their bytes.
 use Rattle.std.specs.Prelude.{ℕ, ◌/◌, ◌%◌, ◌^◌, ◌==◌, ◌&&◌, ◌||◌, not, nat_le, if◌then◌else◌, Bool, true, List, drop, Option, Some, None}
 use Rattle.byteorder.specs.Endian.{little_number}
-use Rattle.lfs_model.specs.Tag.{kind_of, id_of, len_of, class_of, removal_length}
+use Rattle.lfs_model.specs.Tag.{kind_of, id_of, len_of, class_of, attribute_removal_length}
 use Rattle.lfs_model.specs.Log.{LogEntry}
 use Rattle.lfs_model.specs.Slots.{Tail, Gstate, null_address}
 
@@ -41,56 +41,56 @@ abbrev pub move_state_type : ℕ
 move_state_type = 0x7ff
 
 -- the length that removes an attribute is allowed in no other entry
-abbrev pub removes : ℕ → Bool
-removes tag = len_of tag == removal_length
+abbrev pub is_attribute_removal : ℕ → Bool
+is_attribute_removal tag = len_of tag == attribute_removal_length
 
 abbrev pub no_id : ℕ
 no_id = 0x3ff
 
 -- a user attribute, a name or an inline struct: of any length
-abbrev pub has_any_length : ℕ → Bool
-has_any_length tag =
+abbrev pub allows_any_length : ℕ → Bool
+allows_any_length tag =
     class_of tag == 3 || (kind_of tag == file_name_type || (kind_of tag == directory_name_type || kind_of tag == inline_struct_type))
 
 -- a superblock's name, a list's struct, or what names a pair: of 8 bytes
-abbrev pub has_eight_bytes : ℕ → Bool
-has_eight_bytes tag =
+abbrev pub requires_eight_bytes : ℕ → Bool
+requires_eight_bytes tag =
     kind_of tag == superblock_name_type
     || (kind_of tag == directory_struct_type || (kind_of tag == ctz_struct_type || (kind_of tag == soft_tail_type || kind_of tag == hard_tail_type)))
 
-abbrev pub has_no_bytes : ℕ → Bool
-has_no_bytes tag = kind_of tag == create_type || kind_of tag == delete_type
+abbrev pub requires_no_bytes : ℕ → Bool
+requires_no_bytes tag = kind_of tag == create_type || kind_of tag == delete_type
 
 -- the format has the type, with the length; a checksum's type is not among these
-abbrev pub is_in_table : ℕ → Bool
-is_in_table tag =
-    if removes tag then class_of tag == 3
-    else (if has_any_length tag then true
-    else (if has_eight_bytes tag then len_of tag == 8
-    else (if has_no_bytes tag then len_of tag == 0
+abbrev pub is_known_type_and_length : ℕ → Bool
+is_known_type_and_length tag =
+    if is_attribute_removal tag then class_of tag == 3
+    else (if allows_any_length tag then true
+    else (if requires_eight_bytes tag then len_of tag == 8
+    else (if requires_no_bytes tag then len_of tag == 0
     else kind_of tag == move_state_type && len_of tag == 12)))
 
 -- an entry about a slot has an id; the ids of others are ignored
-abbrev pub has_its_id : ℕ → Bool
-has_its_id tag = nat_le 5 (class_of tag) || not (id_of tag == no_id)
+abbrev pub has_id_if_needed : ℕ → Bool
+has_id_if_needed tag = nat_le 5 (class_of tag) || not (id_of tag == no_id)
 
 -- ---- fields
 
-abbrev pub pair_at : List ℕ → ℕ × ℕ
-pair_at bytes = (little_number 4 bytes, little_number 4 (drop 4 bytes))
+abbrev pub pair_address_of_bytes : List ℕ → ℕ × ℕ
+pair_address_of_bytes bytes = (little_number 4 bytes, little_number 4 (drop 4 bytes))
 
-abbrev pub tail_with : Bool → ℕ × ℕ → Option Tail
-tail_with hard to = if to.0 == null_address && to.1 == null_address then None else Some (record { hard = hard; to = to })
+abbrev pub tail_to_pair_if_any : Bool → ℕ × ℕ → Option Tail
+tail_to_pair_if_any hard to = if to.0 == null_address && to.1 == null_address then None else Some (record { hard = hard; to = to })
 
 abbrev pub tail_of : LogEntry → Option Tail
-tail_of e = tail_with (kind_of e.tag == hard_tail_type) (pair_at e.bytes)
+tail_of e = tail_to_pair_if_any (kind_of e.tag == hard_tail_type) (pair_address_of_bytes e.bytes)
 
 -- the sync bit, the move type and the move id of the first word
-abbrev pub gstate_with : ℕ → ℕ × ℕ → Gstate
-gstate_with word pair = record { sync = nat_le (2 ^ 31) word; kind = word / 2 ^ 20 % 2 ^ 11; id = word / 2 ^ 10 % 2 ^ 10; pair = pair }
+abbrev pub gstate_of_word_and_pair : ℕ → ℕ × ℕ → Gstate
+gstate_of_word_and_pair word pair = record { sync = nat_le (2 ^ 31) word; kind = word / 2 ^ 20 % 2 ^ 11; id = word / 2 ^ 10 % 2 ^ 10; pair = pair }
 
-abbrev pub gstate_at : List ℕ → Gstate
-gstate_at bytes = gstate_with (little_number 4 bytes) (pair_at (drop 4 bytes))
+abbrev pub gstate_of_bytes : List ℕ → Gstate
+gstate_of_bytes bytes = gstate_of_word_and_pair (little_number 4 bytes) (pair_address_of_bytes (drop 4 bytes))
 
 -- the superblock's struct; the limits are those of a name, a file and an attribute, in bytes
 pub record SuperblockFields : Type 0 where
@@ -101,8 +101,8 @@ pub record SuperblockFields : Type 0 where
   pub file_max : ℕ
   pub attr_max : ℕ
 
-abbrev pub superblock_at : List ℕ → SuperblockFields
-superblock_at bytes = record {
+abbrev pub superblock_fields_at : List ℕ → SuperblockFields
+superblock_fields_at bytes = record {
   version = little_number 4 bytes;
   block_size = little_number 4 (drop 4 bytes);
   block_count = little_number 4 (drop 8 bytes);

@@ -5,7 +5,7 @@ use Rattle.std.specs.declared.cmp.Ordering.TheVariants.{Less}
 use Rattle.lfs_model.specs.declared.order.NameOrder.{NameOrder}
 use Rattle.lfs_model.specs.Names.{Name, name_cmp}
 use Rattle.lfs_model.specs.Slots.{Slot, is_superblock, same_pair}
-use Rattle.lfs_model.specs.Thread.{Pair, is_hard, starts_with_superblock}
+use Rattle.lfs_model.specs.Thread.{Pair, is_hard_tail, starts_with_superblock}
 
 -- ---- in one pair
 
@@ -18,7 +18,7 @@ abbrev pub slots_in : List Pair → List Slot
 slots_in ps = flat_map (λ p. p.content.slots) ps
 
 -- the entry at the id has the name
-pub record IsNameAt (slots : List Slot) (name : Name) (id : ℕ) : Type 0 where
+pub record HasEntryOfNameAtId (slots : List Slot) (name : Name) (id : ℕ) : Type 0 where
   pub left : List Slot
   pub slot : Slot
   pub right : List Slot
@@ -28,44 +28,44 @@ pub record IsNameAt (slots : List Slot) (name : Name) (id : ℕ) : Type 0 where
   pub named : slot.name ≡ name
 
 -- these slots begin with a greater name
-pub record BeginsAbove (order : NameOrder) (name : Name) (slots : List Slot) : Type 0 where
+pub record BeginsWithGreaterName (order : NameOrder) (name : Name) (slots : List Slot) : Type 0 where
   pub first : Slot
   pub rest : List Slot
   pub are : slots ≡ first ∷ rest
   pub above : name_cmp order name first.name ≡ Less
 
 -- Before the id all names are less. At the id there is a greater one, or no slot is left.
-pub record PlaceAt (order : NameOrder) (slots : List Slot) (name : Name) (id : ℕ) : Type 0 where
+pub record IsIdWhereNameBelongs (order : NameOrder) (slots : List Slot) (name : Name) (id : ℕ) : Type 0 where
   pub left : List Slot
   pub right : List Slot
   pub held : slots ≡ left ++ right
   pub number : length left ≡ id
   pub less : AllByRecursion (λ s. name_cmp order s.name name ≡ Less) (entries_only left)
-  pub greater : (right ≡ []) ⊎ BeginsAbove order name (entries_only right)
+  pub greater : (right ≡ []) ⊎ BeginsWithGreaterName order name (entries_only right)
   pub fronted : starts_with_superblock right ≡ false
 
 -- ---- in a directory
 
 abbrev pub HasHardTail : Pair → Type 0
-HasHardTail p = is_hard p.content.tail ≡ true
+HasHardTail p = is_hard_tail p.content.tail ≡ true
 
 -- only the first pair of a directory may have a superblock
 abbrev pub HaveNoSuperblock : List Pair → Type 0
 HaveNoSuperblock ps = AllByRecursion (λ p. AllByRecursion (λ s. is_superblock s ≡ false) p.content.slots) ps
 
 -- how many pairs hard tails join to the first, with the first
-abbrev pub run_length : List Pair → ℕ
-run_length [] = 0
-run_length (p ∷ ps) = if is_hard p.content.tail then 1 + run_length ps else 1
+abbrev pub hard_tail_joined_pair_count : List Pair → ℕ
+hard_tail_joined_pair_count [] = 0
+hard_tail_joined_pair_count (p ∷ ps) = if is_hard_tail p.content.tail then 1 + hard_tail_joined_pair_count ps else 1
 
 -- each of these pairs but the last has a hard tail
-abbrev pub IsHardTailRun : Pair → List Pair → Type 0
-IsHardTailRun p [] = Unit {0}
-IsHardTailRun p (q ∷ qs) = HasHardTail p × IsHardTailRun q qs
+abbrev pub HaveHardTailsButLast : Pair → List Pair → Type 0
+HaveHardTailsButLast p [] = Unit {0}
+HaveHardTailsButLast p (q ∷ qs) = HasHardTail p × HaveHardTailsButLast q qs
 
-abbrev pub last_is_joined : Pair → List Pair → Bool
-last_is_joined p [] = is_hard p.content.tail
-last_is_joined p (q ∷ qs) = last_is_joined q qs
+abbrev pub last_has_hard_tail : Pair → List Pair → Bool
+last_has_hard_tail p [] = is_hard_tail p.content.tail
+last_has_hard_tail p (q ∷ qs) = last_has_hard_tail q qs
 
 -- a pair of the directory that begins with the pair of number `first`, and the directory's pairs before it
 pub record IsPairOfDirectory (ps : List Pair) (first index : ℕ) (pair : Pair) (rest : List Pair) : Type 0 where
@@ -77,26 +77,26 @@ pub record IsPairOfDirectory (ps : List Pair) (first index : ℕ) (pair : Pair) 
   pub joined : AllByRecursion HasHardTail left
 
 -- the pair of number `first` is at that address
-pub record BeginsAt (ps : List Pair) (at : ℕ × ℕ) (first : ℕ) : Type 0 where
+pub record IsPairAtAddress (ps : List Pair) (at : ℕ × ℕ) (first : ℕ) : Type 0 where
   pub pair : Pair
   pub there : slice_get ps first ≡ Some pair
   pub same : same_pair pair.at at ≡ true
 
 -- the directory has the name at this place
-pub record HasNameAtPlace (ps : List Pair) (first : ℕ) (name : Name) (index id : ℕ) : Type 0 where
+pub record IsPlaceOfNameInDirectory (ps : List Pair) (first : ℕ) (name : Name) (index id : ℕ) : Type 0 where
   pub pair : Pair
   pub rest : List Pair
   pub place : IsPairOfDirectory ps first index pair rest
-  pub stands : IsNameAt pair.content.slots name id
+  pub stands : HasEntryOfNameAtId pair.content.slots name id
 
 -- The name belongs at this place. The pair is the directory's first or has an entry less than the name. After the place a greater
 -- name comes first, in this pair or a later one, or no entry is left in the directory.
-pub record BelongsInDirectory (order : NameOrder) (ps : List Pair) (first : ℕ) (name : Name) (index id : ℕ) : Type 0 where
+pub record IsPlaceWhereNameBelongs (order : NameOrder) (ps : List Pair) (first : ℕ) (name : Name) (index id : ℕ) : Type 0 where
   pub pair : Pair
   pub later : List Pair
   pub rest : List Pair
   pub place : IsPairOfDirectory ps first index pair (later ++ rest)
-  pub runs : IsHardTailRun pair later
+  pub runs : HaveHardTailsButLast pair later
   pub left : List Slot
   pub right : List Slot
   pub held : pair.content.slots ≡ left ++ right
@@ -104,5 +104,5 @@ pub record BelongsInDirectory (order : NameOrder) (ps : List Pair) (first : ℕ)
   pub less : AllByRecursion (λ s. name_cmp order s.name name ≡ Less) (entries_only left)
   pub fronted : starts_with_superblock right ≡ false
   pub not_before : (place.left ≡ []) ⊎ (entries_only left ≢ [])
-  pub not_behind : BeginsAbove order name (entries_only (right ++ slots_in later))
-      ⊎ ((entries_only (right ++ slots_in later) ≡ []) × (last_is_joined pair later ≡ false))
+  pub not_behind : BeginsWithGreaterName order name (entries_only (right ++ slots_in later))
+      ⊎ ((entries_only (right ++ slots_in later) ≡ []) × (last_has_hard_tail pair later ≡ false))

@@ -3,29 +3,29 @@ use Rattle.std.specs.Prelude.{ℕ, ◌+◌, ◌/◌, ◌%◌, ◌≡◌, Bool, t
 use Rattle.std.specs.List.{flat_map}
 use Rattle.std.specs.Fmt.{decimal}
 use Rattle.lfs_model.specs.Tree.{Path, Node, FileNode, DirectoryNode, Tree}
-use Rattle.lfs_model.specs.TreeEdits.{names_of}
+use Rattle.lfs_model.specs.TreeEdits.{names_of_directory_node}
 use Rattle.lfs_model.specs.Operations as ops
 use Rattle.lfs_model.specs.Operations.{Operation, Flags, path_bytes}
 
 -- what a path leads to
-pub record Entry : Type 0 where
+pub record PathAndNode : Type 0 where
   pub path : Path
   pub node : Node
 
 -- the paths of the entries of the directory at a path, in name order
-abbrev pub paths_in : Tree → Path → List Path
-paths_in tree path = map (λ name. path ++ name ∷ []) (names_of (tree path))
+abbrev pub entry_paths_in : Tree → Path → List Path
+entry_paths_in tree path = map (λ name. path ++ name ∷ []) (names_of_directory_node (tree path))
 
 -- The entries that the paths lead to, in order, each followed by the entries beneath it.
-abbrev pub IsWalk : Tree → List Path → List Entry → Type 0
-IsWalk tree [] [] = Unit {0}
-IsWalk tree [] (e ∷ es) = ⊥
-IsWalk tree (p ∷ ps) [] = ⊥
-IsWalk tree (p ∷ ps) (e ∷ es) = (e.path ≡ p) × (tree p ≡ Some e.node) × IsWalk tree (paths_in tree p ++ ps) es
+abbrev pub IsDepthFirstWalk : Tree → List Path → List PathAndNode → Type 0
+IsDepthFirstWalk tree [] [] = Unit {0}
+IsDepthFirstWalk tree [] (e ∷ es) = ⊥
+IsDepthFirstWalk tree (p ∷ ps) [] = ⊥
+IsDepthFirstWalk tree (p ∷ ps) (e ∷ es) = (e.path ≡ p) × (tree p ≡ Some e.node) × IsDepthFirstWalk tree (entry_paths_in tree p ++ ps) es
 
 -- all entries beneath the root
-abbrev pub IsWalkOf : Tree → List Entry → Type 0
-IsWalkOf tree entries = IsWalk tree (paths_in tree []) entries
+abbrev pub IsWalkOfTree : Tree → List PathAndNode → Type 0
+IsWalkOfTree tree entries = IsDepthFirstWalk tree (entry_paths_in tree []) entries
 
 -- ---- lines
 
@@ -48,37 +48,37 @@ abbrev pub newline : List ℕ
 newline = 0x0a ∷ []
 
 -- the part of a line before the path
-abbrev pub line_head : Node → List ℕ
-line_head (FileNode attributes bytes) = codes "f " ++ decimal (length bytes) ++ codes " "
-line_head (DirectoryNode attributes names) = codes "d 0 "
+abbrev pub listing_line_before_path : Node → List ℕ
+listing_line_before_path (FileNode attributes bytes) = codes "f " ++ decimal (length bytes) ++ codes " "
+listing_line_before_path (DirectoryNode attributes names) = codes "d 0 "
 
-abbrev pub line_of : Entry → List ℕ
-line_of e = line_head e.node ++ escaped_text (path_bytes e.path) ++ newline
+abbrev pub line_of : PathAndNode → List ℕ
+line_of e = listing_line_before_path e.node ++ escaped_text (path_bytes e.path) ++ newline
 
-abbrev pub lines_of : List Entry → List ℕ
+abbrev pub lines_of : List PathAndNode → List ℕ
 lines_of entries = flat_map line_of entries
 
 -- the text that lists a tree
-abbrev pub IsListing : Tree → List ℕ → Type 0
-IsListing tree text = (entries : List Entry) × (IsWalkOf tree entries × (text ≡ lines_of entries))
+abbrev pub IsListingOfTree : Tree → List ℕ → Type 0
+IsListingOfTree tree text = (entries : List PathAndNode) × (IsWalkOfTree tree entries × (text ≡ lines_of entries))
 
 -- ---- actions
 
 -- an action of an unpacking; a path is its bytes
-pub data Action : Type 0 where
-  MakeDirectory : (path : List ℕ) → Action
-  PutFile : (path bytes : List ℕ) → Action
+pub data UnpackingAction : Type 0 where
+  MakeDirectory : (path : List ℕ) → UnpackingAction
+  PutFile : (path bytes : List ℕ) → UnpackingAction
 
-abbrev pub action_for : List ℕ → Node → Action
-action_for path (FileNode attributes bytes) = PutFile path bytes
-action_for path (DirectoryNode attributes names) = MakeDirectory path
+abbrev pub unpacking_action_of_node : List ℕ → Node → UnpackingAction
+unpacking_action_of_node path (FileNode attributes bytes) = PutFile path bytes
+unpacking_action_of_node path (DirectoryNode attributes names) = MakeDirectory path
 
-abbrev pub action_of : Entry → Action
-action_of e = action_for (path_bytes e.path) e.node
+abbrev pub unpacking_action_of_entry : PathAndNode → UnpackingAction
+unpacking_action_of_entry e = unpacking_action_of_node (path_bytes e.path) e.node
 
 -- the actions that unpack a tree
-abbrev pub IsUnpacking : Tree → List Action → Type 0
-IsUnpacking tree actions = (entries : List Entry) × (IsWalkOf tree entries × (actions ≡ map action_of entries))
+abbrev pub AreActionsUnpackingTree : Tree → List UnpackingAction → Type 0
+AreActionsUnpackingTree tree actions = (entries : List PathAndNode) × (IsWalkOfTree tree entries × (actions ≡ map unpacking_action_of_entry entries))
 
 -- ---- operations
 
@@ -87,14 +87,14 @@ abbrev pub new_file_flags : Flags
 new_file_flags = record { read = false; write = true; create = true; exclusive = false; truncate = false; append = false; unknown = false }
 
 -- the operations that copy a file or a directory into a session without open files: a file gets number 0
-abbrev pub operations_for : List ℕ → Node → List Operation
-operations_for path (FileNode attributes bytes) = ops.Open path new_file_flags ∷ ops.Write 0 bytes ∷ ops.Close 0 ∷ []
-operations_for path (DirectoryNode attributes names) = ops.Mkdir path ∷ []
+abbrev pub copy_operations_of_node : List ℕ → Node → List Operation
+copy_operations_of_node path (FileNode attributes bytes) = ops.Open path new_file_flags ∷ ops.Write 0 bytes ∷ ops.Close 0 ∷ []
+copy_operations_of_node path (DirectoryNode attributes names) = ops.Mkdir path ∷ []
 
-abbrev pub operations_of : Entry → List Operation
-operations_of e = operations_for (path_bytes e.path) e.node
+abbrev pub copy_operations_of_entry : PathAndNode → List Operation
+copy_operations_of_entry e = copy_operations_of_node (path_bytes e.path) e.node
 
 -- the operations that copy a tree
-abbrev pub IsCarryingOver : Tree → List Operation → Type 0
-IsCarryingOver tree operations =
-    (entries : List Entry) × (IsWalkOf tree entries × (operations ≡ flat_map operations_of entries))
+abbrev pub AreOperationsCopyingTree : Tree → List Operation → Type 0
+AreOperationsCopyingTree tree operations =
+    (entries : List PathAndNode) × (IsWalkOfTree tree entries × (operations ≡ flat_map copy_operations_of_entry entries))

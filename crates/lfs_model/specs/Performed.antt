@@ -2,36 +2,36 @@
 use Rattle.std.specs.Prelude.{◌≡◌, ◌⊎◌, List, [], ◌∷◌, ◌++◌, Option, None}
 use Rattle.lfs_model.specs.Operations.{Operation, Reply}
 use Rattle.lfs_model.specs.Run.{SystemState, IsSessionStep}
-use Rattle.lfs_model.specs.Failure.{Fails}
-use Rattle.lfs_model.specs.PowerLoss.{SurvivesLoss}
-use Rattle.lfs_model.specs.ReadBounds.{IsWithinReadBounds, AsksFew, if_accepted}
+use Rattle.lfs_model.specs.Failure.{IsSessionFailureInOperation}
+use Rattle.lfs_model.specs.PowerLoss.{IsOperationSurvivingPowerLoss}
+use Rattle.lfs_model.specs.ReadBounds.{IsWithinReadBounds, AreReadsBoundedEvenOnError, operation_unless_refusal}
 
 -- An operation that is applied or refused, after the operation before, if that was accepted.
-pub record IsPerformed (before : Option Operation) (from : SystemState) (op : Operation) (reply : Reply) (to : SystemState) : Type 0 where
+pub record IsPerformedOperation (before : Option Operation) (from : SystemState) (op : Operation) (reply : Reply) (to : SystemState) : Type 0 where
   pub turn : IsSessionStep from op reply to
-  pub survives_loss : SurvivesLoss from op to
+  pub survives_loss : IsOperationSurvivingPowerLoss from op to
   pub read_bounds : IsWithinReadBounds before from op turn.calls to
 
 -- operations in order, with their replies
-abbrev pub ArePerformed : Option Operation → SystemState → List Operation → List Reply → SystemState → Type 0
-ArePerformed before from [] [] to = from ≡ to
-ArePerformed before from [] (reply ∷ replies) to = ⊥
-ArePerformed before from (op ∷ operations) [] to = ⊥
-ArePerformed before from (op ∷ operations) (reply ∷ replies) to = (next : SystemState) × (IsPerformed before from op reply next × ArePerformed (if_accepted op reply) next operations replies to)
+abbrev pub ArePerformedOperations : Option Operation → SystemState → List Operation → List Reply → SystemState → Type 0
+ArePerformedOperations before from [] [] to = from ≡ to
+ArePerformedOperations before from [] (reply ∷ replies) to = ⊥
+ArePerformedOperations before from (op ∷ operations) [] to = ⊥
+ArePerformedOperations before from (op ∷ operations) (reply ∷ replies) to = (next : SystemState) × (IsPerformedOperation before from op reply next × ArePerformedOperations (operation_unless_refusal op reply) next operations replies to)
 
 -- Some of the operations are performed, and the session fails in the next one, which survives stops, too.
-pub record IsCutShort (from : SystemState) (operations : List Operation) (to : SystemState) : Type 0 where
+pub record IsRunEndedByError (from : SystemState) (operations : List Operation) (to : SystemState) : Type 0 where
   pub done : List Operation
   pub next : Operation
   pub others : List Operation
   pub are : operations ≡ done ++ next ∷ others
   pub replies : List Reply
   pub at : SystemState
-  pub performed : ArePerformed None from done replies at
-  pub fails : Fails at next to
-  pub survives_loss : SurvivesLoss at next to
-  pub few : AsksFew at next to
+  pub performed : ArePerformedOperations None from done replies at
+  pub fails : IsSessionFailureInOperation at next to
+  pub survives_loss : IsOperationSurvivingPowerLoss at next to
+  pub few : AreReadsBoundedEvenOnError at next to
 
 -- the operations are all performed, or the run is cut short
 abbrev pub IsRunOfOperations : SystemState → List Operation → SystemState → Type 0
-IsRunOfOperations from operations to = ((replies : List Reply) × ArePerformed None from operations replies to) ⊎ IsCutShort from operations to
+IsRunOfOperations from operations to = ((replies : List Reply) × ArePerformedOperations None from operations replies to) ⊎ IsRunEndedByError from operations to

@@ -1,7 +1,7 @@
 -- CTZ skip lists: a file's blocks from its last one back.
 use Rattle.std.specs.Prelude.{ℕ, zero, suc, ◌+◌, ◌*◌, ◌-◌, ◌≡◌, ◌<◌, ◌≤◌, ◌^◌, ◌==◌, if◌then◌else◌, List, [], ◌∷◌, ◌++◌, length, take, drop, All, nat_eq, slice_index, slice_range}
 use Rattle.std.specs.List.{flat_map, enumerate_from, IsDistinct}
-use Rattle.lfs_model.specs.Blocks.{Blocks, block_in}
+use Rattle.lfs_model.specs.Blocks.{Blocks, block_bytes_in}
 use Rattle.std.specs.Int.{w32, from_le_bytes, trailing_zeros}
 
 abbrev pub word_at : List ℕ → ℕ → ℕ
@@ -22,44 +22,44 @@ bytes_before block_size zero = 0
 bytes_before block_size (suc i) = bytes_before block_size i + capacity_of block_size i
 
 -- the file's byte `pos` is in block `index` of the list, at that offset of the block
-pub record IsBytePlace (block_size pos index offset : ℕ) : Type 0 where
+pub record IsPlaceOfByteInList (block_size pos index offset : ℕ) : Type 0 where
   pub from : bytes_before block_size index ≤ pos
   pub below : pos < bytes_before block_size index + capacity_of block_size index
   pub at : offset ≡ 4 * pointers_of index + (pos - bytes_before block_size index)
 
 -- the least number of blocks that hold size bytes, from block i on; steps bounds it
-abbrev pub blocks_from : ℕ → ℕ → ℕ → ℕ → ℕ
-blocks_from zero block_size i size = 0
-blocks_from (suc steps) block_size i size =
-    if size == 0 then 0 else 1 + blocks_from steps block_size (i + 1) (size - capacity_of block_size i)
+abbrev pub block_count_from : ℕ → ℕ → ℕ → ℕ → ℕ
+block_count_from zero block_size i size = 0
+block_count_from (suc steps) block_size i size =
+    if size == 0 then 0 else 1 + block_count_from steps block_size (i + 1) (size - capacity_of block_size i)
 
-abbrev pub blocks_for : ℕ → ℕ → ℕ
-blocks_for block_size size = blocks_from size block_size 0 size
+abbrev pub list_block_count_for_size : ℕ → ℕ → ℕ
+list_block_count_for_size block_size size = block_count_from size block_size 0 size
 
 -- count blocks back from the head by pointer 0, the first block of the file first
-abbrev pub blocks_back : Blocks → ℕ → ℕ → List ℕ
-blocks_back disk zero head = []
-blocks_back disk (suc zero) head = head ∷ []
-blocks_back disk (suc (suc n)) head = blocks_back disk (suc n) (word_at (block_in disk head) 0) ++ head ∷ []
+abbrev pub list_blocks_from_head : Blocks → ℕ → ℕ → List ℕ
+list_blocks_from_head disk zero head = []
+list_blocks_from_head disk (suc zero) head = head ∷ []
+list_blocks_from_head disk (suc (suc n)) head = list_blocks_from_head disk (suc n) (word_at (block_bytes_in disk head) 0) ++ head ∷ []
 
 -- so many blocks, followed back from the head, are on the disk as a list's first blocks
 pub record AreListBlocks (disk : Blocks) (count head : ℕ) : Type 0 where
-  pub in_range : All (λ b. b < length disk) (blocks_back disk count head)
-  pub distinct : IsDistinct nat_eq (blocks_back disk count head)
+  pub in_range : All (λ b. b < length disk) (list_blocks_from_head disk count head)
+  pub distinct : IsDistinct nat_eq (list_blocks_from_head disk count head)
   -- pointer k of block i names block i - 2^k
   pub pointers : (i k : ℕ) → i < count → k < pointers_of i →
-      word_at (block_in disk (slice_index (blocks_back disk count head) i)) (4 * k) ≡ slice_index (blocks_back disk count head) (i - 2 ^ k)
+      word_at (block_bytes_in disk (slice_index (list_blocks_from_head disk count head) i)) (4 * k) ≡ slice_index (list_blocks_from_head disk count head) (i - 2 ^ k)
 
 -- a file of so many bytes, whose last block is the head
-pub record IsList (disk : Blocks) (block_size head size : ℕ) : Type 0 where
+pub record IsSkipList (disk : Blocks) (block_size head size : ℕ) : Type 0 where
   pub size_low : 1 ≤ size
   pub size_high : size < 2 ^ 31
-  pub blocks : AreListBlocks disk (blocks_for block_size size) head
+  pub blocks : AreListBlocks disk (list_block_count_for_size block_size size) head
 
 -- the data part of block i
-abbrev pub data_of : Blocks → ℕ × ℕ → List ℕ
-data_of disk (i, b) = drop (4 * pointers_of i) (block_in disk b)
+abbrev pub data_of_list_block : Blocks → ℕ × ℕ → List ℕ
+data_of_list_block disk (i, b) = drop (4 * pointers_of i) (block_bytes_in disk b)
 
 abbrev pub bytes_of : Blocks → ℕ → ℕ → ℕ → List ℕ
 bytes_of disk block_size head size =
-    take size (flat_map (data_of disk) (enumerate_from 0 (blocks_back disk (blocks_for block_size size) head)))
+    take size (flat_map (data_of_list_block disk) (enumerate_from 0 (list_blocks_from_head disk (list_block_count_for_size block_size size) head)))

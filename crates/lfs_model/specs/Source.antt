@@ -4,7 +4,7 @@ use Rattle.std.specs.List.Sorted.{IsPermutation}
 use Rattle.std.specs.Option.{option_and_then, option_map}
 use Rattle.std.specs.declared.cmp.Ordering.TheVariants.{Less}
 use Rattle.lfs_model.specs.declared.order.NameOrder.TheVariants.{ShorterFirst}
-use Rattle.lfs_model.specs.Names.{Name, name_cmp, same_name, is_component, slash}
+use Rattle.lfs_model.specs.Names.{Name, name_cmp, same_name, is_path_component, slash}
 use Rattle.lfs_model.specs.Tree.{Path, Node, FileNode, DirectoryNode, Tree}
 
 -- A path is its bytes, a slash before each component. The topmost folder has the empty path.
@@ -15,21 +15,21 @@ pub record Source : Type 0 where
   pub bytes : List ℕ → List ℕ
 
 -- the path of a name in a folder
-abbrev pub path_in : List ℕ → Name → List ℕ
-path_in folder name = folder ++ slash ∷ name
+abbrev pub source_path_in : List ℕ → Name → List ℕ
+source_path_in folder name = folder ++ slash ∷ name
 
-abbrev pub given_names : List (Name × Bool) → List Name
-given_names given = map (λ g. g.0) given
+abbrev pub names_of_given_entries : List (Name × Bool) → List Name
+names_of_given_entries given = map (λ g. g.0) given
 
 -- ---- faults
 
 -- how often a name is given
-abbrev pub times_given : Name → List Name → ℕ
-times_given name names = sum_by (λ n. if same_name name n then 1 else 0) names
+abbrev pub occurrence_count_of_name : Name → List Name → ℕ
+occurrence_count_of_name name names = sum_by (λ n. if same_name name n then 1 else 0) names
 
 -- a name is given that is no component of a path, or a name is given twice
-abbrev pub AreBadNames : List Name → Type 0
-AreBadNames names = ((name : Name) × (is_component name ≡ false) × (1 ≤ times_given name names)) ⊎ ((name : Name) × (2 ≤ times_given name names))
+abbrev pub HaveBadOrRepeatedName : List Name → Type 0
+HaveBadOrRepeatedName names = ((name : Name) × (is_path_component name ≡ false) × (1 ≤ occurrence_count_of_name name names)) ⊎ ((name : Name) × (2 ≤ occurrence_count_of_name name names))
 
 -- ---- trees
 
@@ -38,28 +38,28 @@ pub data Standing : Type 0 where
   AFolder : (names : List Name) → Standing
 
 -- whether a name is a folder's, where it is given
-abbrev pub kind_given : Name → List (Name × Bool) → Option Bool
-kind_given name given = option_map (λ g. g.1) (find (λ g. same_name name g.0) given)
+abbrev pub is_folder_if_given : Name → List (Name × Bool) → Option Bool
+is_folder_if_given name given = option_map (λ g. g.1) (find (λ g. same_name name g.0) given)
 
 -- a file has nothing beneath it
-abbrev pub file_at : Source → List ℕ → Path → Option Standing
-file_at s path [] = Some (AFile (s.bytes path))
-file_at s path (name ∷ rest) = None
+abbrev pub source_file_at : Source → List ℕ → Path → Option Standing
+source_file_at s path [] = Some (AFile (s.bytes path))
+source_file_at s path (name ∷ rest) = None
 
 -- what names lead to from a folder
-abbrev pub source_entry_at : Source → List ℕ → Path → Option Standing
-source_entry_at s folder [] = Some (AFolder (given_names (s.names folder)))
-source_entry_at s folder (name ∷ rest) =
-    option_and_then (λ is_folder. if is_folder then source_entry_at s (path_in folder name) rest else file_at s (path_in folder name) rest) (kind_given name (s.names folder))
+abbrev pub source_node_from_folder : Source → List ℕ → Path → Option Standing
+source_node_from_folder s folder [] = Some (AFolder (names_of_given_entries (s.names folder)))
+source_node_from_folder s folder (name ∷ rest) =
+    option_and_then (λ is_folder. if is_folder then source_node_from_folder s (source_path_in folder name) rest else source_file_at s (source_path_in folder name) rest) (is_folder_if_given name (s.names folder))
 
 -- A tree has this node at a path. A directory has the folder's names in order.
-abbrev pub IsNodeOf : Option Standing → Option Node → Type 0
-IsNodeOf None None = Unit {0}
-IsNodeOf (Some (AFile bytes)) (Some (FileNode attributes shown)) = (attributes ≡ []) × (shown ≡ bytes)
-IsNodeOf (Some (AFolder names)) (Some (DirectoryNode attributes shown)) =
+abbrev pub IsNodeOfSource : Option Standing → Option Node → Type 0
+IsNodeOfSource None None = Unit {0}
+IsNodeOfSource (Some (AFile bytes)) (Some (FileNode attributes shown)) = (attributes ≡ []) × (shown ≡ bytes)
+IsNodeOfSource (Some (AFolder names)) (Some (DirectoryNode attributes shown)) =
     (attributes ≡ []) × IsPermutation names shown × AllPairs (λ a b. name_cmp ShorterFirst a b ≡ Less) shown
-IsNodeOf _ _ = ⊥
+IsNodeOfSource _ _ = ⊥
 
 -- the tree that a source makes
-abbrev pub IsTreeOf : Source → Tree → Type 0
-IsTreeOf s tree = (path : Path) → IsNodeOf (source_entry_at s [] path) (tree path)
+abbrev pub IsTreeOfSource : Source → Tree → Type 0
+IsTreeOfSource s tree = (path : Path) → IsNodeOfSource (source_node_from_folder s [] path) (tree path)

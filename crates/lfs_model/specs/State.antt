@@ -7,11 +7,11 @@ use Rattle.lfs_model.specs.Shown.{used_blocks}
 use Rattle.lfs_model.specs.Profile.{IsWritable}
 use Rattle.lfs_model.specs.Operations as ops
 use Rattle.lfs_model.specs.Operations.{Operation, Reply, Failed}
-use Rattle.lfs_model.specs.Session.{Session, Surroundings}
+use Rattle.lfs_model.specs.Session.{Session, DiskSummary}
 use Rattle.lfs_model.specs.Effects.{refusal_or_effect}
 
 -- what an operation takes from an accepted disk with these pairs
-pub record Surrounds (disk : Disk) (ps : List Pair) (around : Surroundings) : Type 0 where
+pub record IsSummaryOfDisk (disk : Disk) (ps : List Pair) (around : DiskSummary) : Type 0 where
   pub block_size : around.block_size ≡ disk.block_size
   pub page : around.page ≡ disk.page
   pub block_count : around.block_count ≡ block_count disk
@@ -20,27 +20,27 @@ pub record Surrounds (disk : Disk) (ps : List Pair) (around : Surroundings) : Ty
   pub writable : (around.writable ≡ true → IsWritable disk ps) × (IsWritable disk ps → around.writable ≡ true)
 
 -- A session fails where a call meets a device fault or want of memory, or a remount finds no accepted disk.
-pub data State : Type 0 where
-  HasFailed : State
-  Healthy : (session : Session) → State
+pub data SessionHealth : Type 0 where
+  HasFailed : SessionHealth
+  Healthy : (session : Session) → SessionHealth
 
 -- the session that a mount begins
 abbrev pub mounted : Tree → Session
 mounted tree = record { tree = tree; files = [] }
 
-abbrev pub is_remount : Operation → Bool
-is_remount ops.Remount = true
-is_remount _ = false
+abbrev pub is_remount_operation : Operation → Bool
+is_remount_operation ops.Remount = true
+is_remount_operation _ = false
 
 -- A remount takes the tree of the disk, or none where the disk isn't accepted. Then the remount fails and gives no reply.
-abbrev pub remounted : Option Tree → Option Reply × State
+abbrev pub remounted : Option Tree → Option Reply × SessionHealth
 remounted None = (None, HasFailed)
 remounted (Some tree) = (Some ops.Done, Healthy (mounted tree))
 
-abbrev pub answer_of_state : Surroundings → State → Operation → Option Reply × State
-answer_of_state around HasFailed op = (Some (ops.Refused Failed), HasFailed)
-answer_of_state around (Healthy s) op = (Some (refusal_or_effect around s op).0, Healthy (refusal_or_effect around s op).1)
+abbrev pub reply_and_state_unless_remount : DiskSummary → SessionHealth → Operation → Option Reply × SessionHealth
+reply_and_state_unless_remount around HasFailed op = (Some (ops.Refused Failed), HasFailed)
+reply_and_state_unless_remount around (Healthy s) op = (Some (refusal_or_effect around s op).0, Healthy (refusal_or_effect around s op).1)
 
 -- the reply, where no error comes in its place, and the state after it
-abbrev pub answered : Surroundings → Option Tree → State → Operation → Option Reply × State
-answered around shown state op = if is_remount op then remounted shown else answer_of_state around state op
+abbrev pub answered : DiskSummary → Option Tree → SessionHealth → Operation → Option Reply × SessionHealth
+answered around shown state op = if is_remount_operation op then remounted shown else reply_and_state_unless_remount around state op

@@ -6,44 +6,44 @@ use Rattle.lfs_model.specs.Session.{Writer}
 
 -- what a writer is after a call, when no check refuses it
 
-abbrev pub zeros_to : ℕ → List ℕ → List ℕ
-zeros_to n bytes = bytes ++ replicate (n - length bytes) 0
+abbrev pub bytes_padded_with_zeros : ℕ → List ℕ → List ℕ
+bytes_padded_with_zeros n bytes = bytes ++ replicate (n - length bytes) 0
 
-abbrev pub written_into : List ℕ → ℕ → List ℕ → List ℕ
-written_into old at bytes = take at (zeros_to at old) ++ bytes ++ drop (at + length bytes) old
+abbrev pub contents_after_write : List ℕ → ℕ → List ℕ → List ℕ
+contents_after_write old at bytes = take at (bytes_padded_with_zeros at old) ++ bytes ++ drop (at + length bytes) old
 
-abbrev pub write_place : Writer → ℕ
-write_place w = if w.append then length w.contents else w.position
+abbrev pub write_position : Writer → ℕ
+write_position w = if w.append then length w.contents else w.position
 
 abbrev pub turns : Option ℕ → ℕ → Bool
 turns None begin = false
 turns (Some end) begin = not (begin == end)
 
-abbrev pub after_write : Writer → List ℕ → Writer
-after_write w [] = w
-after_write w (b ∷ bytes) = record w {
-  contents = written_into w.contents (write_place w) (b ∷ bytes);
-  position = write_place w + length (b ∷ bytes);
+abbrev pub writer_after_write : Writer → List ℕ → Writer
+writer_after_write w [] = w
+writer_after_write w (b ∷ bytes) = record w {
+  contents = contents_after_write w.contents (write_position w) (b ∷ bytes);
+  position = write_position w + length (b ∷ bytes);
   dirty = true;
-  turned = w.turned || turns w.last_end (min (write_place w) (length w.contents));
-  last_end = Some (write_place w + length (b ∷ bytes));
+  turned = w.turned || turns w.last_end (min (write_position w) (length w.contents));
+  last_end = Some (write_position w + length (b ∷ bytes));
 }
 
-abbrev pub after_truncate : Writer → ℕ → Writer
-after_truncate w size =
+abbrev pub writer_after_truncate : Writer → ℕ → Writer
+writer_after_truncate w size =
     if size == length w.contents then w
     else record w {
-      contents = take size (zeros_to size w.contents);
+      contents = take size (bytes_padded_with_zeros size w.contents);
       dirty = true;
       turned = w.turned || is_some w.last_end;
       last_end = if nat_lt (length w.contents) size then Some size else w.last_end;
     }
 
-abbrev pub after_sync : Writer → Writer
-after_sync w = if w.dirty then record w { dirty = false; turned = false; last_end = None } else w
+abbrev pub writer_after_sync : Writer → Writer
+writer_after_sync w = if w.dirty then record w { dirty = false; turned = false; last_end = None } else w
 
-abbrev pub opened_writer : Path → Flags → List ℕ → Writer
-opened_writer path flags bytes = record {
+abbrev pub writer_after_open : Path → Flags → List ℕ → Writer
+writer_after_open path flags bytes = record {
   path = path;
   contents = if flags.truncate then [] else bytes;
   position = 0;

@@ -4,114 +4,114 @@ ghost use Rattle.std.specs.Prelude.{◌≡◌, ℕ, ◌<◌, ◌^◌, true, fals
 ghost use Rattle.std.specs.declared.cmp.Ordering.TheVariants.{Less};
 ghost use Rattle.lfs_model.specs.Names.{name_cmp};
 ghost use Rattle.lfs_model.specs.declared.order.NameOrder.TheVariants.{ShorterFirst, LongerFirst};
-ghost use Rattle.lfs_model.specs.Tag.{IsValid, tag_with, kind_of, id_of, len_of};
-ghost use Rattle.lfs_model.specs.Slots.{Gstate, no_gstate, gstate_xor};
-ghost use Rattle.lfs_model.specs.Content.{RawSlot, RawContent, no_content, empty_slot, content_after_all};
-ghost use Rattle.lfs_model.specs.EntryTypes.{gstate_with, create_type, delete_type, file_name_type, superblock_name_type, inline_struct_type, directory_struct_type, ctz_struct_type, soft_tail_type, hard_tail_type, move_state_type, no_id};
-ghost use Rattle.lfs_model.specs.Lookup.{IsLeastIdOf, IsPlace, typed_bytes_at};
-ghost use Rattle.lfs_model.specs.examples.Images.{raw_root, raw_file};
-ghost use Rattle.lfs_model.specs.WrittenContent.{entry_with, tail_entry};
-ghost use Rattle.lfs_model.specs.BlockBytes.{file_entries, move_word_entry};
+ghost use Rattle.lfs_model.specs.Tag.{IsValidTag, tag_of_type_id_and_length, kind_of, id_of, len_of};
+ghost use Rattle.lfs_model.specs.Slots.{Gstate, zero_gstate, gstate_xor};
+ghost use Rattle.lfs_model.specs.Content.{RawSlot, RawContent, empty_raw_content, empty_slot, content_after_log_entries};
+ghost use Rattle.lfs_model.specs.EntryTypes.{gstate_of_word_and_pair, create_type, delete_type, file_name_type, superblock_name_type, inline_struct_type, directory_struct_type, ctz_struct_type, soft_tail_type, hard_tail_type, move_state_type, no_id};
+ghost use Rattle.lfs_model.specs.Lookup.{IsLeastIdOfName, IsIdForNewName, slot_bytes_of_type_at_id};
+ghost use Rattle.lfs_model.specs.examples.Images.{raw_slot_of_superblock, raw_slot_of_empty_file};
+ghost use Rattle.lfs_model.specs.WrittenContent.{log_entry_with, tail_log_entry};
+ghost use Rattle.lfs_model.specs.BlockBytes.{inline_file_log_entries, move_state_entry_of_word};
 
 /// A tag is its type, its id and its length.
 pub fn tag_is_its_fields()
-    ensures kind { (kind id len : ℕ) → kind < 2 ^ 11 → id < 2 ^ 10 → len < 2 ^ 10 → kind_of (tag_with kind id len) ≡ kind }
-    ensures id { (kind id len : ℕ) → kind < 2 ^ 11 → id < 2 ^ 10 → len < 2 ^ 10 → id_of (tag_with kind id len) ≡ id }
-    ensures len { (kind id len : ℕ) → kind < 2 ^ 11 → id < 2 ^ 10 → len < 2 ^ 10 → len_of (tag_with kind id len) ≡ len }
-    ensures valid { (kind id len : ℕ) → kind < 2 ^ 11 → id < 2 ^ 10 → len < 2 ^ 10 → IsValid (tag_with kind id len) }
-    ensures whole { (tag : ℕ) → IsValid tag → tag_with (kind_of tag) (id_of tag) (len_of tag) ≡ tag }
-    ensures create { tag_with create_type 3 0 ≡ 0x40100c00 }
-    ensures soft_tail { tag_with soft_tail_type no_id 8 ≡ 0x600ffc08 }
-    ensures move_state { tag_with move_state_type no_id 12 ≡ 0x7ffffc0c }
+    ensures kind { (kind id len : ℕ) → kind < 2 ^ 11 → id < 2 ^ 10 → len < 2 ^ 10 → kind_of (tag_of_type_id_and_length kind id len) ≡ kind }
+    ensures id { (kind id len : ℕ) → kind < 2 ^ 11 → id < 2 ^ 10 → len < 2 ^ 10 → id_of (tag_of_type_id_and_length kind id len) ≡ id }
+    ensures len { (kind id len : ℕ) → kind < 2 ^ 11 → id < 2 ^ 10 → len < 2 ^ 10 → len_of (tag_of_type_id_and_length kind id len) ≡ len }
+    ensures valid { (kind id len : ℕ) → kind < 2 ^ 11 → id < 2 ^ 10 → len < 2 ^ 10 → IsValidTag (tag_of_type_id_and_length kind id len) }
+    ensures whole { (tag : ℕ) → IsValidTag tag → tag_of_type_id_and_length (kind_of tag) (id_of tag) (len_of tag) ≡ tag }
+    ensures create { tag_of_type_id_and_length create_type 3 0 ≡ 0x40100c00 }
+    ensures soft_tail { tag_of_type_id_and_length soft_tail_type no_id 8 ≡ 0x600ffc08 }
+    ensures move_state { tag_of_type_id_and_length move_state_type no_id 12 ≡ 0x7ffffc0c }
 {}
 
 /// A move state is the sync bit, a move type and an id in its first word, and a pair. Its lowest ten bits are ignored.
 pub fn move_state_is_its_fields()
-    ensures set_move { gstate_with 0x4ff00800 (2, 3) ≡ record { sync = false; kind = 0x4ff; id = 2; pair = (2, 3) } }
-    ensures sync { gstate_with 0x80000000 (0, 0) ≡ record { sync = true; kind = 0; id = 0; pair = (0, 0) } }
-    ensures ignored { gstate_with 0x000003ff (0, 0) ≡ no_gstate }
-    ensures ended { (g : Gstate) → gstate_xor g g ≡ no_gstate }
-    ensures kept { (g : Gstate) → gstate_xor g no_gstate ≡ g }
+    ensures set_move { gstate_of_word_and_pair 0x4ff00800 (2, 3) ≡ record { sync = false; kind = 0x4ff; id = 2; pair = (2, 3) } }
+    ensures sync { gstate_of_word_and_pair 0x80000000 (0, 0) ≡ record { sync = true; kind = 0; id = 0; pair = (0, 0) } }
+    ensures ignored { gstate_of_word_and_pair 0x000003ff (0, 0) ≡ zero_gstate }
+    ensures ended { (g : Gstate) → gstate_xor g g ≡ zero_gstate }
+    ensures kept { (g : Gstate) → gstate_xor g zero_gstate ≡ g }
 {}
 
 /// What entries make of an empty log, applied in order.
 pub fn entries_make_slots()
     // "b" is created, "a" is created before it and removed again, and "b" gets an attribute.
-    ensures shifted { content_after_all no_content
-        (entry_with create_type 0 [] ∷ file_entries 0 (codes "b") []
-        ++ entry_with create_type 0 [] ∷ file_entries 0 (codes "a") []
-        ++ entry_with delete_type 0 [] ∷ entry_with 0x341 0 (codes "x") ∷ [])
-        ≡ Some (record no_content { slots = record { name = Some (file_name_type, codes "b"); struct = Some (inline_struct_type, []); attributes = (0x41, codes "x") ∷ [] } ∷ [] }) }
+    ensures shifted { content_after_log_entries empty_raw_content
+        (log_entry_with create_type 0 [] ∷ inline_file_log_entries 0 (codes "b") []
+        ++ log_entry_with create_type 0 [] ∷ inline_file_log_entries 0 (codes "a") []
+        ++ log_entry_with delete_type 0 [] ∷ log_entry_with 0x341 0 (codes "x") ∷ [])
+        ≡ Some (record empty_raw_content { slots = record { name = Some (file_name_type, codes "b"); struct = Some (inline_struct_type, []); attributes = (0x41, codes "x") ∷ [] } ∷ [] }) }
 
     // A name past the last slot makes slots up to its id.
-    ensures extended { content_after_all no_content (entry_with file_name_type 1 (codes "a") ∷ [])
-        ≡ Some (record no_content { slots = empty_slot ∷ record empty_slot { name = Some (file_name_type, codes "a") } ∷ [] }) }
+    ensures extended { content_after_log_entries empty_raw_content (log_entry_with file_name_type 1 (codes "a") ∷ [])
+        ≡ Some (record empty_raw_content { slots = empty_slot ∷ record empty_slot { name = Some (file_name_type, codes "a") } ∷ [] }) }
 
     // Attributes are in the order of their types. The last one of a type counts, or none where it was removed.
-    ensures attributes { content_after_all no_content
-        (entry_with file_name_type 0 (codes "a")
-        ∷ entry_with 0x342 0 (codes "y") ∷ entry_with 0x341 0 (codes "x") ∷ entry_with 0x343 0 (codes "z")
-        ∷ entry_with 0x342 0 (codes "w") ∷ record { tag = tag_with 0x343 0 0x3ff; bytes = [] } ∷ record { tag = tag_with 0x344 0 0x3ff; bytes = [] } ∷ [])
-        ≡ Some (record no_content { slots = record empty_slot { name = Some (file_name_type, codes "a"); attributes = (0x41, codes "x") ∷ (0x42, codes "w") ∷ [] } ∷ [] }) }
+    ensures attributes { content_after_log_entries empty_raw_content
+        (log_entry_with file_name_type 0 (codes "a")
+        ∷ log_entry_with 0x342 0 (codes "y") ∷ log_entry_with 0x341 0 (codes "x") ∷ log_entry_with 0x343 0 (codes "z")
+        ∷ log_entry_with 0x342 0 (codes "w") ∷ record { tag = tag_of_type_id_and_length 0x343 0 0x3ff; bytes = [] } ∷ record { tag = tag_of_type_id_and_length 0x344 0 0x3ff; bytes = [] } ∷ [])
+        ≡ Some (record empty_raw_content { slots = record empty_slot { name = Some (file_name_type, codes "a"); attributes = (0x41, codes "x") ∷ (0x42, codes "w") ∷ [] } ∷ [] }) }
 
     // The last tail counts, and the last move state. Their ids are ignored.
-    ensures tail { content_after_all no_content (tail_entry false (Some (2, 3)) ∷ tail_entry true (Some (4, 5)) ∷ [])
-        ≡ Some (record no_content { tail = Some (record { hard = true; to = (4, 5) }) }) }
-    ensures no_tail { content_after_all no_content (tail_entry true (Some (2, 3)) ∷ tail_entry true None ∷ []) ≡ Some no_content }
-    ensures any_id { content_after_all no_content (entry_with soft_tail_type 0 (tail_entry false None).bytes ∷ [])
-        ≡ Some no_content }
-    ensures move_state { content_after_all no_content (move_word_entry 0x4ff00400 (0, 1) ∷ move_word_entry 0x80000000 (0, 0) ∷ [])
-        ≡ Some (record no_content { move = record no_gstate { sync = true } }) }
+    ensures tail { content_after_log_entries empty_raw_content (tail_log_entry false (Some (2, 3)) ∷ tail_log_entry true (Some (4, 5)) ∷ [])
+        ≡ Some (record empty_raw_content { tail = Some (record { hard = true; to = (4, 5) }) }) }
+    ensures no_tail { content_after_log_entries empty_raw_content (tail_log_entry true (Some (2, 3)) ∷ tail_log_entry true None ∷ []) ≡ Some empty_raw_content }
+    ensures any_id { content_after_log_entries empty_raw_content (log_entry_with soft_tail_type 0 (tail_log_entry false None).bytes ∷ [])
+        ≡ Some empty_raw_content }
+    ensures move_state { content_after_log_entries empty_raw_content (move_state_entry_of_word 0x4ff00400 (0, 1) ∷ move_state_entry_of_word 0x80000000 (0, 0) ∷ [])
+        ≡ Some (record empty_raw_content { move = record zero_gstate { sync = true } }) }
 {}
 
 /// Where entries aren't allowed.
-pub fn bad_entry_is_refused()
-    ensures unknown_name { content_after_all no_content (entry_with 0x003 0 (codes "a") ∷ []) ≡ None }
-    ensures unknown_class { content_after_all no_content (entry_with file_name_type 0 (codes "a") ∷ entry_with 0x100 0 [] ∷ []) ≡ None }
-    ensures unknown_struct { content_after_all no_content (entry_with file_name_type 0 (codes "a") ∷ entry_with 0x203 0 [] ∷ []) ≡ None }
-    ensures unknown_splice { content_after_all no_content (entry_with 0x402 0 [] ∷ []) ≡ None }
-    ensures unknown_tail { content_after_all no_content (entry_with 0x602 no_id (tail_entry false None).bytes ∷ []) ≡ None }
-    ensures unknown_move { content_after_all no_content (entry_with 0x7fe no_id (move_word_entry 0 (0, 0)).bytes ∷ []) ≡ None }
+pub fn log_with_bad_entry_is_malformed()
+    ensures unknown_name { content_after_log_entries empty_raw_content (log_entry_with 0x003 0 (codes "a") ∷ []) ≡ None }
+    ensures unknown_class { content_after_log_entries empty_raw_content (log_entry_with file_name_type 0 (codes "a") ∷ log_entry_with 0x100 0 [] ∷ []) ≡ None }
+    ensures unknown_struct { content_after_log_entries empty_raw_content (log_entry_with file_name_type 0 (codes "a") ∷ log_entry_with 0x203 0 [] ∷ []) ≡ None }
+    ensures unknown_splice { content_after_log_entries empty_raw_content (log_entry_with 0x402 0 [] ∷ []) ≡ None }
+    ensures unknown_tail { content_after_log_entries empty_raw_content (log_entry_with 0x602 no_id (tail_log_entry false None).bytes ∷ []) ≡ None }
+    ensures unknown_move { content_after_log_entries empty_raw_content (log_entry_with 0x7fe no_id (move_state_entry_of_word 0 (0, 0)).bytes ∷ []) ≡ None }
 
-    ensures create_past_the_end { content_after_all no_content (entry_with create_type 1 [] ∷ []) ≡ None }
-    ensures delete_absent { content_after_all no_content (entry_with delete_type 0 [] ∷ []) ≡ None }
-    ensures struct_absent { content_after_all no_content (entry_with inline_struct_type 0 [] ∷ []) ≡ None }
-    ensures attribute_absent { content_after_all no_content (entry_with 0x341 0 [] ∷ []) ≡ None }
-    ensures struct_without_name { content_after_all no_content (entry_with create_type 0 [] ∷ entry_with inline_struct_type 0 [] ∷ []) ≡ None }
-    ensures attribute_without_name { content_after_all no_content (entry_with create_type 0 [] ∷ entry_with 0x341 0 [] ∷ []) ≡ None }
-    ensures name_without_id { content_after_all no_content (entry_with file_name_type no_id (codes "a") ∷ []) ≡ None }
+    ensures create_past_the_end { content_after_log_entries empty_raw_content (log_entry_with create_type 1 [] ∷ []) ≡ None }
+    ensures delete_absent { content_after_log_entries empty_raw_content (log_entry_with delete_type 0 [] ∷ []) ≡ None }
+    ensures struct_absent { content_after_log_entries empty_raw_content (log_entry_with inline_struct_type 0 [] ∷ []) ≡ None }
+    ensures attribute_absent { content_after_log_entries empty_raw_content (log_entry_with 0x341 0 [] ∷ []) ≡ None }
+    ensures struct_without_name { content_after_log_entries empty_raw_content (log_entry_with create_type 0 [] ∷ log_entry_with inline_struct_type 0 [] ∷ []) ≡ None }
+    ensures attribute_without_name { content_after_log_entries empty_raw_content (log_entry_with create_type 0 [] ∷ log_entry_with 0x341 0 [] ∷ []) ≡ None }
+    ensures name_without_id { content_after_log_entries empty_raw_content (log_entry_with file_name_type no_id (codes "a") ∷ []) ≡ None }
 
-    ensures superblock_len { content_after_all no_content (entry_with superblock_name_type 0 (codes "little") ∷ []) ≡ None }
-    ensures directory_len { content_after_all no_content (entry_with file_name_type 0 (codes "a") ∷ entry_with directory_struct_type 0 (codes "1234567") ∷ []) ≡ None }
-    ensures list_len { content_after_all no_content (entry_with file_name_type 0 (codes "a") ∷ entry_with ctz_struct_type 0 (codes "123456789") ∷ []) ≡ None }
-    ensures create_len { content_after_all no_content (entry_with create_type 0 (codes "1") ∷ []) ≡ None }
-    ensures delete_len { content_after_all no_content (entry_with create_type 0 [] ∷ entry_with delete_type 0 (codes "1") ∷ [])
+    ensures superblock_len { content_after_log_entries empty_raw_content (log_entry_with superblock_name_type 0 (codes "little") ∷ []) ≡ None }
+    ensures directory_len { content_after_log_entries empty_raw_content (log_entry_with file_name_type 0 (codes "a") ∷ log_entry_with directory_struct_type 0 (codes "1234567") ∷ []) ≡ None }
+    ensures list_len { content_after_log_entries empty_raw_content (log_entry_with file_name_type 0 (codes "a") ∷ log_entry_with ctz_struct_type 0 (codes "123456789") ∷ []) ≡ None }
+    ensures create_len { content_after_log_entries empty_raw_content (log_entry_with create_type 0 (codes "1") ∷ []) ≡ None }
+    ensures delete_len { content_after_log_entries empty_raw_content (log_entry_with create_type 0 [] ∷ log_entry_with delete_type 0 (codes "1") ∷ [])
         ≡ None }
-    ensures tail_len { content_after_all no_content (entry_with hard_tail_type no_id (codes "1234") ∷ []) ≡ None }
-    ensures move_len { content_after_all no_content (entry_with move_state_type no_id (codes "12345678") ∷ []) ≡ None }
-    ensures removed_name { content_after_all no_content (record { tag = tag_with file_name_type 0 0x3ff; bytes = [] } ∷ []) ≡ None }
+    ensures tail_len { content_after_log_entries empty_raw_content (log_entry_with hard_tail_type no_id (codes "1234") ∷ []) ≡ None }
+    ensures move_len { content_after_log_entries empty_raw_content (log_entry_with move_state_type no_id (codes "12345678") ∷ []) ≡ None }
+    ensures removed_name { content_after_log_entries empty_raw_content (record { tag = tag_of_type_id_and_length file_name_type 0 0x3ff; bytes = [] } ∷ []) ≡ None }
 {}
 
 /// Where a name is among slots. The superblock's name and the slot that is passed over don't count.
-pub fn name_has_its_place()
-    ensures found { IsLeastIdOf (codes "b") None (raw_root ∷ raw_file (codes "b") ∷ []) 1 }
+pub fn name_has_its_id_among_slots()
+    ensures found { IsLeastIdOfName (codes "b") None (raw_slot_of_superblock ∷ raw_slot_of_empty_file (codes "b") ∷ []) 1 }
     ensures longer { name_cmp LongerFirst (codes "log.old") (codes "log") ≡ Less }
     ensures shorter { name_cmp ShorterFirst (codes "log") (codes "log.old") ≡ Less }
-    ensures before { IsPlace ShorterFirst (codes "a") None (raw_root ∷ raw_file (codes "b") ∷ []) 1 }
-    ensures behind { IsPlace ShorterFirst (codes "littlefs") None (raw_root ∷ raw_file (codes "b") ∷ []) 2 }
-    ensures passed_over { IsPlace ShorterFirst (codes "b") (Some 1) (raw_root ∷ raw_file (codes "b") ∷ []) 2 }
-    ensures second { IsLeastIdOf (codes "b") (Some 1) (raw_root ∷ raw_file (codes "b") ∷ raw_file (codes "b") ∷ []) 2 }
+    ensures before { IsIdForNewName ShorterFirst (codes "a") None (raw_slot_of_superblock ∷ raw_slot_of_empty_file (codes "b") ∷ []) 1 }
+    ensures behind { IsIdForNewName ShorterFirst (codes "littlefs") None (raw_slot_of_superblock ∷ raw_slot_of_empty_file (codes "b") ∷ []) 2 }
+    ensures passed_over { IsIdForNewName ShorterFirst (codes "b") (Some 1) (raw_slot_of_superblock ∷ raw_slot_of_empty_file (codes "b") ∷ []) 2 }
+    ensures second { IsLeastIdOfName (codes "b") (Some 1) (raw_slot_of_superblock ∷ raw_slot_of_empty_file (codes "b") ∷ raw_slot_of_empty_file (codes "b") ∷ []) 2 }
 {}
 
 /// What slots hold of a type for an id.
-pub fn slot_holds_its_bytes()
-    ensures name { typed_bytes_at (raw_root ∷ raw_file (codes "b") ∷ []) file_name_type 1 ≡ Some (codes "b") }
-    ensures structure { typed_bytes_at (raw_root ∷ raw_file (codes "b") ∷ []) inline_struct_type 1 ≡ Some [] }
-    ensures attribute { typed_bytes_at (record (raw_file (codes "b")) { attributes = (0x41, codes "x") ∷ [] } ∷ []) 0x341 0
+pub fn slot_has_bytes_of_each_type()
+    ensures name { slot_bytes_of_type_at_id (raw_slot_of_superblock ∷ raw_slot_of_empty_file (codes "b") ∷ []) file_name_type 1 ≡ Some (codes "b") }
+    ensures structure { slot_bytes_of_type_at_id (raw_slot_of_superblock ∷ raw_slot_of_empty_file (codes "b") ∷ []) inline_struct_type 1 ≡ Some [] }
+    ensures attribute { slot_bytes_of_type_at_id (record (raw_slot_of_empty_file (codes "b")) { attributes = (0x41, codes "x") ∷ [] } ∷ []) 0x341 0
         ≡ Some (codes "x") }
-    ensures no_attribute { typed_bytes_at (record (raw_file (codes "b")) { attributes = (0x41, codes "x") ∷ [] } ∷ []) 0x342 0 ≡ None }
-    ensures other_name { typed_bytes_at (raw_root ∷ []) file_name_type 0 ≡ None }
-    ensures other_struct { typed_bytes_at (raw_file (codes "b") ∷ []) ctz_struct_type 0 ≡ None }
-    ensures absent { typed_bytes_at (raw_root ∷ []) file_name_type 1 ≡ None }
-    ensures splice { typed_bytes_at (raw_root ∷ []) create_type 0 ≡ None }
+    ensures no_attribute { slot_bytes_of_type_at_id (record (raw_slot_of_empty_file (codes "b")) { attributes = (0x41, codes "x") ∷ [] } ∷ []) 0x342 0 ≡ None }
+    ensures other_name { slot_bytes_of_type_at_id (raw_slot_of_superblock ∷ []) file_name_type 0 ≡ None }
+    ensures other_struct { slot_bytes_of_type_at_id (raw_slot_of_empty_file (codes "b") ∷ []) ctz_struct_type 0 ≡ None }
+    ensures absent { slot_bytes_of_type_at_id (raw_slot_of_superblock ∷ []) file_name_type 1 ≡ None }
+    ensures splice { slot_bytes_of_type_at_id (raw_slot_of_superblock ∷ []) create_type 0 ≡ None }
 {}

@@ -2,90 +2,90 @@
 
 ghost use Rattle.std.specs.Prelude.{◌≡◌, ◌⊎◌, ◌≢◌, ℕ, false, List, [], ◌∷◌, ◌++◌, Some, None, codes};
 ghost use Rattle.lfs_model.specs.Blocks.{Blocks};
-ghost use Rattle.lfs_model.specs.History.{Event, Read, event, EachSince, IsNewest};
+ghost use Rattle.lfs_model.specs.History.{CallEvent, Read, call_event_with, IsTrueOfEachCallSince, IsLeftByNewestCall};
 ghost use Rattle.lfs_model.specs.Disk.{Disk};
-ghost use Rattle.lfs_model.specs.FailedCalls.{FailAsStopped};
+ghost use Rattle.lfs_model.specs.FailedCalls.{AreFailedCallsSinceLikeStops};
 ghost use Rattle.lfs_model.specs.Fresh.{empty_tree};
-ghost use Rattle.lfs_model.specs.Conformance.{AllConform};
+ghost use Rattle.lfs_model.specs.Conformance.{AreConformingCalls};
 ghost use Rattle.lfs_model.specs.Operations as ops;
 ghost use Rattle.lfs_model.specs.Operations.{Operation, Reply};
-ghost use Rattle.lfs_model.specs.Run.{AgreesWithTree, IsSessionStep, SystemState};
-ghost use Rattle.lfs_model.specs.Failure.{Fails};
-ghost use Rattle.lfs_model.specs.Performed.{IsCutShort, IsRunOfOperations};
-ghost use Rattle.lfs_model.specs.PowerLoss.{IsLeftByStop, Survives, SurvivesStops, SurvivesLoss, with_blocks};
-ghost use Rattle.lfs_model.specs.Standing.{IsOneDevice};
-ghost use Rattle.lfs_model.specs.Stops.{ErasesCleanly};
+ghost use Rattle.lfs_model.specs.Run.{HasDiskTreeIfHealthy, IsSessionStep, SystemState};
+ghost use Rattle.lfs_model.specs.Failure.{IsSessionFailureInOperation};
+ghost use Rattle.lfs_model.specs.Performed.{IsRunEndedByError, IsRunOfOperations};
+ghost use Rattle.lfs_model.specs.PowerLoss.{ShowsTreeBeforeOrAfter, SurvivesStopsSince, IsOperationSurvivingStops, IsOperationSurvivingPowerLoss, with_blocks};
+ghost use Rattle.lfs_model.specs.Standing.{AreStatesOfConformingDevice};
+ghost use Rattle.lfs_model.specs.Stops.{LeavesNoNewLogIfErase};
 ghost use Rattle.lfs_model.specs.Tree.{Tree};
-ghost use Rattle.lfs_model.specs.RepeatedPowerLoss.{IsRestored, IsSafe, IsStoppedSince, IsSurvived, LosesPower, LosesPowerRepeatedly, MayLosePower, SurvivesPowerLoss};
-ghost use Rattle.lfs_model.specs.examples.Images.{small_image, appended_image};
-ghost use Rattle.lfs_model.specs.examples.Runs.{fresh_system, failed_system, opened_system, no_disk, some_reads};
+ghost use Rattle.lfs_model.specs.RepeatedPowerLoss.{IsRecoveredWithTree, IsSafeDiskOfTree, IsLeftByStopSince, IsPowerLossSurvived, IsDiskLeftByPowerLossInRun, AreDisksLeftByPowerLosses, IsReadyForPowerLoss, IsRunSurvivingPowerLosses};
+ghost use Rattle.lfs_model.specs.examples.Images.{small_fresh_image, image_of_two_commits};
+ghost use Rattle.lfs_model.specs.examples.Runs.{fresh_system_state, failed_system_state, system_state_after_open, disk_without_blocks, reads_of_one_block};
 
 /// A run ends where its session fails; the operations before it were applied.
 pub fn error_ends_a_run()
-    ensures second { IsCutShort fresh_system (ops.Stat (codes "/") ∷ ops.Mkdir (codes "/d") ∷ ops.UsedCount ∷ []) failed_system }
-    ensures goes_on { IsCutShort fresh_system (ops.Stat (codes "/") ∷ []) fresh_system → ⊥ }
+    ensures second { IsRunEndedByError fresh_system_state (ops.Stat (codes "/") ∷ ops.Mkdir (codes "/d") ∷ ops.UsedCount ∷ []) failed_system_state }
+    ensures goes_on { IsRunEndedByError fresh_system_state (ops.Stat (codes "/") ∷ []) fresh_system_state → ⊥ }
 {}
 
 /// A session that had failed makes no call. A failed remount and a failed rename to itself write nothing. Nor does an operation
 /// that fails on a disk that isn't accepted.
 pub fn failure_writes_only_what_may_be_written()
-    ensures no_call { Fails failed_system (ops.Stat (codes "/")) (record failed_system { calls = some_reads 1 }) → ⊥ }
-    ensures no_write { Fails fresh_system ops.Remount (record failed_system { disk = appended_image }) → ⊥ }
-    ensures itself { Fails fresh_system (ops.Rename (codes "/a") (codes "/a")) (record failed_system { calls = opened_system.calls }) → ⊥ }
-    ensures unwritten { Fails (record fresh_system { disk = no_disk }) (ops.Mkdir (codes "/d")) (record failed_system { disk = no_disk; calls = opened_system.calls }) → ⊥ }
+    ensures no_call { IsSessionFailureInOperation failed_system_state (ops.Stat (codes "/")) (record failed_system_state { calls = reads_of_one_block 1 }) → ⊥ }
+    ensures no_write { IsSessionFailureInOperation fresh_system_state ops.Remount (record failed_system_state { disk = image_of_two_commits }) → ⊥ }
+    ensures itself { IsSessionFailureInOperation fresh_system_state (ops.Rename (codes "/a") (codes "/a")) (record failed_system_state { calls = system_state_after_open.calls }) → ⊥ }
+    ensures unwritten { IsSessionFailureInOperation (record fresh_system_state { disk = disk_without_blocks }) (ops.Mkdir (codes "/d")) (record failed_system_state { disk = disk_without_blocks; calls = system_state_after_open.calls }) → ⊥ }
 {}
 
 /// A stop leaves the tree from before or from after, and a mount and a recovery keep it.
-pub fn losses_are_survived()
-    ensures no_call { SurvivesLoss fresh_system (ops.Stat (codes "/")) fresh_system }
-    ensures lost { SurvivesLoss fresh_system (ops.Stat (codes "/")) (record fresh_system { disk = no_disk }) → ⊥ }
-    ensures restored { IsRestored empty_tree ops.Done small_image }
-    ensures other_tree { IsRestored (λ path. None) ops.Done small_image → ⊥ }
-    ensures safe { IsSafe empty_tree small_image }
-    ensures not_safe { (tree : Tree) → IsSafe tree no_disk → ⊥ }
+pub fn stop_leaves_safe_disk()
+    ensures no_call { IsOperationSurvivingPowerLoss fresh_system_state (ops.Stat (codes "/")) fresh_system_state }
+    ensures lost { IsOperationSurvivingPowerLoss fresh_system_state (ops.Stat (codes "/")) (record fresh_system_state { disk = disk_without_blocks }) → ⊥ }
+    ensures restored { IsRecoveredWithTree empty_tree ops.Done small_fresh_image }
+    ensures other_tree { IsRecoveredWithTree (λ path. None) ops.Done small_fresh_image → ⊥ }
+    ensures safe { IsSafeDiskOfTree empty_tree small_fresh_image }
+    ensures not_safe { (tree : Tree) → IsSafeDiskOfTree tree disk_without_blocks → ⊥ }
 
     // The same holds for what a stop in any call leaves.
-    ensures left { (disk : Disk) (before after : Tree) → IsLeftByStop disk before after
-        → (tree : Tree) × (((tree ≡ before) ⊎ (tree ≡ after)) × IsSafe tree disk) }
+    ensures left { (disk : Disk) (before after : Tree) → ShowsTreeBeforeOrAfter disk before after
+        → (tree : Tree) × (((tree ≡ before) ⊎ (tree ≡ after)) × IsSafeDiskOfTree tree disk) }
 {}
 
 /// Wherever power is lost in a run, it is survived, and so is each loss after it.
 pub fn power_loss_is_survived()
-    ensures run { (from : SystemState) (operations : List Operation) (to : SystemState) → IsRunOfOperations from operations to → MayLosePower from to → SurvivesPowerLoss from operations to }
+    ensures run { (from : SystemState) (operations : List Operation) (to : SystemState) → IsRunOfOperations from operations to → IsReadyForPowerLoss from to → IsRunSurvivingPowerLosses from operations to }
 
     // A session on a fresh disk may lose power. No disk without blocks is left, and no other tree. Where no operation was begun,
     // the tree is the one that was there.
-    ensures may { MayLosePower fresh_system fresh_system }
-    ensures none_begun { (to : SystemState) (run : IsRunOfOperations fresh_system [] to) (left : Disk) (s : IsSurvived fresh_system [] to run left) → s.tree ≡ empty_tree }
-    ensures not_lost { (to : SystemState) (run : IsRunOfOperations fresh_system (ops.Stat (codes "/") ∷ []) to) → IsSurvived fresh_system (ops.Stat (codes "/") ∷ []) to run no_disk → ⊥ }
-    ensures not_changed { (to : SystemState) (run : IsRunOfOperations fresh_system (ops.Stat (codes "/") ∷ []) to) (s : IsSurvived fresh_system (ops.Stat (codes "/") ∷ []) to run small_image) → s.tree ≡ (λ path. None) → ⊥ }
+    ensures may { IsReadyForPowerLoss fresh_system_state fresh_system_state }
+    ensures none_begun { (to : SystemState) (run : IsRunOfOperations fresh_system_state [] to) (left : Disk) (s : IsPowerLossSurvived fresh_system_state [] to run left) → s.tree ≡ empty_tree }
+    ensures not_lost { (to : SystemState) (run : IsRunOfOperations fresh_system_state (ops.Stat (codes "/") ∷ []) to) → IsPowerLossSurvived fresh_system_state (ops.Stat (codes "/") ∷ []) to run disk_without_blocks → ⊥ }
+    ensures not_changed { (to : SystemState) (run : IsRunOfOperations fresh_system_state (ops.Stat (codes "/") ∷ []) to) (s : IsPowerLossSurvived fresh_system_state (ops.Stat (codes "/") ∷ []) to run small_fresh_image) → s.tree ≡ (λ path. None) → ⊥ }
 {}
 
 /// Power may be lost again and again, but the tree isn't lost.
-pub fn power_is_lost_repeatedly()
-    ensures once { LosesPower small_image small_image }
-    ensures again { LosesPowerRepeatedly small_image (small_image ∷ small_image ∷ []) }
-    ensures not_all { LosesPower small_image no_disk → ⊥ }
-    ensures in_a_read { (blocks : Blocks) → IsStoppedSince [] (event (Read 0 0 4) blocks blocks false ∷ []) blocks }
-    ensures not_in_none { (blocks : Blocks) → IsStoppedSince [] [] blocks → ⊥ }
+pub fn repeated_power_losses_keep_tree()
+    ensures once { IsDiskLeftByPowerLossInRun small_fresh_image small_fresh_image }
+    ensures again { AreDisksLeftByPowerLosses small_fresh_image (small_fresh_image ∷ small_fresh_image ∷ []) }
+    ensures not_all { IsDiskLeftByPowerLossInRun small_fresh_image disk_without_blocks → ⊥ }
+    ensures in_a_read { (blocks : Blocks) → IsLeftByStopSince [] (call_event_with (Read 0 0 4) blocks blocks false ∷ []) blocks }
+    ensures not_in_none { (blocks : Blocks) → IsLeftByStopSince [] [] blocks → ⊥ }
 {}
 
 /// At its end an operation leaves the tree that the definitions give. So an operation that survives stops survives losses of
 /// power.
-pub fn surviving_steps_survive_loss()
-    ensures { (from to : SystemState) (op : Operation) (reply : Reply) → AgreesWithTree from.disk from.state → IsSessionStep from op reply to → SurvivesStops from op to → SurvivesLoss from op to }
+pub fn surviving_stops_survives_loss()
+    ensures { (from to : SystemState) (op : Operation) (reply : Reply) → HasDiskTreeIfHealthy from.disk from.state → IsSessionStep from op reply to → IsOperationSurvivingStops from op to → IsOperationSurvivingPowerLoss from op to }
 {}
 
 /// After its last call a device that conforms holds what a stop may leave. So it is also where an error ended the operation.
-pub fn stops_tell_what_stands()
-    ensures left { (disk : Disk) (old new : List Event) (first last : Blocks) (before after : Tree) → old ≢ [] → IsNewest old first → IsNewest new last → AllConform new
-        → Survives disk old new before after → EachSince ErasesCleanly old new → FailAsStopped old new
-        → IsLeftByStop (with_blocks first disk) before after → IsLeftByStop (with_blocks last disk) before after }
-    ensures called { (from to : SystemState) → from.calls ≢ [] → IsNewest from.calls from.disk.blocks → IsNewest to.calls to.disk.blocks → AllConform to.calls
-        → to.disk ≡ with_blocks to.disk.blocks from.disk → IsOneDevice from to }
-    ensures survives_loss { (from to : SystemState) (op : Operation) → AgreesWithTree from.disk from.state → IsOneDevice from to → SurvivesStops from op to → SurvivesLoss from op to }
+pub fn last_call_leaves_stop_outcome()
+    ensures left { (disk : Disk) (old new : List CallEvent) (first last : Blocks) (before after : Tree) → old ≢ [] → IsLeftByNewestCall old first → IsLeftByNewestCall new last → AreConformingCalls new
+        → SurvivesStopsSince disk old new before after → IsTrueOfEachCallSince LeavesNoNewLogIfErase old new → AreFailedCallsSinceLikeStops old new
+        → ShowsTreeBeforeOrAfter (with_blocks first disk) before after → ShowsTreeBeforeOrAfter (with_blocks last disk) before after }
+    ensures called { (from to : SystemState) → from.calls ≢ [] → IsLeftByNewestCall from.calls from.disk.blocks → IsLeftByNewestCall to.calls to.disk.blocks → AreConformingCalls to.calls
+        → to.disk ≡ with_blocks to.disk.blocks from.disk → AreStatesOfConformingDevice from to }
+    ensures survives_loss { (from to : SystemState) (op : Operation) → HasDiskTreeIfHealthy from.disk from.state → AreStatesOfConformingDevice from to → IsOperationSurvivingStops from op to → IsOperationSurvivingPowerLoss from op to }
 
     // A device that isn't called stays as it is.
-    ensures silent { IsOneDevice fresh_system failed_system }
-    ensures lost { IsOneDevice fresh_system (record fresh_system { disk = no_disk }) → ⊥ }
+    ensures silent { AreStatesOfConformingDevice fresh_system_state failed_system_state }
+    ensures lost { AreStatesOfConformingDevice fresh_system_state (record fresh_system_state { disk = disk_without_blocks }) → ⊥ }
 {}

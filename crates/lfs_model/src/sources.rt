@@ -3,21 +3,21 @@
 ghost use Rattle.std.specs.Prelude.{◌≡◌, List, [], ◌∷◌, map, Some, None, codes};
 ghost use Rattle.lfs_model.specs.Tree.{FileNode, DirectoryNode};
 ghost use Rattle.lfs_model.specs.Fresh.{empty_tree};
-ghost use Rattle.lfs_model.specs.Source.{AreBadNames, AFile, AFolder, source_entry_at, IsTreeOf};
-ghost use Rattle.lfs_model.specs.examples.Sources.{one_file, endless_source};
-ghost use Rattle.lfs_model.specs.examples.Images.{tree_with};
+ghost use Rattle.lfs_model.specs.Source.{HaveBadOrRepeatedName, AFile, AFolder, source_node_from_folder, IsTreeOfSource};
+ghost use Rattle.lfs_model.specs.examples.Sources.{source_of_one_file, endless_source};
+ghost use Rattle.lfs_model.specs.examples.Images.{tree_of_nodes};
 
 /// A source makes the tree that has what its folders name, and no other.
 pub fn source_makes_its_tree()
-    ensures one { IsTreeOf one_file (tree_with (([], DirectoryNode [] (codes "a" ∷ [])) ∷ (codes "a" ∷ [], FileNode [] (codes "hello")) ∷ [])) }
-    ensures not_empty { IsTreeOf one_file empty_tree → ⊥ }
-    ensures depths { map (source_entry_at endless_source []) ([] ∷ (codes "d" ∷ codes "a" ∷ []) ∷ (codes "a" ∷ codes "a" ∷ []) ∷ (codes "x" ∷ []) ∷ [])
+    ensures one { IsTreeOfSource source_of_one_file (tree_of_nodes (([], DirectoryNode [] (codes "a" ∷ [])) ∷ (codes "a" ∷ [], FileNode [] (codes "hello")) ∷ [])) }
+    ensures not_empty { IsTreeOfSource source_of_one_file empty_tree → ⊥ }
+    ensures depths { map (source_node_from_folder endless_source []) ([] ∷ (codes "d" ∷ codes "a" ∷ []) ∷ (codes "a" ∷ codes "a" ∷ []) ∷ (codes "x" ∷ []) ∷ [])
         ≡ Some (AFolder (codes "d" ∷ codes "a" ∷ [])) ∷ Some (AFile (codes "/d/a")) ∷ None ∷ None ∷ [] }
 {}
 
 /// Names that a folder may not give.
-pub fn bad_names_are_faults()
-    ensures slash { AreBadNames (codes "a" ∷ codes "a/b" ∷ []) }
-    ensures twice { AreBadNames (codes "a" ∷ codes "b" ∷ codes "a" ∷ []) }
-    ensures good { AreBadNames (codes "a" ∷ codes "b" ∷ []) → ⊥ }
+pub fn bad_source_names_are_found()
+    ensures slash { HaveBadOrRepeatedName (codes "a" ∷ codes "a/b" ∷ []) }
+    ensures twice { HaveBadOrRepeatedName (codes "a" ∷ codes "b" ∷ codes "a" ∷ []) }
+    ensures good { HaveBadOrRepeatedName (codes "a" ∷ codes "b" ∷ []) → ⊥ }
 {}

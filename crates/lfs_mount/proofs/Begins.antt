@@ -4,37 +4,37 @@ use Rattle.std.specs.List.{IsDistinct}
 use Rattle.std.proofs.lemmas.List.{drop_more}
 use Rattle.std.proofs.lemmas.List.Concat.{flat_map-append}
 use Rattle.lfs_model.specs.Disk.{Disk}
-use Rattle.lfs_model.specs.Thread.{blocks_of}
+use Rattle.lfs_model.specs.Thread.{blocks_of_pairs}
 use Rattle.lfs_model.proofs.Counts.{count, count_append, once_from_distinct, distinct_from_once}
-use Rattle.lfs_pair.specs.Pair.{address_in}
-use Rattle.lfs_thread.specs.Kept.{Header, pairs_on}
-use Rattle.lfs_thread.specs.Places.{blocks_at}
-use Rattle.lfs_mount.specs.Members.{directory_addresses, continues}
+use Rattle.lfs_pair.specs.Pair.{address_of_header}
+use Rattle.lfs_thread.specs.Kept.{PairHeader, pairs_of_headers}
+use Rattle.lfs_thread.specs.Places.{blocks_of_addresses}
+use Rattle.lfs_mount.specs.Members.{directory_addresses, header_has_hard_tail}
 
-front_distinct : (xs more : List (ℕ × ℕ)) → IsDistinct nat_eq (blocks_at (xs ++ more)) → IsDistinct nat_eq (blocks_at xs)
-front_distinct xs more distinct = distinct_from_once (blocks_at xs) (λ b.
-    let o = once_from_distinct (blocks_at (xs ++ more)) distinct b in
-    let e = ap (count b) (flat_map-append (λ (at : ℕ × ℕ). at.0 ∷ at.1 ∷ []) xs more) ∙ count_append b (blocks_at xs) (blocks_at more) in
+front_distinct : (xs more : List (ℕ × ℕ)) → IsDistinct nat_eq (blocks_of_addresses (xs ++ more)) → IsDistinct nat_eq (blocks_of_addresses xs)
+front_distinct xs more distinct = distinct_from_once (blocks_of_addresses xs) (λ b.
+    let o = once_from_distinct (blocks_of_addresses (xs ++ more)) distinct b in
+    let e = ap (count b) (flat_map-append (λ (at : ℕ × ℕ). at.0 ∷ at.1 ∷ []) xs more) ∙ count_append b (blocks_of_addresses xs) (blocks_of_addresses more) in
     omega arith)
 
 -- the next one has no block in common with those before it
-pub next_apart : (xs : List (ℕ × ℕ)) (hs : List Header) (k : ℕ) (h : Header) → k < length hs → h ≡ get_or hs k h → xs ++ directory_addresses true (drop k hs) ≡ directory_addresses true hs
-    → IsDistinct nat_eq (blocks_at (directory_addresses true hs)) → IsDistinct nat_eq (blocks_at (xs ++ address_in h ∷ []))
+pub next_apart : (xs : List (ℕ × ℕ)) (hs : List PairHeader) (k : ℕ) (h : PairHeader) → k < length hs → h ≡ get_or hs k h → xs ++ directory_addresses true (drop k hs) ≡ directory_addresses true hs
+    → IsDistinct nat_eq (blocks_of_addresses (directory_addresses true hs)) → IsDistinct nat_eq (blocks_of_addresses (xs ++ address_of_header h ∷ []))
 next_apart xs hs k h below is e distinct =
-    let more : List (ℕ × ℕ) = directory_addresses (not (continues h)) (drop (k + 1) hs) in
-    let parts : (xs ++ address_in h ∷ []) ++ more ≡ directory_addresses true hs =
-    append_assoc xs (address_in h ∷ []) more
-    ∙ ap (λ (x : Header). xs ++ address_in x ∷ directory_addresses (not (continues x)) (drop (k + 1) hs)) is ∙ ap (λ (ys : List Header). xs ++ directory_addresses true ys) (sym (drop_more hs k h below)) ∙ e in
-    front_distinct (xs ++ address_in h ∷ []) more (subst (λ ys. IsDistinct nat_eq (blocks_at ys)) (sym parts) distinct)
+    let more : List (ℕ × ℕ) = directory_addresses (not (header_has_hard_tail h)) (drop (k + 1) hs) in
+    let parts : (xs ++ address_of_header h ∷ []) ++ more ≡ directory_addresses true hs =
+    append_assoc xs (address_of_header h ∷ []) more
+    ∙ ap (λ (x : PairHeader). xs ++ address_of_header x ∷ directory_addresses (not (header_has_hard_tail x)) (drop (k + 1) hs)) is ∙ ap (λ (ys : List PairHeader). xs ++ directory_addresses true ys) (sym (drop_more hs k h below)) ∙ e in
+    front_distinct (xs ++ address_of_header h ∷ []) more (subst (λ ys. IsDistinct nat_eq (blocks_of_addresses ys)) (sym parts) distinct)
 
 -- ---- from the blocks of the pairs
 
-begins_count : (disk : Disk) (b : ℕ) (begins : Bool) (hs : List Header) → count b (blocks_at (directory_addresses begins hs)) ≤ count b (blocks_of (pairs_on disk hs))
+begins_count : (disk : Disk) (b : ℕ) (begins : Bool) (hs : List PairHeader) → count b (blocks_of_addresses (directory_addresses begins hs)) ≤ count b (blocks_of_pairs (pairs_of_headers disk hs))
 begins_count disk b begins [] = omega arith
-begins_count disk b true (h ∷ hs) = let n = begins_count disk b (not (continues h)) hs in omega arith
-begins_count disk b false (h ∷ hs) = let n = begins_count disk b (not (continues h)) hs in omega arith
+begins_count disk b true (h ∷ hs) = let n = begins_count disk b (not (header_has_hard_tail h)) hs in omega arith
+begins_count disk b false (h ∷ hs) = let n = begins_count disk b (not (header_has_hard_tail h)) hs in omega arith
 
 -- the directories begin in blocks of their own
-pub begins_distinct : (disk : Disk) (hs : List Header) → IsDistinct nat_eq (blocks_of (pairs_on disk hs)) → IsDistinct nat_eq (blocks_at (directory_addresses true hs))
+pub begins_distinct : (disk : Disk) (hs : List PairHeader) → IsDistinct nat_eq (blocks_of_pairs (pairs_of_headers disk hs)) → IsDistinct nat_eq (blocks_of_addresses (directory_addresses true hs))
 begins_distinct disk hs distinct =
-    distinct_from_once (blocks_at (directory_addresses true hs)) (λ b. let o = once_from_distinct (blocks_of (pairs_on disk hs)) distinct b in let n = begins_count disk b true hs in omega arith)
+    distinct_from_once (blocks_of_addresses (directory_addresses true hs)) (λ b. let o = once_from_distinct (blocks_of_pairs (pairs_of_headers disk hs)) distinct b in let n = begins_count disk b true hs in omega arith)

@@ -6,8 +6,8 @@ use Rattle.lfs_device.specs.declared.device.BlockDevice.{Ghosts}
 use Rattle.lfs_device.specs.declared.error.Error.{Error}
 use Rattle.lfs_device.specs.declared.error.Error.TheVariants.{Corrupt, Io, NoMemory}
 use Rattle.lfs_model.specs.History.{faults}
-use Rattle.lfs_mount.specs.Device.{ReportsErrors}
-use Rattle.lfs_model.proofs.Histories.{began, OnlyReads-trans}
+use Rattle.lfs_mount.specs.Device.{ReportsMountErrorsAndFaults}
+use Rattle.lfs_model.proofs.Histories.{began, AreCallsSinceOnlyReads-trans}
 
 -- an error that is passed on
 pub same_error : {T E : Type 0} {r : Result T E} {x y e : E} → r ≡ Err x → x ≡ y → r ≡ Err e → y ≡ e
@@ -24,7 +24,7 @@ module _ {D : Type 0} (g : Ghosts D) where
   read_on first second = record {
     same = second.same ∙ first.same;
     geometry = second.geometry ∙ first.geometry;
-    reads = OnlyReads-trans first.reads second.reads first.same;
+    reads = AreCallsSinceOnlyReads-trans first.reads second.reads first.same;
   }
 
   -- a call that succeeds has no fault
@@ -41,7 +41,7 @@ module _ {D : Type 0} (g : Ghosts D) where
 
   -- and which error it is
   pub passed_on : {X Y : Type 0} {old mid new : D} {r : Result X Error} {e f : Error} → r ≡ Err e → e ≡ f → faults (g.history mid) ≡ faults (g.history old)
-      → ReportsErrors {X = Y} g mid new (Err f) → ReportsErrors g old new r
+      → ReportsMountErrorsAndFaults {X = Y} g mid new (Err f) → ReportsMountErrorsAndFaults g old new r
   passed_on {X} {r = r} {e = e} {f = f} is from same reported = record {
     errors = subst (λ (x : Result X Error). IfErr x (λ y. (y ≡ Io) ⊎ (y ≡ Corrupt) ⊎ (y ≡ NoMemory))) (sym is) (subst (λ (y : Error). (y ≡ Io) ⊎ (y ≡ Corrupt) ⊎ (y ≡ NoMemory)) (sym from) reported.errors);
     faults = reported_on is from same reported.faults;

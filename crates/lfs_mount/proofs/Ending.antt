@@ -4,44 +4,44 @@ use Rattle.std.specs.Prelude.{All}
 use Rattle.std.specs.List.{IsDistinct}
 use Rattle.std.proofs.lemmas.List.Concat.{flat_map-append}
 use Rattle.std.proofs.lemmas.List.Elements.{All-from_recursion, recursion_from_All}
-use Rattle.lfs_model.specs.BlockSets.{BlockSets}
-use Rattle.lfs_model.specs.Content.{content_at}
+use Rattle.lfs_model.specs.BlockSets.{BlockStateList}
+use Rattle.lfs_model.specs.Content.{content_of_pair_at}
 use Rattle.lfs_model.specs.Disk.{Disk, block_count}
-use Rattle.lfs_model.specs.SkipLists.{IsList}
+use Rattle.lfs_model.specs.SkipLists.{IsSkipList}
 use Rattle.lfs_model.specs.Slots.{Slot, Gstate}
-use Rattle.lfs_model.specs.Thread.{Pair, IsThread, blocks_of, gstate_of, slots_not_moved, entries_not_moved}
-use Rattle.lfs_model.specs.View.{IsEntry, IsHeaded, MayBeHeaded, HasStruct, IsListIfCtz, IsMove, IsAccepted}
-use Rattle.lfs_model.specs.Shown.{file_blocks, all_slots, used_blocks, directories_in}
+use Rattle.lfs_model.specs.Thread.{Pair, IsThread, blocks_of_pairs, gstate_of, slots_not_moved, entries_not_moved}
+use Rattle.lfs_model.specs.View.{IsFileOrDirectoryEntry, IsSuperblockThenEntries, IsSuperblockThenEntriesIfAny, HasInlineStruct, IsListIfCtz, IsMoveOrNone, IsAcceptedImage}
+use Rattle.lfs_model.specs.Shown.{skip_list_blocks_of_struct, all_slots_not_moved, used_blocks, directories_in_thread}
 use Rattle.lfs_model.proofs.Counts.{Each, each_append, each_weaker, count, count_append, once_from_distinct, distinct_from_once}
 use Rattle.lfs_model.proofs.Superblocks.{IsChain, pairs_behind, Mark, StructMark, HoldSlots, root_rule, superblock_rule, slots_rule}
-use Rattle.lfs_mount.specs.Reaching.{Graph}
-use Rattle.lfs_mount.specs.Directories.{IsTreeOfDirectories, GraphShows}
-use Rattle.lfs_mount.specs.Entries.{first_addresses_of, nothing_known}
-use Rattle.lfs_mount.specs.Marking.{HasExactly, MarksLists, blocks_to_mark}
-use Rattle.lfs_mount.specs.Described.{moved_in, AreMembers}
-use Rattle.lfs_mount.specs.Checked.{HasStart, IsAlone, IsBare, HasHead, IsKnownThread}
-use Rattle.lfs_mount.specs.Moves.{IsEntryIfSome, IsMovedFrom}
-use Rattle.lfs_mount.specs.Passed.{Passes}
+use Rattle.lfs_mount.specs.Reaching.{DirectoryGraph}
+use Rattle.lfs_mount.specs.Directories.{IsTreeOfDirectories, IsGraphOfThreadDirectories}
+use Rattle.lfs_mount.specs.Entries.{directory_first_addresses, empty_directory_scan}
+use Rattle.lfs_mount.specs.Marking.{HasExactlyUsedBlocks, MarksFreeBlocksOfLists, list_blocks_to_mark}
+use Rattle.lfs_mount.specs.Described.{moved_id_in_pair, ArePairsDescribedByMembers}
+use Rattle.lfs_mount.specs.Checked.{BeginsWithSuperblockSlot, HasSuperblockSlotAlone, HasAtMostSuperblockSlot, HasSuperblockChain, IsThreadKnownFromHeaders}
+use Rattle.lfs_mount.specs.Moves.{IsEntryAtIdIfSome, IsMovedSlotEntry}
+use Rattle.lfs_mount.specs.Passed.{PassesOverDirectoryPairs}
 use Rattle.lfs_mount.specs.declared.pass.Member.{Member}
-use Rattle.lfs_mount.specs.Accepted.{HasOnlyUsed}
+use Rattle.lfs_mount.specs.Accepted.{MapUsesOnlyTheseBlocks}
 use Rattle.lfs_mount.proofs.Owned.{owned_more, has_only}
 use Rattle.lfs_mount.proofs.Rules.{behind, without, unmoved-without, IsMovedEntry, lists_of, HaveEntries, passed_rules, thread_shows}
 use Rattle.lfs_mount.proofs.Accepts.{IsInline, Starting, starts_so, slots_right, no_blocks, no_lists, counted, listed}
 
-bare_headed : (bytes : List ℕ) (chain : List Pair) → Each (IsBare bytes) chain → Each (λ q. MayBeHeaded (HasStruct bytes) q.content.slots) chain
+bare_headed : (bytes : List ℕ) (chain : List Pair) → Each (HasAtMostSuperblockSlot bytes) chain → Each (λ q. IsSuperblockThenEntriesIfAny (HasInlineStruct bytes) q.content.slots) chain
 bare_headed bytes [] h = tt
 bare_headed bytes (q ∷ chain) h = (go h.0, bare_headed bytes chain h.1)
   where
-    go : IsBare bytes q → MayBeHeaded (HasStruct bytes) q.content.slots
-    go (inl none) = subst (MayBeHeaded (HasStruct bytes)) (sym none) tt
-    go (inr alone) = subst (MayBeHeaded (HasStruct bytes)) (sym alone.slots) (alone.superblock, alone.struct, (λ k d lt. absurd (omega arith)))
+    go : HasAtMostSuperblockSlot bytes q → IsSuperblockThenEntriesIfAny (HasInlineStruct bytes) q.content.slots
+    go (inl none) = subst (IsSuperblockThenEntriesIfAny (HasInlineStruct bytes)) (sym none) tt
+    go (inr alone) = subst (IsSuperblockThenEntriesIfAny (HasInlineStruct bytes)) (sym alone.slots) (alone.superblock, alone.struct, (λ k d lt. absurd (omega arith)))
 
-inline_slot : (bytes : List ℕ) (s : Slot) → HasStruct bytes s → IsInline s.struct
+inline_slot : (bytes : List ℕ) (s : Slot) → HasInlineStruct bytes s → IsInline s.struct
 inline_slot bytes s h = subst IsInline (sym h) tt
 
 -- whatever the global state names
-alone_inline : (g : Gstate) (bytes : List ℕ) (q : Pair) → IsAlone bytes q → Each (λ s. IsInline s.struct) (slots_not_moved g q)
-alone_inline g bytes q h = subst (Each (λ s. IsInline s.struct)) (sym (unmoved-without g q ∙ ap (without (moved_in g q)) h.slots)) (go (moved_in g q))
+alone_inline : (g : Gstate) (bytes : List ℕ) (q : Pair) → HasSuperblockSlotAlone bytes q → Each (λ s. IsInline s.struct) (slots_not_moved g q)
+alone_inline g bytes q h = subst (Each (λ s. IsInline s.struct)) (sym (unmoved-without g q ∙ ap (without (moved_id_in_pair g q)) h.slots)) (go (moved_id_in_pair g q))
   where
     go : (moved : Option ℕ) → Each (λ s. IsInline s.struct) (without moved (h.slot ∷ []))
     go None = (inline_slot bytes h.slot h.struct, tt)
@@ -49,16 +49,16 @@ alone_inline g bytes q h = subst (Each (λ s. IsInline s.struct)) (sym (unmoved-
     go (Some (suc zero)) = (inline_slot bytes h.slot h.struct, tt)
     go (Some (suc (suc id))) = (inline_slot bytes h.slot h.struct, tt)
 
-bare_inline : (g : Gstate) (bytes : List ℕ) (q : Pair) → IsBare bytes q → Each (λ s. IsInline s.struct) (slots_not_moved g q)
+bare_inline : (g : Gstate) (bytes : List ℕ) (q : Pair) → HasAtMostSuperblockSlot bytes q → Each (λ s. IsInline s.struct) (slots_not_moved g q)
 bare_inline g bytes q (inr alone) = alone_inline g bytes q alone
-bare_inline g bytes q (inl none) = subst (Each (λ s. IsInline s.struct)) (sym (unmoved-without g q ∙ ap (without (moved_in g q)) none)) (go (moved_in g q))
+bare_inline g bytes q (inl none) = subst (Each (λ s. IsInline s.struct)) (sym (unmoved-without g q ∙ ap (without (moved_id_in_pair g q)) none)) (go (moved_id_in_pair g q))
   where
     go : (moved : Option ℕ) → Each (λ s. IsInline s.struct) (without moved [])
     go None = tt
     go (Some zero) = tt
     go (Some (suc id)) = tt
 
-chain_inline : (g : Gstate) (bytes : List ℕ) (chain : List Pair) → Each (IsBare bytes) chain → Each (λ s. IsInline s.struct) (flat_map (slots_not_moved g) chain)
+chain_inline : (g : Gstate) (bytes : List ℕ) (chain : List Pair) → Each (HasAtMostSuperblockSlot bytes) chain → Each (λ s. IsInline s.struct) (flat_map (slots_not_moved g) chain)
 chain_inline g bytes [] h = tt
 chain_inline g bytes (q ∷ chain) h = each_append (λ (s : Slot). IsInline s.struct) (slots_not_moved g q) (flat_map (slots_not_moved g) chain) (bare_inline g bytes q h.0) (chain_inline g bytes chain h.1)
 
@@ -67,15 +67,15 @@ others_start : (bytes : List ℕ) (ps : List Pair) → Starting bytes false ps
 others_start bytes [] = tt
 others_start bytes (p ∷ ps) = ((λ e. absurd (cc)), others_start bytes ps)
 
-others_hold : (g : Gstate) (m : Mark) (ps : List Pair) → HaveEntries g false ps → Each (λ p. IsMovedEntry (moved_in g p) p.content.slots) ps → HoldSlots m false ps
+others_hold : (g : Gstate) (m : Mark) (ps : List Pair) → HaveEntries g false ps → Each (λ p. IsMovedEntry (moved_id_in_pair g p) p.content.slots) ps → HoldSlots m false ps
 others_hold g m [] h k = tt
 others_hold g m (p ∷ ps) h k = (slots_right g false p k.0 (λ e. absurd (cc)) h.0, others_hold g m ps h.1 k.1)
 
-headed : (bytes : List ℕ) (slots : List Slot) → HasStart bytes slots → All IsEntry (behind true slots) → IsHeaded (HasStruct bytes) slots
+headed : (bytes : List ℕ) (slots : List Slot) → BeginsWithSuperblockSlot bytes slots → All IsFileOrDirectoryEntry (behind true slots) → IsSuperblockThenEntries (HasInlineStruct bytes) slots
 headed bytes [] h entries = absurd h
 headed bytes (s ∷ slots) h entries = (h.0, h.1, entries)
 
-module _ (disk : Disk) (chain : List Pair) (p : Pair) (rest : List Pair) (bytes : List ℕ) (chain_is : IsChain chain (p ∷ rest)) (head : HasHead disk chain p rest bytes) where
+module _ (disk : Disk) (chain : List Pair) (p : Pair) (rest : List Pair) (bytes : List ℕ) (chain_is : IsChain chain (p ∷ rest)) (head : HasSuperblockChain disk chain p rest bytes) where
   abbrev ps : List Pair
   ps = chain ++ p ∷ rest
 
@@ -88,56 +88,56 @@ module _ (disk : Disk) (chain : List Pair) (p : Pair) (rest : List Pair) (bytes 
   starting : Starting bytes true dirs
   starting = ((λ e. head.start), others_start bytes rest)
 
-  slots_parted : all_slots ps ≡ flat_map (slots_not_moved g) chain ++ flat_map (slots_not_moved g) dirs
+  slots_parted : all_slots_not_moved ps ≡ flat_map (slots_not_moved g) chain ++ flat_map (slots_not_moved g) dirs
   slots_parted = flat_map-append (slots_not_moved g) chain dirs
 
   -- the two rules on lists
-  all_lists : (lists : List (ℕ × ℕ)) → lists ≡ flat_map (λ q. lists_of (entries_not_moved g q)) dirs → HaveEntries g true dirs → Each (λ q. IsMovedEntry (moved_in g q) q.content.slots) dirs
-      → All (λ l. IsList disk.blocks disk.block_size l.0 l.1) lists → All (λ s. IsListIfCtz disk s.struct) (all_slots ps)
+  all_lists : (lists : List (ℕ × ℕ)) → lists ≡ flat_map (λ q. lists_of (entries_not_moved g q)) dirs → HaveEntries g true dirs → Each (λ q. IsMovedEntry (moved_id_in_pair g q) q.content.slots) dirs
+      → All (λ l. IsSkipList disk.blocks disk.block_size l.0 l.1) lists → All (λ s. IsListIfCtz disk s.struct) (all_slots_not_moved ps)
   all_lists lists e entries moved all =
-      let P : ℕ × ℕ → Type 0 = λ x. IsList disk.blocks disk.block_size x.0 x.1 in
+      let P : ℕ × ℕ → Type 0 = λ x. IsSkipList disk.blocks disk.block_size x.0 x.1 in
       let Q : Slot → Type 0 = λ x. IsListIfCtz disk x.struct in
-      All-from_recursion Q (all_slots ps) (subst (Each Q) (sym slots_parted)
+      All-from_recursion Q (all_slots_not_moved ps) (subst (Each Q) (sym slots_parted)
       (each_append Q (flat_map (slots_not_moved g) chain) (flat_map (slots_not_moved g) dirs) (no_lists disk (flat_map (slots_not_moved g) chain) (chain_inline g bytes chain head.bare))
       (listed disk g bytes true dirs starting entries moved (subst (Each P) e (recursion_from_All P lists all)))))
 
   -- the blocks that are marked are those of the files
-  used_counted : HaveEntries g true dirs → Each (λ q. IsMovedEntry (moved_in g q) q.content.slots) dirs
-      → (b : ℕ) → count b (used_blocks disk ps) ≡ count b (blocks_of ps ++ flat_map (blocks_to_mark disk) (flat_map (λ q. lists_of (entries_not_moved g q)) dirs))
+  used_counted : HaveEntries g true dirs → Each (λ q. IsMovedEntry (moved_id_in_pair g q) q.content.slots) dirs
+      → (b : ℕ) → count b (used_blocks disk ps) ≡ count b (blocks_of_pairs ps ++ flat_map (list_blocks_to_mark disk) (flat_map (λ q. lists_of (entries_not_moved g q)) dirs))
   used_counted entries moved b =
-      let marked : List ℕ = flat_map (blocks_to_mark disk) (flat_map (λ q. lists_of (entries_not_moved g q)) dirs) in
-      let blocks : List Slot → List ℕ = λ slots. flat_map (λ s. file_blocks disk s.struct) slots in
-      let before = count_append b (blocks_of ps) marked in
-      let after = count_append b (blocks_of ps) (blocks (all_slots ps)) in
-      let parts : blocks (all_slots ps) ≡ blocks (flat_map (slots_not_moved g) dirs) =
-      ap blocks slots_parted ∙ flat_map-append (λ (s : Slot). file_blocks disk s.struct) (flat_map (slots_not_moved g) chain) (flat_map (slots_not_moved g) dirs)
+      let marked : List ℕ = flat_map (list_blocks_to_mark disk) (flat_map (λ q. lists_of (entries_not_moved g q)) dirs) in
+      let blocks : List Slot → List ℕ = λ slots. flat_map (λ s. skip_list_blocks_of_struct disk s.struct) slots in
+      let before = count_append b (blocks_of_pairs ps) marked in
+      let after = count_append b (blocks_of_pairs ps) (blocks (all_slots_not_moved ps)) in
+      let parts : blocks (all_slots_not_moved ps) ≡ blocks (flat_map (slots_not_moved g) dirs) =
+      ap blocks slots_parted ∙ flat_map-append (λ (s : Slot). skip_list_blocks_of_struct disk s.struct) (flat_map (slots_not_moved g) chain) (flat_map (slots_not_moved g) dirs)
       ∙ ap (λ bs. bs ++ blocks (flat_map (slots_not_moved g) dirs)) (no_blocks disk (flat_map (slots_not_moved g) chain) (chain_inline g bytes chain head.bare)) in
-      let same : count b (blocks (all_slots ps)) ≡ count b marked = ap (count b) parts ∙ counted disk g bytes b true dirs starting entries moved in
+      let same : count b (blocks (all_slots_not_moved ps)) ≡ count b marked = ap (count b) parts ∙ counted disk g bytes b true dirs starting entries moved in
       omega arith
 
-  once_owned : (sets end : BlockSets) → HaveEntries g true dirs → Each (λ q. IsMovedEntry (moved_in g q) q.content.slots) dirs
-      → HasExactly sets (blocks_of ps) → MarksLists disk sets (flat_map (λ q. lists_of (entries_not_moved g q)) dirs) end → IsDistinct nat_eq (used_blocks disk ps)
+  once_owned : (sets end : BlockStateList) → HaveEntries g true dirs → Each (λ q. IsMovedEntry (moved_id_in_pair g q) q.content.slots) dirs
+      → HasExactlyUsedBlocks sets (blocks_of_pairs ps) → MarksFreeBlocksOfLists disk sets (flat_map (λ q. lists_of (entries_not_moved g q)) dirs) end → IsDistinct nat_eq (used_blocks disk ps)
   once_owned sets end entries moved owns lists =
-      let marked : List ℕ = flat_map (blocks_to_mark disk) (flat_map (λ q. lists_of (entries_not_moved g q)) dirs) in
-      let all = owned_more sets (blocks_of ps) marked end owns lists.marked in
+      let marked : List ℕ = flat_map (list_blocks_to_mark disk) (flat_map (λ q. lists_of (entries_not_moved g q)) dirs) in
+      let all = owned_more sets (blocks_of_pairs ps) marked end owns lists.marked in
       distinct_from_once (used_blocks disk ps) (λ b.
-      let once = once_from_distinct (blocks_of ps ++ marked) all.distinct b in
+      let once = once_from_distinct (blocks_of_pairs ps ++ marked) all.distinct b in
       let same = used_counted entries moved b in
       omega arith)
 
   -- Ok of the pass: the map has the blocks of the image
-  pub has_blocks : (ms : List Member) (sets end : BlockSets) (graph : Graph) → HasExactly sets (blocks_of ps)
-      → AreMembers disk g true dirs ms → Passes disk (first_addresses_of (directories_in ps)) nothing_known sets ms graph end → HasOnlyUsed sets end (used_blocks disk ps)
+  pub has_blocks : (ms : List Member) (sets end : BlockStateList) (graph : DirectoryGraph) → HasExactlyUsedBlocks sets (blocks_of_pairs ps)
+      → ArePairsDescribedByMembers disk g true dirs ms → PassesOverDirectoryPairs disk (directory_first_addresses (directories_in_thread ps)) empty_directory_scan sets ms graph end → MapUsesOnlyTheseBlocks sets end (used_blocks disk ps)
   has_blocks ms sets end graph owns members passes =
-      let h = passed_rules disk (first_addresses_of (directories_in ps)) g true dirs ms nothing_known sets graph end members passes in
-      let marked : List ℕ = flat_map (blocks_to_mark disk) (flat_map (λ q. lists_of (entries_not_moved g q)) dirs) in
-      has_only sets end (blocks_of ps) marked (used_blocks disk ps) owns h.lists.marked (used_counted h.kept h.moved)
+      let h = passed_rules disk (directory_first_addresses (directories_in_thread ps)) g true dirs ms empty_directory_scan sets graph end members passes in
+      let marked : List ℕ = flat_map (list_blocks_to_mark disk) (flat_map (λ q. lists_of (entries_not_moved g q)) dirs) in
+      has_only sets end (blocks_of_pairs ps) marked (used_blocks disk ps) owns h.lists.marked (used_counted h.kept h.moved)
 
   -- Ok of the pass and of the search
-  pub is_accepted : (ms : List Member) (sets end : BlockSets) (graph : Graph) → IsThread (content_at disk) (block_count disk) ps → IsMove ps g → HasExactly sets (blocks_of ps)
-      → AreMembers disk g true dirs ms → Passes disk (first_addresses_of (directories_in ps)) nothing_known sets ms graph end → IsTreeOfDirectories disk.order ps → IsAccepted disk ps
+  pub is_accepted : (ms : List Member) (sets end : BlockStateList) (graph : DirectoryGraph) → IsThread (content_of_pair_at disk) (block_count disk) ps → IsMoveOrNone ps g → HasExactlyUsedBlocks sets (blocks_of_pairs ps)
+      → ArePairsDescribedByMembers disk g true dirs ms → PassesOverDirectoryPairs disk (directory_first_addresses (directories_in_thread ps)) empty_directory_scan sets ms graph end → IsTreeOfDirectories disk.order ps → IsAcceptedImage disk ps
   is_accepted ms sets end graph thread move owns members passes right =
-      let h = passed_rules disk (first_addresses_of (directories_in ps)) g true dirs ms nothing_known sets graph end members passes in
+      let h = passed_rules disk (directory_first_addresses (directories_in_thread ps)) g true dirs ms empty_directory_scan sets graph end members passes in
       let hold : HoldSlots (StructMark bytes) true dirs =
       (headed bytes p.content.slots head.start (slots_right g true p h.moved.0 (λ e. starts_so bytes p.content.slots head.start) h.kept.0), others_hold g (StructMark bytes) rest h.kept.1 h.moved.1) in
       record {
@@ -158,39 +158,39 @@ module _ (disk : Disk) (chain : List Pair) (p : Pair) (rest : List Pair) (bytes 
 
 -- ---- the whole check
 
-pub known_drawn : (disk : Disk) (sets : BlockSets) (firsts : List (ℕ × ℕ)) (ms : List Member) (sync : Bool) (chain : List Pair) (p : Pair) (rest : List Pair) (graph : Graph) (end : BlockSets)
-    → IsKnownThread disk sets firsts ms sync chain p rest → Passes disk firsts nothing_known sets ms graph end → GraphShows disk.order graph sync (chain ++ p ∷ rest)
+pub known_drawn : (disk : Disk) (sets : BlockStateList) (firsts : List (ℕ × ℕ)) (ms : List Member) (sync : Bool) (chain : List Pair) (p : Pair) (rest : List Pair) (graph : DirectoryGraph) (end : BlockStateList)
+    → IsThreadKnownFromHeaders disk sets firsts ms sync chain p rest → PassesOverDirectoryPairs disk firsts empty_directory_scan sets ms graph end → IsGraphOfThreadDirectories disk.order graph sync (chain ++ p ∷ rest)
 known_drawn disk sets firsts ms sync chain p rest graph end known passes =
     let ps : List Pair = chain ++ p ∷ rest in
-    subst (λ s. GraphShows disk.order graph s ps) known.sync_is
-    (thread_shows disk ps ms sets graph end known.thread (subst (λ qs. AreMembers disk (gstate_of ps) true qs ms) (sym (pairs_behind chain (p ∷ rest) known.chain_is)) known.described)
-    (subst (λ f. Passes disk f nothing_known sets ms graph end) known.places passes))
+    subst (λ s. IsGraphOfThreadDirectories disk.order graph s ps) known.sync_is
+    (thread_shows disk ps ms sets graph end known.thread (subst (λ qs. ArePairsDescribedByMembers disk (gstate_of ps) true qs ms) (sym (pairs_behind chain (p ∷ rest) known.chain_is)) known.described)
+    (subst (λ f. PassesOverDirectoryPairs disk f empty_directory_scan sets ms graph end) known.places passes))
 
-pub checked_accepted : (disk : Disk) (sets : BlockSets) (firsts : List (ℕ × ℕ)) (ms : List Member) (sync : Bool) (chain : List Pair) (p : Pair) (rest : List Pair) (bytes : List ℕ) (graph : Graph) (end : BlockSets)
-    → IsKnownThread disk sets firsts ms sync chain p rest → HasHead disk chain p rest bytes → IsMove (chain ++ p ∷ rest) (gstate_of (chain ++ p ∷ rest))
-    → Passes disk firsts nothing_known sets ms graph end → IsTreeOfDirectories disk.order (chain ++ p ∷ rest) → IsAccepted disk (chain ++ p ∷ rest)
+pub checked_accepted : (disk : Disk) (sets : BlockStateList) (firsts : List (ℕ × ℕ)) (ms : List Member) (sync : Bool) (chain : List Pair) (p : Pair) (rest : List Pair) (bytes : List ℕ) (graph : DirectoryGraph) (end : BlockStateList)
+    → IsThreadKnownFromHeaders disk sets firsts ms sync chain p rest → HasSuperblockChain disk chain p rest bytes → IsMoveOrNone (chain ++ p ∷ rest) (gstate_of (chain ++ p ∷ rest))
+    → PassesOverDirectoryPairs disk firsts empty_directory_scan sets ms graph end → IsTreeOfDirectories disk.order (chain ++ p ∷ rest) → IsAcceptedImage disk (chain ++ p ∷ rest)
 checked_accepted disk sets firsts ms sync chain p rest bytes graph end known head move passes right =
     is_accepted disk chain p rest bytes known.chain_is head ms sets end graph known.thread move known.owns known.described
-    (subst (λ f. Passes disk f nothing_known sets ms graph end) known.places passes) right
+    (subst (λ f. PassesOverDirectoryPairs disk f empty_directory_scan sets ms graph end) known.places passes) right
 
-pub accepted_right : (disk : Disk) (qs : List Pair) → IsAccepted disk qs → IsTreeOfDirectories disk.order qs
+pub accepted_right : (disk : Disk) (qs : List Pair) → IsAcceptedImage disk qs → IsTreeOfDirectories disk.order qs
 accepted_right disk qs a = record { tree = record { order = a.order; branches = a.branches; once = a.once }; reached = a.reached }
 
 -- the map has the blocks of the image
-pub checked_blocks : (disk : Disk) (sets : BlockSets) (firsts : List (ℕ × ℕ)) (ms : List Member) (sync : Bool) (chain : List Pair) (p : Pair) (rest : List Pair) (bytes : List ℕ) (graph : Graph) (end : BlockSets)
-    → IsKnownThread disk sets firsts ms sync chain p rest → HasHead disk chain p rest bytes → Passes disk firsts nothing_known sets ms graph end → HasOnlyUsed sets end (used_blocks disk (chain ++ p ∷ rest))
+pub checked_blocks : (disk : Disk) (sets : BlockStateList) (firsts : List (ℕ × ℕ)) (ms : List Member) (sync : Bool) (chain : List Pair) (p : Pair) (rest : List Pair) (bytes : List ℕ) (graph : DirectoryGraph) (end : BlockStateList)
+    → IsThreadKnownFromHeaders disk sets firsts ms sync chain p rest → HasSuperblockChain disk chain p rest bytes → PassesOverDirectoryPairs disk firsts empty_directory_scan sets ms graph end → MapUsesOnlyTheseBlocks sets end (used_blocks disk (chain ++ p ∷ rest))
 checked_blocks disk sets firsts ms sync chain p rest bytes graph end known head passes =
     has_blocks disk chain p rest bytes known.chain_is head ms sets end graph known.owns known.described
-    (subst (λ f. Passes disk f nothing_known sets ms graph end) known.places passes)
+    (subst (λ f. PassesOverDirectoryPairs disk f empty_directory_scan sets ms graph end) known.places passes)
 
 -- the slot that is moved away is an entry
-pub checked_moved : (disk : Disk) (sets : BlockSets) (firsts : List (ℕ × ℕ)) (ms : List Member) (sync : Bool) (chain : List Pair) (p : Pair) (rest : List Pair) (graph : Graph) (end : BlockSets)
-    → IsKnownThread disk sets firsts ms sync chain p rest → Passes disk firsts nothing_known sets ms graph end → IsMovedFrom (gstate_of (chain ++ p ∷ rest)) (p ∷ rest)
+pub checked_moved : (disk : Disk) (sets : BlockStateList) (firsts : List (ℕ × ℕ)) (ms : List Member) (sync : Bool) (chain : List Pair) (p : Pair) (rest : List Pair) (graph : DirectoryGraph) (end : BlockStateList)
+    → IsThreadKnownFromHeaders disk sets firsts ms sync chain p rest → PassesOverDirectoryPairs disk firsts empty_directory_scan sets ms graph end → IsMovedSlotEntry (gstate_of (chain ++ p ∷ rest)) (p ∷ rest)
 checked_moved disk sets firsts ms sync chain p rest graph end known passes =
     let g : Gstate = gstate_of (chain ++ p ∷ rest) in
-    each_weaker (λ q. IsMovedEntry (moved_in g q) q.content.slots) (λ q. IsEntryIfSome (moved_in g q) q.content.slots) (λ q h. entry_if_some (moved_in g q) q.content.slots h) (p ∷ rest)
-    (passed_rules disk firsts g true (p ∷ rest) ms nothing_known sets graph end known.described passes).moved
+    each_weaker (λ q. IsMovedEntry (moved_id_in_pair g q) q.content.slots) (λ q. IsEntryAtIdIfSome (moved_id_in_pair g q) q.content.slots) (λ q h. entry_if_some (moved_id_in_pair g q) q.content.slots h) (p ∷ rest)
+    (passed_rules disk firsts g true (p ∷ rest) ms empty_directory_scan sets graph end known.described passes).moved
   where
-    entry_if_some : (o : Option ℕ) (slots : List Slot) → IsMovedEntry o slots → IsEntryIfSome o slots
+    entry_if_some : (o : Option ℕ) (slots : List Slot) → IsMovedEntry o slots → IsEntryAtIdIfSome o slots
     entry_if_some None slots h = tt
     entry_if_some (Some id) slots h = h

@@ -4,16 +4,16 @@ use Rattle.std.specs.Str.{bytes_eq}
 use Rattle.std.proofs.lemmas.Bool.{and_parts, and_from}
 use Rattle.std.proofs.lemmas.Option.{same_Some}
 use Rattle.std.proofs.lemmas.Slice.Eq.{bytes_eq-Decides}
-use Rattle.lfs_model.specs.Content.{RawSlot, complete, complete_all, kind_named, struct_typed}
-use Rattle.lfs_model.specs.EntryTypes.{inline_struct_type, directory_struct_type, superblock_at}
+use Rattle.lfs_model.specs.Content.{RawSlot, complete, slots_if_all_complete, kind_of_name_type, struct_of_type_and_bytes}
+use Rattle.lfs_model.specs.EntryTypes.{inline_struct_type, directory_struct_type, superblock_fields_at}
 use Rattle.lfs_model.specs.Disk.{Disk, block_count}
 use Rattle.lfs_model.specs.Slots.{Slot, Struct, Inline, Ctz, Branch, is_superblock}
 use Rattle.lfs_model.specs.Thread.{starts_with_superblock}
-use Rattle.lfs_model.specs.View.{HasStruct, IsSuperblockStruct}
+use Rattle.lfs_model.specs.View.{HasInlineStruct, IsSuperblockStruct}
 use Rattle.lfs_model.proofs.Completed.{complete_parts}
-use Rattle.lfs_tag.specs.KindView.{names_superblock}
-use Rattle.lfs_mount.specs.Checked.{HasStart}
-use Rattle.lfs_mount.specs.Head.{has_name_bytes, inline_in, describes, if_describes, superblock_in, if_same, repeats_first_slot}
+use Rattle.lfs_tag.specs.KindView.{is_superblock_name}
+use Rattle.lfs_mount.specs.Checked.{BeginsWithSuperblockSlot}
+use Rattle.lfs_mount.specs.Head.{has_name_bytes, inline_struct_bytes, describes, superblock_struct_if_of_geometry, superblock_struct_in_first_slot, some_true_if_same_bytes, first_slot_repeats_superblock}
 
 -- ---- a slot with a name and a struct
 
@@ -22,22 +22,22 @@ record IsMadeOf (s : RawSlot) (t : Slot) : Type 0 where
   struct : ℕ × List ℕ
   name_is : s.name ≡ Some name
   struct_is : s.struct ≡ Some struct
-  made : t ≡ record { kind = kind_named name.0; name = name.1; struct = struct_typed struct.0 struct.1; attributes = s.attributes }
+  made : t ≡ record { kind = kind_of_name_type name.0; name = name.1; struct = struct_of_type_and_bytes struct.0 struct.1; attributes = s.attributes }
 
 made_of : (s : RawSlot) (t : Slot) → complete s ≡ Some t → IsMadeOf s t
 made_of s t e = go s.name s.struct refl refl e
   where
     go : (n u : Option (ℕ × List ℕ)) → s.name ≡ n → s.struct ≡ u
-        → option_and_then (λ name. option_map (λ struct. record { kind = kind_named name.0; name = name.1; struct = struct_typed struct.0 struct.1; attributes = s.attributes }) u) n ≡ Some t → IsMadeOf s t
+        → option_and_then (λ name. option_map (λ struct. record { kind = kind_of_name_type name.0; name = name.1; struct = struct_of_type_and_bytes struct.0 struct.1; attributes = s.attributes }) u) n ≡ Some t → IsMadeOf s t
     go None u f h k = absurd (cc)
     go (Some n) None f h k = absurd (cc)
     go (Some n) (Some u) f h k =
-        record { name = n; struct = u; name_is = f; struct_is = h; made = sym (same_Some (record { kind = kind_named n.0; name = n.1; struct = struct_typed u.0 u.1; attributes = s.attributes }) t k) }
+        record { name = n; struct = u; name_is = f; struct_is = h; made = sym (same_Some (record { kind = kind_of_name_type n.0; name = n.1; struct = struct_of_type_and_bytes u.0 u.1; attributes = s.attributes }) t k) }
 
-slot_named : (s : RawSlot) (t : Slot) → IsMadeOf s t → is_superblock t ≡ names_superblock s.name
-slot_named s t m = ap is_superblock m.made ∙ sym (ap names_superblock m.name_is)
+slot_named : (s : RawSlot) (t : Slot) → IsMadeOf s t → is_superblock t ≡ is_superblock_name s.name
+slot_named s t m = ap is_superblock m.made ∙ sym (ap is_superblock_name m.name_is)
 
-inline_some : (u : ℕ × List ℕ) (bytes : List ℕ) → struct_typed u.0 u.1 ≡ Inline bytes → inline_in (Some u) ≡ Some bytes
+inline_some : (u : ℕ × List ℕ) (bytes : List ℕ) → struct_of_type_and_bytes u.0 u.1 ≡ Inline bytes → inline_struct_bytes (Some u) ≡ Some bytes
 inline_some u bytes e = go (u.0 == inline_struct_type) (u.0 == directory_struct_type) _ _ _ e
   where
     go : (a b : Bool) (to : ℕ × ℕ) (head size : ℕ) → cond a (Inline u.1) (cond b (Branch to) (Ctz head size)) ≡ Inline bytes → cond a (Some u.1) None ≡ Some bytes
@@ -45,22 +45,22 @@ inline_some u bytes e = go (u.0 == inline_struct_type) (u.0 == directory_struct_
     go false true to head size f = absurd (cc)
     go false false to head size f = absurd (cc)
 
-inline_back : (u : ℕ × List ℕ) (bytes : List ℕ) → inline_in (Some u) ≡ Some bytes → struct_typed u.0 u.1 ≡ Inline bytes
+inline_back : (u : ℕ × List ℕ) (bytes : List ℕ) → inline_struct_bytes (Some u) ≡ Some bytes → struct_of_type_and_bytes u.0 u.1 ≡ Inline bytes
 inline_back u bytes e = go (u.0 == inline_struct_type) _ e
   where
     go : (a : Bool) (other : Struct) → cond a (Some u.1) None ≡ Some bytes → cond a (Inline u.1) other ≡ Inline bytes
     go true other f = ap Inline (same_Some u.1 bytes f)
     go false other f = absurd (cc)
 
-slot_inline : (s : RawSlot) (t : Slot) (bytes : List ℕ) → IsMadeOf s t → HasStruct bytes t → inline_in s.struct ≡ Some bytes
-slot_inline s t bytes m h = ap inline_in m.struct_is ∙ inline_some m.struct bytes (sym (ap (λ (x : Slot). x.struct) m.made) ∙ h)
+slot_inline : (s : RawSlot) (t : Slot) (bytes : List ℕ) → IsMadeOf s t → HasInlineStruct bytes t → inline_struct_bytes s.struct ≡ Some bytes
+slot_inline s t bytes m h = ap inline_struct_bytes m.struct_is ∙ inline_some m.struct bytes (sym (ap (λ (x : Slot). x.struct) m.made) ∙ h)
 
-slot_struct : (s : RawSlot) (t : Slot) (bytes : List ℕ) → IsMadeOf s t → inline_in s.struct ≡ Some bytes → HasStruct bytes t
-slot_struct s t bytes m h = ap (λ (x : Slot). x.struct) m.made ∙ inline_back m.struct bytes (sym (ap inline_in m.struct_is) ∙ h)
+slot_struct : (s : RawSlot) (t : Slot) (bytes : List ℕ) → IsMadeOf s t → inline_struct_bytes s.struct ≡ Some bytes → HasInlineStruct bytes t
+slot_struct s t bytes m h = ap (λ (x : Slot). x.struct) m.made ∙ inline_back m.struct bytes (sym (ap inline_struct_bytes m.struct_is) ∙ h)
 
 -- ---- whether the superblock is repeated
 
-same_from : (bytes : List ℕ) (o : Option (List ℕ)) → if_same bytes o ≡ Some true → o ≡ Some bytes
+same_from : (bytes : List ℕ) (o : Option (List ℕ)) → some_true_if_same_bytes bytes o ≡ Some true → o ≡ Some bytes
 same_from bytes None e = absurd (cc)
 same_from bytes (Some other) e = go (bytes_eq other bytes) refl e
   where
@@ -68,7 +68,7 @@ same_from bytes (Some other) e = go (bytes_eq other bytes) refl e
     go true f k = ap (λ (x : List ℕ). Some x) ((bytes_eq-Decides other bytes).0 f)
     go false f k = absurd (cc)
 
-never_false : (bytes : List ℕ) (o : Option (List ℕ)) → if_same bytes o ≡ Some false → ⊥
+never_false : (bytes : List ℕ) (o : Option (List ℕ)) → some_true_if_same_bytes bytes o ≡ Some false → ⊥
 never_false bytes None e = absurd (cc)
 never_false bytes (Some other) e = go (bytes_eq other bytes) e
   where
@@ -76,41 +76,41 @@ never_false bytes (Some other) e = go (bytes_eq other bytes) e
     go true k = absurd (cc)
     go false k = absurd (cc)
 
-differs : (bytes : List ℕ) (o : Option (List ℕ)) → if_same bytes o ≡ None → o ≡ Some bytes → ⊥
+differs : (bytes : List ℕ) (o : Option (List ℕ)) → some_true_if_same_bytes bytes o ≡ None → o ≡ Some bytes → ⊥
 differs bytes o e f = absurd (
-    let same : if_same bytes o ≡ Some true = ap (if_same bytes) f ∙ ap (λ b. cond b (Some true) None) ((bytes_eq-Decides bytes bytes).1 refl) in
+    let same : some_true_if_same_bytes bytes o ≡ Some true = ap (some_true_if_same_bytes bytes) f ∙ ap (λ b. cond b (Some true) None) ((bytes_eq-Decides bytes bytes).1 refl) in
     let clash : Some true ≡ None = sym same ∙ e in cc)
 
 module _ (bytes : List ℕ) where
-  pub repeats_true : (raws : List RawSlot) (slots : List Slot) → complete_all raws ≡ Some slots → repeats_first_slot bytes raws ≡ Some true → HasStart bytes slots
+  pub repeats_true : (raws : List RawSlot) (slots : List Slot) → slots_if_all_complete raws ≡ Some slots → first_slot_repeats_superblock bytes raws ≡ Some true → BeginsWithSuperblockSlot bytes slots
   repeats_true [] slots c e = absurd (cc)
   repeats_true (s ∷ raws) slots c e =
       let p = complete_parts s raws slots c in
-      subst (HasStart bytes) (sym p.all_are) (go p.first (made_of s p.first p.is_first) (names_superblock s.name) refl e)
+      subst (BeginsWithSuperblockSlot bytes) (sym p.all_are) (go p.first (made_of s p.first p.is_first) (is_superblock_name s.name) refl e)
     where
-      go : (t : Slot) → IsMadeOf s t → (b : Bool) → names_superblock s.name ≡ b → cond b (if_same bytes (inline_in s.struct)) (Some false) ≡ Some true → (is_superblock t ≡ true) × HasStruct bytes t
-      go t m true n k = (slot_named s t m ∙ n, slot_struct s t bytes m (same_from bytes (inline_in s.struct) k))
+      go : (t : Slot) → IsMadeOf s t → (b : Bool) → is_superblock_name s.name ≡ b → cond b (some_true_if_same_bytes bytes (inline_struct_bytes s.struct)) (Some false) ≡ Some true → (is_superblock t ≡ true) × HasInlineStruct bytes t
+      go t m true n k = (slot_named s t m ∙ n, slot_struct s t bytes m (same_from bytes (inline_struct_bytes s.struct) k))
       go t m false n k = absurd (cc)
 
-  pub repeats_false : (raws : List RawSlot) (slots : List Slot) → complete_all raws ≡ Some slots → repeats_first_slot bytes raws ≡ Some false → starts_with_superblock slots ≡ false
+  pub repeats_false : (raws : List RawSlot) (slots : List Slot) → slots_if_all_complete raws ≡ Some slots → first_slot_repeats_superblock bytes raws ≡ Some false → starts_with_superblock slots ≡ false
   repeats_false [] slots c e = ap starts_with_superblock (sym (same_Some [] slots c))
   repeats_false (s ∷ raws) slots c e =
       let p = complete_parts s raws slots c in
-      ap starts_with_superblock p.all_are ∙ slot_named s p.first (made_of s p.first p.is_first) ∙ go (names_superblock s.name) refl e
+      ap starts_with_superblock p.all_are ∙ slot_named s p.first (made_of s p.first p.is_first) ∙ go (is_superblock_name s.name) refl e
     where
-      go : (b : Bool) → names_superblock s.name ≡ b → cond b (if_same bytes (inline_in s.struct)) (Some false) ≡ Some false → b ≡ false
-      go true n k = absurd (never_false bytes (inline_in s.struct) k)
+      go : (b : Bool) → is_superblock_name s.name ≡ b → cond b (some_true_if_same_bytes bytes (inline_struct_bytes s.struct)) (Some false) ≡ Some false → b ≡ false
+      go true n k = absurd (never_false bytes (inline_struct_bytes s.struct) k)
       go false n k = refl
 
-  pub repeats_none : (raws : List RawSlot) (slots : List Slot) → complete_all raws ≡ Some slots → repeats_first_slot bytes raws ≡ None → (starts_with_superblock slots ≡ true) × (HasStart bytes slots → ⊥)
+  pub repeats_none : (raws : List RawSlot) (slots : List Slot) → slots_if_all_complete raws ≡ Some slots → first_slot_repeats_superblock bytes raws ≡ None → (starts_with_superblock slots ≡ true) × (BeginsWithSuperblockSlot bytes slots → ⊥)
   repeats_none [] slots c e = absurd (cc)
   repeats_none (s ∷ raws) slots c e =
       let p = complete_parts s raws slots c in
       let m = made_of s p.first p.is_first in
-      let k = go (names_superblock s.name) refl e in
-      (ap starts_with_superblock p.all_are ∙ slot_named s p.first m ∙ k.0, λ h. differs bytes (inline_in s.struct) k.1 (slot_inline s p.first bytes m (subst (HasStart bytes) p.all_are h).1))
+      let k = go (is_superblock_name s.name) refl e in
+      (ap starts_with_superblock p.all_are ∙ slot_named s p.first m ∙ k.0, λ h. differs bytes (inline_struct_bytes s.struct) k.1 (slot_inline s p.first bytes m (subst (BeginsWithSuperblockSlot bytes) p.all_are h).1))
     where
-      go : (b : Bool) → names_superblock s.name ≡ b → cond b (if_same bytes (inline_in s.struct)) (Some false) ≡ None → (b ≡ true) × (if_same bytes (inline_in s.struct) ≡ None)
+      go : (b : Bool) → is_superblock_name s.name ≡ b → cond b (some_true_if_same_bytes bytes (inline_struct_bytes s.struct)) (Some false) ≡ None → (b ≡ true) × (some_true_if_same_bytes bytes (inline_struct_bytes s.struct) ≡ None)
       go true n k = (refl, k)
       go false n k = absurd (cc)
 
@@ -121,11 +121,11 @@ abbrev pub IsNamed : List Slot → Type 0
 IsNamed slots = option_map (λ (s : Slot). s.name) (slice_get slots 0) ≡ Some (codes "littlefs")
 
 pub record IsFirst (block_size count : ℕ) (bytes : List ℕ) (slots : List Slot) : Type 0 where
-  pub start : HasStart bytes slots
+  pub start : BeginsWithSuperblockSlot bytes slots
   pub named : IsNamed slots
   pub describes : describes block_size count bytes ≡ true
 
-described : (block_size count : ℕ) (o : Option (List ℕ)) (bytes : List ℕ) → if_describes block_size count o ≡ Some bytes → (o ≡ Some bytes) × (describes block_size count bytes ≡ true)
+described : (block_size count : ℕ) (o : Option (List ℕ)) (bytes : List ℕ) → superblock_struct_if_of_geometry block_size count o ≡ Some bytes → (o ≡ Some bytes) × (describes block_size count bytes ≡ true)
 described block_size count None bytes e = absurd (cc)
 described block_size count (Some held) bytes e = go (describes block_size count held) refl e
   where
@@ -139,43 +139,43 @@ called s t name m e = ap (λ (x : Slot). x.name) m.made ∙ (bytes_eq-Decides m.
 calls : (s : RawSlot) (t : Slot) (name : List ℕ) → IsMadeOf s t → t.name ≡ name → has_name_bytes name s.name ≡ true
 calls s t name m e = ap (has_name_bytes name) m.name_is ∙ (bytes_eq-Decides m.name.1 name).1 (sym (ap (λ (x : Slot). x.name) m.made) ∙ e)
 
-pub first_found : (block_size count : ℕ) (raws : List RawSlot) (slots : List Slot) (bytes : List ℕ) → complete_all raws ≡ Some slots → superblock_in block_size count raws ≡ Some bytes
+pub first_found : (block_size count : ℕ) (raws : List RawSlot) (slots : List Slot) (bytes : List ℕ) → slots_if_all_complete raws ≡ Some slots → superblock_struct_in_first_slot block_size count raws ≡ Some bytes
     → IsFirst block_size count bytes slots
 first_found block_size count [] slots bytes c e = absurd (cc)
 first_found block_size count (s ∷ raws) slots bytes c e =
     let p = complete_parts s raws slots c in
-    subst (IsFirst block_size count bytes) (sym p.all_are) (go p.first p.others (made_of s p.first p.is_first) (names_superblock s.name && has_name_bytes (codes "littlefs") s.name) refl e)
+    subst (IsFirst block_size count bytes) (sym p.all_are) (go p.first p.others (made_of s p.first p.is_first) (is_superblock_name s.name && has_name_bytes (codes "littlefs") s.name) refl e)
   where
-    go : (t : Slot) (ts : List Slot) → IsMadeOf s t → (b : Bool) → (names_superblock s.name && has_name_bytes (codes "littlefs") s.name) ≡ b → cond b (if_describes block_size count (inline_in s.struct)) None ≡ Some bytes
+    go : (t : Slot) (ts : List Slot) → IsMadeOf s t → (b : Bool) → (is_superblock_name s.name && has_name_bytes (codes "littlefs") s.name) ≡ b → cond b (superblock_struct_if_of_geometry block_size count (inline_struct_bytes s.struct)) None ≡ Some bytes
         → IsFirst block_size count bytes (t ∷ ts)
     go t ts m false n k = absurd (cc)
     go t ts m true n k =
-        let both = and_parts (names_superblock s.name) (has_name_bytes (codes "littlefs") s.name) n in
-        let d = described block_size count (inline_in s.struct) bytes k in
+        let both = and_parts (is_superblock_name s.name) (has_name_bytes (codes "littlefs") s.name) n in
+        let d = described block_size count (inline_struct_bytes s.struct) bytes k in
         record {
           start = (slot_named s t m ∙ both.0, slot_struct s t bytes m d.0);
           named = ap (λ (x : List ℕ). Some x) (called s t (codes "littlefs") m both.1);
           describes = d.1;
         }
 
-pub first_is : (block_size count : ℕ) (raws : List RawSlot) (slots : List Slot) (bytes : List ℕ) → complete_all raws ≡ Some slots → IsFirst block_size count bytes slots
-    → superblock_in block_size count raws ≡ Some bytes
-first_is block_size count [] slots bytes c f = absurd (subst (HasStart bytes) (sym (same_Some [] slots c)) f.start)
+pub first_is : (block_size count : ℕ) (raws : List RawSlot) (slots : List Slot) (bytes : List ℕ) → slots_if_all_complete raws ≡ Some slots → IsFirst block_size count bytes slots
+    → superblock_struct_in_first_slot block_size count raws ≡ Some bytes
+first_is block_size count [] slots bytes c f = absurd (subst (BeginsWithSuperblockSlot bytes) (sym (same_Some [] slots c)) f.start)
 first_is block_size count (s ∷ raws) slots bytes c f =
     let p = complete_parts s raws slots c in
     go p.first p.others (made_of s p.first p.is_first) (subst (IsFirst block_size count bytes) p.all_are f)
   where
-    go : (t : Slot) (ts : List Slot) → IsMadeOf s t → IsFirst block_size count bytes (t ∷ ts) → superblock_in block_size count (s ∷ raws) ≡ Some bytes
+    go : (t : Slot) (ts : List Slot) → IsMadeOf s t → IsFirst block_size count bytes (t ∷ ts) → superblock_struct_in_first_slot block_size count (s ∷ raws) ≡ Some bytes
     go t ts m h =
-        ap (λ b. cond b (if_describes block_size count (inline_in s.struct)) None)
-        (and_from (names_superblock s.name) (has_name_bytes (codes "littlefs") s.name) (sym (slot_named s t m) ∙ h.start.0) (calls s t (codes "littlefs") m (same_Some t.name (codes "littlefs") h.named)))
-        ∙ ap (if_describes block_size count) (slot_inline s t bytes m h.start.1) ∙ ap (λ b. cond b (Some bytes) None) h.describes
+        ap (λ b. cond b (superblock_struct_if_of_geometry block_size count (inline_struct_bytes s.struct)) None)
+        (and_from (is_superblock_name s.name) (has_name_bytes (codes "littlefs") s.name) (sym (slot_named s t m) ∙ h.start.0) (calls s t (codes "littlefs") m (same_Some t.name (codes "littlefs") h.named)))
+        ∙ ap (superblock_struct_if_of_geometry block_size count) (slot_inline s t bytes m h.start.1) ∙ ap (λ b. cond b (Some bytes) None) h.describes
 
 pub struct_described : (disk : Disk) (bytes : List ℕ) → describes disk.block_size (block_count disk) bytes ≡ true → IsSuperblockStruct disk bytes
 struct_described disk bytes e =
     let a = and_parts (length bytes == 24) _ e in
-    let b = and_parts ((superblock_at bytes).version == 0x00020000) _ a.1 in
-    let c = and_parts ((superblock_at bytes).block_size == disk.block_size) _ b.1 in
+    let b = and_parts ((superblock_fields_at bytes).version == 0x00020000) _ a.1 in
+    let c = and_parts ((superblock_fields_at bytes).block_size == disk.block_size) _ b.1 in
     record { len = eqb-true _ _ a.0; version = eqb-true _ _ b.0; block_size = eqb-true _ _ c.0; block_count = eqb-true _ _ c.1 }
 
 pub describes_struct : (disk : Disk) (bytes : List ℕ) → IsSuperblockStruct disk bytes → describes disk.block_size (block_count disk) bytes ≡ true

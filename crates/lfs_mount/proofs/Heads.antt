@@ -4,20 +4,20 @@ use Rattle.std.proofs.lemmas.Bool.{and_from, and_parts, and_right, eqb-false}
 use Rattle.std.proofs.lemmas.List.{length-map}
 use Rattle.std.proofs.lemmas.List.Elements.{recursion_from_All}
 use Rattle.std.proofs.lemmas.Option.{same_Some, slice_get_read, slice_get_within}
-use Rattle.lfs_model.specs.Blocks.{Blocks, block_in}
-use Rattle.lfs_model.specs.Content.{content_at, holder_at}
-use Rattle.lfs_model.specs.Disk.{Disk, block_at, block_count}
-use Rattle.lfs_model.specs.History.{Event}
+use Rattle.lfs_model.specs.Blocks.{Blocks, block_bytes_in}
+use Rattle.lfs_model.specs.Content.{content_of_pair_at, current_block_of_pair_at}
+use Rattle.lfs_model.specs.Disk.{Disk, block_bytes_on_disk, block_count}
+use Rattle.lfs_model.specs.History.{CallEvent}
 use Rattle.lfs_model.specs.Slots.{Slot, Inline}
 use Rattle.lfs_model.specs.Thread as Thread
-use Rattle.lfs_model.specs.Thread.{Pair, anchor, IsThread, first_at, from_slots, has_slots, is_bare, is_hard, meets_superblock, starts_with_superblock, superblock_or, superblocks_before}
-use Rattle.lfs_model.specs.View.{BeginsWithEntry, MayHaveSuperblock, IsAccepted, first_name, superblock_entry, superblock_pairs}
+use Rattle.lfs_model.specs.Thread.{Pair, anchor_pair_address, IsThread, first_pair_address, pairs_from_first_slot, has_slots, is_empty_or_superblock, is_hard_tail, has_superblock_as_first_slot, starts_with_superblock, starts_with_superblock_if_any_slot, pair_count_before_root}
+use Rattle.lfs_model.specs.View.{BeginsWithLogEntry, HasSuperblockOfBytesIfAny, IsAcceptedImage, first_slot_name, superblock_name_log_entry, pairs_of_superblock_chain}
 use Rattle.lfs_model.proofs.Counts.{Each}
 use Rattle.lfs_model.proofs.Superblocks.{meets_first, meets_from, meets_starting}
 use Rattle.lfs_tag.specs.ContentView.{tail_view}
-use Rattle.lfs_thread.specs.Kept.{AreHeaders, Header, pairs_on}
-use Rattle.lfs_mount.specs.Checked.{HasStart, IsAlone, IsBare}
-use Rattle.lfs_mount.specs.Head.{HasHeaders, IsHead, IsSuperblockOf, first_pair_with_slots, leads_on, repeats_first_slot, repeats_superblock, superblock_in}
+use Rattle.lfs_thread.specs.Kept.{ArePairHeadersOnDisk, PairHeader, pairs_of_headers}
+use Rattle.lfs_mount.specs.Checked.{BeginsWithSuperblockSlot, HasSuperblockSlotAlone, HasAtMostSuperblockSlot}
+use Rattle.lfs_mount.specs.Head.{AreHeadersOfDiskThread, HasSuperblockChainOfLength, IsSuperblockStructInBlock, first_pair_with_slots, leads_on, first_slot_repeats_superblock, block_repeats_superblock, superblock_struct_in_first_slot}
 use Rattle.lfs_mount.proofs.FirstSlots.{IsFirst, describes_struct, first_found, first_is, repeats_false, repeats_none, repeats_true, struct_described}
 use Rattle.lfs_mount.proofs.Headers.{IsSeen, header_at, pair_at, pair_of, seen_from}
 
@@ -25,7 +25,7 @@ use Rattle.lfs_mount.proofs.Headers.{IsSeen, header_at, pair_at, pair_of, seen_f
 
 -- a pair in front of the root's first one
 abbrev pub IsLink : List ℕ → Pair → Type 0
-IsLink bytes p = IsBare bytes p × (is_hard p.content.tail ≡ true)
+IsLink bytes p = HasAtMostSuperblockSlot bytes p × (is_hard_tail p.content.tail ≡ true)
 
 -- so many of them
 abbrev pub Linked : List ℕ → ℕ → List Pair → Type 0
@@ -36,36 +36,36 @@ Linked bytes (suc k) (p ∷ ps) = IsLink bytes p × Linked bytes k ps
 -- and behind them one that begins with the superblock
 abbrev pub Led : List ℕ → ℕ → List Pair → Type 0
 Led bytes k [] = ⊥
-Led bytes zero (p ∷ ps) = HasStart bytes p.content.slots
+Led bytes zero (p ∷ ps) = BeginsWithSuperblockSlot bytes p.content.slots
 Led bytes (suc k) (p ∷ ps) = IsLink bytes p × Led bytes k ps
 
-starts_so : (bytes : List ℕ) (slots : List Slot) → HasStart bytes slots → starts_with_superblock slots ≡ true
+starts_so : (bytes : List ℕ) (slots : List Slot) → BeginsWithSuperblockSlot bytes slots → starts_with_superblock slots ≡ true
 starts_so bytes [] h = absurd h
 starts_so bytes (s ∷ slots) h = h.0
 
-alone_start : (bytes : List ℕ) (p : Pair) → IsAlone bytes p → HasStart bytes p.content.slots
-alone_start bytes p a = subst (HasStart bytes) (sym a.slots) (a.superblock, a.struct)
+alone_start : (bytes : List ℕ) (p : Pair) → HasSuperblockSlotAlone bytes p → BeginsWithSuperblockSlot bytes p.content.slots
+alone_start bytes p a = subst (BeginsWithSuperblockSlot bytes) (sym a.slots) (a.superblock, a.struct)
 
-link_bare : (bytes : List ℕ) (p : Pair) → IsBare bytes p → is_bare p.content.slots ≡ true
-link_bare bytes p (inl none) = ap is_bare none
-link_bare bytes p (inr alone) = ap is_bare alone.slots ∙ alone.superblock
+link_bare : (bytes : List ℕ) (p : Pair) → HasAtMostSuperblockSlot bytes p → is_empty_or_superblock p.content.slots ≡ true
+link_bare bytes p (inl none) = ap is_empty_or_superblock none
+link_bare bytes p (inr alone) = ap is_empty_or_superblock alone.slots ∙ alone.superblock
 
 link_leads : (bytes : List ℕ) (p : Pair) → IsLink bytes p → Thread.leads_on p ≡ true
-link_leads bytes p h = and_from (is_bare p.content.slots) (is_hard p.content.tail) (link_bare bytes p h.0) h.1
+link_leads bytes p h = and_from (is_empty_or_superblock p.content.slots) (is_hard_tail p.content.tail) (link_bare bytes p h.0) h.1
 
-link_meets : (bytes : List ℕ) (p : Pair) (ps : List Pair) → IsLink bytes p → meets_superblock ps ≡ true → meets_superblock (p ∷ ps) ≡ true
-link_meets bytes p ps (inl none, hard) e = ap (λ z. superblock_or z (is_hard p.content.tail && meets_superblock ps)) none ∙ and_from (is_hard p.content.tail) (meets_superblock ps) hard e
+link_meets : (bytes : List ℕ) (p : Pair) (ps : List Pair) → IsLink bytes p → has_superblock_as_first_slot ps ≡ true → has_superblock_as_first_slot (p ∷ ps) ≡ true
+link_meets bytes p ps (inl none, hard) e = ap (λ z. starts_with_superblock_if_any_slot z (is_hard_tail p.content.tail && has_superblock_as_first_slot ps)) none ∙ and_from (is_hard_tail p.content.tail) (has_superblock_as_first_slot ps) hard e
 link_meets bytes p ps (inr alone, hard) e = meets_starting p ps (starts_so bytes p.content.slots (alone_start bytes p alone))
 
-before_link : (bytes : List ℕ) (p : Pair) (ps : List Pair) → IsLink bytes p → meets_superblock ps ≡ true → superblocks_before (p ∷ ps) ≡ suc (superblocks_before ps)
-before_link bytes p ps h e = ap (λ b. cond b (1 + superblocks_before ps) 0) (and_from (meets_superblock ps) (Thread.leads_on p) e (link_leads bytes p h)) ∙ (let n = superblocks_before ps in omega arith)
+before_link : (bytes : List ℕ) (p : Pair) (ps : List Pair) → IsLink bytes p → has_superblock_as_first_slot ps ≡ true → pair_count_before_root (p ∷ ps) ≡ suc (pair_count_before_root ps)
+before_link bytes p ps h e = ap (λ b. cond b (1 + pair_count_before_root ps) 0) (and_from (has_superblock_as_first_slot ps) (Thread.leads_on p) e (link_leads bytes p h)) ∙ (let n = pair_count_before_root ps in omega arith)
 
-linked_meets : (bytes : List ℕ) (k : ℕ) (ps : List Pair) → Linked bytes k ps → meets_superblock (drop k ps) ≡ true → meets_superblock ps ≡ true
+linked_meets : (bytes : List ℕ) (k : ℕ) (ps : List Pair) → Linked bytes k ps → has_superblock_as_first_slot (drop k ps) ≡ true → has_superblock_as_first_slot ps ≡ true
 linked_meets bytes zero ps h e = e
 linked_meets bytes (suc k) [] h e = absurd h
 linked_meets bytes (suc k) (p ∷ ps) h e = link_meets bytes p ps h.0 (linked_meets bytes k ps h.1 e)
 
-linked_before : (bytes : List ℕ) (k : ℕ) (ps : List Pair) → Linked bytes k ps → meets_superblock (drop k ps) ≡ true → superblocks_before ps ≡ k + superblocks_before (drop k ps)
+linked_before : (bytes : List ℕ) (k : ℕ) (ps : List Pair) → Linked bytes k ps → has_superblock_as_first_slot (drop k ps) ≡ true → pair_count_before_root ps ≡ k + pair_count_before_root (drop k ps)
 linked_before bytes zero ps h e = omega arith
 linked_before bytes (suc k) [] h e = absurd h
 linked_before bytes (suc k) (p ∷ ps) h e =
@@ -78,9 +78,9 @@ linked_more bytes k [] p h e link = absurd (cc)
 linked_more bytes zero (x ∷ ps) p h e link = (subst (IsLink bytes) (sym (same_Some x p e)) link, tt)
 linked_more bytes (suc k) (x ∷ ps) p h e link = (h.0, linked_more bytes k ps p h.1 e link)
 
-led_from : (bytes : List ℕ) (k : ℕ) (ps : List Pair) (p : Pair) → Linked bytes k ps → slice_get ps k ≡ Some p → HasStart bytes p.content.slots → Led bytes k ps
+led_from : (bytes : List ℕ) (k : ℕ) (ps : List Pair) (p : Pair) → Linked bytes k ps → slice_get ps k ≡ Some p → BeginsWithSuperblockSlot bytes p.content.slots → Led bytes k ps
 led_from bytes k [] p h e start = absurd (cc)
-led_from bytes zero (x ∷ ps) p h e start = subst (λ (z : Pair). HasStart bytes z.content.slots) (sym (same_Some x p e)) start
+led_from bytes zero (x ∷ ps) p h e start = subst (λ (z : Pair). BeginsWithSuperblockSlot bytes z.content.slots) (sym (same_Some x p e)) start
 led_from bytes (suc k) (x ∷ ps) p h e start = (h.0, led_from bytes k ps p h.1 e start)
 
 led_linked : (bytes : List ℕ) (k : ℕ) (ps : List Pair) → Led bytes k ps → Linked bytes k ps
@@ -88,9 +88,9 @@ led_linked bytes k [] l = absurd l
 led_linked bytes zero (p ∷ ps) l = tt
 led_linked bytes (suc k) (p ∷ ps) l = (l.0, led_linked bytes k ps l.1)
 
-led_start : (bytes : List ℕ) (k : ℕ) (ps : List Pair) (p : Pair) → Led bytes k ps → slice_get ps k ≡ Some p → HasStart bytes p.content.slots
+led_start : (bytes : List ℕ) (k : ℕ) (ps : List Pair) (p : Pair) → Led bytes k ps → slice_get ps k ≡ Some p → BeginsWithSuperblockSlot bytes p.content.slots
 led_start bytes k [] p l e = absurd l
-led_start bytes zero (x ∷ ps) p l e = subst (λ (z : Pair). HasStart bytes z.content.slots) (same_Some x p e) l
+led_start bytes zero (x ∷ ps) p l e = subst (λ (z : Pair). BeginsWithSuperblockSlot bytes z.content.slots) (same_Some x p e) l
 led_start bytes (suc k) (x ∷ ps) p l e = led_start bytes k ps p l.1 e
 
 dropped : (ps : List Pair) (k : ℕ) (p : Pair) → slice_get ps k ≡ Some p → drop k ps ≡ p ∷ drop (suc k) ps
@@ -98,7 +98,7 @@ dropped [] k p e = absurd (cc)
 dropped (x ∷ ps) zero p e = ap (λ (z : Pair). z ∷ ps) (same_Some x p e)
 dropped (x ∷ ps) (suc k) p e = dropped ps k p e
 
-led_meets : (bytes : List ℕ) (k : ℕ) (ps : List Pair) → Led bytes k ps → meets_superblock (drop k ps) ≡ true
+led_meets : (bytes : List ℕ) (k : ℕ) (ps : List Pair) → Led bytes k ps → has_superblock_as_first_slot (drop k ps) ≡ true
 led_meets bytes k [] l = absurd l
 led_meets bytes zero (p ∷ ps) l = meets_starting p ps (starts_so bytes p.content.slots l)
 led_meets bytes (suc k) (p ∷ ps) l = led_meets bytes k ps l.1
@@ -110,8 +110,8 @@ pub record IsWalked (bytes : List ℕ) (ps : List Pair) (root index : ℕ) : Typ
   pub led : Led bytes root ps
   pub linked : Linked bytes index ps
   pub below : root ≤ index
-  pub bare : (p : Pair) → slice_get ps index ≡ Some p → (p.content.slots ≡ []) ⊎ HasStart bytes p.content.slots
-  pub ends : (p : Pair) → slice_get ps index ≡ Some p → (meets_superblock (drop (suc index) ps) && Thread.leads_on p) ≡ false → superblocks_before ps ≡ root
+  pub bare : (p : Pair) → slice_get ps index ≡ Some p → (p.content.slots ≡ []) ⊎ BeginsWithSuperblockSlot bytes p.content.slots
+  pub ends : (p : Pair) → slice_get ps index ≡ Some p → (has_superblock_as_first_slot (drop (suc index) ps) && Thread.leads_on p) ≡ false → pair_count_before_root ps ≡ root
 
 walked_at : (bytes : List ℕ) (k : ℕ) (ps : List Pair) → Led bytes k ps → IsWalked bytes ps k k
 walked_at bytes k ps l = record {
@@ -120,7 +120,7 @@ walked_at bytes k ps l = record {
   below = omega arith;
   bare = λ p e. inr (led_start bytes k ps p l e);
   ends = λ p e halts.
-      let none = ap superblocks_before (dropped ps k p e) ∙ ap (λ b. cond b (1 + superblocks_before (drop (suc k) ps)) 0) halts in
+      let none = ap pair_count_before_root (dropped ps k p e) ∙ ap (λ b. cond b (1 + pair_count_before_root (drop (suc k) ps)) 0) halts in
       let all = linked_before bytes k ps (led_linked bytes k ps l) (led_meets bytes k ps l) in
       omega arith;
 }
@@ -133,29 +133,29 @@ few_le n f = go (n == 0) refl (n == 1) refl f
     go false e true g h = let z = eqb-true n 1 g in omega arith
     go false e false g h = absurd (cc)
 
-bare_from : (bytes : List ℕ) (p : Pair) → (p.content.slots ≡ []) ⊎ HasStart bytes p.content.slots → (length p.content.slots == 0 || length p.content.slots == 1) ≡ true → IsBare bytes p
+bare_from : (bytes : List ℕ) (p : Pair) → (p.content.slots ≡ []) ⊎ BeginsWithSuperblockSlot bytes p.content.slots → (length p.content.slots == 0 || length p.content.slots == 1) ≡ true → HasAtMostSuperblockSlot bytes p
 bare_from bytes p (inl none) few = inl none
 bare_from bytes p (inr start) few = go p.content.slots refl start (few_le (length p.content.slots) few)
   where
-    go : (slots : List Slot) → p.content.slots ≡ slots → HasStart bytes slots → length p.content.slots ≤ 1 → IsBare bytes p
+    go : (slots : List Slot) → p.content.slots ≡ slots → BeginsWithSuperblockSlot bytes slots → length p.content.slots ≤ 1 → HasAtMostSuperblockSlot bytes p
     go [] is k f = absurd k
     go (s ∷ []) is k f = inr (record { slot = s; slots = is; superblock = k.0; struct = k.1 })
     go (s ∷ t ∷ slots) is k f = absurd (let l = ap length is in omega arith)
 
-many_slots : (slots : List Slot) → (length slots == 0 || length slots == 1) ≡ false → is_bare slots ≡ false
+many_slots : (slots : List Slot) → (length slots == 0 || length slots == 1) ≡ false → is_empty_or_superblock slots ≡ false
 many_slots [] f = absurd (let clash : true ≡ false = f in cc)
 many_slots (s ∷ []) f = absurd (let clash : true ≡ false = f in cc)
 many_slots (s ∷ t ∷ slots) f = refl
 
 -- the chain stops at a pair that doesn't lead on
-stops : (p : Pair) → ((length p.content.slots == 0 || length p.content.slots == 1) && is_hard p.content.tail) ≡ false → Thread.leads_on p ≡ false
+stops : (p : Pair) → ((length p.content.slots == 0 || length p.content.slots == 1) && is_hard_tail p.content.tail) ≡ false → Thread.leads_on p ≡ false
 stops p e = go (length p.content.slots == 0 || length p.content.slots == 1) refl e
   where
-    go : (b : Bool) → (length p.content.slots == 0 || length p.content.slots == 1) ≡ b → (b && is_hard p.content.tail) ≡ false → Thread.leads_on p ≡ false
-    go false f k = ap (λ b. b && is_hard p.content.tail) (many_slots p.content.slots f)
-    go true f k = and_right (is_bare p.content.slots) (is_hard p.content.tail) k
+    go : (b : Bool) → (length p.content.slots == 0 || length p.content.slots == 1) ≡ b → (b && is_hard_tail p.content.tail) ≡ false → Thread.leads_on p ≡ false
+    go false f k = ap (λ b. b && is_hard_tail p.content.tail) (many_slots p.content.slots f)
+    go true f k = and_right (is_empty_or_superblock p.content.slots) (is_hard_tail p.content.tail) k
 
-meets_slots : (slots : List Slot) (later : Bool) → (slots ≡ [] → ⊥) → superblock_or slots later ≡ starts_with_superblock slots
+meets_slots : (slots : List Slot) (later : Bool) → (slots ≡ [] → ⊥) → starts_with_superblock_if_any_slot slots later ≡ starts_with_superblock slots
 meets_slots [] later some = absurd (some refl)
 meets_slots (s ∷ slots) later some = refl
 
@@ -167,8 +167,8 @@ record IsSplit (bytes : List ℕ) (k : ℕ) (ps : List Pair) : Type 0 where
   rest : List Pair
   parts : ps ≡ chain ++ p ∷ rest
   chain_is : length chain ≡ k
-  bare : Each (IsBare bytes) chain
-  start : HasStart bytes p.content.slots
+  bare : Each (HasAtMostSuperblockSlot bytes) chain
+  start : BeginsWithSuperblockSlot bytes p.content.slots
 
 split : (bytes : List ℕ) (k : ℕ) (ps : List Pair) → Led bytes k ps → IsSplit bytes k ps
 split bytes k [] l = absurd l
@@ -185,15 +185,15 @@ each_at P zero (x ∷ ps) k p low e h = absurd (omega arith)
 each_at P (suc n) (x ∷ ps) zero p low e h = subst P (same_Some x p e) h.0
 each_at P (suc n) (x ∷ ps) (suc k) p low e h = each_at P n ps k p (omega arith) e h.1
 
-start_of : (bytes : List ℕ) (slots : List Slot) → (slots ≡ [] → ⊥) → MayHaveSuperblock bytes slots → HasStart bytes slots
+start_of : (bytes : List ℕ) (slots : List Slot) → (slots ≡ [] → ⊥) → HasSuperblockOfBytesIfAny bytes slots → BeginsWithSuperblockSlot bytes slots
 start_of bytes [] some h = absurd (some refl)
 start_of bytes (s ∷ slots) some h = (h.0, h.1)
 
-same_bytes : (a b : List ℕ) (slots : List Slot) → HasStart a slots → HasStart b slots → a ≡ b
+same_bytes : (a b : List ℕ) (slots : List Slot) → BeginsWithSuperblockSlot a slots → BeginsWithSuperblockSlot b slots → a ≡ b
 same_bytes a b [] h k = absurd h
 same_bytes a b (s ∷ slots) h k = let e : Inline a ≡ Inline b = sym h.1 ∙ k.1 in cc
 
-has_some : (bytes : List ℕ) (slots : List Slot) → HasStart bytes slots → slots ≡ [] → ⊥
+has_some : (bytes : List ℕ) (slots : List Slot) → BeginsWithSuperblockSlot bytes slots → slots ≡ [] → ⊥
 has_some bytes [] h e = h
 has_some bytes (s ∷ slots) h e = cc
 
@@ -202,10 +202,10 @@ starting_some [] h e = cc
 starting_some (s ∷ slots) h e = cc
 
 -- a pair of the chain that has a slot has the struct
-held : (disk : Disk) (ps : List Pair) (a : IsAccepted disk ps) (k : ℕ) (p : Pair) → k ≤ superblocks_before ps → slice_get ps k ≡ Some p → (p.content.slots ≡ [] → ⊥) → HasStart a.superblock.0 p.content.slots
+held : (disk : Disk) (ps : List Pair) (a : IsAcceptedImage disk ps) (k : ℕ) (p : Pair) → k ≤ pair_count_before_root ps → slice_get ps k ≡ Some p → (p.content.slots ≡ [] → ⊥) → BeginsWithSuperblockSlot a.superblock.0 p.content.slots
 held disk ps a k p low e some = start_of a.superblock.0 p.content.slots some
-    (each_at (λ (q : Pair). MayHaveSuperblock a.superblock.0 q.content.slots) (superblocks_before ps + 1) ps k p (omega arith) e
-    (recursion_from_All (λ (q : Pair). MayHaveSuperblock a.superblock.0 q.content.slots) (superblock_pairs ps) a.superblock.1.1))
+    (each_at (λ (q : Pair). HasSuperblockOfBytesIfAny a.superblock.0 q.content.slots) (pair_count_before_root ps + 1) ps k p (omega arith) e
+    (recursion_from_All (λ (q : Pair). HasSuperblockOfBytesIfAny a.superblock.0 q.content.slots) (pairs_of_superblock_chain ps) a.superblock.1.1))
 
 get_some : (ps : List Pair) (k : ℕ) (bytes : List ℕ) → Led bytes k ps → (p : Pair) × (slice_get ps k ≡ Some p)
 get_some [] k bytes l = absurd l
@@ -214,25 +214,25 @@ get_some (x ∷ ps) (suc k) bytes l = get_some ps k bytes l.1
 
 -- the next pair has a superblock with another struct
 refused : (disk : Disk) (bytes : List ℕ) (root n : ℕ) (ps : List Pair) (q : Pair) → Led bytes root ps → root ≤ n → Linked bytes n ps → slice_get ps n ≡ Some q → starts_with_superblock q.content.slots ≡ true
-    → (HasStart bytes q.content.slots → ⊥) → IsAccepted disk ps → ⊥
+    → (BeginsWithSuperblockSlot bytes q.content.slots → ⊥) → IsAcceptedImage disk ps → ⊥
 refused disk bytes root n ps q led low linked e starts other a =
     let first = get_some ps root bytes led in
     let start = led_start bytes root ps first.0 led first.1 in
-    let meets = ap meets_superblock (dropped ps n q e) ∙ meets_starting q (drop (suc n) ps) starts in
+    let meets = ap has_superblock_as_first_slot (dropped ps n q e) ∙ meets_starting q (drop (suc n) ps) starts in
     let all = linked_before bytes n ps linked meets in
     let is : a.superblock.0 ≡ bytes = same_bytes a.superblock.0 bytes first.0.content.slots (held disk ps a root first.0 (omega arith) first.1 (has_some bytes first.0.content.slots start)) start in
-    other (subst (λ (z : List ℕ). HasStart z q.content.slots) is (held disk ps a n q (omega arith) e (starting_some q.content.slots starts)))
+    other (subst (λ (z : List ℕ). BeginsWithSuperblockSlot z q.content.slots) is (held disk ps a n q (omega arith) e (starting_some q.content.slots starts)))
 
 -- ---- headers
 
 -- one pair in front of another
-pub record IsStep (hs : List Header) (index : ℕ) (h next : Header) : Type 0 where
+pub record IsStep (hs : List PairHeader) (index : ℕ) (h next : PairHeader) : Type 0 where
   pub k : ℕ
   pub is : index ≡ suc k
   pub here : slice_get hs k ≡ Some h
   pub there : slice_get hs (suc k) ≡ Some next
 
-pub step_at : (hs : List Header) (index : ℕ) (h next : Header) → 1 ≤ index → index < length hs → h ≡ slice_index_or hs (index - 1) h → next ≡ slice_index_or hs index next → IsStep hs index h next
+pub step_at : (hs : List PairHeader) (index : ℕ) (h next : PairHeader) → 1 ≤ index → index < length hs → h ≡ slice_index_or hs (index - 1) h → next ≡ slice_index_or hs index next → IsStep hs index h next
 step_at hs index h next low high e f =
     let is : index ≡ suc (index - 1) = omega arith in
     record {
@@ -243,17 +243,17 @@ step_at hs index h next low high e f =
     }
 
 -- the same of other blocks, bytes and headers that are the same
-pub same_block : (blocks then : Blocks) (bytes read : List ℕ) (h k : Header) (o : Option Bool) → then ≡ blocks → read ≡ bytes → h ≡ k → repeats_superblock read (block_in then k.active) ≡ o → repeats_superblock bytes (block_in blocks h.active) ≡ o
-same_block blocks then bytes read h k o b r e f = ap (λ (x : Header). repeats_superblock bytes (block_in blocks x.active)) e ∙ ap₂ (λ (x : Blocks) (y : List ℕ). repeats_superblock y (block_in x k.active)) (sym b) (sym r) ∙ f
+pub same_block : (blocks then : Blocks) (bytes read : List ℕ) (h k : PairHeader) (o : Option Bool) → then ≡ blocks → read ≡ bytes → h ≡ k → block_repeats_superblock read (block_bytes_in then k.active) ≡ o → block_repeats_superblock bytes (block_bytes_in blocks h.active) ≡ o
+same_block blocks then bytes read h k o b r e f = ap (λ (x : PairHeader). block_repeats_superblock bytes (block_bytes_in blocks x.active)) e ∙ ap₂ (λ (x : Blocks) (y : List ℕ). block_repeats_superblock y (block_bytes_in x k.active)) (sym b) (sym r) ∙ f
 
 -- the first one of a pair that has a slot, with pairs of the chain in front of it
-record IsFilled (disk : Disk) (hs : List Header) (k : ℕ) (bytes : List ℕ) : Type 0 where
-  header : Header
+record IsFilled (disk : Disk) (hs : List PairHeader) (k : ℕ) (bytes : List ℕ) : Type 0 where
+  header : PairHeader
   here : slice_get hs k ≡ Some header
   some : (pair_of disk header).content.slots ≡ [] → ⊥
-  linked : Linked bytes k (pairs_on disk hs)
+  linked : Linked bytes k (pairs_of_headers disk hs)
   rest : List Pair
-  from : from_slots (pairs_on disk hs) ≡ pair_of disk header ∷ rest
+  from : pairs_from_first_slot (pairs_of_headers disk hs) ≡ pair_of disk header ∷ rest
 
 no_slots : (slots : List Slot) → length slots ≡ 0 → slots ≡ []
 no_slots [] e = refl
@@ -263,23 +263,23 @@ filled_slots : (slots : List Slot) → (slots ≡ [] → ⊥) → has_slots slot
 filled_slots [] some = absurd (some refl)
 filled_slots (s ∷ slots) some = refl
 
-filled : (disk : Disk) (history : List Event) (bytes : List ℕ) (hs : List Header) (k : ℕ) → AreHeaders disk history hs → first_pair_with_slots hs ≡ Some k → IsFilled disk hs k bytes
+filled : (disk : Disk) (history : List CallEvent) (bytes : List ℕ) (hs : List PairHeader) (k : ℕ) → ArePairHeadersOnDisk disk history hs → first_pair_with_slots hs ≡ Some k → IsFilled disk hs k bytes
 filled disk history bytes [] k each e = absurd (cc)
 filled disk history bytes (x ∷ hs) k each e =
-    go (x.slot_count == 0) refl (is_hard (option_map tail_view x.tail)) refl (first_pair_with_slots hs) refl e (λ j f. filled disk history bytes hs j each.1 f)
+    go (x.slot_count == 0) refl (is_hard_tail (option_map tail_view x.tail)) refl (first_pair_with_slots hs) refl e (λ j f. filled disk history bytes hs j each.1 f)
   where
     seen : IsSeen disk x
     seen = seen_from disk history x each.0
 
-    go : (a : Bool) → (x.slot_count == 0) ≡ a → (b : Bool) → is_hard (option_map tail_view x.tail) ≡ b → (o : Option ℕ) → first_pair_with_slots hs ≡ o
+    go : (a : Bool) → (x.slot_count == 0) ≡ a → (b : Bool) → is_hard_tail (option_map tail_view x.tail) ≡ b → (o : Option ℕ) → first_pair_with_slots hs ≡ o
         → cond a (cond b (option_map (λ n. suc n) o) None) (Some 0) ≡ Some k → ((j : ℕ) → first_pair_with_slots hs ≡ Some j → IsFilled disk hs j bytes) → IsFilled disk (x ∷ hs) k bytes
     go false n b hard o f is next = subst (λ i. IsFilled disk (x ∷ hs) i bytes) (same_Some 0 k is) (record {
       header = x;
       here = refl;
       some = some;
       linked = tt;
-      rest = pairs_on disk hs;
-      from = ap (λ t. cond t (pair_of disk x ∷ pairs_on disk hs) (from_slots (pairs_on disk hs))) (filled_slots (pair_of disk x).content.slots some);
+      rest = pairs_of_headers disk hs;
+      from = ap (λ t. cond t (pair_of disk x ∷ pairs_of_headers disk hs) (pairs_from_first_slot (pairs_of_headers disk hs))) (filled_slots (pair_of disk x).content.slots some);
     })
       where
         some : (pair_of disk x).content.slots ≡ [] → ⊥
@@ -292,31 +292,31 @@ filled disk history bytes (x ∷ hs) k each e =
       some = (next j f).some;
       linked = ((inl empty, sym seen.hard ∙ hard), (next j f).linked);
       rest = (next j f).rest;
-      from = ap (λ z. cond (has_slots z) (pair_of disk x ∷ pairs_on disk hs) (from_slots (pairs_on disk hs))) empty ∙ (next j f).from;
+      from = ap (λ z. cond (has_slots z) (pair_of disk x ∷ pairs_of_headers disk hs) (pairs_from_first_slot (pairs_of_headers disk hs))) empty ∙ (next j f).from;
     })
       where
         empty : (pair_of disk x).content.slots ≡ []
         empty = no_slots (pair_of disk x).content.slots (sym seen.count ∙ eqb-true x.slot_count 0 n)
 
-none_filled : (disk : Disk) (history : List Event) (hs : List Header) → AreHeaders disk history hs → first_pair_with_slots hs ≡ None → meets_superblock (pairs_on disk hs) ≡ false
+none_filled : (disk : Disk) (history : List CallEvent) (hs : List PairHeader) → ArePairHeadersOnDisk disk history hs → first_pair_with_slots hs ≡ None → has_superblock_as_first_slot (pairs_of_headers disk hs) ≡ false
 none_filled disk history [] each e = refl
-none_filled disk history (x ∷ hs) each e = go (x.slot_count == 0) refl (is_hard (option_map tail_view x.tail)) refl (first_pair_with_slots hs) refl e (λ f. none_filled disk history hs each.1 f)
+none_filled disk history (x ∷ hs) each e = go (x.slot_count == 0) refl (is_hard_tail (option_map tail_view x.tail)) refl (first_pair_with_slots hs) refl e (λ f. none_filled disk history hs each.1 f)
   where
     seen : IsSeen disk x
     seen = seen_from disk history x each.0
 
-    go : (a : Bool) → (x.slot_count == 0) ≡ a → (b : Bool) → is_hard (option_map tail_view x.tail) ≡ b → (o : Option ℕ) → first_pair_with_slots hs ≡ o
-        → cond a (cond b (option_map (λ n. suc n) o) None) (Some 0) ≡ None → (first_pair_with_slots hs ≡ None → meets_superblock (pairs_on disk hs) ≡ false) → meets_superblock (pairs_on disk (x ∷ hs)) ≡ false
+    go : (a : Bool) → (x.slot_count == 0) ≡ a → (b : Bool) → is_hard_tail (option_map tail_view x.tail) ≡ b → (o : Option ℕ) → first_pair_with_slots hs ≡ o
+        → cond a (cond b (option_map (λ n. suc n) o) None) (Some 0) ≡ None → (first_pair_with_slots hs ≡ None → has_superblock_as_first_slot (pairs_of_headers disk hs) ≡ false) → has_superblock_as_first_slot (pairs_of_headers disk (x ∷ hs)) ≡ false
     go false n b hard o f is next = absurd (cc)
     go true n true hard (Some j) f is next = absurd (cc)
-    go true n true hard None f is next = empty ∙ ap (λ b. is_hard (pair_of disk x).content.tail && b) (next f) ∙ and_right (is_hard (pair_of disk x).content.tail) false refl
+    go true n true hard None f is next = empty ∙ ap (λ b. is_hard_tail (pair_of disk x).content.tail && b) (next f) ∙ and_right (is_hard_tail (pair_of disk x).content.tail) false refl
       where
-        empty : meets_superblock (pairs_on disk (x ∷ hs)) ≡ (is_hard (pair_of disk x).content.tail && meets_superblock (pairs_on disk hs))
-        empty = ap (λ z. superblock_or z (is_hard (pair_of disk x).content.tail && meets_superblock (pairs_on disk hs))) (no_slots (pair_of disk x).content.slots (sym seen.count ∙ eqb-true x.slot_count 0 n))
-    go true n false hard o f is next = empty ∙ ap (λ b. b && meets_superblock (pairs_on disk hs)) (sym seen.hard ∙ hard)
+        empty : has_superblock_as_first_slot (pairs_of_headers disk (x ∷ hs)) ≡ (is_hard_tail (pair_of disk x).content.tail && has_superblock_as_first_slot (pairs_of_headers disk hs))
+        empty = ap (λ z. starts_with_superblock_if_any_slot z (is_hard_tail (pair_of disk x).content.tail && has_superblock_as_first_slot (pairs_of_headers disk hs))) (no_slots (pair_of disk x).content.slots (sym seen.count ∙ eqb-true x.slot_count 0 n))
+    go true n false hard o f is next = empty ∙ ap (λ b. b && has_superblock_as_first_slot (pairs_of_headers disk hs)) (sym seen.hard ∙ hard)
       where
-        empty : meets_superblock (pairs_on disk (x ∷ hs)) ≡ (is_hard (pair_of disk x).content.tail && meets_superblock (pairs_on disk hs))
-        empty = ap (λ z. superblock_or z (is_hard (pair_of disk x).content.tail && meets_superblock (pairs_on disk hs))) (no_slots (pair_of disk x).content.slots (sym seen.count ∙ eqb-true x.slot_count 0 n))
+        empty : has_superblock_as_first_slot (pairs_of_headers disk (x ∷ hs)) ≡ (is_hard_tail (pair_of disk x).content.tail && has_superblock_as_first_slot (pairs_of_headers disk hs))
+        empty = ap (λ z. starts_with_superblock_if_any_slot z (is_hard_tail (pair_of disk x).content.tail && has_superblock_as_first_slot (pairs_of_headers disk hs))) (no_slots (pair_of disk x).content.slots (sym seen.count ∙ eqb-true x.slot_count 0 n))
 
 with_true : (b : Bool) → (b && true) ≡ b
 with_true true = refl
@@ -328,21 +328,21 @@ turned true false = refl
 turned false true = refl
 turned false false = refl
 
-module _ (disk : Disk) (history : List Event) (hs : List Header) (has : HasHeaders disk history hs) where
+module _ (disk : Disk) (history : List CallEvent) (hs : List PairHeader) (has : AreHeadersOfDiskThread disk history hs) where
   abbrev ps : List Pair
-  ps = pairs_on disk hs
+  ps = pairs_of_headers disk hs
 
   -- ---- one step
 
-  leads_seen : (h : Header) → IsSeen disk h → leads_on h ≡ ((length (pair_of disk h).content.slots == 0 || length (pair_of disk h).content.slots == 1) && is_hard (pair_of disk h).content.tail)
+  leads_seen : (h : PairHeader) → IsSeen disk h → leads_on h ≡ ((length (pair_of disk h).content.slots == 0 || length (pair_of disk h).content.slots == 1) && is_hard_tail (pair_of disk h).content.tail)
   leads_seen h seen = ap₂ (λ n b. (n == 0 || n == 1) && b) seen.count seen.hard
 
   -- the chain stops at a pair that doesn't lead on
-  pub halts : (bytes : List ℕ) (root index : ℕ) (h : Header) → slice_get hs index ≡ Some h → IsWalked bytes ps root index → leads_on h ≡ false → superblocks_before ps ≡ root
+  pub halts : (bytes : List ℕ) (root index : ℕ) (h : PairHeader) → slice_get hs index ≡ Some h → IsWalked bytes ps root index → leads_on h ≡ false → pair_count_before_root ps ≡ root
   halts bytes root index h here w e = w.ends (pair_of disk h) (pair_at disk hs index h here)
-      (and_right (meets_superblock (drop (suc index) ps)) (Thread.leads_on (pair_of disk h)) (stops (pair_of disk h) (sym (leads_seen h (header_at disk history hs index h has.each here)) ∙ e)))
+      (and_right (has_superblock_as_first_slot (drop (suc index) ps)) (Thread.leads_on (pair_of disk h)) (stops (pair_of disk h) (sym (leads_seen h (header_at disk history hs index h has.each here)) ∙ e)))
 
-  module _ (bytes : List ℕ) (root index : ℕ) (h next : Header) (s : IsStep hs index h next) (walked : IsWalked bytes ps root (index - 1)) where
+  module _ (bytes : List ℕ) (root index : ℕ) (h next : PairHeader) (s : IsStep hs index h next) (walked : IsWalked bytes ps root (index - 1)) where
     abbrev p : Pair
     p = pair_of disk h
 
@@ -364,29 +364,29 @@ module _ (disk : Disk) (history : List Event) (hs : List Header) (has : HasHeade
     abbrev seen_next : IsSeen disk next
     seen_next = header_at disk history hs (suc s.k) next has.each s.there
 
-    repeats : repeats_superblock bytes (block_at disk next.active) ≡ repeats_first_slot bytes seen_next.held.slots
-    repeats = ap (option_and_then (λ c. repeats_first_slot bytes c.slots)) seen_next.log
+    repeats : block_repeats_superblock bytes (block_bytes_on_disk disk next.active) ≡ first_slot_repeats_superblock bytes seen_next.held.slots
+    repeats = ap (option_and_then (λ c. first_slot_repeats_superblock bytes c.slots)) seen_next.log
 
     pub within : next.active < block_count disk
     within = seen_next.active
 
-    leads_is : leads_on h ≡ ((length p.content.slots == 0 || length p.content.slots == 1) && is_hard p.content.tail)
+    leads_is : leads_on h ≡ ((length p.content.slots == 0 || length p.content.slots == 1) && is_hard_tail p.content.tail)
     leads_is = leads_seen h seen
 
     module _ (leads : leads_on h ≡ true) where
       link : IsLink bytes p
       link =
-          let both = and_parts (length p.content.slots == 0 || length p.content.slots == 1) (is_hard p.content.tail) (sym leads_is ∙ leads) in
+          let both = and_parts (length p.content.slots == 0 || length p.content.slots == 1) (is_hard_tail p.content.tail) (sym leads_is ∙ leads) in
           (bare_from bytes p (w.bare p p_at) both.0, both.1)
 
       linked : Linked bytes (suc s.k) ps
       linked = linked_more bytes s.k ps p w.linked p_at link
 
-      goes : (meets_superblock (drop (suc s.k) ps) && Thread.leads_on p) ≡ meets_superblock (drop (suc s.k) ps)
-      goes = ap (λ b. meets_superblock (drop (suc s.k) ps) && b) (link_leads bytes p link) ∙ with_true (meets_superblock (drop (suc s.k) ps))
+      goes : (has_superblock_as_first_slot (drop (suc s.k) ps) && Thread.leads_on p) ≡ has_superblock_as_first_slot (drop (suc s.k) ps)
+      goes = ap (λ b. has_superblock_as_first_slot (drop (suc s.k) ps) && b) (link_leads bytes p link) ∙ with_true (has_superblock_as_first_slot (drop (suc s.k) ps))
 
-      meets : meets_superblock (drop (suc s.k) ps) ≡ superblock_or q.content.slots (is_hard q.content.tail && meets_superblock (drop (suc (suc s.k)) ps))
-      meets = ap meets_superblock (dropped ps (suc s.k) q q_at)
+      meets : has_superblock_as_first_slot (drop (suc s.k) ps) ≡ starts_with_superblock_if_any_slot q.content.slots (is_hard_tail q.content.tail && has_superblock_as_first_slot (drop (suc (suc s.k)) ps))
+      meets = ap has_superblock_as_first_slot (dropped ps (suc s.k) q q_at)
 
       -- no slot
       pub passes : next.slot_count ≡ 0 → IsWalked bytes ps root (index + 1 - 1)
@@ -395,9 +395,9 @@ module _ (disk : Disk) (history : List Event) (hs : List Header) (has : HasHeade
         linked = linked;
         below = (let b = w.below in omega arith);
         bare = λ x e. inl (subst (λ (z : Pair). z.content.slots ≡ []) (same_Some q x (sym q_at ∙ e)) empty);
-        ends = λ x e k. w.ends p p_at (goes ∙ meets ∙ ap (λ z. superblock_or z (is_hard q.content.tail && meets_superblock (drop (suc (suc s.k)) ps))) empty ∙ turned (is_hard q.content.tail) (meets_superblock (drop (suc (suc s.k)) ps))
-            ∙ ap (λ z. meets_superblock (drop (suc (suc s.k)) ps) && (is_bare z && is_hard q.content.tail)) (sym empty)
-            ∙ ap (λ (z : Pair). meets_superblock (drop (suc (suc s.k)) ps) && Thread.leads_on z) (same_Some q x (sym q_at ∙ e)) ∙ k);
+        ends = λ x e k. w.ends p p_at (goes ∙ meets ∙ ap (λ z. starts_with_superblock_if_any_slot z (is_hard_tail q.content.tail && has_superblock_as_first_slot (drop (suc (suc s.k)) ps))) empty ∙ turned (is_hard_tail q.content.tail) (has_superblock_as_first_slot (drop (suc (suc s.k)) ps))
+            ∙ ap (λ z. has_superblock_as_first_slot (drop (suc (suc s.k)) ps) && (is_empty_or_superblock z && is_hard_tail q.content.tail)) (sym empty)
+            ∙ ap (λ (z : Pair). has_superblock_as_first_slot (drop (suc (suc s.k)) ps) && Thread.leads_on z) (same_Some q x (sym q_at ∙ e)) ∙ k);
       })
         where
           empty : q.content.slots ≡ []
@@ -407,32 +407,32 @@ module _ (disk : Disk) (history : List Event) (hs : List Header) (has : HasHeade
       some filled e = filled (seen_next.count ∙ ap length e)
 
       -- the superblock again
-      pub more : repeats_superblock bytes (block_at disk next.active) ≡ Some true → IsWalked bytes ps index (index + 1 - 1)
+      pub more : block_repeats_superblock bytes (block_bytes_on_disk disk next.active) ≡ Some true → IsWalked bytes ps index (index + 1 - 1)
       more is = subst (IsWalked bytes ps index) (omega arith) (subst (λ n. IsWalked bytes ps n n) (sym s.is) (walked_at bytes (suc s.k) ps
           (led_from bytes (suc s.k) ps q linked q_at (repeats_true bytes seen_next.held.slots q.content.slots seen_next.slots (sym repeats ∙ is)))))
 
       -- other slots
-      pub ends : (next.slot_count ≡ 0 → ⊥) → repeats_superblock bytes (block_at disk next.active) ≡ Some false → superblocks_before ps ≡ root
-      ends filled is = w.ends p p_at (goes ∙ meets ∙ meets_slots q.content.slots (is_hard q.content.tail && meets_superblock (drop (suc (suc s.k)) ps)) (some filled)
+      pub ends : (next.slot_count ≡ 0 → ⊥) → block_repeats_superblock bytes (block_bytes_on_disk disk next.active) ≡ Some false → pair_count_before_root ps ≡ root
+      ends filled is = w.ends p p_at (goes ∙ meets ∙ meets_slots q.content.slots (is_hard_tail q.content.tail && has_superblock_as_first_slot (drop (suc (suc s.k)) ps)) (some filled)
           ∙ repeats_false bytes seen_next.held.slots q.content.slots seen_next.slots (sym repeats ∙ is))
 
-      pub fails : repeats_superblock bytes (block_at disk next.active) ≡ None → IsAccepted disk ps → ⊥
+      pub fails : block_repeats_superblock bytes (block_bytes_on_disk disk next.active) ≡ None → IsAcceptedImage disk ps → ⊥
       fails is a =
           let other = repeats_none bytes seen_next.held.slots q.content.slots seen_next.slots (sym repeats ∙ is) in
           refused disk bytes root (suc s.k) ps q w.led (let b = w.below in omega arith) linked q_at other.0 other.1 a
 
   -- ---- the first header of a pair that has a slot, as it is read
 
-  pub refused_none : first_pair_with_slots hs ≡ None → IsAccepted disk ps → ⊥
+  pub refused_none : first_pair_with_slots hs ≡ None → IsAcceptedImage disk ps → ⊥
   refused_none none a = let e = sym (meets_from ps a.root) ∙ none_filled disk history hs has.each none in cc
 
   module _ (k : ℕ) (found : first_pair_with_slots hs ≡ Some k) where
     pub within_first : k < length hs
     within_first = let f = filled disk history [] hs k has.each found in slice_get_within hs k f.header f.here
 
-    module _ (h : Header) (is : h ≡ slice_index_or hs k h) where
+    module _ (h : PairHeader) (is : h ≡ slice_index_or hs k h) where
       pub active_within : (slice_index_or hs k h).active < block_count disk
-      active_within = subst (λ (x : Header). x.active < block_count disk) is (header_at disk history hs k h has.each (slice_get_read hs (length hs) k h refl within_first is)).active
+      active_within = subst (λ (x : PairHeader). x.active < block_count disk) is (header_at disk history hs k h has.each (slice_get_read hs (length hs) k h refl within_first is)).active
 
       here : slice_get hs k ≡ Some h
       here = slice_get_read hs (length hs) k h refl within_first is
@@ -455,52 +455,52 @@ module _ (disk : Disk) (history : List Event) (hs : List Header) (has : HasHeade
       linked_first : (bytes : List ℕ) → Linked bytes k ps
       linked_first bytes = (f bytes).linked
 
-      from : from_slots ps ≡ pair_of disk h ∷ (f []).rest
-      from = (f []).from ∙ ap (λ (x : Header). pair_of disk x ∷ (f []).rest) (same_header [])
+      from : pairs_from_first_slot ps ≡ pair_of disk h ∷ (f []).rest
+      from = (f []).from ∙ ap (λ (x : PairHeader). pair_of disk x ∷ (f []).rest) (same_header [])
 
       some_slot : (pair_of disk h).content.slots ≡ [] → ⊥
-      some_slot = subst (λ (x : Header). (pair_of disk x).content.slots ≡ [] → ⊥) (same_header []) (f []).some
+      some_slot = subst (λ (x : PairHeader). (pair_of disk x).content.slots ≡ [] → ⊥) (same_header []) (f []).some
 
-      held_first : holder_at disk (first_at (from_slots ps)) ≡ Some (block_at disk h.active)
-      held_first = ap (λ (qs : List Pair). holder_at disk (first_at qs)) from ∙ first_seen.holds
+      held_first : current_block_of_pair_at disk (first_pair_address (pairs_from_first_slot ps)) ≡ Some (block_bytes_on_disk disk h.active)
+      held_first = ap (λ (qs : List Pair). current_block_of_pair_at disk (first_pair_address qs)) from ∙ first_seen.holds
 
       -- the superblock that its block has, by the header as it is read
       abbrev pub HasFound : List ℕ → Type 0
-      HasFound bytes = IsSuperblockOf disk (slice_index_or hs k h).active bytes
+      HasFound bytes = IsSuperblockStructInBlock disk (slice_index_or hs k h).active bytes
 
-      there : (bytes : List ℕ) → HasFound bytes → IsSuperblockOf disk h.active bytes
-      there bytes s = subst (λ (z : Header). IsSuperblockOf disk z.active bytes) (sym is) s
+      there : (bytes : List ℕ) → HasFound bytes → IsSuperblockStructInBlock disk h.active bytes
+      there bytes s = subst (λ (z : PairHeader). IsSuperblockStructInBlock disk z.active bytes) (sym is) s
 
       is_first : (bytes : List ℕ) → HasFound bytes → IsFirst disk.block_size (block_count disk) bytes (pair_of disk h).content.slots
       is_first bytes s =
           first_found disk.block_size (block_count disk) first_seen.held.slots (pair_of disk h).content.slots bytes first_seen.slots
-          (sym (ap (option_and_then (λ c. superblock_in disk.block_size (block_count disk) c.slots)) first_seen.log) ∙ (there bytes s).struct)
+          (sym (ap (option_and_then (λ c. superblock_struct_in_first_slot disk.block_size (block_count disk) c.slots)) first_seen.log) ∙ (there bytes s).struct)
 
       pub begun : (bytes : List ℕ) → HasFound bytes → IsWalked bytes ps k (k + 1 - 1)
       begun bytes s = subst (λ n. IsWalked bytes ps k n) (omega arith)
           (walked_at bytes k ps (led_from bytes k ps (pair_of disk h) (linked_first bytes) first_pair (is_first bytes s).start))
 
-      pub refused_first : ((bytes : List ℕ) → HasFound bytes → ⊥) → IsAccepted disk ps → ⊥
+      pub refused_first : ((bytes : List ℕ) → HasFound bytes → ⊥) → IsAcceptedImage disk ps → ⊥
       refused_first never a =
           let bytes = a.superblock.0 in
           let starts = meets_first ps (pair_of disk h) (f []).rest from (meets_from ps a.root) in
-          let meets = ap meets_superblock (dropped ps k (pair_of disk h) first_pair) ∙ meets_starting (pair_of disk h) (drop (suc k) ps) starts in
+          let meets = ap has_superblock_as_first_slot (dropped ps k (pair_of disk h) first_pair) ∙ meets_starting (pair_of disk h) (drop (suc k) ps) starts in
           let all = linked_before bytes k ps (linked_first bytes) meets in
           let first_is_so : IsFirst disk.block_size (block_count disk) bytes (pair_of disk h).content.slots =
           record {
             start = held disk ps a k (pair_of disk h) (omega arith) first_pair some_slot;
-            named = ap first_name (sym from) ∙ a.named;
+            named = ap first_slot_name (sym from) ∙ a.named;
             describes = describes_struct disk bytes a.superblock.1.0;
           } in
-          never bytes (subst (λ (z : Header). IsSuperblockOf disk z.active bytes) is (record {
-            begins = subst (λ o. BeginsWithEntry o superblock_entry) held_first a.first;
-            struct = ap (option_and_then (λ c. superblock_in disk.block_size (block_count disk) c.slots)) first_seen.log
+          never bytes (subst (λ (z : PairHeader). IsSuperblockStructInBlock disk z.active bytes) is (record {
+            begins = subst (λ o. BeginsWithLogEntry o superblock_name_log_entry) held_first a.first;
+            struct = ap (option_and_then (λ c. superblock_struct_in_first_slot disk.block_size (block_count disk) c.slots)) first_seen.log
                 ∙ first_is disk.block_size (block_count disk) first_seen.held.slots (pair_of disk h).content.slots bytes first_seen.slots first_is_so;
           }))
 
       -- ---- the head
 
-      pub head_is : (bytes : List ℕ) (root index : ℕ) → HasFound bytes → IsWalked bytes ps root index → superblocks_before ps ≡ root → IsHead disk ps root
+      pub head_is : (bytes : List ℕ) (root index : ℕ) → HasFound bytes → IsWalked bytes ps root index → pair_count_before_root ps ≡ root → HasSuperblockChainOfLength disk ps root
       head_is bytes root index s w before =
           let apart = split bytes root ps w.led in
           let d = is_first bytes s in
@@ -513,9 +513,9 @@ module _ (disk : Disk) (history : List Event) (hs : List Header) (has : HasHeade
             before = before;
             bytes = bytes;
             head = record {
-              first = subst (λ (qs : List Pair). BeginsWithEntry (holder_at disk (first_at (from_slots qs))) superblock_entry) apart.parts
-                  (subst (λ o. BeginsWithEntry o superblock_entry) (sym held_first) (there bytes s).begins);
-              named = ap (λ (qs : List Pair). first_name (from_slots qs)) (sym apart.parts) ∙ ap first_name from ∙ d.named;
+              first = subst (λ (qs : List Pair). BeginsWithLogEntry (current_block_of_pair_at disk (first_pair_address (pairs_from_first_slot qs))) superblock_name_log_entry) apart.parts
+                  (subst (λ o. BeginsWithLogEntry o superblock_name_log_entry) (sym held_first) (there bytes s).begins);
+              named = ap (λ (qs : List Pair). first_slot_name (pairs_from_first_slot qs)) (sym apart.parts) ∙ ap first_slot_name from ∙ d.named;
               struct = struct_described disk bytes d.describes;
               bare = apart.bare;
               start = apart.start;
@@ -523,7 +523,7 @@ module _ (disk : Disk) (history : List Event) (hs : List Header) (has : HasHeade
           }
 
       -- behind the last pair there is none
-      pub last_is : (bytes : List ℕ) (root index : ℕ) → HasFound bytes → IsWalked bytes ps root index → suc index ≡ length hs → IsHead disk ps root
+      pub last_is : (bytes : List ℕ) (root index : ℕ) → HasFound bytes → IsWalked bytes ps root index → suc index ≡ length hs → HasSuperblockChainOfLength disk ps root
       last_is bytes root index s w last = head_is bytes root index s w (go (slice_get ps index) refl)
         where
           none_behind : (qs : List Pair) → length qs ≤ suc index → drop (suc index) qs ≡ []
@@ -540,6 +540,6 @@ module _ (disk : Disk) (history : List Event) (hs : List Header) (has : HasHeade
           beyond (x ∷ qs) zero l e = cc
           beyond (x ∷ qs) (suc n) l e = beyond qs n (omega arith) e
 
-          go : (o : Option Pair) → slice_get ps index ≡ o → superblocks_before ps ≡ root
-          go (Some p) e = w.ends p e (ap (λ (qs : List Pair). meets_superblock qs && Thread.leads_on p) (none_behind ps (let l = length-map hs (pair_of disk) in omega arith)))
+          go : (o : Option Pair) → slice_get ps index ≡ o → pair_count_before_root ps ≡ root
+          go (Some p) e = w.ends p e (ap (λ (qs : List Pair). has_superblock_as_first_slot qs && Thread.leads_on p) (none_behind ps (let l = length-map hs (pair_of disk) in omega arith)))
           go None e = absurd (beyond ps index (let l = length-map hs (pair_of disk) in omega arith) e)

@@ -5,23 +5,23 @@ use Rattle.std.specs.List.{IsDistinct}
 use Rattle.std.proofs.lemmas.List.{drop-map}
 use Rattle.lfs_model.proofs.Listings.{distinct_right}
 use Rattle.std.proofs.lemmas.Option.{slice_get-get_or}
-use Rattle.lfs_model.specs.BlockSets.{AreInFlight, AreUsed, BlockState, BlockSets}
+use Rattle.lfs_model.specs.BlockSets.{AreExactlyTheInFlightBlocks, AreExactlyTheUsedBlocks, BlockState, BlockStateList}
 use Rattle.lfs_model.specs.BlockSets.BlockState.{Free, InFlight, Used}
 use Rattle.lfs_model.specs.Disk.{Disk, block_count}
-use Rattle.lfs_model.specs.Content.{content_at}
-use Rattle.lfs_model.specs.History.{Event}
+use Rattle.lfs_model.specs.Content.{content_of_pair_at}
+use Rattle.lfs_model.specs.History.{CallEvent}
 use Rattle.lfs_model.specs.Slots.{Gstate}
-use Rattle.lfs_model.specs.Thread.{IsThread, ThreadDirectory, Pair, blocks_of, directories_of, gstate_of, is_hard, directories_with_pair, starts_with_superblock, superblocks_before, entries_not_moved}
-use Rattle.lfs_model.specs.Shown.{directories_in}
+use Rattle.lfs_model.specs.Thread.{IsThread, ThreadDirectory, Pair, blocks_of_pairs, directories_of_pairs, gstate_of, is_hard_tail, directories_with_pair_first, starts_with_superblock, pair_count_before_root, entries_not_moved}
+use Rattle.lfs_model.specs.Shown.{directories_in_thread}
 use Rattle.lfs_model.proofs.BlockSets.{Contains-count, count-Contains}
 use Rattle.lfs_model.proofs.Superblocks.{pairs_behind}
-use Rattle.lfs_pair.specs.Pair.{address_in}
-use Rattle.lfs_thread.specs.Kept.{AreHeaders, Header, pairs_on}
-use Rattle.lfs_mount.specs.Described.{AreMembers, IsMember}
-use Rattle.lfs_mount.specs.Entries.{first_addresses_of}
-use Rattle.lfs_mount.specs.Head.{IsHead}
-use Rattle.lfs_mount.specs.Marking.{HasExactly}
-use Rattle.lfs_mount.specs.Members.{AreDirectories, IsThreadRead, IsThreadOf, directory_addresses, continues, member_in, members_in}
+use Rattle.lfs_pair.specs.Pair.{address_of_header}
+use Rattle.lfs_thread.specs.Kept.{ArePairHeadersOnDisk, PairHeader, pairs_of_headers}
+use Rattle.lfs_mount.specs.Described.{ArePairsDescribedByMembers, IsPairDescribedByMember}
+use Rattle.lfs_mount.specs.Entries.{directory_first_addresses}
+use Rattle.lfs_mount.specs.Head.{HasSuperblockChainOfLength}
+use Rattle.lfs_mount.specs.Marking.{HasExactlyUsedBlocks}
+use Rattle.lfs_mount.specs.Members.{AreDirectoryHeadersOfThread, IsThreadReadFromDisk, IsThreadOfDirectoryHeaders, directory_addresses, header_has_hard_tail, member_of_header, members_of_headers}
 use Rattle.lfs_mount.proofs.Accepts.{starts_so}
 use Rattle.lfs_mount.proofs.Begins.{begins_distinct}
 use Rattle.lfs_mount.proofs.Headers.{pair_of, seen_from}
@@ -29,13 +29,13 @@ use Rattle.lfs_mount.proofs.Owned.{counted_place, placed_count}
 
 -- ---- members
 
-member_is : (disk : Disk) (history : List Event) (g : Gstate) (first : Bool) (h : Header) → AreHeaders disk history (h ∷ []) → (first ≡ true → starts_with_superblock (pair_of disk h).content.slots ≡ true)
-    → IsMember disk g first (pair_of disk h) (member_in g first h)
+member_is : (disk : Disk) (history : List CallEvent) (g : Gstate) (first : Bool) (h : PairHeader) → ArePairHeadersOnDisk disk history (h ∷ []) → (first ≡ true → starts_with_superblock (pair_of disk h).content.slots ≡ true)
+    → IsPairDescribedByMember disk g first (pair_of disk h) (member_of_header g first h)
 member_is disk history g first h are starts =
     let s = seen_from disk history h are.0 in
     record { content = s.content; within = s.active; active = s.holds; hard = s.hard; first = refl; starts = starts; moved = refl }
 
-members_are : (disk : Disk) (history : List Event) (g : Gstate) (hs : List Header) → AreHeaders disk history hs → AreMembers disk g false (pairs_on disk hs) (members_in g false hs)
+members_are : (disk : Disk) (history : List CallEvent) (g : Gstate) (hs : List PairHeader) → ArePairHeadersOnDisk disk history hs → ArePairsDescribedByMembers disk g false (pairs_of_headers disk hs) (members_of_headers g false hs)
 members_are disk history g [] are = tt
 members_are disk history g (h ∷ hs) are = (member_is disk history g false h (are.0, tt) (λ e. absurd (cc)), members_are disk history g hs are.1)
 
@@ -43,11 +43,11 @@ abbrev Starts : List Pair → Type 0
 Starts [] = Unit {0}
 Starts (p ∷ ps) = starts_with_superblock p.content.slots ≡ true
 
-described : (disk : Disk) (history : List Event) (g : Gstate) (hs : List Header) → AreHeaders disk history hs → Starts (pairs_on disk hs) → AreMembers disk g true (pairs_on disk hs) (members_in g true hs)
+described : (disk : Disk) (history : List CallEvent) (g : Gstate) (hs : List PairHeader) → ArePairHeadersOnDisk disk history hs → Starts (pairs_of_headers disk hs) → ArePairsDescribedByMembers disk g true (pairs_of_headers disk hs) (members_of_headers g true hs)
 described disk history g [] are starts = tt
 described disk history g (h ∷ hs) are starts = (member_is disk history g true h (are.0, tt) (λ e. starts), members_are disk history g hs are.1)
 
-headers_drop : (disk : Disk) (history : List Event) (n : ℕ) (hs : List Header) → AreHeaders disk history hs → AreHeaders disk history (drop n hs)
+headers_drop : (disk : Disk) (history : List CallEvent) (n : ℕ) (hs : List PairHeader) → ArePairHeadersOnDisk disk history hs → ArePairHeadersOnDisk disk history (drop n hs)
 headers_drop disk history zero hs are = are
 headers_drop disk history (suc n) [] are = tt
 headers_drop disk history (suc n) (h ∷ hs) are = headers_drop disk history n hs are.1
@@ -56,30 +56,30 @@ headers_drop disk history (suc n) (h ∷ hs) are = headers_drop disk history n h
 
 abbrev begins_of : Bool → List Pair → List (ℕ × ℕ)
 begins_of begins [] = []
-begins_of begins (p ∷ ps) = cond begins (p.at ∷ begins_of (not (is_hard p.content.tail)) ps) (begins_of (not (is_hard p.content.tail)) ps)
+begins_of begins (p ∷ ps) = cond begins (p.at ∷ begins_of (not (is_hard_tail p.content.tail)) ps) (begins_of (not (is_hard_tail p.content.tail)) ps)
 
-begins_seen : (disk : Disk) (history : List Event) (begins : Bool) (hs : List Header) → AreHeaders disk history hs → directory_addresses begins hs ≡ begins_of begins (pairs_on disk hs)
+begins_seen : (disk : Disk) (history : List CallEvent) (begins : Bool) (hs : List PairHeader) → ArePairHeadersOnDisk disk history hs → directory_addresses begins hs ≡ begins_of begins (pairs_of_headers disk hs)
 begins_seen disk history begins [] are = refl
 begins_seen disk history begins (h ∷ hs) are =
-    let next = begins_seen disk history (not (continues h)) hs are.1 ∙ ap (λ (b : Bool). begins_of (not b) (pairs_on disk hs)) (seen_from disk history h are.0).hard in
-    ap (λ (xs : List (ℕ × ℕ)). cond begins (address_in h ∷ xs) xs) next
+    let next = begins_seen disk history (not (header_has_hard_tail h)) hs are.1 ∙ ap (λ (b : Bool). begins_of (not b) (pairs_of_headers disk hs)) (seen_from disk history h are.0).hard in
+    ap (λ (xs : List (ℕ × ℕ)). cond begins (address_of_header h ∷ xs) xs) next
 
-begins_listed : (g : Gstate) (ps : List Pair) → first_addresses_of (directories_of g ps) ≡ begins_of true ps
+begins_listed : (g : Gstate) (ps : List Pair) → directory_first_addresses (directories_of_pairs g ps) ≡ begins_of true ps
 begins_listed g [] = refl
 begins_listed g (p ∷ []) = refl
-begins_listed g (p ∷ q ∷ qs) = go (is_hard p.content.tail) (directories_of g (q ∷ qs)) (begins_listed g (q ∷ qs))
+begins_listed g (p ∷ q ∷ qs) = go (is_hard_tail p.content.tail) (directories_of_pairs g (q ∷ qs)) (begins_listed g (q ∷ qs))
   where
     more : List (ℕ × ℕ)
-    more = begins_of (not (is_hard q.content.tail)) qs
+    more = begins_of (not (is_hard_tail q.content.tail)) qs
 
-    go : (hard : Bool) (ds : List ThreadDirectory) → first_addresses_of ds ≡ q.at ∷ more → first_addresses_of (directories_with_pair p.at hard (entries_not_moved g p) ds) ≡ p.at ∷ begins_of (not hard) (q ∷ qs)
+    go : (hard : Bool) (ds : List ThreadDirectory) → directory_first_addresses ds ≡ q.at ∷ more → directory_first_addresses (directories_with_pair_first p.at hard (entries_not_moved g p) ds) ≡ p.at ∷ begins_of (not hard) (q ∷ qs)
     go hard [] e = absurd (cc)
     go true (d ∷ ds) e = ap (λ (xs : List (ℕ × ℕ)). p.at ∷ drop 1 xs) e
     go false (d ∷ ds) e = ap (λ (xs : List (ℕ × ℕ)). p.at ∷ xs) e
 
 -- ---- the map
 
-owns_from : (sets : BlockSets) (bs : List ℕ) → IsDistinct nat_eq bs → AreUsed sets bs → AreInFlight sets [] → HasExactly sets bs
+owns_from : (sets : BlockStateList) (bs : List ℕ) → IsDistinct nat_eq bs → AreExactlyTheUsedBlocks sets bs → AreExactlyTheInFlightBlocks sets [] → HasExactlyUsedBlocks sets bs
 owns_from sets bs distinct used none = record {
   distinct = distinct;
   used = λ i b e. (used b).1 (Contains-count bs b (placed_count b bs i e));
@@ -96,45 +96,45 @@ owns_from sets bs distinct used none = record {
 
 -- ---- the thread
 
-module _ (disk : Disk) (history : List Event) (hs : List Header) (sets : BlockSets) (g : Gstate) (count : ℕ) (r : IsThreadRead disk history hs sets g) (head : IsHead disk (pairs_on disk hs) count) where
-  abbrev dirs : List Header
+module _ (disk : Disk) (history : List CallEvent) (hs : List PairHeader) (sets : BlockStateList) (g : Gstate) (count : ℕ) (r : IsThreadReadFromDisk disk history hs sets g) (head : HasSuperblockChainOfLength disk (pairs_of_headers disk hs) count) where
+  abbrev dirs : List PairHeader
   dirs = drop count hs
 
-  behind : head.p ∷ head.rest ≡ pairs_on disk dirs
+  behind : head.p ∷ head.rest ≡ pairs_of_headers disk dirs
   behind = sym (ap (drop count) head.parts ∙ drop_at head.chain (head.p ∷ head.rest) count head.chain_is) ∙ drop-map (pair_of disk) count hs
 
-  are : AreHeaders disk history dirs
+  are : ArePairHeadersOnDisk disk history dirs
   are = headers_drop disk history count hs r.kept.each
 
-  starts : Starts (pairs_on disk dirs)
+  starts : Starts (pairs_of_headers disk dirs)
   starts = subst Starts behind (starts_so head.bytes head.p.content.slots head.head.start)
 
-  chain_behind : superblocks_before (head.chain ++ head.p ∷ head.rest) ≡ length head.chain
-  chain_behind = ap superblocks_before (sym head.parts) ∙ head.before ∙ sym head.chain_is
+  chain_behind : pair_count_before_root (head.chain ++ head.p ∷ head.rest) ≡ length head.chain
+  chain_behind = ap pair_count_before_root (sym head.parts) ∙ head.before ∙ sym head.chain_is
 
-  places : directory_addresses true dirs ≡ first_addresses_of (directories_in (head.chain ++ head.p ∷ head.rest))
+  places : directory_addresses true dirs ≡ directory_first_addresses (directories_in_thread (head.chain ++ head.p ∷ head.rest))
   places =
       begins_seen disk history true dirs are ∙ ap (begins_of true) (sym behind)
       ∙ sym (begins_listed (gstate_of (head.chain ++ head.p ∷ head.rest)) (head.p ∷ head.rest))
-      ∙ ap (λ (qs : List Pair). first_addresses_of (directories_of (gstate_of (head.chain ++ head.p ∷ head.rest)) qs)) (sym (pairs_behind head.chain (head.p ∷ head.rest) chain_behind))
+      ∙ ap (λ (qs : List Pair). directory_first_addresses (directories_of_pairs (gstate_of (head.chain ++ head.p ∷ head.rest)) qs)) (sym (pairs_behind head.chain (head.p ∷ head.rest) chain_behind))
 
   global : g ≡ gstate_of (head.chain ++ head.p ∷ head.rest)
   global = r.global ∙ ap gstate_of head.parts
 
-  pub known_thread : IsThreadOf disk sets g dirs head.chain head.p head.rest
+  pub known_thread : IsThreadOfDirectoryHeaders disk sets g dirs head.chain head.p head.rest
   known_thread = record {
-    thread = subst (IsThread (content_at disk) (block_count disk)) head.parts r.thread;
+    thread = subst (IsThread (content_of_pair_at disk) (block_count disk)) head.parts r.thread;
     chain_is = chain_behind;
     sets_len = r.kept.size;
-    owns = subst (λ qs. HasExactly sets (blocks_of qs)) head.parts (owns_from sets (blocks_of (pairs_on disk hs)) r.kept.distinct r.used r.none_in_flight);
-    described = subst (λ qs. AreMembers disk (gstate_of (head.chain ++ head.p ∷ head.rest)) true qs (members_in g true dirs)) (sym behind)
-        (subst (λ s. AreMembers disk s true (pairs_on disk dirs) (members_in g true dirs)) global (described disk history g dirs are starts));
+    owns = subst (λ qs. HasExactlyUsedBlocks sets (blocks_of_pairs qs)) head.parts (owns_from sets (blocks_of_pairs (pairs_of_headers disk hs)) r.kept.distinct r.used r.none_in_flight);
+    described = subst (λ qs. ArePairsDescribedByMembers disk (gstate_of (head.chain ++ head.p ∷ head.rest)) true qs (members_of_headers g true dirs)) (sym behind)
+        (subst (λ s. ArePairsDescribedByMembers disk s true (pairs_of_headers disk dirs) (members_of_headers g true dirs)) global (described disk history g dirs are starts));
     places = places;
     sync_is = ap (λ (s : Gstate). s.sync) (sym global);
   }
 
-  pub directories_are : AreDirectories disk sets g dirs
+  pub directories_are : AreDirectoryHeadersOfThread disk sets g dirs
   directories_are = record {
-    apart = begins_distinct disk dirs (subst (λ qs. IsDistinct nat_eq (blocks_of qs)) behind (distinct_right head.chain (head.p ∷ head.rest) (subst (λ qs. IsDistinct nat_eq (blocks_of qs)) head.parts r.kept.distinct)));
+    apart = begins_distinct disk dirs (subst (λ qs. IsDistinct nat_eq (blocks_of_pairs qs)) behind (distinct_right head.chain (head.p ∷ head.rest) (subst (λ qs. IsDistinct nat_eq (blocks_of_pairs qs)) head.parts r.kept.distinct)));
     known = (head.chain, head.p, head.rest, known_thread);
   }

@@ -6,95 +6,95 @@ use Rattle.std.proofs.lemmas.List.Concat.{flat_map-append}
 use Rattle.std.proofs.lemmas.List.Elements.{filter_map-append, All-append, All-cons, All-from_recursion, recursion_from_All}
 use Rattle.lfs_model.proofs.Counts.{each_left, each_right}
 use Rattle.std.proofs.lemmas.Option.{slice_get_within, get_or_from_slice_get}
-use Rattle.lfs_model.specs.BlockSets.{BlockSets}
+use Rattle.lfs_model.specs.BlockSets.{BlockStateList}
 use Rattle.lfs_model.specs.Content.{RawSlot}
 use Rattle.lfs_model.specs.Disk.{Disk}
-use Rattle.lfs_model.specs.SkipLists.{IsList}
+use Rattle.lfs_model.specs.SkipLists.{IsSkipList}
 use Rattle.lfs_tag.specs.declared.content.Slot.{Slot}
 use Rattle.lfs_tag.specs.ContentView.{slot_view}
-use Rattle.lfs_mount.specs.Entries.{entry_in}
-use Rattle.lfs_mount.specs.Marking.{Marks, MarksList, MarksLists, list_of, lists_in, blocks_to_mark}
-use Rattle.lfs_mount.specs.ListsView.{lists_view}
+use Rattle.lfs_mount.specs.Entries.{directory_entry_of_raw_slot}
+use Rattle.lfs_mount.specs.Marking.{MarksFreeBlocksUsed, MarksFreeBlocksOfList, MarksFreeBlocksOfLists, list_of_entry, file_lists_of_raw_slots, list_blocks_to_mark}
+use Rattle.lfs_mount.specs.ListsView.{file_lists_view}
 use Rattle.lfs_mount.proofs.Found.{get_left, get_right}
 
 -- ---- marks over joined lists
 
-pub marks_same : (bs : List ℕ) (old a b : BlockSets) → Marks old bs a → Marks old bs b → a ≡ b
+pub marks_same : (bs : List ℕ) (old a b : BlockStateList) → MarksFreeBlocksUsed old bs a → MarksFreeBlocksUsed old bs b → a ≡ b
 marks_same [] old a b e f = sym e ∙ f
 marks_same (x ∷ bs) old a b (free, m) (again, n) = marks_same bs _ a b m n
 
-marks_append : (xs ys : List ℕ) (old mid new : BlockSets) → Marks old xs mid → Marks mid ys new → Marks old (xs ++ ys) new
-marks_append [] ys old mid new e n = subst (λ (s : BlockSets). Marks s ys new) (sym e) n
+marks_append : (xs ys : List ℕ) (old mid new : BlockStateList) → MarksFreeBlocksUsed old xs mid → MarksFreeBlocksUsed mid ys new → MarksFreeBlocksUsed old (xs ++ ys) new
+marks_append [] ys old mid new e n = subst (λ (s : BlockStateList). MarksFreeBlocksUsed s ys new) (sym e) n
 marks_append (x ∷ xs) ys old mid new (free, m) n = (free, marks_append xs ys _ mid new m n)
 
-pub marks_split : (xs ys : List ℕ) (old new : BlockSets) → Marks old (xs ++ ys) new → (mid : BlockSets) × Marks old xs mid × Marks mid ys new
+pub marks_split : (xs ys : List ℕ) (old new : BlockStateList) → MarksFreeBlocksUsed old (xs ++ ys) new → (mid : BlockStateList) × MarksFreeBlocksUsed old xs mid × MarksFreeBlocksUsed mid ys new
 marks_split [] ys old new n = (old, refl, n)
 marks_split (x ∷ xs) ys old new (free, n) = let r = marks_split xs ys _ new n in (r.0, (free, r.1), r.2)
 
 -- lists marked behind others
-pub lists_joined : (disk : Disk) (xs ys : List (ℕ × ℕ)) (old mid new : BlockSets) → MarksLists disk old xs mid → MarksLists disk mid ys new → MarksLists disk old (xs ++ ys) new
+pub lists_joined : (disk : Disk) (xs ys : List (ℕ × ℕ)) (old mid new : BlockStateList) → MarksFreeBlocksOfLists disk old xs mid → MarksFreeBlocksOfLists disk mid ys new → MarksFreeBlocksOfLists disk old (xs ++ ys) new
 lists_joined disk xs ys old mid new h k = record {
-  lists = All-append (λ (x : ℕ × ℕ). IsList disk.blocks disk.block_size x.0 x.1) xs ys h.lists k.lists;
-  marked = subst (λ bs. Marks old bs new) (sym (flat_map-append (blocks_to_mark disk) xs ys)) (marks_append (flat_map (blocks_to_mark disk) xs) (flat_map (blocks_to_mark disk) ys) old mid new h.marked k.marked);
+  lists = All-append (λ (x : ℕ × ℕ). IsSkipList disk.blocks disk.block_size x.0 x.1) xs ys h.lists k.lists;
+  marked = subst (λ bs. MarksFreeBlocksUsed old bs new) (sym (flat_map-append (list_blocks_to_mark disk) xs ys)) (marks_append (flat_map (list_blocks_to_mark disk) xs) (flat_map (list_blocks_to_mark disk) ys) old mid new h.marked k.marked);
 }
 
-pub lists_parted : (disk : Disk) (xs ys : List (ℕ × ℕ)) (old new : BlockSets) → MarksLists disk old (xs ++ ys) new → (mid : BlockSets) × MarksLists disk old xs mid × MarksLists disk mid ys new
+pub lists_parted : (disk : Disk) (xs ys : List (ℕ × ℕ)) (old new : BlockStateList) → MarksFreeBlocksOfLists disk old (xs ++ ys) new → (mid : BlockStateList) × MarksFreeBlocksOfLists disk old xs mid × MarksFreeBlocksOfLists disk mid ys new
 lists_parted disk xs ys old new h =
-    let s = marks_split (flat_map (blocks_to_mark disk) xs) (flat_map (blocks_to_mark disk) ys) old new (subst (λ bs. Marks old bs new) (flat_map-append (blocks_to_mark disk) xs ys) h.marked) in
-    let P : ℕ × ℕ → Type 0 = λ x. IsList disk.blocks disk.block_size x.0 x.1 in
+    let s = marks_split (flat_map (list_blocks_to_mark disk) xs) (flat_map (list_blocks_to_mark disk) ys) old new (subst (λ bs. MarksFreeBlocksUsed old bs new) (flat_map-append (list_blocks_to_mark disk) xs ys) h.marked) in
+    let P : ℕ × ℕ → Type 0 = λ x. IsSkipList disk.blocks disk.block_size x.0 x.1 in
     let all = recursion_from_All P (xs ++ ys) h.lists in
     (s.0, record { lists = All-from_recursion P xs (each_left P xs ys all); marked = s.1 }, record { lists = All-from_recursion P ys (each_right P xs ys all); marked = s.2 })
 
 -- ---- the lists of slots
 
 abbrev pub list_view : Slot → Option (ℕ × ℕ)
-list_view s = option_and_then list_of (entry_in (slot_view s))
+list_view s = option_and_then list_of_entry (directory_entry_of_raw_slot (slot_view s))
 
-lists-append : (xs ys : List Slot) → lists_view (xs ++ ys) ≡ lists_view xs ++ lists_view ys
-lists-append xs ys = ap lists_in (map-append slot_view xs ys) ∙ filter_map-append (λ (s : RawSlot). option_and_then list_of (entry_in s)) (map slot_view xs) (map slot_view ys)
+lists-append : (xs ys : List Slot) → file_lists_view (xs ++ ys) ≡ file_lists_view xs ++ file_lists_view ys
+lists-append xs ys = ap file_lists_of_raw_slots (map-append slot_view xs ys) ∙ filter_map-append (λ (s : RawSlot). option_and_then list_of_entry (directory_entry_of_raw_slot s)) (map slot_view xs) (map slot_view ys)
 
-pub lists_next : (slots : List Slot) (i : ℕ) (s : Slot) (o : Option (ℕ × ℕ)) → slice_get slots i ≡ Some s → list_view s ≡ o → lists_view (take (i + 1) slots) ≡ lists_view (take i slots) ++ cons_option o []
+pub lists_next : (slots : List Slot) (i : ℕ) (s : Slot) (o : Option (ℕ × ℕ)) → slice_get slots i ≡ Some s → list_view s ≡ o → file_lists_view (take (i + 1) slots) ≡ file_lists_view (take i slots) ++ cons_option o []
 lists_next slots i s o e f =
-    ap lists_view (take_more slots i s (slice_get_within slots i s e) ∙ ap (λ (t : Slot). take i slots ++ t ∷ []) (get_or_from_slice_get slots i s s e))
+    ap file_lists_view (take_more slots i s (slice_get_within slots i s e) ∙ ap (λ (t : Slot). take i slots ++ t ∷ []) (get_or_from_slice_get slots i s s e))
     ∙ lists-append (take i slots) (s ∷ [])
-    ∙ ap (λ (p : Option (ℕ × ℕ)). lists_view (take i slots) ++ cons_option p []) f
+    ∙ ap (λ (p : Option (ℕ × ℕ)). file_lists_view (take i slots) ++ cons_option p []) f
 
 -- a slot without a list
-pub lists_stay : (disk : Disk) (slots : List Slot) (i : ℕ) (s : Slot) (old new : BlockSets) → slice_get slots i ≡ Some s → list_view s ≡ None → MarksLists disk old (lists_view (take i slots)) new
-    → MarksLists disk old (lists_view (take (i + 1) slots)) new
-lists_stay disk slots i s old new e f h = subst (λ ls. MarksLists disk old ls new) (sym (lists_next slots i s None e f ∙ append-nil (lists_view (take i slots)))) h
+pub lists_stay : (disk : Disk) (slots : List Slot) (i : ℕ) (s : Slot) (old new : BlockStateList) → slice_get slots i ≡ Some s → list_view s ≡ None → MarksFreeBlocksOfLists disk old (file_lists_view (take i slots)) new
+    → MarksFreeBlocksOfLists disk old (file_lists_view (take (i + 1) slots)) new
+lists_stay disk slots i s old new e f h = subst (λ ls. MarksFreeBlocksOfLists disk old ls new) (sym (lists_next slots i s None e f ∙ append-nil (file_lists_view (take i slots)))) h
 
 -- a slot with one
-pub lists_more : (disk : Disk) (slots : List Slot) (i : ℕ) (s : Slot) (l : ℕ × ℕ) (old mid new : BlockSets) → slice_get slots i ≡ Some s → list_view s ≡ Some l → MarksLists disk old (lists_view (take i slots)) mid
-    → MarksList disk mid l new → MarksLists disk old (lists_view (take (i + 1) slots)) new
-lists_more disk slots i s l old mid new e f h k = subst (λ ls. MarksLists disk old ls new) (sym (lists_next slots i s (Some l) e f)) (record {
-  lists = All-append (λ (x : ℕ × ℕ). IsList disk.blocks disk.block_size x.0 x.1) (lists_view (take i slots)) (l ∷ []) h.lists
-      (All-cons (λ (x : ℕ × ℕ). IsList disk.blocks disk.block_size x.0 x.1) l [] k.list (λ j d lt. absurd (omega arith)));
-  marked = subst (λ bs. Marks old bs new) (sym (flat_map-append (blocks_to_mark disk) (lists_view (take i slots)) (l ∷ []) ∙ ap (λ bs. flat_map (blocks_to_mark disk) (lists_view (take i slots)) ++ bs) (append-nil (blocks_to_mark disk l))))
-      (marks_append (flat_map (blocks_to_mark disk) (lists_view (take i slots))) (blocks_to_mark disk l) old mid new h.marked k.marked);
+pub lists_more : (disk : Disk) (slots : List Slot) (i : ℕ) (s : Slot) (l : ℕ × ℕ) (old mid new : BlockStateList) → slice_get slots i ≡ Some s → list_view s ≡ Some l → MarksFreeBlocksOfLists disk old (file_lists_view (take i slots)) mid
+    → MarksFreeBlocksOfList disk mid l new → MarksFreeBlocksOfLists disk old (file_lists_view (take (i + 1) slots)) new
+lists_more disk slots i s l old mid new e f h k = subst (λ ls. MarksFreeBlocksOfLists disk old ls new) (sym (lists_next slots i s (Some l) e f)) (record {
+  lists = All-append (λ (x : ℕ × ℕ). IsSkipList disk.blocks disk.block_size x.0 x.1) (file_lists_view (take i slots)) (l ∷ []) h.lists
+      (All-cons (λ (x : ℕ × ℕ). IsSkipList disk.blocks disk.block_size x.0 x.1) l [] k.list (λ j d lt. absurd (omega arith)));
+  marked = subst (λ bs. MarksFreeBlocksUsed old bs new) (sym (flat_map-append (list_blocks_to_mark disk) (file_lists_view (take i slots)) (l ∷ []) ∙ ap (λ bs. flat_map (list_blocks_to_mark disk) (file_lists_view (take i slots)) ++ bs) (append-nil (list_blocks_to_mark disk l))))
+      (marks_append (flat_map (list_blocks_to_mark disk) (file_lists_view (take i slots))) (list_blocks_to_mark disk l) old mid new h.marked k.marked);
 })
 
 -- one that can't be marked
-pub lists_fail : (disk : Disk) (slots : List Slot) (i : ℕ) (s : Slot) (l : ℕ × ℕ) (old mid new : BlockSets) → slice_get slots i ≡ Some s → list_view s ≡ Some l → MarksLists disk old (lists_view (take i slots)) mid
-    → ((end : BlockSets) → ¬ MarksList disk mid l end) → MarksLists disk old (lists_view slots) new → ⊥
+pub lists_fail : (disk : Disk) (slots : List Slot) (i : ℕ) (s : Slot) (l : ℕ × ℕ) (old mid new : BlockStateList) → slice_get slots i ≡ Some s → list_view s ≡ Some l → MarksFreeBlocksOfLists disk old (file_lists_view (take i slots)) mid
+    → ((end : BlockStateList) → ¬ MarksFreeBlocksOfList disk mid l end) → MarksFreeBlocksOfLists disk old (file_lists_view slots) new → ⊥
 lists_fail disk slots i s l old mid new e f h fails all =
-    let front : List (ℕ × ℕ) = lists_view (take i slots) in
-    let back : List (ℕ × ℕ) = lists_view (drop (i + 1) slots) in
-    let parts : lists_view slots ≡ (front ++ l ∷ []) ++ back =
-    ap lists_view (sym (take-append-drop (i + 1) slots)) ∙ lists-append (take (i + 1) slots) (drop (i + 1) slots) ∙ ap (λ ls. ls ++ back) (lists_next slots i s (Some l) e f) in
-    let at : slice_get (lists_view slots) (length front + 0) ≡ Some l =
+    let front : List (ℕ × ℕ) = file_lists_view (take i slots) in
+    let back : List (ℕ × ℕ) = file_lists_view (drop (i + 1) slots) in
+    let parts : file_lists_view slots ≡ (front ++ l ∷ []) ++ back =
+    ap file_lists_view (sym (take-append-drop (i + 1) slots)) ∙ lists-append (take (i + 1) slots) (drop (i + 1) slots) ∙ ap (λ ls. ls ++ back) (lists_next slots i s (Some l) e f) in
+    let at : slice_get (file_lists_view slots) (length front + 0) ≡ Some l =
     ap (λ ls. slice_get ls (length front + 0)) parts ∙ get_left (front ++ l ∷ []) back (length front + 0) l (get_right front (l ∷ []) 0 l refl) in
-    let list : IsList disk.blocks disk.block_size l.0 l.1 =
-    subst (λ (x : ℕ × ℕ). IsList disk.blocks disk.block_size x.0 x.1) (get_or_from_slice_get (lists_view slots) (length front + 0) l l at)
-    (all.lists (length front + 0) l (slice_get_within (lists_view slots) (length front + 0) l at)) in
-    let whole : Marks old ((flat_map (blocks_to_mark disk) front ++ blocks_to_mark disk l) ++ flat_map (blocks_to_mark disk) back) new =
-    subst (λ bs. Marks old bs new)
-    (ap (flat_map (blocks_to_mark disk)) parts ∙ flat_map-append (blocks_to_mark disk) (front ++ l ∷ []) back
-    ∙ ap (λ bs. bs ++ flat_map (blocks_to_mark disk) back) (flat_map-append (blocks_to_mark disk) front (l ∷ []) ∙ ap (λ bs. flat_map (blocks_to_mark disk) front ++ bs) (append-nil (blocks_to_mark disk l))))
+    let list : IsSkipList disk.blocks disk.block_size l.0 l.1 =
+    subst (λ (x : ℕ × ℕ). IsSkipList disk.blocks disk.block_size x.0 x.1) (get_or_from_slice_get (file_lists_view slots) (length front + 0) l l at)
+    (all.lists (length front + 0) l (slice_get_within (file_lists_view slots) (length front + 0) l at)) in
+    let whole : MarksFreeBlocksUsed old ((flat_map (list_blocks_to_mark disk) front ++ list_blocks_to_mark disk l) ++ flat_map (list_blocks_to_mark disk) back) new =
+    subst (λ bs. MarksFreeBlocksUsed old bs new)
+    (ap (flat_map (list_blocks_to_mark disk)) parts ∙ flat_map-append (list_blocks_to_mark disk) (front ++ l ∷ []) back
+    ∙ ap (λ bs. bs ++ flat_map (list_blocks_to_mark disk) back) (flat_map-append (list_blocks_to_mark disk) front (l ∷ []) ∙ ap (λ bs. flat_map (list_blocks_to_mark disk) front ++ bs) (append-nil (list_blocks_to_mark disk l))))
     all.marked in
-    let first = marks_split (flat_map (blocks_to_mark disk) front ++ blocks_to_mark disk l) (flat_map (blocks_to_mark disk) back) old new whole in
-    let second = marks_split (flat_map (blocks_to_mark disk) front) (blocks_to_mark disk l) old first.0 first.1 in
+    let first = marks_split (flat_map (list_blocks_to_mark disk) front ++ list_blocks_to_mark disk l) (flat_map (list_blocks_to_mark disk) back) old new whole in
+    let second = marks_split (flat_map (list_blocks_to_mark disk) front) (list_blocks_to_mark disk l) old first.0 first.1 in
     fails first.0 (record {
       list = list;
-      marked = subst (λ (m : BlockSets). Marks m (blocks_to_mark disk l) first.0) (marks_same (flat_map (blocks_to_mark disk) front) old second.0 mid second.1 h.marked) second.2;
+      marked = subst (λ (m : BlockStateList). MarksFreeBlocksUsed m (list_blocks_to_mark disk l) first.0) (marks_same (flat_map (list_blocks_to_mark disk) front) old second.0 mid second.1 h.marked) second.2;
     })

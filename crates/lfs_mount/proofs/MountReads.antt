@@ -6,23 +6,23 @@ use Rattle.std.proofs.lemmas.List.Concat.{flat_map-append}
 use Rattle.std.proofs.lemmas.List.Sums.{sum_by-append, sum_by-cons}
 use Rattle.std.proofs.lemmas.Option.{same_Some}
 use Rattle.lfs_device.specs.Bytes.{HasBytes}
-use Rattle.lfs_model.specs.BlockSets.{BlockSets}
+use Rattle.lfs_model.specs.BlockSets.{BlockStateList}
 use Rattle.lfs_model.specs.Disk.{Disk}
-use Rattle.lfs_model.specs.History.{Event}
+use Rattle.lfs_model.specs.History.{CallEvent}
 use Rattle.lfs_model.specs.Names.{Name}
 use Rattle.lfs_model.specs.Slots.{Branch, Ctz, Gstate, Inline, Slot, Struct, is_superblock}
-use Rattle.lfs_model.specs.Thread.{LinkByTails, Pair, anchor, gstate_of, slots_not_moved, entries_not_moved}
-use Rattle.lfs_model.specs.View.{IsAccepted, IsEntry}
-use Rattle.lfs_thread.specs.Kept.{Header, pairs_on}
-use Rattle.lfs_mount.specs.Described.{AreMembers, IsMember, moved_in}
-use Rattle.lfs_mount.specs.Entries.{nothing_known, target_of_struct}
-use Rattle.lfs_mount.specs.Head.{IsHead}
-use Rattle.lfs_mount.specs.Marking.{list_of}
-use Rattle.lfs_mount.specs.Members.{IsThreadRead, IsThreadOf, members_in}
-use Rattle.lfs_mount.specs.Passed.{Passes, directory_after_pair}
-use Rattle.lfs_mount.specs.Reaching.{Graph, Vertex}
-use Rattle.lfs_mount.specs.Reads.{check_reads, file_reads, list_reads, lists_at, mount_reads, pair_reads, struct_reads}
-use Rattle.lfs_mount.specs.Taken.{TakesPair, slots_after_superblock, raw_slots_not_moved}
+use Rattle.lfs_model.specs.Thread.{AreLinkedByTails, Pair, anchor_pair_address, gstate_of, slots_not_moved, entries_not_moved}
+use Rattle.lfs_model.specs.View.{IsAcceptedImage, IsFileOrDirectoryEntry}
+use Rattle.lfs_thread.specs.Kept.{PairHeader, pairs_of_headers}
+use Rattle.lfs_mount.specs.Described.{ArePairsDescribedByMembers, IsPairDescribedByMember, moved_id_in_pair}
+use Rattle.lfs_mount.specs.Entries.{empty_directory_scan, entry_reference_of_struct}
+use Rattle.lfs_mount.specs.Head.{HasSuperblockChainOfLength}
+use Rattle.lfs_mount.specs.Marking.{list_of_entry}
+use Rattle.lfs_mount.specs.Members.{IsThreadReadFromDisk, IsThreadOfDirectoryHeaders, members_of_headers}
+use Rattle.lfs_mount.specs.Passed.{PassesOverDirectoryPairs, directory_scan_after_pair}
+use Rattle.lfs_mount.specs.Reaching.{DirectoryGraph, DirectoryVertex}
+use Rattle.lfs_mount.specs.Reads.{check_reads, file_reads, list_reads, file_lists_of_member, mount_reads, pair_reads, struct_reads}
+use Rattle.lfs_mount.specs.Taken.{AddsPairToDirectoryScan, slots_after_superblock, raw_slots_not_moved}
 use Rattle.lfs_mount.specs.declared.pass.Member.{Member}
 use Rattle.lfs_mount.proofs.KnownThread.{known_thread}
 use Rattle.lfs_mount.proofs.ReadCounts.{takes_lists}
@@ -39,13 +39,13 @@ one_read : (block_size : ℕ) (s : Slot) (t : Struct) (slots : List Slot) → s.
     → sum_by (list_reads block_size) (lists_of (s ∷ slots)) ≡ struct_reads block_size t + sum_by (list_reads block_size) (lists_of slots)
 one_read block_size s (Inline bytes) slots e =
     let same : sum_by (list_reads block_size) (lists_of (s ∷ slots)) ≡ sum_by (list_reads block_size) (lists_of slots) =
-    ap (λ o. sum_by (list_reads block_size) (cons_option o (lists_of slots))) (ap (λ t. list_of (s.name, target_of_struct t)) e) in
+    ap (λ o. sum_by (list_reads block_size) (cons_option o (lists_of slots))) (ap (λ t. list_of_entry (s.name, entry_reference_of_struct t)) e) in
     omega (arith, same)
 one_read block_size s (Ctz head size) slots e =
-    ap (λ o. sum_by (list_reads block_size) (cons_option o (lists_of slots))) (ap (λ t. list_of (s.name, target_of_struct t)) e) ∙ sum_by-cons (list_reads block_size) (head, size) (lists_of slots)
+    ap (λ o. sum_by (list_reads block_size) (cons_option o (lists_of slots))) (ap (λ t. list_of_entry (s.name, entry_reference_of_struct t)) e) ∙ sum_by-cons (list_reads block_size) (head, size) (lists_of slots)
 one_read block_size s (Branch to) slots e =
     let same : sum_by (list_reads block_size) (lists_of (s ∷ slots)) ≡ sum_by (list_reads block_size) (lists_of slots) =
-    ap (λ o. sum_by (list_reads block_size) (cons_option o (lists_of slots))) (ap (λ t. list_of (s.name, target_of_struct t)) e) in
+    ap (λ o. sum_by (list_reads block_size) (cons_option o (lists_of slots))) (ap (λ t. list_of_entry (s.name, entry_reference_of_struct t)) e) in
     omega (arith, same)
 
 slots_read : (block_size : ℕ) (slots : List Slot) → sum_by (list_reads block_size) (lists_of slots) ≡ sum_by (slot_reads block_size) slots
@@ -67,22 +67,22 @@ fewer_read f q (s ∷ slots) = go (q s) (fewer_read f q slots)
 -- ---- pairs
 
 -- the lists of a pair that can be taken are those of its visible slots
-taken_lists : (disk : Disk) (firsts : List (ℕ × ℕ)) (g : Gstate) (first : Bool) (p : Pair) (m : Member) (known : Name × Vertex) (sets : BlockSets) (new : Name × Vertex) (marked : BlockSets)
-    → IsMember disk g first p m → TakesPair disk firsts m known sets new marked → lists_at disk m ≡ lists_of (entries_not_moved g p)
+taken_lists : (disk : Disk) (firsts : List (ℕ × ℕ)) (g : Gstate) (first : Bool) (p : Pair) (m : Member) (known : Name × DirectoryVertex) (sets : BlockStateList) (new : Name × DirectoryVertex) (marked : BlockStateList)
+    → IsPairDescribedByMember disk g first p m → AddsPairToDirectoryScan disk firsts m known sets new marked → file_lists_of_member disk m ≡ lists_of (entries_not_moved g p)
 taken_lists disk firsts g first p m known sets new marked h t =
     let all = held_slots disk g first p m t.held h t.content in
     let parts = kept_parts m t.held.slots t.entries t.kept in
-    let w = without_moved (moved_in g p) t.held.slots parts.0 p.content.slots all (ap (λ o. raw_slots_not_moved o t.held.slots) (sym h.moved) ∙ parts.1.0) in
-    let are = without_superblock first parts.0 t.entries (without (moved_in g p) p.content.slots) w.are (ap (λ b. slots_after_superblock b parts.0) (sym h.first) ∙ parts.1.1) in
+    let w = without_moved (moved_id_in_pair g p) t.held.slots parts.0 p.content.slots all (ap (λ o. raw_slots_not_moved o t.held.slots) (sym h.moved) ∙ parts.1.0) in
+    let are = without_superblock first parts.0 t.entries (without (moved_id_in_pair g p) p.content.slots) w.are (ap (λ b. slots_after_superblock b parts.0) (sym h.first) ∙ parts.1.1) in
     let s = scan_some disk.order firsts known t.entries new t.scan in
-    let same : s.slots ≡ behind first (without (moved_in g p) p.content.slots) = same_Some s.slots (behind first (without (moved_in g p) p.content.slots)) (sym s.are ∙ are) in
-    let seen : behind first (without (moved_in g p) p.content.slots) ≡ entries_not_moved g p =
-    sym (visible_behind first (without (moved_in g p) p.content.slots) (λ e. starts_without (moved_in g p) p.content.slots w.entry (h.starts e)) (subst (All IsEntry) same s.entries))
+    let same : s.slots ≡ behind first (without (moved_id_in_pair g p) p.content.slots) = same_Some s.slots (behind first (without (moved_id_in_pair g p) p.content.slots)) (sym s.are ∙ are) in
+    let seen : behind first (without (moved_id_in_pair g p) p.content.slots) ≡ entries_not_moved g p =
+    sym (visible_behind first (without (moved_id_in_pair g p) p.content.slots) (λ e. starts_without (moved_id_in_pair g p) p.content.slots w.entry (h.starts e)) (subst (All IsFileOrDirectoryEntry) same s.entries))
     ∙ ap (filter (λ x. not (is_superblock x))) (sym (unmoved-without g p)) in
     takes_lists disk firsts m known new sets marked t ∙ same_lists disk.order firsts known new t.entries s.slots t.scan s.are ∙ ap lists_of (same ∙ seen)
 
-passed_reads : (disk : Disk) (firsts : List (ℕ × ℕ)) (g : Gstate) (first : Bool) (ps : List Pair) (ms : List Member) (known : Name × Vertex) (sets : BlockSets) (graph : Graph) (end : BlockSets)
-    → AreMembers disk g first ps ms → Passes disk firsts known sets ms graph end
+passed_reads : (disk : Disk) (firsts : List (ℕ × ℕ)) (g : Gstate) (first : Bool) (ps : List Pair) (ms : List Member) (known : Name × DirectoryVertex) (sets : BlockStateList) (graph : DirectoryGraph) (end : BlockStateList)
+    → ArePairsDescribedByMembers disk g first ps ms → PassesOverDirectoryPairs disk firsts known sets ms graph end
     → sum_by (pair_reads disk) ms ≤ length ps + sum_by (slot_reads disk.block_size) (flat_map (slots_not_moved g) ps)
 passed_reads disk firsts g first [] [] known sets graph end h t = omega arith
 passed_reads disk firsts g first [] (x ∷ ms) known sets graph end h t = absurd h
@@ -93,20 +93,20 @@ passed_reads disk firsts g first (p ∷ ps) (x ∷ ms) known sets graph end h (n
     let fewer = fewer_read (slot_reads disk.block_size) (λ s. not (is_superblock s)) (slots_not_moved g p) in
     let one = sum_by-cons (pair_reads disk) x ms in
     let both = sum_by-append (slot_reads disk.block_size) (slots_not_moved g p) (flat_map (slots_not_moved g) ps) in
-    let others = passed_reads disk firsts g false ps ms (directory_after_pair x.is_hard new) mid rest end h.1 more in
+    let others = passed_reads disk firsts g false ps ms (directory_scan_after_pair x.is_hard new) mid rest end h.1 more in
     omega arith
 
 -- ---- the whole check
 
-module _ (disk : Disk) (history : List Event) (hs : List Header) (sets : BlockSets) (g : Gstate) (count : ℕ) (r : IsThreadRead disk history hs sets g) (head : IsHead disk (pairs_on disk hs) count) where
-  pub directories_read : HasBytes disk.blocks → IsAccepted disk (pairs_on disk hs)
-      → count + sum_by (pair_reads disk) (members_in g true (drop count hs)) ≤ length (pairs_on disk hs) + file_reads disk (pairs_on disk hs)
+module _ (disk : Disk) (history : List CallEvent) (hs : List PairHeader) (sets : BlockStateList) (g : Gstate) (count : ℕ) (r : IsThreadReadFromDisk disk history hs sets g) (head : HasSuperblockChainOfLength disk (pairs_of_headers disk hs) count) where
+  pub directories_read : HasBytes disk.blocks → IsAcceptedImage disk (pairs_of_headers disk hs)
+      → count + sum_by (pair_reads disk) (members_of_headers g true (drop count hs)) ≤ length (pairs_of_headers disk hs) + file_reads disk (pairs_of_headers disk hs)
   directories_read bytes a =
       let ps : List Pair = head.chain ++ head.p ∷ head.rest in
-      let members : List Member = members_in g true (drop count hs) in
-      let known : IsThreadOf disk sets g (drop count hs) head.chain head.p head.rest = known_thread disk history hs sets g count r head in
-      let passes = accepted_passes disk head.chain head.p head.rest members [] sets known.chain_is bytes known.sets_len known.owns known.described (subst (IsAccepted disk) head.parts a) in
-      let most = passed_reads disk [] (gstate_of ps) true (head.p ∷ head.rest) members nothing_known sets passes.0 passes.1 known.described passes.2 in
+      let members : List Member = members_of_headers g true (drop count hs) in
+      let known : IsThreadOfDirectoryHeaders disk sets g (drop count hs) head.chain head.p head.rest = known_thread disk history hs sets g count r head in
+      let passes = accepted_passes disk head.chain head.p head.rest members [] sets known.chain_is bytes known.sets_len known.owns known.described (subst (IsAcceptedImage disk) head.parts a) in
+      let most = passed_reads disk [] (gstate_of ps) true (head.p ∷ head.rest) members empty_directory_scan sets passes.0 passes.1 known.described passes.2 in
       let same = ap (file_reads disk) head.parts in
       let both = ap (sum_by (slot_reads disk.block_size)) (flat_map-append (slots_not_moved (gstate_of ps)) head.chain (head.p ∷ head.rest))
       ∙ sum_by-append (slot_reads disk.block_size) (flat_map (slots_not_moved (gstate_of ps)) head.chain) (flat_map (slots_not_moved (gstate_of ps)) (head.p ∷ head.rest)) in
@@ -115,16 +115,16 @@ module _ (disk : Disk) (history : List Event) (hs : List Header) (sets : BlockSe
       omega arith
 
 -- a thread has a pair
-pub some_pair : (ps : List Pair) → LinkByTails (Some anchor) ps → 0 < length ps
+pub some_pair : (ps : List Pair) → AreLinkedByTails (Some anchor_pair_address) ps → 0 < length ps
 some_pair [] links = absurd (cc)
 some_pair (p ∷ ps) links = omega arith
 
 -- the thread is read, and then its image is checked
-pub mount_few : (old disk now : Disk) (items hs : List Header) (ps qs : List Pair) (first mid last : ℕ) → disk ≡ old → now ≡ disk → hs ≡ items → pairs_on disk items ≡ ps → qs ≡ pairs_on now items
-    → mid ≡ first + 2 * length ps → last ≤ mid + check_reads disk (pairs_on disk hs) → last ≤ first + mount_reads old qs
+pub mount_few : (old disk now : Disk) (items hs : List PairHeader) (ps qs : List Pair) (first mid last : ℕ) → disk ≡ old → now ≡ disk → hs ≡ items → pairs_of_headers disk items ≡ ps → qs ≡ pairs_of_headers now items
+    → mid ≡ first + 2 * length ps → last ≤ mid + check_reads disk (pairs_of_headers disk hs) → last ≤ first + mount_reads old qs
 mount_few old disk now items hs ps qs first mid last from same is kept shown read check =
-    let pairs : qs ≡ pairs_on disk items = shown ∙ ap (λ (d : Disk). pairs_on d items) same in
+    let pairs : qs ≡ pairs_of_headers disk items = shown ∙ ap (λ (d : Disk). pairs_of_headers d items) same in
     let len : length ps ≡ length qs = ap length (sym kept ∙ sym pairs) in
-    let most : check_reads disk (pairs_on disk hs) ≡ check_reads old qs =
-    ap (λ (xs : List Header). check_reads disk (pairs_on disk xs)) is ∙ ap (check_reads disk) (sym pairs) ∙ ap (λ (d : Disk). check_reads d qs) from in
+    let most : check_reads disk (pairs_of_headers disk hs) ≡ check_reads old qs =
+    ap (λ (xs : List PairHeader). check_reads disk (pairs_of_headers disk xs)) is ∙ ap (check_reads disk) (sym pairs) ∙ ap (λ (d : Disk). check_reads d qs) from in
     omega (arith, read, check, len, most)

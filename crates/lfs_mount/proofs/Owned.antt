@@ -6,17 +6,17 @@ use Rattle.std.proofs.lemmas.Bool.{cases_eq}
 use Rattle.std.proofs.lemmas.List.{get_or-set_same, get_or-set_other, length-set}
 use Rattle.std.proofs.lemmas.List.Elements.{All-head, All-tail}
 use Rattle.std.proofs.lemmas.Option.{same_Some, slice_get_within, slice_get-get_or, get_or_from_slice_get}
-use Rattle.lfs_model.specs.BlockSets.{AreInFlight, AreUsed, BlockState, BlockSets, IsFree, IsUsed}
+use Rattle.lfs_model.specs.BlockSets.{AreExactlyTheInFlightBlocks, AreExactlyTheUsedBlocks, BlockState, BlockStateList, IsFree, IsUsed}
 use Rattle.lfs_model.specs.BlockSets.BlockState.{Free, InFlight, Used}
 use Rattle.lfs_model.proofs.BlockSets.{Contains-count, count-Contains}
 use Rattle.lfs_model.proofs.Counts.{count, count_here}
-use Rattle.lfs_mount.specs.Accepted.{HasOnlyUsed}
+use Rattle.lfs_mount.specs.Accepted.{MapUsesOnlyTheseBlocks}
 use Rattle.lfs_mount.proofs.ReadCounts.{marks_length}
-use Rattle.lfs_mount.specs.Marking.{Marks, HasExactly}
+use Rattle.lfs_mount.specs.Marking.{MarksFreeBlocksUsed, HasExactlyUsedBlocks}
 use Rattle.lfs_mount.proofs.Found.{get_left, get_right, Part, left, right, part}
 use Rattle.lfs_mount.proofs.Searches.{place_once, distinct_by_places}
 
-one_owned : (sets : BlockSets) (bs : List ℕ) (b : ℕ) → HasExactly sets bs → IsFree sets b → HasExactly (set sets b Used) (bs ++ b ∷ [])
+one_owned : (sets : BlockStateList) (bs : List ℕ) (b : ℕ) → HasExactlyUsedBlocks sets bs → IsFree sets b → HasExactlyUsedBlocks (set sets b Used) (bs ++ b ∷ [])
 one_owned sets bs b h free = record {
   distinct = distinct_by_places (bs ++ b ∷ []) (λ i m x e f. once i m x (part bs (b ∷ []) i x e) (part bs (b ∷ []) m x f));
   used = λ i x e. each i x (part bs (b ∷ []) i x e);
@@ -54,9 +54,9 @@ one_owned sets bs b h free = record {
     each i x (right j p e) = subst (λ w. slice_get (set sets b Used) w ≡ Some Used) (sym (last j x e).1) here
 
 -- blocks that were marked are owned, and none of them twice
-pub owned_more : (sets : BlockSets) (bs more : List ℕ) (new : BlockSets) → HasExactly sets bs → Marks sets more new → HasExactly new (bs ++ more)
-owned_more sets bs [] new h e = subst (λ xs. HasExactly new xs) (sym (append-nil bs)) (subst (λ (s : BlockSets). HasExactly s bs) e h)
-owned_more sets bs (b ∷ more) new h (free, marks) = subst (λ xs. HasExactly new xs) (append_assoc bs (b ∷ []) more) (owned_more (set sets b Used) (bs ++ b ∷ []) more new (one_owned sets bs b h free) marks)
+pub owned_more : (sets : BlockStateList) (bs more : List ℕ) (new : BlockStateList) → HasExactlyUsedBlocks sets bs → MarksFreeBlocksUsed sets more new → HasExactlyUsedBlocks new (bs ++ more)
+owned_more sets bs [] new h e = subst (λ xs. HasExactlyUsedBlocks new xs) (sym (append-nil bs)) (subst (λ (s : BlockStateList). HasExactlyUsedBlocks s bs) e h)
+owned_more sets bs (b ∷ more) new h (free, marks) = subst (λ xs. HasExactlyUsedBlocks new xs) (append_assoc bs (b ∷ []) more) (owned_more (set sets b Used) (bs ++ b ∷ []) more new (one_owned sets bs b h free) marks)
 
 not_owned : (bs : List ℕ) (b : ℕ) (more : List ℕ) → IsDistinct nat_eq (bs ++ b ∷ more) → (i : ℕ) → slice_get bs i ≡ Some b → ⊥
 not_owned bs b more distinct i e =
@@ -65,7 +65,7 @@ not_owned bs b more distinct i e =
     absurd (omega arith)
 
 -- and blocks that no one owns can be marked
-pub can_mark : (sets : BlockSets) (bs more : List ℕ) → HasExactly sets bs → All (λ b. b < length sets) more → IsDistinct nat_eq (bs ++ more) → (new : BlockSets) × Marks sets more new
+pub can_mark : (sets : BlockStateList) (bs more : List ℕ) → HasExactlyUsedBlocks sets bs → All (λ b. b < length sets) more → IsDistinct nat_eq (bs ++ more) → (new : BlockStateList) × MarksFreeBlocksUsed sets more new
 can_mark sets bs [] h within distinct = (sets, refl)
 can_mark sets bs (b ∷ more) h within distinct =
     let apart : (i : ℕ) → slice_get bs i ≡ Some b → ⊥ = not_owned bs b more distinct in
@@ -90,7 +90,7 @@ placed_count b [] i e = absurd (cc)
 placed_count b (x ∷ bs) zero e = let h = count_here b bs in subst (λ (y : ℕ). 1 ≤ count b (y ∷ bs)) (sym (same_Some x b e)) (omega arith)
 placed_count b (x ∷ bs) (suc i) e = let h = placed_count b bs i e in omega arith
 
-module _ (sets : BlockSets) (bs cs : List ℕ) (owns : HasExactly sets bs) (same : (b : ℕ) → count b cs ≡ count b bs) where
+module _ (sets : BlockStateList) (bs cs : List ℕ) (owns : HasExactlyUsedBlocks sets bs) (same : (b : ℕ) → count b cs ≡ count b bs) where
   used_if : (b : ℕ) → Contains cs b → IsUsed sets b
   used_if b c = let i = counted_place b bs (let k = count-Contains cs b c in let e = same b in omega arith) in owns.used i.0 b i.1
 
@@ -104,10 +104,10 @@ module _ (sets : BlockSets) (bs cs : List ℕ) (owns : HasExactly sets bs) (same
       go zero k = absurd (taken (same_Some s Free (sym e ∙ free_if b (slice_get_within sets b s e) k)))
       go (suc n) k = omega arith
 
-  pub are_used : AreUsed sets cs
+  pub are_used : AreExactlyTheUsedBlocks sets cs
   are_used b = (λ u. Contains-count cs b (let k = in_list b Used u (λ e. absurd (cc)) in let e = same b in omega arith), used_if b)
 
-  pub none_flies : AreInFlight sets []
+  pub none_flies : AreExactlyTheInFlightBlocks sets []
   none_flies b = (
     λ flies. absurd (
         let i = counted_place b bs (in_list b InFlight flies (λ e. absurd (cc))) in
@@ -116,7 +116,7 @@ module _ (sets : BlockSets) (bs cs : List ℕ) (owns : HasExactly sets bs) (same
   )
 
 -- the blocks that were there and those that were marked, in any order
-pub has_only : (old new : BlockSets) (bs more cs : List ℕ) → HasExactly old bs → Marks old more new → ((b : ℕ) → count b cs ≡ count b (bs ++ more)) → HasOnlyUsed old new cs
+pub has_only : (old new : BlockStateList) (bs more cs : List ℕ) → HasExactlyUsedBlocks old bs → MarksFreeBlocksUsed old more new → ((b : ℕ) → count b cs ≡ count b (bs ++ more)) → MapUsesOnlyTheseBlocks old new cs
 has_only old new bs more cs owns marks same =
     let all = owned_more old bs more new owns marks in
     record { len = marks_length more old new marks; used = are_used new (bs ++ more) cs all same; none_in_flight = none_flies new (bs ++ more) cs all same }

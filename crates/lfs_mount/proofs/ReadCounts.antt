@@ -4,43 +4,43 @@ use Rattle.std.specs.Prelude.{sum_by}
 use Rattle.std.specs.Option.{option_map_or}
 use Rattle.std.proofs.lemmas.List.{length-set, take_more}
 use Rattle.std.proofs.lemmas.List.Sums.{sum_by_push}
-use Rattle.lfs_model.specs.BlockSets.{BlockSets}
+use Rattle.lfs_model.specs.BlockSets.{BlockStateList}
 use Rattle.lfs_model.specs.BlockSets.BlockState.{Used}
 use Rattle.lfs_model.specs.Content.{RawContent}
 use Rattle.lfs_model.specs.Disk.{Disk}
 use Rattle.lfs_model.specs.Names.{Name}
 use Rattle.lfs_tag.specs.declared.content.Slot.{Slot}
-use Rattle.lfs_mount.specs.ListsView.{lists_view}
-use Rattle.lfs_mount.specs.Marking.{Marks, lists_in}
-use Rattle.lfs_mount.specs.Reaching.{Vertex}
-use Rattle.lfs_mount.specs.Reads.{list_reads, lists_at, pair_reads}
-use Rattle.lfs_mount.specs.Taken.{TakesPair, entries_of_member}
+use Rattle.lfs_mount.specs.ListsView.{file_lists_view}
+use Rattle.lfs_mount.specs.Marking.{MarksFreeBlocksUsed, file_lists_of_raw_slots}
+use Rattle.lfs_mount.specs.Reaching.{DirectoryVertex}
+use Rattle.lfs_mount.specs.Reads.{list_reads, file_lists_of_member, pair_reads}
+use Rattle.lfs_mount.specs.Taken.{AddsPairToDirectoryScan, entries_of_member}
 use Rattle.lfs_mount.specs.declared.pass.Member.{Member}
 use Rattle.lfs_mount.proofs.MarkedLists.{list_view, lists_next}
 
 -- ---- marks leave as many blocks
 
-pub marks_length : (bs : List ℕ) (old new : BlockSets) → Marks old bs new → length new ≡ length old
+pub marks_length : (bs : List ℕ) (old new : BlockStateList) → MarksFreeBlocksUsed old bs new → length new ≡ length old
 marks_length [] old new e = ap length (sym e)
 marks_length (b ∷ bs) old new (free, marks) = marks_length bs (set old b Used) new marks ∙ length-set old b Used
 
 -- ---- the lists of slots
 
 pub reads_stay : (block_size : ℕ) (slots : List Slot) (i : ℕ) (s : Slot) → slice_get slots i ≡ Some s → list_view s ≡ None
-    → sum_by (list_reads block_size) (lists_view (take (i + 1) slots)) ≡ sum_by (list_reads block_size) (lists_view (take i slots))
-reads_stay block_size slots i s e f = ap (sum_by (list_reads block_size)) (lists_next slots i s None e f ∙ append-nil (lists_view (take i slots)))
+    → sum_by (list_reads block_size) (file_lists_view (take (i + 1) slots)) ≡ sum_by (list_reads block_size) (file_lists_view (take i slots))
+reads_stay block_size slots i s e f = ap (sum_by (list_reads block_size)) (lists_next slots i s None e f ∙ append-nil (file_lists_view (take i slots)))
 
 pub reads_more : (block_size : ℕ) (slots : List Slot) (i : ℕ) (s : Slot) (l : ℕ × ℕ) → slice_get slots i ≡ Some s → list_view s ≡ Some l
-    → sum_by (list_reads block_size) (lists_view (take (i + 1) slots)) ≡ sum_by (list_reads block_size) (lists_view (take i slots)) + list_reads block_size l
+    → sum_by (list_reads block_size) (file_lists_view (take (i + 1) slots)) ≡ sum_by (list_reads block_size) (file_lists_view (take i slots)) + list_reads block_size l
 reads_more block_size slots i s l e f =
-    ap (sum_by (list_reads block_size)) (lists_next slots i s (Some l) e f) ∙ sum_by_push (list_reads block_size) (lists_view (take i slots)) l
+    ap (sum_by (list_reads block_size)) (lists_next slots i s (Some l) e f) ∙ sum_by_push (list_reads block_size) (file_lists_view (take i slots)) l
 
 -- ---- pairs
 
-pub takes_lists : (disk : Disk) (firsts : List (ℕ × ℕ)) (member : Member) (known new : Name × Vertex) (sets marked : BlockSets) → (t : TakesPair disk firsts member known sets new marked)
-    → lists_at disk member ≡ lists_in t.entries
+pub takes_lists : (disk : Disk) (firsts : List (ℕ × ℕ)) (member : Member) (known new : Name × DirectoryVertex) (sets marked : BlockStateList) → (t : AddsPairToDirectoryScan disk firsts member known sets new marked)
+    → file_lists_of_member disk member ≡ file_lists_of_raw_slots t.entries
 takes_lists disk firsts member known new sets marked t =
-    ap (λ (o : Option RawContent). option_map_or lists_in (option_and_then (λ c. entries_of_member member c.slots) o) []) t.content ∙ ap (λ o. option_map_or lists_in o []) t.kept
+    ap (λ (o : Option RawContent). option_map_or file_lists_of_raw_slots (option_and_then (λ c. entries_of_member member c.slots) o) []) t.content ∙ ap (λ o. option_map_or file_lists_of_raw_slots o []) t.kept
 
 pub pairs_more : (disk : Disk) (members : List Member) (i : ℕ) (d : Member) → i < length members
     → sum_by (pair_reads disk) (take (i + 1) members) ≡ sum_by (pair_reads disk) (take i members) + pair_reads disk (get_or members i d)

@@ -5,13 +5,13 @@ use Rattle.lfs_device.specs.declared.error.Error.{Error}
 use Rattle.lfs_device.specs.declared.error.Error.TheVariants.{Io}
 use Rattle.lfs_device.specs.Calls.{ReadsOnly, ReportsFaults}
 use Rattle.lfs_model.specs.History.{faults}
-use Rattle.lfs_model.proofs.Histories.{OnlyReads-trans}
+use Rattle.lfs_model.proofs.Histories.{AreCallsSinceOnlyReads-trans}
 
 pub then_reads : {D : Type 0} {g : Ghosts D} {old mid new : D} → ReadsOnly g old mid → ReadsOnly g mid new → ReadsOnly g old new
 then_reads first second = record {
   same = second.same ∙ first.same;
   geometry = second.geometry ∙ first.geometry;
-  reads = OnlyReads-trans first.reads second.reads first.same;
+  reads = AreCallsSinceOnlyReads-trans first.reads second.reads first.same;
 }
 
 -- the error that a call passed on

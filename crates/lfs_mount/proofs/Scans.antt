@@ -6,92 +6,92 @@ use Rattle.std.proofs.lemmas.List.Elements.{All-head, All-tail, All-cons}
 use Rattle.std.proofs.lemmas.Option.{same_Some}
 use Rattle.lfs_model.specs.declared.order.NameOrder.{NameOrder}
 use Rattle.lfs_model.specs.Names.{Name, is_name}
-use Rattle.lfs_model.specs.Tag.{tag_with, kind_of, len_of, class_of}
+use Rattle.lfs_model.specs.Tag.{tag_of_type_id_and_length, kind_of, len_of, class_of}
 use Rattle.lfs_model.specs.Slots.{Slot, File, Directory, Superblock}
-use Rattle.lfs_model.specs.EntryTypes.{is_in_table, removes, has_any_length, has_no_bytes, has_eight_bytes, superblock_name_type, create_type, delete_type, soft_tail_type, hard_tail_type, move_state_type, pair_at, file_name_type, directory_name_type, inline_struct_type, ctz_struct_type, directory_struct_type}
-use Rattle.lfs_model.specs.Content.{RawSlot, complete, complete_all, kind_named, struct_typed}
-use Rattle.lfs_model.specs.LoggedContent.{IsPart, IsPartIfSome, HasParts, HaveParts}
-use Rattle.lfs_model.specs.View.{IsEntry, Suits}
-use Rattle.lfs_model.proofs.WrittenAnew.{kind_of-tag_with, len_of-tag_with}
+use Rattle.lfs_model.specs.EntryTypes.{is_known_type_and_length, is_attribute_removal, allows_any_length, requires_no_bytes, requires_eight_bytes, superblock_name_type, create_type, delete_type, soft_tail_type, hard_tail_type, move_state_type, pair_address_of_bytes, file_name_type, directory_name_type, inline_struct_type, ctz_struct_type, directory_struct_type}
+use Rattle.lfs_model.specs.Content.{RawSlot, complete, slots_if_all_complete, kind_of_name_type, struct_of_type_and_bytes}
+use Rattle.lfs_model.specs.LoggedContent.{IsNameOrStructOfClass, IsNameOrStructIfSome, IsWellFormedRawSlot, AreWellFormedRawSlots}
+use Rattle.lfs_model.specs.View.{IsFileOrDirectoryEntry, IsStructOfKind}
+use Rattle.lfs_model.proofs.WrittenAnew.{kind_of-tag_of_type_id_and_length, len_of-tag_of_type_id_and_length}
 use Rattle.lfs_model.proofs.Completed.{AreComplete, complete_parts, complete_cons}
-use Rattle.lfs_mount.specs.Reaching.{Vertex}
-use Rattle.lfs_mount.specs.Entries.{EntryTarget, InSlot, InList, Below, target_of_struct, Entry, entry_of, target_of_raw, entry_in, with_entry, with_entries}
-use Rattle.lfs_mount.specs.Scanned.{known_after_slots}
+use Rattle.lfs_mount.specs.Reaching.{DirectoryVertex}
+use Rattle.lfs_mount.specs.Entries.{EntryReference, InSlot, InList, Below, entry_reference_of_struct, NameAndReference, name_and_reference_of_slot, entry_reference_of_raw_struct, directory_entry_of_raw_slot, directory_scan_with_entry, directory_scan_with_entries}
+use Rattle.lfs_mount.specs.Scanned.{directory_scan_after_slots}
 
 -- ---- one slot that is an entry
 
-data Suited (kind : ℕ) (part : ℕ × List ℕ) (stand : EntryTarget) : Type 0 where
+data Suited (kind : ℕ) (part : ℕ × List ℕ) (stand : EntryReference) : Type 0 where
   inline : kind ≡ file_name_type → part.0 ≡ inline_struct_type → stand ≡ InSlot → Suited kind part stand
-  list : kind ≡ file_name_type → part.0 ≡ ctz_struct_type → stand ≡ InList (pair_at part.1).0 (pair_at part.1).1 → Suited kind part stand
-  below : kind ≡ directory_name_type → part.0 ≡ directory_struct_type → stand ≡ Below (pair_at part.1) → Suited kind part stand
+  list : kind ≡ file_name_type → part.0 ≡ ctz_struct_type → stand ≡ InList (pair_address_of_bytes part.1).0 (pair_address_of_bytes part.1).1 → Suited kind part stand
+  below : kind ≡ directory_name_type → part.0 ≡ directory_struct_type → stand ≡ Below (pair_address_of_bytes part.1) → Suited kind part stand
 
-suited : (kind : ℕ) (part : ℕ × List ℕ) (stand : EntryTarget) → target_of_raw kind part ≡ Some stand → Suited kind part stand
+suited : (kind : ℕ) (part : ℕ × List ℕ) (stand : EntryReference) → entry_reference_of_raw_struct kind part ≡ Some stand → Suited kind part stand
 suited kind part stand e =
     go (kind == file_name_type && part.0 == inline_struct_type) (kind == file_name_type && part.0 == ctz_struct_type) (kind == directory_name_type && part.0 == directory_struct_type) (length part.1 == 8) refl refl refl e
   where
     go : (a b c l : Bool) → (kind == file_name_type && part.0 == inline_struct_type) ≡ a → (kind == file_name_type && part.0 == ctz_struct_type) ≡ b
         → (kind == directory_name_type && part.0 == directory_struct_type) ≡ c
-        → cond a (Some InSlot) (cond b (cond l (Some (InList (pair_at part.1).0 (pair_at part.1).1)) None) (cond c (cond l (Some (Below (pair_at part.1))) None) None)) ≡ Some stand
+        → cond a (Some InSlot) (cond b (cond l (Some (InList (pair_address_of_bytes part.1).0 (pair_address_of_bytes part.1).1)) None) (cond c (cond l (Some (Below (pair_address_of_bytes part.1))) None) None)) ≡ Some stand
         → Suited kind part stand
     go true b c l f g h is = let w = and_parts (kind == file_name_type) (part.0 == inline_struct_type) f in
         inline (eqb-true kind file_name_type w.0) (eqb-true part.0 inline_struct_type w.1) (sym (same_Some InSlot stand is))
     go false true c true f g h is = let w = and_parts (kind == file_name_type) (part.0 == ctz_struct_type) g in
-        list (eqb-true kind file_name_type w.0) (eqb-true part.0 ctz_struct_type w.1) (sym (same_Some (InList (pair_at part.1).0 (pair_at part.1).1) stand is))
+        list (eqb-true kind file_name_type w.0) (eqb-true part.0 ctz_struct_type w.1) (sym (same_Some (InList (pair_address_of_bytes part.1).0 (pair_address_of_bytes part.1).1) stand is))
     go false true c false f g h is = absurd (cc)
     go false false true true f g h is = let w = and_parts (kind == directory_name_type) (part.0 == directory_struct_type) h in
-        below (eqb-true kind directory_name_type w.0) (eqb-true part.0 directory_struct_type w.1) (sym (same_Some (Below (pair_at part.1)) stand is))
+        below (eqb-true kind directory_name_type w.0) (eqb-true part.0 directory_struct_type w.1) (sym (same_Some (Below (pair_address_of_bytes part.1)) stand is))
     go false false true false f g h is = absurd (cc)
     go false false false l f g h is = absurd (cc)
 
-suits_typed : (kind : ℕ) (part : ℕ × List ℕ) (stand : EntryTarget) → Suited kind part stand → Suits (kind_named kind) (struct_typed part.0 part.1) × (target_of_struct (struct_typed part.0 part.1) ≡ stand)
+suits_typed : (kind : ℕ) (part : ℕ × List ℕ) (stand : EntryReference) → Suited kind part stand → IsStructOfKind (kind_of_name_type kind) (struct_of_type_and_bytes part.0 part.1) × (entry_reference_of_struct (struct_of_type_and_bytes part.0 part.1) ≡ stand)
 suits_typed kind part stand (inline k t is) =
-    (subst₂ Suits (sym (ap kind_named k)) (sym (ap (λ (ty : ℕ). struct_typed ty part.1) t)) tt, ap (λ (ty : ℕ). target_of_struct (struct_typed ty part.1)) t ∙ sym is)
+    (subst₂ IsStructOfKind (sym (ap kind_of_name_type k)) (sym (ap (λ (ty : ℕ). struct_of_type_and_bytes ty part.1) t)) tt, ap (λ (ty : ℕ). entry_reference_of_struct (struct_of_type_and_bytes ty part.1)) t ∙ sym is)
 suits_typed kind part stand (list k t is) =
-    (subst₂ Suits (sym (ap kind_named k)) (sym (ap (λ (ty : ℕ). struct_typed ty part.1) t)) tt, ap (λ (ty : ℕ). target_of_struct (struct_typed ty part.1)) t ∙ sym is)
+    (subst₂ IsStructOfKind (sym (ap kind_of_name_type k)) (sym (ap (λ (ty : ℕ). struct_of_type_and_bytes ty part.1) t)) tt, ap (λ (ty : ℕ). entry_reference_of_struct (struct_of_type_and_bytes ty part.1)) t ∙ sym is)
 suits_typed kind part stand (below k t is) =
-    (subst₂ Suits (sym (ap kind_named k)) (sym (ap (λ (ty : ℕ). struct_typed ty part.1) t)) tt, ap (λ (ty : ℕ). target_of_struct (struct_typed ty part.1)) t ∙ sym is)
+    (subst₂ IsStructOfKind (sym (ap kind_of_name_type k)) (sym (ap (λ (ty : ℕ). struct_of_type_and_bytes ty part.1) t)) tt, ap (λ (ty : ℕ). entry_reference_of_struct (struct_of_type_and_bytes ty part.1)) t ∙ sym is)
 
-pub record Holds (s : RawSlot) (e : Entry) : Type 0 where
+pub record Holds (s : RawSlot) (e : NameAndReference) : Type 0 where
   pub slot : Slot
   pub is : complete s ≡ Some slot
-  pub entry : IsEntry slot
-  pub same : entry_of slot ≡ e
+  pub entry : IsFileOrDirectoryEntry slot
+  pub same : name_and_reference_of_slot slot ≡ e
 
-pub entry_some : (s : RawSlot) (e : Entry) → entry_in s ≡ Some e → Holds s e
+pub entry_some : (s : RawSlot) (e : NameAndReference) → directory_entry_of_raw_slot s ≡ Some e → Holds s e
 entry_some s e is = go s.name s.struct refl refl is
   where
-    parts : (n p : ℕ × List ℕ) → s.name ≡ Some n → s.struct ≡ Some p → (b : Bool) → is_name n.1 ≡ b → (o : Option EntryTarget) → target_of_raw n.0 p ≡ o
+    parts : (n p : ℕ × List ℕ) → s.name ≡ Some n → s.struct ≡ Some p → (b : Bool) → is_name n.1 ≡ b → (o : Option EntryReference) → entry_reference_of_raw_struct n.0 p ≡ o
         → cond b (option_map (λ stand. (n.1, stand)) o) None ≡ Some e → Holds s e
     parts n p f g true h None i is = absurd (cc)
     parts n p f g true h (Some stand) i is =
         let both = suits_typed n.0 p stand (suited n.0 p stand i) in
         record {
-          slot = record { kind = kind_named n.0; name = n.1; struct = struct_typed p.0 p.1; attributes = s.attributes };
+          slot = record { kind = kind_of_name_type n.0; name = n.1; struct = struct_of_type_and_bytes p.0 p.1; attributes = s.attributes };
           is = ap₂ (λ (a b : Option (ℕ × List ℕ)). complete (record { name = a; struct = b; attributes = s.attributes })) f g;
           entry = record { name = h; struct = both.0 };
-          same = ap (λ (st : EntryTarget). (n.1, st)) both.1 ∙ same_Some (n.1, stand) e is;
+          same = ap (λ (st : EntryReference). (n.1, st)) both.1 ∙ same_Some (n.1, stand) e is;
         }
     parts n p f g false h o i is = absurd (cc)
 
     go : (n p : Option (ℕ × List ℕ)) → s.name ≡ n → s.struct ≡ p
-        → option_and_then (λ name. option_and_then (λ struct. cond (is_name name.1) (option_map (λ stand. (name.1, stand)) (target_of_raw name.0 struct)) None) p) n ≡ Some e → Holds s e
+        → option_and_then (λ name. option_and_then (λ struct. cond (is_name name.1) (option_map (λ stand. (name.1, stand)) (entry_reference_of_raw_struct name.0 struct)) None) p) n ≡ Some e → Holds s e
     go None p f g is = absurd (cc)
     go (Some n) None f g is = absurd (cc)
-    go (Some n) (Some p) f g is = parts n p f g (is_name n.1) refl (target_of_raw n.0 p) refl is
+    go (Some n) (Some p) f g is = parts n p f g (is_name n.1) refl (entry_reference_of_raw_struct n.0 p) refl is
 
 -- ---- one slot that is none
 
 -- what is in the table, no attribute and of none of the other lengths, has 8 bytes
-eight_bytes : (tag : ℕ) → is_in_table tag ≡ true → removes tag ≡ false → has_any_length tag ≡ false → has_no_bytes tag ≡ false → (kind_of tag == move_state_type) ≡ false
-    → (has_eight_bytes tag ≡ true) × (len_of tag ≡ 8)
-eight_bytes tag h a b c d = go (has_eight_bytes tag) (len_of tag == 8) refl refl (ap (λ x. cond x (class_of tag == 3) (cond false true (cond (has_eight_bytes tag) (len_of tag == 8) (cond false (len_of tag == 0) false)))) (sym a) ∙ rest)
+eight_bytes : (tag : ℕ) → is_known_type_and_length tag ≡ true → is_attribute_removal tag ≡ false → allows_any_length tag ≡ false → requires_no_bytes tag ≡ false → (kind_of tag == move_state_type) ≡ false
+    → (requires_eight_bytes tag ≡ true) × (len_of tag ≡ 8)
+eight_bytes tag h a b c d = go (requires_eight_bytes tag) (len_of tag == 8) refl refl (ap (λ x. cond x (class_of tag == 3) (cond false true (cond (requires_eight_bytes tag) (len_of tag == 8) (cond false (len_of tag == 0) false)))) (sym a) ∙ rest)
   where
-    rest : cond (removes tag) (class_of tag == 3) (cond false true (cond (has_eight_bytes tag) (len_of tag == 8) (cond false (len_of tag == 0) false))) ≡ true
-    rest = ap₂ (λ x y. cond (removes tag) (class_of tag == 3) (cond x true (cond (has_eight_bytes tag) (len_of tag == 8) (cond y (len_of tag == 0) false)))) (sym b) (sym c)
-        ∙ ap (λ z. cond (removes tag) (class_of tag == 3) (cond (has_any_length tag) true (cond (has_eight_bytes tag) (len_of tag == 8) (cond (has_no_bytes tag) (len_of tag == 0) (z && len_of tag == 12))))) (sym d)
+    rest : cond (is_attribute_removal tag) (class_of tag == 3) (cond false true (cond (requires_eight_bytes tag) (len_of tag == 8) (cond false (len_of tag == 0) false))) ≡ true
+    rest = ap₂ (λ x y. cond (is_attribute_removal tag) (class_of tag == 3) (cond x true (cond (requires_eight_bytes tag) (len_of tag == 8) (cond y (len_of tag == 0) false)))) (sym b) (sym c)
+        ∙ ap (λ z. cond (is_attribute_removal tag) (class_of tag == 3) (cond (allows_any_length tag) true (cond (requires_eight_bytes tag) (len_of tag == 8) (cond (requires_no_bytes tag) (len_of tag == 0) (z && len_of tag == 12))))) (sym d)
         ∙ h
 
-    go : (e l : Bool) → has_eight_bytes tag ≡ e → (len_of tag == 8) ≡ l → cond e l (cond false (len_of tag == 0) false) ≡ true → (has_eight_bytes tag ≡ true) × (len_of tag ≡ 8)
+    go : (e l : Bool) → requires_eight_bytes tag ≡ e → (len_of tag == 8) ≡ l → cond e l (cond false (len_of tag == 0) false) ≡ true → (requires_eight_bytes tag ≡ true) × (len_of tag ≡ 8)
     go true true k f g = (k, eqb-true (len_of tag) 8 f)
     go true false k f g = absurd (cc)
     go false l k f g = absurd (cc)
@@ -101,7 +101,7 @@ data PartType (type : ℕ) (bytes : List ℕ) : Type 0 where
   pair_there : type ≡ directory_struct_type → length bytes ≡ 8 → PartType type bytes
   list_there : type ≡ ctz_struct_type → length bytes ≡ 8 → PartType type bytes
 
-part_type : (type : ℕ) (bytes : List ℕ) → IsPart 2 (type, bytes) → PartType type bytes
+part_type : (type : ℕ) (bytes : List ℕ) → IsNameOrStructOfClass 2 (type, bytes) → PartType type bytes
 part_type type bytes h = go (type == inline_struct_type) refl
   where
     of_class : type / 2 ^ 8 ≡ 2
@@ -110,14 +110,14 @@ part_type type bytes h = go (type == inline_struct_type) refl
     short : length bytes < 0x3ff
     short = h.short
 
-    kind : kind_of (tag_with type 0 (length bytes)) ≡ type
-    kind = kind_of-tag_with type 0 (length bytes) (omega arith) (omega arith) (omega arith)
+    kind : kind_of (tag_of_type_id_and_length type 0 (length bytes)) ≡ type
+    kind = kind_of-tag_of_type_id_and_length type 0 (length bytes) (omega arith) (omega arith) (omega arith)
 
-    len : len_of (tag_with type 0 (length bytes)) ≡ length bytes
-    len = len_of-tag_with type 0 (length bytes) (omega arith)
+    len : len_of (tag_of_type_id_and_length type 0 (length bytes)) ≡ length bytes
+    len = len_of-tag_of_type_id_and_length type 0 (length bytes) (omega arith)
 
-    eight : (type == inline_struct_type) ≡ false → (has_eight_bytes (tag_with type 0 (length bytes)) ≡ true) × (len_of (tag_with type 0 (length bytes)) ≡ 8)
-    eight other = eight_bytes (tag_with type 0 (length bytes)) h.in_table (rw len (ne_eqb (length bytes) 0x3ff (λ e. omega arith)))
+    eight : (type == inline_struct_type) ≡ false → (requires_eight_bytes (tag_of_type_id_and_length type 0 (length bytes)) ≡ true) × (len_of (tag_of_type_id_and_length type 0 (length bytes)) ≡ 8)
+    eight other = eight_bytes (tag_of_type_id_and_length type 0 (length bytes)) h.in_table (rw len (ne_eqb (length bytes) 0x3ff (λ e. omega arith)))
         (rw kind (rw (ne_eqb (type / 2 ^ 8) 3 (λ e. omega arith), ne_eqb type file_name_type (λ e. omega arith), ne_eqb type directory_name_type (λ e. omega arith), other) refl))
         (rw kind (rw (ne_eqb type create_type (λ e. omega arith), ne_eqb type delete_type (λ e. omega arith)) refl))
         (rw kind (ne_eqb type move_state_type (λ e. omega arith)))
@@ -140,7 +140,7 @@ part_type type bytes h = go (type == inline_struct_type) refl
 data NameType (kind : ℕ) : Type 0 where
   file_there : kind ≡ file_name_type → NameType kind
   directory_there : kind ≡ directory_name_type → NameType kind
-  other_there : kind_named kind ≡ Superblock → NameType kind
+  other_there : kind_of_name_type kind ≡ Superblock → NameType kind
 
 name_type : (kind : ℕ) → NameType kind
 name_type kind = go (kind == file_name_type) (kind == directory_name_type) refl refl
@@ -151,21 +151,21 @@ name_type kind = go (kind == file_name_type) (kind == directory_name_type) refl 
     go false false e f = other_there (ap₂ (λ x y. cond x File (cond y Directory Superblock)) e f)
 
 -- a kind and a struct that suit stand for something
-stands : (kind type : ℕ) (bytes : List ℕ) → IsPart 2 (type, bytes) → Suits (kind_named kind) (struct_typed type bytes) → target_of_raw kind (type, bytes) ≡ None → ⊥
-stands kind type bytes h suits none = go (name_type kind) (part_type type bytes h)
+stands : (kind type : ℕ) (bytes : List ℕ) → IsNameOrStructOfClass 2 (type, bytes) → IsStructOfKind (kind_of_name_type kind) (struct_of_type_and_bytes type bytes) → entry_reference_of_raw_struct kind (type, bytes) ≡ None → ⊥
+stands kind type bytes h has_struct_of_its_kind none = go (name_type kind) (part_type type bytes h)
   where
     -- the types written out
     at : (k t : ℕ) (b : Bool) → kind ≡ k → type ≡ t → (length bytes == 8) ≡ b
         → cond (k == file_name_type && t == inline_struct_type) (Some InSlot)
-        (cond (k == file_name_type && t == ctz_struct_type) (cond b (Some (InList (pair_at bytes).0 (pair_at bytes).1)) None)
-        (cond (k == directory_name_type && t == directory_struct_type) (cond b (Some (Below (pair_at bytes))) None) None)) ≡ None
+        (cond (k == file_name_type && t == ctz_struct_type) (cond b (Some (InList (pair_address_of_bytes bytes).0 (pair_address_of_bytes bytes).1)) None)
+        (cond (k == directory_name_type && t == directory_struct_type) (cond b (Some (Below (pair_address_of_bytes bytes))) None) None)) ≡ None
     at k t b e f l = ap (λ (x : Bool). cond (k == file_name_type && t == inline_struct_type) (Some InSlot)
-        (cond (k == file_name_type && t == ctz_struct_type) (cond x (Some (InList (pair_at bytes).0 (pair_at bytes).1)) None)
-        (cond (k == directory_name_type && t == directory_struct_type) (cond x (Some (Below (pair_at bytes))) None) None))) (sym l)
-        ∙ ap₂ (λ (x y : ℕ). target_of_raw x (y, bytes)) (sym e) (sym f) ∙ none
+        (cond (k == file_name_type && t == ctz_struct_type) (cond x (Some (InList (pair_address_of_bytes bytes).0 (pair_address_of_bytes bytes).1)) None)
+        (cond (k == directory_name_type && t == directory_struct_type) (cond x (Some (Below (pair_address_of_bytes bytes))) None) None))) (sym l)
+        ∙ ap₂ (λ (x y : ℕ). entry_reference_of_raw_struct x (y, bytes)) (sym e) (sym f) ∙ none
 
-    reported : (k t : ℕ) → kind ≡ k → type ≡ t → Suits (kind_named k) (struct_typed t bytes)
-    reported k t e f = subst₂ (λ (x y : ℕ). Suits (kind_named x) (struct_typed y bytes)) e f suits
+    reported : (k t : ℕ) → kind ≡ k → type ≡ t → IsStructOfKind (kind_of_name_type k) (struct_of_type_and_bytes t bytes)
+    reported k t e f = subst₂ (λ (x y : ℕ). IsStructOfKind (kind_of_name_type x) (struct_of_type_and_bytes y bytes)) e f has_struct_of_its_kind
 
     long : length bytes ≡ 8 → (length bytes == 8) ≡ true
     long e = eq-eqb (length bytes) 8 e
@@ -177,39 +177,39 @@ stands kind type bytes h suits none = go (name_type kind) (part_type type bytes 
     go (directory_there e) (bytes_there f) = reported directory_name_type inline_struct_type e f
     go (directory_there e) (pair_there f l) = absurd (let c = at directory_name_type directory_struct_type true e f (long l) in cc)
     go (directory_there e) (list_there f l) = reported directory_name_type ctz_struct_type e f
-    go (other_there e) p = subst (λ k. Suits k (struct_typed type bytes)) e suits
+    go (other_there e) p = subst (λ k. IsStructOfKind k (struct_of_type_and_bytes type bytes)) e has_struct_of_its_kind
 
-pub entry_none : (s : RawSlot) (t : Slot) → HasParts s → entry_in s ≡ None → complete s ≡ Some t → IsEntry t → ⊥
+pub entry_none : (s : RawSlot) (t : Slot) → IsWellFormedRawSlot s → directory_entry_of_raw_slot s ≡ None → complete s ≡ Some t → IsFileOrDirectoryEntry t → ⊥
 entry_none s t parts none is entry = go s.name s.struct parts.struct none is
   where
-    below_name : (n p : ℕ × List ℕ) → IsPart 2 p → (b : Bool) → is_name n.1 ≡ b → (o : Option EntryTarget) → target_of_raw n.0 p ≡ o
-        → cond b (option_map {U = Entry} (λ stand. (n.1, stand)) o) None ≡ None → record { kind = kind_named n.0; name = n.1; struct = struct_typed p.0 p.1; attributes = s.attributes } ≡ t → ⊥
-    below_name n p h true f None g e same = stands n.0 p.0 p.1 h (subst (λ (u : Slot). Suits u.kind u.struct) (sym same) entry.struct) g
+    below_name : (n p : ℕ × List ℕ) → IsNameOrStructOfClass 2 p → (b : Bool) → is_name n.1 ≡ b → (o : Option EntryReference) → entry_reference_of_raw_struct n.0 p ≡ o
+        → cond b (option_map {U = NameAndReference} (λ stand. (n.1, stand)) o) None ≡ None → record { kind = kind_of_name_type n.0; name = n.1; struct = struct_of_type_and_bytes p.0 p.1; attributes = s.attributes } ≡ t → ⊥
+    below_name n p h true f None g e same = stands n.0 p.0 p.1 h (subst (λ (u : Slot). IsStructOfKind u.kind u.struct) (sym same) entry.struct) g
     below_name n p h true f (Some stand) g e same = absurd (cc)
     below_name n p h false f o g e same = true≢false (sym entry.name ∙ ap (λ (u : Slot). is_name u.name) (sym same) ∙ f)
 
-    go : (n p : Option (ℕ × List ℕ)) → IsPartIfSome 2 p
-        → option_and_then (λ name. option_and_then (λ struct. cond (is_name name.1) (option_map {U = Entry} (λ stand. (name.1, stand)) (target_of_raw name.0 struct)) None) p) n ≡ None
-        → option_and_then (λ name. option_map (λ struct. record { kind = kind_named name.0; name = name.1; struct = struct_typed struct.0 struct.1; attributes = s.attributes }) p) n ≡ Some t → ⊥
+    go : (n p : Option (ℕ × List ℕ)) → IsNameOrStructIfSome 2 p
+        → option_and_then (λ name. option_and_then (λ struct. cond (is_name name.1) (option_map {U = NameAndReference} (λ stand. (name.1, stand)) (entry_reference_of_raw_struct name.0 struct)) None) p) n ≡ None
+        → option_and_then (λ name. option_map (λ struct. record { kind = kind_of_name_type name.0; name = name.1; struct = struct_of_type_and_bytes struct.0 struct.1; attributes = s.attributes }) p) n ≡ Some t → ⊥
     go None p h e f = absurd (cc)
     go (Some n) None h e f = absurd (cc)
-    go (Some n) (Some p) h e f = below_name n p h (is_name n.1) refl (target_of_raw n.0 p) refl e (same_Some _ t f)
+    go (Some n) (Some p) h e f = below_name n p h (is_name n.1) refl (entry_reference_of_raw_struct n.0 p) refl e (same_Some _ t f)
 
 -- ---- all slots of a pair
 
 -- the slots are entries, and this is known then
-pub record IsScanned (by : NameOrder) (firsts : List (ℕ × ℕ)) (known : Name × Vertex) (raws : List RawSlot) (new : Name × Vertex) : Type 0 where
+pub record IsScanned (by : NameOrder) (firsts : List (ℕ × ℕ)) (known : Name × DirectoryVertex) (raws : List RawSlot) (new : Name × DirectoryVertex) : Type 0 where
   pub slots : List Slot
-  pub are : complete_all raws ≡ Some slots
-  pub entries : All IsEntry slots
-  pub same : new ≡ with_entries by firsts known (map entry_of slots)
+  pub are : slots_if_all_complete raws ≡ Some slots
+  pub entries : All IsFileOrDirectoryEntry slots
+  pub same : new ≡ directory_scan_with_entries by firsts known (map name_and_reference_of_slot slots)
 
-pub scan_some : (by : NameOrder) (firsts : List (ℕ × ℕ)) (known : Name × Vertex) (raws : List RawSlot) (new : Name × Vertex) → known_after_slots by firsts known raws ≡ Some new → IsScanned by firsts known raws new
+pub scan_some : (by : NameOrder) (firsts : List (ℕ × ℕ)) (known : Name × DirectoryVertex) (raws : List RawSlot) (new : Name × DirectoryVertex) → directory_scan_after_slots by firsts known raws ≡ Some new → IsScanned by firsts known raws new
 scan_some by firsts known [] new e = record { slots = []; are = refl; entries = λ k d lt. absurd (omega arith); same = sym (same_Some known new e) }
-scan_some by firsts known (s ∷ raws) new e = go (entry_in s) refl e (λ x. scan_some by firsts (with_entry by firsts known x) raws new)
+scan_some by firsts known (s ∷ raws) new e = go (directory_entry_of_raw_slot s) refl e (λ x. scan_some by firsts (directory_scan_with_entry by firsts known x) raws new)
   where
-    go : (o : Option Entry) → entry_in s ≡ o → option_and_then (λ x. known_after_slots by firsts (with_entry by firsts known x) raws) o ≡ Some new
-        → ((x : Entry) → known_after_slots by firsts (with_entry by firsts known x) raws ≡ Some new → IsScanned by firsts (with_entry by firsts known x) raws new) → IsScanned by firsts known (s ∷ raws) new
+    go : (o : Option NameAndReference) → directory_entry_of_raw_slot s ≡ o → option_and_then (λ x. directory_scan_after_slots by firsts (directory_scan_with_entry by firsts known x) raws) o ≡ Some new
+        → ((x : NameAndReference) → directory_scan_after_slots by firsts (directory_scan_with_entry by firsts known x) raws ≡ Some new → IsScanned by firsts (directory_scan_with_entry by firsts known x) raws new) → IsScanned by firsts known (s ∷ raws) new
     go None f g next = absurd (cc)
     go (Some x) f g next =
         let h = entry_some s x f in
@@ -217,21 +217,21 @@ scan_some by firsts known (s ∷ raws) new e = go (entry_in s) refl e (λ x. sca
         record {
           slots = h.slot ∷ r.slots;
           are = complete_cons s raws h.slot r.slots h.is r.are;
-          entries = All-cons IsEntry h.slot r.slots h.entry r.entries;
-          same = r.same ∙ ap (λ (y : Entry). with_entries by firsts (with_entry by firsts known y) (map entry_of r.slots)) (sym h.same);
+          entries = All-cons IsFileOrDirectoryEntry h.slot r.slots h.entry r.entries;
+          same = r.same ∙ ap (λ (y : NameAndReference). directory_scan_with_entries by firsts (directory_scan_with_entry by firsts known y) (map name_and_reference_of_slot r.slots)) (sym h.same);
         }
 
-pub scan_none : (by : NameOrder) (firsts : List (ℕ × ℕ)) (known : Name × Vertex) (raws : List RawSlot) → HaveParts raws → known_after_slots by firsts known raws ≡ None → (slots : List Slot) → complete_all raws ≡ Some slots → All IsEntry slots → ⊥
+pub scan_none : (by : NameOrder) (firsts : List (ℕ × ℕ)) (known : Name × DirectoryVertex) (raws : List RawSlot) → AreWellFormedRawSlots raws → directory_scan_after_slots by firsts known raws ≡ None → (slots : List Slot) → slots_if_all_complete raws ≡ Some slots → All IsFileOrDirectoryEntry slots → ⊥
 scan_none by firsts known [] parts e slots are entries = absurd (cc)
-scan_none by firsts known (s ∷ raws) parts e slots are entries = go (entry_in s) refl e (λ x f. scan_none by firsts (with_entry by firsts known x) raws parts.1 f p.others p.are_others (All-tail IsEntry p.first p.others all))
+scan_none by firsts known (s ∷ raws) parts e slots are entries = go (directory_entry_of_raw_slot s) refl e (λ x f. scan_none by firsts (directory_scan_with_entry by firsts known x) raws parts.1 f p.others p.are_others (All-tail IsFileOrDirectoryEntry p.first p.others all))
   where
     p : AreComplete s raws slots
     p = complete_parts s raws slots are
 
-    all : All IsEntry (p.first ∷ p.others)
-    all = subst (All IsEntry) p.all_are entries
+    all : All IsFileOrDirectoryEntry (p.first ∷ p.others)
+    all = subst (All IsFileOrDirectoryEntry) p.all_are entries
 
-    go : (o : Option Entry) → entry_in s ≡ o → option_and_then (λ x. known_after_slots by firsts (with_entry by firsts known x) raws) o ≡ None
-        → ((x : Entry) → known_after_slots by firsts (with_entry by firsts known x) raws ≡ None → ⊥) → ⊥
-    go None f g next = entry_none s p.first parts.0 f p.is_first (All-head IsEntry p.first p.others all)
+    go : (o : Option NameAndReference) → directory_entry_of_raw_slot s ≡ o → option_and_then (λ x. directory_scan_after_slots by firsts (directory_scan_with_entry by firsts known x) raws) o ≡ None
+        → ((x : NameAndReference) → directory_scan_after_slots by firsts (directory_scan_with_entry by firsts known x) raws ≡ None → ⊥) → ⊥
+    go None f g next = entry_none s p.first parts.0 f p.is_first (All-head IsFileOrDirectoryEntry p.first p.others all)
     go (Some x) f g next = next x g

@@ -4,4 +4,4 @@ use Rattle.lfs_mount.specs.Entries as entries
 use Rattle.lfs_mount.specs.declared.entry.NamedStruct.{NamedStruct}
 
 abbrev pub entry_view : NamedStruct → entries.Entry
-entry_view e = (e.name.now, entries.target_of_struct (struct_view e.target))
+entry_view e = (e.name.now, entries.entry_reference_of_struct (struct_view e.target))

@@ -2,7 +2,7 @@
 use Rattle.std.specs.Prelude.{ℕ, List, map}
 use Rattle.lfs_tag.specs.declared.content.Slot.{Slot}
 use Rattle.lfs_tag.specs.ContentView.{slot_view}
-use Rattle.lfs_mount.specs.Marking.{lists_in}
+use Rattle.lfs_mount.specs.Marking.{file_lists_of_raw_slots}
 
-abbrev pub lists_view : List Slot → List (ℕ × ℕ)
-lists_view slots = lists_in (map slot_view slots)
+abbrev pub file_lists_view : List Slot → List (ℕ × ℕ)
+file_lists_view slots = file_lists_of_raw_slots (map slot_view slots)

@@ -1,37 +1,37 @@
 -- The global state of a thread, computed from its headers, and the move that it sets.
 use Rattle.std.specs.Prelude.{ℕ, ◌≡◌, ◌==◌, ◌&&◌, ◌||◌, Bool, false, List, [], ◌∷◌, ◌++◌, length, map, slice_get, Option, Some, None}
 use Rattle.std.specs.List.{AllByRecursion, fold}
-use Rattle.lfs_model.specs.Slots.{Gstate, Slot, gstate_xor, no_gstate, same_pair}
-use Rattle.lfs_model.specs.Thread.{Pair, gstate_of, superblocks_before}
-use Rattle.lfs_model.specs.View.{IsEntry}
+use Rattle.lfs_model.specs.Slots.{Gstate, Slot, gstate_xor, zero_gstate, same_pair}
+use Rattle.lfs_model.specs.Thread.{Pair, gstate_of, pair_count_before_root}
+use Rattle.lfs_model.specs.View.{IsFileOrDirectoryEntry}
 use Rattle.lfs_tag.specs.FieldsView.{move_view}
-use Rattle.lfs_pair.specs.Pair.{address_in}
-use Rattle.lfs_thread.specs.Kept.{Header}
-use Rattle.lfs_mount.specs.Described.{moved_in}
+use Rattle.lfs_pair.specs.Pair.{address_of_header}
+use Rattle.lfs_thread.specs.Kept.{PairHeader}
+use Rattle.lfs_mount.specs.Described.{moved_id_in_pair}
 
 -- the exclusive or of all pairs' deltas
-abbrev pub joined_of : List Header → Gstate
-joined_of headers = fold gstate_xor no_gstate (map (λ h. move_view h.move_state) headers)
+abbrev pub gstate_of_headers : List PairHeader → Gstate
+gstate_of_headers headers = fold gstate_xor zero_gstate (map (λ h. move_view h.move_state) headers)
 
 -- whether one of these addresses has the same two blocks
-abbrev pub names_one : ℕ × ℕ → List (ℕ × ℕ) → Bool
-names_one pair [] = false
-names_one pair (at ∷ ats) = same_pair pair at || names_one pair ats
+abbrev pub is_pair_among_addresses : ℕ × ℕ → List (ℕ × ℕ) → Bool
+is_pair_among_addresses pair [] = false
+is_pair_among_addresses pair (at ∷ ats) = same_pair pair at || is_pair_among_addresses pair ats
 
 -- whether no move is set, or one of a slot in one of the pairs at these addresses
-abbrev pub names_known : Gstate → List (ℕ × ℕ) → Bool
-names_known g ats = (g.kind == 0 && g.id == 0 && (g.pair.0 == 0 && g.pair.1 == 0)) || (g.kind == 0x4ff && names_one g.pair ats)
+abbrev pub move_is_none_or_known : Gstate → List (ℕ × ℕ) → Bool
+move_is_none_or_known g ats = (g.kind == 0 && g.id == 0 && (g.pair.0 == 0 && g.pair.1 == 0)) || (g.kind == 0x4ff && is_pair_among_addresses g.pair ats)
 
 -- these are the headers of the directories' pairs in a thread with that global state
-pub record HasDirectories (g : Gstate) (headers : List Header) (chain : List Pair) (p : Pair) (rest : List Pair) : Type 0 where
-  pub at : map (λ q. q.at) (p ∷ rest) ≡ map address_in headers
+pub record AreDirectoryHeadersWithGstate (g : Gstate) (headers : List PairHeader) (chain : List Pair) (p : Pair) (rest : List Pair) : Type 0 where
+  pub at : map (λ q. q.at) (p ∷ rest) ≡ map address_of_header headers
   pub global : gstate_of (chain ++ p ∷ rest) ≡ g
-  pub chain_is : superblocks_before (chain ++ p ∷ rest) ≡ length chain
+  pub chain_is : pair_count_before_root (chain ++ p ∷ rest) ≡ length chain
 
-abbrev pub IsEntryIfSome : Option ℕ → List Slot → Type 0
-IsEntryIfSome None slots = Unit {0}
-IsEntryIfSome (Some id) slots = (t : Slot) × ((slice_get slots id ≡ Some t) × IsEntry t)
+abbrev pub IsEntryAtIdIfSome : Option ℕ → List Slot → Type 0
+IsEntryAtIdIfSome None slots = Unit {0}
+IsEntryAtIdIfSome (Some id) slots = (t : Slot) × ((slice_get slots id ≡ Some t) × IsFileOrDirectoryEntry t)
 
 -- the slot that a set move names is an entry of its pair
-abbrev pub IsMovedFrom : Gstate → List Pair → Type 0
-IsMovedFrom g ps = AllByRecursion (λ p. IsEntryIfSome (moved_in g p) p.content.slots) ps
+abbrev pub IsMovedSlotEntry : Gstate → List Pair → Type 0
+IsMovedSlotEntry g ps = AllByRecursion (λ p. IsEntryAtIdIfSome (moved_id_in_pair g p) p.content.slots) ps

@@ -2,32 +2,32 @@
 use Rattle.std.specs.Prelude.{◌≡◌, ◌≤◌, ◌<◌, ◌+◌, true, false, List}
 use Rattle.lfs_device.specs.Shown.{ordered}
 use Rattle.lfs_model.specs.Disk.{Disk}
-use Rattle.lfs_model.specs.History.{Event, OnlyReads, faults, reads}
+use Rattle.lfs_model.specs.History.{CallEvent, AreCallsSinceOnlyReads, faults, reads}
 use Rattle.lfs_model.specs.Thread.{Pair}
-use Rattle.lfs_model.specs.View.{IsAccepted}
+use Rattle.lfs_model.specs.View.{IsAcceptedImage}
 use Rattle.lfs_model.specs.declared.order.NameOrder.{NameOrder}
-use Rattle.lfs_thread.specs.Kept.{State}
+use Rattle.lfs_thread.specs.Kept.{ThreadView}
 use Rattle.lfs_mount.specs.Accepted.{IsMountedThread}
-use Rattle.lfs_mount.specs.Orders.{has_order}
+use Rattle.lfs_mount.specs.Orders.{includes_name_order}
 use Rattle.lfs_mount.specs.Reads.{mount_reads}
 use Rattle.lfs_mount.specs.declared.orders.Orders.{Orders}
 
 -- the same thread, with that order of names
-abbrev pub in_order : NameOrder → State → State
+abbrev pub in_order : NameOrder → ThreadView → ThreadView
 in_order order t = record t { kept = record t.kept { disk = ordered order t.kept.disk } }
 
 -- at least one read was made since, and no more than a mount of the image takes
-pub record HasFewReads (disk : Disk) (history : List Event) (t : State) : Type 0 where
+pub record HasAtMostMountReads (disk : Disk) (history : List CallEvent) (t : ThreadView) : Type 0 where
   pub called : reads history < reads t.kept.history
   pub few : reads t.kept.history ≤ reads history + mount_reads disk t.kept.pairs
 
 -- The thread of a device that was only read, without a fault. Its image is accepted in these orders of names, by few reads. In
 -- another order no image is accepted.
-pub record IsReadImage (disk : Disk) (history : List Event) (t : State) (orders : Orders) : Type 0 where
+pub record IsAcceptedInOrders (disk : Disk) (history : List CallEvent) (t : ThreadView) (orders : Orders) : Type 0 where
   pub works : t.failed ≡ false
   pub disk_is : t.kept.disk ≡ disk
-  pub reads : OnlyReads disk.blocks history t.kept.history
+  pub reads : AreCallsSinceOnlyReads disk.blocks history t.kept.history
   pub no_fault : faults t.kept.history ≡ faults history
-  pub mounted : (order : NameOrder) → has_order order orders ≡ true → IsMountedThread (ordered order disk) history (in_order order t)
-  pub few : (order : NameOrder) → has_order order orders ≡ true → HasFewReads disk history t
-  pub refused : (order : NameOrder) → has_order order orders ≡ false → (ps : List Pair) → IsAccepted (ordered order disk) ps → ⊥
+  pub mounted : (order : NameOrder) → includes_name_order order orders ≡ true → IsMountedThread (ordered order disk) history (in_order order t)
+  pub few : (order : NameOrder) → includes_name_order order orders ≡ true → HasAtMostMountReads disk history t
+  pub refused : (order : NameOrder) → includes_name_order order orders ≡ false → (ps : List Pair) → IsAcceptedImage (ordered order disk) ps → ⊥

@@ -1,28 +1,28 @@
 -- How many reads the pairs of an image take.
 use Rattle.std.specs.Prelude.{ℕ, ◌+◌, ◌*◌, List, [], length, sum_by}
 use Rattle.std.specs.Option.{option_and_then, option_map_or}
-use Rattle.lfs_model.specs.Content.{content_after_all, no_content}
-use Rattle.lfs_model.specs.Disk.{Disk, block_at}
-use Rattle.lfs_model.specs.Shown.{all_slots}
-use Rattle.lfs_model.specs.SkipLists.{blocks_for}
+use Rattle.lfs_model.specs.Content.{content_after_log_entries, empty_raw_content}
+use Rattle.lfs_model.specs.Disk.{Disk, block_bytes_on_disk}
+use Rattle.lfs_model.specs.Shown.{all_slots_not_moved}
+use Rattle.lfs_model.specs.SkipLists.{list_block_count_for_size}
 use Rattle.lfs_model.specs.Slots.{Branch, Ctz, Inline, Struct}
 use Rattle.lfs_model.specs.Thread.{Pair}
-use Rattle.lfs_model.specs.Log.{log_entries}
-use Rattle.lfs_mount.specs.Marking.{lists_in}
+use Rattle.lfs_model.specs.Log.{log_entries_of_block}
+use Rattle.lfs_mount.specs.Marking.{file_lists_of_raw_slots}
 use Rattle.lfs_mount.specs.Taken.{entries_of_member}
 use Rattle.lfs_mount.specs.declared.pass.Member.{Member}
 
 -- the reads of a list: one for each block
 abbrev pub list_reads : ℕ → ℕ × ℕ → ℕ
-list_reads block_size l = blocks_for block_size l.1
+list_reads block_size l = list_block_count_for_size block_size l.1
 
 -- the head and the size of each list in a pair
-abbrev pub lists_at : Disk → Member → List (ℕ × ℕ)
-lists_at disk member = option_map_or lists_in (option_and_then (λ c. entries_of_member member c.slots) (content_after_all no_content (log_entries (block_at disk member.active)))) []
+abbrev pub file_lists_of_member : Disk → Member → List (ℕ × ℕ)
+file_lists_of_member disk member = option_map_or file_lists_of_raw_slots (option_and_then (λ c. entries_of_member member c.slots) (content_after_log_entries empty_raw_content (log_entries_of_block (block_bytes_on_disk disk member.active)))) []
 
 -- the reads of a pair: one, and those of its lists
 abbrev pub pair_reads : Disk → Member → ℕ
-pair_reads disk member = 1 + sum_by (list_reads disk.block_size) (lists_at disk member)
+pair_reads disk member = 1 + sum_by (list_reads disk.block_size) (file_lists_of_member disk member)
 
 -- the reads of a file's list, if it has one
 abbrev pub struct_reads : ℕ → Struct → ℕ
@@ -32,7 +32,7 @@ struct_reads block_size (Branch to) = 0
 
 -- the reads of all files' lists
 abbrev pub file_reads : Disk → List Pair → ℕ
-file_reads disk ps = sum_by (λ s. struct_reads disk.block_size s.struct) (all_slots ps)
+file_reads disk ps = sum_by (λ s. struct_reads disk.block_size s.struct) (all_slots_not_moved ps)
 
 -- the reads of a check: one for each pair, two more for the superblock, and those of all files' lists
 abbrev pub check_reads : Disk → List Pair → ℕ

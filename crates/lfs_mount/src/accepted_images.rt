@@ -7,22 +7,22 @@ ghost use Rattle.lfs_device.specs.Shown.{ordered};
 ghost use Rattle.lfs_model.specs.BlockSets.{IsFree};
 ghost use Rattle.lfs_model.specs.History.{reads};
 ghost use Rattle.lfs_model.specs.Thread.{Pair as ThreadPair};
-ghost use Rattle.lfs_model.specs.View.{IsAccepted};
+ghost use Rattle.lfs_model.specs.View.{IsAcceptedImage};
 ghost use Rattle.lfs_model.specs.declared.order.NameOrder.{NameOrder};
 ghost use Rattle.lfs_tag.specs.FieldsView.{move_view};
-ghost use Rattle.lfs_thread.specs.Device.{GivesBack};
-ghost use Rattle.lfs_thread.specs.Kept.{disk_on, pairs_on};
-ghost use Rattle.lfs_mount.specs.Accepted.{HasImage, IsAcceptedIfFits, IsMountedThread};
-ghost use Rattle.lfs_mount.specs.Device.{IsMountError, ReportsErrors};
-ghost use Rattle.lfs_mount.specs.Members.{AreDirectories, IsThreadRead, IsThreadOf, members_in};
-ghost use Rattle.lfs_mount.specs.Orders.{has_order};
-ghost use Rattle.lfs_mount.specs.ReadImage.{IsReadImage};
+ghost use Rattle.lfs_thread.specs.Device.{GivesDeviceBackWithError};
+ghost use Rattle.lfs_thread.specs.Kept.{disk_of_device, pairs_of_headers};
+ghost use Rattle.lfs_mount.specs.Accepted.{HasAcceptedImageIfOrderFits, IsAcceptedIfDirectoriesFitOrder, IsMountedThread};
+ghost use Rattle.lfs_mount.specs.Device.{IsIoCorruptOrNoMemory, ReportsMountErrorsAndFaults};
+ghost use Rattle.lfs_mount.specs.Members.{AreDirectoryHeadersOfThread, IsThreadReadFromDisk, IsThreadOfDirectoryHeaders, members_of_headers};
+ghost use Rattle.lfs_mount.specs.Orders.{includes_name_order};
+ghost use Rattle.lfs_mount.specs.ReadImage.{IsAcceptedInOrders};
 ghost use Rattle.lfs_mount.specs.Reads.{check_reads, mount_reads, pair_reads};
-ghost use Rattle.lfs_mount.specs.Start.{image_number};
+ghost use Rattle.lfs_mount.specs.Start.{allocation_seed};
 
 use crate::check::check_thread;
-use crate::head::count_superblocks;
-use crate::members::{members_of, places_of};
+use crate::head::superblock_chain_length;
+use crate::members::{members_of_pair_headers, places_of};
 use crate::moves::check_move;
 use crate::orders::Orders;
 use lfs_alloc::BlockMap;
@@ -40,13 +40,13 @@ use std::alloc::Global;
 /// `Corrupt` exactly where no image is accepted there. `Io` where a read failed, and `NoMemory` where
 /// memory isn't granted. The device comes back with an error.
 pub fn mount<D: BlockDevice>(alloc: Global, device: D) -> Result<Thread<D>, (D, Error)>
-    ensures mounted { IfOk result (IsMountedThread (disk_on D.BlockDevice device) (D.history device)) }
-    ensures corrupt { IfErr result (λ e. e.1 ≡ Error.Corrupt → (ps : List ThreadPair) → ¬ IsAccepted (disk_on D.BlockDevice device) ps) }
-    ensures errors { IfErr result (λ e. IsMountError e.1) }
-    ensures back { IfErr result (λ e. GivesBack D.BlockDevice device e.0 e.1) }
+    ensures mounted { IfOk result (IsMountedThread (disk_of_device D.BlockDevice device) (D.history device)) }
+    ensures corrupt { IfErr result (λ e. e.1 ≡ Error.Corrupt → (ps : List ThreadPair) → ¬ IsAcceptedImage (disk_of_device D.BlockDevice device) ps) }
+    ensures errors { IfErr result (λ e. IsIoCorruptOrNoMemory e.1) }
+    ensures back { IfErr result (λ e. GivesDeviceBackWithError D.BlockDevice device e.0 e.1) }
     ensures called { IfOk result (λ t. reads (D.history device) < reads t.kept.history) }
     // Three reads for each pair, two more, and one for each block of a file's list.
-    ensures few { IfOk result (λ t. reads t.kept.history ≤ reads (D.history device) + mount_reads (disk_on D.BlockDevice device) t.kept.pairs) }
+    ensures few { IfOk result (λ t. reads t.kept.history ≤ reads (D.history device) + mount_reads (disk_of_device D.BlockDevice device) t.kept.pairs) }
 {
     let (thread, orders) = read_image(alloc, device)?;
     if !orders.has(thread.device().geometry().order) {
@@ -61,10 +61,10 @@ pub(crate) fn read_image<D: BlockDevice>(
     alloc: Global,
     device: D,
 ) -> Result<(Thread<D>, Orders), (D, Error)>
-    ensures read { IfOk result (λ r. IsReadImage (disk_on D.BlockDevice device) (D.history device) r.0 r.1) }
-    ensures corrupt { IfErr result (λ e. e.1 ≡ Error.Corrupt → (order : NameOrder) (ps : List ThreadPair) → ¬ IsAccepted (ordered order (disk_on D.BlockDevice device)) ps) }
-    ensures errors { IfErr result (λ e. IsMountError e.1) }
-    ensures back { IfErr result (λ e. GivesBack D.BlockDevice device e.0 e.1) }
+    ensures read { IfOk result (λ r. IsAcceptedInOrders (disk_of_device D.BlockDevice device) (D.history device) r.0 r.1) }
+    ensures corrupt { IfErr result (λ e. e.1 ≡ Error.Corrupt → (order : NameOrder) (ps : List ThreadPair) → ¬ IsAcceptedImage (ordered order (disk_of_device D.BlockDevice device)) ps) }
+    ensures errors { IfErr result (λ e. IsIoCorruptOrNoMemory e.1) }
+    ensures back { IfErr result (λ e. GivesDeviceBackWithError D.BlockDevice device e.0 e.1) }
 {
     let thread = Thread::read(alloc, device)?;
     let state = thread.state();
@@ -90,26 +90,26 @@ fn check_image<D: BlockDevice>(
     pairs: &[Pair],
     state: &MoveState,
 ) -> Result<Orders, Error>
-    requires { IsThreadRead (disk_on D.BlockDevice device.old) (D.history device.old) pairs.now map.old (move_view state.now) }
-    ensures image { IfOk result (λ orders. (order : NameOrder) → HasImage (ordered order (disk_on D.BlockDevice device.old)) pairs.now (has_order order orders) map.old map.new) }
-    ensures corrupt { IsErrOf result Error.Corrupt → (order : NameOrder) (ps : List ThreadPair) → ¬ IsAccepted (ordered order (disk_on D.BlockDevice device.old)) ps }
+    requires { IsThreadReadFromDisk (disk_of_device D.BlockDevice device.old) (D.history device.old) pairs.now map.old (move_view state.now) }
+    ensures image { IfOk result (λ orders. (order : NameOrder) → HasAcceptedImageIfOrderFits (ordered order (disk_of_device D.BlockDevice device.old)) pairs.now (includes_name_order order orders) map.old map.new) }
+    ensures corrupt { IsErrOf result Error.Corrupt → (order : NameOrder) (ps : List ThreadPair) → ¬ IsAcceptedImage (ordered order (disk_of_device D.BlockDevice device.old)) ps }
     ensures device { ReadsOnly D.BlockDevice device.old device.new }
-    ensures errors { ReportsErrors D.BlockDevice device.old device.new result }
-    ensures few { IfOk result (λ orders. (order : NameOrder) → has_order order orders ≡ true
-        → reads (D.history device.new) ≤ reads (D.history device.old) + check_reads (disk_on D.BlockDevice device.old) (pairs_on (disk_on D.BlockDevice device.old) pairs.now)) }
+    ensures errors { ReportsMountErrorsAndFaults D.BlockDevice device.old device.new result }
+    ensures few { IfOk result (λ orders. (order : NameOrder) → includes_name_order order orders ≡ true
+        → reads (D.history device.new) ≤ reads (D.history device.old) + check_reads (disk_of_device D.BlockDevice device.old) (pairs_of_headers (disk_of_device D.BlockDevice device.old) pairs.now)) }
 {
-    let count = count_superblocks(alloc, device, pairs)?;
+    let count = superblock_chain_length(alloc, device, pairs)?;
     let directories = pairs_from(pairs, count);
     check_move(state, directories)?;
     let orders = check_directories(alloc, device, map, directories, state)?;
-    go_on_elsewhere(map, pairs);
+    start_allocation_elsewhere(map, pairs);
     Ok(orders)
 }
 
 // A number made of the image: how many blocks are used, and the pairs' revisions, which rise with
 // each mount that writes.
 fn image_number(map: &BlockMap, pairs: &[Pair]) -> u32
-    ensures { result ≡ image_number map.now pairs.now }
+    ensures { result ≡ allocation_seed map.now pairs.now }
 {
     let mut number = map.used_count();
     for pair in pairs {
@@ -120,8 +120,8 @@ fn image_number(map: &BlockMap, pairs: &[Pair]) -> u32
 
 // Lets the map hand out blocks from another one on after each mount, so that wear spreads, and
 // answers that block.
-fn go_on_elsewhere(map: &mut BlockMap, pairs: &[Pair]) -> Option<u32>
-    ensures next { IfSome result (IsNextFree map.old (image_number map.old pairs.now % length map.old)) }
+fn start_allocation_elsewhere(map: &mut BlockMap, pairs: &[Pair]) -> Option<u32>
+    ensures next { IfSome result (IsNextFree map.old (allocation_seed map.old pairs.now % length map.old)) }
     ensures none { IfNone result ((block : ℕ) → ¬ (IsFree map.old block)) }
     ensures same { map.new ≡ map.old }
 {
@@ -146,18 +146,18 @@ fn check_directories<D: BlockDevice>(
     pairs: &[Pair],
     state: &MoveState,
 ) -> Result<Orders, Error>
-    requires { AreDirectories (disk_on D.BlockDevice device.old) map.old (move_view state.now) pairs.now }
+    requires { AreDirectoryHeadersOfThread (disk_of_device D.BlockDevice device.old) map.old (move_view state.now) pairs.now }
     ensures ok { IfOk result (λ orders. (order : NameOrder) (chain : List ThreadPair) (p : ThreadPair) (rest : List ThreadPair)
-        → IsThreadOf (ordered order (disk_on D.BlockDevice device.old)) map.old (move_view state.now) pairs.now chain p rest
-        → IsAcceptedIfFits (ordered order (disk_on D.BlockDevice device.old)) (has_order order orders) map.old map.new chain p rest) }
+        → IsThreadOfDirectoryHeaders (ordered order (disk_of_device D.BlockDevice device.old)) map.old (move_view state.now) pairs.now chain p rest
+        → IsAcceptedIfDirectoriesFitOrder (ordered order (disk_of_device D.BlockDevice device.old)) (includes_name_order order orders) map.old map.new chain p rest) }
     ensures corrupt { IsErrOf result Error.Corrupt → (order : NameOrder) (chain : List ThreadPair) (p : ThreadPair) (rest : List ThreadPair)
-        → IsThreadOf (ordered order (disk_on D.BlockDevice device.old)) map.old (move_view state.now) pairs.now chain p rest
-        → ¬ IsAccepted (ordered order (disk_on D.BlockDevice device.old)) (chain ++ p ∷ rest) }
+        → IsThreadOfDirectoryHeaders (ordered order (disk_of_device D.BlockDevice device.old)) map.old (move_view state.now) pairs.now chain p rest
+        → ¬ IsAcceptedImage (ordered order (disk_of_device D.BlockDevice device.old)) (chain ++ p ∷ rest) }
     ensures device { ReadsOnly D.BlockDevice device.old device.new }
-    ensures errors { ReportsErrors D.BlockDevice device.old device.new result }
-    ensures few { OnOk result (reads (D.history device.new) ≤ reads (D.history device.old) + sum_by (pair_reads (disk_on D.BlockDevice device.old)) (members_in (move_view state.now) true pairs.now)) }
+    ensures errors { ReportsMountErrorsAndFaults D.BlockDevice device.old device.new result }
+    ensures few { OnOk result (reads (D.history device.new) ≤ reads (D.history device.old) + sum_by (pair_reads (disk_of_device D.BlockDevice device.old)) (members_of_headers (move_view state.now) true pairs.now)) }
 {
-    let members = members_of(alloc, state, pairs)?;
+    let members = members_of_pair_headers(alloc, state, pairs)?;
     let places = places_of(alloc, pairs)?;
     let orders = check_thread(alloc, device, map, &places, &members, state.sync)?;
     Ok(orders)

@@ -5,21 +5,21 @@ ghost use Rattle.lfs_device.specs.Calls.{ReadsOnly};
 ghost use Rattle.lfs_device.specs.Shown.{ordered};
 ghost use Rattle.lfs_model.specs.History.{reads};
 ghost use Rattle.lfs_model.specs.Thread.{Pair};
-ghost use Rattle.lfs_model.specs.View.{IsAccepted};
+ghost use Rattle.lfs_model.specs.View.{IsAcceptedImage};
 ghost use Rattle.lfs_model.specs.declared.order.NameOrder.{NameOrder};
-ghost use Rattle.lfs_mount.specs.Checked.{HasKnownThread, IsKnownThread};
-ghost use Rattle.lfs_mount.specs.Accepted.{IsAcceptedIfFits};
-ghost use Rattle.lfs_mount.specs.Device.{ReportsErrors};
-ghost use Rattle.lfs_thread.specs.Kept.{disk_on};
-ghost use Rattle.lfs_mount.specs.Orders.{has_order};
+ghost use Rattle.lfs_mount.specs.Checked.{HasThreadKnownFromHeaders, IsThreadKnownFromHeaders};
+ghost use Rattle.lfs_mount.specs.Accepted.{IsAcceptedIfDirectoriesFitOrder};
+ghost use Rattle.lfs_mount.specs.Device.{ReportsMountErrorsAndFaults};
+ghost use Rattle.lfs_thread.specs.Kept.{disk_of_device};
+ghost use Rattle.lfs_mount.specs.Orders.{includes_name_order};
 ghost use Rattle.lfs_mount.specs.Reads.{pair_reads};
 
 use crate::orders::Orders;
-use crate::pass::{Member, take_pairs};
-use crate::reachability::orders_of;
+use crate::pass::{Member, scan_pairs_and_mark_lists};
+use crate::reachability::orders_of_sound_directories;
 use lfs_alloc::BlockMap;
 use lfs_device::{BlockDevice, Error};
-use lfs_thread::Places;
+use lfs_thread::PairAddressList;
 use std::alloc::Global;
 
 // Checks the slots of a thread whose headers are known, and marks the blocks of its files in `map`.
@@ -41,23 +41,23 @@ pub(crate) fn check_thread<D: BlockDevice>(
     alloc: Global,
     device: &mut D,
     map: &mut BlockMap,
-    places: &Places,
+    places: &PairAddressList,
     members: &[Member],
     sync: bool,
 ) -> Result<Orders, Error>
-    requires { HasKnownThread (disk_on D.BlockDevice device.old) map.old places.now members.now sync }
+    requires { HasThreadKnownFromHeaders (disk_of_device D.BlockDevice device.old) map.old places.now members.now sync }
     ensures ok { IfOk result (λ orders. (order : NameOrder) (chain : List Pair) (p : Pair) (rest : List Pair)
-        → IsKnownThread (ordered order (disk_on D.BlockDevice device.old)) map.old places.now members.now sync chain p rest
-        → IsAcceptedIfFits (ordered order (disk_on D.BlockDevice device.old)) (has_order order orders) map.old map.new chain p rest) }
+        → IsThreadKnownFromHeaders (ordered order (disk_of_device D.BlockDevice device.old)) map.old places.now members.now sync chain p rest
+        → IsAcceptedIfDirectoriesFitOrder (ordered order (disk_of_device D.BlockDevice device.old)) (includes_name_order order orders) map.old map.new chain p rest) }
     ensures corrupt { IsErrOf result Error.Corrupt → (order : NameOrder) (chain : List Pair) (p : Pair) (rest : List Pair)
-        → IsKnownThread (ordered order (disk_on D.BlockDevice device.old)) map.old places.now members.now sync chain p rest
-        → ¬ IsAccepted (ordered order (disk_on D.BlockDevice device.old)) (chain ++ p ∷ rest) }
+        → IsThreadKnownFromHeaders (ordered order (disk_of_device D.BlockDevice device.old)) map.old places.now members.now sync chain p rest
+        → ¬ IsAcceptedImage (ordered order (disk_of_device D.BlockDevice device.old)) (chain ++ p ∷ rest) }
     ensures device { ReadsOnly D.BlockDevice device.old device.new }
-    ensures errors { ReportsErrors D.BlockDevice device.old device.new result }
+    ensures errors { ReportsMountErrorsAndFaults D.BlockDevice device.old device.new result }
     // One read for each pair, and those of the files' lists.
-    ensures few { OnOk result (reads (D.history device.new) ≤ reads (D.history device.old) + sum_by (pair_reads (disk_on D.BlockDevice device.old)) members.now) }
+    ensures few { OnOk result (reads (D.history device.new) ≤ reads (D.history device.old) + sum_by (pair_reads (disk_of_device D.BlockDevice device.old)) members.now) }
 {
-    let directories = take_pairs(alloc, device, map, places, members)?;
-    let orders = orders_of(alloc, &directories, sync)?;
+    let directories = scan_pairs_and_mark_lists(alloc, device, map, places, members)?;
+    let orders = orders_of_sound_directories(alloc, &directories, sync)?;
     Ok(orders)
 }

@@ -3,17 +3,17 @@
 ghost use Rattle.std.specs.Prelude.{◌≡◌, ◌⊎◌, map, OnOk, IfErr, IsErrOf, Some, None};
 ghost use Rattle.lfs_model.specs.declared.order.NameOrder.{NameOrder};
 ghost use Rattle.lfs_tag.specs.ContentView.{slot_view};
-ghost use Rattle.lfs_mount.specs.Entries.{comes_after_name, nothing_known, with_entry};
+ghost use Rattle.lfs_mount.specs.Entries.{comes_after_name, empty_directory_scan, directory_scan_with_entry};
 ghost use Rattle.lfs_mount.specs.EntryView.{entry_view};
-ghost use Rattle.lfs_mount.specs.Orders.{has_order};
-ghost use Rattle.lfs_mount.specs.Scanned.{known_after_slots};
+ghost use Rattle.lfs_mount.specs.Orders.{includes_name_order};
+ghost use Rattle.lfs_mount.specs.Scanned.{directory_scan_after_slots};
 
 use crate::entry::{NamedStruct, entry_of};
 use crate::orders::Orders;
 use crate::reachability::Directory;
 use lfs_device::{Error, NameOrder};
 use lfs_tag::{Slot, Struct, name_cmp};
-use lfs_thread::Places;
+use lfs_thread::PairAddressList;
 use std::alloc::Global;
 
 // Returns whether a name comes after the last one in an order of names. `last` is empty where there
@@ -25,8 +25,8 @@ fn comes_after_name(order: NameOrder, last: &[u8], name: &[u8]) -> bool
 }
 
 // Returns the orders in which a name comes after the last one.
-fn orders_behind(last: &[u8], name: &[u8]) -> Orders
-    ensures { (order : NameOrder) → has_order order result ≡ comes_after_name order last.now name.now }
+fn orders_in_which_name_follows(last: &[u8], name: &[u8]) -> Orders
+    ensures { (order : NameOrder) → includes_name_order order result ≡ comes_after_name order last.now name.now }
 {
     Orders {
         longer_first: comes_after_name(NameOrder::LongerFirst, last, name),
@@ -43,12 +43,12 @@ pub(crate) struct Known {
 }
 
 impl Known {
-    ghost use Rattle.lfs_mount.specs.KnownView.{known_view};
-    ghost use Rattle.lfs_mount.specs.DirectoryView.{vertex_of};
+    ghost use Rattle.lfs_mount.specs.KnownView.{directory_scan_view};
+    ghost use Rattle.lfs_mount.specs.DirectoryView.{directory_vertex_view};
 
     // Makes what is known before the first entry of a directory, which is nothing.
     pub fn nothing(alloc: Global) -> Known
-        ensures { (order : NameOrder) → known_view order result ≡ nothing_known }
+        ensures { (order : NameOrder) → directory_scan_view order result ≡ empty_directory_scan }
     {
         Known {
             last: Vec::new(alloc),
@@ -59,7 +59,7 @@ impl Known {
         }
     }
 
-    fn set_last(&mut self, name: &[u8]) -> Result<(), Error>
+    fn set_last_name(&mut self, name: &[u8]) -> Result<(), Error>
         ensures last { OnOk result (self.new.last.items ≡ name.now) }
         ensures directory { OnOk result (self.new.directory ≡ self.old.directory) }
         ensures error { IfErr result (λ e. e ≡ Error.NoMemory) }
@@ -70,13 +70,13 @@ impl Known {
     }
 
     // Adds one entry.
-    fn add(&mut self, places: &Places, entry: &NamedStruct<'_>) -> Result<(), Error>
-        ensures ok { OnOk result ((order : NameOrder) → known_view order self.new ≡ with_entry order places.now (known_view order self.old) (entry_view entry.now)) }
+    fn add(&mut self, places: &PairAddressList, entry: &NamedStruct<'_>) -> Result<(), Error>
+        ensures ok { OnOk result ((order : NameOrder) → directory_scan_view order self.new ≡ directory_scan_with_entry order places.now (directory_scan_view order self.old) (entry_view entry.now)) }
         ensures error { IfErr result (λ e. e ≡ Error.NoMemory) }
     {
-        let rises = orders_behind(&self.last, entry.name);
+        let rises = orders_in_which_name_follows(&self.last, entry.name);
         self.directory.sound_in = self.directory.sound_in.and(rises);
-        self.set_last(entry.name)?;
+        self.set_last_name(entry.name)?;
         if let Struct::Branch(pair) = entry.target {
             match places.find(pair) {
                 Some(place) => self.directory.branches.push(place)?,
@@ -89,16 +89,16 @@ impl Known {
     // Returns the directory, whose last entry was read. Nothing is known of the next directory
     // then.
     pub fn end(&mut self, alloc: Global) -> Directory
-        ensures directory { (order : NameOrder) → vertex_of order result ≡ (known_view order self.old).1 }
-        ensures nothing { (order : NameOrder) → known_view order self.new ≡ nothing_known }
+        ensures directory { (order : NameOrder) → directory_vertex_view order result ≡ (directory_scan_view order self.old).1 }
+        ensures nothing { (order : NameOrder) → directory_scan_view order self.new ≡ empty_directory_scan }
     {
         std::mem::replace(self, Known::nothing(alloc)).directory
     }
 
     // Adds the entries in these slots of a pair. Corrupt exactly where one of the slots holds none.
-    pub fn scan(&mut self, places: &Places, slots: &[Slot<'_>]) -> Result<(), Error>
-        ensures ok { OnOk result ((order : NameOrder) → known_after_slots order places.now (known_view order self.old) (map slot_view slots.now) ≡ Some (known_view order self.new)) }
-        ensures corrupt { IsErrOf result Error.Corrupt → (order : NameOrder) → known_after_slots order places.now (known_view order self.old) (map slot_view slots.now) ≡ None }
+    pub fn scan(&mut self, places: &PairAddressList, slots: &[Slot<'_>]) -> Result<(), Error>
+        ensures ok { OnOk result ((order : NameOrder) → directory_scan_after_slots order places.now (directory_scan_view order self.old) (map slot_view slots.now) ≡ Some (directory_scan_view order self.new)) }
+        ensures corrupt { IsErrOf result Error.Corrupt → (order : NameOrder) → directory_scan_after_slots order places.now (directory_scan_view order self.old) (map slot_view slots.now) ≡ None }
         ensures errors { IfErr result (λ e. (e ≡ Error.Corrupt) ⊎ (e ≡ Error.NoMemory)) }
     {
         for slot in slots {

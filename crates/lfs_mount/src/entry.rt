@@ -4,10 +4,10 @@ ghost use Rattle.std.specs.Prelude.{◌≡◌};
 ghost use Rattle.std.specs.Option.{option_map};
 ghost use Rattle.lfs_tag.specs.ContentView.{part_view, slot_view};
 ghost use Rattle.lfs_tag.specs.StructView.{struct_view};
-ghost use Rattle.lfs_mount.specs.Entries.{entry_in, target_of_raw, target_of_struct};
+ghost use Rattle.lfs_mount.specs.Entries.{directory_entry_of_raw_slot, entry_reference_of_raw_struct, entry_reference_of_struct};
 ghost use Rattle.lfs_mount.specs.EntryView.{entry_view};
 
-use lfs_tag::{Kind, Part, Slot, Struct, is_name};
+use lfs_tag::{Part, Slot, SlotNameKind, Struct, is_name};
 
 // An entry of a directory: its name and what it names.
 #[derive(Clone, Copy, Drop)]
@@ -17,16 +17,16 @@ pub(crate) struct NamedStruct<'a> {
 }
 
 // Returns what a struct says, where it suits the type of the name.
-fn target_of<'a>(name: &Part<'_>, structure: &Part<'a>) -> Option<Struct<'a>>
-    ensures { option_map (λ s. target_of_struct (struct_view s)) result ≡ target_of_raw name.now.kind (part_view structure.now) }
+fn struct_suited_to_name_type<'a>(name: &Part<'_>, structure: &Part<'a>) -> Option<Struct<'a>>
+    ensures { option_map (λ s. entry_reference_of_struct (struct_view s)) result ≡ entry_reference_of_raw_struct name.now.kind (part_view structure.now) }
 {
     let Some(target) = Struct::of(structure) else {
         return None;
     };
-    match (Kind::of(name), target) {
-        (Kind::File, Struct::Inline(_)) => Some(target),
-        (Kind::File, Struct::Ctz { .. }) => Some(target),
-        (Kind::Directory, Struct::Branch(_)) => Some(target),
+    match (SlotNameKind::of(name), target) {
+        (SlotNameKind::File, Struct::Inline(_)) => Some(target),
+        (SlotNameKind::File, Struct::Ctz { .. }) => Some(target),
+        (SlotNameKind::Directory, Struct::Branch(_)) => Some(target),
         _ => None,
     }
 }
@@ -35,7 +35,7 @@ fn target_of<'a>(name: &Part<'_>, structure: &Part<'a>) -> Option<Struct<'a>>
 // exactly where the slot has no name that a directory may have, or no struct that suits the type of
 // its name.
 pub(crate) fn entry_of<'a>(slot: &Slot<'a>) -> Option<NamedStruct<'a>>
-    ensures { option_map entry_view result ≡ entry_in (slot_view slot.now) }
+    ensures { option_map entry_view result ≡ directory_entry_of_raw_slot (slot_view slot.now) }
 {
     let (Some(name), Some(structure)) = (slot.name, slot.structure) else {
         return None;
@@ -43,7 +43,7 @@ pub(crate) fn entry_of<'a>(slot: &Slot<'a>) -> Option<NamedStruct<'a>>
     if !is_name(name.bytes) {
         return None;
     }
-    match target_of(&name, &structure) {
+    match struct_suited_to_name_type(&name, &structure) {
         Some(target) => Some(NamedStruct {
             name: name.bytes,
             target,

@@ -4,13 +4,13 @@ ghost use Rattle.std.specs.Prelude.{ℕ, List, ◌≡◌, ◌↔◌, ◌⊎◌, 
 ghost use Rattle.std.specs.Option.{option_map};
 ghost use Rattle.lfs_device.specs.Calls.{ReadsOnly, ReportsFaults};
 ghost use Rattle.lfs_device.specs.Shown.{ordered};
-ghost use Rattle.lfs_model.specs.Blocks.{block_in};
+ghost use Rattle.lfs_model.specs.Blocks.{block_bytes_in};
 ghost use Rattle.lfs_model.specs.History.{reads};
-ghost use Rattle.lfs_model.specs.View.{BeginsWithEntry, IsAccepted, superblock_entry};
+ghost use Rattle.lfs_model.specs.View.{BeginsWithLogEntry, IsAcceptedImage, superblock_name_log_entry};
 ghost use Rattle.lfs_model.specs.declared.order.NameOrder.{NameOrder};
 ghost use Rattle.lfs_tag.specs.ContentView.{part_view, slot_view};
-ghost use Rattle.lfs_thread.specs.Kept.{disk_on, pairs_on};
-ghost use Rattle.lfs_mount.specs.Head.{HasHeaders, IsHead, IsSuperblockOf, describes, first_pair_with_slots, inline_in, has_name_bytes, leads_on, repeats_first_slot, repeats_superblock, superblock_in, superblock_of};
+ghost use Rattle.lfs_thread.specs.Kept.{disk_of_device, pairs_of_headers};
+ghost use Rattle.lfs_mount.specs.Head.{AreHeadersOfDiskThread, HasSuperblockChainOfLength, IsSuperblockStructInBlock, describes, first_pair_with_slots, inline_struct_bytes, has_name_bytes, leads_on, first_slot_repeats_superblock, block_repeats_superblock, superblock_struct_in_first_slot, superblock_of};
 
 use lfs_device::{BlockDevice, Error, Geometry, read_block};
 use lfs_pair::Pair;
@@ -21,8 +21,8 @@ use std::alloc::Global;
 const MAGIC: &[u8] = b"littlefs";
 
 // Returns whether the log's first entry names the superblock.
-fn begins_with_superblock(log: &Log<'_>) -> bool
-    ensures { IsTrue result ↔ BeginsWithEntry (Some log.now) superblock_entry }
+fn log_begins_with_superblock(log: &Log<'_>) -> bool
+    ensures { IsTrue result ↔ BeginsWithLogEntry (Some log.now) superblock_name_log_entry }
 {
     match log.entries().next() {
         Some(entry) => entry.tag == Tag::new(SUPERBLOCK_NAME, 0, 8) && entry.bytes == MAGIC,
@@ -56,7 +56,7 @@ fn has_name_bytes(slot: &Slot<'_>, bytes: &[u8]) -> bool
 
 // Returns the bytes of an inline struct.
 fn inline_in<'a>(slot: &Slot<'a>) -> Option<&'a [u8]>
-    ensures { option_map (λ b. b.now) result ≡ inline_in (slot_view slot.now).struct }
+    ensures { option_map (λ b. b.now) result ≡ inline_struct_bytes (slot_view slot.now).struct }
 {
     match slot.structure {
         Some(part) if part.kind == INLINE_STRUCT => Some(part.bytes),
@@ -67,7 +67,7 @@ fn inline_in<'a>(slot: &Slot<'a>) -> Option<&'a [u8]>
 // Returns the superblock's struct in the first slot. Returns None where that slot is no superblock
 // of this geometry.
 fn superblock_in<'a>(geometry: &Geometry, slots: &[Slot<'a>]) -> Option<&'a [u8]>
-    ensures { option_map (λ b. b.now) result ≡ superblock_in geometry.now.block_size geometry.now.block_count (map slot_view slots.now) }
+    ensures { option_map (λ b. b.now) result ≡ superblock_struct_in_first_slot geometry.now.block_size geometry.now.block_count (map slot_view slots.now) }
 {
     let [first, ..] = slots else {
         return None;
@@ -84,8 +84,8 @@ fn superblock_in<'a>(geometry: &Geometry, slots: &[Slot<'a>]) -> Option<&'a [u8]
 // Returns whether the first slot is a superblock's. Corrupt exactly where it is one with another
 // struct than `bytes`.
 fn repeats_first_slot(slots: &[Slot<'_>], bytes: &[u8]) -> Result<bool, Error>
-    ensures ok { IfOk result (λ repeats. repeats_first_slot bytes.now (map slot_view slots.now) ≡ Some repeats) }
-    ensures corrupt { IfErr result (λ e. (e ≡ Error.Corrupt) × (repeats_first_slot bytes.now (map slot_view slots.now) ≡ None)) }
+    ensures ok { IfOk result (λ repeats. first_slot_repeats_superblock bytes.now (map slot_view slots.now) ≡ Some repeats) }
+    ensures corrupt { IfErr result (λ e. (e ≡ Error.Corrupt) × (first_slot_repeats_superblock bytes.now (map slot_view slots.now) ≡ None)) }
 {
     let [first, ..] = slots else {
         return Ok(false);
@@ -101,14 +101,18 @@ fn repeats_first_slot(slots: &[Slot<'_>], bytes: &[u8]) -> Result<bool, Error>
 
 // Returns the superblock's struct in a block whose log begins with the superblock. Corrupt exactly
 // where the block has none.
-fn read_superblock(alloc: Global, geometry: &Geometry, block: &[u8]) -> Result<Vec<u8>, Error>
-    ensures begins { OnOk result (BeginsWithEntry (Some block.now) superblock_entry) }
+fn superblock_struct_from_block(
+    alloc: Global,
+    geometry: &Geometry,
+    block: &[u8],
+) -> Result<Vec<u8>, Error>
+    ensures begins { OnOk result (BeginsWithLogEntry (Some block.now) superblock_name_log_entry) }
     ensures holds { IfOk result (λ bytes. superblock_of geometry.now.block_size geometry.now.block_count block.now ≡ Some bytes.items) }
-    ensures corrupt { IsErrOf result Error.Corrupt → BeginsWithEntry (Some block.now) superblock_entry → superblock_of geometry.now.block_size geometry.now.block_count block.now ≡ None }
+    ensures corrupt { IsErrOf result Error.Corrupt → BeginsWithLogEntry (Some block.now) superblock_name_log_entry → superblock_of geometry.now.block_size geometry.now.block_count block.now ≡ None }
     ensures errors { IfErr result (λ e. (e ≡ Error.Corrupt) ⊎ (e ≡ Error.NoMemory)) }
 {
     let log = Log::read(block);
-    if !begins_with_superblock(&log) {
+    if !log_begins_with_superblock(&log) {
         return Err(Error::Corrupt);
     }
     let content = Content::read(alloc, &log)?;
@@ -121,8 +125,8 @@ fn read_superblock(alloc: Global, geometry: &Geometry, block: &[u8]) -> Result<V
 // Returns whether the first slot that a block's log comes to is a superblock's. Corrupt exactly
 // where it is one with another struct than `bytes`, or where the log is malformed.
 fn repeats(alloc: Global, block: &[u8], bytes: &[u8]) -> Result<bool, Error>
-    ensures ok { IfOk result (λ repeats. repeats_superblock bytes.now block.now ≡ Some repeats) }
-    ensures corrupt { IsErrOf result Error.Corrupt → repeats_superblock bytes.now block.now ≡ None }
+    ensures ok { IfOk result (λ repeats. block_repeats_superblock bytes.now block.now ≡ Some repeats) }
+    ensures corrupt { IsErrOf result Error.Corrupt → block_repeats_superblock bytes.now block.now ≡ None }
     ensures errors { IfErr result (λ e. (e ≡ Error.Corrupt) ⊎ (e ≡ Error.NoMemory)) }
 {
     let log = Log::read(block);
@@ -134,8 +138,8 @@ fn repeats(alloc: Global, block: &[u8], bytes: &[u8]) -> Result<bool, Error>
 // block has none.
 fn superblock_at<D: BlockDevice>(alloc: Global, dev: &mut D, block: u32) -> Result<Vec<u8>, Error>
     requires { block < (D.geometry dev.old).block_count }
-    ensures found { IfOk result (λ bytes. IsSuperblockOf (disk_on D.BlockDevice dev.old) block bytes.items) }
-    ensures corrupt { IsErrOf result Error.Corrupt → (bytes : List ℕ) → ¬ IsSuperblockOf (disk_on D.BlockDevice dev.old) block bytes }
+    ensures found { IfOk result (λ bytes. IsSuperblockStructInBlock (disk_of_device D.BlockDevice dev.old) block bytes.items) }
+    ensures corrupt { IsErrOf result Error.Corrupt → (bytes : List ℕ) → ¬ IsSuperblockStructInBlock (disk_of_device D.BlockDevice dev.old) block bytes }
     ensures device { ReadsOnly D.BlockDevice dev.old dev.new }
     ensures errors { IfErr result (λ e. (e ≡ Error.Corrupt) ⊎ ((e ≡ Error.Io) ⊎ (e ≡ Error.NoMemory))) }
     ensures faults { ReportsFaults D.BlockDevice dev.old dev.new result }
@@ -143,20 +147,20 @@ fn superblock_at<D: BlockDevice>(alloc: Global, dev: &mut D, block: u32) -> Resu
 {
     let geometry = dev.geometry();
     let bytes = read_block(alloc, dev, block)?;
-    read_superblock(alloc, &geometry, &bytes)
+    superblock_struct_from_block(alloc, &geometry, &bytes)
 }
 
 // Reads a block of the device, and returns whether its first slot is a superblock's. Corrupt
 // exactly where it is one with another struct than `bytes`, or where the log has no content.
-fn repeats_at<D: BlockDevice>(
+fn read_whether_superblock_repeats<D: BlockDevice>(
     alloc: Global,
     dev: &mut D,
     block: u32,
     bytes: &[u8],
 ) -> Result<bool, Error>
     requires { block < (D.geometry dev.old).block_count }
-    ensures ok { IfOk result (λ repeats. repeats_superblock bytes.now (block_in (D.blocks dev.old) block) ≡ Some repeats) }
-    ensures corrupt { IsErrOf result Error.Corrupt → repeats_superblock bytes.now (block_in (D.blocks dev.old) block) ≡ None }
+    ensures ok { IfOk result (λ repeats. block_repeats_superblock bytes.now (block_bytes_in (D.blocks dev.old) block) ≡ Some repeats) }
+    ensures corrupt { IsErrOf result Error.Corrupt → block_repeats_superblock bytes.now (block_bytes_in (D.blocks dev.old) block) ≡ None }
     ensures device { ReadsOnly D.BlockDevice dev.old dev.new }
     ensures errors { IfErr result (λ e. (e ≡ Error.Corrupt) ⊎ ((e ≡ Error.Io) ⊎ (e ≡ Error.NoMemory))) }
     ensures faults { ReportsFaults D.BlockDevice dev.old dev.new result }
@@ -207,14 +211,14 @@ fn first_pair_with_slots(pairs: &[Pair]) -> Result<usize, Error>
 // after it.
 //
 // The caller's condition: the headers are all those of the device's thread, in its order.
-pub(crate) fn count_superblocks<D: BlockDevice>(
+pub(crate) fn superblock_chain_length<D: BlockDevice>(
     alloc: Global,
     dev: &mut D,
     pairs: &[Pair],
 ) -> Result<usize, Error>
-    requires { HasHeaders (disk_on D.BlockDevice dev.old) (D.history dev.old) pairs.now }
-    ensures head { IfOk result (IsHead (disk_on D.BlockDevice dev.old) (pairs_on (disk_on D.BlockDevice dev.old) pairs.now)) }
-    ensures corrupt { IsErrOf result Error.Corrupt → (order : NameOrder) → ¬ IsAccepted (ordered order (disk_on D.BlockDevice dev.old)) (pairs_on (disk_on D.BlockDevice dev.old) pairs.now) }
+    requires { AreHeadersOfDiskThread (disk_of_device D.BlockDevice dev.old) (D.history dev.old) pairs.now }
+    ensures head { IfOk result (HasSuperblockChainOfLength (disk_of_device D.BlockDevice dev.old) (pairs_of_headers (disk_of_device D.BlockDevice dev.old) pairs.now)) }
+    ensures corrupt { IsErrOf result Error.Corrupt → (order : NameOrder) → ¬ IsAcceptedImage (ordered order (disk_of_device D.BlockDevice dev.old)) (pairs_of_headers (disk_of_device D.BlockDevice dev.old) pairs.now) }
     ensures device { ReadsOnly D.BlockDevice dev.old dev.new }
     ensures errors { IfErr result (λ e. (e ≡ Error.Corrupt) ⊎ ((e ≡ Error.Io) ⊎ (e ≡ Error.NoMemory))) }
     ensures faults { ReportsFaults D.BlockDevice dev.old dev.new result }
@@ -230,7 +234,7 @@ pub(crate) fn count_superblocks<D: BlockDevice>(
         if pairs[index].slot_count == 0 {
             continue;
         }
-        if !repeats_at(alloc, dev, pairs[index].active, &bytes)? {
+        if !read_whether_superblock_repeats(alloc, dev, pairs[index].active, &bytes)? {
             return Ok(root);
         }
         root = index;

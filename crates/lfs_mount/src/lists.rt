@@ -4,13 +4,13 @@ ghost use Rattle.std.specs.Prelude.{◌≡◌, ◌⊎◌, ◌≤◌, ◌+◌, sl
 ghost use Rattle.std.specs.Bool.{OnFalse, OnTrue};
 ghost use Rattle.std.specs.Option.{option_and_then};
 ghost use Rattle.lfs_device.specs.Calls.{ReadsOnly, ReportsFaults};
-ghost use Rattle.lfs_model.specs.BlockSets.{BlockSets, IsFree};
+ghost use Rattle.lfs_model.specs.BlockSets.{BlockStateList, IsFree};
 ghost use Rattle.lfs_model.specs.BlockSets.BlockState.{Used};
 ghost use Rattle.lfs_model.specs.History.{reads};
-ghost use Rattle.lfs_thread.specs.Kept.{disk_on};
-ghost use Rattle.lfs_mount.specs.Entries.{entry_in};
-ghost use Rattle.lfs_mount.specs.ListsView.{lists_view};
-ghost use Rattle.lfs_mount.specs.Marking.{MarksList, MarksLists, MarksBlock, list_of};
+ghost use Rattle.lfs_thread.specs.Kept.{disk_of_device};
+ghost use Rattle.lfs_mount.specs.Entries.{directory_entry_of_raw_slot};
+ghost use Rattle.lfs_mount.specs.ListsView.{file_lists_view};
+ghost use Rattle.lfs_mount.specs.Marking.{MarksFreeBlocksOfList, MarksFreeBlocksOfLists, MarksBlockIfFree, list_of_entry};
 ghost use Rattle.lfs_mount.specs.Reads.{list_reads};
 ghost use Rattle.lfs_tag.specs.ContentView.{slot_view};
 
@@ -39,8 +39,8 @@ fn mark_list<D: BlockDevice>(
     head: u32,
     size: u32,
 ) -> Result<(), Error>
-    ensures marked { OnOk result (MarksList (disk_on D.BlockDevice device.old) map.old (head, size) map.new) }
-    ensures corrupt { IsErrOf result Error.Corrupt → (new : BlockSets) → ¬ MarksList (disk_on D.BlockDevice device.old) map.old (head, size) new }
+    ensures marked { OnOk result (MarksFreeBlocksOfList (disk_of_device D.BlockDevice device.old) map.old (head, size) map.new) }
+    ensures corrupt { IsErrOf result Error.Corrupt → (new : BlockStateList) → ¬ MarksFreeBlocksOfList (disk_of_device D.BlockDevice device.old) map.old (head, size) new }
     ensures device { ReadsOnly D.BlockDevice device.old device.new }
     ensures faults { ReportsFaults D.BlockDevice device.old device.new result }
     ensures errors { IfErr result (λ e. (e ≡ Error.Io) ⊎ (e ≡ Error.Corrupt)) }
@@ -52,7 +52,7 @@ fn mark_list<D: BlockDevice>(
         head,
         size,
         &mut |block: u32|
-            ensures { MarksBlock map.entry.now is_free.entry block map.exit.now is_free.exit }
+            ensures { MarksBlockIfFree map.entry.now is_free.entry block map.exit.now is_free.exit }
         {
             let was_free = mark(map, block);
             is_free = is_free && was_free;
@@ -63,7 +63,7 @@ fn mark_list<D: BlockDevice>(
 
 // Returns the head and the size of the list that a slot's entry has, if it has one.
 fn list_of(slot: &Slot<'_>) -> Option<(u32, u32)>
-    ensures { result ≡ option_and_then list_of (entry_in (slot_view slot.now)) }
+    ensures { result ≡ option_and_then list_of_entry (directory_entry_of_raw_slot (slot_view slot.now)) }
 {
     let Some(entry) = entry_of(slot) else {
         return None;
@@ -81,12 +81,12 @@ pub(crate) fn mark_lists<D: BlockDevice>(
     map: &mut BlockMap,
     slots: &[Slot<'_>],
 ) -> Result<(), Error>
-    ensures marked { OnOk result (MarksLists (disk_on D.BlockDevice device.old) map.old (lists_view slots.now) map.new) }
-    ensures corrupt { IsErrOf result Error.Corrupt → (new : BlockSets) → ¬ MarksLists (disk_on D.BlockDevice device.old) map.old (lists_view slots.now) new }
+    ensures marked { OnOk result (MarksFreeBlocksOfLists (disk_of_device D.BlockDevice device.old) map.old (file_lists_view slots.now) map.new) }
+    ensures corrupt { IsErrOf result Error.Corrupt → (new : BlockStateList) → ¬ MarksFreeBlocksOfLists (disk_of_device D.BlockDevice device.old) map.old (file_lists_view slots.now) new }
     ensures device { ReadsOnly D.BlockDevice device.old device.new }
     ensures faults { ReportsFaults D.BlockDevice device.old device.new result }
     ensures errors { IfErr result (λ e. (e ≡ Error.Io) ⊎ (e ≡ Error.Corrupt)) }
-    ensures few { OnOk result (reads (D.history device.new) ≤ reads (D.history device.old) + sum_by (list_reads (D.geometry device.old).block_size) (lists_view slots.now)) }
+    ensures few { OnOk result (reads (D.history device.new) ≤ reads (D.history device.old) + sum_by (list_reads (D.geometry device.old).block_size) (file_lists_view slots.now)) }
 {
     for slot in slots {
         if let Some((head, size)) = list_of(slot) {

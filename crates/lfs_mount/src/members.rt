@@ -2,23 +2,23 @@
 
 ghost use Rattle.std.specs.Prelude.{◌≡◌, IfErr, IfOk, nat_eq, true};
 ghost use Rattle.std.specs.List.{IsDistinct};
-ghost use Rattle.lfs_model.specs.Slots.{address_of};
+ghost use Rattle.lfs_model.specs.Slots.{pair_address_of_array};
 ghost use Rattle.lfs_tag.specs.FieldsView.{move_view};
-ghost use Rattle.lfs_thread.specs.Places.{blocks_at};
-ghost use Rattle.lfs_mount.specs.Members.{directory_addresses, member_in, members_in, moved_at};
+ghost use Rattle.lfs_thread.specs.Places.{blocks_of_addresses};
+ghost use Rattle.lfs_mount.specs.Members.{directory_addresses, member_of_header, members_of_headers, moved_id_at_pair_address};
 
 use crate::pass::Member;
 use lfs_device::Error;
 use lfs_pair::{Pair, is_same_pair};
 use lfs_tag::kinds::DELETE;
 use lfs_tag::{MoveState, is_hard};
-use lfs_thread::Places;
+use lfs_thread::PairAddressList;
 use std::alloc::Global;
 
 // Returns the id of the slot that a set move names in the pair at an address, if it names one
 // there.
 fn moved_at(state: &MoveState, at: [u32; 2]) -> Option<u32>
-    ensures { result ≡ moved_at (move_view state.now) (address_of at) }
+    ensures { result ≡ moved_id_at_pair_address (move_view state.now) (pair_address_of_array at) }
 {
     if state.kind == DELETE && is_same_pair(state.pair, at) {
         Some(u32::from(state.id))
@@ -27,8 +27,8 @@ fn moved_at(state: &MoveState, at: [u32; 2]) -> Option<u32>
     }
 }
 
-fn member_of(state: &MoveState, is_first: bool, pair: &Pair) -> Member
-    ensures { result ≡ member_in (move_view state.now) is_first pair.now }
+fn member_of_pair_header(state: &MoveState, is_first: bool, pair: &Pair) -> Member
+    ensures { result ≡ member_of_header (move_view state.now) is_first pair.now }
 {
     Member {
         active: pair.active,
@@ -39,29 +39,29 @@ fn member_of(state: &MoveState, is_first: bool, pair: &Pair) -> Member
 }
 
 // Returns what is known of these pairs, from the root's first one on.
-pub(crate) fn members_of(
+pub(crate) fn members_of_pair_headers(
     alloc: Global,
     state: &MoveState,
     pairs: &[Pair],
 ) -> Result<Vec<Member>, Error>
-    ensures members { IfOk result (λ members. members.items ≡ members_in (move_view state.now) true pairs.now) }
+    ensures members { IfOk result (λ members. members.items ≡ members_of_headers (move_view state.now) true pairs.now) }
     ensures error { IfErr result (λ e. e ≡ Error.NoMemory) }
 {
     let mut members = Vec::new(alloc);
     for pair in pairs {
         let is_first = members.is_empty();
-        members.push(member_of(state, is_first, pair))?;
+        members.push(member_of_pair_header(state, is_first, pair))?;
     }
     Ok(members)
 }
 
 // Returns the addresses of the directories of these pairs, from the root's first pair on.
-pub(crate) fn places_of(alloc: Global, pairs: &[Pair]) -> Result<Places, Error>
-    requires { IsDistinct nat_eq (blocks_at (directory_addresses true pairs.now)) }
+pub(crate) fn places_of(alloc: Global, pairs: &[Pair]) -> Result<PairAddressList, Error>
+    requires { IsDistinct nat_eq (blocks_of_addresses (directory_addresses true pairs.now)) }
     ensures places { IfOk result (λ places. places ≡ directory_addresses true pairs.now) }
     ensures error { IfErr result (λ e. e ≡ Error.NoMemory) }
 {
-    let mut places = Places::new(alloc);
+    let mut places = PairAddressList::new(alloc);
     let mut begins = true;
     for pair in pairs {
         if begins {

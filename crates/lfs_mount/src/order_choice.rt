@@ -2,15 +2,15 @@
 
 ghost use Rattle.std.specs.Prelude.{◌≡◌, false, IfErr, IfOk, List};
 ghost use Rattle.lfs_model.specs.Thread.{Pair as ThreadPair};
-ghost use Rattle.lfs_model.specs.View.{IsAccepted};
+ghost use Rattle.lfs_model.specs.View.{IsAcceptedImage};
 ghost use Rattle.lfs_model.specs.declared.order.NameOrder.{NameOrder};
 ghost use Rattle.lfs_model.specs.declared.order.NameOrder.TheVariants.{LongerFirst, ShorterFirst};
 ghost use Rattle.lfs_device.specs.Shown.{ordered};
-ghost use Rattle.lfs_thread.specs.Kept.{disk_on};
+ghost use Rattle.lfs_thread.specs.Kept.{disk_of_device};
 ghost use Rattle.lfs_mount.specs.Accepted.{IsMountedThread};
-ghost use Rattle.lfs_mount.specs.Device.{IsMountError};
-ghost use Rattle.lfs_mount.specs.Either.{GivesDeviceBack};
-ghost use Rattle.lfs_mount.specs.ReadImage.{HasFewReads, in_order};
+ghost use Rattle.lfs_mount.specs.Device.{IsIoCorruptOrNoMemory};
+ghost use Rattle.lfs_mount.specs.Either.{ReturnsUnchangedDeviceWithError};
+ghost use Rattle.lfs_mount.specs.ReadImage.{HasAtMostMountReads, in_order};
 
 use crate::accepted_images::read_image;
 use lfs_device::{BlockDevice, Error, NameOrder, Ordered};
@@ -42,13 +42,13 @@ pub fn mount_either<D: BlockDevice>(
     alloc: Global,
     device: D,
 ) -> Result<Thread<Ordered<D>>, (D, Error)>
-    ensures mounted { IfOk result (λ t. IsMountedThread (ordered t.kept.disk.order (disk_on D.BlockDevice device)) (D.history device) t) }
-    ensures longer { IfOk result (λ t. t.kept.disk.order ≡ ShorterFirst → (ps : List ThreadPair) → ¬ IsAccepted (ordered LongerFirst (disk_on D.BlockDevice device)) ps) }
-    ensures corrupt { IfErr result (λ e. e.1 ≡ Error.Corrupt → (order : NameOrder) (ps : List ThreadPair) → ¬ IsAccepted (ordered order (disk_on D.BlockDevice device)) ps) }
-    ensures errors { IfErr result (λ e. IsMountError e.1) }
-    ensures back { IfErr result (λ e. GivesDeviceBack D.BlockDevice device e.0 e.1) }
+    ensures mounted { IfOk result (λ t. IsMountedThread (ordered t.kept.disk.order (disk_of_device D.BlockDevice device)) (D.history device) t) }
+    ensures longer { IfOk result (λ t. t.kept.disk.order ≡ ShorterFirst → (ps : List ThreadPair) → ¬ IsAcceptedImage (ordered LongerFirst (disk_of_device D.BlockDevice device)) ps) }
+    ensures corrupt { IfErr result (λ e. e.1 ≡ Error.Corrupt → (order : NameOrder) (ps : List ThreadPair) → ¬ IsAcceptedImage (ordered order (disk_of_device D.BlockDevice device)) ps) }
+    ensures errors { IfErr result (λ e. IsIoCorruptOrNoMemory e.1) }
+    ensures back { IfErr result (λ e. ReturnsUnchangedDeviceWithError D.BlockDevice device e.0 e.1) }
     // Three reads for each pair, two more, and one for each block of a file's list.
-    ensures few { IfOk result (HasFewReads (disk_on D.BlockDevice device) (D.history device)) }
+    ensures few { IfOk result (HasAtMostMountReads (disk_of_device D.BlockDevice device) (D.history device)) }
 {
     let (thread, orders) = read_image(alloc, device)?;
     match orders.first() {

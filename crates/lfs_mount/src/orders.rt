@@ -3,7 +3,7 @@
 ghost use Rattle.std.specs.Prelude.{◌≡◌, ◌&&◌, false, IfSome, None, Some, true};
 ghost use Rattle.lfs_model.specs.declared.order.NameOrder.{NameOrder};
 ghost use Rattle.lfs_model.specs.declared.order.NameOrder.TheVariants.{LongerFirst, ShorterFirst};
-ghost use Rattle.lfs_mount.specs.Orders.{has_order};
+ghost use Rattle.lfs_mount.specs.Orders.{includes_name_order};
 
 use lfs_device::NameOrder;
 
@@ -17,7 +17,7 @@ pub(crate) struct Orders {
 impl Orders {
     // Returns both orders, or none.
     pub fn both_or_none(both: bool) -> Orders
-        ensures { (order : NameOrder) → has_order order result ≡ both }
+        ensures { (order : NameOrder) → includes_name_order order result ≡ both }
     {
         Orders {
             longer_first: both,
@@ -26,7 +26,7 @@ impl Orders {
     }
 
     pub fn has(self, order: NameOrder) -> bool
-        ensures { result ≡ has_order order self }
+        ensures { result ≡ includes_name_order order self }
     {
         match order {
             NameOrder::LongerFirst => self.longer_first,
@@ -36,7 +36,7 @@ impl Orders {
 
     // Returns the orders that are in both sets.
     pub fn and(self, other: Orders) -> Orders
-        ensures { (order : NameOrder) → has_order order result ≡ (has_order order self && has_order order other) }
+        ensures { (order : NameOrder) → includes_name_order order result ≡ (includes_name_order order self && includes_name_order order other) }
     {
         Orders {
             longer_first: self.longer_first && other.longer_first,
@@ -47,9 +47,9 @@ impl Orders {
     // Returns the order to take: the longer names first where both orders hold, as in littlefs's
     // own code.
     pub fn first(self) -> Option<NameOrder>
-        ensures holds { IfSome result (λ order. has_order order self ≡ true) }
-        ensures longer { result ≡ Some ShorterFirst → has_order LongerFirst self ≡ false }
-        ensures none { result ≡ None → (order : NameOrder) → has_order order self ≡ false }
+        ensures holds { IfSome result (λ order. includes_name_order order self ≡ true) }
+        ensures longer { result ≡ Some ShorterFirst → includes_name_order LongerFirst self ≡ false }
+        ensures none { result ≡ None → (order : NameOrder) → includes_name_order order self ≡ false }
     {
         if self.longer_first {
             Some(NameOrder::LongerFirst)

@@ -3,19 +3,19 @@
 ghost use Rattle.std.specs.Prelude.{◌≡◌, ◌≤◌, ◌<◌, ◌+◌, All, IfOk, OnOk, IfErr, IsErrOf, None, Some, is_some, map, sum_by};
 ghost use Rattle.lfs_device.specs.Calls.{ReadsOnly};
 ghost use Rattle.lfs_device.specs.Shown.{ordered};
-ghost use Rattle.lfs_model.specs.BlockSets.{BlockSets};
+ghost use Rattle.lfs_model.specs.BlockSets.{BlockStateList};
 ghost use Rattle.lfs_model.specs.History.{reads};
 ghost use Rattle.lfs_model.specs.Names.{Name};
 ghost use Rattle.lfs_model.specs.declared.order.NameOrder.{NameOrder};
-ghost use Rattle.lfs_mount.specs.Device.{ReportsErrors};
-ghost use Rattle.lfs_thread.specs.Kept.{disk_on};
-ghost use Rattle.lfs_mount.specs.DirectoryView.{graph_of};
-ghost use Rattle.lfs_mount.specs.Entries.{entry_in, nothing_known};
-ghost use Rattle.lfs_mount.specs.KnownView.{known_view};
-ghost use Rattle.lfs_mount.specs.Passed.{Passes};
-ghost use Rattle.lfs_mount.specs.Reaching.{Graph, Vertex};
+ghost use Rattle.lfs_mount.specs.Device.{ReportsMountErrorsAndFaults};
+ghost use Rattle.lfs_thread.specs.Kept.{disk_of_device};
+ghost use Rattle.lfs_mount.specs.DirectoryView.{directory_graph_view};
+ghost use Rattle.lfs_mount.specs.Entries.{directory_entry_of_raw_slot, empty_directory_scan};
+ghost use Rattle.lfs_mount.specs.KnownView.{directory_scan_view};
+ghost use Rattle.lfs_mount.specs.Passed.{PassesOverDirectoryPairs};
+ghost use Rattle.lfs_mount.specs.Reaching.{DirectoryGraph, DirectoryVertex};
 ghost use Rattle.lfs_mount.specs.Reads.{pair_reads};
-ghost use Rattle.lfs_mount.specs.Taken.{TakesPair, slots_after_superblock, raw_slots_not_moved};
+ghost use Rattle.lfs_mount.specs.Taken.{AddsPairToDirectoryScan, slots_after_superblock, raw_slots_not_moved};
 ghost use Rattle.lfs_tag.specs.ContentView.{slot_view};
 
 use crate::directory_scan::Known;
@@ -25,7 +25,7 @@ use crate::reachability::Directory;
 use lfs_alloc::BlockMap;
 use lfs_device::{BlockDevice, Error, read_block};
 use lfs_tag::{Content, Log, Slot};
-use lfs_thread::Places;
+use lfs_thread::PairAddressList;
 use std::alloc::Global;
 
 // What is known of a directory's pair before its slots are read.
@@ -42,7 +42,7 @@ pub(crate) struct Member {
 }
 
 // Removes the slot that a set move names. Corrupt exactly where it is no entry.
-fn take_moved_slot(slots: &mut Vec<Slot<'_>>, moved: Option<u32>) -> Result<(), Error>
+fn remove_moved_slot_if_entry(slots: &mut Vec<Slot<'_>>, moved: Option<u32>) -> Result<(), Error>
     ensures ok { OnOk result (raw_slots_not_moved moved (map slot_view slots.old.items) ≡ Some (map slot_view slots.new.items)) }
     ensures corrupt { IfErr result (λ e. (e ≡ Error.Corrupt) × (raw_slots_not_moved moved (map slot_view slots.old.items) ≡ None)) }
 {
@@ -58,13 +58,13 @@ fn take_moved_slot(slots: &mut Vec<Slot<'_>>, moved: Option<u32>) -> Result<(), 
 }
 
 fn is_entry(slot: &Slot<'_>) -> bool
-    ensures { result ≡ is_some (entry_in (slot_view slot.now)) }
+    ensures { result ≡ is_some (directory_entry_of_raw_slot (slot_view slot.now)) }
 {
     entry_of(slot).is_some()
 }
 
 // Removes the superblock's slot. Corrupt exactly where there is no slot.
-fn take_superblock(slots: &mut Vec<Slot<'_>>, has_superblock: bool) -> Result<(), Error>
+fn remove_superblock_slot(slots: &mut Vec<Slot<'_>>, has_superblock: bool) -> Result<(), Error>
     ensures ok { OnOk result (slots_after_superblock has_superblock (map slot_view slots.old.items) ≡ Some (map slot_view slots.new.items)) }
     ensures corrupt { IfErr result (λ e. (e ≡ Error.Corrupt) × (slots_after_superblock has_superblock (map slot_view slots.old.items) ≡ None)) }
 {
@@ -82,26 +82,26 @@ fn take_superblock(slots: &mut Vec<Slot<'_>>, has_superblock: bool) -> Result<()
 // directory, in each order of names, and the blocks of its files are marked. Corrupt exactly where
 // the pair's log is malformed, a slot holds no entry, a list isn't well formed, or a block was
 // marked before.
-fn take_pair<D: BlockDevice>(
+fn scan_pair_and_mark_lists<D: BlockDevice>(
     alloc: Global,
     device: &mut D,
     map: &mut BlockMap,
-    places: &Places,
+    places: &PairAddressList,
     known: &mut Known,
     member: &Member,
 ) -> Result<(), Error>
     requires { member.now.active < (D.geometry device.old).block_count }
-    ensures taken { OnOk result ((order : NameOrder) → TakesPair (ordered order (disk_on D.BlockDevice device.old)) places.now member.now (known_view order known.old) map.old (known_view order known.new) map.new) }
-    ensures corrupt { IsErrOf result Error.Corrupt → (order : NameOrder) (new : Name × Vertex) (sets : BlockSets) → ¬ TakesPair (ordered order (disk_on D.BlockDevice device.old)) places.now member.now (known_view order known.old) map.old new sets }
+    ensures taken { OnOk result ((order : NameOrder) → AddsPairToDirectoryScan (ordered order (disk_of_device D.BlockDevice device.old)) places.now member.now (directory_scan_view order known.old) map.old (directory_scan_view order known.new) map.new) }
+    ensures corrupt { IsErrOf result Error.Corrupt → (order : NameOrder) (new : Name × DirectoryVertex) (sets : BlockStateList) → ¬ AddsPairToDirectoryScan (ordered order (disk_of_device D.BlockDevice device.old)) places.now member.now (directory_scan_view order known.old) map.old new sets }
     ensures device { ReadsOnly D.BlockDevice device.old device.new }
-    ensures errors { ReportsErrors D.BlockDevice device.old device.new result }
-    ensures few { OnOk result (reads (D.history device.new) ≤ reads (D.history device.old) + pair_reads (disk_on D.BlockDevice device.old) member.now) }
+    ensures errors { ReportsMountErrorsAndFaults D.BlockDevice device.old device.new result }
+    ensures few { OnOk result (reads (D.history device.new) ≤ reads (D.history device.old) + pair_reads (disk_of_device D.BlockDevice device.old) member.now) }
 {
     let bytes = read_block(alloc, device, member.active)?;
     let log = Log::read(&bytes);
     let mut slots = Content::read(alloc, &log)?.slots;
-    take_moved_slot(&mut slots, member.moved)?;
-    take_superblock(&mut slots, member.has_superblock)?;
+    remove_moved_slot_if_entry(&mut slots, member.moved)?;
+    remove_superblock_slot(&mut slots, member.has_superblock)?;
     known.scan(places, &slots)?;
     mark_lists(device, map, &slots)?;
     Ok(())
@@ -109,24 +109,24 @@ fn take_pair<D: BlockDevice>(
 
 // Reads the pairs of all directories, in the thread's order, and returns what is known of each
 // directory in each order of names. Corrupt exactly where one of the pairs can't be taken.
-pub(crate) fn take_pairs<D: BlockDevice>(
+pub(crate) fn scan_pairs_and_mark_lists<D: BlockDevice>(
     alloc: Global,
     device: &mut D,
     map: &mut BlockMap,
-    places: &Places,
+    places: &PairAddressList,
     members: &[Member],
 ) -> Result<Vec<Directory>, Error>
     requires { All (λ m. m.active < (D.geometry device.old).block_count) members.now }
-    ensures taken { IfOk result (λ ds. (order : NameOrder) → Passes (ordered order (disk_on D.BlockDevice device.old)) places.now nothing_known map.old members.now (graph_of order ds.items) map.new) }
-    ensures corrupt { IsErrOf result Error.Corrupt → (order : NameOrder) (graph : Graph) (end : BlockSets) → ¬ Passes (ordered order (disk_on D.BlockDevice device.old)) places.now nothing_known map.old members.now graph end }
+    ensures taken { IfOk result (λ ds. (order : NameOrder) → PassesOverDirectoryPairs (ordered order (disk_of_device D.BlockDevice device.old)) places.now empty_directory_scan map.old members.now (directory_graph_view order ds.items) map.new) }
+    ensures corrupt { IsErrOf result Error.Corrupt → (order : NameOrder) (graph : DirectoryGraph) (end : BlockStateList) → ¬ PassesOverDirectoryPairs (ordered order (disk_of_device D.BlockDevice device.old)) places.now empty_directory_scan map.old members.now graph end }
     ensures device { ReadsOnly D.BlockDevice device.old device.new }
-    ensures errors { ReportsErrors D.BlockDevice device.old device.new result }
-    ensures few { OnOk result (reads (D.history device.new) ≤ reads (D.history device.old) + sum_by (pair_reads (disk_on D.BlockDevice device.old)) members.now) }
+    ensures errors { ReportsMountErrorsAndFaults D.BlockDevice device.old device.new result }
+    ensures few { OnOk result (reads (D.history device.new) ≤ reads (D.history device.old) + sum_by (pair_reads (disk_of_device D.BlockDevice device.old)) members.now) }
 {
     let mut directories = Vec::new(alloc);
     let mut known = Known::nothing(alloc);
     for member in members {
-        take_pair(alloc, device, map, places, &mut known, member)?;
+        scan_pair_and_mark_lists(alloc, device, map, places, &mut known, member)?;
         if !member.is_hard {
             directories.push(known.end(alloc))?;
         }

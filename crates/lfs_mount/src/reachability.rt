@@ -4,10 +4,10 @@ ghost use Rattle.std.specs.Prelude.{List, ◌≡◌, ◌↔◌, ◌≤◌, ◌<�
 ghost use Rattle.std.specs.List.{IsDistinct};
 ghost use Rattle.lfs_model.specs.Thread.{Pair};
 ghost use Rattle.lfs_model.specs.declared.order.NameOrder.{NameOrder};
-ghost use Rattle.lfs_mount.specs.Directories.{IsTreeOfDirectories, GraphShows};
-ghost use Rattle.lfs_mount.specs.DirectoryView.{graph_of};
-ghost use Rattle.lfs_mount.specs.Orders.{has_order};
-ghost use Rattle.lfs_mount.specs.Reaching.{AreReached, IsUnsound, FindsNew, AreMarksOf};
+ghost use Rattle.lfs_mount.specs.Directories.{IsTreeOfDirectories, IsGraphOfThreadDirectories};
+ghost use Rattle.lfs_mount.specs.DirectoryView.{directory_graph_view};
+ghost use Rattle.lfs_mount.specs.Orders.{includes_name_order};
+ghost use Rattle.lfs_mount.specs.Reaching.{AreMarksOfReachedDirectories, MeetsUnsoundOrRepeatedVertex, FindsNewDirectories, AreMarksOfFoundDirectories};
 
 use crate::orders::Orders;
 use lfs_device::{Error, NameOrder};
@@ -25,9 +25,9 @@ pub(crate) struct Directory {
 
 // Marks each of these directories as found. Corrupt where one was found before.
 fn find(is_found: &mut Vec<bool>, found: &mut Vec<u32>, branches: &[u32]) -> Result<(), Error>
-    requires marked { AreMarksOf is_found.old.items found.old.items }
+    requires marked { AreMarksOfFoundDirectories is_found.old.items found.old.items }
     requires within { All (λ b. b < length is_found.old.items) branches.now }
-    ensures found { OnOk result (FindsNew is_found.old.items found.old.items branches.now is_found.new.items found.new.items) }
+    ensures found { OnOk result (FindsNewDirectories is_found.old.items found.old.items branches.now is_found.new.items found.new.items) }
     ensures twice { IsErrOf result Error.Corrupt → ¬ IsDistinct nat_eq (found.old.items ++ branches.now) }
     ensures errors { IfErr result (λ e. (e ≡ Error.Corrupt) ⊎ (e ≡ Error.NoMemory)) }
 {
@@ -52,8 +52,8 @@ fn reached_directories(
 ) -> Result<Vec<bool>, Error>
     requires some { 0 < length directories.now }
     requires within { All (λ d. All (λ b. b < length directories.now) d.branches.items) directories.now }
-    ensures reached_directories { IfOk result (λ marks. AreReached (graph_of order directories.now) marks.items) }
-    ensures corrupt { IsErrOf result Error.Corrupt → (steps : ℕ) × IsUnsound (graph_of order directories.now) steps }
+    ensures reached_directories { IfOk result (λ marks. AreMarksOfReachedDirectories (directory_graph_view order directories.now) marks.items) }
+    ensures corrupt { IsErrOf result Error.Corrupt → (steps : ℕ) × MeetsUnsoundOrRepeatedVertex (directory_graph_view order directories.now) steps }
     ensures errors { IfErr result (λ e. (e ≡ Error.Corrupt) ⊎ (e ≡ Error.NoMemory)) }
 {
     let mut is_found = Vec::from_elem(alloc, false, directories.len())?;
@@ -83,8 +83,8 @@ fn check_reachability(
 ) -> Result<(), Error>
     requires some { 0 < length directories.now }
     requires within { All (λ d. All (λ b. b < length directories.now) d.branches.items) directories.now }
-    ensures ok { OnOk result ((ps : List Pair) → GraphShows order (graph_of order directories.now) sync ps → IsTreeOfDirectories order ps) }
-    ensures corrupt { IsErrOf result Error.Corrupt → (ps : List Pair) → GraphShows order (graph_of order directories.now) sync ps → ¬ IsTreeOfDirectories order ps }
+    ensures ok { OnOk result ((ps : List Pair) → IsGraphOfThreadDirectories order (directory_graph_view order directories.now) sync ps → IsTreeOfDirectories order ps) }
+    ensures corrupt { IsErrOf result Error.Corrupt → (ps : List Pair) → IsGraphOfThreadDirectories order (directory_graph_view order directories.now) sync ps → ¬ IsTreeOfDirectories order ps }
     ensures errors { IfErr result (λ e. (e ≡ Error.Corrupt) ⊎ (e ≡ Error.NoMemory)) }
 {
     let is_reached = reached_directories(alloc, directories, order)?;
@@ -103,7 +103,7 @@ fn are_right(
 ) -> Result<bool, Error>
     requires some { 0 < length directories.now }
     requires within { All (λ d. All (λ b. b < length directories.now) d.branches.items) directories.now }
-    ensures right { IfOk result (λ right. (ps : List Pair) → GraphShows order (graph_of order directories.now) sync ps → (right ≡ true) ↔ IsTreeOfDirectories order ps) }
+    ensures right { IfOk result (λ right. (ps : List Pair) → IsGraphOfThreadDirectories order (directory_graph_view order directories.now) sync ps → (right ≡ true) ↔ IsTreeOfDirectories order ps) }
     ensures error { IfErr result (λ e. e ≡ Error.NoMemory) }
 {
     match check_reachability(alloc, directories, order, sync) {
@@ -114,14 +114,14 @@ fn are_right(
 }
 
 // Returns the orders of names in which the directories of a thread are right.
-pub(crate) fn orders_of(
+pub(crate) fn orders_of_sound_directories(
     alloc: Global,
     directories: &[Directory],
     sync: bool,
 ) -> Result<Orders, Error>
     requires some { 0 < length directories.now }
     requires within { All (λ d. All (λ b. b < length directories.now) d.branches.items) directories.now }
-    ensures right { IfOk result (λ orders. (order : NameOrder) (ps : List Pair) → GraphShows order (graph_of order directories.now) sync ps → (has_order order orders ≡ true) ↔ IsTreeOfDirectories order ps) }
+    ensures right { IfOk result (λ orders. (order : NameOrder) (ps : List Pair) → IsGraphOfThreadDirectories order (directory_graph_view order directories.now) sync ps → (includes_name_order order orders ≡ true) ↔ IsTreeOfDirectories order ps) }
     ensures error { IfErr result (λ e. e ≡ Error.NoMemory) }
 {
     Ok(Orders {

@@ -6,9 +6,9 @@ use Rattle.std.proofs.Common.{nat_eq}
 use Rattle.std.proofs.lemmas.Option.{same_Some}
 use Rattle.lfs_model.specs.Disk.{Disk}
 use Rattle.lfs_model.specs.Slots.{Gstate, Slot, same_pair}
-use Rattle.lfs_model.specs.Thread.{LinkByTails, Pair, anchor, blocks_of, next_of}
-use Rattle.lfs_model.specs.View.{IsAccepted}
-use Rattle.lfs_model.specs.SlotEdits.{with_slots}
+use Rattle.lfs_model.specs.Thread.{AreLinkedByTails, Pair, anchor_pair_address, blocks_of_pairs, pair_named_by_tail}
+use Rattle.lfs_model.specs.View.{IsAcceptedImage}
+use Rattle.lfs_model.specs.SlotEdits.{pair_with_slots}
 use Rattle.lfs_model.proofs.Became.{Became}
 use Rattle.lfs_model.proofs.Committed.{IsCommit}
 use Rattle.lfs_model.proofs.Counts.{Each}
@@ -17,10 +17,10 @@ use Rattle.lfs_model.proofs.Searches.{avoids_behind, avoids_front}
 use Rattle.lfs_model.proofs.Splices.{slots_in}
 use Rattle.lfs_model.proofs.Sites.{SomeIn, Site, among_parts, thread_at}
 use Rattle.lfs_operations.specs.Changing.{AltersPair}
-use Rattle.lfs_operations.specs.Dropping.{HasDroppedBehind, with_tail_taken}
+use Rattle.lfs_operations.specs.Dropping.{IsNextPairDropped, content_after_drop}
 use Rattle.lfs_operations.proofs.DroppedTails.{TwoAt, front_is, gone_is, over_next, two_at, without_is}
 use Rattle.lfs_thread.specs.Kept.{Kept}
-use Rattle.lfs_thread.specs.Steps.{pair_in}
+use Rattle.lfs_thread.specs.Steps.{kept_pair_at_index}
 
 -- ---- a pair in a thread
 
@@ -35,7 +35,7 @@ avoided p (x ∷ xs) h (inl e) = absurd (let k = sym (pair_itself p.at) ∙ ap (
 avoided p (x ∷ xs) h (inr a) = avoided p xs h.1 a
 
 -- the pair at an address is the only one there
-pub only_there : (xs : List Pair) (q : Pair) (ys : List Pair) (p : Pair) → IsDistinct nat_eq (blocks_of (xs ++ q ∷ ys)) → q.at ≡ p.at → Contains (xs ++ q ∷ ys) p → q ≡ p
+pub only_there : (xs : List Pair) (q : Pair) (ys : List Pair) (p : Pair) → IsDistinct nat_eq (blocks_of_pairs (xs ++ q ∷ ys)) → q.at ≡ p.at → Contains (xs ++ q ∷ ys) p → q ≡ p
 only_there xs q ys p distinct e has = go (among_parts (λ y. y ≡ p) xs (q ∷ ys) (among_contains p (xs ++ q ∷ ys) has))
   where
     same : same_pair q.at p.at ≡ true
@@ -46,15 +46,15 @@ only_there xs q ys p distinct e has = go (among_parts (λ y. y ≡ p) xs (q ∷ 
     go (inr (inl h)) = h
     go (inr (inr h)) = absurd (avoided p ys (avoids_behind xs q ys p.at distinct same) h)
 
-pub links_behind : (at : Option (ℕ × ℕ)) (xs ys : List Pair) → LinkByTails at (xs ++ ys) → (to : Option (ℕ × ℕ)) × LinkByTails to ys
+pub links_behind : (at : Option (ℕ × ℕ)) (xs ys : List Pair) → AreLinkedByTails at (xs ++ ys) → (to : Option (ℕ × ℕ)) × AreLinkedByTails to ys
 links_behind at [] ys h = (at, h)
-links_behind at (x ∷ xs) ys h = links_behind (next_of x.content.tail) xs ys h.1
+links_behind at (x ∷ xs) ys h = links_behind (pair_named_by_tail x.content.tail) xs ys h.1
 
 -- no pair's tail names it
-names_another : (xs : List Pair) (f : Pair) (ys : List Pair) → LinkByTails (Some anchor) (xs ++ f ∷ ys) → IsDistinct nat_eq (blocks_of (xs ++ f ∷ ys)) → next_of f.content.tail ≡ Some f.at → ⊥
-names_another xs f [] links distinct e = absurd (let k = sym e ∙ (links_behind (Some anchor) xs (f ∷ []) links).1.1 in cc)
+names_another : (xs : List Pair) (f : Pair) (ys : List Pair) → AreLinkedByTails (Some anchor_pair_address) (xs ++ f ∷ ys) → IsDistinct nat_eq (blocks_of_pairs (xs ++ f ∷ ys)) → pair_named_by_tail f.content.tail ≡ Some f.at → ⊥
+names_another xs f [] links distinct e = absurd (let k = sym e ∙ (links_behind (Some anchor_pair_address) xs (f ∷ []) links).1.1 in cc)
 names_another xs f (g ∷ ys) links distinct e =
-    let k = (links_behind (Some anchor) xs (f ∷ g ∷ ys) links).1.1.0 in
+    let k = (links_behind (Some anchor_pair_address) xs (f ∷ g ∷ ys) links).1.1.0 in
     let same : f.at ≡ g.at = same_Some f.at g.at (sym e ∙ k) in
     avoided g (g ∷ ys) (avoids_behind xs f (g ∷ ys) g.at distinct (ap (λ a. same_pair a g.at) same ∙ pair_itself g.at)) (inl refl)
 
@@ -79,43 +79,43 @@ module _ (disk new : Disk) (w : Site) (p q : Pair) (fresh : List ℕ) (l olds ne
       more (omega arith)
 
   -- or its tail names the new one
-  other_tail : (f : Pair) → q ≡ p → q.content.tail ≡ Some (record { hard = true; to = f.at }) → f.content.tail ≡ p.content.tail → next_of f.content.tail ≡ Some f.at
-  other_tail f e first second = ap next_of (second ∙ ap (λ (z : Pair). z.content.tail) (sym e) ∙ first)
+  other_tail : (f : Pair) → q ≡ p → q.content.tail ≡ Some (record { hard = true; to = f.at }) → f.content.tail ≡ p.content.tail → pair_named_by_tail f.content.tail ≡ Some f.at
+  other_tail f e first second = ap pair_named_by_tail (second ∙ ap (λ (z : Pair). z.content.tail) (sym e) ∙ first)
 
-  pub put_alters : (rest : List Pair) → IsAccepted new (thread_at w (q ∷ rest)) → q.at ≡ p.at → p.content.slots ≡ l ++ (olds ++ r) → slots_in (q ∷ rest) ≡ l ++ (news ++ r) → Became disk p (with_slots (l ++ (news ++ r)) p) q rest
+  pub put_alters : (rest : List Pair) → IsAcceptedImage new (thread_at w (q ∷ rest)) → q.at ≡ p.at → p.content.slots ≡ l ++ (olds ++ r) → slots_in (q ∷ rest) ≡ l ++ (news ++ r) → Became disk p (pair_with_slots (l ++ (news ++ r)) p) q rest
       → Contains (thread_at w (q ∷ rest)) p → ⊥
   put_alters [] ok at was now became has =
       let e = sym (append_assoc w.chain (w.before ++ w.left) (q ∷ behind)) in
-      other_slots (only_there ahead q behind p (subst (λ z. IsDistinct nat_eq (blocks_of z)) e ok.thread.distinct) at (subst (λ z. Contains z p) e has)) now was
+      other_slots (only_there ahead q behind p (subst (λ z. IsDistinct nat_eq (blocks_of_pairs z)) e ok.thread.distinct) at (subst (λ z. Contains z p) e has)) now was
   put_alters (f ∷ []) ok at was now became has =
       let e = sym (append_assoc w.chain (w.before ++ w.left) (q ∷ f ∷ behind)) in
-      let is = only_there ahead q (f ∷ behind) p (subst (λ z. IsDistinct nat_eq (blocks_of z)) e ok.thread.distinct) at (subst (λ z. Contains z p) e has) in
+      let is = only_there ahead q (f ∷ behind) p (subst (λ z. IsDistinct nat_eq (blocks_of_pairs z)) e ok.thread.distinct) at (subst (λ z. Contains z p) e has) in
       let g = e ∙ sym (append_assoc ahead (q ∷ []) (f ∷ behind)) in
-      names_another (ahead ++ q ∷ []) f behind (subst (λ z. LinkByTails (Some anchor) z) g ok.thread.links) (subst (λ z. IsDistinct nat_eq (blocks_of z)) g ok.thread.distinct)
+      names_another (ahead ++ q ∷ []) f behind (subst (λ z. AreLinkedByTails (Some anchor_pair_address) z) g ok.thread.links) (subst (λ z. IsDistinct nat_eq (blocks_of_pairs z)) g ok.thread.distinct)
       (other_tail f is became.0 became.1)
   put_alters (f ∷ g ∷ rest) ok at was now became has = absurd became
 
-  pub commit_alters : (rest : List Pair) → IsAccepted new (thread_at w (q ∷ rest)) → IsCommit disk new w p q rest fresh l olds news r → Contains (thread_at w (q ∷ rest)) p → ⊥
+  pub commit_alters : (rest : List Pair) → IsAcceptedImage new (thread_at w (q ∷ rest)) → IsCommit disk new w p q rest fresh l olds news r → Contains (thread_at w (q ∷ rest)) p → ⊥
   commit_alters rest ok c = put_alters rest ok c.at c.was c.is c.became
 
 -- ---- a pair takes over the tail of the one behind it
 
-pub drop_alters : (t : Kept) (front : ℕ) (state : Gstate) (new : Kept) → front + 1 < length t.pairs → IsAccepted t.disk t.pairs → HasDroppedBehind t front state new → AltersPair t front new
+pub drop_alters : (t : Kept) (front : ℕ) (state : Gstate) (new : Kept) → front + 1 < length t.pairs → IsAcceptedImage t.disk t.pairs → IsNextPairDropped t front state new → AltersPair t front new
 drop_alters t front state new low ok d = go (two_at t.pairs front low)
   where
     go : TwoAt t.pairs front → AltersPair t front new
     go two has =
         let p = two.one in
         let o = two.other in
-        let c = with_tail_taken t front state in
+        let c = content_after_drop t front state in
         let q : Pair = record { at = p.at; content = c } in
         let here = front_is t front two.ahead p o two.back two.is two.number in
         let next = gone_is t front two.ahead p o two.back two.is two.number in
         let now = d.pairs ∙ without_is t front two.ahead p o two.back two.is two.number c in
-        let same : q ≡ p = only_there two.ahead q two.back p (subst (λ z. IsDistinct nat_eq (blocks_of z)) now d.thread.distinct) refl (subst (Contains (two.ahead ++ q ∷ two.back)) here (subst (λ z. Contains z (pair_in t front)) now has)) in
-        let links = (links_behind (Some anchor) two.ahead (p ∷ o ∷ two.back) (subst (λ z. LinkByTails (Some anchor) z) two.is ok.thread.links)).1 in
-        let taken : next_of c.tail ≡ next_of o.content.tail
-        = over_next (pair_in t front).content.tail (pair_in t (front + 1)).content.tail ∙ ap (λ (z : Pair). next_of z.content.tail) next in
-        let names : next_of o.content.tail ≡ Some o.at = sym taken ∙ ap (λ (z : Pair). next_of z.content.tail) same ∙ links.1.0 in
+        let same : q ≡ p = only_there two.ahead q two.back p (subst (λ z. IsDistinct nat_eq (blocks_of_pairs z)) now d.thread.distinct) refl (subst (Contains (two.ahead ++ q ∷ two.back)) here (subst (λ z. Contains z (kept_pair_at_index t front)) now has)) in
+        let links = (links_behind (Some anchor_pair_address) two.ahead (p ∷ o ∷ two.back) (subst (λ z. AreLinkedByTails (Some anchor_pair_address) z) two.is ok.thread.links)).1 in
+        let taken : pair_named_by_tail c.tail ≡ pair_named_by_tail o.content.tail
+        = over_next (kept_pair_at_index t front).content.tail (kept_pair_at_index t (front + 1)).content.tail ∙ ap (λ (z : Pair). pair_named_by_tail z.content.tail) next in
+        let names : pair_named_by_tail o.content.tail ≡ Some o.at = sym taken ∙ ap (λ (z : Pair). pair_named_by_tail z.content.tail) same ∙ links.1.0 in
         let is = two.is ∙ sym (append_assoc two.ahead (p ∷ []) (o ∷ two.back)) in
-        names_another (two.ahead ++ p ∷ []) o two.back (subst (λ z. LinkByTails (Some anchor) z) is ok.thread.links) (subst (λ z. IsDistinct nat_eq (blocks_of z)) is ok.thread.distinct) names
+        names_another (two.ahead ++ p ∷ []) o two.back (subst (λ z. AreLinkedByTails (Some anchor_pair_address) z) is ok.thread.links) (subst (λ z. IsDistinct nat_eq (blocks_of_pairs z)) is ok.thread.distinct) names

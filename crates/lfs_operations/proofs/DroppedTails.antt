@@ -6,27 +6,27 @@ use Rattle.std.proofs.lemmas.Nat.{xor_lt}
 use Rattle.std.proofs.lemmas.Option.{same_Some}
 use Rattle.lfs_device.specs.Bytes.{HasBytes}
 use Rattle.lfs_model.specs.Blocks.{Blocks}
-use Rattle.lfs_model.specs.Changes.{PutMove, PutTail, changed_by}
-use Rattle.lfs_model.specs.Content.{RawContent, completed, content_after_all, content_at, has_commit, holder, holder_at, is_later, no_content, raw_at}
-use Rattle.lfs_model.specs.Disk.{Disk, block_at}
-use Rattle.lfs_model.specs.Log.{log_entries, revision_of}
-use Rattle.lfs_model.specs.LoggedContent.{IsLogged, IsMoveState, IsTailIfSome}
-use Rattle.lfs_model.specs.Slots.{Content, FitsPair, Gstate, Tail, gstate_xor, no_gstate}
-use Rattle.lfs_model.specs.Thread.{Pair, gstate_of, next_of}
+use Rattle.lfs_model.specs.Changes.{PutMove, PutTail, content_after_changes}
+use Rattle.lfs_model.specs.Content.{RawContent, content_if_slots_are_complete, content_after_log_entries, content_of_pair_at, has_commit, current_block_of_two, current_block_of_pair_at, is_later_revision, empty_raw_content, raw_content_of_pair_at}
+use Rattle.lfs_model.specs.Disk.{Disk, block_bytes_on_disk}
+use Rattle.lfs_model.specs.Log.{log_entries_of_block, revision_of_block}
+use Rattle.lfs_model.specs.LoggedContent.{IsWellFormedRawContent, IsWellFormedMoveState, IsWellFormedTailIfSome}
+use Rattle.lfs_model.specs.Slots.{Content, IsContentFittingPair, Gstate, Tail, gstate_xor, zero_gstate}
+use Rattle.lfs_model.specs.Thread.{Pair, gstate_of, pair_named_by_tail}
 use Rattle.lfs_model.proofs.Completed.{completed_from, completed_parts}
 use Rattle.lfs_model.proofs.Counts.{Each, each_right, each_weaker}
 use Rattle.lfs_model.proofs.Effects.{Does, does_first, does_nothing, ends_tail, puts_move, puts_tail}
 use Rattle.lfs_model.proofs.Global.{gstate_assoc, gstate_comm, gstate_cons, gstate_moved, gstate_right, gstate_self}
 use Rattle.lfs_model.proofs.Logged.{logged}
 use Rattle.lfs_thread.specs.Kept.{Kept}
-use Rattle.lfs_thread.specs.Steps.{CanDrop, IsDropped, IsLeftByChange, IsCommitRefused, IsWrittenAs, made_in_thread, no_pair, pair_in, put_tail, with_pair}
-use Rattle.lfs_operations.specs.Dropping.{HasDroppedBehind, IsLeftByDrop, delta_taken, tail_taken, taken_over, taking_changes, with_tail_taken}
+use Rattle.lfs_thread.specs.Steps.{CanDropNextPair, IsPairAfterIndexDropped, LeavesPairOldOrChanged, IsCommitRefused, IsPairWrittenOnDisk, complete_content_after_changes, no_pair, kept_pair_at_index, change_that_sets_tail, pairs_with_content_at_index}
+use Rattle.lfs_operations.specs.Dropping.{IsNextPairDropped, IsLeftByStoppedDrop, delta_after_drop, tail_after_drop, tail_over_dropped_pair, drop_next_pair_changes, content_after_drop}
 use Rattle.lfs_operations.proofs.Held.{completes_to}
 
 -- ---- what a log comes to
 
-bytes_of_holder : (a b x : List ℕ) → ((i : ℕ) → slice_index a i < 256) → ((i : ℕ) → slice_index b i < 256) → holder a b ≡ Some x → (i : ℕ) → slice_index x i < 256
-bytes_of_holder a b x ha hb is = go (has_commit a) (has_commit b) (has_commit b && is_later (revision_of a) (revision_of b)) is
+bytes_of_holder : (a b x : List ℕ) → ((i : ℕ) → slice_index a i < 256) → ((i : ℕ) → slice_index b i < 256) → current_block_of_two a b ≡ Some x → (i : ℕ) → slice_index x i < 256
+bytes_of_holder a b x ha hb is = go (has_commit a) (has_commit b) (has_commit b && is_later_revision (revision_of_block a) (revision_of_block b)) is
   where
     of : (y : List ℕ) → ((i : ℕ) → slice_index y i < 256) → Some y ≡ Some x → (i : ℕ) → slice_index x i < 256
     of y h e = subst (λ z. (i : ℕ) → slice_index z i < 256) (same_Some y x e) h
@@ -39,41 +39,41 @@ bytes_of_holder a b x ha hb is = go (has_commit a) (has_commit b) (has_commit b 
 
 -- its tail and its delta can be written again
 pub record IsWritableAgain (c : Content) : Type 0 where
-  pub tail : IsTailIfSome c.tail
-  pub move : IsMoveState c.move
+  pub tail : IsWellFormedTailIfSome c.tail
+  pub move : IsWellFormedMoveState c.move
 
-logged_raw : (disk : Disk) (at : ℕ × ℕ) (raw : RawContent) → HasBytes disk.blocks → raw_at disk at ≡ Some raw → IsLogged raw
-logged_raw disk at raw bytes is = go (holder_at disk at) refl is
+logged_raw : (disk : Disk) (at : ℕ × ℕ) (raw : RawContent) → HasBytes disk.blocks → raw_content_of_pair_at disk at ≡ Some raw → IsWellFormedRawContent raw
+logged_raw disk at raw bytes is = go (current_block_of_pair_at disk at) refl is
   where
-    go : (o : Option (List ℕ)) → holder_at disk at ≡ o → option_and_then (λ block. content_after_all no_content (log_entries block)) o ≡ Some raw → IsLogged raw
+    go : (o : Option (List ℕ)) → current_block_of_pair_at disk at ≡ o → option_and_then (λ block. content_after_log_entries empty_raw_content (log_entries_of_block block)) o ≡ Some raw → IsWellFormedRawContent raw
     go None e k = absurd (cc)
-    go (Some block) e k = logged block raw (bytes_of_holder (block_at disk at.0) (block_at disk at.1) block (bytes at.0) (bytes at.1) e) k
+    go (Some block) e k = logged block raw (bytes_of_holder (block_bytes_on_disk disk at.0) (block_bytes_on_disk disk at.1) block (bytes at.0) (bytes at.1) e) k
 
-pub logged_content : (disk : Disk) (at : ℕ × ℕ) (c : Content) → HasBytes disk.blocks → content_at disk at ≡ Some c → IsWritableAgain c
+pub logged_content : (disk : Disk) (at : ℕ × ℕ) (c : Content) → HasBytes disk.blocks → content_of_pair_at disk at ≡ Some c → IsWritableAgain c
 logged_content disk at c bytes is =
-    let k = completes_to (raw_at disk at) c is in
+    let k = completes_to (raw_content_of_pair_at disk at) c is in
     let l = logged_raw disk at k.raw bytes k.is in
     let parts = completed_parts k.raw c k.complete in
-    record { tail = subst IsTailIfSome (sym parts.tail) l.tail; move = subst IsMoveState (sym parts.move) l.move }
+    record { tail = subst IsWellFormedTailIfSome (sym parts.tail) l.tail; move = subst IsWellFormedMoveState (sym parts.move) l.move }
 
 -- ---- deltas
 
-pub move_xor : (g h : Gstate) → IsMoveState g → IsMoveState h → IsMoveState (gstate_xor g h)
+pub move_xor : (g h : Gstate) → IsWellFormedMoveState g → IsWellFormedMoveState h → IsWellFormedMoveState (gstate_xor g h)
 move_xor g h a b = record {
   kind = xor_lt 11 g.kind h.kind a.kind b.kind;
   id = xor_lt 10 g.id h.id a.id b.id;
   pair = (xor_lt 32 g.pair.0 h.pair.0 a.pair.0 b.pair.0, xor_lt 32 g.pair.1 h.pair.1 a.pair.1 b.pair.1);
 }
 
-pub no_move_state : IsMoveState no_gstate
+pub no_move_state : IsWellFormedMoveState zero_gstate
 no_move_state = record { kind = omega arith; id = omega arith; pair = (omega arith, omega arith) }
 
-pub moves_joined : (ps : List Pair) → Each (λ p. IsMoveState p.content.move) ps → IsMoveState (gstate_of ps)
+pub moves_joined : (ps : List Pair) → Each (λ p. IsWellFormedMoveState p.content.move) ps → IsWellFormedMoveState (gstate_of ps)
 moves_joined [] h = no_move_state
-moves_joined (p ∷ ps) h = subst IsMoveState (sym (gstate_cons p ps)) (move_xor p.content.move (gstate_of ps) h.0 (moves_joined ps h.1))
+moves_joined (p ∷ ps) h = subst IsWellFormedMoveState (sym (gstate_cons p ps)) (move_xor p.content.move (gstate_of ps) h.0 (moves_joined ps h.1))
 
-pub all_again : (disk : Disk) (ps : List Pair) → HasBytes disk.blocks → Each (λ p. content_at disk p.at ≡ Some p.content) ps → Each (λ p. IsWritableAgain p.content) ps
-all_again disk ps bytes h = each_weaker (λ (p : Pair). content_at disk p.at ≡ Some p.content) (λ (p : Pair). IsWritableAgain p.content) (λ p e. logged_content disk p.at p.content bytes e) ps h
+pub all_again : (disk : Disk) (ps : List Pair) → HasBytes disk.blocks → Each (λ p. content_of_pair_at disk p.at ≡ Some p.content) ps → Each (λ p. IsWritableAgain p.content) ps
+all_again disk ps bytes h = each_weaker (λ (p : Pair). content_of_pair_at disk p.at ≡ Some p.content) (λ (p : Pair). IsWritableAgain p.content) (λ p e. logged_content disk p.at p.content bytes e) ps h
 
 -- ---- two pairs of the thread, one behind the other
 
@@ -112,14 +112,14 @@ remove_next (x ∷ xs) q o zs =
     ap (λ (n : ℕ). remove (x ∷ (xs ++ q ∷ o ∷ zs)) n) e ∙ ap (λ z. x ∷ z) (remove_next xs q o zs)
 
 module _ (t : Kept) (front : ℕ) (ahead : List Pair) (p o : Pair) (back : List Pair) (is : t.pairs ≡ ahead ++ p ∷ o ∷ back) (number : length ahead ≡ front) where
-  pub front_is : pair_in t front ≡ p
+  pub front_is : kept_pair_at_index t front ≡ p
   front_is = ap₂ (λ (z : List Pair) (i : ℕ). get_or z i no_pair) is (sym number) ∙ get_here ahead p (o ∷ back) no_pair
 
-  pub gone_is : pair_in t (front + 1) ≡ o
+  pub gone_is : kept_pair_at_index t (front + 1) ≡ o
   gone_is = ap₂ (λ (z : List Pair) (i : ℕ). get_or z (i + 1) no_pair) is (sym number) ∙ get_next ahead p o back no_pair
 
   -- the thread without the second one
-  pub without_is : (c : Content) → remove (with_pair t front c) (front + 1) ≡ ahead ++ record { at = p.at; content = c } ∷ back
+  pub without_is : (c : Content) → remove (pairs_with_content_at_index t front c) (front + 1) ≡ ahead ++ record { at = p.at; content = c } ∷ back
   without_is c =
       let q : Pair = record { at = p.at; content = c } in
       ap (λ (z : Pair). remove (set t.pairs front (record { at = z.at; content = c })) (front + 1)) front_is
@@ -136,7 +136,7 @@ module _ (t : Kept) (front : ℕ) (ahead : List Pair) (p o : Pair) (back : List 
   turned_back : (g s : Gstate) → gstate_xor (gstate_xor g s) g ≡ s
   turned_back g s = ap (λ z. gstate_xor z g) (gstate_comm g s) ∙ gstate_assoc s g g ∙ ap (gstate_xor s) (gstate_self g) ∙ gstate_right s
 
-  pub gstate_is : (state : Gstate) (q : Pair) → q.content.move ≡ delta_taken t front state → gstate_of (ahead ++ q ∷ back) ≡ state
+  pub gstate_is : (state : Gstate) (q : Pair) → q.content.move ≡ delta_after_drop t front state → gstate_of (ahead ++ q ∷ back) ≡ state
   gstate_is state q e =
       let d = gstate_xor (gstate_of t.pairs) state in
       gstate_moved d ahead (p ∷ o ∷ []) (q ∷ []) back
@@ -145,16 +145,16 @@ module _ (t : Kept) (front : ℕ) (ahead : List Pair) (p o : Pair) (back : List 
 
 -- ---- the changes
 
-over_again : (f g : Option Tail) → IsTailIfSome g → IsTailIfSome (taken_over f g)
+over_again : (f g : Option Tail) → IsWellFormedTailIfSome g → IsWellFormedTailIfSome (tail_over_dropped_pair f g)
 over_again f None h = tt
 over_again f (Some t) h = h
 
-pub over_next : (f g : Option Tail) → next_of (taken_over f g) ≡ next_of g
+pub over_next : (f g : Option Tail) → pair_named_by_tail (tail_over_dropped_pair f g) ≡ pair_named_by_tail g
 over_next f None = refl
 over_next f (Some t) = refl
 
-pub takes : (raw : RawContent) (tail : Option Tail) (m : Gstate) → IsTailIfSome tail → IsMoveState m
-    → changed_by raw (put_tail tail ∷ PutMove m ∷ []) ≡ Some (record { slots = raw.slots; tail = tail; move = m })
+pub takes : (raw : RawContent) (tail : Option Tail) (m : Gstate) → IsWellFormedTailIfSome tail → IsWellFormedMoveState m
+    → content_after_changes raw (change_that_sets_tail tail ∷ PutMove m ∷ []) ≡ Some (record { slots = raw.slots; tail = tail; move = m })
 takes raw None m h k =
     let now : RawContent = record raw { tail = None } in
     let end : RawContent = record { slots = raw.slots; tail = None; move = m } in
@@ -166,24 +166,24 @@ takes raw (Some t) m h k =
     (subst (λ z. Does (PutTail t.hard (Some t.to)) raw (record raw { tail = z })) (ap (λ b. cond b None (Some (record { hard = t.hard; to = t.to }))) h.1) (puts_tail raw t.hard t.to h.0))
     (does_first (PutMove m) [] now end end (puts_move now m k) (does_nothing end))
 
-pub takes_tail : (c : Content) (raw : RawContent) (tail : Option Tail) (m : Gstate) → completed raw ≡ Some c → IsTailIfSome tail → IsMoveState m
-    → option_and_then completed (changed_by raw (put_tail tail ∷ PutMove m ∷ [])) ≡ Some (record { slots = c.slots; tail = tail; move = m })
+pub takes_tail : (c : Content) (raw : RawContent) (tail : Option Tail) (m : Gstate) → content_if_slots_are_complete raw ≡ Some c → IsWellFormedTailIfSome tail → IsWellFormedMoveState m
+    → option_and_then content_if_slots_are_complete (content_after_changes raw (change_that_sets_tail tail ∷ PutMove m ∷ [])) ≡ Some (record { slots = c.slots; tail = tail; move = m })
 takes_tail c raw tail m complete h k =
-    ap (option_and_then completed) (takes raw tail m h k)
+    ap (option_and_then content_if_slots_are_complete) (takes raw tail m h k)
     ∙ completed_from (record { slots = raw.slots; tail = tail; move = m }) c.slots (completed_parts raw c complete).slots
 
-module _ (t : Kept) (front : ℕ) (state : Gstate) (below : front + 1 < length t.pairs) (contents : Each (λ p. content_at t.disk p.at ≡ Some p.content) t.pairs)
-    (bytes : HasBytes t.disk.blocks) (small : IsMoveState state) where
+module _ (t : Kept) (front : ℕ) (state : Gstate) (below : front + 1 < length t.pairs) (contents : Each (λ p. content_of_pair_at t.disk p.at ≡ Some p.content) t.pairs)
+    (bytes : HasBytes t.disk.blocks) (small : IsWellFormedMoveState state) where
   two : TwoAt t.pairs front
   two = two_at t.pairs front below
 
-  is_one : pair_in t front ≡ two.one
+  is_one : kept_pair_at_index t front ≡ two.one
   is_one = front_is t front two.ahead two.one two.other two.back two.is two.number
 
-  is_other : pair_in t (front + 1) ≡ two.other
+  is_other : kept_pair_at_index t (front + 1) ≡ two.other
   is_other = gone_is t front two.ahead two.one two.other two.back two.is two.number
 
-  there : (P : Pair → Type 0) → Each P t.pairs → P (pair_in t front) × P (pair_in t (front + 1))
+  there : (P : Pair → Type 0) → Each P t.pairs → P (kept_pair_at_index t front) × P (kept_pair_at_index t (front + 1))
   there P h =
       let k = each_right P two.ahead (two.one ∷ two.other ∷ two.back) (subst (Each P) two.is h) in
       (subst P (sym is_one) k.0, subst P (sym is_other) k.1.0)
@@ -191,54 +191,54 @@ module _ (t : Kept) (front : ℕ) (state : Gstate) (below : front + 1 < length t
   again : Each (λ p. IsWritableAgain p.content) t.pairs
   again = all_again t.disk t.pairs bytes contents
 
-  small_delta : IsMoveState (delta_taken t front state)
+  small_delta : IsWellFormedMoveState (delta_after_drop t front state)
   small_delta =
       let k = there (λ p. IsWritableAgain p.content) again in
-      let all = moves_joined t.pairs (each_weaker (λ (p : Pair). IsWritableAgain p.content) (λ (p : Pair). IsMoveState p.content.move) (λ p h. h.move) t.pairs again) in
-      move_xor (gstate_xor (pair_in t front).content.move (pair_in t (front + 1)).content.move) (gstate_xor (gstate_of t.pairs) state)
-      (move_xor (pair_in t front).content.move (pair_in t (front + 1)).content.move k.0.move k.1.move) (move_xor (gstate_of t.pairs) state all small)
+      let all = moves_joined t.pairs (each_weaker (λ (p : Pair). IsWritableAgain p.content) (λ (p : Pair). IsWellFormedMoveState p.content.move) (λ p h. h.move) t.pairs again) in
+      move_xor (gstate_xor (kept_pair_at_index t front).content.move (kept_pair_at_index t (front + 1)).content.move) (gstate_xor (gstate_of t.pairs) state)
+      (move_xor (kept_pair_at_index t front).content.move (kept_pair_at_index t (front + 1)).content.move k.0.move k.1.move) (move_xor (gstate_of t.pairs) state all small)
 
-  pub taking_made : made_in_thread t front (taking_changes t front state) ≡ Some (with_tail_taken t front state)
+  pub taking_made : complete_content_after_changes t front (drop_next_pair_changes t front state) ≡ Some (content_after_drop t front state)
   taking_made =
       let k = there (λ p. IsWritableAgain p.content) again in
-      let held = completes_to (raw_at t.disk (pair_in t front).at) (pair_in t front).content (there (λ p. content_at t.disk p.at ≡ Some p.content) contents).0 in
-      ap (λ o. option_and_then completed (option_and_then (λ (x : RawContent). changed_by x (taking_changes t front state)) o)) held.is
-      ∙ takes_tail (pair_in t front).content held.raw (tail_taken t front) (delta_taken t front state) held.complete
-      (over_again (pair_in t front).content.tail (pair_in t (front + 1)).content.tail k.1.tail) small_delta
+      let held = completes_to (raw_content_of_pair_at t.disk (kept_pair_at_index t front).at) (kept_pair_at_index t front).content (there (λ p. content_of_pair_at t.disk p.at ≡ Some p.content) contents).0 in
+      ap (λ o. option_and_then content_if_slots_are_complete (option_and_then (λ (x : RawContent). content_after_changes x (drop_next_pair_changes t front state)) o)) held.is
+      ∙ takes_tail (kept_pair_at_index t front).content held.raw (tail_after_drop t front) (delta_after_drop t front state) held.complete
+      (over_again (kept_pair_at_index t front).content.tail (kept_pair_at_index t (front + 1)).content.tail k.1.tail) small_delta
 
-module _ (t : Kept) (front : ℕ) (state : Gstate) (below : front + 1 < length t.pairs) (made : made_in_thread t front (taking_changes t front state) ≡ Some (with_tail_taken t front state)) where
-  pub can_drop : CanDrop t front (taking_changes t front state)
+module _ (t : Kept) (front : ℕ) (state : Gstate) (below : front + 1 < length t.pairs) (made : complete_content_after_changes t front (drop_next_pair_changes t front state) ≡ Some (content_after_drop t front state)) where
+  pub can_drop : CanDropNextPair t front (drop_next_pair_changes t front state)
   can_drop = record {
     below = below;
-    content = with_tail_taken t front state;
+    content = content_after_drop t front state;
     made = made;
-    next = over_next (pair_in t front).content.tail (pair_in t (front + 1)).content.tail;
+    next = over_next (kept_pair_at_index t front).content.tail (kept_pair_at_index t (front + 1)).content.tail;
   }
 
   parted : TwoAt t.pairs front
   parted = two_at t.pairs front below
 
   -- the slots stay, so it fits
-  pub drop_not_refused : FitsPair t.disk.block_size t.disk.page (pair_in t front).content → (new : Kept) → IsCommitRefused t front (taking_changes t front state) new → ⊥
-  drop_not_refused fits new is = is.too_large (subst (FitsPair t.disk.block_size t.disk.page) (same_Some (with_tail_taken t front state) is.content (sym made ∙ is.made)) (record { size = fits.size; count = fits.count }))
+  pub drop_not_refused : IsContentFittingPair t.disk.block_size t.disk.page (kept_pair_at_index t front).content → (new : Kept) → IsCommitRefused t front (drop_next_pair_changes t front state) new → ⊥
+  drop_not_refused fits new is = is.too_large (subst (IsContentFittingPair t.disk.block_size t.disk.page) (same_Some (content_after_drop t front state) is.content (sym made ∙ is.made)) (record { size = fits.size; count = fits.count }))
 
-  pub has_dropped : (new : Kept) → IsDropped t front (taking_changes t front state) new → HasDroppedBehind t front state new
+  pub has_dropped : (new : Kept) → IsPairAfterIndexDropped t front (drop_next_pair_changes t front state) new → IsNextPairDropped t front state new
   has_dropped new is =
-      let same = same_Some is.content (with_tail_taken t front state) (sym is.made ∙ made) in
-      let pairs = is.pairs ∙ ap (λ c. remove (with_pair t front c) (front + 1)) same in
+      let same = same_Some is.content (content_after_drop t front state) (sym is.made ∙ made) in
+      let pairs = is.pairs ∙ ap (λ c. remove (pairs_with_content_at_index t front c) (front + 1)) same in
       record {
-        written = subst (λ c. IsWrittenAs t front c new.disk) same is.written;
+        written = subst (λ c. IsPairWrittenOnDisk t front c new.disk) same is.written;
         pairs = pairs;
-        gstate = ap gstate_of (pairs ∙ without_is t front parted.ahead parted.one parted.other parted.back parted.is parted.number (with_tail_taken t front state))
-            ∙ gstate_is t front parted.ahead parted.one parted.other parted.back parted.is parted.number state (record { at = parted.one.at; content = with_tail_taken t front state }) refl;
+        gstate = ap gstate_of (pairs ∙ without_is t front parted.ahead parted.one parted.other parted.back parted.is parted.number (content_after_drop t front state))
+            ∙ gstate_is t front parted.ahead parted.one parted.other parted.back parted.is parted.number state (record { at = parted.one.at; content = content_after_drop t front state }) refl;
         thread = is.thread;
         map = is.map;
       }
 
-  pub left_by_drop : (left : Blocks) → IsLeftByChange t front (taking_changes t front state) left → IsLeftByDrop t front state left
+  pub left_by_drop : (left : Blocks) → LeavesPairOldOrChanged t front (drop_next_pair_changes t front state) left → IsLeftByStoppedDrop t front state left
   left_by_drop left is = record { content = is.content; is = go is.is; written = is.written }
     where
-      go : (is.content ≡ (pair_in t front).content) ⊎ ((made_in_thread t front (taking_changes t front state) ≡ Some is.content) × FitsPair t.disk.block_size t.disk.page is.content)
-          → (is.content ≡ (pair_in t front).content) ⊎ (is.content ≡ with_tail_taken t front state)
+      go : (is.content ≡ (kept_pair_at_index t front).content) ⊎ ((complete_content_after_changes t front (drop_next_pair_changes t front state) ≡ Some is.content) × IsContentFittingPair t.disk.block_size t.disk.page is.content)
+          → (is.content ≡ (kept_pair_at_index t front).content) ⊎ (is.content ≡ content_after_drop t front state)
       go (inl e) = inl e
-      go (inr k) = inr (same_Some is.content (with_tail_taken t front state) (sym k.0 ∙ made))
+      go (inr k) = inr (same_Some is.content (content_after_drop t front state) (sym k.0 ∙ made))

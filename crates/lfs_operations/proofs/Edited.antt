@@ -3,37 +3,37 @@ use Rattle.std.proofs.Common.{ℕ, ◌≡◌, ◌^◌, ◌<◌, ◌≤◌, true,
 use Rattle.std.specs.Prelude.{All}
 use Rattle.lfs_model.specs.Names.{Name}
 use Rattle.std.proofs.lemmas.List.Elements.{recursion_from_All}
-use Rattle.lfs_model.specs.TreeEdits.{attributes_of, change_at, with_attributes}
-use Rattle.lfs_model.specs.Changes.{Change, PutAttribute, RemoveAttribute}
-use Rattle.lfs_model.specs.Content.{RawSlot, put_attribute, without_attribute}
+use Rattle.lfs_model.specs.TreeEdits.{attributes_of_node, tree_after_change_of_node, node_with_attributes}
+use Rattle.lfs_model.specs.Changes.{ContentChange, PutAttribute, RemoveAttribute}
+use Rattle.lfs_model.specs.Content.{RawSlot, attributes_with_attribute, attributes_without_attribute}
 use Rattle.lfs_model.specs.Disk.{Disk}
-use Rattle.lfs_model.specs.History.{Event}
+use Rattle.lfs_model.specs.History.{CallEvent}
 use Rattle.lfs_model.specs.Operations as ops
 use Rattle.lfs_model.specs.Operations.{Operation}
-use Rattle.lfs_model.specs.PowerLoss.{Survives}
+use Rattle.lfs_model.specs.PowerLoss.{SurvivesStopsSince}
 use Rattle.lfs_model.specs.Session.{Session}
-use Rattle.lfs_model.specs.Refusals.{as_path}
+use Rattle.lfs_model.specs.Refusals.{path_or_root}
 use Rattle.lfs_model.specs.Slots.{Attributes, Slot, is_superblock, same_pair, slot_size}
-use Rattle.lfs_model.specs.Thread.{Pair, blocks_of}
+use Rattle.lfs_model.specs.Thread.{Pair, blocks_of_pairs}
 use Rattle.lfs_model.specs.Tree.{Tree}
-use Rattle.lfs_model.specs.View.{IsEntry, IsListIfCtz}
-use Rattle.lfs_model.specs.Profile.{FitsEntry, FitsSlot}
-use Rattle.lfs_model.specs.Shown.{PathLeadsTo, all_slots, tree_in}
+use Rattle.lfs_model.specs.View.{IsFileOrDirectoryEntry, IsListIfCtz}
+use Rattle.lfs_model.specs.Profile.{FitsEntryLimits, FitsSlotLimits}
+use Rattle.lfs_model.specs.Shown.{IsPathToDirectory, all_slots_not_moved, tree_on_disk}
 use Rattle.lfs_model.proofs.Changes.{Follows}
 use Rattle.lfs_model.proofs.Committed.{IsCompleted, recovered_from, commit_step}
 use Rattle.lfs_model.proofs.Counts.{Each, each_right, count}
 use Rattle.lfs_model.proofs.Effects.{puts_attribute, removes_attribute}
 use Rattle.lfs_model.proofs.Files.{file_blocks_same, is_list_same}
-use Rattle.lfs_model.proofs.Histories.{LeavesOnly-weaker}
+use Rattle.lfs_model.proofs.Histories.{IsTrueAfterEachStopSince-weaker}
 use Rattle.lfs_model.proofs.Moves.{attributes_change}
 use Rattle.lfs_model.proofs.OneCommit.{remove_attr_completed, set_attr_completed, some_filled}
 use Rattle.lfs_model.proofs.Sites.{Site, thread_at, begin_of}
-use Rattle.lfs_thread.specs.Device.{StopsLeave}
+use Rattle.lfs_thread.specs.Device.{StopsAfterCleanErasesLeave}
 use Rattle.lfs_thread.specs.Kept.{Kept}
-use Rattle.lfs_thread.specs.Steps.{CanChange, IsChanged, IsLeftByChange, IsCommitRefused}
-use Rattle.lfs_operations.specs.Changing.{CanPut, IsLeftByPut, IsPut}
-use Rattle.lfs_operations.specs.Editing.{CanEdit, CanSetAttribute, HasRemovedAttribute, HasSetAttribute, slot_at, with_attributes_at}
-use Rattle.lfs_operations.specs.Ready.{HasBecome}
+use Rattle.lfs_thread.specs.Steps.{CanChangePair, IsPairChanged, LeavesPairOldOrChanged, IsCommitRefused}
+use Rattle.lfs_operations.specs.Changing.{CanChangeOrSplitPair, IsLeftByStoppedChangeOrSplit, IsPairChangedOrSplit}
+use Rattle.lfs_operations.specs.Editing.{CanEditEntryOfPair, CanSetAttribute, HasRemovedAttribute, HasSetAttribute, slot_of_editable_entry, tree_with_attributes_at}
+use Rattle.lfs_operations.specs.Ready.{ShowsTreeReadyForChange}
 use Rattle.lfs_operations.proofs.Held.{each_pair}
 use Rattle.lfs_operations.proofs.Replacing as replacing
 use Rattle.lfs_operations.proofs.Replacing.{Makes, Names, Turns, can_put, entry, leads_there, of_slot, same_there, splicing, there}
@@ -42,16 +42,16 @@ use Rattle.lfs_operations.proofs.Splicing.{Commits, IsSplicing}
 use Rattle.lfs_operations.proofs.Stepped.{HasStep, becomes, put_step, ready_again, survives}
 
 -- the change gives the slot at the id those attributes
-abbrev pub ChangesAttributes : Change → ℕ → (Attributes → Attributes) → Type 0
+abbrev pub ChangesAttributes : ContentChange → ℕ → (Attributes → Attributes) → Type 0
 ChangesAttributes change id f = Makes change id (λ s. record s { attributes = f s.attributes })
 
-module _ (t : Kept) (index id : ℕ) (can : CanEdit t index id) (f : Attributes → Attributes) (change : Change) (does : ChangesAttributes change id f)
-    (fits : FitsEntry t.disk.block_size t.disk.page (record (slot_at can) { attributes = f (slot_at can).attributes })) where
+module _ (t : Kept) (index id : ℕ) (can : CanEditEntryOfPair t index id) (f : Attributes → Attributes) (change : ContentChange) (does : ChangesAttributes change id f)
+    (fits : FitsEntryLimits t.disk.block_size t.disk.page (record (slot_of_editable_entry can) { attributes = f (slot_of_editable_entry can).attributes })) where
   abbrev g : RawSlot → RawSlot
   g z = record z { attributes = f z.attributes }
 
   abbrev u : Slot
-  u = slot_at can
+  u = slot_of_editable_entry can
 
   abbrev v : Slot
   v = record u { attributes = f u.attributes }
@@ -71,7 +71,7 @@ module _ (t : Kept) (index id : ℕ) (can : CanEdit t index id) (f : Attributes 
   abbrev w : Site
   w = replacing.w t index id can g v change does turns fits
 
-  pub can_put_attributes : CanPut t index (change ∷ [])
+  pub can_put_attributes : CanChangeOrSplitPair t index (change ∷ [])
   can_put_attributes = can_put t index id can g v change does turns fits
 
   pub edit_not_refused : slot_size v ≤ slot_size u → (new : Kept) → IsCommitRefused t index (change ∷ []) new → ⊥
@@ -80,7 +80,7 @@ module _ (t : Kept) (index id : ℕ) (can : CanEdit t index id) (f : Attributes 
   there_now : t.pairs ≡ thread_at w (p ∷ [])
   there_now = there t index id can g v change does turns fits
 
-  was : IsEntry u
+  was : IsFileOrDirectoryEntry u
   was = entry t index id can g v change does turns fits
 
   -- the same blocks
@@ -90,7 +90,7 @@ module _ (t : Kept) (index id : ℕ) (can : CanEdit t index id) (f : Attributes 
     flying = tt;
     apart = can.ready.accepted.owned_once;
     lists = λ disk geometry file come. is_list_same t.disk disk u.struct geometry file
-        (of_slot t index id can g v change does turns fits (λ x. IsListIfCtz t.disk x.struct) (recursion_from_All (λ (x : Slot). IsListIfCtz t.disk x.struct) (all_slots t.pairs) can.ready.accepted.lists));
+        (of_slot t index id can g v change does turns fits (λ x. IsListIfCtz t.disk x.struct) (recursion_from_All (λ (x : Slot). IsListIfCtz t.disk x.struct) (all_slots_not_moved t.pairs) can.ready.accepted.lists));
     blocks = λ disk geometry file come b. let e = ap (count b) (file_blocks_same t.disk disk u.struct geometry file) in omega arith;
   }
 
@@ -100,28 +100,28 @@ module _ (t : Kept) (index id : ℕ) (can : CanEdit t index id) (f : Attributes 
   other_slot : is_superblock u ≡ false
   other_slot = can.stands.stands.entry
 
-  led : PathLeadsTo (thread_at w (p ∷ [])) can.path can.at
+  led : IsPathToDirectory (thread_at w (p ∷ [])) can.path can.at
   led = leads_there t index id can g v change does turns fits
 
   same_begin : same_pair (begin_of w (p ∷ [])) can.at ≡ true
   same_begin = same_there t index id can g v change does turns fits
 
   abbrev turn : Tree → Tree
-  turn = change_at (can.path ++ can.name ∷ []) (λ n. with_attributes (f (attributes_of (Some n))) n)
+  turn = tree_after_change_of_node (can.path ++ can.name ∷ []) (λ n. node_with_attributes (f (attributes_of_node (Some n))) n)
 
   follows : (disk : Disk) (q : Pair) (more : List Pair) → Commits t w p l (u ∷ []) (v ∷ []) r [] disk q more → Follows t.disk (thread_at w (p ∷ [])) disk (thread_at w (q ∷ more)) turn (λ d. d)
-  follows disk q more commit = subst (λ (n : Name). Follows t.disk (thread_at w (p ∷ [])) disk (thread_at w (q ∷ more)) (change_at (can.path ++ n ∷ []) (λ z. with_attributes (f (attributes_of (Some z))) z)) (λ d. d)) can.stands.stands.named
-      (attributes_change t.disk disk w p [] q more (blocks_of more) [] l r u v (commit_step t.disk disk w p q more [] l (u ∷ []) (v ∷ []) r commit.commit) other_slot can.path can.at led same_begin f refl
+  follows disk q more commit = subst (λ (n : Name). Follows t.disk (thread_at w (p ∷ [])) disk (thread_at w (q ∷ more)) (tree_after_change_of_node (can.path ++ n ∷ []) (λ z. node_with_attributes (f (attributes_of_node (Some z))) z)) (λ d. d)) can.stands.stands.named
+      (attributes_change t.disk disk w p [] q more (blocks_of_pairs more) [] l r u v (commit_step t.disk disk w p q more [] l (u ∷ []) (v ∷ []) r commit.commit) other_slot can.path can.at led same_begin f refl
       (λ e. (recovered_from t.disk (thread_at w (p ∷ [])) commit.commit.accepted commit.commit.settled).reached))
 
-  pub become : (new : Kept) (x : HasStep t w p l (u ∷ []) (v ∷ []) r [] [] new) → HasBecome t new (with_attributes_at t can.path can.name f)
-  become new x = ready_again t new (with_attributes_at t can.path can.name f) (becomes t index (change ∷ []) w p l (u ∷ []) (v ∷ []) r [] [] spliced turn (λ disk q more commit. ((λ d. d), follows disk q more commit))
+  pub become : (new : Kept) (x : HasStep t w p l (u ∷ []) (v ∷ []) r [] [] new) → ShowsTreeReadyForChange t new (tree_with_attributes_at t can.path can.name f)
+  become new x = ready_again t new (tree_with_attributes_at t can.path can.name f) (becomes t index (change ∷ []) w p l (u ∷ []) (v ∷ []) r [] [] spliced turn (λ disk q more commit. ((λ d. d), follows disk q more commit))
       (λ e. some_filled l r v) new x)
 
-  pub stepped : (new : Kept) → IsPut t index (change ∷ []) new → HasStep t w p l (u ∷ []) (v ∷ []) r [] [] new
+  pub stepped : (new : Kept) → IsPairChangedOrSplit t index (change ∷ []) new → HasStep t w p l (u ∷ []) (v ∷ []) r [] [] new
   stepped new is = put_step t index (change ∷ []) w p l (u ∷ []) (v ∷ []) r [] [] spliced new is
 
-  pub edit_survives : (new : List Event) → StopsLeave t.history new (IsLeftByPut t index (change ∷ [])) → Survives t.disk t.history new (tree_in t.disk t.pairs) (with_attributes_at t can.path can.name f)
+  pub edit_survives : (new : List CallEvent) → StopsAfterCleanErasesLeave t.history new (IsLeftByStoppedChangeOrSplit t index (change ∷ [])) → SurvivesStopsSince t.disk t.history new (tree_on_disk t.disk t.pairs) (tree_with_attributes_at t can.path can.name f)
   edit_survives new stops = survives t index (change ∷ []) w p l (u ∷ []) (v ∷ []) r [] [] spliced turn (λ disk q more commit. ((λ d. d), follows disk q more commit)) (λ e. some_filled l r v) new stops
 
   -- as an operation
@@ -129,76 +129,76 @@ module _ (t : Kept) (index id : ℕ) (can : CanEdit t index id) (f : Attributes 
       → IsCompleted t.disk t.pairs z op new.disk new.pairs
   completed_there new x z op h = subst (λ y. IsCompleted t.disk y z op new.disk new.pairs) (sym there_now) (subst (λ y. IsCompleted t.disk (thread_at w (p ∷ [])) z op new.disk y) (sym x.pairs) h)
 
-  pub set_completed : (kind : ℕ) (bytes : List ℕ) → ((a : Attributes) → f a ≡ put_attribute kind bytes a) → (new : Kept) → HasStep t w p l (u ∷ []) (v ∷ []) r [] [] new → (z : Session) (given : List ℕ)
-      → z.tree ≡ tree_in t.disk t.pairs → as_path given ≡ can.path ++ can.name ∷ [] → IsCompleted t.disk t.pairs z (ops.SetAttr given kind bytes) new.disk new.pairs
+  pub set_completed : (kind : ℕ) (bytes : List ℕ) → ((a : Attributes) → f a ≡ attributes_with_attribute kind bytes a) → (new : Kept) → HasStep t w p l (u ∷ []) (v ∷ []) r [] [] new → (z : Session) (given : List ℕ)
+      → z.tree ≡ tree_on_disk t.disk t.pairs → path_or_root given ≡ can.path ++ can.name ∷ [] → IsCompleted t.disk t.pairs z (ops.SetAttr given kind bytes) new.disk new.pairs
   set_completed kind bytes is_put new x z given tree is_path = completed_there new x z (ops.SetAttr given kind bytes)
-      (set_attr_completed t.disk new.disk w p x.q x.more [] l r u v x.commit.commit other_slot can.path can.at led same_begin z (tree ∙ ap (tree_in t.disk) there_now) given kind bytes
+      (set_attr_completed t.disk new.disk w p x.q x.more [] l r u v x.commit.commit other_slot can.path can.at led same_begin z (tree ∙ ap (tree_on_disk t.disk) there_now) given kind bytes
       (is_path ∙ ap (λ n. can.path ++ n ∷ []) (sym can.stands.stands.named)) (ap (λ a. record u { attributes = a }) (is_put u.attributes)))
 
-  pub remove_completed : (kind : ℕ) → ((a : Attributes) → f a ≡ without_attribute kind a) → (new : Kept) → HasStep t w p l (u ∷ []) (v ∷ []) r [] [] new → (z : Session) (given : List ℕ)
-      → z.tree ≡ tree_in t.disk t.pairs → as_path given ≡ can.path ++ can.name ∷ [] → IsCompleted t.disk t.pairs z (ops.RemoveAttr given kind) new.disk new.pairs
+  pub remove_completed : (kind : ℕ) → ((a : Attributes) → f a ≡ attributes_without_attribute kind a) → (new : Kept) → HasStep t w p l (u ∷ []) (v ∷ []) r [] [] new → (z : Session) (given : List ℕ)
+      → z.tree ≡ tree_on_disk t.disk t.pairs → path_or_root given ≡ can.path ++ can.name ∷ [] → IsCompleted t.disk t.pairs z (ops.RemoveAttr given kind) new.disk new.pairs
   remove_completed kind is_without new x z given tree is_path = completed_there new x z (ops.RemoveAttr given kind)
-      (remove_attr_completed t.disk new.disk w p x.q x.more [] l r u v x.commit.commit other_slot can.path can.at led same_begin z (tree ∙ ap (tree_in t.disk) there_now) given kind
+      (remove_attr_completed t.disk new.disk w p x.q x.more [] l r u v x.commit.commit other_slot can.path can.at led same_begin z (tree ∙ ap (tree_on_disk t.disk) there_now) given kind
       (is_path ∙ ap (λ n. can.path ++ n ∷ []) (sym can.stands.stands.named)) (ap (λ a. record u { attributes = a }) (is_without u.attributes)))
 
 -- ---- an attribute is set
 
 module _ (t : Kept) (index id kind : ℕ) (bytes : List ℕ) (low : kind < 2 ^ 8) (set : CanSetAttribute t index id kind bytes) where
-  set_does : ChangesAttributes (PutAttribute id kind bytes) id (put_attribute kind bytes)
+  set_does : ChangesAttributes (PutAttribute id kind bytes) id (attributes_with_attribute kind bytes)
   set_does c small named = let short = set.short in puts_attribute c id kind bytes small (omega arith) (omega arith) named
 
-  pub can_set : CanPut t index (PutAttribute id kind bytes ∷ [])
-  can_set = can_put_attributes t index id set.can (put_attribute kind bytes) (PutAttribute id kind bytes) set_does set.fits
+  pub can_set : CanChangeOrSplitPair t index (PutAttribute id kind bytes ∷ [])
+  can_set = can_put_attributes t index id set.can (attributes_with_attribute kind bytes) (PutAttribute id kind bytes) set_does set.fits
 
-  pub has_set : (new : Kept) → IsPut t index (PutAttribute id kind bytes ∷ []) new → HasSetAttribute t new set.can.path set.can.name kind bytes
+  pub has_set : (new : Kept) → IsPairChangedOrSplit t index (PutAttribute id kind bytes ∷ []) new → HasSetAttribute t new set.can.path set.can.name kind bytes
   has_set new is =
-      let x = stepped t index id set.can (put_attribute kind bytes) (PutAttribute id kind bytes) set_does set.fits new is in
+      let x = stepped t index id set.can (attributes_with_attribute kind bytes) (PutAttribute id kind bytes) set_does set.fits new is in
       record {
-        now = become t index id set.can (put_attribute kind bytes) (PutAttribute id kind bytes) set_does set.fits new x;
+        now = become t index id set.can (attributes_with_attribute kind bytes) (PutAttribute id kind bytes) set_does set.fits new x;
         completed = λ z given tree is_path.
-            set_completed t index id set.can (put_attribute kind bytes) (PutAttribute id kind bytes) set_does set.fits kind bytes (λ a. refl) new x z given tree is_path;
+            set_completed t index id set.can (attributes_with_attribute kind bytes) (PutAttribute id kind bytes) set_does set.fits kind bytes (λ a. refl) new x z given tree is_path;
       }
 
-  pub set_survives : (new : List Event) → StopsLeave t.history new (IsLeftByPut t index (PutAttribute id kind bytes ∷ []))
-      → Survives t.disk t.history new (tree_in t.disk t.pairs) (with_attributes_at t set.can.path set.can.name (put_attribute kind bytes))
-  set_survives new stops = edit_survives t index id set.can (put_attribute kind bytes) (PutAttribute id kind bytes) set_does set.fits new stops
+  pub set_survives : (new : List CallEvent) → StopsAfterCleanErasesLeave t.history new (IsLeftByStoppedChangeOrSplit t index (PutAttribute id kind bytes ∷ []))
+      → SurvivesStopsSince t.disk t.history new (tree_on_disk t.disk t.pairs) (tree_with_attributes_at t set.can.path set.can.name (attributes_with_attribute kind bytes))
+  set_survives new stops = edit_survives t index id set.can (attributes_with_attribute kind bytes) (PutAttribute id kind bytes) set_does set.fits new stops
 
 -- ---- an attribute goes
 
-module _ (t : Kept) (index id kind : ℕ) (low : kind < 2 ^ 8) (can : CanEdit t index id) where
-  remove_does : ChangesAttributes (RemoveAttribute id kind) id (without_attribute kind)
+module _ (t : Kept) (index id kind : ℕ) (low : kind < 2 ^ 8) (can : CanEditEntryOfPair t index id) where
+  remove_does : ChangesAttributes (RemoveAttribute id kind) id (attributes_without_attribute kind)
   remove_does c small named = removes_attribute c id kind small (omega arith) named
 
   -- the entry takes no more than it did
-  still_fits : FitsEntry t.disk.block_size t.disk.page (record (slot_at can) { attributes = without_attribute kind (slot_at can).attributes })
+  still_fits : FitsEntryLimits t.disk.block_size t.disk.page (record (slot_of_editable_entry can) { attributes = attributes_without_attribute kind (slot_of_editable_entry can).attributes })
   still_fits =
       let s = can.stands in
-      let here = each_pair t can.ready can.first index s.pair s.rest s.place (λ x. All (FitsSlot t.disk.block_size t.disk.page) x.content.slots)
-      (recursion_from_All (λ (x : Pair). All (FitsSlot t.disk.block_size t.disk.page) x.content.slots) t.pairs can.ready.writable.slots) in
-      let slots = subst (Each (FitsSlot t.disk.block_size t.disk.page)) s.stands.held (recursion_from_All (FitsSlot t.disk.block_size t.disk.page) s.pair.content.slots here) in
-      let was = (each_right (FitsSlot t.disk.block_size t.disk.page) s.stands.left (s.stands.slot ∷ s.stands.right) slots).0.1 s.stands.entry in
+      let here = each_pair t can.ready can.first index s.pair s.rest s.place (λ x. All (FitsSlotLimits t.disk.block_size t.disk.page) x.content.slots)
+      (recursion_from_All (λ (x : Pair). All (FitsSlotLimits t.disk.block_size t.disk.page) x.content.slots) t.pairs can.ready.writable.slots) in
+      let slots = subst (Each (FitsSlotLimits t.disk.block_size t.disk.page)) s.stands.held (recursion_from_All (FitsSlotLimits t.disk.block_size t.disk.page) s.pair.content.slots here) in
+      let was = (each_right (FitsSlotLimits t.disk.block_size t.disk.page) s.stands.left (s.stands.slot ∷ s.stands.right) slots).0.1 s.stands.entry in
       record {
-        charge = (let e = was.charge in let n = fewer_attributes kind (slot_at can).attributes in omega arith);
+        charge = (let e = was.charge in let n = fewer_attributes kind (slot_of_editable_entry can).attributes in omega arith);
         inline = was.inline;
       }
 
-  pub can_remove : CanChange t index (RemoveAttribute id kind ∷ [])
-  can_remove = (can_put_attributes t index id can (without_attribute kind) (RemoveAttribute id kind) remove_does still_fits).can
+  pub can_remove : CanChangePair t index (RemoveAttribute id kind ∷ [])
+  can_remove = (can_put_attributes t index id can (attributes_without_attribute kind) (RemoveAttribute id kind) remove_does still_fits).can
 
   -- so what the pair holds then fits, as what it held did
   pub not_refused : (new : Kept) → IsCommitRefused t index (RemoveAttribute id kind ∷ []) new → ⊥
-  not_refused new is = edit_not_refused t index id can (without_attribute kind) (RemoveAttribute id kind) remove_does still_fits
-      (let n = fewer_attributes kind (slot_at can).attributes in omega arith) new is
+  not_refused new is = edit_not_refused t index id can (attributes_without_attribute kind) (RemoveAttribute id kind) remove_does still_fits
+      (let n = fewer_attributes kind (slot_of_editable_entry can).attributes in omega arith) new is
 
-  pub has_removed : (new : Kept) → IsChanged t index (RemoveAttribute id kind ∷ []) new → HasRemovedAttribute t new can.path can.name kind
+  pub has_removed : (new : Kept) → IsPairChanged t index (RemoveAttribute id kind ∷ []) new → HasRemovedAttribute t new can.path can.name kind
   has_removed new is =
-      let x = stepped t index id can (without_attribute kind) (RemoveAttribute id kind) remove_does still_fits new (inl is) in
+      let x = stepped t index id can (attributes_without_attribute kind) (RemoveAttribute id kind) remove_does still_fits new (inl is) in
       record {
-        now = become t index id can (without_attribute kind) (RemoveAttribute id kind) remove_does still_fits new x;
+        now = become t index id can (attributes_without_attribute kind) (RemoveAttribute id kind) remove_does still_fits new x;
         completed = λ z given tree is_path.
-            remove_completed t index id can (without_attribute kind) (RemoveAttribute id kind) remove_does still_fits kind (λ a. refl) new x z given tree is_path;
+            remove_completed t index id can (attributes_without_attribute kind) (RemoveAttribute id kind) remove_does still_fits kind (λ a. refl) new x z given tree is_path;
       }
 
-  pub remove_survives : (new : List Event) → StopsLeave t.history new (IsLeftByChange t index (RemoveAttribute id kind ∷ []))
-      → Survives t.disk t.history new (tree_in t.disk t.pairs) (with_attributes_at t can.path can.name (without_attribute kind))
-  remove_survives new stops = edit_survives t index id can (without_attribute kind) (RemoveAttribute id kind) remove_does still_fits new (λ clean. LeavesOnly-weaker (λ left x. inl x) (stops clean))
+  pub remove_survives : (new : List CallEvent) → StopsAfterCleanErasesLeave t.history new (LeavesPairOldOrChanged t index (RemoveAttribute id kind ∷ []))
+      → SurvivesStopsSince t.disk t.history new (tree_on_disk t.disk t.pairs) (tree_with_attributes_at t can.path can.name (attributes_without_attribute kind))
+  remove_survives new stops = edit_survives t index id can (attributes_without_attribute kind) (RemoveAttribute id kind) remove_does still_fits new (λ clean. IsTrueAfterEachStopSince-weaker (λ left x. inl x) (stops clean))

@@ -4,29 +4,29 @@ use Rattle.std.specs.Prelude.{slice_index}
 use Rattle.std.specs.Option.{option_and_then}
 use Rattle.std.proofs.lemmas.Bool.{and_parts, ne_eqb}
 use Rattle.lfs_device.specs.Bytes.{HasBytes}
-use Rattle.lfs_model.specs.Changes.{PutMove, PutTail, changed_by}
-use Rattle.lfs_model.specs.Content.{RawContent, raw_at, content_at, content_after_all, completed, complete, has_commit, holder, holder_at, is_later, no_content}
-use Rattle.lfs_model.specs.EntryTypes.{tail_with, directory_name_type, directory_struct_type}
-use Rattle.lfs_model.specs.Disk.{Disk, block_at, entry_limit}
-use Rattle.lfs_model.specs.Log.{log_entries, revision_of}
-use Rattle.lfs_model.specs.LoggedContent.{IsAddress, IsLogged, IsMoveState, IsPart}
+use Rattle.lfs_model.specs.Changes.{PutMove, PutTail, content_after_changes}
+use Rattle.lfs_model.specs.Content.{RawContent, raw_content_of_pair_at, content_of_pair_at, content_after_log_entries, content_if_slots_are_complete, complete, has_commit, current_block_of_two, current_block_of_pair_at, is_later_revision, empty_raw_content}
+use Rattle.lfs_model.specs.EntryTypes.{tail_to_pair_if_any, directory_name_type, directory_struct_type}
+use Rattle.lfs_model.specs.Disk.{Disk, block_bytes_on_disk, entry_charge_limit}
+use Rattle.lfs_model.specs.Log.{log_entries_of_block, revision_of_block}
+use Rattle.lfs_model.specs.LoggedContent.{Are32BitPairAddresses, IsWellFormedRawContent, IsWellFormedMoveState, IsNameOrStructOfClass}
 use Rattle.lfs_model.specs.Names.{Name}
-use Rattle.lfs_model.specs.Slots.{Content, FitsPair, Gstate, Tail, null_address, slot_size}
-use Rattle.lfs_model.specs.SlotEdits.{new_directory}
-use Rattle.lfs_model.specs.Thread.{Pair, next_of}
-use Rattle.lfs_model.specs.WrittenContent.{pair_bytes}
+use Rattle.lfs_model.specs.Slots.{Content, IsContentFittingPair, Gstate, Tail, null_address, slot_size}
+use Rattle.lfs_model.specs.SlotEdits.{new_directory_slot}
+use Rattle.lfs_model.specs.Thread.{Pair, pair_named_by_tail}
+use Rattle.lfs_model.specs.WrittenContent.{bytes_of_pair_address}
 use Rattle.lfs_model.proofs.Completed.{IsCompleted, complete_insert, complete_length, completed_parts, completed_from}
 use Rattle.lfs_model.proofs.Effects.{creates_with_struct, does_first, puts_move, puts_tail, slot_with}
 use Rattle.lfs_model.proofs.Global.{turned}
 use Rattle.lfs_model.proofs.Halves.{insert_cut}
 use Rattle.lfs_model.proofs.StoredChanges.{logged_changed}
-use Rattle.lfs_model.proofs.WrittenAnew.{kind_of-tag_with, len_of-tag_with, pair_at-pair_bytes}
-use Rattle.lfs_pair.specs.Commit.{made_at}
+use Rattle.lfs_model.proofs.WrittenAnew.{kind_of-tag_of_type_id_and_length, len_of-tag_of_type_id_and_length, pair_address_of_bytes-bytes_of_pair_address}
+use Rattle.lfs_pair.specs.Commit.{pair_content_after_changes}
 use Rattle.lfs_thread.specs.Kept.{Kept}
-use Rattle.lfs_thread.specs.Steps.{pair_in, made_in_thread}
-use Rattle.lfs_operations.specs.Changing.{CanPut}
-use Rattle.lfs_operations.specs.Making.{name_directory_changes, thread_in_changes}
-use Rattle.lfs_operations.specs.Ready.{IsLoggedAt}
+use Rattle.lfs_thread.specs.Steps.{kept_pair_at_index, complete_content_after_changes}
+use Rattle.lfs_operations.specs.Changing.{CanChangeOrSplitPair}
+use Rattle.lfs_operations.specs.Making.{directory_naming_changes, changes_threading_new_pair}
+use Rattle.lfs_operations.specs.Ready.{HasLoggableContentAt}
 use Rattle.lfs_operations.proofs.Held.{CompletesTo, completes_to, logged_at}
 
 -- ---- blocks of bytes
@@ -34,8 +34,8 @@ use Rattle.lfs_operations.proofs.Held.{CompletesTo, completes_to, logged_at}
 abbrev AreSmall : List ℕ → Type 0
 AreSmall block = (i : ℕ) → slice_index block i < 256
 
-holder_small : (a b block : List ℕ) → AreSmall a → AreSmall b → holder a b ≡ Some block → AreSmall block
-holder_small a b block f g h = go (not (has_commit a)) (has_commit b) (has_commit b && is_later (revision_of a) (revision_of b)) h
+holder_small : (a b block : List ℕ) → AreSmall a → AreSmall b → current_block_of_two a b ≡ Some block → AreSmall block
+holder_small a b block f g h = go (not (has_commit a)) (has_commit b) (has_commit b && is_later_revision (revision_of_block a) (revision_of_block b)) h
   where
     same : (x y : List ℕ) → Some x ≡ Some y → AreSmall x → AreSmall y
     same x y e s = let k : x ≡ y = cc in subst AreSmall k s
@@ -46,30 +46,30 @@ holder_small a b block f g h = go (not (has_commit a)) (has_commit b) (has_commi
     go false y true e = same b block e g
     go false y false e = same a block e f
 
-pub logged_there : (disk : Disk) (at : ℕ × ℕ) → HasBytes disk.blocks → IsLoggedAt disk at
-logged_there disk at bytes raw is = go (holder_at disk at) refl is
+pub logged_there : (disk : Disk) (at : ℕ × ℕ) → HasBytes disk.blocks → HasLoggableContentAt disk at
+logged_there disk at bytes raw is = go (current_block_of_pair_at disk at) refl is
   where
-    go : (o : Option (List ℕ)) → holder_at disk at ≡ o → option_and_then (λ block. content_after_all no_content (log_entries block)) o ≡ Some raw → IsLogged raw
+    go : (o : Option (List ℕ)) → current_block_of_pair_at disk at ≡ o → option_and_then (λ block. content_after_log_entries empty_raw_content (log_entries_of_block block)) o ≡ Some raw → IsWellFormedRawContent raw
     go None e h = absurd (cc)
-    go (Some block) e h = logged_at disk at block e (holder_small (block_at disk at.0) (block_at disk at.1) block (bytes at.0) (bytes at.1) e) raw is
+    go (Some block) e h = logged_at disk at block e (holder_small (block_bytes_on_disk disk at.0) (block_bytes_on_disk disk at.1) block (bytes at.0) (bytes at.1) e) raw is
 
 -- ---- the parts of a directory's slot
 
-directory_name : (name : Name) → length name ≤ 255 → IsPart 0 (directory_name_type, name)
+directory_name : (name : Name) → length name ≤ 255 → IsNameOrStructOfClass 0 (directory_name_type, name)
 directory_name name short = record {
   of_class = refl;
   short = omega arith;
   in_table =
-      let kind = kind_of-tag_with directory_name_type 0 (length name) (omega arith) (omega arith) (omega arith) in
-      let len = len_of-tag_with directory_name_type 0 (length name) (omega arith) in
+      let kind = kind_of-tag_of_type_id_and_length directory_name_type 0 (length name) (omega arith) (omega arith) (omega arith) in
+      let len = len_of-tag_of_type_id_and_length directory_name_type 0 (length name) (omega arith) in
       rw len (rw kind (rw (ne_eqb (length name) 0x3ff (λ e. omega arith)) refl));
 }
 
-branch_part : (to : ℕ × ℕ) → IsPart 2 (directory_struct_type, pair_bytes to)
+branch_part : (to : ℕ × ℕ) → IsNameOrStructOfClass 2 (directory_struct_type, bytes_of_pair_address to)
 branch_part to = record { of_class = refl; short = omega arith; in_table = refl }
 
 -- two null addresses are no tail
-tail_is : (to : ℕ × ℕ) → to.0 ≢ to.1 → tail_with false to ≡ Some (record { hard = false; to = to })
+tail_is : (to : ℕ × ℕ) → to.0 ≢ to.1 → tail_to_pair_if_any false to ≡ Some (record { hard = false; to = to })
 tail_is to apart = go (to.0 == null_address && to.1 == null_address) refl
   where
     go : (b : Bool) → (to.0 == null_address && to.1 == null_address) ≡ b → cond {A = Option Tail} b None (Some (record { hard = false; to = to })) ≡ Some (record { hard = false; to = to })
@@ -78,12 +78,12 @@ tail_is to apart = go (to.0 == null_address && to.1 == null_address) refl
 
 -- ---- the steps
 
-module _ (t : Kept) (index : ℕ) (p : Pair) (here : pair_in t index ≡ p) (holds : content_at t.disk (pair_in t index).at ≡ Some p.content) (logged : IsLoggedAt t.disk (pair_in t index).at) where
-  abbrev c : CompletesTo (raw_at t.disk (pair_in t index).at) p.content
-  c = completes_to (raw_at t.disk (pair_in t index).at) p.content holds
+module _ (t : Kept) (index : ℕ) (p : Pair) (here : kept_pair_at_index t index ≡ p) (holds : content_of_pair_at t.disk (kept_pair_at_index t index).at ≡ Some p.content) (logged : HasLoggableContentAt t.disk (kept_pair_at_index t index).at) where
+  abbrev c : CompletesTo (raw_content_of_pair_at t.disk (kept_pair_at_index t index).at) p.content
+  c = completes_to (raw_content_of_pair_at t.disk (kept_pair_at_index t index).at) p.content holds
 
   abbrev delta : Gstate
-  delta = turned (pair_in t index).content.move
+  delta = turned (kept_pair_at_index t index).content.move
 
   parts : IsCompleted c.raw p.content
   parts = completed_parts c.raw p.content c.complete
@@ -91,9 +91,9 @@ module _ (t : Kept) (index : ℕ) (p : Pair) (here : pair_in t index ≡ p) (hol
   delta_is : delta ≡ turned p.content.move
   delta_is = ap (λ (z : Pair). turned z.content.move) here
 
-  delta_state : IsMoveState delta
+  delta_state : IsWellFormedMoveState delta
   delta_state =
-      let h = subst IsMoveState (sym parts.move ∙ ap (λ (z : Pair). z.content.move) (sym here)) (logged c.raw c.is).move in
+      let h = subst IsWellFormedMoveState (sym parts.move ∙ ap (λ (z : Pair). z.content.move) (sym here)) (logged c.raw c.is).move in
       record { kind = h.kind; id = h.id; pair = h.pair }
 
   -- ---- the fresh pair is threaded
@@ -104,61 +104,61 @@ module _ (t : Kept) (index : ℕ) (p : Pair) (here : pair_in t index ≡ p) (hol
   abbrev raw_threaded : ℕ × ℕ → RawContent
   raw_threaded fresh = record c.raw { tail = Some (record { hard = false; to = fresh }); move = delta }
 
-  threads : (fresh : ℕ × ℕ) → IsAddress fresh → fresh.0 ≢ fresh.1 → changed_by c.raw (thread_in_changes t index fresh) ≡ Some (raw_threaded fresh)
+  threads : (fresh : ℕ × ℕ) → Are32BitPairAddresses fresh → fresh.0 ≢ fresh.1 → content_after_changes c.raw (changes_threading_new_pair t index fresh) ≡ Some (raw_threaded fresh)
   threads fresh address apart =
-      let named : RawContent = record c.raw { tail = tail_with false fresh } in
+      let named : RawContent = record c.raw { tail = tail_to_pair_if_any false fresh } in
       does_first (PutTail false (Some fresh)) (PutMove delta ∷ []) c.raw named (raw_threaded fresh) (puts_tail c.raw false fresh address)
       (does_first (PutMove delta) [] named (record named { move = delta }) (raw_threaded fresh) (puts_move named delta delta_state) (ap (λ (tail : Option Tail). Some (record c.raw { tail = tail; move = delta })) (tail_is fresh apart)))
 
-  pub threaded_made : (fresh : ℕ × ℕ) → IsAddress fresh → fresh.0 ≢ fresh.1 → made_in_thread t index (thread_in_changes t index fresh) ≡ Some (threaded_now fresh)
+  pub threaded_made : (fresh : ℕ × ℕ) → Are32BitPairAddresses fresh → fresh.0 ≢ fresh.1 → complete_content_after_changes t index (changes_threading_new_pair t index fresh) ≡ Some (threaded_now fresh)
   threaded_made fresh address apart =
-      ap (λ o. option_and_then completed (option_and_then (λ (r : RawContent). changed_by r (thread_in_changes t index fresh)) o)) c.is
-      ∙ ap (λ o. option_and_then completed o) (threads fresh address apart)
+      ap (λ o. option_and_then content_if_slots_are_complete (option_and_then (λ (r : RawContent). content_after_changes r (changes_threading_new_pair t index fresh)) o)) c.is
+      ∙ ap (λ o. option_and_then content_if_slots_are_complete o) (threads fresh address apart)
       ∙ completed_from (raw_threaded fresh) p.content.slots parts.slots
       ∙ ap (λ m. Some (record { slots = p.content.slots; tail = Some (record { hard = false; to = fresh }); move = m })) delta_is
 
   -- ---- the entry comes
 
-  module _ (id : ℕ) (name : Name) (to : ℕ × ℕ) (short : length name ≤ 255) (address : IsAddress to) (within : id ≤ length p.content.slots) (fits : FitsPair t.disk.block_size t.disk.page p.content) where
+  module _ (id : ℕ) (name : Name) (to : ℕ × ℕ) (short : length name ≤ 255) (address : Are32BitPairAddresses to) (within : id ≤ length p.content.slots) (fits : IsContentFittingPair t.disk.block_size t.disk.page p.content) where
     abbrev pub named_now : Content
-    named_now = record { slots = insert p.content.slots id (new_directory name to); tail = p.content.tail; move = turned p.content.move }
+    named_now = record { slots = insert p.content.slots id (new_directory_slot name to); tail = p.content.tail; move = turned p.content.move }
 
     abbrev raw_named : RawContent
-    raw_named = record c.raw { slots = insert c.raw.slots id (slot_with (directory_name_type, name) (directory_struct_type, pair_bytes to)); move = delta }
+    raw_named = record c.raw { slots = insert c.raw.slots id (slot_with (directory_name_type, name) (directory_struct_type, bytes_of_pair_address to)); move = delta }
 
-    names : changed_by c.raw (name_directory_changes t index id name to) ≡ Some raw_named
+    names : content_after_changes c.raw (directory_naming_changes t index id name to) ≡ Some raw_named
     names =
         let l = complete_length c.raw.slots p.content.slots parts.slots in
         let few = fits.count in
-        let created : RawContent = record c.raw { slots = insert c.raw.slots id (slot_with (directory_name_type, name) (directory_struct_type, pair_bytes to)) } in
-        creates_with_struct c.raw id directory_name_type name directory_struct_type (pair_bytes to) (PutMove delta ∷ []) raw_named (omega arith) (omega arith) (directory_name name short) (branch_part to)
+        let created : RawContent = record c.raw { slots = insert c.raw.slots id (slot_with (directory_name_type, name) (directory_struct_type, bytes_of_pair_address to)) } in
+        creates_with_struct c.raw id directory_name_type name directory_struct_type (bytes_of_pair_address to) (PutMove delta ∷ []) raw_named (omega arith) (omega arith) (directory_name name short) (branch_part to)
         (does_first (PutMove delta) [] created raw_named raw_named (puts_move created delta delta_state) refl)
 
-    raw_made : made_at t.disk (pair_in t index).at (name_directory_changes t index id name to) ≡ Some raw_named
-    raw_made = ap (λ o. option_and_then (λ (r : RawContent). changed_by r (name_directory_changes t index id name to)) o) c.is ∙ names
+    raw_made : pair_content_after_changes t.disk (kept_pair_at_index t index).at (directory_naming_changes t index id name to) ≡ Some raw_named
+    raw_made = ap (λ o. option_and_then (λ (r : RawContent). content_after_changes r (directory_naming_changes t index id name to)) o) c.is ∙ names
 
-    slot_is : complete (slot_with (directory_name_type, name) (directory_struct_type, pair_bytes to)) ≡ Some (new_directory name to)
-    slot_is = ap (λ (a : ℕ × ℕ). Some (new_directory name a)) (pair_at-pair_bytes to address)
+    slot_is : complete (slot_with (directory_name_type, name) (directory_struct_type, bytes_of_pair_address to)) ≡ Some (new_directory_slot name to)
+    slot_is = ap (λ (a : ℕ × ℕ). Some (new_directory_slot name a)) (pair_address_of_bytes-bytes_of_pair_address to address)
 
-    now_complete : completed raw_named ≡ Some named_now
+    now_complete : content_if_slots_are_complete raw_named ≡ Some named_now
     now_complete =
-        completed_from raw_named (insert p.content.slots id (new_directory name to))
-        (complete_insert c.raw.slots p.content.slots id (slot_with (directory_name_type, name) (directory_struct_type, pair_bytes to)) (new_directory name to) parts.slots slot_is)
-        ∙ ap₂ (λ t m. Some (record { slots = insert p.content.slots id (new_directory name to); tail = t; move = m })) (sym parts.tail) delta_is
+        completed_from raw_named (insert p.content.slots id (new_directory_slot name to))
+        (complete_insert c.raw.slots p.content.slots id (slot_with (directory_name_type, name) (directory_struct_type, bytes_of_pair_address to)) (new_directory_slot name to) parts.slots slot_is)
+        ∙ ap₂ (λ t m. Some (record { slots = insert p.content.slots id (new_directory_slot name to); tail = t; move = m })) (sym parts.tail) delta_is
 
-    pub named_made : made_in_thread t index (name_directory_changes t index id name to) ≡ Some named_now
-    named_made = ap (λ o. option_and_then completed o) raw_made ∙ now_complete
+    pub named_made : complete_content_after_changes t index (directory_naming_changes t index id name to) ≡ Some named_now
+    named_made = ap (λ o. option_and_then content_if_slots_are_complete o) raw_made ∙ now_complete
 
-    pub can_name : index < length t.pairs → slot_size (new_directory name to) ≤ entry_limit t.disk.block_size t.disk.page → CanPut t index (name_directory_changes t index id name to)
+    pub can_name : index < length t.pairs → slot_size (new_directory_slot name to) ≤ entry_charge_limit t.disk.block_size t.disk.page → CanChangeOrSplitPair t index (directory_naming_changes t index id name to)
     can_name below small = record {
       can = record {
         below = below;
         content = named_now;
         made = named_made;
-        next = ap (λ (z : Pair). next_of z.content.tail) (sym here);
+        next = ap (λ (z : Pair). pair_named_by_tail z.content.tail) (sym here);
       };
       raw = raw_named;
       made = raw_made;
-      cut = insert_cut t.disk.block_size t.disk.page raw_named named_now p.content id (new_directory name to)
-          (logged_changed c.raw (name_directory_changes t index id name to) raw_named (logged c.raw c.is) names) now_complete refl small fits;
+      cut = insert_cut t.disk.block_size t.disk.page raw_named named_now p.content id (new_directory_slot name to)
+          (logged_changed c.raw (directory_naming_changes t index id name to) raw_named (logged c.raw c.is) names) now_complete refl small fits;
     }

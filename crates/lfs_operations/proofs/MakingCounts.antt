@@ -3,12 +3,12 @@ use Rattle.std.proofs.Common.{ℕ, ◌≡◌, ◌+◌, List, [], ◌∷◌, ◌+
 use Rattle.std.specs.List.{flat_map}
 use Rattle.std.proofs.lemmas.List.Elements.{recursion_from_All}
 use Rattle.std.proofs.lemmas.List.Concat.{flat_map-append}
-use Rattle.lfs_model.specs.BlockSets.{BlockSets, IsFree, IsInFlight, is_used, is_in_flight}
+use Rattle.lfs_model.specs.BlockSets.{BlockStateList, IsFree, IsInFlight, is_used, is_in_flight}
 use Rattle.lfs_model.specs.BlockSets.BlockState.{Free, InFlight, Used}
 use Rattle.lfs_model.specs.Disk.{Disk}
 use Rattle.lfs_model.specs.Slots.{Slot}
-use Rattle.lfs_model.specs.Thread.{Pair, blocks_of, gstate_of}
-use Rattle.lfs_model.specs.Shown.{all_slots, file_blocks, used_blocks}
+use Rattle.lfs_model.specs.Thread.{Pair, blocks_of_pairs, gstate_of}
+use Rattle.lfs_model.specs.Shown.{all_slots_not_moved, skip_list_blocks_of_struct, used_blocks}
 use Rattle.lfs_model.proofs.BlockSets.{count_by-set, counts_from_none_free, slice_get-set_same, slice_get-set_other}
 use Rattle.lfs_model.proofs.Changes.{SameFiles, slots_files}
 use Rattle.lfs_model.proofs.Counts.{each_left, each_right, count, count_append}
@@ -17,8 +17,8 @@ use Rattle.lfs_model.proofs.Global.{HasNoMove}
 use Rattle.lfs_model.proofs.Sites.{Site, thread_at}
 use Rattle.lfs_model.proofs.Splices.{IsDevice, files_of, slots_in, unmoved_in, count_files}
 use Rattle.lfs_thread.specs.Steps.{map_with_used_pair}
-use Rattle.lfs_operations.specs.Changing.{AreTwoFree, HasTwoFree, map_with_two_in_flight}
-use Rattle.lfs_operations.specs.Making.{HasRoomFor}
+use Rattle.lfs_operations.specs.Changing.{AreTwoFreeBlocks, HasTwoFreeBlocks, map_with_two_blocks_in_flight}
+use Rattle.lfs_operations.specs.Making.{HasSoManyFreeBlocks}
 use Rattle.lfs_operations.proofs.Owning.{elsewhere}
 use Rattle.lfs_operations.proofs.Placing.{blocks_append}
 use Rattle.lfs_operations.proofs.Taking.{two_free, within}
@@ -28,9 +28,9 @@ use Rattle.lfs_operations.proofs.Taking.{two_free, within}
 slots_append : (xs ys : List Pair) → slots_in (xs ++ ys) ≡ slots_in xs ++ slots_in ys
 slots_append xs ys = flat_map-append (λ (p : Pair). p.content.slots) xs ys
 
-count_used : (b : ℕ) (disk : Disk) (ps : List Pair) → HasNoMove (gstate_of ps) → count b (used_blocks disk ps) ≡ count b (blocks_of ps) + count b (files_of disk (slots_in ps))
-count_used b disk ps none = count_append b (blocks_of ps) (flat_map (λ s. file_blocks disk s.struct) (all_slots ps))
-    ∙ ap (λ z. count b (blocks_of ps) + count b (files_of disk z)) (unmoved_in (gstate_of ps) none ps)
+count_used : (b : ℕ) (disk : Disk) (ps : List Pair) → HasNoMove (gstate_of ps) → count b (used_blocks disk ps) ≡ count b (blocks_of_pairs ps) + count b (files_of disk (slots_in ps))
+count_used b disk ps none = count_append b (blocks_of_pairs ps) (flat_map (λ s. skip_list_blocks_of_struct disk s.struct) (all_slots_not_moved ps))
+    ∙ ap (λ z. count b (blocks_of_pairs ps) + count b (files_of disk z)) (unmoved_in (gstate_of ps) none ps)
 
 slots_at : (w : Site) (ps : List Pair) → slots_in (thread_at w ps) ≡ slots_in w.chain ++ (slots_in (w.before ++ w.left) ++ (slots_in ps ++ slots_in (w.right ++ w.after)))
 slots_at w ps = slots_append w.chain ((w.before ++ w.left) ++ (ps ++ (w.right ++ w.after)))
@@ -52,8 +52,8 @@ count_at b disk w ps l mid r e =
     let k = count_files b disk mid r in
     omega arith
 
-pub count_pairs : (b : ℕ) (w : Site) (ps : List Pair) → count b (blocks_of (thread_at w ps))
-    ≡ count b (blocks_of w.chain) + (count b (blocks_of (w.before ++ w.left)) + (count b (blocks_of ps) + count b (blocks_of (w.right ++ w.after))))
+pub count_pairs : (b : ℕ) (w : Site) (ps : List Pair) → count b (blocks_of_pairs (thread_at w ps))
+    ≡ count b (blocks_of_pairs w.chain) + (count b (blocks_of_pairs (w.before ++ w.left)) + (count b (blocks_of_pairs ps) + count b (blocks_of_pairs (w.right ++ w.after))))
 count_pairs b w ps =
     let a = blocks_append w.chain ((w.before ++ w.left) ++ (ps ++ (w.right ++ w.after))) b in
     let c = blocks_append (w.before ++ w.left) (ps ++ (w.right ++ w.after)) b in
@@ -76,7 +76,7 @@ module _ (disk new : Disk) (w : Site) (p q : Pair) (more : List Pair) (l news r 
   all_same : SameFiles disk new (slots_in w.chain ++ (slots_in (w.before ++ w.left) ++ ((l ++ r) ++ slots_in (w.right ++ w.after))))
   all_same = subst (SameFiles disk new)
       (unmoved_in (gstate_of ps) none ps ∙ slots_at w (p ∷ []) ∙ ap (λ z. slots_in w.chain ++ (slots_in (w.before ++ w.left) ++ (z ++ slots_in (w.right ++ w.after)))) was_one)
-      (recursion_from_All (λ (s : Slot). HasSameFile disk new s.struct) (all_slots ps) device.files)
+      (recursion_from_All (λ (s : Slot). HasSameFile disk new s.struct) (all_slots_not_moved ps) device.files)
 
   abbrev F : Slot → Type 0
   F s = HasSameFile disk new s.struct
@@ -84,7 +84,7 @@ module _ (disk new : Disk) (w : Site) (p q : Pair) (more : List Pair) (l news r 
   kept : (ss : List Slot) → SameFiles disk new ss → (b : ℕ) → count b (files_of new ss) ≡ count b (files_of disk ss)
   kept ss h b = ap (count b) (slots_files disk new ss device.geometry h)
 
-  pub used_count_now : (b : ℕ) → count b (used_blocks new (thread_at w (q ∷ more))) ≡ count b (blocks_of more) + count b (used_blocks disk (thread_at w (p ∷ [])))
+  pub used_count_now : (b : ℕ) → count b (used_blocks new (thread_at w (q ∷ more))) ≡ count b (blocks_of_pairs more) + count b (used_blocks disk (thread_at w (p ∷ [])))
   used_count_now b =
       let f1 = slots_in w.chain in
       let f2 = slots_in (w.before ++ w.left) in
@@ -108,17 +108,17 @@ module _ (disk new : Disk) (w : Site) (p q : Pair) (more : List Pair) (l news r 
       let d1 = count_pairs b w (q ∷ more) in
       let d2 = count_pairs b w (p ∷ []) in
       let at = ap (λ (a : ℕ × ℕ). count b (a.0 ∷ a.1 ∷ [])) at in
-      let k = count_append b (q.at.0 ∷ q.at.1 ∷ []) (blocks_of more) in
+      let k = count_append b (q.at.0 ∷ q.at.1 ∷ []) (blocks_of_pairs more) in
       omega arith
 
 -- ---- room
 
 -- two fewer are free
-pub less_room : (n : ℕ) (sets : BlockSets) (fresh : ℕ × ℕ) → AreTwoFree sets fresh → HasRoomFor (2 + n) sets → HasRoomFor n (map_with_used_pair (map_with_two_in_flight sets fresh) fresh)
+pub less_room : (n : ℕ) (sets : BlockStateList) (fresh : ℕ × ℕ) → AreTwoFreeBlocks sets fresh → HasSoManyFreeBlocks (2 + n) sets → HasSoManyFreeBlocks n (map_with_used_pair (map_with_two_blocks_in_flight sets fresh) fresh)
 less_room n sets fresh two room =
-    let one : BlockSets = set sets fresh.0 InFlight in
-    let both : BlockSets = set one fresh.1 InFlight in
-    let first : BlockSets = set both fresh.0 Used in
+    let one : BlockStateList = set sets fresh.0 InFlight in
+    let both : BlockStateList = set one fresh.1 InFlight in
+    let first : BlockStateList = set both fresh.0 Used in
     let f0 = within sets fresh.0 Free two.first in
     let f1 = within sets fresh.1 Free two.second in
     let e0 = length-set sets fresh.0 InFlight in
@@ -139,7 +139,7 @@ less_room n sets fresh two room =
     omega arith
 
 -- where nothing is free of two, there is no room for two
-pub no_room : (sets : BlockSets) → (HasTwoFree sets → ⊥) → HasRoomFor 2 sets → ⊥
+pub no_room : (sets : BlockStateList) → (HasTwoFreeBlocks sets → ⊥) → HasSoManyFreeBlocks 2 sets → ⊥
 no_room sets none room = not_none (λ a free. go a free)
   where
     not_none : ((b : ℕ) → IsFree sets b → ⊥) → ⊥
@@ -147,7 +147,7 @@ no_room sets none room = not_none (λ a free. go a free)
 
     go : (a : ℕ) → IsFree sets a → ⊥
     go a free =
-        let one : BlockSets = set sets a InFlight in
+        let one : BlockStateList = set sets a InFlight in
         let u = count_by-set is_used sets a Free InFlight free in
         let i = count_by-set is_in_flight sets a Free InFlight free in
         let l = length-set sets a InFlight in
@@ -155,7 +155,7 @@ no_room sets none room = not_none (λ a free. go a free)
         absurd (omega arith)
 
 -- what is free then was so before
-pub freed : (sets : BlockSets) (fresh : ℕ × ℕ) → AreTwoFree sets fresh → (b : ℕ) → IsFree (map_with_used_pair (map_with_two_in_flight sets fresh) fresh) b → IsFree sets b
+pub freed : (sets : BlockStateList) (fresh : ℕ × ℕ) → AreTwoFreeBlocks sets fresh → (b : ℕ) → IsFree (map_with_used_pair (map_with_two_blocks_in_flight sets fresh) fresh) b → IsFree sets b
 freed sets fresh two b free = go (nat_eq b fresh.0) (nat_eq b fresh.1) refl refl
   where
     go : (x y : Bool) → nat_eq b fresh.0 ≡ x → nat_eq b fresh.1 ≡ y → IsFree sets b

@@ -1,18 +1,18 @@
 -- A directory of two pairs in front of another one, and a map of six blocks of which four are free.
 use Rattle.std.proofs.Common.{true, false, [], ◌∷◌, Some, refl, arith}
 use Rattle.lfs_model.specs.BlockSets.BlockState.{Free, InFlight, Used}
-use Rattle.lfs_model.specs.Slots.{no_gstate}
+use Rattle.lfs_model.specs.Slots.{zero_gstate}
 use Rattle.lfs_model.specs.Thread.{Pair}
-use Rattle.lfs_operations.specs.Making.{HasRoomFor, IsLastFrom}
+use Rattle.lfs_operations.specs.Making.{HasSoManyFreeBlocks, IsLastPairOfHardTailRun}
 
 abbrev goes_on : Pair
-goes_on = record { at = (0, 1); content = record { slots = []; tail = Some (record { hard = true; to = (2, 3) }); move = no_gstate } }
+goes_on = record { at = (0, 1); content = record { slots = []; tail = Some (record { hard = true; to = (2, 3) }); move = zero_gstate } }
 
 abbrev ends : Pair
-ends = record { at = (2, 3); content = record { slots = []; tail = Some (record { hard = false; to = (4, 5) }); move = no_gstate } }
+ends = record { at = (2, 3); content = record { slots = []; tail = Some (record { hard = false; to = (4, 5) }); move = zero_gstate } }
 
 abbrev behind : Pair
-behind = record { at = (4, 5); content = record { slots = []; tail = Some (record { hard = false; to = (6, 7) }); move = no_gstate } }
+behind = record { at = (4, 5); content = record { slots = []; tail = Some (record { hard = false; to = (6, 7) }); move = zero_gstate } }
 
-room : HasRoomFor 4 (Used ∷ Free ∷ Free ∷ InFlight ∷ Free ∷ Free ∷ [])
+room : HasSoManyFreeBlocks 4 (Used ∷ Free ∷ Free ∷ InFlight ∷ Free ∷ Free ∷ [])
 room = omega arith

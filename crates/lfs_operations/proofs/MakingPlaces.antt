@@ -1,22 +1,22 @@
 -- The pair of a number in a thread, by a site: where it stands, and which blocks change with it.
 use Rattle.std.proofs.Common.{ℕ, suc, ◌≡◌, ◌+◌, ◌<◌, ◌≤◌, Bool, true, false, cond, eqb-true, nat_eq, List, [], ◌∷◌, ◌++◌, length, Some, refl, sym, ap, ap₂, subst, ◌∙◌, arith, append_assoc, length-append, get_or, set, insert}
 use Rattle.std.specs.List.{IsDistinct}
-use Rattle.lfs_model.specs.BlockSets.{AreUsed, IsFree}
+use Rattle.lfs_model.specs.BlockSets.{AreExactlyTheUsedBlocks, IsFree}
 use Rattle.lfs_model.specs.BlockSets.BlockState.{Free}
-use Rattle.lfs_model.specs.Content.{content_at, holder_at}
-use Rattle.lfs_model.specs.Disk.{Disk, block_at, block_count, SameGeometry}
+use Rattle.lfs_model.specs.Content.{content_of_pair_at, current_block_of_pair_at}
+use Rattle.lfs_model.specs.Disk.{Disk, block_bytes_on_disk, block_count, SameGeometry}
 use Rattle.lfs_model.specs.Slots.{Content}
-use Rattle.lfs_model.specs.Thread.{Pair, blocks_of}
-use Rattle.lfs_model.specs.View.{BeginsWithEntry, superblock_entry}
+use Rattle.lfs_model.specs.Thread.{Pair, blocks_of_pairs}
+use Rattle.lfs_model.specs.View.{BeginsWithLogEntry, superblock_name_log_entry}
 use Rattle.lfs_model.specs.Shown.{used_blocks}
 use Rattle.lfs_model.proofs.Counts.{Each, count, once_from_distinct, distinct_from_once}
 use Rattle.lfs_model.proofs.Sites.{Site, thread_at}
 use Rattle.lfs_model.proofs.Unchanged.{HasFirst}
-use Rattle.lfs_pair.specs.Commit.{OutsideKeeps}
-use Rattle.lfs_pair.specs.Split.{OutsideBothKeeps}
+use Rattle.lfs_pair.specs.Commit.{KeepsBlocksOutsidePair}
+use Rattle.lfs_pair.specs.Split.{KeepsBlocksOutsideBothPairs}
 use Rattle.lfs_thread.specs.Kept.{Kept}
-use Rattle.lfs_thread.specs.Steps.{pair_in, no_pair, with_pair, with_two, HasShape, HasOldContent, IsWrittenAs, SlotsHaveFirst}
-use Rattle.lfs_operations.specs.Changing.{AreTwoFree}
+use Rattle.lfs_thread.specs.Steps.{kept_pair_at_index, no_pair, pairs_with_content_at_index, pairs_with_one_replaced_by_two, HasSameGeometry, HasPairOldContentOnDisk, IsPairWrittenOnDisk, SlotsBeginWithSuperblock}
+use Rattle.lfs_operations.specs.Changing.{AreTwoFreeBlocks}
 use Rattle.lfs_operations.proofs.Placing.{IsPlaced, all_apart}
 use Rattle.lfs_operations.proofs.Splicing.{not_used}
 use Rattle.lfs_operations.proofs.Taking.{within}
@@ -48,61 +48,61 @@ module _ (t : Kept) (index : ℕ) (w : Site) (p : Pair) (there : t.pairs ≡ thr
   place_is : index ≡ length ahead
   place_is = place ∙ sym (length-append w.chain (w.before ++ w.left))
 
-  pub pair_is : pair_in t index ≡ p
+  pub pair_is : kept_pair_at_index t index ≡ p
   pair_is = ap₂ (λ (z : List Pair) (i : ℕ). get_or z i no_pair) (there ∙ grouped p []) place_is ∙ get_at ahead p behind no_pair
 
-  pub at_is : (pair_in t index).at ≡ p.at
+  pub at_is : (kept_pair_at_index t index).at ≡ p.at
   at_is = ap (λ (z : Pair). z.at) pair_is
 
   pub below : index < length t.pairs
   below = let e = ap length (there ∙ grouped p []) in let l = length-append ahead (p ∷ behind) in let n = place_is in omega arith
 
   -- the thread with another pair there, or two
-  pub one_now : (c : Content) → with_pair t index c ≡ thread_at w (record { at = p.at; content = c } ∷ [])
+  pub one_now : (c : Content) → pairs_with_content_at_index t index c ≡ thread_at w (record { at = p.at; content = c } ∷ [])
   one_now c =
       let q : Pair = record { at = p.at; content = c } in
       ap (λ (z : Pair). set t.pairs index (record { at = z.at; content = c })) pair_is
       ∙ ap₂ (λ (z : List Pair) (i : ℕ). set z i q) (there ∙ grouped p []) place_is ∙ set_at ahead p behind q ∙ sym (grouped q [])
 
-  pub two_now : (q f : Pair) → with_two t.pairs index q f ≡ thread_at w (q ∷ f ∷ [])
+  pub two_now : (q f : Pair) → pairs_with_one_replaced_by_two t.pairs index q f ≡ thread_at w (q ∷ f ∷ [])
   two_now q f =
       ap₂ (λ (z : List Pair) (i : ℕ). insert (set z i q) (i + 1) f) (there ∙ grouped p []) place_is
       ∙ ap (λ (z : List Pair). insert z (length ahead + 1) f) (set_at ahead p behind q) ∙ insert_at ahead q behind f ∙ sym (grouped q (f ∷ []))
 
   -- ---- on another disk
 
-  pub shape_same : {disk : Disk} → HasShape t.disk disk → SameGeometry t.disk disk
+  pub shape_same : {disk : Disk} → HasSameGeometry t.disk disk → SameGeometry t.disk disk
   shape_same s = record { block_size = s.block_size; page = s.page; order = s.order; count = s.count }
 
-  pub same_two : (disk : Disk) → OutsideKeeps (pair_in t index).at t.disk.blocks disk.blocks → (b : ℕ) → count b (blocks_of (p ∷ [])) ≡ 0 → block_at disk b ≡ block_at t.disk b
-  same_two disk others b none = (subst (λ at. OutsideKeeps at t.disk.blocks disk.blocks) at_is others).others b (all_apart (p.at.0 ∷ p.at.1 ∷ []) b none)
+  pub same_two : (disk : Disk) → KeepsBlocksOutsidePair (kept_pair_at_index t index).at t.disk.blocks disk.blocks → (b : ℕ) → count b (blocks_of_pairs (p ∷ [])) ≡ 0 → block_bytes_on_disk disk b ≡ block_bytes_on_disk t.disk b
+  same_two disk others b none = (subst (λ at. KeepsBlocksOutsidePair at t.disk.blocks disk.blocks) at_is others).others b (all_apart (p.at.0 ∷ p.at.1 ∷ []) b none)
 
-  pub same_four : (disk : Disk) (fresh : ℕ × ℕ) → OutsideBothKeeps (pair_in t index).at fresh t.disk.blocks disk.blocks → (b : ℕ) → count b (fresh.0 ∷ fresh.1 ∷ blocks_of (p ∷ [])) ≡ 0
-      → block_at disk b ≡ block_at t.disk b
-  same_four disk fresh others b none = (subst (λ at. OutsideBothKeeps at fresh t.disk.blocks disk.blocks) at_is others).others b (all_apart (p.at.0 ∷ p.at.1 ∷ fresh.0 ∷ fresh.1 ∷ []) b (omega arith))
+  pub same_four : (disk : Disk) (fresh : ℕ × ℕ) → KeepsBlocksOutsideBothPairs (kept_pair_at_index t index).at fresh t.disk.blocks disk.blocks → (b : ℕ) → count b (fresh.0 ∷ fresh.1 ∷ blocks_of_pairs (p ∷ [])) ≡ 0
+      → block_bytes_on_disk disk b ≡ block_bytes_on_disk t.disk b
+  same_four disk fresh others b none = (subst (λ at. KeepsBlocksOutsideBothPairs at fresh t.disk.blocks disk.blocks) at_is others).others b (all_apart (p.at.0 ∷ p.at.1 ∷ fresh.0 ∷ fresh.1 ∷ []) b (omega arith))
 
-  pub placed_one : (disk : Disk) (c : Content) → (HasFirst p.content.slots → SlotsHaveFirst c.slots) → IsWrittenAs t index c disk → IsPlaced t.disk disk p (record { at = p.at; content = c }) [] []
+  pub placed_one : (disk : Disk) (c : Content) → (HasFirst p.content.slots → SlotsBeginWithSuperblock c.slots) → IsPairWrittenOnDisk t index c disk → IsPlaced t.disk disk p (record { at = p.at; content = c }) [] []
   placed_one disk c first is = record {
     geometry = shape_same is.shape;
     same = same_two disk is.others;
-    contents = (ap (content_at disk) (sym at_is) ∙ is.holds, tt);
-    first = λ h b. subst (λ at. BeginsWithEntry (holder_at disk at) superblock_entry) at_is (is.first (subst (λ at. BeginsWithEntry (holder_at t.disk at) superblock_entry) (sym at_is) b) (first h));
+    contents = (ap (content_of_pair_at disk) (sym at_is) ∙ is.holds, tt);
+    first = λ h b. subst (λ at. BeginsWithLogEntry (current_block_of_pair_at disk at) superblock_name_log_entry) at_is (is.first (subst (λ at. BeginsWithLogEntry (current_block_of_pair_at t.disk at) superblock_name_log_entry) (sym at_is) b) (first h));
   }
 
-  pub placed_still : (disk : Disk) (fresh : ℕ × ℕ) → HasShape t.disk disk → OutsideBothKeeps (pair_in t index).at fresh t.disk.blocks disk.blocks → HasOldContent t index disk → IsPlaced t.disk disk p p [] (fresh.0 ∷ fresh.1 ∷ [])
+  pub placed_still : (disk : Disk) (fresh : ℕ × ℕ) → HasSameGeometry t.disk disk → KeepsBlocksOutsideBothPairs (kept_pair_at_index t index).at fresh t.disk.blocks disk.blocks → HasPairOldContentOnDisk t index disk → IsPlaced t.disk disk p p [] (fresh.0 ∷ fresh.1 ∷ [])
   placed_still disk fresh shape others is = record {
     geometry = shape_same shape;
     same = same_four disk fresh others;
-    contents = (subst (λ (z : Pair). content_at disk z.at ≡ Some z.content) pair_is is.holds, tt);
-    first = λ h b. subst (λ at. BeginsWithEntry (holder_at disk at) superblock_entry) at_is (is.first (subst (λ at. BeginsWithEntry (holder_at t.disk at) superblock_entry) (sym at_is) b));
+    contents = (subst (λ (z : Pair). content_of_pair_at disk z.at ≡ Some z.content) pair_is is.holds, tt);
+    first = λ h b. subst (λ at. BeginsWithLogEntry (current_block_of_pair_at disk at) superblock_name_log_entry) at_is (is.first (subst (λ at. BeginsWithLogEntry (current_block_of_pair_at t.disk at) superblock_name_log_entry) (sym at_is) b));
   }
 
   -- ---- free blocks
 
-  free_apart : AreUsed t.map (used_blocks t.disk t.pairs) → (b : ℕ) → IsFree t.map b → count b (used_blocks t.disk (thread_at w (p ∷ []))) ≡ 0
-  free_apart used b free = not_used t.map (used_blocks t.disk (thread_at w (p ∷ []))) (subst (λ z. AreUsed t.map (used_blocks t.disk z)) there used) b free
+  free_apart : AreExactlyTheUsedBlocks t.map (used_blocks t.disk t.pairs) → (b : ℕ) → IsFree t.map b → count b (used_blocks t.disk (thread_at w (p ∷ []))) ≡ 0
+  free_apart used b free = not_used t.map (used_blocks t.disk (thread_at w (p ∷ []))) (subst (λ z. AreExactlyTheUsedBlocks t.map (used_blocks t.disk z)) there used) b free
 
-  pub fresh_distinct : AreUsed t.map (used_blocks t.disk t.pairs) → IsDistinct nat_eq (used_blocks t.disk t.pairs) → (fresh : ℕ × ℕ) → AreTwoFree t.map fresh
+  pub fresh_distinct : AreExactlyTheUsedBlocks t.map (used_blocks t.disk t.pairs) → IsDistinct nat_eq (used_blocks t.disk t.pairs) → (fresh : ℕ × ℕ) → AreTwoFreeBlocks t.map fresh
       → IsDistinct nat_eq (fresh.0 ∷ fresh.1 ∷ used_blocks t.disk (thread_at w (p ∷ [])))
   fresh_distinct used once fresh two = distinct_from_once (fresh.0 ∷ fresh.1 ∷ used_blocks t.disk (thread_at w (p ∷ []))) (λ b. go b (nat_eq b fresh.0) (nat_eq b fresh.1) refl refl)
     where
@@ -115,5 +115,5 @@ module _ (t : Kept) (index : ℕ) (w : Site) (p : Pair) (there : t.pairs ≡ thr
       go b true false e f = let n = free_apart used b (subst (IsFree t.map) (sym (eqb-true b fresh.0 e)) two.first) in omega arith
       go b false true e f = let n = free_apart used b (subst (IsFree t.map) (sym (eqb-true b fresh.1 f)) two.second) in omega arith
 
-  pub fresh_range : length t.map ≡ block_count t.disk → (fresh : ℕ × ℕ) → AreTwoFree t.map fresh → Each (λ b. b < block_count t.disk) (fresh.0 ∷ fresh.1 ∷ [])
+  pub fresh_range : length t.map ≡ block_count t.disk → (fresh : ℕ × ℕ) → AreTwoFreeBlocks t.map fresh → Each (λ b. b < block_count t.disk) (fresh.0 ∷ fresh.1 ∷ [])
   fresh_range size fresh two = let f = within t.map fresh.0 Free two.first in let g = within t.map fresh.1 Free two.second in (omega arith, (omega arith, tt))

@@ -3,20 +3,20 @@ use Rattle.std.proofs.Common.{ℕ, ◌≡◌, ◌⊎◌, inl, inr, List, Result,
 use Rattle.std.specs.Prelude.{IfErr, is_err}
 use Rattle.lfs_device.specs.declared.error.Error.{Error}
 use Rattle.lfs_device.specs.declared.error.Error.TheVariants.{Io, NoMemory, NoSpace}
-use Rattle.lfs_model.specs.BlockSets.{BlockSets}
+use Rattle.lfs_model.specs.BlockSets.{BlockStateList}
 use Rattle.lfs_model.specs.History.{faults}
-use Rattle.lfs_thread.specs.Kept.{Kept, State}
-use Rattle.lfs_thread.specs.Steps.{HasReportedBeside}
+use Rattle.lfs_thread.specs.Kept.{Kept, ThreadView}
+use Rattle.lfs_thread.specs.Steps.{HasReportedIoOrNoMemoryBesideBlocks}
 use Rattle.lfs_operations.specs.Changing.{Reports, has_failed}
-use Rattle.lfs_operations.specs.Making.{ReportsOfMaking}
+use Rattle.lfs_operations.specs.Making.{ReportsMakingOfDirectory}
 use Rattle.lfs_operations.proofs.Putting.{with_map}
 
 same_err : {A : Type 0} (a b : Error) (r : Result A Error) → r ≡ Err a → r ≡ Err b → a ≡ b
 same_err a b r h k = cc
 
 -- the same answer, passed on
-pub reported_again : {X Y : Type 0} (bs : List ℕ) (old new : Kept) (e : Error) (result : Result X Error) (given : Result Y Error) → result ≡ Err e → given ≡ Err e → HasReportedBeside bs old new result
-    → HasReportedBeside bs old new given
+pub reported_again : {X Y : Type 0} (bs : List ℕ) (old new : Kept) (e : Error) (result : Result X Error) (given : Result Y Error) → result ≡ Err e → given ≡ Err e → HasReportedIoOrNoMemoryBesideBlocks bs old new result
+    → HasReportedIoOrNoMemoryBesideBlocks bs old new given
 reported_again bs old new e result given is same reported = record {
   errors = subst (λ r. IfErr r (λ x. (x ≡ Io) ⊎ (x ≡ NoMemory))) (sym same) (subst (λ r. IfErr r (λ x. (x ≡ Io) ⊎ (x ≡ NoMemory))) is reported.errors);
   fault = λ io. reported.fault (is ∙ ap Err (same_err e Io given same io));
@@ -25,12 +25,12 @@ reported_again bs old new e result given is same reported = record {
 }
 
 -- the first step failed
-pub reports_first : {X : Type 0} (old new : State) (sets : BlockSets) (bs : List ℕ) (result : Result X Error) → new.failed ≡ is_err result → HasReportedBeside bs (with_map old.kept sets) new.kept result
-    → ReportsOfMaking old new result
+pub reports_first : {X : Type 0} (old new : ThreadView) (sets : BlockStateList) (bs : List ℕ) (result : Result X Error) → new.failed ≡ is_err result → HasReportedIoOrNoMemoryBesideBlocks bs (with_map old.kept sets) new.kept result
+    → ReportsMakingOfDirectory old new result
 reports_first old new sets bs result failed reported = record { failed = failed; errors = reported.errors; fault = reported.fault; no_fault = reported.no_fault }
 
 -- the second one tells, and never that there is no space
-pub reports_second : {X : Type 0} (old mid new : State) (result : Result X Error) → faults mid.kept.history ≡ faults old.kept.history → (result ≡ Err NoSpace → ⊥) → Reports mid new result → ReportsOfMaking old new result
+pub reports_second : {X : Type 0} (old mid new : ThreadView) (result : Result X Error) → faults mid.kept.history ≡ faults old.kept.history → (result ≡ Err NoSpace → ⊥) → Reports mid new result → ReportsMakingOfDirectory old new result
 reports_second {X = X} old mid new result same room reported = record {
   failed = reported.failed ∙ failing result room reported.reports.errors;
   errors = narrow result room reported.reports.errors;

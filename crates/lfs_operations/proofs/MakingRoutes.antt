@@ -1,16 +1,16 @@
 -- Where the two steps of a mkdir change a directory: behind its last pair, and in the pair where the name belongs, which may be that one.
 use Rattle.std.proofs.Common.{ℕ, ◌≡◌, ◌⊎◌, inl, inr, ◌+◌, true, cond, List, [], ◌∷◌, ◌++◌, length, drop, refl, sym, ap, subst, ◌∙◌, arith, append_assoc, length-append}
 use Rattle.lfs_model.specs.Disk.{Disk}
-use Rattle.lfs_model.specs.InDirectory.{run_length}
+use Rattle.lfs_model.specs.InDirectory.{hard_tail_joined_pair_count}
 use Rattle.lfs_model.specs.Names.{Name}
 use Rattle.lfs_model.specs.Operations as ops
 use Rattle.lfs_model.specs.Session.{Session}
-use Rattle.lfs_model.specs.Slots.{Slot, no_gstate, same_pair}
-use Rattle.lfs_model.specs.SlotEdits.{new_directory}
-use Rattle.lfs_model.specs.Refusals.{as_path}
-use Rattle.lfs_model.specs.Thread.{Pair, blocks_of, first_at, gstate_of}
+use Rattle.lfs_model.specs.Slots.{Slot, zero_gstate, same_pair}
+use Rattle.lfs_model.specs.SlotEdits.{new_directory_slot}
+use Rattle.lfs_model.specs.Refusals.{path_or_root}
+use Rattle.lfs_model.specs.Thread.{Pair, blocks_of_pairs, first_pair_address, gstate_of}
 use Rattle.lfs_model.specs.Tree.{Path}
-use Rattle.lfs_model.specs.Shown.{PathLeadsTo, entries_in, tree_in}
+use Rattle.lfs_model.specs.Shown.{IsPathToDirectory, entries_by_directory_in_thread, tree_on_disk}
 use Rattle.lfs_model.proofs.Beside.{last_site}
 use Rattle.lfs_model.proofs.Committed.{IsCompleted}
 use Rattle.lfs_model.proofs.Listings.{IsRun}
@@ -21,15 +21,15 @@ use Rattle.lfs_model.proofs.Sites.{SomeIn, Site, among_right, begin_of, dirs_at,
 use Rattle.lfs_model.proofs.StepsTaken as taken
 use Rattle.lfs_model.proofs.Superblocks.{IsChain}
 use Rattle.lfs_thread.specs.Kept.{Kept}
-use Rattle.lfs_operations.specs.Making.{IsLastFrom}
+use Rattle.lfs_operations.specs.Making.{IsLastPairOfHardTailRun}
 use Rattle.lfs_operations.proofs.MakingThreaded.{IsEnd, IsThreaded, IsThreading, fresh_pair, naming_pair}
 use Rattle.lfs_operations.proofs.MkdirAtLast.{mkdir_at_last_completed}
 
 -- ---- the last pair
 
-length_run : (p : Pair) (run after : List Pair) → IsRun (p ∷ run) → run_length (p ∷ (run ++ after)) ≡ length (p ∷ run)
-length_run p [] after h = ap (λ b. cond b (1 + run_length after) 1) h
-length_run p (q ∷ run) after h = ap (λ b. cond b (1 + run_length (q ∷ (run ++ after))) 1) h.0 ∙ (let e = length_run q run after h.1 in omega (arith, e))
+length_run : (p : Pair) (run after : List Pair) → IsRun (p ∷ run) → hard_tail_joined_pair_count (p ∷ (run ++ after)) ≡ length (p ∷ run)
+length_run p [] after h = ap (λ b. cond b (1 + hard_tail_joined_pair_count after) 1) h
+length_run p (q ∷ run) after h = ap (λ b. cond b (1 + hard_tail_joined_pair_count (q ∷ (run ++ after))) 1) h.0 ∙ (let e = length_run q run after h.1 in omega (arith, e))
 
 drop_behind : (xs ys : List Pair) (n : ℕ) → n ≡ length xs → drop n (xs ++ ys) ≡ ys
 drop_behind [] ys n e = ap (λ k. drop k ys) e
@@ -40,12 +40,12 @@ run_right [] p right h = h
 run_right (x ∷ []) p right h = h.1
 run_right (x ∷ y ∷ left) p right h = run_right (y ∷ left) p right h.1
 
-pub last_number : (t : Kept) (index last : ℕ) (w : Site) (p : Pair) → t.pairs ≡ thread_at w (p ∷ []) → index ≡ length w.chain + length (w.before ++ w.left) → IsSite w (p ∷ []) → IsLastFrom t.pairs index last
+pub last_number : (t : Kept) (index last : ℕ) (w : Site) (p : Pair) → t.pairs ≡ thread_at w (p ∷ []) → index ≡ length w.chain + length (w.before ++ w.left) → IsSite w (p ∷ []) → IsLastPairOfHardTailRun t.pairs index last
     → last ≡ index + length w.right
 last_number t index last w p there place site is =
     let whole : t.pairs ≡ (w.chain ++ (w.before ++ w.left)) ++ (p ∷ (w.right ++ w.after)) = there ∙ sym (append_assoc w.chain (w.before ++ w.left) (p ∷ (w.right ++ w.after))) in
     let at : index ≡ length (w.chain ++ (w.before ++ w.left)) = place ∙ sym (length-append w.chain (w.before ++ w.left)) in
-    let run = ap (λ z. run_length (drop index z)) whole ∙ ap run_length (drop_behind (w.chain ++ (w.before ++ w.left)) (p ∷ (w.right ++ w.after)) index at) ∙ length_run p w.right w.after (run_right w.left p w.right site.run) in
+    let run = ap (λ z. hard_tail_joined_pair_count (drop index z)) whole ∙ ap hard_tail_joined_pair_count (drop_behind (w.chain ++ (w.before ++ w.left)) (p ∷ (w.right ++ w.after)) index at) ∙ length_run p w.right w.after (run_right w.left p w.right site.run) in
     let e = is.is in
     omega arith
 
@@ -73,14 +73,14 @@ site_behind w right f = record { chain = w.chain; before = w.before; left = w.le
 abbrev pub Completes : Disk → Site → List Pair → Pair → ℕ × ℕ → List Pair → Pair → List Slot → List Slot → Path → Name → Type 0
 Completes disk w left x fresh right p2 l r P name =
     (middle new : Disk) (q : Pair) (more : List Pair) → IsThreading disk middle w.chain w.before left w.after x fresh → IsThreaded disk w.chain w.before left w.after x fresh
-    → IsStep middle new (site_behind w right (fresh_pair x fresh)) p2 [] q more (blocks_of more) [] l [] (new_directory name fresh ∷ []) r
-    → taken.IsPut middle (site_behind w right (fresh_pair x fresh)) p2 q more l [] (new_directory name fresh ∷ []) r
-    → (a : ℕ × ℕ) → PathLeadsTo (thread_at (last_site w.chain w.before left w.after) (x ∷ [])) P a → same_pair (begin_of (last_site w.chain w.before left w.after) (x ∷ [])) a ≡ true
-    → IsPlace middle.order (entries_in (thread_at (site_behind w right (fresh_pair x fresh)) (p2 ∷ [])) a) (place_at (site_behind w right (fresh_pair x fresh)) l) name
+    → IsStep middle new (site_behind w right (fresh_pair x fresh)) p2 [] q more (blocks_of_pairs more) [] l [] (new_directory_slot name fresh ∷ []) r
+    → taken.IsPut middle (site_behind w right (fresh_pair x fresh)) p2 q more l [] (new_directory_slot name fresh ∷ []) r
+    → (a : ℕ × ℕ) → IsPathToDirectory (thread_at (last_site w.chain w.before left w.after) (x ∷ [])) P a → same_pair (begin_of (last_site w.chain w.before left w.after) (x ∷ [])) a ≡ true
+    → IsPlace middle.order (entries_by_directory_in_thread (thread_at (site_behind w right (fresh_pair x fresh)) (p2 ∷ [])) a) (place_at (site_behind w right (fresh_pair x fresh)) l) name
     → (gstate_of (thread_at (last_site w.chain w.before left w.after) (naming_pair x fresh ∷ ([] ++ fresh_pair x fresh ∷ [])))).sync ≡ true
-    → gstate_of (thread_at (last_site w.chain w.before left w.after) (x ∷ [])) ≡ no_gstate
-    → gstate_of (thread_at (site_behind w right (fresh_pair x fresh)) (q ∷ more)) ≡ no_gstate
-    → (s : Session) (given : List ℕ) → s.tree ≡ tree_in disk (thread_at (last_site w.chain w.before left w.after) (x ∷ [])) → as_path given ≡ P ++ name ∷ []
+    → gstate_of (thread_at (last_site w.chain w.before left w.after) (x ∷ [])) ≡ zero_gstate
+    → gstate_of (thread_at (site_behind w right (fresh_pair x fresh)) (q ∷ more)) ≡ zero_gstate
+    → (s : Session) (given : List ℕ) → s.tree ≡ tree_on_disk disk (thread_at (last_site w.chain w.before left w.after) (x ∷ [])) → path_or_root given ≡ P ++ name ∷ []
     → IsCompleted disk (thread_at (last_site w.chain w.before left w.after) (x ∷ [])) s (ops.Mkdir given) new (thread_at (site_behind w right (fresh_pair x fresh)) (q ∷ more))
 
 -- the pair is the last one itself
@@ -109,7 +109,7 @@ pub record IsRoute (t : Kept) (last : ℕ) (w : Site) (p : Pair) (fresh : ℕ ×
   pub which : IsOne p x p2 fresh ⊎ IsAhead p x p2 right fresh
   pub completed : Completes t.disk w left x fresh right p2 l r P name
 
-module _ (t : Kept) (index last : ℕ) (w : Site) (p : Pair) (there : t.pairs ≡ thread_at w (p ∷ [])) (place : index ≡ length w.chain + length (w.before ++ w.left)) (site : IsSite w (p ∷ [])) (is_last : IsLastFrom t.pairs index last)
+module _ (t : Kept) (index last : ℕ) (w : Site) (p : Pair) (there : t.pairs ≡ thread_at w (p ∷ [])) (place : index ≡ length w.chain + length (w.before ++ w.left)) (site : IsSite w (p ∷ [])) (is_last : IsLastPairOfHardTailRun t.pairs index last)
     (fresh : ℕ × ℕ) (l r : List Slot) (P : Path) (name : Name) where
   number : last ≡ index + length w.right
   number = last_number t index last w p there place site is_last
@@ -138,14 +138,14 @@ module _ (t : Kept) (index last : ℕ) (w : Site) (p : Pair) (there : t.pairs �
     begins = go w.left;
     which = inl (record { same = refl; names = refl });
     completed = λ middle new q more step put step2 put2 a leads same place sync settled still s given tree is.
-        mkdir_at_last_completed t.disk middle new w.chain w.before w.left w.after p (naming_pair p fresh) (fresh_pair p fresh) (fresh.0 ∷ fresh.1 ∷ []) p.content.slots [] q more (blocks_of more) l r P name
+        mkdir_at_last_completed t.disk middle new w.chain w.before w.left w.after p (naming_pair p fresh) (fresh_pair p fresh) (fresh.0 ∷ fresh.1 ∷ []) p.content.slots [] q more (blocks_of_pairs more) l r P name
         step put step2 put2 a leads same place sync settled still s given tree is;
   }
     where
       run_there : IsRun (w.left ++ p ∷ [])
       run_there = subst (λ (z : List Pair). IsRun (w.left ++ p ∷ z)) e site.run
 
-      go : (xs : List Pair) → first_at (xs ++ naming_pair p fresh ∷ []) ≡ first_at (xs ++ p ∷ [])
+      go : (xs : List Pair) → first_pair_address (xs ++ naming_pair p fresh ∷ []) ≡ first_pair_address (xs ++ p ∷ [])
       go [] = refl
       go (z ∷ xs) = refl
 
@@ -176,7 +176,7 @@ module _ (t : Kept) (index last : ℕ) (w : Site) (p : Pair) (there : t.pairs �
     begins = refl;
     which = inr (record { stays = refl; names = among_right (λ z. z ≡ y) k.mid (y ∷ []) (inl refl) });
     completed = λ middle new q more step put step2 put2 a leads same place sync settled still s given tree is.
-        mkdir_in_two_completed t.disk middle new w.chain w.before w.left k.mid w.after k.x y f (fresh.0 ∷ fresh.1 ∷ []) k.x.content.slots [] p q more (blocks_of more) l r P name
+        mkdir_in_two_completed t.disk middle new w.chain w.before w.left k.mid w.after k.x y f (fresh.0 ∷ fresh.1 ∷ []) k.x.content.slots [] p q more (blocks_of_pairs more) l r P name
         step put step2 put2 a leads same place sync settled still s given tree is;
   }
     where
@@ -197,7 +197,7 @@ module _ (t : Kept) (index last : ℕ) (w : Site) (p : Pair) (there : t.pairs �
           (run_changed (w.left ++ p ∷ k.mid) k.x [] (naming_pair k.x fresh) [] (λ h. refl)
           (subst IsRun (ap (λ (z : List Pair). w.left ++ p ∷ z) k.is ∙ sym (append_assoc w.left (p ∷ k.mid) (k.x ∷ []))) site.run))
 
-      go : (xs : List Pair) → first_at ((xs ++ p ∷ k.mid) ++ k.x ∷ []) ≡ first_at (xs ++ p ∷ [])
+      go : (xs : List Pair) → first_pair_address ((xs ++ p ∷ k.mid) ++ k.x ∷ []) ≡ first_pair_address (xs ++ p ∷ [])
       go [] = refl
       go (z ∷ xs) = refl
 

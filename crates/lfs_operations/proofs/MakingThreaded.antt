@@ -4,17 +4,17 @@ use Rattle.std.specs.Prelude.{All}
 use Rattle.std.specs.List.{IsDistinct}
 use Rattle.std.proofs.lemmas.Option.{same_Some}
 use Rattle.std.proofs.lemmas.List.Elements.{All-from_recursion, recursion_from_All}
-use Rattle.lfs_model.specs.Blocks.{Blocks, SameButThese}
-use Rattle.lfs_model.specs.BlockSets.{AreUsed}
-use Rattle.lfs_model.specs.Content.{content_at, holder, holder_at}
-use Rattle.lfs_model.specs.Disk.{Disk, block_at, block_count}
-use Rattle.lfs_model.specs.PowerLoss.{IsLeftByStop, with_blocks}
-use Rattle.lfs_model.specs.Slots.{Content, FitsPair, Gstate, no_gstate, gstate_xor, same_pair}
-use Rattle.lfs_model.specs.Thread.{Pair, blocks_of, gstate_of, is_hard}
+use Rattle.lfs_model.specs.Blocks.{Blocks, AreBlocksEqualExceptThese}
+use Rattle.lfs_model.specs.BlockSets.{AreExactlyTheUsedBlocks}
+use Rattle.lfs_model.specs.Content.{content_of_pair_at, current_block_of_two, current_block_of_pair_at}
+use Rattle.lfs_model.specs.Disk.{Disk, block_bytes_on_disk, block_count}
+use Rattle.lfs_model.specs.PowerLoss.{ShowsTreeBeforeOrAfter, with_blocks}
+use Rattle.lfs_model.specs.Slots.{Content, IsContentFittingPair, Gstate, zero_gstate, gstate_xor, same_pair}
+use Rattle.lfs_model.specs.Thread.{Pair, blocks_of_pairs, gstate_of, is_hard_tail}
 use Rattle.lfs_model.specs.Tree.{Path, Tree}
-use Rattle.lfs_model.specs.View.{BeginsWithEntry, superblock_entry, IsAccepted}
-use Rattle.lfs_model.specs.Profile.{HaveSlots, IsWritable}
-use Rattle.lfs_model.specs.Shown.{PathLeadsTo, all_slots, entries_in, file_blocks, tree_in, used_blocks}
+use Rattle.lfs_model.specs.View.{BeginsWithLogEntry, superblock_name_log_entry, IsAcceptedImage}
+use Rattle.lfs_model.specs.Profile.{HaveSlotsAfterHardTail, IsWritable}
+use Rattle.lfs_model.specs.Shown.{IsPathToDirectory, all_slots_not_moved, entries_by_directory_in_thread, skip_list_blocks_of_struct, tree_on_disk, used_blocks}
 use Rattle.lfs_model.proofs.Became.{fits_same}
 use Rattle.lfs_model.proofs.Beside.{IsStepBeside, beside_shape, last_site, other_entries, own_entries, threaded}
 use Rattle.lfs_model.proofs.Committed.{no_move_from}
@@ -27,13 +27,13 @@ use Rattle.lfs_model.proofs.Sites.{Site, begin_of, dirs_at, thread_at, IsSite}
 use Rattle.lfs_model.proofs.StepsTaken.{IsPutBeside, IsOnlyStep, beside_taken, taken_before, within_at}
 use Rattle.lfs_model.proofs.Superblocks.{pairs_behind}
 use Rattle.lfs_model.proofs.Writable.{ends_in_hard_tail}
-use Rattle.lfs_pair.specs.Split.{OutsideBothKeeps}
-use Rattle.lfs_thread.specs.Device.{four_of, two_of}
+use Rattle.lfs_pair.specs.Split.{KeepsBlocksOutsideBothPairs}
+use Rattle.lfs_thread.specs.Device.{blocks_of_two_addresses, blocks_of_address}
 use Rattle.lfs_thread.specs.Kept.{Kept}
-use Rattle.lfs_thread.specs.Steps.{HasShape, HasOldContent, IsThreadedIn, IsJoinedOn, IsLeftByJoin, KeepsSuperblockFirst, Writes, joined_pair, made_in_thread, pair_in, map_with_used_pair}
-use Rattle.lfs_operations.specs.Changing.{AreTwoFree, map_with_two_in_flight}
-use Rattle.lfs_operations.specs.Making.{thread_in_changes}
-use Rattle.lfs_operations.specs.Ready.{IsReady}
+use Rattle.lfs_thread.specs.Steps.{HasSameGeometry, HasPairOldContentOnDisk, IsFreshPairThreadedIn, IsFreshPairThreadedInOnDisk, LeavesPairOldOrThreadedIn, KeepsSuperblockFirst, ThreadChangesOnlyTheseBlocks, fresh_pair_with_tail, complete_content_after_changes, kept_pair_at_index, map_with_used_pair}
+use Rattle.lfs_operations.specs.Changing.{AreTwoFreeBlocks, map_with_two_blocks_in_flight}
+use Rattle.lfs_operations.specs.Making.{changes_threading_new_pair}
+use Rattle.lfs_operations.specs.Ready.{IsImageReadyForChange}
 use Rattle.lfs_operations.proofs.MakingCounts.{count_pairs, used_count_now}
 use Rattle.lfs_operations.proofs.MakingPlaces.{at_is, fresh_distinct, fresh_range, pair_is, placed_still, same_four, shape_same, two_now}
 use Rattle.lfs_operations.proofs.Owning.{length_now, used_more}
@@ -51,7 +51,7 @@ abbrev pub naming_pair : Pair → ℕ × ℕ → Pair
 naming_pair x fresh = record { at = x.at; content = record { slots = x.content.slots; tail = Some (record { hard = false; to = fresh }); move = turned x.content.move } }
 
 abbrev pub fresh_pair : Pair → ℕ × ℕ → Pair
-fresh_pair x fresh = record { at = fresh; content = record { slots = []; tail = x.content.tail; move = no_gstate } }
+fresh_pair x fresh = record { at = fresh; content = record { slots = []; tail = x.content.tail; move = zero_gstate } }
 
 abbrev pub IsThreading : Disk → Disk → List Pair → List Pair → List Pair → List Pair → Pair → ℕ × ℕ → Type 0
 IsThreading disk new chain before left after x fresh =
@@ -64,21 +64,21 @@ IsThreaded disk chain before left after x fresh = IsPutBeside disk (last_site ch
 pub record HasThreaded (t : Kept) (chain before left after : List Pair) (x : Pair) (fresh : ℕ × ℕ) (new : Kept) : Type 0 where
   pub step : IsThreading t.disk new.disk chain before left after x fresh
   pub pairs : new.pairs ≡ thread_at (last_site chain before left after) (naming_pair x fresh ∷ fresh_pair x fresh ∷ [])
-  pub used : AreUsed new.map (used_blocks new.disk new.pairs)
-  pub map : new.map ≡ map_with_used_pair (map_with_two_in_flight t.map fresh) fresh
+  pub used : AreExactlyTheUsedBlocks new.map (used_blocks new.disk new.pairs)
+  pub map : new.map ≡ map_with_used_pair (map_with_two_blocks_in_flight t.map fresh) fresh
   pub size : length new.map ≡ block_count new.disk
 
-have_at : (b : Bool) (xs : List Pair) (x : Pair) (ys : List Pair) → HaveSlots b (xs ++ x ∷ ys) → ends_in_hard_tail b xs ≡ true → x.content.slots ≢ []
+have_at : (b : Bool) (xs : List Pair) (x : Pair) (ys : List Pair) → HaveSlotsAfterHardTail b (xs ++ x ∷ ys) → ends_in_hard_tail b xs ≡ true → x.content.slots ≢ []
 have_at b [] x ys h f = h.0 f
-have_at b (z ∷ xs) x ys h f = have_at (is_hard z.content.tail) xs x ys h.1 f
+have_at b (z ∷ xs) x ys h f = have_at (is_hard_tail z.content.tail) xs x ys h.1 f
 
-module _ (t : Kept) (ready : IsReady t) (last : ℕ) (chain before left after : List Pair) (x : Pair) (e : IsEnd t last chain before left after x) (fresh : ℕ × ℕ) (two : AreTwoFree t.map fresh)
-    (made : made_in_thread t last (thread_in_changes t last fresh) ≡ Some (naming_pair x fresh).content) where
+module _ (t : Kept) (ready : IsImageReadyForChange t) (last : ℕ) (chain before left after : List Pair) (x : Pair) (e : IsEnd t last chain before left after x) (fresh : ℕ × ℕ) (two : AreTwoFreeBlocks t.map fresh)
+    (made : complete_content_after_changes t last (changes_threading_new_pair t last fresh) ≡ Some (naming_pair x fresh).content) where
   abbrev w : Site
   w = last_site chain before left after
 
   abbrev held : Kept
-  held = with_map t (map_with_two_in_flight t.map fresh)
+  held = with_map t (map_with_two_blocks_in_flight t.map fresh)
 
   abbrev y : Pair
   y = naming_pair x fresh
@@ -89,22 +89,22 @@ module _ (t : Kept) (ready : IsReady t) (last : ℕ) (chain before left after : 
   abbrev ps : List Pair
   ps = thread_at w (x ∷ [])
 
-  behind_is : joined_pair t last fresh ≡ f
+  behind_is : fresh_pair_with_tail t last fresh ≡ f
   behind_is = ap (λ (z : Pair). fresh_pair z fresh) (pair_is t last w x e.there e.place)
 
-  accepted_there : IsAccepted t.disk (thread_at w (x ∷ []))
-  accepted_there = subst (IsAccepted t.disk) e.there ready.accepted
+  accepted_there : IsAcceptedImage t.disk (thread_at w (x ∷ []))
+  accepted_there = subst (IsAcceptedImage t.disk) e.there ready.accepted
 
   writable_there : IsWritable t.disk (thread_at w (x ∷ []))
   writable_there = subst (IsWritable t.disk) e.there ready.writable
 
-  pub settled_there : gstate_of (thread_at (last_site chain before left after) (x ∷ [])) ≡ no_gstate
+  pub settled_there : gstate_of (thread_at (last_site chain before left after) (x ∷ [])) ≡ zero_gstate
   settled_there = ap gstate_of (sym e.there) ∙ ready.settled
 
-  held_there : content_at t.disk x.at ≡ Some x.content
-  held_there = (each_right (λ (z : Pair). content_at t.disk z.at ≡ Some z.content) (before ++ left) (x ∷ after)
-      (each_right (λ (z : Pair). content_at t.disk z.at ≡ Some z.content) chain ((before ++ left) ++ (x ∷ after))
-      (recursion_from_All (λ (z : Pair). content_at t.disk z.at ≡ Some z.content) (thread_at w (x ∷ [])) accepted_there.thread.contents))).0
+  held_there : content_of_pair_at t.disk x.at ≡ Some x.content
+  held_there = (each_right (λ (z : Pair). content_of_pair_at t.disk z.at ≡ Some z.content) (before ++ left) (x ∷ after)
+      (each_right (λ (z : Pair). content_of_pair_at t.disk z.at ≡ Some z.content) chain ((before ++ left) ++ (x ∷ after))
+      (recursion_from_All (λ (z : Pair). content_of_pair_at t.disk z.at ≡ Some z.content) (thread_at w (x ∷ [])) accepted_there.thread.contents))).0
 
   distinct : IsDistinct nat_eq (fresh.0 ∷ fresh.1 ∷ used_blocks t.disk (thread_at w (x ∷ [])))
   distinct = fresh_distinct t last w x e.there e.place ready.used ready.accepted.owned_once fresh two
@@ -131,7 +131,7 @@ module _ (t : Kept) (ready : IsReady t) (last : ℕ) (chain before left after : 
     cut = fits_same t.disk x (record { at = x.at; content = record { slots = x.content.slots ++ []; tail = x.content.tail; move = x.content.move } }) (append-nil x.content.slots) (within_at t.disk w x [] writable_there).pair;
     fit = tt;
     filled = λ hard none. have_at false (before ++ left) x after
-        (subst (HaveSlots false) (pairs_behind chain (dirs_at w (x ∷ [])) e.site.chain) writable_there.no_empty_pair) hard (sym (append-nil x.content.slots) ∙ none);
+        (subst (HaveSlotsAfterHardTail false) (pairs_behind chain (dirs_at w (x ∷ [])) e.site.chain) writable_there.no_empty_pair) hard (sym (append-nil x.content.slots) ∙ none);
     run = refl;
     empty = refl;
     tail = refl;
@@ -154,46 +154,46 @@ module _ (t : Kept) (ready : IsReady t) (last : ℕ) (chain before left after : 
     splice = record { front = λ k. refl; entries = tt; lists = tt; blocks = λ b. omega arith };
   }
 
-  placed_from : (disk : Disk) → HasShape t.disk disk → OutsideBothKeeps (pair_in t last).at fresh t.disk.blocks disk.blocks → content_at disk x.at ≡ Some y.content → content_at disk fresh ≡ Some f.content
-      → KeepsSuperblockFirst t.disk (pair_in t last).at y.content disk → IsPlaced t.disk disk x y (f ∷ []) (fresh.0 ∷ fresh.1 ∷ [])
+  placed_from : (disk : Disk) → HasSameGeometry t.disk disk → KeepsBlocksOutsideBothPairs (kept_pair_at_index t last).at fresh t.disk.blocks disk.blocks → content_of_pair_at disk x.at ≡ Some y.content → content_of_pair_at disk fresh ≡ Some f.content
+      → KeepsSuperblockFirst t.disk (kept_pair_at_index t last).at y.content disk → IsPlaced t.disk disk x y (f ∷ []) (fresh.0 ∷ fresh.1 ∷ [])
   placed_from disk shape others here behind first = record {
     geometry = shape_same t last w x e.there e.place shape;
     same = same_four t last w x e.there e.place disk fresh others;
     contents = (here, (behind, tt));
-    first = λ h b. subst (λ at. BeginsWithEntry (holder_at disk at) superblock_entry) (at_is t last w x e.there e.place)
-        (first (subst (λ at. BeginsWithEntry (holder_at t.disk at) superblock_entry) (sym (at_is t last w x e.there e.place)) b) (h.kind, h.name));
+    first = λ h b. subst (λ at. BeginsWithLogEntry (current_block_of_pair_at disk at) superblock_name_log_entry) (at_is t last w x e.there e.place)
+        (first (subst (λ at. BeginsWithLogEntry (current_block_of_pair_at t.disk at) superblock_name_log_entry) (sym (at_is t last w x e.there e.place)) b) (h.kind, h.name));
   }
 
-  made_same : (c : Content) → made_in_thread t last (thread_in_changes t last fresh) ≡ Some c → c ≡ y.content
+  made_same : (c : Content) → complete_content_after_changes t last (changes_threading_new_pair t last fresh) ≡ Some c → c ≡ y.content
   made_same c m = same_Some c y.content (sym m ∙ made)
 
   -- what is made takes no more than what the pair held
-  pub fits_now : (c : Content) → made_in_thread t last (thread_in_changes t last fresh) ≡ Some c → FitsPair t.disk.block_size t.disk.page c
-  fits_now c m = subst (FitsPair t.disk.block_size t.disk.page) (sym (made_same c m)) (fits_same t.disk x y refl (within_at t.disk w x [] writable_there).pair)
+  pub fits_now : (c : Content) → complete_content_after_changes t last (changes_threading_new_pair t last fresh) ≡ Some c → IsContentFittingPair t.disk.block_size t.disk.page c
+  fits_now c m = subst (IsContentFittingPair t.disk.block_size t.disk.page) (sym (made_same c m)) (fits_same t.disk x y refl (within_at t.disk w x [] writable_there).pair)
 
   -- only the blocks of the fresh pair may differ: the image shows the tree that it showed
-  pub left_beside : (blocks : Blocks) (tree : Tree) → SameButThese (two_of fresh) t.disk.blocks blocks → IsLeftByStop (with_blocks blocks t.disk) (tree_in t.disk t.pairs) tree
+  pub left_beside : (blocks : Blocks) (tree : Tree) → AreBlocksEqualExceptThese (blocks_of_address fresh) t.disk.blocks blocks → ShowsTreeBeforeOrAfter (with_blocks blocks t.disk) (tree_on_disk t.disk t.pairs) tree
   left_beside blocks tree others =
       let n = nothing_came t.disk (with_blocks blocks t.disk) w x e.site accepted_there (device t.disk (with_blocks blocks t.disk) w x x [] (fresh.0 ∷ fresh.1 ∷ []) accepted_there distinct placed) in
       record {
         pairs = thread_at w (x ∷ []);
         accepted = n.accepted;
         writable = record { pairs = writable_there.pairs; slots = writable_there.slots; no_empty_pair = writable_there.no_empty_pair };
-        tree = inl (n.shows ∙ ap (tree_in t.disk) (sym e.there));
+        tree = inl (n.shows ∙ ap (tree_on_disk t.disk) (sym e.there));
       }
     where
       -- a block that is used is the same
-      same_used : (b : ℕ) → 1 ≤ count b (blocks_of (x ∷ [])) → block_at (with_blocks blocks t.disk) b ≡ block_at t.disk b
+      same_used : (b : ℕ) → 1 ≤ count b (blocks_of_pairs (x ∷ [])) → block_bytes_on_disk (with_blocks blocks t.disk) b ≡ block_bytes_on_disk t.disk b
       same_used b some = others.others b (all_apart (fresh.0 ∷ fresh.1 ∷ []) b (
           let n = once_from_distinct (fresh.0 ∷ fresh.1 ∷ used_blocks t.disk (thread_at w (x ∷ []))) distinct b in
-          let k = count_append b (blocks_of (thread_at w (x ∷ []))) (flat_map (λ s. file_blocks t.disk s.struct) (all_slots (thread_at w (x ∷ [])))) in
+          let k = count_append b (blocks_of_pairs (thread_at w (x ∷ []))) (flat_map (λ s. skip_list_blocks_of_struct t.disk s.struct) (all_slots_not_moved (thread_at w (x ∷ [])))) in
           let i = count_pairs b w (x ∷ []) in
           omega arith))
 
-      first_same : block_at (with_blocks blocks t.disk) x.at.0 ≡ block_at t.disk x.at.0
+      first_same : block_bytes_on_disk (with_blocks blocks t.disk) x.at.0 ≡ block_bytes_on_disk t.disk x.at.0
       first_same = same_used x.at.0 (let h = count_here x.at.0 (x.at.1 ∷ []) in omega arith)
 
-      second_same : block_at (with_blocks blocks t.disk) x.at.1 ≡ block_at t.disk x.at.1
+      second_same : block_bytes_on_disk (with_blocks blocks t.disk) x.at.1 ≡ block_bytes_on_disk t.disk x.at.1
       second_same = same_used x.at.1 (let h = count_here x.at.1 [] in omega arith)
 
       placed : IsPlaced t.disk (with_blocks blocks t.disk) x x [] (fresh.0 ∷ fresh.1 ∷ [])
@@ -201,41 +201,41 @@ module _ (t : Kept) (ready : IsReady t) (last : ℕ) (chain before left after : 
         geometry = record { block_size = refl; page = refl; order = refl; count = others.count };
         same = λ b none. others.others b (all_apart (fresh.0 ∷ fresh.1 ∷ []) b (omega arith));
         contents = (content_same t.disk (with_blocks blocks t.disk) x.at first_same second_same ∙ held_there, tt);
-        first = λ h b. subst (λ o. BeginsWithEntry o superblock_entry) (sym (ap₂ holder first_same second_same)) b;
+        first = λ h b. subst (λ o. BeginsWithLogEntry o superblock_name_log_entry) (sym (ap₂ current_block_of_two first_same second_same)) b;
       }
 
   -- ---- it was done
 
-  pub has_threaded : (new : Kept) → IsThreadedIn (with_map t (map_with_two_in_flight t.map fresh)) last fresh (thread_in_changes t last fresh) new → Writes (four_of (pair_in t last).at fresh) (with_map t (map_with_two_in_flight t.map fresh)) new
+  pub has_threaded : (new : Kept) → IsFreshPairThreadedIn (with_map t (map_with_two_blocks_in_flight t.map fresh)) last fresh (changes_threading_new_pair t last fresh) new → ThreadChangesOnlyTheseBlocks (blocks_of_two_addresses (kept_pair_at_index t last).at fresh) (with_map t (map_with_two_blocks_in_flight t.map fresh)) new
       → HasThreaded t chain before left after x fresh new
   has_threaded new is writes =
       let same = made_same is.content is.made in
       let pairs : new.pairs ≡ thread_at w (y ∷ f ∷ [])
-      = is.pairs ∙ two_now t last w x e.there e.place (record { at = (pair_in t last).at; content = is.content }) (joined_pair t last fresh)
-      ∙ ap (λ (g : Pair). thread_at w (record { at = (pair_in t last).at; content = is.content } ∷ g ∷ [])) behind_is
-      ∙ ap (λ (c : Content). thread_at w (record { at = (pair_in t last).at; content = c } ∷ f ∷ [])) same
+      = is.pairs ∙ two_now t last w x e.there e.place (record { at = (kept_pair_at_index t last).at; content = is.content }) (fresh_pair_with_tail t last fresh)
+      ∙ ap (λ (g : Pair). thread_at w (record { at = (kept_pair_at_index t last).at; content = is.content } ∷ g ∷ [])) behind_is
+      ∙ ap (λ (c : Content). thread_at w (record { at = (kept_pair_at_index t last).at; content = c } ∷ f ∷ [])) same
       ∙ ap (λ (at : ℕ × ℕ). thread_at w (record { at = at; content = y.content } ∷ f ∷ [])) (at_is t last w x e.there e.place) in
-      let contents = recursion_from_All (λ (z : Pair). content_at new.disk z.at ≡ Some z.content) (thread_at w (y ∷ f ∷ []))
-      (subst (All (λ (z : Pair). content_at new.disk z.at ≡ Some z.content)) pairs is.thread.contents) in
-      let here = each_right (λ (z : Pair). content_at new.disk z.at ≡ Some z.content) (before ++ left) (y ∷ f ∷ after)
-      (each_right (λ (z : Pair). content_at new.disk z.at ≡ Some z.content) chain ((before ++ left) ++ (y ∷ f ∷ after)) contents) in
-      let shape : HasShape t.disk new.disk = record { block_size = writes.shape.block_size; page = writes.shape.page; order = writes.shape.order; count = writes.shape.count } in
-      let step = step_from new.disk (placed_from new.disk shape writes.others here.0 here.1.0 (subst (λ (c : Content). KeepsSuperblockFirst t.disk (pair_in t last).at c new.disk) same is.first)) in
+      let contents = recursion_from_All (λ (z : Pair). content_of_pair_at new.disk z.at ≡ Some z.content) (thread_at w (y ∷ f ∷ []))
+      (subst (All (λ (z : Pair). content_of_pair_at new.disk z.at ≡ Some z.content)) pairs is.thread.contents) in
+      let here = each_right (λ (z : Pair). content_of_pair_at new.disk z.at ≡ Some z.content) (before ++ left) (y ∷ f ∷ after)
+      (each_right (λ (z : Pair). content_of_pair_at new.disk z.at ≡ Some z.content) chain ((before ++ left) ++ (y ∷ f ∷ after)) contents) in
+      let shape : HasSameGeometry t.disk new.disk = record { block_size = writes.shape.block_size; page = writes.shape.page; order = writes.shape.order; count = writes.shape.count } in
+      let step = step_from new.disk (placed_from new.disk shape writes.others here.0 here.1.0 (subst (λ (c : Content). KeepsSuperblockFirst t.disk (kept_pair_at_index t last).at c new.disk) same is.first)) in
       record {
         step = step;
         pairs = pairs;
-        used = subst (λ z. AreUsed new.map (used_blocks new.disk z)) (sym pairs)
-            (subst (λ m. AreUsed m (used_blocks new.disk (thread_at w (y ∷ f ∷ [])))) (sym is.map)
+        used = subst (λ z. AreExactlyTheUsedBlocks new.map (used_blocks new.disk z)) (sym pairs)
+            (subst (λ m. AreExactlyTheUsedBlocks m (used_blocks new.disk (thread_at w (y ∷ f ∷ [])))) (sym is.map)
             (used_more t.map fresh two (used_blocks t.disk (thread_at w (x ∷ []))) (used_blocks new.disk (thread_at w (y ∷ f ∷ [])))
             (λ b. used_count_now t.disk new.disk w x y (f ∷ []) x.content.slots [] [] step.no_move step.still_none step.device refl (sym (append-nil x.content.slots)) refl (λ b. refl) b)
-            (subst (λ z. AreUsed t.map (used_blocks t.disk z)) e.there ready.used)));
+            (subst (λ z. AreExactlyTheUsedBlocks t.map (used_blocks t.disk z)) e.there ready.used)));
         map = is.map;
         size = ap length is.map ∙ length_now t.map fresh two ∙ ready.size ∙ sym shape.count;
       }
 
   -- ---- what it shows
 
-  module _ (P : Path) (a : ℕ × ℕ) (leads : PathLeadsTo (thread_at (last_site chain before left after) (x ∷ [])) P a) (same : same_pair (begin_of (last_site chain before left after) (x ∷ [])) a ≡ true) where
+  module _ (P : Path) (a : ℕ × ℕ) (leads : IsPathToDirectory (thread_at (last_site chain before left after) (x ∷ [])) P a) (same : same_pair (begin_of (last_site chain before left after) (x ∷ [])) a ≡ true) where
     pub sync_now : (gstate_of (thread_at (last_site chain before left after) (naming_pair x fresh ∷ ([] ++ fresh_pair x fresh ∷ [])))).sync ≡ true
     sync_now = ap (λ (z : Gstate). z.sync) state_now
 
@@ -246,24 +246,24 @@ module _ (t : Kept) (ready : IsReady t) (last : ℕ) (chain before left after : 
 
     -- the directory has the entries that it had
     pub entries_still : (disk : Disk) → IsThreading t.disk disk chain before left after x fresh
-        → entries_in (thread_at (last_site chain before left after) (naming_pair x fresh ∷ ([] ++ fresh_pair x fresh ∷ []))) a ≡ entries_in (thread_at (last_site chain before left after) (x ∷ [])) a
+        → entries_by_directory_in_thread (thread_at (last_site chain before left after) (naming_pair x fresh ∷ ([] ++ fresh_pair x fresh ∷ []))) a ≡ entries_by_directory_in_thread (thread_at (last_site chain before left after) (x ∷ [])) a
     entries_still disk step =
         other_entries t.disk disk chain before left after x [] y [] f (fresh.0 ∷ fresh.1 ∷ []) [] x.content.slots [] [] [] step P a leads same a
-        ∙ put_at (entries_in (thread_at w (x ∷ []))) a (shown_before w x.content.slots ++ ([] ++ shown_behind w [])) a (pair_itself a)
+        ∙ put_at (entries_by_directory_in_thread (thread_at w (x ∷ []))) a (shown_before w x.content.slots ++ ([] ++ shown_behind w [])) a (pair_itself a)
         ∙ sym (own_entries t.disk disk chain before left after x [] y [] f (fresh.0 ∷ fresh.1 ∷ []) [] x.content.slots [] [] [] step P a leads same)
 
     -- a stop leaves the tree from before it
-    pub left_threading : (left_blocks : Blocks) (tree : Tree) → IsLeftByJoin (with_map t (map_with_two_in_flight t.map fresh)) last fresh (thread_in_changes t last fresh) left_blocks
-        → IsLeftByStop (with_blocks left_blocks t.disk) (tree_in t.disk t.pairs) tree
+    pub left_threading : (left_blocks : Blocks) (tree : Tree) → LeavesPairOldOrThreadedIn (with_map t (map_with_two_blocks_in_flight t.map fresh)) last fresh (changes_threading_new_pair t last fresh) left_blocks
+        → ShowsTreeBeforeOrAfter (with_blocks left_blocks t.disk) (tree_on_disk t.disk t.pairs) tree
     left_threading blocks tree is = go is.content
       where
         disk : Disk
         disk = with_blocks blocks t.disk
 
-        shape : HasShape t.disk (with_blocks blocks t.disk)
+        shape : HasSameGeometry t.disk (with_blocks blocks t.disk)
         shape = record { block_size = refl; page = refl; order = refl; count = is.others.count }
 
-        go : HasOldContent held last (with_blocks blocks t.disk) ⊎ IsJoinedOn held last fresh (thread_in_changes t last fresh) (with_blocks blocks t.disk) → IsLeftByStop (with_blocks blocks t.disk) (tree_in t.disk t.pairs) tree
+        go : HasPairOldContentOnDisk held last (with_blocks blocks t.disk) ⊎ IsFreshPairThreadedInOnDisk held last fresh (changes_threading_new_pair t last fresh) (with_blocks blocks t.disk) → ShowsTreeBeforeOrAfter (with_blocks blocks t.disk) (tree_on_disk t.disk t.pairs) tree
         go (inl b) =
             let on = device t.disk (with_blocks blocks t.disk) w x x [] (fresh.0 ∷ fresh.1 ∷ []) accepted_there distinct
             (placed_still t last w x e.there e.place (with_blocks blocks t.disk) fresh shape is.others (record { holds = b.holds; first = b.first })) in
@@ -272,12 +272,12 @@ module _ (t : Kept) (ready : IsReady t) (last : ℕ) (chain before left after : 
               pairs = thread_at w (x ∷ []);
               accepted = n.accepted;
               writable = record { pairs = writable_there.pairs; slots = writable_there.slots; no_empty_pair = writable_there.no_empty_pair };
-              tree = inl (n.shows ∙ ap (tree_in t.disk) (sym e.there));
+              tree = inl (n.shows ∙ ap (tree_on_disk t.disk) (sym e.there));
             }
         go (inr j) =
             let at = at_is t last w x e.there e.place in
             let c = made_same j.content j.made in
-            let step = step_from (with_blocks blocks t.disk) (placed_from (with_blocks blocks t.disk) shape is.others (ap (content_at (with_blocks blocks t.disk)) (sym at) ∙ j.holds ∙ ap (λ (z : Content). Some z) c)
-            (j.behind ∙ ap (λ (z : Pair). Some z.content) behind_is) (subst (λ (z : Content). KeepsSuperblockFirst t.disk (pair_in t last).at z (with_blocks blocks t.disk)) c j.first)) in
-            subst (λ z. IsLeftByStop (with_blocks blocks t.disk) (tree_in t.disk z) tree) (sym e.there)
+            let step = step_from (with_blocks blocks t.disk) (placed_from (with_blocks blocks t.disk) shape is.others (ap (content_of_pair_at (with_blocks blocks t.disk)) (sym at) ∙ j.holds ∙ ap (λ (z : Content). Some z) c)
+            (j.behind ∙ ap (λ (z : Pair). Some z.content) behind_is) (subst (λ (z : Content). KeepsSuperblockFirst t.disk (kept_pair_at_index t last).at z (with_blocks blocks t.disk)) c j.first)) in
+            subst (λ z. ShowsTreeBeforeOrAfter (with_blocks blocks t.disk) (tree_on_disk t.disk z) tree) (sym e.there)
             (taken_before t.disk (thread_at w (x ∷ [])) (with_blocks blocks t.disk) (thread_at w (y ∷ ([] ++ f ∷ []))) (λ d. d) tree (first_taken (with_blocks blocks t.disk) step))

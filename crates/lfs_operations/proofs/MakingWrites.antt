@@ -2,20 +2,20 @@
 use Rattle.std.proofs.Common.{ℕ, ◌≡◌, ◌≢◌, List, [], ◌∷◌, subst, ◌∙◌, arith}
 use Rattle.std.specs.Prelude.{All}
 use Rattle.std.proofs.lemmas.List.Elements.{All-from_recursion, recursion_from_All}
-use Rattle.lfs_model.specs.Blocks.{Blocks, SameButThese}
+use Rattle.lfs_model.specs.Blocks.{Blocks, AreBlocksEqualExceptThese}
 use Rattle.lfs_model.specs.BlockSets.{IsFree}
-use Rattle.lfs_model.specs.PowerLoss.{Survives, IsLeftByStop as IsLeftOf, with_blocks}
+use Rattle.lfs_model.specs.PowerLoss.{SurvivesStopsSince, ShowsTreeBeforeOrAfter as IsLeftOf, with_blocks}
 use Rattle.lfs_model.specs.Tree.{Tree}
-use Rattle.lfs_model.specs.History.{Event}
+use Rattle.lfs_model.specs.History.{CallEvent}
 use Rattle.lfs_model.specs.Disk.{Disk}
 use Rattle.lfs_model.proofs.AfterStops.{survives_then}
 use Rattle.lfs_model.proofs.Counts.{each_weaker}
-use Rattle.lfs_model.proofs.Histories.{LeavesOnly-trans, LeavesOnly-weaker, StayUnprogrammed-trans, StayUnprogrammed-wider}
-use Rattle.lfs_thread.specs.Device.{StopsLeave, four_of}
+use Rattle.lfs_model.proofs.Histories.{IsTrueAfterEachStopSince-trans, IsTrueAfterEachStopSince-weaker, AreBytesStillUnprogrammed-trans, AreBytesStillUnprogrammed-wider}
+use Rattle.lfs_thread.specs.Device.{StopsAfterCleanErasesLeave, blocks_of_two_addresses}
 use Rattle.lfs_thread.specs.Kept.{Kept}
-use Rattle.lfs_thread.specs.Steps.{Writes, pair_in, map_with_used_pair}
-use Rattle.lfs_operations.specs.Changing.{AreTwoFree, WritesIn, map_with_two_in_flight}
-use Rattle.lfs_operations.specs.Making.{IsLastFrom, WritesUpTo}
+use Rattle.lfs_thread.specs.Steps.{ThreadChangesOnlyTheseBlocks, kept_pair_at_index, map_with_used_pair}
+use Rattle.lfs_operations.specs.Changing.{AreTwoFreeBlocks, WritesPairAndTwoFreeBlocks, map_with_two_blocks_in_flight}
+use Rattle.lfs_operations.specs.Making.{IsLastPairOfHardTailRun, WritesPairAndLastPair}
 use Rattle.lfs_operations.proofs.MakingCounts.{freed}
 use Rattle.lfs_operations.proofs.Putting.{with_map}
 
@@ -23,48 +23,48 @@ use Rattle.lfs_operations.proofs.Putting.{with_map}
 abbrev Covers : List ℕ → List ℕ → Type 0
 Covers cs bs = (b : ℕ) → All (λ c. c ≢ b) cs → All (λ c. c ≢ b) bs
 
-same_wider : {bs cs : List ℕ} {old new : Blocks} → Covers cs bs → SameButThese bs old new → SameButThese cs old new
+same_wider : {bs cs : List ℕ} {old new : Blocks} → Covers cs bs → AreBlocksEqualExceptThese bs old new → AreBlocksEqualExceptThese cs old new
 same_wider wider s = record { count = s.count; sizes = s.sizes; others = λ b apart. s.others b (wider b apart) }
 
-same_then : {bs : List ℕ} {old mid new : Blocks} → SameButThese bs old mid → SameButThese bs mid new → SameButThese bs old new
+same_then : {bs : List ℕ} {old mid new : Blocks} → AreBlocksEqualExceptThese bs old mid → AreBlocksEqualExceptThese bs mid new → AreBlocksEqualExceptThese bs old new
 same_then f s = record { count = s.count ∙ f.count; sizes = λ b. s.sizes b ∙ f.sizes b; others = λ b apart. s.others b apart ∙ f.others b apart }
 
-writes_wider : {bs cs : List ℕ} {old new : Kept} → Covers cs bs → Writes bs old new → Writes cs old new
+writes_wider : {bs cs : List ℕ} {old new : Kept} → Covers cs bs → ThreadChangesOnlyTheseBlocks bs old new → ThreadChangesOnlyTheseBlocks cs old new
 writes_wider {bs = bs} {cs = cs} wider w = record {
   others = same_wider wider w.others;
-  elsewhere = StayUnprogrammed-wider cs wider w.elsewhere;
+  elsewhere = AreBytesStillUnprogrammed-wider cs wider w.elsewhere;
   shape = w.shape;
-  at_worst = LeavesOnly-weaker (λ blocks s. same_wider wider s) w.at_worst;
+  at_worst = IsTrueAfterEachStopSince-weaker (λ blocks s. same_wider wider s) w.at_worst;
 }
 
-writes_then : {bs : List ℕ} {old mid new : Kept} → Writes bs old mid → Writes bs mid new → Writes bs old new
+writes_then : {bs : List ℕ} {old mid new : Kept} → ThreadChangesOnlyTheseBlocks bs old mid → ThreadChangesOnlyTheseBlocks bs mid new → ThreadChangesOnlyTheseBlocks bs old new
 writes_then f s = record {
   others = same_then f.others s.others;
-  elsewhere = StayUnprogrammed-trans f.elsewhere s.elsewhere;
+  elsewhere = AreBytesStillUnprogrammed-trans f.elsewhere s.elsewhere;
   shape = record { block_size = s.shape.block_size ∙ f.shape.block_size; page = s.shape.page ∙ f.shape.page; order = s.shape.order ∙ f.shape.order; count = s.shape.count ∙ f.shape.count };
-  at_worst = LeavesOnly-trans f.at_worst (LeavesOnly-weaker (λ blocks k. same_then f.others k) s.at_worst);
+  at_worst = IsTrueAfterEachStopSince-trans f.at_worst (IsTrueAfterEachStopSince-weaker (λ blocks k. same_then f.others k) s.at_worst);
 }
 
-module _ (t : Kept) (index last : ℕ) (is_last : IsLastFrom t.pairs index last) (fresh : ℕ × ℕ) (two : AreTwoFree t.map fresh) where
+module _ (t : Kept) (index last : ℕ) (is_last : IsLastPairOfHardTailRun t.pairs index last) (fresh : ℕ × ℕ) (two : AreTwoFreeBlocks t.map fresh) where
   abbrev own : List ℕ → List ℕ
-  own more = (pair_in t index).at.0 ∷ (pair_in t index).at.1 ∷ (pair_in t last).at.0 ∷ (pair_in t last).at.1 ∷ fresh.0 ∷ fresh.1 ∷ more
+  own more = (kept_pair_at_index t index).at.0 ∷ (kept_pair_at_index t index).at.1 ∷ (kept_pair_at_index t last).at.0 ∷ (kept_pair_at_index t last).at.1 ∷ fresh.0 ∷ fresh.1 ∷ more
 
-  covers_first : (more : List ℕ) → Covers (own more) (four_of (pair_in t last).at fresh)
+  covers_first : (more : List ℕ) → Covers (own more) (blocks_of_two_addresses (kept_pair_at_index t last).at fresh)
   covers_first more b apart =
       let each = recursion_from_All (λ (c : ℕ). c ≢ b) (own more) apart in
-      All-from_recursion (λ c. c ≢ b) (four_of (pair_in t last).at fresh) (each.1.1.0, (each.1.1.1.0, (each.1.1.1.1.0, (each.1.1.1.1.1.0, tt))))
+      All-from_recursion (λ c. c ≢ b) (blocks_of_two_addresses (kept_pair_at_index t last).at fresh) (each.1.1.0, (each.1.1.1.0, (each.1.1.1.1.0, (each.1.1.1.1.1.0, tt))))
 
-  covers_second : (more : List ℕ) → Covers (own more) ((pair_in t index).at.0 ∷ (pair_in t index).at.1 ∷ more)
+  covers_second : (more : List ℕ) → Covers (own more) ((kept_pair_at_index t index).at.0 ∷ (kept_pair_at_index t index).at.1 ∷ more)
   covers_second more b apart =
       let each = recursion_from_All (λ (c : ℕ). c ≢ b) (own more) apart in
-      All-from_recursion (λ c. c ≢ b) ((pair_in t index).at.0 ∷ (pair_in t index).at.1 ∷ more) (each.0, (each.1.0, each.1.1.1.1.1.1))
+      All-from_recursion (λ c. c ≢ b) ((kept_pair_at_index t index).at.0 ∷ (kept_pair_at_index t index).at.1 ∷ more) (each.0, (each.1.0, each.1.1.1.1.1.1))
 
-  first_wider : (new : Kept) (more : List ℕ) → Writes (four_of (pair_in t last).at fresh) (with_map t (map_with_two_in_flight t.map fresh)) new → Writes (own more) t new
+  first_wider : (new : Kept) (more : List ℕ) → ThreadChangesOnlyTheseBlocks (blocks_of_two_addresses (kept_pair_at_index t last).at fresh) (with_map t (map_with_two_blocks_in_flight t.map fresh)) new → ThreadChangesOnlyTheseBlocks (own more) t new
   first_wider new more w =
-      let k = writes_wider {bs = four_of (pair_in t last).at fresh} {cs = own more} {old = with_map t (map_with_two_in_flight t.map fresh)} {new = new} (covers_first more) w in
+      let k = writes_wider {bs = blocks_of_two_addresses (kept_pair_at_index t last).at fresh} {cs = own more} {old = with_map t (map_with_two_blocks_in_flight t.map fresh)} {new = new} (covers_first more) w in
       record { others = k.others; elsewhere = k.elsewhere; shape = record { block_size = k.shape.block_size; page = k.shape.page; order = k.shape.order; count = k.shape.count }; at_worst = k.at_worst }
 
-  pub writes_first : (new : Kept) → Writes (four_of (pair_in t last).at fresh) (with_map t (map_with_two_in_flight t.map fresh)) new → WritesUpTo t index new
+  pub writes_first : (new : Kept) → ThreadChangesOnlyTheseBlocks (blocks_of_two_addresses (kept_pair_at_index t last).at fresh) (with_map t (map_with_two_blocks_in_flight t.map fresh)) new → WritesPairAndLastPair t index new
   writes_first new w = record {
     last = last;
     is_last = is_last;
@@ -74,8 +74,8 @@ module _ (t : Kept) (index last : ℕ) (is_last : IsLastFrom t.pairs index last)
     writes = first_wider new [] w;
   }
 
-  pub writes_both : (mid new : Kept) → Writes (four_of (pair_in t last).at fresh) (with_map t (map_with_two_in_flight t.map fresh)) mid → mid.map ≡ map_with_used_pair (map_with_two_in_flight t.map fresh) fresh → (pair_in mid index).at ≡ (pair_in t index).at
-      → WritesIn mid index new → WritesUpTo t index new
+  pub writes_both : (mid new : Kept) → ThreadChangesOnlyTheseBlocks (blocks_of_two_addresses (kept_pair_at_index t last).at fresh) (with_map t (map_with_two_blocks_in_flight t.map fresh)) mid → mid.map ≡ map_with_used_pair (map_with_two_blocks_in_flight t.map fresh) fresh → (kept_pair_at_index mid index).at ≡ (kept_pair_at_index t index).at
+      → WritesPairAndTwoFreeBlocks mid index new → WritesPairAndLastPair t index new
   writes_both mid new first map at second = record {
     last = last;
     is_last = is_last;
@@ -83,15 +83,15 @@ module _ (t : Kept) (index last : ℕ) (is_last : IsLastFrom t.pairs index last)
     few = let f = second.few in omega arith;
     free = (two.first, (two.second, each_weaker (IsFree mid.map) (IsFree t.map) (λ b free. freed t.map fresh two b (subst (λ s. IsFree s b) map free)) second.fresh second.free));
     writes = writes_then {bs = own second.fresh} {old = t} {mid = mid} {new = new} (first_wider mid second.fresh first)
-        (writes_wider {bs = (pair_in t index).at.0 ∷ (pair_in t index).at.1 ∷ second.fresh} {cs = own second.fresh} {old = mid} {new = new} (covers_second second.fresh)
-        (subst (λ (a : ℕ × ℕ). Writes (a.0 ∷ a.1 ∷ second.fresh) mid new) at second.writes));
+        (writes_wider {bs = (kept_pair_at_index t index).at.0 ∷ (kept_pair_at_index t index).at.1 ∷ second.fresh} {cs = own second.fresh} {old = mid} {new = new} (covers_second second.fresh)
+        (subst (λ (a : ℕ × ℕ). ThreadChangesOnlyTheseBlocks (a.0 ∷ a.1 ∷ second.fresh) mid new) at second.writes));
   }
 
   -- a stop in either step
-  pub survives_both : (mid new : Kept) (before after : Tree) → Writes (four_of (pair_in t last).at fresh) (with_map t (map_with_two_in_flight t.map fresh)) mid → WritesIn mid index new
-      → Survives t.disk t.history mid.history before after → Survives t.disk mid.history new.history before after → Survives t.disk t.history new.history before after
+  pub survives_both : (mid new : Kept) (before after : Tree) → ThreadChangesOnlyTheseBlocks (blocks_of_two_addresses (kept_pair_at_index t last).at fresh) (with_map t (map_with_two_blocks_in_flight t.map fresh)) mid → WritesPairAndTwoFreeBlocks mid index new
+      → SurvivesStopsSince t.disk t.history mid.history before after → SurvivesStopsSince t.disk mid.history new.history before after → SurvivesStopsSince t.disk t.history new.history before after
   survives_both mid new before after first second a b = survives_then t.disk t.history mid.history new.history before after first.at_worst second.writes.at_worst a b
 
-pub survives_by : (disk : Disk) (old new : List Event) (before after : Tree) (P : Blocks → Type 0) → ((left : Blocks) → P left → IsLeftOf (with_blocks left disk) before after) → StopsLeave old new P
-    → Survives disk old new before after
-survives_by disk old new before after P f stops clean = LeavesOnly-weaker f (stops clean)
+pub survives_by : (disk : Disk) (old new : List CallEvent) (before after : Tree) (P : Blocks → Type 0) → ((left : Blocks) → P left → IsLeftOf (with_blocks left disk) before after) → StopsAfterCleanErasesLeave old new P
+    → SurvivesStopsSince disk old new before after
+survives_by disk old new before after P f stops clean = IsTrueAfterEachStopSince-weaker f (stops clean)

@@ -3,17 +3,17 @@
 use Rattle.std.proofs.Common.{ℕ, ◌≡◌, true, List, [], ◌∷◌, ◌++◌, refl, sym, ap, subst, ◌∙◌, append_assoc, append-nil, subst₂}
 use Rattle.lfs_model.specs.Disk.{Disk}
 use Rattle.lfs_model.specs.Names.{Name}
-use Rattle.lfs_model.specs.Slots.{Slot, no_gstate, same_pair, FitsPair}
-use Rattle.lfs_model.specs.Thread.{Pair, first_at, gstate_of}
+use Rattle.lfs_model.specs.Slots.{Slot, zero_gstate, same_pair, IsContentFittingPair}
+use Rattle.lfs_model.specs.Thread.{Pair, first_pair_address, gstate_of}
 use Rattle.lfs_model.specs.Tree.{Path, DirectoryNode}
 use Rattle.lfs_model.specs.Profile.{IsWritable}
-use Rattle.lfs_model.specs.Shown.{PathLeadsTo, entries_in, tree_in}
-use Rattle.lfs_model.specs.TreeEdits.{tree_with_node}
+use Rattle.lfs_model.specs.Shown.{IsPathToDirectory, entries_by_directory_in_thread, tree_on_disk}
+use Rattle.lfs_model.specs.TreeEdits.{tree_after_creation}
 use Rattle.lfs_model.specs.Operations as ops
 use Rattle.lfs_model.specs.Session.{Session}
-use Rattle.lfs_model.specs.Refusals.{as_path}
-use Rattle.lfs_model.specs.SlotEdits.{with_slots, new_directory}
-use Rattle.lfs_model.specs.Layout.{FitsOnDisk}
+use Rattle.lfs_model.specs.Refusals.{path_or_root}
+use Rattle.lfs_model.specs.SlotEdits.{pair_with_slots, new_directory_slot}
+use Rattle.lfs_model.specs.Layout.{FitsPairOnDisk}
 use Rattle.lfs_model.proofs.Names.{IsPlace}
 use Rattle.lfs_model.proofs.Sites.{Site, thread_at, begin_of}
 use Rattle.lfs_model.proofs.Moves.{IsStep, place_at}
@@ -33,14 +33,14 @@ ahead_of chain before left f after = record { chain = chain; before = before; le
 module _ (disk middle new : Disk) (chain before left after : List Pair) (x y f : Pair) (extra : List ℕ) (l0 r0 : List Slot) (q : Pair) (more : List Pair) (extra2 : List ℕ) (l r : List Slot) (P : Path) (name : Name)
     (step : IsStepBeside disk middle chain before left after x [] y [] f extra [] l0 [] [] r0)
     (put : IsPutBeside disk (last_site chain before left after) x y [] f l0 [] [] r0)
-    (step2 : IsStep middle new (ahead_of chain before left f after) y [] q more extra2 [] l [] (new_directory name f.at ∷ []) r)
-    (put2 : IsPut middle (ahead_of chain before left f after) y q more l [] (new_directory name f.at ∷ []) r)
-    (a : ℕ × ℕ) (leads : PathLeadsTo (thread_at (last_site chain before left after) (x ∷ [])) P a)
+    (step2 : IsStep middle new (ahead_of chain before left f after) y [] q more extra2 [] l [] (new_directory_slot name f.at ∷ []) r)
+    (put2 : IsPut middle (ahead_of chain before left f after) y q more l [] (new_directory_slot name f.at ∷ []) r)
+    (a : ℕ × ℕ) (leads : IsPathToDirectory (thread_at (last_site chain before left after) (x ∷ [])) P a)
     (same : same_pair (begin_of (last_site chain before left after) (x ∷ [])) a ≡ true)
-    (place : IsPlace middle.order (entries_in (thread_at (ahead_of chain before left f after) (y ∷ [])) a) (place_at (ahead_of chain before left f after) l) name)
+    (place : IsPlace middle.order (entries_by_directory_in_thread (thread_at (ahead_of chain before left f after) (y ∷ [])) a) (place_at (ahead_of chain before left f after) l) name)
     (sync : (gstate_of (thread_at (last_site chain before left after) (y ∷ ([] ++ f ∷ [])))).sync ≡ true)
-    (settled : gstate_of (thread_at (last_site chain before left after) (x ∷ [])) ≡ no_gstate)
-    (still : gstate_of (thread_at (ahead_of chain before left f after) (q ∷ more)) ≡ no_gstate) where
+    (settled : gstate_of (thread_at (last_site chain before left after) (x ∷ [])) ≡ zero_gstate)
+    (still : gstate_of (thread_at (ahead_of chain before left f after) (q ∷ more)) ≡ zero_gstate) where
   abbrev there : Site
   there = ahead_of chain before left f after
 
@@ -48,24 +48,24 @@ module _ (disk middle new : Disk) (chain before left after : List Pair) (x y f :
   first = beside_taken disk middle chain before left after x y [] f l0 [] [] r0 put extra [] (λ t. t) (λ d. d) step P a leads same
       (threaded disk middle chain before left after x [] y [] f extra l0 r0 step P a leads same sync)
 
-  leads2 : PathLeadsTo (thread_at (ahead_of chain before left f after) (y ∷ [])) P a
+  leads2 : IsPathToDirectory (thread_at (ahead_of chain before left f after) (y ∷ [])) P a
   leads2 = ap (λ d. d P) first.follows.leads ∙ leads
 
   same2 : same_pair (begin_of (ahead_of chain before left f after) (y ∷ [])) a ≡ true
   same2 = ap (λ z. same_pair z a) (go left) ∙ same
     where
-      go : (xs : List Pair) → first_at (xs ++ y ∷ []) ≡ first_at (xs ++ x ∷ [])
+      go : (xs : List Pair) → first_pair_address (xs ++ y ∷ []) ≡ first_pair_address (xs ++ x ∷ [])
       go [] = step.shape.at
       go (z ∷ xs) = refl
 
-  both : InTwo disk (thread_at (last_site chain before left after) (x ∷ [])) middle (thread_at (ahead_of chain before left f after) (y ∷ [])) new (thread_at (ahead_of chain before left f after) (q ∷ more)) (λ t. t) (tree_with_node (P ++ name ∷ []) (DirectoryNode [] []))
+  both : InTwo disk (thread_at (last_site chain before left after) (x ∷ [])) middle (thread_at (ahead_of chain before left f after) (y ∷ [])) new (thread_at (ahead_of chain before left f after) (q ∷ more)) (λ t. t) (tree_after_creation (P ++ name ∷ []) (DirectoryNode [] []))
   both = mkdir_in_two disk middle new chain before left after x [] y [] f extra l0 r0 step P a leads same sync
-      (ahead_of chain before left f after) y q more extra2 l r (new_directory name f.at) step2 refl P a leads2 same2 place refl
+      (ahead_of chain before left f after) y q more extra2 l r (new_directory_slot name f.at) step2 refl P a leads2 same2 place refl
       (recovered_from disk (thread_at (last_site chain before left after) (x ∷ [])) step.accepted settled).reached
 
   second : IsWritable new (thread_at (ahead_of chain before left f after) (q ∷ more))
-  second = step_writable middle new (ahead_of chain before left f after) y [] q more extra2 [] l [] (new_directory name f.at ∷ []) r step2 put2.writable
-      (put_within middle there y q more l [] (new_directory name f.at ∷ []) r put2) (put_filled middle there y q more l [] (new_directory name f.at ∷ []) r put2)
+  second = step_writable middle new (ahead_of chain before left f after) y [] q more extra2 [] l [] (new_directory_slot name f.at ∷ []) r step2 put2.writable
+      (put_within middle there y q more l [] (new_directory_slot name f.at ∷ []) r put2) (put_filled middle there y q more l [] (new_directory_slot name f.at ∷ []) r put2)
 
   parted : (zs : List Pair) → chain ++ ((before ++ left) ++ ((q ∷ more) ++ zs)) ≡ (chain ++ ((before ++ left) ++ (q ∷ more))) ++ zs
   parted zs = ap (λ z. chain ++ z) (sym (append_assoc (before ++ left) (q ∷ more) zs)) ∙ sym (append_assoc chain ((before ++ left) ++ (q ∷ more)) zs)
@@ -95,18 +95,18 @@ module _ (disk middle new : Disk) (chain before left after : List Pair) (x y f :
   }
     where
       -- the tails don't matter, and the sizes are the same on both disks
-      sized : (d : Pair) → FitsOnDisk middle d → FitsOnDisk disk d
-      sized d h = subst₂ (λ b g. FitsPair b g d.content) step.device.geometry.block_size step.device.geometry.page h
+      sized : (d : Pair) → FitsPairOnDisk middle d → FitsPairOnDisk disk d
+      sized d h = subst₂ (λ b g. IsContentFittingPair b g d.content) step.device.geometry.block_size step.device.geometry.page h
 
-      resized : (slots : List Slot) → FitsOnDisk disk (with_slots slots x) → FitsOnDisk middle (with_slots slots y)
-      resized slots h = subst₂ (λ b g. FitsPair b g (with_slots slots y).content) (sym step.device.geometry.block_size) (sym step.device.geometry.page) (record { size = h.size; count = h.count })
+      resized : (slots : List Slot) → FitsPairOnDisk disk (pair_with_slots slots x) → FitsPairOnDisk middle (pair_with_slots slots y)
+      resized slots h = subst₂ (λ b g. IsContentFittingPair b g (pair_with_slots slots y).content) (sym step.device.geometry.block_size) (sym step.device.geometry.page) (record { size = h.size; count = h.count })
 
-      became_cut : (more : List Pair) → Became middle y (with_slots (l ++ (new_directory name f.at ∷ [] ++ r)) y) q more → Cut disk (with_slots (l ++ new_directory name f.at ∷ r) x) q more
-      became_cut [] h = (let k = sized (with_slots (l ++ new_directory name f.at ∷ r) y) h.1 in record { size = k.size; count = k.count })
-      became_cut (g ∷ []) h = ((λ k. h.2 (resized (l ++ new_directory name f.at ∷ r) k)), sized q h.3, sized g h.4)
+      became_cut : (more : List Pair) → Became middle y (pair_with_slots (l ++ (new_directory_slot name f.at ∷ [] ++ r)) y) q more → Cut disk (pair_with_slots (l ++ new_directory_slot name f.at ∷ r) x) q more
+      became_cut [] h = (let k = sized (pair_with_slots (l ++ new_directory_slot name f.at ∷ r) y) h.1 in record { size = k.size; count = k.count })
+      became_cut (g ∷ []) h = ((λ k. h.2 (resized (l ++ new_directory_slot name f.at ∷ r) k)), sized q h.3, sized g h.4)
       became_cut (g ∷ i ∷ more) h = absurd h
 
-  pub mkdir_at_last_completed : (s : Session) (path : List ℕ) → s.tree ≡ tree_in disk (thread_at (last_site chain before left after) (x ∷ [])) → as_path path ≡ P ++ name ∷ []
+  pub mkdir_at_last_completed : (s : Session) (path : List ℕ) → s.tree ≡ tree_on_disk disk (thread_at (last_site chain before left after) (x ∷ [])) → path_or_root path ≡ P ++ name ∷ []
       → IsCompleted disk (thread_at (last_site chain before left after) (x ∷ [])) s (ops.Mkdir path) new (thread_at (ahead_of chain before left f after) (q ∷ more))
   mkdir_at_last_completed s path tree is =
       mkdir_completed disk new (thread_at (ahead_of chain before left f after) (q ∷ more)) chain (before ++ left) after x q more (chain ++ ((before ++ left) ++ (q ∷ more))) after f l r P name made s path tree is

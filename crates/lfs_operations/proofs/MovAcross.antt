@@ -3,24 +3,24 @@ use Rattle.std.proofs.Common.{ℕ, ◌≡◌, ◌+◌, ◌<◌, ◌⊎◌, inl, 
 use Rattle.std.specs.Prelude.{is_some}
 use Rattle.lfs_model.specs.Disk.{Disk}
 use Rattle.lfs_model.specs.Names.{Name}
-use Rattle.lfs_model.specs.Slots.{Slot, gstate_xor, no_gstate}
-use Rattle.lfs_model.specs.SlotEdits.{with_slots, slot_of_path}
-use Rattle.lfs_model.specs.Thread.{Pair, gstate_of, is_hard, superblocks_before}
+use Rattle.lfs_model.specs.Slots.{Slot, gstate_xor, zero_gstate}
+use Rattle.lfs_model.specs.SlotEdits.{pair_with_slots, slot_of_path}
+use Rattle.lfs_model.specs.Thread.{Pair, gstate_of, is_hard_tail, pair_count_before_root}
 use Rattle.lfs_model.specs.Tree.{Path}
-use Rattle.lfs_model.specs.TreeEdits.{last_name, renamed}
+use Rattle.lfs_model.specs.TreeEdits.{last_name_of_path, renamed}
 use Rattle.lfs_model.specs.Operations as ops
 use Rattle.lfs_model.specs.Session.{Session}
-use Rattle.lfs_model.specs.Refusals.{as_path}
-use Rattle.lfs_model.specs.View.{IsAccepted}
+use Rattle.lfs_model.specs.Refusals.{path_or_root}
+use Rattle.lfs_model.specs.View.{IsAcceptedImage}
 use Rattle.lfs_model.specs.Profile.{IsWritable}
-use Rattle.lfs_model.specs.Shown.{tree_in}
+use Rattle.lfs_model.specs.Shown.{tree_on_disk}
 use Rattle.lfs_model.proofs.Alike.{AreAlike}
 use Rattle.lfs_model.proofs.Became.{Became}
 use Rattle.lfs_model.proofs.Changes.{Follows}
 use Rattle.lfs_model.proofs.Committed.{IsCompleted}
 use Rattle.lfs_model.proofs.Laws.{Walk}
 use Rattle.lfs_model.proofs.Layouts.{onward_all, onward_some}
-use Rattle.lfs_model.specs.Layout.{directory_after}
+use Rattle.lfs_model.specs.Layout.{directory_address_after_pair}
 use Rattle.lfs_model.proofs.RenamedAcross.{IsRenameAcross, IsNoDirectory, across_completed, target_slots}
 use Rattle.lfs_model.proofs.Sites.{Site, thread_at}
 use Rattle.lfs_model.proofs.StepsTaken.{IsOnlyStep}
@@ -32,16 +32,16 @@ use Rattle.lfs_operations.specs.MoveEnds.{move_of}
 
 flag_from : (from : Option (ℕ × ℕ)) (xs : List Pair) → is_some (onward_all from xs) ≡ ends_in_hard_tail (is_some from) xs
 flag_from from [] = refl
-flag_from from (x ∷ xs) = flag_from (directory_after from x) xs ∙ ap (λ b. ends_in_hard_tail b xs) (onward_some from x)
+flag_from from (x ∷ xs) = flag_from (directory_address_after_pair from x) xs ∙ ap (λ b. ends_in_hard_tail b xs) (onward_some from x)
 
 pub flag_append : (b : Bool) (xs ys : List Pair) → ends_in_hard_tail b (xs ++ ys) ≡ ends_in_hard_tail (ends_in_hard_tail b xs) ys
 flag_append b [] ys = refl
-flag_append b (x ∷ xs) ys = flag_append (is_hard x.content.tail) xs ys
+flag_append b (x ∷ xs) ys = flag_append (is_hard_tail x.content.tail) xs ys
 
 -- a hard tail leads on from what a pair became where one leads on from the pair
 pub flag_became : (disk : Disk) (p d q : Pair) (more : List Pair) (b : Bool) → Became disk p d q more → ends_in_hard_tail b (q ∷ more) ≡ ends_in_hard_tail b (p ∷ [])
-flag_became disk p d q [] b h = ap is_hard h.0
-flag_became disk p d q (f ∷ []) b h = ap is_hard h.1
+flag_became disk p d q [] b h = ap is_hard_tail h.0
+flag_became disk p d q (f ∷ []) b h = ap is_hard_tail h.1
 flag_became disk p d q (f ∷ g ∷ more) b h = absurd h
 
 -- How the two pairs stand, before the first step and after it; the old one stands behind `pre` then.
@@ -109,20 +109,20 @@ module _ (disk middle new : Disk) (wo : Site) (o : Pair) (lo : List Slot) (u : S
     (k : IsSetting disk wo o lo u ro w p l (target_slots target) v r) (q : Pair) (more : List Pair)
     (sync : Bool) (x : HasTurned disk w p (l ++ v ∷ r) (gstate_xor (move_of sync o.at (length lo)) p.content.move) middle q more) where
   abbrev pub arrangement : Arranged disk wo o w p q more
-  arrangement = arranged disk wo o w p (with_slots (l ++ v ∷ r) p) q more x.became (turns disk wo o lo u ro w p l (target_slots target) v r k)
+  arrangement = arranged disk wo o w p (pair_with_slots (l ++ v ∷ r) p) q more x.became (turns disk wo o lo u ro w p l (target_slots target) v r k)
 
   -- the whole operation; of the old pair os is left
   module _ (name : Name) (same_slot : v ≡ record u { name = name }) (old_path new_path : Path) (walk : Walk → Walk)
       (first : Follows disk (thread_at w (p ∷ [])) middle (thread_at w (q ∷ more)) (renamed old_path new_path) walk)
       (os rs : List Pair) (stays : OldStays (from_old arrangement.b arrangement.front arrangement.mid p) o (lo ++ ro) os)
       (alike : AreAlike (w.chain ++ (arrangement.pre ++ (os ++ arrangement.post))) rs)
-      (second : IsOnlyStep middle (thread_at w (q ∷ more)) new rs (λ t. t) (λ d. d)) (state : gstate_of rs ≡ no_gstate)
-      (from_slot : slot_of_path (thread_at w (p ∷ [])) old_path ≡ Some u) (to_slot : slot_of_path (thread_at w (p ∷ [])) new_path ≡ target) (to_name : last_name new_path ≡ name)
+      (second : IsOnlyStep middle (thread_at w (q ∷ more)) new rs (λ t. t) (λ d. d)) (state : gstate_of rs ≡ zero_gstate)
+      (from_slot : slot_of_path (thread_at w (p ∷ [])) old_path ≡ Some u) (to_slot : slot_of_path (thread_at w (p ∷ [])) new_path ≡ target) (to_name : last_name_of_path new_path ≡ name)
       (file : IsNoDirectory target) where
     is_across : IsRenameAcross disk middle new (thread_at w (q ∷ more)) rs arrangement.b w.chain arrangement.front arrangement.mid arrangement.back o p q os more lo u ro l target r old_path new_path name
     is_across = record {
-      is_chain = sym (ap superblocks_before arrangement.old_is) ∙ k.site.chain;
-      accepted = subst (IsAccepted disk) arrangement.old_is k.accepted;
+      is_chain = sym (ap pair_count_before_root arrangement.old_is) ∙ k.site.chain;
+      accepted = subst (IsAcceptedImage disk) arrangement.old_is k.accepted;
       writable = subst (IsWritable disk) arrangement.old_is k.writable;
       settled = sym (ap gstate_of arrangement.old_is) ∙ k.settled;
       still = state;
@@ -134,7 +134,7 @@ module _ (disk middle new : Disk) (wo : Site) (o : Pair) (lo : List Slot) (u : S
       was = k.was;
       at = x.at;
       is = x.is ∙ ap (λ z. l ++ z ∷ r) same_slot;
-      became = subst (λ z. Became disk p (with_slots (l ++ z ∷ r) p) q more) same_slot x.became;
+      became = subst (λ z. Became disk p (pair_with_slots (l ++ z ∷ r) p) q more) same_slot x.became;
       stays = stays;
       alike = subst (λ z. AreAlike (w.chain ++ z) rs) (sym (arrangement.cut os)) alike;
       from_slot = sym (ap (λ z. slot_of_path z old_path) arrangement.old_is) ∙ from_slot;
@@ -143,8 +143,8 @@ module _ (disk middle new : Disk) (wo : Site) (o : Pair) (lo : List Slot) (u : S
       file = file;
     }
 
-    pub completed : (s : Session) (old_bytes new_bytes : List ℕ) → s.tree ≡ tree_in disk (thread_at w (p ∷ [])) → as_path old_bytes ≡ old_path → as_path new_bytes ≡ new_path
+    pub completed : (s : Session) (old_bytes new_bytes : List ℕ) → s.tree ≡ tree_on_disk disk (thread_at w (p ∷ [])) → path_or_root old_bytes ≡ old_path → path_or_root new_bytes ≡ new_path
         → IsCompleted disk (thread_at w (p ∷ [])) s (ops.Rename old_bytes new_bytes) new rs
     completed s old_bytes new_bytes tree old_as new_as = subst (λ z. IsCompleted disk z s (ops.Rename old_bytes new_bytes) new rs) (sym arrangement.old_is)
         (across_completed disk middle new (thread_at w (q ∷ more)) rs arrangement.b w.chain arrangement.front arrangement.mid arrangement.back o p q os more lo u ro l target r old_path new_path name is_across
-        s old_bytes new_bytes (tree ∙ ap (tree_in disk) arrangement.old_is) old_as new_as)
+        s old_bytes new_bytes (tree ∙ ap (tree_on_disk disk) arrangement.old_is) old_as new_as)

@@ -6,11 +6,11 @@ use Rattle.std.proofs.lemmas.List.Concat.{flat_map-append}
 use Rattle.std.proofs.lemmas.List.Elements.{recursion_from_All}
 use Rattle.lfs_model.specs.Disk.{Disk}
 use Rattle.lfs_model.specs.Slots.{Slot, Gstate, is_superblock, same_pair, gstate_xor}
-use Rattle.lfs_model.specs.SlotEdits.{with_slots}
-use Rattle.lfs_model.specs.Thread.{Pair, blocks_of, gstate_of, starts_with_superblock, slots_not_moved}
-use Rattle.lfs_model.specs.Shown.{directories_in, used_blocks, all_slots}
+use Rattle.lfs_model.specs.SlotEdits.{pair_with_slots}
+use Rattle.lfs_model.specs.Thread.{Pair, blocks_of_pairs, gstate_of, starts_with_superblock, slots_not_moved}
+use Rattle.lfs_model.specs.Shown.{directories_in_thread, used_blocks, all_slots_not_moved}
 use Rattle.lfs_model.specs.Slots.{set_move}
-use Rattle.lfs_model.specs.View.{IsAccepted}
+use Rattle.lfs_model.specs.View.{IsAcceptedImage}
 use Rattle.lfs_model.specs.Profile.{IsWritable}
 use Rattle.lfs_model.proofs.Became.{became_front, became_shape}
 use Rattle.lfs_model.proofs.Changes.{slots_files}
@@ -26,17 +26,17 @@ use Rattle.lfs_model.proofs.Sites.{Site, dirs_at, thread_at, IsSite}
 use Rattle.lfs_model.proofs.Splices.{slots_in, files_of, unmoved_in}
 use Rattle.lfs_model.proofs.StepsTaken.{IsOnlyStep, IsPut, end_taken}
 use Rattle.lfs_model.proofs.Writable.{ends_in_hard_tail}
-use Rattle.lfs_operations.specs.MoveEnds.{move_in, sync_in}
+use Rattle.lfs_operations.specs.MoveEnds.{gstate_without_sync, gstate_of_sync_alone}
 use Rattle.lfs_operations.proofs.MovSet.{HasTurned}
 use Rattle.lfs_operations.proofs.MovFirsts.{end_firsts}
 use Rattle.lfs_model.proofs.MoveSets.{first_addresses}
 
-pub move_out : (g : Gstate) → gstate_xor (move_in g) g ≡ sync_in g
+pub move_out : (g : Gstate) → gstate_xor (gstate_without_sync g) g ≡ gstate_of_sync_alone g
 move_out g = λ j. record { sync = g.sync; kind = xor_self g.kind j; id = xor_self g.id j; pair = (xor_self g.pair.0 j, xor_self g.pair.1 j) }
 
 -- The move hides the slot u of the pair at the site, which keeps another where a hard tail leads to it.
 pub record IsEnding (disk : Disk) (w : Site) (p : Pair) (l : List Slot) (u : Slot) (r : List Slot) : Type 0 where
-  pub accepted : IsAccepted disk (thread_at w (p ∷ []))
+  pub accepted : IsAcceptedImage disk (thread_at w (p ∷ []))
   pub writable : IsWritable disk (thread_at w (p ∷ []))
   pub site : IsSite w (p ∷ [])
   pub kind : (gstate_of (thread_at w (p ∷ []))).kind ≡ set_move
@@ -65,8 +65,8 @@ module _ (disk : Disk) (w : Site) (p : Pair) (l : List Slot) (u : Slot) (r : Lis
   grouped : thread_at w (p ∷ []) ≡ (w.chain ++ ahead) ++ p ∷ back
   grouped = sym (append_assoc w.chain ahead (p ∷ back))
 
-  distinct_there : IsDistinct nat_eq (blocks_of ((w.chain ++ ahead) ++ p ∷ back))
-  distinct_there = subst (λ z. IsDistinct nat_eq (blocks_of z)) grouped k.accepted.thread.distinct
+  distinct_there : IsDistinct nat_eq (blocks_of_pairs ((w.chain ++ ahead) ++ p ∷ back))
+  distinct_there = subst (λ z. IsDistinct nat_eq (blocks_of_pairs z)) grouped k.accepted.thread.distinct
 
   flipped : (ss : List Pair) → Each (λ s. same_pair s.at (gstate_of (thread_at w (p ∷ []))).pair ≡ false) ss → Each Far ss
   flipped ss h = each_weaker (λ s. same_pair s.at (gstate_of (thread_at w (p ∷ []))).pair ≡ false) Far (λ s e. flip_false s.at g.pair e) ss h
@@ -84,13 +84,13 @@ module _ (disk : Disk) (w : Site) (p : Pair) (l : List Slot) (u : Slot) (r : Lis
   hidden_none [] h = refl
   hidden_none (s ∷ ss) h = ap₂ (λ x y. x ++ y) (unmoved_elsewhere g s h.0) (hidden_none ss h.1)
 
-  module _ (new : Disk) (q : Pair) (x : HasTurned disk w p (l ++ r) (gstate_xor (move_in (gstate_of (thread_at w (p ∷ [])))) p.content.move) new q []) where
+  module _ (new : Disk) (q : Pair) (x : HasTurned disk w p (l ++ r) (gstate_xor (gstate_without_sync (gstate_of (thread_at w (p ∷ [])))) p.content.move) new q []) where
     abbrev qs : List Pair
     qs = thread_at w (q ∷ [])
 
-    pub ended_state : gstate_of qs ≡ sync_in (gstate_of ps)
-    ended_state = site_gstate_moved (move_in g) w (p ∷ []) (q ∷ [])
-        (x.delta ∙ ap (gstate_xor (move_in g)) (sym (gstate_cons p [] ∙ gstate_right p.content.move)))
+    pub ended_state : gstate_of qs ≡ gstate_of_sync_alone (gstate_of ps)
+    ended_state = site_gstate_moved (gstate_without_sync g) w (p ∷ []) (q ∷ [])
+        (x.delta ∙ ap (gstate_xor (gstate_without_sync g)) (sym (gstate_cons p [] ∙ gstate_right p.content.move)))
         ∙ move_out g
 
     still_none : HasNoMove (gstate_of qs)
@@ -106,7 +106,7 @@ module _ (disk : Disk) (w : Site) (p : Pair) (l : List Slot) (u : Slot) (r : Lis
       site = k.site;
       still_none = still_none;
       device = x.device;
-      shape = became_shape disk p (with_slots (l ++ r) p) q [] x.at x.became (became_front disk p (with_slots (l ++ r) p) q [] x.is x.became (front_kept l p.content.slots k.held));
+      shape = became_shape disk p (pair_with_slots (l ++ r) p) q [] x.at x.became (became_front disk p (pair_with_slots (l ++ r) p) q [] x.is x.became (front_kept l p.content.slots k.held));
       was = append-nil p.content.slots ∙ k.held;
       is = x.is;
       other = k.other;
@@ -122,19 +122,19 @@ module _ (disk : Disk) (w : Site) (p : Pair) (l : List Slot) (u : Slot) (r : Lis
         (move_ends disk new w p [] q [] l u r end_step (λ e. k.accepted.reached (sym (ap (λ (z : Gstate). z.sync) ended_state) ∙ e)))
 
     -- the directories begin where they did
-    pub ended_firsts : first_addresses (directories_in qs) ≡ first_addresses (directories_in ps)
+    pub ended_firsts : first_addresses (directories_in_thread qs) ≡ first_addresses (directories_in_thread ps)
     ended_firsts = end_firsts disk new w p [] q [] l u r end_step
 
     -- ---- the blocks that the image uses
 
-    blocks_two : (xs ys : List Pair) (b : ℕ) → count b (blocks_of (xs ++ ys)) ≡ count b (blocks_of xs) + count b (blocks_of ys)
-    blocks_two xs ys b = ap (count b) (flat_map-append (λ (s : Pair). s.at.0 ∷ s.at.1 ∷ []) xs ys) ∙ count_append b (blocks_of xs) (blocks_of ys)
+    blocks_two : (xs ys : List Pair) (b : ℕ) → count b (blocks_of_pairs (xs ++ ys)) ≡ count b (blocks_of_pairs xs) + count b (blocks_of_pairs ys)
+    blocks_two xs ys b = ap (count b) (flat_map-append (λ (s : Pair). s.at.0 ∷ s.at.1 ∷ []) xs ys) ∙ count_append b (blocks_of_pairs xs) (blocks_of_pairs ys)
 
     slots_three : (f : Pair → List Slot) (zs : List Pair) → flat_map f (thread_at w zs) ≡ flat_map f w.chain ++ (flat_map f ahead ++ (flat_map f zs ++ flat_map f back))
     slots_three f zs = flat_map-append f w.chain (ahead ++ (zs ++ back)) ∙ ap (λ z. flat_map f w.chain ++ z) (flat_map-append f ahead (zs ++ back) ∙ ap (λ z. flat_map f ahead ++ z) (flat_map-append f zs back))
 
     -- no file but those that were visible
-    visible_same : all_slots qs ≡ all_slots ps
+    visible_same : all_slots_not_moved qs ≡ all_slots_not_moved ps
     visible_same = unmoved_in (gstate_of qs) still_none qs ∙ slots_three (λ s. s.content.slots) (q ∷ [])
         ∙ ap₂ (λ a z. a ++ (slots_in ahead ++ z)) (sym (hidden_none w.chain (each_left Far w.chain ahead far_front)))
         (ap₂ (λ a z. a ++ z) (x.is ∙ sym hides ∙ sym (append-nil (slots_not_moved g p))) (sym (hidden_none back far_back)))
@@ -143,8 +143,8 @@ module _ (disk : Disk) (w : Site) (p : Pair) (l : List Slot) (u : Slot) (r : Lis
 
     pub ended_count : (b : ℕ) → count b (used_blocks new qs) ≡ count b (used_blocks disk ps)
     ended_count b =
-        let a1 = count_append b (blocks_of qs) (files_of new (all_slots qs)) in
-        let a2 = count_append b (blocks_of ps) (files_of disk (all_slots ps)) in
+        let a1 = count_append b (blocks_of_pairs qs) (files_of new (all_slots_not_moved qs)) in
+        let a2 = count_append b (blocks_of_pairs ps) (files_of disk (all_slots_not_moved ps)) in
         let b1 = blocks_two w.chain (dirs_at w (q ∷ [])) b in
         let b2 = blocks_two ahead (q ∷ [] ++ back) b in
         let b3 = blocks_two (q ∷ []) back b in
@@ -152,6 +152,6 @@ module _ (disk : Disk) (w : Site) (p : Pair) (l : List Slot) (u : Slot) (r : Lis
         let b5 = blocks_two ahead (p ∷ [] ++ back) b in
         let b6 = blocks_two (p ∷ []) back b in
         let at = ap (λ (a : ℕ × ℕ). count b (a.0 ∷ a.1 ∷ [])) x.at in
-        let same = ap (count b) (slots_files disk new (all_slots ps) x.device.geometry (recursion_from_All (λ (s : Slot). HasSameFile disk new s.struct) (all_slots ps) x.device.files)) in
+        let same = ap (count b) (slots_files disk new (all_slots_not_moved ps) x.device.geometry (recursion_from_All (λ (s : Slot). HasSameFile disk new s.struct) (all_slots_not_moved ps) x.device.files)) in
         let f = ap (λ z. count b (files_of new z)) visible_same in
         omega arith

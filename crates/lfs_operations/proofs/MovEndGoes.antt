@@ -3,17 +3,17 @@ use Rattle.std.proofs.Common.{ℕ, ◌≡◌, ◌≢◌, ◌⊎◌, inl, inr, �
 use Rattle.std.proofs.lemmas.List.Elements.{recursion_from_All}
 use Rattle.lfs_model.specs.Blocks.{Blocks}
 use Rattle.lfs_model.specs.Disk.{Disk}
-use Rattle.lfs_model.specs.History.{Event}
-use Rattle.lfs_model.specs.LoggedContent.{IsMoveState}
-use Rattle.lfs_model.specs.PowerLoss.{IsLeftByStop as IsLeftOf, Survives, with_blocks}
-use Rattle.lfs_model.specs.Slots.{Content, FitsPair, Gstate, Slot, same_pair}
-use Rattle.lfs_model.specs.Thread.{Pair, gstate_of, is_hard}
-use Rattle.lfs_model.specs.View.{IsAccepted}
+use Rattle.lfs_model.specs.History.{CallEvent}
+use Rattle.lfs_model.specs.LoggedContent.{IsWellFormedMoveState}
+use Rattle.lfs_model.specs.PowerLoss.{ShowsTreeBeforeOrAfter as IsLeftOf, SurvivesStopsSince, with_blocks}
+use Rattle.lfs_model.specs.Slots.{Content, IsContentFittingPair, Gstate, Slot, same_pair}
+use Rattle.lfs_model.specs.Thread.{Pair, gstate_of, is_hard_tail}
+use Rattle.lfs_model.specs.View.{IsAcceptedImage}
 use Rattle.lfs_model.specs.Profile.{IsWritable}
-use Rattle.lfs_model.specs.Shown.{directories_in, tree_in, used_blocks}
+use Rattle.lfs_model.specs.Shown.{directories_in_thread, tree_on_disk, used_blocks}
 use Rattle.lfs_model.proofs.Alike.{AreAlike, alike_append, alike_itself}
 use Rattle.lfs_model.proofs.Counts.{Each, each_right, count}
-use Rattle.lfs_model.proofs.Histories.{LeavesOnly-weaker}
+use Rattle.lfs_model.proofs.Histories.{IsTrueAfterEachStopSince-weaker}
 use Rattle.lfs_model.proofs.Indexes.{HasSite, site_of_number}
 use Rattle.lfs_model.proofs.Listings.{IsRun}
 use Rattle.lfs_model.proofs.MoveSets.{first_addresses}
@@ -22,11 +22,11 @@ use Rattle.lfs_model.proofs.Splices.{IsDevice}
 use Rattle.lfs_model.proofs.StepsTaken.{IsOnlyStep}
 use Rattle.lfs_model.proofs.Superblocks.{IsChain}
 use Rattle.lfs_model.proofs.Writable.{ends_in_hard_tail}
-use Rattle.lfs_thread.specs.Device.{StopsLeave}
+use Rattle.lfs_thread.specs.Device.{StopsAfterCleanErasesLeave}
 use Rattle.lfs_thread.specs.Kept.{Kept}
-use Rattle.lfs_thread.specs.Steps.{IsWrittenAs, no_pair, pair_in, without_pair}
-use Rattle.lfs_operations.specs.Dropping.{CanDropAt, HasDroppedBehind, IsLeftByDrop, taken_over, with_tail_taken}
-use Rattle.lfs_operations.specs.MoveEnds.{CanEndMoveAt, HasEndedMoveAt, follows_hard_tail, sync_in}
+use Rattle.lfs_thread.specs.Steps.{IsPairWrittenOnDisk, no_pair, kept_pair_at_index, map_with_freed_pair}
+use Rattle.lfs_operations.specs.Dropping.{CanDropPairAt, IsNextPairDropped, IsLeftByStoppedDrop, tail_over_dropped_pair, content_after_drop}
+use Rattle.lfs_operations.specs.MoveEnds.{CanEndMoveAt, HasEndedMoveAt, is_pair_named_by_hard_tail, gstate_of_sync_alone}
 use Rattle.lfs_operations.proofs.Dropped.{device_dropped, device_kept, profile_same}
 use Rattle.lfs_operations.proofs.DroppedTails.{front_is, gone_is, gstate_is, remove_next, without_is}
 use Rattle.lfs_operations.proofs.MovEnding.{get_from, led_is}
@@ -35,7 +35,7 @@ use Rattle.lfs_operations.proofs.Placing.{nothing_came}
 use Rattle.lfs_operations.proofs.Removed.{flag_ends}
 use Rattle.lfs_operations.proofs.RemovedWhole.{LastPair, last_pair, only_slot, over_hard, run_hard}
 
-sync_state : (g : Gstate) → IsMoveState (sync_in g)
+sync_state : (g : Gstate) → IsWellFormedMoveState (gstate_of_sync_alone g)
 sync_state g = record { kind = omega arith; id = omega arith; pair = (omega arith, omega arith) }
 
 module _ (t : Kept) (index id : ℕ) (can : CanEndMoveAt t index id true) where
@@ -51,7 +51,7 @@ module _ (t : Kept) (index id : ℕ) (can : CanEndMoveAt t index id true) where
   abbrev u : Slot
   u = can.stands.slot
 
-  here : pair_in t index ≡ o
+  here : kept_pair_at_index t index ≡ o
   here = get_from t.pairs index o no_pair h.there
 
   held : o.content.slots ≡ u ∷ []
@@ -71,7 +71,7 @@ module _ (t : Kept) (index id : ℕ) (can : CanEndMoveAt t index id true) where
   -- ---- the pair in front
 
   led : ends_in_hard_tail false (v.before ++ v.left) ≡ true
-  led = sym (ap (λ z. follows_hard_tail z index) h.is ∙ led_is v o index h.is_site.chain h.number) ∙ (can.alone refl).0
+  led = sym (ap (λ z. is_pair_named_by_hard_tail z index) h.is ∙ led_is v o index h.is_site.chain h.number) ∙ (can.alone refl).0
 
   some_left : v.left ≢ []
   some_left none = absurd (let z = sym led ∙ ap (λ z. ends_in_hard_tail false (v.before ++ z)) none ∙ ap (ends_in_hard_tail false) (append-nil v.before) ∙ flag_ends v.before h.is_site.ends in cc)
@@ -129,33 +129,33 @@ module _ (t : Kept) (index id : ℕ) (can : CanEndMoveAt t index id true) where
     run = subst IsRun (ap (λ z. z ++ o ∷ v.right) front.is ∙ append_assoc front.front (x ∷ []) (o ∷ v.right)) h.is_site.run;
   }
 
-  hard : is_hard x.content.tail ≡ true
+  hard : is_hard_tail x.content.tail ≡ true
   hard = run_hard front.front x o v.right site_now.run
 
-  front_there : pair_in t (index - 1) ≡ x
+  front_there : kept_pair_at_index t (index - 1) ≡ x
   front_there = front_is t (index - 1) ahead x o back is number
 
-  gone_there : pair_in t (index - 1 + 1) ≡ o
+  gone_there : kept_pair_at_index t (index - 1 + 1) ≡ o
   gone_there = gone_is t (index - 1) ahead x o back is number
 
   abbrev state : Gstate
-  state = sync_in (gstate_of t.pairs)
+  state = gstate_of_sync_alone (gstate_of t.pairs)
 
-  pub can_drop_moved : CanDropAt t index (sync_in (gstate_of t.pairs))
+  pub can_drop_moved : CanDropPairAt t index (gstate_of_sync_alone (gstate_of t.pairs))
   can_drop_moved = record {
     above = let e = place in omega arith;
     below = can.below;
     thread = can.accepted.thread;
-    fits = subst (λ (z : Pair). FitsPair t.disk.block_size t.disk.page z.content) (sym front_there)
-        (each_right (λ (z : Pair). FitsPair t.disk.block_size t.disk.page z.content) ahead (x ∷ o ∷ back)
-        (subst (Each (λ (z : Pair). FitsPair t.disk.block_size t.disk.page z.content)) is (recursion_from_All (λ (z : Pair). FitsPair t.disk.block_size t.disk.page z.content) t.pairs can.writable.pairs))).0;
+    fits = subst (λ (z : Pair). IsContentFittingPair t.disk.block_size t.disk.page z.content) (sym front_there)
+        (each_right (λ (z : Pair). IsContentFittingPair t.disk.block_size t.disk.page z.content) ahead (x ∷ o ∷ back)
+        (subst (Each (λ (z : Pair). IsContentFittingPair t.disk.block_size t.disk.page z.content)) is (recursion_from_All (λ (z : Pair). IsContentFittingPair t.disk.block_size t.disk.page z.content) t.pairs can.writable.pairs))).0;
     storable = sync_state (gstate_of t.pairs);
   }
 
   -- ---- what it leaves
 
   abbrev c : Content
-  c = with_tail_taken t (index - 1) (sync_in (gstate_of t.pairs))
+  c = content_after_drop t (index - 1) (gstate_of_sync_alone (gstate_of t.pairs))
 
   abbrev q : Pair
   q = record { at = x.at; content = c }
@@ -165,7 +165,7 @@ module _ (t : Kept) (index id : ℕ) (can : CanEndMoveAt t index id true) where
 
   ending : IsEndingWhole t.disk w x o u
   ending = record {
-    accepted = subst (IsAccepted t.disk) there can.accepted;
+    accepted = subst (IsAcceptedImage t.disk) there can.accepted;
     writable = subst (IsWritable t.disk) there can.writable;
     site = site_now;
     kind = sym (ap (λ z. (gstate_of z).kind) there) ∙ can.kind;
@@ -175,25 +175,25 @@ module _ (t : Kept) (index id : ℕ) (can : CanEndMoveAt t index id true) where
     other = can.stands.entry;
   }
 
-  over_on : (disk : Disk) → IsWrittenAs t (index - 1) c disk → HasTakenOver t.disk w x o disk q
+  over_on : (disk : Disk) → IsPairWrittenOnDisk t (index - 1) c disk → HasTakenOver t.disk w x o disk q
   over_on disk written = record {
     at = refl;
     slots = slots_same;
-    tail = ap₂ (λ (y z : Pair). taken_over y.content.tail z.content.tail) front_there gone_there ∙ over_hard x.content.tail o.content.tail hard;
-    state = ap gstate_of (grouped (q ∷ [])) ∙ gstate_is t (index - 1) ahead x o back is number (sync_in (gstate_of t.pairs)) q refl ∙ ap (λ z. sync_in (gstate_of z)) there;
+    tail = ap₂ (λ (y z : Pair). tail_over_dropped_pair y.content.tail z.content.tail) front_there gone_there ∙ over_hard x.content.tail o.content.tail hard;
+    state = ap gstate_of (grouped (q ∷ [])) ∙ gstate_is t (index - 1) ahead x o back is number (gstate_of_sync_alone (gstate_of t.pairs)) q refl ∙ ap (λ z. gstate_of_sync_alone (gstate_of z)) there;
     device = subst (λ z. IsDevice t.disk disk z (thread_at w (q ∷ []))) (sym (grouped (x ∷ o ∷ [])))
-        (subst (IsDevice t.disk disk (ahead ++ x ∷ o ∷ back)) (sym (grouped (q ∷ []))) (device_dropped t (index - 1) ahead x o back is number (subst (IsAccepted t.disk) is can.accepted) disk c slots_same written));
+        (subst (IsDevice t.disk disk (ahead ++ x ∷ o ∷ back)) (sym (grouped (q ∷ []))) (device_dropped t (index - 1) ahead x o back is number (subst (IsAcceptedImage t.disk) is can.accepted) disk c slots_same written));
   }
 
-  goes_on : (disk : Disk) → IsWrittenAs t (index - 1) c disk → IsOnlyStep t.disk (thread_at w (x ∷ o ∷ [])) disk (thread_at w (q ∷ [])) (λ t. t) (λ d. d)
+  goes_on : (disk : Disk) → IsPairWrittenOnDisk t (index - 1) c disk → IsOnlyStep t.disk (thread_at w (x ∷ o ∷ [])) disk (thread_at w (q ∷ [])) (λ t. t) (λ d. d)
   goes_on disk written = whole_ended t.disk w x o u ending disk q (over_on disk written)
 
   -- the others stay
-  still_there : (z : Pair) → z.content.slots ≡ [] → is_hard z.content.tail ≡ false → SomeIn (λ y. y ≡ z) (ahead ++ x ∷ o ∷ back) → SomeIn (λ y. y ≡ z) (ahead ++ q ∷ back)
+  still_there : (z : Pair) → z.content.slots ≡ [] → is_hard_tail z.content.tail ≡ false → SomeIn (λ y. y ≡ z) (ahead ++ x ∷ o ∷ back) → SomeIn (λ y. y ≡ z) (ahead ++ q ∷ back)
   still_there z none soft among = go (among_parts (λ y. y ≡ z) ahead (x ∷ o ∷ back) among)
     where
       behind : SomeIn (λ y. y ≡ z) (x ∷ o ∷ back) → SomeIn (λ y. y ≡ z) (q ∷ back)
-      behind (inl e) = absurd (let k = sym hard ∙ ap (λ (y : Pair). is_hard y.content.tail) e ∙ soft in cc)
+      behind (inl e) = absurd (let k = sym hard ∙ ap (λ (y : Pair). is_hard_tail y.content.tail) e ∙ soft in cc)
       behind (inr (inl e)) = absurd (let k = sym held ∙ ap (λ (y : Pair). y.content.slots) e ∙ none in cc)
       behind (inr (inr a)) = inr a
 
@@ -201,7 +201,7 @@ module _ (t : Kept) (index id : ℕ) (can : CanEndMoveAt t index id true) where
       go (inl a) = among_left (λ y. y ≡ z) ahead (q ∷ back) a
       go (inr a) = among_right (λ y. y ≡ z) ahead (q ∷ back) (behind a)
 
-  pub has_gone : (new : Kept) → HasDroppedBehind t (index - 1) (sync_in (gstate_of t.pairs)) new → HasEndedMoveAt t index id true new
+  pub has_gone : (new : Kept) → IsNextPairDropped t (index - 1) (gstate_of_sync_alone (gstate_of t.pairs)) new → HasEndedMoveAt t index id true new
   has_gone new d =
       let pairs : new.pairs ≡ thread_at w (q ∷ []) = d.pairs ∙ without_is t (index - 1) ahead x o back is number c ∙ sym (grouped (q ∷ [])) in
       let taken = goes_on new.disk d.written in
@@ -211,7 +211,7 @@ module _ (t : Kept) (index id : ℕ) (can : CanEndMoveAt t index id true) where
         state = d.gstate;
         alike = subst (λ z. AreAlike z new.pairs) (sym left) (subst (AreAlike (ahead ++ x ∷ back)) (sym (pairs ∙ grouped (q ∷ [])))
             (alike_append ahead (x ∷ back) ahead (q ∷ back) (alike_itself ahead) (refl, slots_same, alike_itself back)));
-        map = d.map ∙ ap (λ (i : ℕ). without_pair t.map (pair_in t i).at) (let e = place in omega arith);
+        map = d.map ∙ ap (λ (i : ℕ). map_with_freed_pair t.map (kept_pair_at_index t i).at) (let e = place in omega arith);
         blocks = λ b.
             let e = whole_count t.disk w x o u ending new.disk q (over_on new.disk d.written) b in
             let f = ap (λ z. count b (used_blocks new.disk z)) pairs in
@@ -219,36 +219,36 @@ module _ (t : Kept) (index id : ℕ) (can : CanEndMoveAt t index id true) where
             let k = ap (λ (z : Pair). count b (z.at.0 ∷ z.at.1 ∷ [])) here in
             omega arith;
         shape = d.written.shape;
-        begins = ap (λ z. first_addresses (directories_in z)) pairs ∙ whole_firsts t.disk w x o u ending new.disk q (over_on new.disk d.written) ∙ ap (λ z. first_addresses (directories_in z)) (sym there);
+        begins = ap (λ z. first_addresses (directories_in_thread z)) pairs ∙ whole_firsts t.disk w x o u ending new.disk q (over_on new.disk d.written) ∙ ap (λ z. first_addresses (directories_in_thread z)) (sym there);
         kept = λ z none soft among. subst (SomeIn (λ y. y ≡ z)) (sym (pairs ∙ grouped (q ∷ []))) (still_there z none soft (subst (SomeIn (λ y. y ≡ z)) is among));
       }
 
   -- ---- at a stop
 
-  left_tree : (left : Blocks) → IsLeftByDrop t (index - 1) (sync_in (gstate_of t.pairs)) left → IsLeftOf (with_blocks left t.disk) (tree_in t.disk t.pairs) (tree_in t.disk t.pairs)
+  left_tree : (left : Blocks) → IsLeftByStoppedDrop t (index - 1) (gstate_of_sync_alone (gstate_of t.pairs)) left → IsLeftOf (with_blocks left t.disk) (tree_on_disk t.disk t.pairs) (tree_on_disk t.disk t.pairs)
   left_tree left l = go l.is
     where
-      go : (l.content ≡ (pair_in t (index - 1)).content) ⊎ (l.content ≡ with_tail_taken t (index - 1) (sync_in (gstate_of t.pairs))) → IsLeftOf (with_blocks left t.disk) (tree_in t.disk t.pairs) (tree_in t.disk t.pairs)
+      go : (l.content ≡ (kept_pair_at_index t (index - 1)).content) ⊎ (l.content ≡ content_after_drop t (index - 1) (gstate_of_sync_alone (gstate_of t.pairs))) → IsLeftOf (with_blocks left t.disk) (tree_on_disk t.disk t.pairs) (tree_on_disk t.disk t.pairs)
       go (inl e) =
           let same = e ∙ ap (λ (z : Pair). z.content) front_there in
-          let d = device_kept t (index - 1) ahead x o back is number (subst (IsAccepted t.disk) is can.accepted) (with_blocks left t.disk) x.content refl
-          (subst (λ y. IsWrittenAs t (index - 1) y (with_blocks left t.disk)) same l.written) in
+          let d = device_kept t (index - 1) ahead x o back is number (subst (IsAcceptedImage t.disk) is can.accepted) (with_blocks left t.disk) x.content refl
+          (subst (λ y. IsPairWrittenOnDisk t (index - 1) y (with_blocks left t.disk)) same l.written) in
           let on = subst (λ z. IsDevice t.disk (with_blocks left t.disk) z z) (sym is ∙ h.is) d in
-          let f = nothing_came t.disk (with_blocks left t.disk) v o h.is_site (subst (IsAccepted t.disk) h.is can.accepted) on in
+          let f = nothing_came t.disk (with_blocks left t.disk) v o h.is_site (subst (IsAcceptedImage t.disk) h.is can.accepted) on in
           record {
             pairs = thread_at v (o ∷ []);
             accepted = f.accepted;
             writable = profile_same t.disk (with_blocks left t.disk) (thread_at v (o ∷ [])) refl refl (subst (IsWritable t.disk) h.is can.writable);
-            tree = inl (f.shows ∙ ap (tree_in t.disk) (sym h.is));
+            tree = inl (f.shows ∙ ap (tree_on_disk t.disk) (sym h.is));
           }
       go (inr e) =
-          let k = goes_on (with_blocks left t.disk) (subst (λ y. IsWrittenAs t (index - 1) y (with_blocks left t.disk)) e l.written) in
+          let k = goes_on (with_blocks left t.disk) (subst (λ y. IsPairWrittenOnDisk t (index - 1) y (with_blocks left t.disk)) e l.written) in
           record {
             pairs = thread_at w (q ∷ []);
             accepted = k.follows.accepted;
             writable = k.writable;
-            tree = inl (k.follows.shows ∙ ap (tree_in t.disk) (sym there));
+            tree = inl (k.follows.shows ∙ ap (tree_on_disk t.disk) (sym there));
           }
 
-  pub goes_survives : (new : List Event) → StopsLeave t.history new (IsLeftByDrop t (index - 1) (sync_in (gstate_of t.pairs))) → Survives t.disk t.history new (tree_in t.disk t.pairs) (tree_in t.disk t.pairs)
-  goes_survives new stops clean = LeavesOnly-weaker left_tree (stops clean)
+  pub goes_survives : (new : List CallEvent) → StopsAfterCleanErasesLeave t.history new (IsLeftByStoppedDrop t (index - 1) (gstate_of_sync_alone (gstate_of t.pairs))) → SurvivesStopsSince t.disk t.history new (tree_on_disk t.disk t.pairs) (tree_on_disk t.disk t.pairs)
+  goes_survives new stops clean = IsTrueAfterEachStopSince-weaker left_tree (stops clean)

@@ -5,10 +5,10 @@ use Rattle.std.proofs.lemmas.List.Concat.{flat_map-append}
 use Rattle.std.proofs.lemmas.List.Elements.{recursion_from_All}
 use Rattle.lfs_model.specs.Disk.{Disk}
 use Rattle.lfs_model.specs.Slots.{Slot, Gstate, is_superblock, same_pair}
-use Rattle.lfs_model.specs.Thread.{Pair, blocks_of, gstate_of, starts_with_superblock, slots_not_moved}
-use Rattle.lfs_model.specs.View.{IsAccepted}
+use Rattle.lfs_model.specs.Thread.{Pair, blocks_of_pairs, gstate_of, starts_with_superblock, slots_not_moved}
+use Rattle.lfs_model.specs.View.{IsAcceptedImage}
 use Rattle.lfs_model.specs.Profile.{IsWritable}
-use Rattle.lfs_model.specs.Shown.{all_slots, directories_in, used_blocks}
+use Rattle.lfs_model.specs.Shown.{all_slots_not_moved, directories_in_thread, used_blocks}
 use Rattle.lfs_model.specs.Slots.{set_move}
 use Rattle.lfs_model.proofs.Changes.{slots_files}
 use Rattle.lfs_model.proofs.Counts.{Each, each_append, each_left, each_right, each_weaker, count, count_append}
@@ -22,12 +22,12 @@ use Rattle.lfs_model.proofs.Sites.{Site, dirs_at, thread_at, IsSite}
 use Rattle.lfs_model.proofs.Splices.{drop_shape, files_of, slots_in, unmoved_in, IsDevice}
 use Rattle.lfs_model.proofs.StepsTaken.{IsOnlyStep, end_drop_taken}
 use Rattle.lfs_model.proofs.MoveSets.{first_addresses}
-use Rattle.lfs_operations.specs.MoveEnds.{sync_in}
+use Rattle.lfs_operations.specs.MoveEnds.{gstate_of_sync_alone}
 use Rattle.lfs_operations.proofs.MovFirsts.{end_firsts}
 
 -- At the site stand p and o behind it, joined by a hard tail, and the move hides o's only slot u.
 pub record IsEndingWhole (disk : Disk) (w : Site) (p o : Pair) (u : Slot) : Type 0 where
-  pub accepted : IsAccepted disk (thread_at w (p ∷ o ∷ []))
+  pub accepted : IsAcceptedImage disk (thread_at w (p ∷ o ∷ []))
   pub writable : IsWritable disk (thread_at w (p ∷ o ∷ []))
   pub site : IsSite w (p ∷ o ∷ [])
   pub kind : (gstate_of (thread_at w (p ∷ o ∷ []))).kind ≡ set_move
@@ -41,7 +41,7 @@ pub record HasTakenOver (disk : Disk) (w : Site) (p o : Pair) (new : Disk) (q : 
   pub at : q.at ≡ p.at
   pub slots : q.content.slots ≡ p.content.slots
   pub tail : q.content.tail ≡ o.content.tail
-  pub state : gstate_of (thread_at w (q ∷ [])) ≡ sync_in (gstate_of (thread_at w (p ∷ o ∷ [])))
+  pub state : gstate_of (thread_at w (q ∷ [])) ≡ gstate_of_sync_alone (gstate_of (thread_at w (p ∷ o ∷ [])))
   pub device : IsDevice disk new (thread_at w (p ∷ o ∷ [])) (thread_at w (q ∷ []))
 
 module _ (disk : Disk) (w : Site) (p o : Pair) (u : Slot) (k : IsEndingWhole disk w p o u) where
@@ -63,8 +63,8 @@ module _ (disk : Disk) (w : Site) (p o : Pair) (u : Slot) (k : IsEndingWhole dis
   grouped : thread_at w (p ∷ o ∷ []) ≡ ((w.chain ++ ahead) ++ p ∷ []) ++ o ∷ back
   grouped = sym (append_assoc w.chain ahead (p ∷ o ∷ back)) ∙ sym (append_assoc (w.chain ++ ahead) (p ∷ []) (o ∷ back))
 
-  distinct_there : IsDistinct nat_eq (blocks_of (((w.chain ++ ahead) ++ p ∷ []) ++ o ∷ back))
-  distinct_there = subst (λ z. IsDistinct nat_eq (blocks_of z)) grouped k.accepted.thread.distinct
+  distinct_there : IsDistinct nat_eq (blocks_of_pairs (((w.chain ++ ahead) ++ p ∷ []) ++ o ∷ back))
+  distinct_there = subst (λ z. IsDistinct nat_eq (blocks_of_pairs z)) grouped k.accepted.thread.distinct
 
   flipped : (ss : List Pair) → Each (λ s. same_pair s.at (gstate_of (thread_at w (p ∷ o ∷ []))).pair ≡ false) ss → Each Far ss
   flipped ss h = each_weaker (λ s. same_pair s.at (gstate_of (thread_at w (p ∷ o ∷ []))).pair ≡ false) Far (λ s e. flip_false s.at g.pair e) ss h
@@ -117,19 +117,19 @@ module _ (disk : Disk) (w : Site) (p o : Pair) (u : Slot) (k : IsEndingWhole dis
         (move_ends disk new w p (o ∷ []) q [] p.content.slots u [] whole_step (λ e. k.accepted.reached (sym (ap (λ (z : Gstate). z.sync) x.state) ∙ e)))
 
     -- the directories begin where they did
-    pub whole_firsts : first_addresses (directories_in (thread_at w (q ∷ []))) ≡ first_addresses (directories_in (thread_at w (p ∷ o ∷ [])))
+    pub whole_firsts : first_addresses (directories_in_thread (thread_at w (q ∷ []))) ≡ first_addresses (directories_in_thread (thread_at w (p ∷ o ∷ [])))
     whole_firsts = end_firsts disk new w p (o ∷ []) q [] p.content.slots u [] whole_step
 
     -- ---- the blocks that the image uses
 
-    blocks_two : (xs ys : List Pair) (b : ℕ) → count b (blocks_of (xs ++ ys)) ≡ count b (blocks_of xs) + count b (blocks_of ys)
-    blocks_two xs ys b = ap (count b) (flat_map-append (λ (s : Pair). s.at.0 ∷ s.at.1 ∷ []) xs ys) ∙ count_append b (blocks_of xs) (blocks_of ys)
+    blocks_two : (xs ys : List Pair) (b : ℕ) → count b (blocks_of_pairs (xs ++ ys)) ≡ count b (blocks_of_pairs xs) + count b (blocks_of_pairs ys)
+    blocks_two xs ys b = ap (count b) (flat_map-append (λ (s : Pair). s.at.0 ∷ s.at.1 ∷ []) xs ys) ∙ count_append b (blocks_of_pairs xs) (blocks_of_pairs ys)
 
     slots_three : (f : Pair → List Slot) (zs : List Pair) → flat_map f (thread_at w zs) ≡ flat_map f w.chain ++ (flat_map f ahead ++ (flat_map f zs ++ flat_map f back))
     slots_three f zs = flat_map-append f w.chain (ahead ++ (zs ++ back)) ∙ ap (λ z. flat_map f w.chain ++ z) (flat_map-append f ahead (zs ++ back) ∙ ap (λ z. flat_map f ahead ++ z) (flat_map-append f zs back))
 
     -- no file but those that were visible
-    visible_same : all_slots (thread_at w (q ∷ [])) ≡ all_slots (thread_at w (p ∷ o ∷ []))
+    visible_same : all_slots_not_moved (thread_at w (q ∷ [])) ≡ all_slots_not_moved (thread_at w (p ∷ o ∷ []))
     visible_same = unmoved_in (gstate_of (thread_at w (q ∷ []))) still_none (thread_at w (q ∷ [])) ∙ slots_three (λ s. s.content.slots) (q ∷ [])
         ∙ ap₂ (λ a z. a ++ (slots_in ahead ++ z)) (sym (hidden_none w.chain (each_left Far w.chain ahead far_ahead)))
         (ap₂ (λ a z. a ++ z) (ap (λ z. z ++ []) x.slots ∙ sym hidden_two) (sym (hidden_none back far_back)))
@@ -137,10 +137,10 @@ module _ (disk : Disk) (w : Site) (p o : Pair) (u : Slot) (k : IsEndingWhole dis
         ∙ sym (slots_three (slots_not_moved g) (p ∷ o ∷ []))
 
     -- those that it used, without the pair's
-    pub whole_count : (b : ℕ) → count b (used_blocks new (thread_at w (q ∷ []))) + count b (blocks_of (o ∷ [])) ≡ count b (used_blocks disk (thread_at w (p ∷ o ∷ [])))
+    pub whole_count : (b : ℕ) → count b (used_blocks new (thread_at w (q ∷ []))) + count b (blocks_of_pairs (o ∷ [])) ≡ count b (used_blocks disk (thread_at w (p ∷ o ∷ [])))
     whole_count b =
-        let a1 = count_append b (blocks_of (thread_at w (q ∷ []))) (files_of new (all_slots (thread_at w (q ∷ [])))) in
-        let a2 = count_append b (blocks_of (thread_at w (p ∷ o ∷ []))) (files_of disk (all_slots (thread_at w (p ∷ o ∷ [])))) in
+        let a1 = count_append b (blocks_of_pairs (thread_at w (q ∷ []))) (files_of new (all_slots_not_moved (thread_at w (q ∷ [])))) in
+        let a2 = count_append b (blocks_of_pairs (thread_at w (p ∷ o ∷ []))) (files_of disk (all_slots_not_moved (thread_at w (p ∷ o ∷ [])))) in
         let b1 = blocks_two w.chain (dirs_at w (q ∷ [])) b in
         let b2 = blocks_two ahead (q ∷ [] ++ back) b in
         let b3 = blocks_two (q ∷ []) back b in
@@ -149,7 +149,7 @@ module _ (disk : Disk) (w : Site) (p o : Pair) (u : Slot) (k : IsEndingWhole dis
         let b6 = blocks_two (p ∷ []) (o ∷ back) b in
         let b7 = blocks_two (o ∷ []) back b in
         let at = ap (λ (a : ℕ × ℕ). count b (a.0 ∷ a.1 ∷ [])) x.at in
-        let same = ap (count b) (slots_files disk new (all_slots (thread_at w (p ∷ o ∷ []))) x.device.geometry
-        (recursion_from_All (λ (s : Slot). HasSameFile disk new s.struct) (all_slots (thread_at w (p ∷ o ∷ []))) x.device.files)) in
+        let same = ap (count b) (slots_files disk new (all_slots_not_moved (thread_at w (p ∷ o ∷ []))) x.device.geometry
+        (recursion_from_All (λ (s : Slot). HasSameFile disk new s.struct) (all_slots_not_moved (thread_at w (p ∷ o ∷ []))) x.device.files)) in
         let f = ap (λ z. count b (files_of new z)) visible_same in
         omega arith

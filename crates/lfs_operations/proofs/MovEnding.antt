@@ -7,22 +7,22 @@ use Rattle.std.proofs.lemmas.Option.{same_Some}
 use Rattle.std.proofs.lemmas.List.Elements.{recursion_from_All}
 use Rattle.std.proofs.lemmas.List.Sums.{sum_by-append, sum_by-cons}
 use Rattle.lfs_model.specs.Blocks.{Blocks}
-use Rattle.lfs_model.specs.Changes.{Delete, PutMove, changed_by}
-use Rattle.lfs_model.specs.Content.{RawContent, content_at, raw_at, completed}
+use Rattle.lfs_model.specs.Changes.{Delete, PutMove, content_after_changes}
+use Rattle.lfs_model.specs.Content.{RawContent, content_of_pair_at, raw_content_of_pair_at, content_if_slots_are_complete}
 use Rattle.lfs_model.specs.Disk.{Disk}
-use Rattle.lfs_model.specs.History.{Event}
-use Rattle.lfs_model.specs.LoggedContent.{IsAddress, IsMoveState}
-use Rattle.lfs_model.specs.PowerLoss.{IsLeftByStop as IsLeftOf, Survives, with_blocks}
-use Rattle.lfs_model.specs.Slots.{Slot, FitsPair, Gstate, Tail, gstate_xor, same_pair, slot_size}
-use Rattle.lfs_model.specs.Thread.{Pair, gstate_of, next_of, superblocks_before}
-use Rattle.lfs_model.specs.View.{IsAccepted}
-use Rattle.lfs_model.specs.Profile.{IsWritable, FitsSlot}
-use Rattle.lfs_model.specs.Shown.{directories_in, tree_in, used_blocks}
+use Rattle.lfs_model.specs.History.{CallEvent}
+use Rattle.lfs_model.specs.LoggedContent.{Are32BitPairAddresses, IsWellFormedMoveState}
+use Rattle.lfs_model.specs.PowerLoss.{ShowsTreeBeforeOrAfter as IsLeftOf, SurvivesStopsSince, with_blocks}
+use Rattle.lfs_model.specs.Slots.{Slot, IsContentFittingPair, Gstate, Tail, gstate_xor, same_pair, slot_size}
+use Rattle.lfs_model.specs.Thread.{Pair, gstate_of, pair_named_by_tail, pair_count_before_root}
+use Rattle.lfs_model.specs.View.{IsAcceptedImage}
+use Rattle.lfs_model.specs.Profile.{IsWritable, FitsSlotLimits}
+use Rattle.lfs_model.specs.Shown.{directories_in_thread, tree_on_disk, used_blocks}
 use Rattle.lfs_model.proofs.Alike.{AreAlike, alike_itself}
 use Rattle.lfs_model.proofs.Completed.{IsCompleted, complete_length, complete_remove, completed_parts, completed_from}
 use Rattle.lfs_model.proofs.Counts.{Each, each_right, count}
 use Rattle.lfs_model.proofs.Effects.{deletes, does_first, does_nothing, puts_move}
-use Rattle.lfs_model.proofs.Histories.{LeavesOnly-weaker}
+use Rattle.lfs_model.proofs.Histories.{IsTrueAfterEachStopSince-weaker}
 use Rattle.lfs_model.proofs.Indexes.{HasSite, site_of_number}
 use Rattle.lfs_model.proofs.MoveSets.{first_addresses}
 use Rattle.lfs_model.proofs.Moves.{remove_here}
@@ -30,10 +30,10 @@ use Rattle.lfs_model.proofs.Sites.{SomeIn, Site, among_left, among_parts, among_
 use Rattle.lfs_model.proofs.StepsTaken.{IsOnlyStep}
 use Rattle.lfs_model.proofs.Superblocks.{pairs_behind}
 use Rattle.lfs_model.proofs.Writable.{ends_in_hard_tail}
-use Rattle.lfs_thread.specs.Device.{StopsLeave}
+use Rattle.lfs_thread.specs.Device.{StopsAfterCleanErasesLeave}
 use Rattle.lfs_thread.specs.Kept.{Kept}
-use Rattle.lfs_thread.specs.Steps.{CanChange, IsChanged, IsLeftByChange, IsCommitRefused, SlotsHaveFirst, made_in_thread, no_pair, pair_in, with_pair}
-use Rattle.lfs_operations.specs.MoveEnds.{CanEndMoveAt, HasEndedMoveAt, content_without, end_changes, follows_hard_tail, move_in, delta_without_move, sync_in}
+use Rattle.lfs_thread.specs.Steps.{CanChangePair, IsPairChanged, LeavesPairOldOrChanged, IsCommitRefused, SlotsBeginWithSuperblock, complete_content_after_changes, no_pair, kept_pair_at_index, pairs_with_content_at_index}
+use Rattle.lfs_operations.specs.MoveEnds.{CanEndMoveAt, HasEndedMoveAt, content_after_move_ends, end_move_changes, is_pair_named_by_hard_tail, gstate_without_sync, delta_without_move, gstate_of_sync_alone}
 use Rattle.lfs_operations.proofs.Held.{CompletesTo, completes_to}
 use Rattle.lfs_operations.proofs.MovEnd.{IsEnding, ended, ended_count, ended_firsts, ended_state}
 use Rattle.lfs_operations.proofs.MovSet.{HasTurned}
@@ -42,8 +42,8 @@ use Rattle.lfs_operations.proofs.Placing.{nothing_came}
 
 pub writable_same : (disk new : Disk) (ps : List Pair) → new.block_size ≡ disk.block_size → new.page ≡ disk.page → IsWritable disk ps → IsWritable new ps
 writable_same disk new ps e f h = record {
-  pairs = subst (λ (n : ℕ). All (λ p. FitsPair n new.page p.content) ps) (sym e) (subst (λ (n : ℕ). All (λ p. FitsPair disk.block_size n p.content) ps) (sym f) h.pairs);
-  slots = subst (λ (n : ℕ). All (λ p. All (FitsSlot n new.page) p.content.slots) ps) (sym e) (subst (λ (n : ℕ). All (λ p. All (FitsSlot disk.block_size n) p.content.slots) ps) (sym f) h.slots);
+  pairs = subst (λ (n : ℕ). All (λ p. IsContentFittingPair n new.page p.content) ps) (sym e) (subst (λ (n : ℕ). All (λ p. IsContentFittingPair disk.block_size n p.content) ps) (sym f) h.pairs);
+  slots = subst (λ (n : ℕ). All (λ p. All (FitsSlotLimits n new.page) p.content.slots) ps) (sym e) (subst (λ (n : ℕ). All (λ p. All (FitsSlotLimits disk.block_size n) p.content.slots) ps) (sym f) h.slots);
   no_empty_pair = h.no_empty_pair;
 }
 
@@ -56,12 +56,12 @@ take_front : (xs ys : List Pair) (n : ℕ) → n ≡ length xs → take n (xs ++
 take_front [] ys n e = ap (λ k. take k ys) e
 take_front (x ∷ xs) ys n e = ap (λ k. take k (x ∷ (xs ++ ys))) e ∙ ap (λ z. x ∷ z) (take_front xs ys (length xs) refl)
 
-pub led_is : (w : Site) (p : Pair) (i : ℕ) → superblocks_before (thread_at w (p ∷ [])) ≡ length w.chain → length (w.chain ++ (w.before ++ w.left)) ≡ i → follows_hard_tail (thread_at w (p ∷ [])) i ≡ ends_in_hard_tail false (w.before ++ w.left)
+pub led_is : (w : Site) (p : Pair) (i : ℕ) → pair_count_before_root (thread_at w (p ∷ [])) ≡ length w.chain → length (w.chain ++ (w.before ++ w.left)) ≡ i → is_pair_named_by_hard_tail (thread_at w (p ∷ [])) i ≡ ends_in_hard_tail false (w.before ++ w.left)
 led_is w p i chain number =
     ap₂ (λ n z. ends_in_hard_tail false (take (i - n) z)) chain (pairs_behind w.chain (dirs_at w (p ∷ [])) chain)
     ∙ ap (ends_in_hard_tail false) (take_front (w.before ++ w.left) (p ∷ [] ++ (w.right ++ w.after)) (i - length w.chain) (let l = length-append w.chain (w.before ++ w.left) in omega arith))
 
-module _ (t : Kept) (pair id : ℕ) (can : CanEndMoveAt t pair id false) (address : IsAddress (delta_without_move t pair).pair) where
+module _ (t : Kept) (pair id : ℕ) (can : CanEndMoveAt t pair id false) (address : Are32BitPairAddresses (delta_without_move t pair).pair) where
   abbrev h : HasSite t.pairs pair
   h = site_of_number t.disk t.pairs pair can.accepted can.begins can.below
 
@@ -71,7 +71,7 @@ module _ (t : Kept) (pair id : ℕ) (can : CanEndMoveAt t pair id false) (addres
   abbrev p : Pair
   p = h.pair
 
-  here : pair_in t pair ≡ p
+  here : kept_pair_at_index t pair ≡ p
   here = get_from t.pairs pair p no_pair h.there
 
   abbrev l : List Slot
@@ -94,12 +94,12 @@ module _ (t : Kept) (pair id : ℕ) (can : CanEndMoveAt t pair id false) (addres
   at_site : (P : Pair → Type 0) → Each P t.pairs → P p
   at_site P e = (each_right P (w.before ++ w.left) (p ∷ [] ++ (w.right ++ w.after)) (each_right P w.chain (dirs_at w (p ∷ [])) (subst (Each P) h.is e))).0
 
-  c : CompletesTo (raw_at t.disk (pair_in t pair).at) p.content
-  c = completes_to (raw_at t.disk (pair_in t pair).at) p.content (ap (λ (z : Pair). content_at t.disk z.at) here
-      ∙ at_site (λ x. content_at t.disk x.at ≡ Some x.content) (recursion_from_All (λ (x : Pair). content_at t.disk x.at ≡ Some x.content) t.pairs can.accepted.thread.contents))
+  c : CompletesTo (raw_content_of_pair_at t.disk (kept_pair_at_index t pair).at) p.content
+  c = completes_to (raw_content_of_pair_at t.disk (kept_pair_at_index t pair).at) p.content (ap (λ (z : Pair). content_of_pair_at t.disk z.at) here
+      ∙ at_site (λ x. content_of_pair_at t.disk x.at ≡ Some x.content) (recursion_from_All (λ (x : Pair). content_of_pair_at t.disk x.at ≡ Some x.content) t.pairs can.accepted.thread.contents))
 
-  fits_there : FitsPair t.disk.block_size t.disk.page p.content
-  fits_there = at_site (λ x. FitsPair t.disk.block_size t.disk.page x.content) (recursion_from_All (λ (x : Pair). FitsPair t.disk.block_size t.disk.page x.content) t.pairs can.writable.pairs)
+  fits_there : IsContentFittingPair t.disk.block_size t.disk.page p.content
+  fits_there = at_site (λ x. IsContentFittingPair t.disk.block_size t.disk.page x.content) (recursion_from_All (λ (x : Pair). IsContentFittingPair t.disk.block_size t.disk.page x.content) t.pairs can.writable.pairs)
 
   within : id < length p.content.slots
   within = let e = ap length held in let k = length-append l (u ∷ r) in let n = can.stands.number in omega arith
@@ -107,17 +107,17 @@ module _ (t : Kept) (pair id : ℕ) (can : CanEndMoveAt t pair id false) (addres
   parts : IsCompleted c.raw p.content
   parts = completed_parts c.raw p.content c.complete
 
-  delta_is : IsMoveState p.content.move
-  delta_is = subst IsMoveState (sym parts.move) (can.logged c.raw c.is).move
+  delta_is : IsWellFormedMoveState p.content.move
+  delta_is = subst IsWellFormedMoveState (sym parts.move) (can.logged c.raw c.is).move
 
-  is_state : IsMoveState move
+  is_state : IsWellFormedMoveState move
   is_state =
       let few = fits_there.count in
       let m = within in
       let own = ap (λ (z : Pair). z.content.move) here in
       record {
-        kind = xor_lt 11 (gstate_of t.pairs).kind (pair_in t pair).content.move.kind (let e = can.kind in omega arith) (let k = delta_is.kind in let e = ap (λ (z : Gstate). z.kind) own in omega arith);
-        id = xor_lt 10 (gstate_of t.pairs).id (pair_in t pair).content.move.id (let e = can.id_is in omega arith) (let k = delta_is.id in let e = ap (λ (z : Gstate). z.id) own in omega arith);
+        kind = xor_lt 11 (gstate_of t.pairs).kind (kept_pair_at_index t pair).content.move.kind (let e = can.kind in omega arith) (let k = delta_is.kind in let e = ap (λ (z : Gstate). z.kind) own in omega arith);
+        id = xor_lt 10 (gstate_of t.pairs).id (kept_pair_at_index t pair).content.move.id (let e = can.id_is in omega arith) (let k = delta_is.id in let e = ap (λ (z : Gstate). z.id) own in omega arith);
         pair = address;
       }
 
@@ -127,7 +127,7 @@ module _ (t : Kept) (pair id : ℕ) (can : CanEndMoveAt t pair id false) (addres
   abbrev raw_now : RawContent
   raw_now = record c.raw { slots = remove c.raw.slots id; move = delta_without_move t pair }
 
-  changed_now : changed_by c.raw (end_changes t pair id) ≡ Some raw_now
+  changed_now : content_after_changes c.raw (end_move_changes t pair id) ≡ Some raw_now
   changed_now =
       let few = fits_there.count in
       let n = complete_length c.raw.slots p.content.slots parts.slots in
@@ -138,23 +138,23 @@ module _ (t : Kept) (pair id : ℕ) (can : CanEndMoveAt t pair id false) (addres
   slots_now : remove p.content.slots id ≡ l ++ r
   slots_now = ap₂ (λ (z : List Slot) (i : ℕ). remove z i) held (sym can.stands.number) ∙ remove_here l r u
 
-  made : made_in_thread t pair (end_changes t pair id) ≡ Some (content_with p (l ++ r) move)
+  made : complete_content_after_changes t pair (end_move_changes t pair id) ≡ Some (content_with p (l ++ r) move)
   made =
-      ap (λ o. option_and_then completed (option_and_then (λ (x : RawContent). changed_by x (end_changes t pair id)) o)) c.is
-      ∙ ap (λ o. option_and_then completed o) changed_now
+      ap (λ o. option_and_then content_if_slots_are_complete (option_and_then (λ (x : RawContent). content_after_changes x (end_move_changes t pair id)) o)) c.is
+      ∙ ap (λ o. option_and_then content_if_slots_are_complete o) changed_now
       ∙ completed_from raw_now (remove p.content.slots id) (complete_remove c.raw.slots p.content.slots id parts.slots)
       ∙ ap₂ (λ s (z : Option Tail). Some (record { slots = s; tail = z; move = move })) slots_now (sym parts.tail)
 
-  pub can_end : CanChange t pair (end_changes t pair id)
+  pub can_end : CanChangePair t pair (end_move_changes t pair id)
   can_end = record {
     below = can.below;
     content = content_with p (l ++ r) move;
     made = made;
-    next = ap (λ (z : Pair). next_of z.content.tail) (sym here);
+    next = ap (λ (z : Pair). pair_named_by_tail z.content.tail) (sym here);
   }
 
   -- what is left fits
-  still_fits : FitsPair t.disk.block_size t.disk.page (content_with p (l ++ r) move)
+  still_fits : IsContentFittingPair t.disk.block_size t.disk.page (content_with p (l ++ r) move)
   still_fits =
       let f = fits_there in
       let a = ap (sum_by slot_size) held in
@@ -168,28 +168,28 @@ module _ (t : Kept) (pair id : ℕ) (can : CanEndMoveAt t pair id false) (addres
       let n = f.count in
       record { size = omega arith; count = omega arith }
 
-  pub end_not_refused : (new : Kept) → IsCommitRefused t pair (end_changes t pair id) new → ⊥
-  end_not_refused new is = is.too_large (subst (FitsPair t.disk.block_size t.disk.page) (sym (same_Some is.content (content_with p (l ++ r) move) (sym is.made ∙ made))) still_fits)
+  pub end_not_refused : (new : Kept) → IsCommitRefused t pair (end_move_changes t pair id) new → ⊥
+  end_not_refused new is = is.too_large (subst (IsContentFittingPair t.disk.block_size t.disk.page) (sym (same_Some is.content (content_with p (l ++ r) move) (sym is.made ∙ made))) still_fits)
 
   -- ---- in the image
 
-  first_kept : (l : List Slot) → SlotsHaveFirst (l ++ u ∷ r) → SlotsHaveFirst (l ++ r)
+  first_kept : (l : List Slot) → SlotsBeginWithSuperblock (l ++ u ∷ r) → SlotsBeginWithSuperblock (l ++ r)
   first_kept [] e = absurd (let z = sym can.stands.entry ∙ e.0 in cc)
   first_kept (s ∷ l) e = e
 
-  turn : IsTurn t pair (end_changes t pair id) w p (l ++ r) move
+  turn : IsTurn t pair (end_move_changes t pair id) w p (l ++ r) move
   turn = record {
     accepted = can.accepted;
     there = h.is;
     place = sym h.number ∙ length-append w.chain (w.before ++ w.left);
     site = h.is_site;
     made = made;
-    first = λ e. first_kept l (subst SlotsHaveFirst held (e.kind, e.name));
+    first = λ e. first_kept l (subst SlotsBeginWithSuperblock held (e.kind, e.name));
   }
 
   filled : ends_in_hard_tail false (w.before ++ w.left) ≡ true → l ++ r ≢ []
   filled hard none =
-      let led = ap (λ z. follows_hard_tail z pair) h.is ∙ led_is w p pair h.is_site.chain h.number ∙ hard in
+      let led = ap (λ z. is_pair_named_by_hard_tail z pair) h.is ∙ led_is w p pair h.is_site.chain h.number ∙ hard in
       let many = can.stays refl led in
       let e = ap length can.stands.held in
       let i = length-append l (u ∷ r) in
@@ -199,7 +199,7 @@ module _ (t : Kept) (pair id : ℕ) (can : CanEndMoveAt t pair id false) (addres
 
   ending : IsEnding t.disk w p l u r
   ending = record {
-    accepted = subst (IsAccepted t.disk) h.is can.accepted;
+    accepted = subst (IsAcceptedImage t.disk) h.is can.accepted;
     writable = subst (IsWritable t.disk) h.is can.writable;
     site = h.is_site;
     kind = sym (ap (λ z. (gstate_of z).kind) h.is) ∙ can.kind;
@@ -211,10 +211,10 @@ module _ (t : Kept) (pair id : ℕ) (can : CanEndMoveAt t pair id false) (addres
   }
 
   abbrev end_delta : Gstate
-  end_delta = gstate_xor (move_in (gstate_of (thread_at w (p ∷ [])))) p.content.move
+  end_delta = gstate_xor (gstate_without_sync (gstate_of (thread_at w (p ∷ [])))) p.content.move
 
   move_is : move ≡ end_delta
-  move_is = ap₂ (λ z (x : Pair). gstate_xor (move_in (gstate_of z)) x.content.move) h.is here
+  move_is = ap₂ (λ z (x : Pair). gstate_xor (gstate_without_sync (gstate_of z)) x.content.move) h.is here
 
   -- the pair alone, with the other slots
   abbrev pub q_of : Pair
@@ -243,8 +243,8 @@ module _ (t : Kept) (pair id : ℕ) (can : CanEndMoveAt t pair id false) (addres
       past (inl a) = among_left (λ y. y ≡ z) w.chain (dirs_at w (q_of ∷ [])) a
       past (inr a) = within_dirs (among_parts (λ y. y ≡ z) (w.before ++ w.left) (p ∷ (w.right ++ w.after)) a)
 
-  pub has_ended : (new : Kept) → IsChanged t pair (end_changes t pair id) new → HasEndedMoveAt t pair id false new
-  has_ended new is = go (changed_one t pair (end_changes t pair id) w p (l ++ r) move turn new is)
+  pub has_ended : (new : Kept) → IsPairChanged t pair (end_move_changes t pair id) new → HasEndedMoveAt t pair id false new
+  has_ended new is = go (changed_one t pair (end_move_changes t pair id) w p (l ++ r) move turn new is)
     where
       go : ChangedOne t pair w p (l ++ r) move new → HasEndedMoveAt t pair id false new
       go x =
@@ -252,30 +252,30 @@ module _ (t : Kept) (pair id : ℕ) (can : CanEndMoveAt t pair id false) (addres
           let y = subst (λ m. HasTurned t.disk w p (l ++ r) m new.disk q_of []) move_is x.turned in
           record {
             taken = subst (λ z. IsOnlyStep t.disk z new.disk new.pairs (λ t. t) (λ d. d)) (sym h.is) (subst (λ z. IsOnlyStep t.disk (thread_at w (p ∷ [])) new.disk z (λ t. t) (λ d. d)) (sym x.pairs) taken);
-            state = ap gstate_of x.pairs ∙ ended_state t.disk w p l u r ending new.disk q_of y ∙ ap (λ z. sync_in (gstate_of z)) (sym h.is);
-            alike = subst (AreAlike (with_pair t pair (content_without t pair id))) (sym (x.is ∙ ap (λ d. with_pair t pair d) (ap₂ (λ s (z : Pair). record { slots = s; tail = z.content.tail; move = move })
-                (sym slots_now ∙ ap (λ (z : Pair). remove z.content.slots id) (sym here)) (sym here)))) (alike_itself (with_pair t pair (content_without t pair id)));
+            state = ap gstate_of x.pairs ∙ ended_state t.disk w p l u r ending new.disk q_of y ∙ ap (λ z. gstate_of_sync_alone (gstate_of z)) (sym h.is);
+            alike = subst (AreAlike (pairs_with_content_at_index t pair (content_after_move_ends t pair id))) (sym (x.is ∙ ap (λ d. pairs_with_content_at_index t pair d) (ap₂ (λ s (z : Pair). record { slots = s; tail = z.content.tail; move = move })
+                (sym slots_now ∙ ap (λ (z : Pair). remove z.content.slots id) (sym here)) (sym here)))) (alike_itself (pairs_with_content_at_index t pair (content_after_move_ends t pair id)));
             map = x.map;
             blocks = λ b. (let e = ap (λ z. count b (used_blocks new.disk z)) x.pairs ∙ ended_count t.disk w p l u r ending new.disk q_of y b ∙ ap (λ z. count b (used_blocks t.disk z)) (sym h.is) in omega arith);
             shape = x.shape;
-            begins = ap (λ z. first_addresses (directories_in z)) x.pairs ∙ ended_firsts t.disk w p l u r ending new.disk q_of y ∙ ap (λ z. first_addresses (directories_in z)) (sym h.is);
+            begins = ap (λ z. first_addresses (directories_in_thread z)) x.pairs ∙ ended_firsts t.disk w p l u r ending new.disk q_of y ∙ ap (λ z. first_addresses (directories_in_thread z)) (sym h.is);
             kept = λ z none soft among. subst (SomeIn (λ y. y ≡ z)) (sym x.pairs) (still_there z none (subst (SomeIn (λ y. y ≡ z)) h.is among));
           }
 
   -- ---- at a stop
 
-  left_tree : (left : Blocks) → IsLeftByChange t pair (end_changes t pair id) left → IsLeftOf (with_blocks left t.disk) (tree_in t.disk t.pairs) (tree_in t.disk t.pairs)
-  left_tree left is = go (left_alone t pair (end_changes t pair id) w p (l ++ r) move turn left is)
+  left_tree : (left : Blocks) → LeavesPairOldOrChanged t pair (end_move_changes t pair id) left → IsLeftOf (with_blocks left t.disk) (tree_on_disk t.disk t.pairs) (tree_on_disk t.disk t.pairs)
+  left_tree left is = go (left_alone t pair (end_move_changes t pair id) w p (l ++ r) move turn left is)
     where
-      go : Stays t pair (end_changes t pair id) w p (l ++ r) move turn (with_blocks left t.disk) ⊎ HasTurned t.disk w p (l ++ r) move (with_blocks left t.disk) q_of []
-          → IsLeftOf (with_blocks left t.disk) (tree_in t.disk t.pairs) (tree_in t.disk t.pairs)
+      go : Stays t pair (end_move_changes t pair id) w p (l ++ r) move turn (with_blocks left t.disk) ⊎ HasTurned t.disk w p (l ++ r) move (with_blocks left t.disk) q_of []
+          → IsLeftOf (with_blocks left t.disk) (tree_on_disk t.disk t.pairs) (tree_on_disk t.disk t.pairs)
       go (inl d) =
-          let f = nothing_came t.disk (with_blocks left t.disk) w p h.is_site (subst (IsAccepted t.disk) h.is can.accepted) d in
+          let f = nothing_came t.disk (with_blocks left t.disk) w p h.is_site (subst (IsAcceptedImage t.disk) h.is can.accepted) d in
           record {
             pairs = thread_at w (p ∷ []);
             accepted = f.accepted;
             writable = writable_same t.disk (with_blocks left t.disk) (thread_at w (p ∷ [])) refl refl (subst (IsWritable t.disk) h.is can.writable);
-            tree = inl (f.shows ∙ ap (tree_in t.disk) (sym h.is));
+            tree = inl (f.shows ∙ ap (tree_on_disk t.disk) (sym h.is));
           }
       go (inr x) =
           let k = turned_alone (with_blocks left t.disk) x in
@@ -283,8 +283,8 @@ module _ (t : Kept) (pair id : ℕ) (can : CanEndMoveAt t pair id false) (addres
             pairs = thread_at w (q_of ∷ []);
             accepted = k.follows.accepted;
             writable = k.writable;
-            tree = inl (k.follows.shows ∙ ap (tree_in t.disk) (sym h.is));
+            tree = inl (k.follows.shows ∙ ap (tree_on_disk t.disk) (sym h.is));
           }
 
-  pub end_survives : (new : List Event) → StopsLeave t.history new (IsLeftByChange t pair (end_changes t pair id)) → Survives t.disk t.history new (tree_in t.disk t.pairs) (tree_in t.disk t.pairs)
-  end_survives new stops clean = LeavesOnly-weaker left_tree (stops clean)
+  pub end_survives : (new : List CallEvent) → StopsAfterCleanErasesLeave t.history new (LeavesPairOldOrChanged t pair (end_move_changes t pair id)) → SurvivesStopsSince t.disk t.history new (tree_on_disk t.disk t.pairs) (tree_on_disk t.disk t.pairs)
+  end_survives new stops clean = IsTrueAfterEachStopSince-weaker left_tree (stops clean)

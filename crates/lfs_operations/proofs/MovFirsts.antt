@@ -2,8 +2,8 @@
 use Rattle.std.proofs.Common.{ℕ, ◌≡◌, List, [], ◌∷◌, ◌++◌, refl, sym, ap, ◌∙◌}
 use Rattle.lfs_model.specs.Disk.{Disk}
 use Rattle.lfs_model.specs.Slots.{Gstate, Slot}
-use Rattle.lfs_model.specs.Thread.{Pair, directories_of, gstate_of, entries_not_moved}
-use Rattle.lfs_model.specs.Shown.{directories_in}
+use Rattle.lfs_model.specs.Thread.{Pair, directories_of_pairs, gstate_of, entries_not_moved}
+use Rattle.lfs_model.specs.Shown.{directories_in_thread}
 use Rattle.lfs_model.proofs.Changes.{chain_now, rearranged_chain}
 use Rattle.lfs_model.proofs.Counts.{each_always}
 use Rattle.lfs_model.proofs.Listings.{IsRun, SameVisible}
@@ -31,10 +31,10 @@ module _ (disk new : Disk) (w : Site) (p : Pair) (mid : List Pair) (q : Pair) (m
   around : SameAround h h w
   around = record { before = same_under h w.before; left = same_under h w.left; right = same_under h w.right; after = same_under h w.after }
 
-  pub end_firsts : first_addresses (directories_in (thread_at w (q ∷ more))) ≡ first_addresses (directories_in (thread_at w (p ∷ mid)))
-  end_firsts = ap (λ z. first_addresses (directories_of h z)) (pairs_behind w.chain (dirs_at w (q ∷ more)) chain_after)
+  pub end_firsts : first_addresses (directories_in_thread (thread_at w (q ∷ more))) ≡ first_addresses (directories_in_thread (thread_at w (p ∷ mid)))
+  end_firsts = ap (λ z. first_addresses (directories_of_pairs h z)) (pairs_behind w.chain (dirs_at w (q ∷ more)) chain_after)
       ∙ site_firsts h h w p mid q more step.site.ends step.site.run run_after step.shape.at around
-      ∙ firsts_same g h (dirs_at w (p ∷ mid)) ∙ ap (λ z. first_addresses (directories_of g z)) (sym (pairs_behind w.chain (dirs_at w (p ∷ mid)) step.site.chain))
+      ∙ firsts_same g h (dirs_at w (p ∷ mid)) ∙ ap (λ z. first_addresses (directories_of_pairs g z)) (sym (pairs_behind w.chain (dirs_at w (p ∷ mid)) step.site.chain))
 
 -- ---- where one is set
 
@@ -58,7 +58,7 @@ module _ (disk new : Disk) (wo : Site) (o : Pair) (lo : List Slot) (u : Slot) (r
   around_set : SameAround h2 h2 w
   around_set = record { before = same_set h2 w.before; left = same_set h2 w.left; right = same_set h2 w.right; after = same_set h2 w.after }
 
-  pub set_firsts : first_addresses (directories_in (thread_at w (q ∷ more))) ≡ first_addresses (directories_in (thread_at w (p ∷ mid)))
-  set_firsts = ap (λ z. first_addresses (directories_of h2 z)) (pairs_behind w.chain (dirs_at w (q ∷ more)) chain_set)
+  pub set_firsts : first_addresses (directories_in_thread (thread_at w (q ∷ more))) ≡ first_addresses (directories_in_thread (thread_at w (p ∷ mid)))
+  set_firsts = ap (λ z. first_addresses (directories_of_pairs h2 z)) (pairs_behind w.chain (dirs_at w (q ∷ more)) chain_set)
       ∙ site_firsts h2 h2 w p mid q more step.site.ends step.site.run run_set step.shape.at around_set
-      ∙ firsts_same g2 h2 (dirs_at w (p ∷ mid)) ∙ ap (λ z. first_addresses (directories_of g2 z)) (sym (pairs_behind w.chain (dirs_at w (p ∷ mid)) step.site.chain))
+      ∙ firsts_same g2 h2 (dirs_at w (p ∷ mid)) ∙ ap (λ z. first_addresses (directories_of_pairs g2 z)) (sym (pairs_behind w.chain (dirs_at w (p ∷ mid)) step.site.chain))

@@ -3,25 +3,25 @@ use Rattle.std.proofs.Common.{ℕ, ◌≡◌, ◌⊎◌, inl, inr, Bool, false, 
 use Rattle.std.specs.Prelude.{IfErr}
 use Rattle.lfs_device.specs.declared.error.Error.{Error}
 use Rattle.lfs_device.specs.declared.error.Error.TheVariants.{Io, NoMemory, NoSpace}
-use Rattle.lfs_model.specs.Changes.{Change}
+use Rattle.lfs_model.specs.Changes.{ContentChange}
 use Rattle.lfs_model.specs.Disk.{Disk}
-use Rattle.lfs_model.specs.History.{Event, faults}
+use Rattle.lfs_model.specs.History.{CallEvent, faults}
 use Rattle.lfs_model.specs.Names.{Name}
-use Rattle.lfs_model.specs.PowerLoss.{Survives}
-use Rattle.lfs_model.specs.Shown.{tree_in}
-use Rattle.lfs_model.specs.LoggedContent.{IsAddress}
+use Rattle.lfs_model.specs.PowerLoss.{SurvivesStopsSince}
+use Rattle.lfs_model.specs.Shown.{tree_on_disk}
+use Rattle.lfs_model.specs.LoggedContent.{Are32BitPairAddresses}
 use Rattle.lfs_model.proofs.AfterStops.{survives_then}
-use Rattle.lfs_model.proofs.Histories.{AtWorst-read, LeavesOnly-reads, LeavesOnly-trans, OnlyReads-trans, StayUnprogrammed-reads, StayUnprogrammed-trans}
-use Rattle.lfs_thread.specs.Kept.{Kept, State}
-use Rattle.lfs_thread.specs.Steps.{HasReported, IsOnlyRead, pair_in}
-use Rattle.lfs_operations.specs.Changing.{CanPut, IsPut, IsTooLarge, HasTwoFree, has_failed}
-use Rattle.lfs_operations.specs.Editing.{CanEdit}
-use Rattle.lfs_operations.specs.MovingSteps.{EndsAfter, IsPutAndEnded, SurvivesBoth, ReportsInSteps, WritesInTwo}
-use Rattle.lfs_operations.specs.MovingAcross.{CanRenameAcross, IsRenamedAcross, moving_changes, with_moved}
-use Rattle.lfs_operations.specs.MovingOnto.{CanPutOnto, IsReplacedAcross, onto_changes}
-use Rattle.lfs_operations.specs.Ready.{IsReady}
-use Rattle.lfs_operations.specs.Removing.{drops_pair}
-use Rattle.lfs_operations.specs.RenamingSlots.{parts_at}
+use Rattle.lfs_model.proofs.Histories.{IsWorstOutcomeOfStop-read, IsTrueAfterEachStopSince-reads, IsTrueAfterEachStopSince-trans, AreCallsSinceOnlyReads-trans, AreBytesStillUnprogrammed-reads, AreBytesStillUnprogrammed-trans}
+use Rattle.lfs_thread.specs.Kept.{Kept, ThreadView}
+use Rattle.lfs_thread.specs.Steps.{HasReportedIoOrUnwrittenNoMemory, IsThreadOnlyRead, kept_pair_at_index}
+use Rattle.lfs_operations.specs.Changing.{CanChangeOrSplitPair, IsPairChangedOrSplit, IsChangedContentTooLarge, HasTwoFreeBlocks, has_failed}
+use Rattle.lfs_operations.specs.Editing.{CanEditEntryOfPair}
+use Rattle.lfs_operations.specs.MovingSteps.{CanEndMoveAfterPut, IsSlotPutAndMoveEnded, SurvivesBothMoveCommits, ReportsCommitsTakingBlocks, WritesTwoPairsAndTwoFreeBlocks}
+use Rattle.lfs_operations.specs.MovingAcross.{CanRenameAcrossPairs, IsEntryRenamedAcrossPairs, rename_across_pairs_changes, tree_with_moved_entry}
+use Rattle.lfs_operations.specs.MovingOnto.{CanReplaceEntryAcrossPairs, IsFileReplacedAcrossPairs, replace_entry_across_pairs_changes}
+use Rattle.lfs_operations.specs.Ready.{IsImageReadyForChange}
+use Rattle.lfs_operations.specs.Removing.{is_pair_dropped_with_slot}
+use Rattle.lfs_operations.specs.RenamingSlots.{nameless_slot_at}
 use Rattle.lfs_operations.proofs.MovRename.{can_put_across, ends_across, renamed_across, shows_across, survives_across}
 use Rattle.lfs_operations.proofs.MovReplace.{can_put_onto, ends_onto, replaced_across, shows_onto, survives_onto}
 use Rattle.lfs_operations.proofs.MovReporting.{writes_first}
@@ -30,14 +30,14 @@ use Rattle.lfs_operations.proofs.RenameRead.{read_survives, read_writes}
 
 -- ---- what is known before
 
-module _ (t : Kept) (h : List Event) where
+module _ (t : Kept) (h : List CallEvent) where
   abbrev later : Kept
   later = with_history t h
 
-  pub ready_later : IsReady t → IsReady later
+  pub ready_later : IsImageReadyForChange t → IsImageReadyForChange later
   ready_later r = record { accepted = r.accepted; writable = r.writable; settled = r.settled; used = r.used; size = r.size; large = r.large }
 
-  abbrev pub edit_later : {pair id : ℕ} → CanEdit t pair id → CanEdit (with_history t h) pair id
+  abbrev pub edit_later : {pair id : ℕ} → CanEditEntryOfPair t pair id → CanEditEntryOfPair (with_history t h) pair id
   edit_later c = record {
     ready = ready_later c.ready;
     path = c.path;
@@ -50,7 +50,7 @@ module _ (t : Kept) (h : List Event) where
     logged = c.logged;
   }
 
-  abbrev pub across_later : {old_pair old_id first new_pair new_id : ℕ} {name : Name} → CanRenameAcross t old_pair old_id first new_pair new_id name → CanRenameAcross (with_history t h) old_pair old_id first new_pair new_id name
+  abbrev pub across_later : {old_pair old_id first new_pair new_id : ℕ} {name : Name} → CanRenameAcrossPairs t old_pair old_id first new_pair new_id name → CanRenameAcrossPairs (with_history t h) old_pair old_id first new_pair new_id name
   across_later r = record {
     old = edit_later r.old;
     begins_old = r.begins_old;
@@ -67,7 +67,7 @@ module _ (t : Kept) (h : List Event) where
     fits = r.fits;
   }
 
-  abbrev pub onto_later : {sync : Bool} {old_pair old_id first new_pair new_id : ℕ} {name : Name} → CanPutOnto t sync old_pair old_id first new_pair new_id name → CanPutOnto (with_history t h) sync old_pair old_id first new_pair new_id name
+  abbrev pub onto_later : {sync : Bool} {old_pair old_id first new_pair new_id : ℕ} {name : Name} → CanReplaceEntryAcrossPairs t sync old_pair old_id first new_pair new_id name → CanReplaceEntryAcrossPairs (with_history t h) sync old_pair old_id first new_pair new_id name
   onto_later r = record {
     old = edit_later r.old;
     begins_old = r.begins_old;
@@ -84,125 +84,125 @@ module _ (t : Kept) (h : List Event) where
     fits = r.fits;
   }
 
-module _ (t mid : Kept) (only : IsOnlyRead t mid) (old_pair old_id first new_pair new_id : ℕ) (name : Name) (rename : CanRenameAcross t old_pair old_id first new_pair new_id name) (address : IsAddress (pair_in mid old_pair).at) where
+module _ (t mid : Kept) (only : IsThreadOnlyRead t mid) (old_pair old_id first new_pair new_id : ℕ) (name : Name) (rename : CanRenameAcrossPairs t old_pair old_id first new_pair new_id name) (address : Are32BitPairAddresses (kept_pair_at_index mid old_pair).at) where
   abbrev later_t : Kept
   later_t = with_history t mid.history
 
   same : mid ≡ later_t
   same = read_is t mid only
 
-  abbrev pub there : CanRenameAcross (with_history t mid.history) old_pair old_id first new_pair new_id name
+  abbrev pub there : CanRenameAcrossPairs (with_history t mid.history) old_pair old_id first new_pair new_id name
   there = across_later t mid.history rename
 
-  there_address : IsAddress (pair_in later_t old_pair).at
-  there_address = subst (λ k. IsAddress (pair_in k old_pair).at) same address
+  there_address : Are32BitPairAddresses (kept_pair_at_index later_t old_pair).at
+  there_address = subst (λ k. Are32BitPairAddresses (kept_pair_at_index k old_pair).at) same address
 
-  pub parts_later : parts_at mid old_pair old_id ≡ parts_at t old_pair old_id
-  parts_later = ap (λ k. parts_at k old_pair old_id) same
+  pub parts_later : nameless_slot_at mid old_pair old_id ≡ nameless_slot_at t old_pair old_id
+  parts_later = ap (λ k. nameless_slot_at k old_pair old_id) same
 
-  pub changes_later : moving_changes mid old_pair old_id new_pair new_id name ≡ moving_changes t old_pair old_id new_pair new_id name
-  changes_later = ap (λ k. moving_changes k old_pair old_id new_pair new_id name) same
+  pub changes_later : rename_across_pairs_changes mid old_pair old_id new_pair new_id name ≡ rename_across_pairs_changes t old_pair old_id new_pair new_id name
+  changes_later = ap (λ k. rename_across_pairs_changes k old_pair old_id new_pair new_id name) same
 
-  pub can_put_later : CanPut mid new_pair (moving_changes mid old_pair old_id new_pair new_id name)
-  can_put_later = subst (λ k. CanPut k new_pair (moving_changes k old_pair old_id new_pair new_id name)) (sym same) (can_put_across later_t old_pair old_id first new_pair new_id name there there_address)
+  pub can_put_later : CanChangeOrSplitPair mid new_pair (rename_across_pairs_changes mid old_pair old_id new_pair new_id name)
+  can_put_later = subst (λ k. CanChangeOrSplitPair k new_pair (rename_across_pairs_changes k old_pair old_id new_pair new_id name)) (sym same) (can_put_across later_t old_pair old_id first new_pair new_id name there there_address)
 
-  pub ends_later : (last : Kept) → IsPut mid new_pair (moving_changes mid old_pair old_id new_pair new_id name) last → EndsAfter mid old_pair old_id (drops_pair t old_pair first) new_pair last
-  ends_later = subst (λ k. (last : Kept) → IsPut k new_pair (moving_changes k old_pair old_id new_pair new_id name) last → EndsAfter k old_pair old_id (drops_pair t old_pair first) new_pair last) (sym same)
+  pub ends_later : (last : Kept) → IsPairChangedOrSplit mid new_pair (rename_across_pairs_changes mid old_pair old_id new_pair new_id name) last → CanEndMoveAfterPut mid old_pair old_id (is_pair_dropped_with_slot t old_pair first) new_pair last
+  ends_later = subst (λ k. (last : Kept) → IsPairChangedOrSplit k new_pair (rename_across_pairs_changes k old_pair old_id new_pair new_id name) last → CanEndMoveAfterPut k old_pair old_id (is_pair_dropped_with_slot t old_pair first) new_pair last) (sym same)
       (ends_across later_t old_pair old_id first new_pair new_id name there there_address)
 
   -- ---- what comes of it
 
-  became_earlier : (new : Kept) → IsRenamedAcross later_t new rename.old.path rename.old.name rename.path name → IsRenamedAcross t new rename.old.path rename.old.name rename.path name
+  became_earlier : (new : Kept) → IsEntryRenamedAcrossPairs later_t new rename.old.path rename.old.name rename.path name → IsEntryRenamedAcrossPairs t new rename.old.path rename.old.name rename.path name
   became_earlier new x = record { now = record { ready = x.now.ready; shows = x.now.shows; flying = x.now.flying; root = x.now.root }; completed = x.completed }
 
-  pub renamed_later : (new : Kept) → IsPutAndEnded mid old_pair old_id (drops_pair t old_pair first) new_pair (moving_changes mid old_pair old_id new_pair new_id name) new → IsRenamedAcross t new rename.old.path rename.old.name rename.path name
+  pub renamed_later : (new : Kept) → IsSlotPutAndMoveEnded mid old_pair old_id (is_pair_dropped_with_slot t old_pair first) new_pair (rename_across_pairs_changes mid old_pair old_id new_pair new_id name) new → IsEntryRenamedAcrossPairs t new rename.old.path rename.old.name rename.path name
   renamed_later new is = became_earlier new (renamed_across later_t old_pair old_id first new_pair new_id name there there_address new
-      (subst (λ k. IsPutAndEnded k old_pair old_id (drops_pair t old_pair first) new_pair (moving_changes k old_pair old_id new_pair new_id name) new) same is))
+      (subst (λ k. IsSlotPutAndMoveEnded k old_pair old_id (is_pair_dropped_with_slot t old_pair first) new_pair (rename_across_pairs_changes k old_pair old_id new_pair new_id name) new) same is))
 
-  pub survives_later : (one : ℕ) (new : Kept) → WritesInTwo mid one new_pair new → SurvivesBoth mid new_pair (moving_changes mid old_pair old_id new_pair new_id name) new
-      → Survives t.disk t.history new.history (tree_in t.disk t.pairs) (with_moved t rename.old.path rename.old.name rename.path name)
+  pub survives_later : (one : ℕ) (new : Kept) → WritesTwoPairsAndTwoFreeBlocks mid one new_pair new → SurvivesBothMoveCommits mid new_pair (rename_across_pairs_changes mid old_pair old_id new_pair new_id name) new
+      → SurvivesStopsSince t.disk t.history new.history (tree_on_disk t.disk t.pairs) (tree_with_moved_entry t rename.old.path rename.old.name rename.path name)
   survives_later one new w both =
-      let after = with_moved t rename.old.path rename.old.name rename.path name in
-      let from = subst (λ k. SurvivesBoth k new_pair (moving_changes k old_pair old_id new_pair new_id name) new) same both in
-      survives_then t.disk t.history mid.history new.history (tree_in t.disk t.pairs) after only.reads w.writes.at_worst
+      let after = tree_with_moved_entry t rename.old.path rename.old.name rename.path name in
+      let from = subst (λ k. SurvivesBothMoveCommits k new_pair (rename_across_pairs_changes k old_pair old_id new_pair new_id name) new) same both in
+      survives_then t.disk t.history mid.history new.history (tree_on_disk t.disk t.pairs) after only.reads w.writes.at_worst
       (read_survives t mid.history only.reads rename.old.ready after)
-      (from (tree_in t.disk t.pairs) after (survives_across later_t old_pair old_id first new_pair new_id name there there_address) (shows_across later_t old_pair old_id first new_pair new_id name there there_address))
+      (from (tree_on_disk t.disk t.pairs) after (survives_across later_t old_pair old_id first new_pair new_id name there there_address) (shows_across later_t old_pair old_id first new_pair new_id name there there_address))
 
 -- ---- the same onto an entry
 
-module _ (sync : Bool) (t mid : Kept) (only : IsOnlyRead t mid) (old_pair old_id first new_pair new_id : ℕ) (name : Name) (rename : CanPutOnto t sync old_pair old_id first new_pair new_id name) (address : IsAddress (pair_in mid old_pair).at) where
+module _ (sync : Bool) (t mid : Kept) (only : IsThreadOnlyRead t mid) (old_pair old_id first new_pair new_id : ℕ) (name : Name) (rename : CanReplaceEntryAcrossPairs t sync old_pair old_id first new_pair new_id name) (address : Are32BitPairAddresses (kept_pair_at_index mid old_pair).at) where
   abbrev later_u : Kept
   later_u = with_history t mid.history
 
   same_u : mid ≡ later_u
   same_u = read_is t mid only
 
-  abbrev pub onto_there : CanPutOnto (with_history t mid.history) sync old_pair old_id first new_pair new_id name
+  abbrev pub onto_there : CanReplaceEntryAcrossPairs (with_history t mid.history) sync old_pair old_id first new_pair new_id name
   onto_there = onto_later t mid.history rename
 
-  here_address : IsAddress (pair_in later_u old_pair).at
-  here_address = subst (λ k. IsAddress (pair_in k old_pair).at) same_u address
+  here_address : Are32BitPairAddresses (kept_pair_at_index later_u old_pair).at
+  here_address = subst (λ k. Are32BitPairAddresses (kept_pair_at_index k old_pair).at) same_u address
 
-  pub parts_onto_later : parts_at mid old_pair old_id ≡ parts_at t old_pair old_id
-  parts_onto_later = ap (λ k. parts_at k old_pair old_id) same_u
+  pub parts_onto_later : nameless_slot_at mid old_pair old_id ≡ nameless_slot_at t old_pair old_id
+  parts_onto_later = ap (λ k. nameless_slot_at k old_pair old_id) same_u
 
-  pub changes_onto_later : onto_changes sync mid old_pair old_id new_pair new_id name ≡ onto_changes sync t old_pair old_id new_pair new_id name
-  changes_onto_later = ap (λ k. onto_changes sync k old_pair old_id new_pair new_id name) same_u
+  pub changes_onto_later : replace_entry_across_pairs_changes sync mid old_pair old_id new_pair new_id name ≡ replace_entry_across_pairs_changes sync t old_pair old_id new_pair new_id name
+  changes_onto_later = ap (λ k. replace_entry_across_pairs_changes sync k old_pair old_id new_pair new_id name) same_u
 
-  pub can_put_onto_later : CanPut mid new_pair (onto_changes sync mid old_pair old_id new_pair new_id name)
-  can_put_onto_later = subst (λ k. CanPut k new_pair (onto_changes sync k old_pair old_id new_pair new_id name)) (sym same_u) (can_put_onto sync later_u old_pair old_id first new_pair new_id name onto_there here_address)
+  pub can_put_onto_later : CanChangeOrSplitPair mid new_pair (replace_entry_across_pairs_changes sync mid old_pair old_id new_pair new_id name)
+  can_put_onto_later = subst (λ k. CanChangeOrSplitPair k new_pair (replace_entry_across_pairs_changes sync k old_pair old_id new_pair new_id name)) (sym same_u) (can_put_onto sync later_u old_pair old_id first new_pair new_id name onto_there here_address)
 
-  pub ends_onto_later : (last : Kept) → IsPut mid new_pair (onto_changes sync mid old_pair old_id new_pair new_id name) last → EndsAfter mid old_pair old_id (drops_pair t old_pair first) new_pair last
-  ends_onto_later = subst (λ k. (last : Kept) → IsPut k new_pair (onto_changes sync k old_pair old_id new_pair new_id name) last → EndsAfter k old_pair old_id (drops_pair t old_pair first) new_pair last) (sym same_u)
+  pub ends_onto_later : (last : Kept) → IsPairChangedOrSplit mid new_pair (replace_entry_across_pairs_changes sync mid old_pair old_id new_pair new_id name) last → CanEndMoveAfterPut mid old_pair old_id (is_pair_dropped_with_slot t old_pair first) new_pair last
+  ends_onto_later = subst (λ k. (last : Kept) → IsPairChangedOrSplit k new_pair (replace_entry_across_pairs_changes sync k old_pair old_id new_pair new_id name) last → CanEndMoveAfterPut k old_pair old_id (is_pair_dropped_with_slot t old_pair first) new_pair last) (sym same_u)
       (ends_onto sync later_u old_pair old_id first new_pair new_id name onto_there here_address)
 
   -- ---- what comes of it
 
-  replaced_earlier : (new : Kept) → IsReplacedAcross later_u new rename.old.path rename.old.name rename.path name rename.target.stands.slot.struct → IsReplacedAcross t new rename.old.path rename.old.name rename.path name rename.target.stands.slot.struct
+  replaced_earlier : (new : Kept) → IsFileReplacedAcrossPairs later_u new rename.old.path rename.old.name rename.path name rename.target.stands.slot.struct → IsFileReplacedAcrossPairs t new rename.old.path rename.old.name rename.path name rename.target.stands.slot.struct
   replaced_earlier new x = record { now = record { ready = x.now.ready; shows = x.now.shows; flying = x.now.flying; root = x.now.root }; once = x.once; completed = x.completed }
 
-  pub replaced_later : sync ≡ false → (new : Kept) → IsPutAndEnded mid old_pair old_id (drops_pair t old_pair first) new_pair (onto_changes sync mid old_pair old_id new_pair new_id name) new → IsReplacedAcross t new rename.old.path rename.old.name rename.path name rename.target.stands.slot.struct
+  pub replaced_later : sync ≡ false → (new : Kept) → IsSlotPutAndMoveEnded mid old_pair old_id (is_pair_dropped_with_slot t old_pair first) new_pair (replace_entry_across_pairs_changes sync mid old_pair old_id new_pair new_id name) new → IsFileReplacedAcrossPairs t new rename.old.path rename.old.name rename.path name rename.target.stands.slot.struct
   replaced_later plain new is = replaced_earlier new (replaced_across sync later_u old_pair old_id first new_pair new_id name onto_there here_address plain new
-      (subst (λ k. IsPutAndEnded k old_pair old_id (drops_pair t old_pair first) new_pair (onto_changes sync k old_pair old_id new_pair new_id name) new) same_u is))
+      (subst (λ k. IsSlotPutAndMoveEnded k old_pair old_id (is_pair_dropped_with_slot t old_pair first) new_pair (replace_entry_across_pairs_changes sync k old_pair old_id new_pair new_id name) new) same_u is))
 
-  pub survives_onto_later : (one : ℕ) (new : Kept) → WritesInTwo mid one new_pair new → SurvivesBoth mid new_pair (onto_changes sync mid old_pair old_id new_pair new_id name) new
-      → Survives t.disk t.history new.history (tree_in t.disk t.pairs) (with_moved t rename.old.path rename.old.name rename.path name)
+  pub survives_onto_later : (one : ℕ) (new : Kept) → WritesTwoPairsAndTwoFreeBlocks mid one new_pair new → SurvivesBothMoveCommits mid new_pair (replace_entry_across_pairs_changes sync mid old_pair old_id new_pair new_id name) new
+      → SurvivesStopsSince t.disk t.history new.history (tree_on_disk t.disk t.pairs) (tree_with_moved_entry t rename.old.path rename.old.name rename.path name)
   survives_onto_later one new w both =
-      let after = with_moved t rename.old.path rename.old.name rename.path name in
-      let from = subst (λ k. SurvivesBoth k new_pair (onto_changes sync k old_pair old_id new_pair new_id name) new) same_u both in
-      survives_then t.disk t.history mid.history new.history (tree_in t.disk t.pairs) after only.reads w.writes.at_worst
+      let after = tree_with_moved_entry t rename.old.path rename.old.name rename.path name in
+      let from = subst (λ k. SurvivesBothMoveCommits k new_pair (replace_entry_across_pairs_changes sync k old_pair old_id new_pair new_id name) new) same_u both in
+      survives_then t.disk t.history mid.history new.history (tree_on_disk t.disk t.pairs) after only.reads w.writes.at_worst
       (read_survives t mid.history only.reads rename.old.ready after)
-      (from (tree_in t.disk t.pairs) after (survives_onto sync later_u old_pair old_id first new_pair new_id name onto_there here_address) (shows_onto sync later_u old_pair old_id first new_pair new_id name onto_there here_address))
+      (from (tree_on_disk t.disk t.pairs) after (survives_onto sync later_u old_pair old_id first new_pair new_id name onto_there here_address) (shows_onto sync later_u old_pair old_id first new_pair new_id name onto_there here_address))
 
 -- ---- what it tells
 
-only_then : (a b c : Kept) → IsOnlyRead a b → IsOnlyRead b c → IsOnlyRead a c
+only_then : (a b c : Kept) → IsThreadOnlyRead a b → IsThreadOnlyRead b c → IsThreadOnlyRead a c
 only_then a b c x y = record {
   disk = y.disk ∙ x.disk;
-  reads = OnlyReads-trans x.reads y.reads (ap (λ (d : Disk). d.blocks) x.disk);
+  reads = AreCallsSinceOnlyReads-trans x.reads y.reads (ap (λ (d : Disk). d.blocks) x.disk);
   pairs = y.pairs ∙ x.pairs;
   map = y.map ∙ x.map;
 }
 
-pub reports_after_read : {X : Type 0} (old mid new : State) (index : ℕ) (changes : List Change) (r : Result X Error) → IsOnlyRead old.kept mid.kept → faults mid.kept.history ≡ faults old.kept.history
-    → ReportsInSteps mid new index changes r → ReportsInSteps old new index changes r
+pub reports_after_read : {X : Type 0} (old mid new : ThreadView) (index : ℕ) (changes : List ContentChange) (r : Result X Error) → IsThreadOnlyRead old.kept mid.kept → faults mid.kept.history ≡ faults old.kept.history
+    → ReportsCommitsTakingBlocks mid new index changes r → ReportsCommitsTakingBlocks old new index changes r
 reports_after_read old mid new index changes r only same h = record {
   failed = go h.failed;
   errors = h.errors;
   fault = λ io. (let k = h.fault io in omega (arith, k, same));
   no_fault = λ other. h.no_fault other ∙ same;
   unchanged = λ none. only_then old.kept mid.kept new.kept only (h.unchanged none);
-  no_space = λ none. subst (λ m. HasTwoFree m → ⊥) only.map (h.no_space none);
-  too_large = λ none. subst (λ k. IsTooLarge k index changes) (read_is old.kept mid.kept only) (h.too_large none);
+  no_space = λ none. subst (λ m. HasTwoFreeBlocks m → ⊥) only.map (h.no_space none);
+  too_large = λ none. subst (λ k. IsChangedContentTooLarge k index changes) (read_is old.kept mid.kept only) (h.too_large none);
 }
   where
-    go : (new.failed ≡ has_failed r) ⊎ ((new.failed ≡ false) × IsOnlyRead mid.kept new.kept) → (new.failed ≡ has_failed r) ⊎ ((new.failed ≡ false) × IsOnlyRead old.kept new.kept)
+    go : (new.failed ≡ has_failed r) ⊎ ((new.failed ≡ false) × IsThreadOnlyRead mid.kept new.kept) → (new.failed ≡ has_failed r) ⊎ ((new.failed ≡ false) × IsThreadOnlyRead old.kept new.kept)
     go (inl e) = inl e
     go (inr (e, o)) = inr (e, only_then old.kept mid.kept new.kept only o)
 
 -- no room for the changes
-pub reports_unmade : {Y : Type 0} (old new : State) (index : ℕ) (changes : List Change) (given : Result Y Error) → given ≡ Err NoMemory → new.failed ≡ false → IsOnlyRead old.kept new.kept
-    → faults new.kept.history ≡ faults old.kept.history → ReportsInSteps old new index changes given
+pub reports_unmade : {Y : Type 0} (old new : ThreadView) (index : ℕ) (changes : List ContentChange) (given : Result Y Error) → given ≡ Err NoMemory → new.failed ≡ false → IsThreadOnlyRead old.kept new.kept
+    → faults new.kept.history ≡ faults old.kept.history → ReportsCommitsTakingBlocks old new index changes given
 reports_unmade old new index changes given same works only none = record {
   failed = inr (works, only);
   errors = subst (λ r. IfErr r (λ x. (x ≡ Io) ⊎ ((x ≡ NoMemory) ⊎ (x ≡ NoSpace)))) (sym same) (inr (inl refl));
@@ -213,23 +213,23 @@ reports_unmade old new index changes given same works only none = record {
   too_large = λ e. absurd (let z = sym same ∙ e in cc);
 }
 
-pub writes_after_read : (t mid new : Kept) (one other : ℕ) → IsOnlyRead t mid → WritesInTwo mid one other new → WritesInTwo t one other new
+pub writes_after_read : (t mid new : Kept) (one other : ℕ) → IsThreadOnlyRead t mid → WritesTwoPairsAndTwoFreeBlocks mid one other new → WritesTwoPairsAndTwoFreeBlocks t one other new
 writes_after_read t mid new one other only w =
-    let f = subst (λ k. WritesInTwo k one other new) (read_is t mid only) w in
+    let f = subst (λ k. WritesTwoPairsAndTwoFreeBlocks k one other new) (read_is t mid only) w in
     earlier f
   where
-    earlier : WritesInTwo (with_history t mid.history) one other new → WritesInTwo t one other new
+    earlier : WritesTwoPairsAndTwoFreeBlocks (with_history t mid.history) one other new → WritesTwoPairsAndTwoFreeBlocks t one other new
     earlier f = record {
       fresh = f.fresh;
       few = f.few;
       free = f.free;
       writes = record {
         others = f.writes.others;
-        elsewhere = StayUnprogrammed-trans (StayUnprogrammed-reads ((pair_in t other).at.0 ∷ (pair_in t other).at.1 ∷ (pair_in t one).at.0 ∷ (pair_in t one).at.1 ∷ f.fresh) only.reads) f.writes.elsewhere;
+        elsewhere = AreBytesStillUnprogrammed-trans (AreBytesStillUnprogrammed-reads ((kept_pair_at_index t other).at.0 ∷ (kept_pair_at_index t other).at.1 ∷ (kept_pair_at_index t one).at.0 ∷ (kept_pair_at_index t one).at.1 ∷ f.fresh) only.reads) f.writes.elsewhere;
         shape = f.writes.shape;
-        at_worst = LeavesOnly-trans (LeavesOnly-reads AtWorst-read only.reads (record { count = refl; sizes = λ b. refl; others = λ b apart. refl })) f.writes.at_worst;
+        at_worst = IsTrueAfterEachStopSince-trans (IsTrueAfterEachStopSince-reads IsWorstOutcomeOfStop-read only.reads (record { count = refl; sizes = λ b. refl; others = λ b apart. refl })) f.writes.at_worst;
       };
     }
 
-pub writes_read : (t mid : Kept) (one other : ℕ) → IsOnlyRead t mid → WritesInTwo t one other mid
+pub writes_read : (t mid : Kept) (one other : ℕ) → IsThreadOnlyRead t mid → WritesTwoPairsAndTwoFreeBlocks t one other mid
 writes_read t mid one other only = writes_first t mid one other (read_writes t mid only other)

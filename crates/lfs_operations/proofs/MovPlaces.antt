@@ -5,9 +5,9 @@ use Rattle.lfs_model.specs.declared.order.NameOrder.{NameOrder}
 use Rattle.lfs_model.specs.Disk.{Disk}
 use Rattle.lfs_model.specs.Names.{Name, name_cmp}
 use Rattle.lfs_model.specs.Slots.{Slot, Gstate, is_superblock, same_pair}
-use Rattle.lfs_model.specs.Thread.{Pair, gstate_of, slots_not_moved, entries_not_moved, directories_of, entries_of}
-use Rattle.lfs_model.specs.Tree.{Path, Entries}
-use Rattle.lfs_model.specs.Shown.{directories_in, entries_in, PathLeadsTo}
+use Rattle.lfs_model.specs.Thread.{Pair, gstate_of, slots_not_moved, entries_not_moved, directories_of_pairs, entries_of_directory}
+use Rattle.lfs_model.specs.Tree.{Path, EntriesByDirectory}
+use Rattle.lfs_model.specs.Shown.{directories_in_thread, entries_by_directory_in_thread, IsPathToDirectory}
 use Rattle.lfs_model.proofs.Counts.{Each, each_append, each_left, each_right, each_weaker, each_always, each_pieces, each_joined}
 use Rattle.lfs_model.proofs.Global.{unmoved_all}
 use Rattle.lfs_model.proofs.Indexes.{place_between, site_shows}
@@ -136,8 +136,8 @@ greater_parts (x ∷ xs) ys name h = greater_parts xs ys name (record {
 module _ (disk new : Disk) (wo : Site) (o : Pair) (lo : List Slot) (u : Slot) (ro : List Slot)
     (w : Site) (p : Pair) (q : Pair) (more : List Pair) (extra : List ℕ) (l : List Slot) (v : Slot) (r : List Slot)
     (step : IsMoveSet disk new wo o lo u ro w p [] q more extra l [] v r)
-    (P : Path) (b : ℕ × ℕ) (leads : PathLeadsTo (thread_at w (p ∷ [])) P b) (same_old : same_pair (begin_of wo (o ∷ [])) b ≡ true)
-    (Q : Path) (a : ℕ × ℕ) (arrives : PathLeadsTo (thread_at w (p ∷ [])) Q a) (same : same_pair (begin_of w (p ∷ [])) a ≡ true) where
+    (P : Path) (b : ℕ × ℕ) (leads : IsPathToDirectory (thread_at w (p ∷ [])) P b) (same_old : same_pair (begin_of wo (o ∷ [])) b ≡ true)
+    (Q : Path) (a : ℕ × ℕ) (arrives : IsPathToDirectory (thread_at w (p ∷ [])) Q a) (same : same_pair (begin_of w (p ∷ [])) a ≡ true) where
   abbrev ps : List Pair
   ps = thread_at w (p ∷ [])
 
@@ -150,13 +150,13 @@ module _ (disk new : Disk) (wo : Site) (o : Pair) (lo : List Slot) (u : Slot) (r
   abbrev dirs : List Pair
   dirs = dirs_at w (p ∷ [])
 
-  abbrev E0 : Entries
-  E0 = entries_in ps
+  abbrev E0 : EntriesByDirectory
+  E0 = entries_by_directory_in_thread ps
 
-  were : directories_in ps ≡ directories_of g dirs
-  were = ap (directories_of g) (pairs_behind w.chain dirs step.site.chain)
+  were : directories_in_thread ps ≡ directories_of_pairs g dirs
+  were = ap (directories_of_pairs g) (pairs_behind w.chain dirs step.site.chain)
 
-  apart_under : (k : Gstate) → Apart (directories_of k dirs)
+  apart_under : (k : Gstate) → Apart (directories_of_pairs k dirs)
   apart_under k = distinct_apart k dirs (distinct_right w.chain dirs step.accepted.thread.distinct)
 
   run_now : IsRun (w.left ++ (q ∷ more ++ w.right))
@@ -195,14 +195,14 @@ module _ (disk new : Disk) (wo : Site) (o : Pair) (lo : List Slot) (u : Slot) (r
       ∙ ap₂ (λ s i. remove s i) step.was_there step.id ∙ remove_here lo ro u
 
   showed : E0 b ≡ shown_before wo lo ++ u ∷ shown_behind wo ro
-  showed = ap (λ ds. entries_of ds b) were
-      ∙ subst (λ z. entries_of (directories_of g z) b ≡ shown_at wo g (o ∷ [])) step.there
+  showed = ap (λ ds. entries_of_directory ds b) were
+      ∙ subst (λ z. entries_of_directory (directories_of_pairs g z) b ≡ shown_at wo g (o ∷ [])) step.there
       (site_own g g wo o [] o [] step.ends step.run step.run refl (record { before = same_under g wo.before; left = same_under g wo.left; right = same_under g wo.right; after = same_under g wo.after }) b same_old
-      (subst (λ z. Apart (directories_of g z)) (sym step.there) (apart_under g)))
+      (subst (λ z. Apart (directories_of_pairs g z)) (sym step.there) (apart_under g)))
       ∙ shown_of g step.no_move wo (o ∷ []) lo (u ∷ []) ro (append-nil o.content.slots ∙ step.was_there)
       ∙ ap (λ s. shown_before wo lo ++ (s ++ shown_behind wo ro)) (entry_only u step.other)
 
-  abbrev E1 : Entries
+  abbrev E1 : EntriesByDirectory
   E1 = put E0 b (remove (E0 b) (place_at wo lo))
 
   hidden_there : flat_map (entries_not_moved g) wo.left ++ (flat_map (entries_not_moved h) (o ∷ []) ++ flat_map (entries_not_moved g) wo.right) ≡ remove (E0 b) (place_at wo lo)
@@ -211,10 +211,10 @@ module _ (disk new : Disk) (wo : Site) (o : Pair) (lo : List Slot) (u : Slot) (r
       ∙ shown_place wo lo [] ro
       ∙ sym (ap (λ s. remove s (place_at wo lo)) showed ∙ remove_here (shown_before wo lo) (shown_behind wo ro) u)
 
-  without : (x : ℕ × ℕ) → entries_of (directories_of h dirs) x ≡ E1 x
-  without x = subst (λ z. entries_of (directories_of h z) x ≡ put (entries_of (directories_of g z)) b (flat_map (entries_not_moved g) wo.left ++ (flat_map (entries_not_moved h) (o ∷ []) ++ flat_map (entries_not_moved g) wo.right)) x) step.there
-      (site_entries g h wo o [] o [] step.ends step.run step.run refl around_old b same_old (subst (λ z. Apart (directories_of g z)) (sym step.there) (apart_under g)) x)
-      ∙ ap₂ (λ ds s. put (entries_of ds) b s x) (sym were) hidden_there
+  without : (x : ℕ × ℕ) → entries_of_directory (directories_of_pairs h dirs) x ≡ E1 x
+  without x = subst (λ z. entries_of_directory (directories_of_pairs h z) x ≡ put (entries_of_directory (directories_of_pairs g z)) b (flat_map (entries_not_moved g) wo.left ++ (flat_map (entries_not_moved h) (o ∷ []) ++ flat_map (entries_not_moved g) wo.right)) x) step.there
+      (site_entries g h wo o [] o [] step.ends step.run step.run refl around_old b same_old (subst (λ z. Apart (directories_of_pairs g z)) (sym step.there) (apart_under g)) x)
+      ∙ ap₂ (λ ds s. put (entries_of_directory ds) b s x) (sym were) hidden_there
 
   abbrev shown_front : List Slot
   shown_front = flat_map (entries_not_moved h) w.left ++ entries_only l
@@ -234,10 +234,10 @@ module _ (disk new : Disk) (wo : Site) (o : Pair) (lo : List Slot) (u : Slot) (r
       ∙ sym (append_assoc (flat_map (entries_not_moved h) w.left) (entries_only l) (entries_only r ++ flat_map (entries_not_moved h) w.right))
 
   -- a name's place is between the same entries
-  pub hidden_place : (name : Name) → IsPlace disk.order (entries_in (thread_at w (p ∷ [])) a) (place_at w l) name
-      → IsPlace disk.order (put (entries_in (thread_at w (p ∷ []))) b (remove (entries_in (thread_at w (p ∷ [])) b) (place_at wo lo)) a) (length (flat_map (entries_not_moved (gstate_of (thread_at w (q ∷ more)))) w.left ++ entries_only l)) name
+  pub hidden_place : (name : Name) → IsPlace disk.order (entries_by_directory_in_thread (thread_at w (p ∷ [])) a) (place_at w l) name
+      → IsPlace disk.order (put (entries_by_directory_in_thread (thread_at w (p ∷ []))) b (remove (entries_by_directory_in_thread (thread_at w (p ∷ [])) b) (place_at wo lo)) a) (length (flat_map (entries_not_moved (gstate_of (thread_at w (q ∷ more)))) w.left ++ entries_only l)) name
   hidden_place name place =
-      let shows : entries_in (thread_at w (p ∷ [])) a ≡ shown_before w l ++ shown_behind w r
+      let shows : entries_by_directory_in_thread (thread_at w (p ∷ [])) a ≡ shown_before w l ++ shown_behind w r
       = site_shows disk w p l [] r a step.accepted step.site step.no_move same (sym (append-nil p.content.slots) ∙ step.was) in
       let here = subst (λ z. IsPlace disk.order z (place_at w l) name) shows place in
       let less = from_entries (λ s. name_cmp disk.order s.name name ≡ Less) (slots_in w.left ++ l) (less_parts (shown_before w l) (shown_behind w r) name here) in

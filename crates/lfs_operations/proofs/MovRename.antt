@@ -4,22 +4,22 @@ use Rattle.std.specs.Option.{option_and_then}
 use Rattle.std.specs.List.{IsDistinct}
 use Rattle.std.proofs.lemmas.Nat.{xor_lt}
 use Rattle.std.proofs.lemmas.List.Sums.{sum_by-append}
-use Rattle.lfs_model.specs.Changes.{Change, PutMove, changed_by}
-use Rattle.lfs_model.specs.Content.{RawContent, RawSlot, complete_all, completed, raw_at}
+use Rattle.lfs_model.specs.Changes.{ContentChange, PutMove, content_after_changes}
+use Rattle.lfs_model.specs.Content.{RawContent, RawSlot, slots_if_all_complete, content_if_slots_are_complete, raw_content_of_pair_at}
 use Rattle.lfs_model.specs.Cut.{CanBeCut}
 use Rattle.lfs_model.specs.Disk.{Disk}
-use Rattle.lfs_model.specs.History.{Event}
-use Rattle.lfs_model.specs.InDirectory.{BeginsAt, BelongsInDirectory, IsPairOfDirectory}
-use Rattle.lfs_model.specs.LoggedContent.{IsAddress, IsMoveState}
+use Rattle.lfs_model.specs.History.{CallEvent}
+use Rattle.lfs_model.specs.InDirectory.{IsPairAtAddress, IsPlaceWhereNameBelongs, IsPairOfDirectory}
+use Rattle.lfs_model.specs.LoggedContent.{Are32BitPairAddresses, IsWellFormedMoveState}
 use Rattle.lfs_model.specs.Names.{Name, is_name}
-use Rattle.lfs_model.specs.PowerLoss.{Survives}
-use Rattle.lfs_model.specs.Slots.{Slot, FitsPair, Gstate, gstate_xor, same_pair, slot_size}
-use Rattle.lfs_model.specs.Thread.{Pair, blocks_of, gstate_of, next_of, starts_with_superblock, superblocks_before}
+use Rattle.lfs_model.specs.PowerLoss.{SurvivesStopsSince}
+use Rattle.lfs_model.specs.Slots.{Slot, IsContentFittingPair, Gstate, gstate_xor, same_pair, slot_size}
+use Rattle.lfs_model.specs.Thread.{Pair, blocks_of_pairs, gstate_of, pair_named_by_tail, starts_with_superblock, pair_count_before_root}
 use Rattle.lfs_model.specs.Tree.{Path}
-use Rattle.lfs_model.specs.TreeEdits.{renamed, rest_after}
-use Rattle.lfs_model.specs.Profile.{FitsEntry, IsWritable}
-use Rattle.lfs_model.specs.View.{IsAccepted, IsEntry}
-use Rattle.lfs_model.specs.Shown.{PathLeadsTo, entries_in, tree_in}
+use Rattle.lfs_model.specs.TreeEdits.{renamed, path_without_prefix}
+use Rattle.lfs_model.specs.Profile.{FitsEntryLimits, IsWritable}
+use Rattle.lfs_model.specs.View.{IsAcceptedImage, IsFileOrDirectoryEntry}
+use Rattle.lfs_model.specs.Shown.{IsPathToDirectory, entries_by_directory_in_thread, tree_on_disk}
 use Rattle.lfs_model.specs.SlotEdits.{slot_of_path}
 use Rattle.lfs_model.proofs.Changes.{Follows}
 use Rattle.lfs_model.proofs.Committed.{no_move_from}
@@ -35,18 +35,18 @@ use Rattle.lfs_model.proofs.Searches.{is_site, number_is, place_of_belongs, same
 use Rattle.lfs_model.proofs.Sites.{Site, begin_of, thread_at}
 use Rattle.lfs_model.proofs.StoredChanges.{logged_changed}
 use Rattle.lfs_model.proofs.Writable.{ends_in_hard_tail}
-use Rattle.lfs_pair.specs.Commit.{made_at}
-use Rattle.lfs_thread.specs.Device.{StopsLeave}
+use Rattle.lfs_pair.specs.Commit.{pair_content_after_changes}
+use Rattle.lfs_thread.specs.Device.{StopsAfterCleanErasesLeave}
 use Rattle.lfs_thread.specs.Kept.{Kept}
-use Rattle.lfs_thread.specs.Steps.{SlotsHaveFirst, made_in_thread, pair_in}
-use Rattle.lfs_operations.specs.Changing.{AltersPair, CanPut, IsLeftByPut, IsPut}
-use Rattle.lfs_operations.specs.Editing.{CanEdit}
+use Rattle.lfs_thread.specs.Steps.{SlotsBeginWithSuperblock, complete_content_after_changes, kept_pair_at_index}
+use Rattle.lfs_operations.specs.Changing.{AltersPair, CanChangeOrSplitPair, IsLeftByStoppedChangeOrSplit, IsPairChangedOrSplit}
+use Rattle.lfs_operations.specs.Editing.{CanEditEntryOfPair}
 use Rattle.lfs_operations.specs.MoveEnds.{CanEndMoveAt, HasEndedMoveAt, move_of}
-use Rattle.lfs_operations.specs.MovingSteps.{EndsAfter, IsPutAndEnded, place_after}
-use Rattle.lfs_operations.specs.MovingAcross.{CanRenameAcross, IsRenamedAcross, moving_changes, with_moved}
-use Rattle.lfs_operations.specs.Ready.{IsLoggedAt}
-use Rattle.lfs_operations.specs.Removing.{drops_pair}
-use Rattle.lfs_operations.specs.RenamingSlots.{HasSlot, Parts, parts_at, parts_of, slot_changes}
+use Rattle.lfs_operations.specs.MovingSteps.{CanEndMoveAfterPut, IsSlotPutAndMoveEnded, pair_number_after_insertion}
+use Rattle.lfs_operations.specs.MovingAcross.{CanRenameAcrossPairs, IsEntryRenamedAcrossPairs, rename_across_pairs_changes, tree_with_moved_entry}
+use Rattle.lfs_operations.specs.Ready.{HasLoggableContentAt}
+use Rattle.lfs_operations.specs.Removing.{is_pair_dropped_with_slot}
+use Rattle.lfs_operations.specs.RenamingSlots.{HasSlotOfId, NamelessSlot, nameless_slot_at, nameless_slot_of, slot_creation_changes}
 use Rattle.lfs_operations.proofs.AlteredAcross.{moved_alters}
 use Rattle.lfs_operations.proofs.Held.{CompletesTo, IsEntryIfOther, below, each_pair, fits_there, here, other_entries, raw_there}
 use Rattle.lfs_operations.proofs.MovSet.{HasTurned, IsSetting, chain_same, set_new, walk_by}
@@ -62,21 +62,21 @@ use Rattle.lfs_operations.proofs.RenameSlots.{IsOf, name_length, slot_comes, slo
 -- what the log says of the entry
 record Source (t : Kept) (pair id : ℕ) (u : Slot) : Type 0 where
   raw : RawSlot
-  is : parts_at t pair id ≡ parts_of raw
+  is : nameless_slot_at t pair id ≡ nameless_slot_of raw
   of : IsOf raw u
 
-module _ (sync : Bool) (t : Kept) (old_pair old_id new_pair : ℕ) (can : CanEdit t old_pair old_id) (address : IsAddress (pair_in t old_pair).at)
-    (first : ℕ) (p : Pair) (rest : List Pair) (place : IsPairOfDirectory t.pairs first new_pair p rest) (logged : IsLoggedAt t.disk (pair_in t new_pair).at) where
+module _ (sync : Bool) (t : Kept) (old_pair old_id new_pair : ℕ) (can : CanEditEntryOfPair t old_pair old_id) (address : Are32BitPairAddresses (kept_pair_at_index t old_pair).at)
+    (first : ℕ) (p : Pair) (rest : List Pair) (place : IsPairOfDirectory t.pairs first new_pair p rest) (logged : HasLoggableContentAt t.disk (kept_pair_at_index t new_pair).at) where
   abbrev pub o : Pair
   o = can.stands.pair
 
   abbrev pub u : Slot
   u = can.stands.stands.slot
 
-  here_o : pair_in t old_pair ≡ o
+  here_o : kept_pair_at_index t old_pair ≡ o
   here_o = here t can.ready can.first old_pair o can.stands.rest can.stands.place
 
-  here_p : pair_in t new_pair ≡ p
+  here_p : kept_pair_at_index t new_pair ≡ p
   here_p = here t can.ready first new_pair p rest place
 
   source : Source t old_pair old_id u
@@ -86,49 +86,49 @@ module _ (sync : Bool) (t : Kept) (old_pair old_id new_pair : ℕ) (can : CanEdi
     of = is_slot t old_pair old_id can.ready can.first o can.stands.rest can.stands.place can.logged can.name can.stands.stands;
   }
 
-  abbrev pub c : CompletesTo (raw_at t.disk (pair_in t new_pair).at) p.content
+  abbrev pub c : CompletesTo (raw_content_of_pair_at t.disk (kept_pair_at_index t new_pair).at) p.content
   c = raw_there t can.ready first new_pair p rest place
 
   parts : IsCompleted c.raw p.content
   parts = completed_parts c.raw p.content c.complete
 
   abbrev pub move : Gstate
-  move = gstate_xor (move_of sync (pair_in t old_pair).at old_id) (pair_in t new_pair).content.move
+  move = gstate_xor (move_of sync (kept_pair_at_index t old_pair).at old_id) (kept_pair_at_index t new_pair).content.move
 
   abbrev pub delta : Gstate
   delta = gstate_xor (move_of sync o.at (length can.stands.stands.left)) p.content.move
 
   pub move_is : move ≡ delta
-  move_is = ap₂ (λ (x : Pair) (i : ℕ). gstate_xor (move_of sync x.at i) (pair_in t new_pair).content.move) here_o (sym can.stands.stands.number)
+  move_is = ap₂ (λ (x : Pair) (i : ℕ). gstate_xor (move_of sync x.at i) (kept_pair_at_index t new_pair).content.move) here_o (sym can.stands.stands.number)
       ∙ ap (λ (x : Pair). gstate_xor (move_of sync o.at (length can.stands.stands.left)) x.content.move) here_p
 
   within : old_id < length o.content.slots
   within = let h = ap length can.stands.stands.held in let k = length-append can.stands.stands.left (u ∷ can.stands.stands.right) in let n = can.stands.stands.number in omega arith
 
-  is_state : IsMoveState move
+  is_state : IsWellFormedMoveState move
   is_state =
-      let g = subst IsMoveState (sym parts.move ∙ ap (λ (x : Pair). x.content.move) (sym here_p)) (logged c.raw c.is).move in
+      let g = subst IsWellFormedMoveState (sym parts.move ∙ ap (λ (x : Pair). x.content.move) (sym here_p)) (logged c.raw c.is).move in
       let few = (fits_there t can.ready can.first old_pair o can.stands.rest can.stands.place).count in
       let m = within in
       record {
-        kind = xor_lt 11 0x4ff (pair_in t new_pair).content.move.kind (omega arith) g.kind;
-        id = xor_lt 10 old_id (pair_in t new_pair).content.move.id (omega arith) g.id;
-        pair = (xor_lt 32 (pair_in t old_pair).at.0 (pair_in t new_pair).content.move.pair.0 address.0 g.pair.0, xor_lt 32 (pair_in t old_pair).at.1 (pair_in t new_pair).content.move.pair.1 address.1 g.pair.1);
+        kind = xor_lt 11 0x4ff (kept_pair_at_index t new_pair).content.move.kind (omega arith) g.kind;
+        id = xor_lt 10 old_id (kept_pair_at_index t new_pair).content.move.id (omega arith) g.id;
+        pair = (xor_lt 32 (kept_pair_at_index t old_pair).at.0 (kept_pair_at_index t new_pair).content.move.pair.0 address.0 g.pair.0, xor_lt 32 (kept_pair_at_index t old_pair).at.1 (kept_pair_at_index t new_pair).content.move.pair.1 address.1 g.pair.1);
       }
 
   abbrev pub raw_mid : RawContent
   raw_mid = record c.raw { move = move }
 
-  module _ (front : List Change) (a b : List Slot) (left : Leaves raw_mid front (a ++ b)) (fits_left : FitsPair t.disk.block_size t.disk.page (record p.content { slots = a ++ b }))
-      (at : ℕ) (number : length a ≡ at) (name : Name) (named : is_name name ≡ true) (fits : FitsEntry t.disk.block_size t.disk.page (record u { name = name })) where
-    abbrev pub changes : List Change
-    changes = PutMove move ∷ (front ++ slot_changes at name (parts_at t old_pair old_id))
+  module _ (front : List ContentChange) (a b : List Slot) (left : Leaves raw_mid front (a ++ b)) (fits_left : IsContentFittingPair t.disk.block_size t.disk.page (record p.content { slots = a ++ b }))
+      (at : ℕ) (number : length a ≡ at) (name : Name) (named : is_name name ≡ true) (fits : FitsEntryLimits t.disk.block_size t.disk.page (record u { name = name })) where
+    abbrev pub changes : List ContentChange
+    changes = PutMove move ∷ (front ++ slot_creation_changes at name (nameless_slot_at t old_pair old_id))
 
     abbrev pub moved : Slot
     moved = record u { name = name }
 
     abbrev raw_moved : RawSlot
-    raw_moved = slot_of_parts name (parts_of source.raw)
+    raw_moved = slot_of_parts name (nameless_slot_of source.raw)
 
     abbrev raw_now : RawContent
     raw_now = with_slot left.left at raw_moved
@@ -136,26 +136,26 @@ module _ (sync : Bool) (t : Kept) (old_pair old_id new_pair : ℕ) (can : CanEdi
     length_left : length left.left.slots ≡ length (a ++ b)
     length_left = sym (complete_length left.left.slots (a ++ b) left.are)
 
-    changed_now : changed_by c.raw changes ≡ Some raw_now
-    changed_now = does_first (PutMove move) (front ++ slot_changes at name (parts_at t old_pair old_id)) c.raw raw_mid raw_now (puts_move c.raw move is_state)
-        (left.does (slot_changes at name (parts_at t old_pair old_id)) raw_now
-        (ap (λ (z : Parts). changed_by left.left (slot_changes at name z)) source.is
-        ∙ slot_comes left.left at name (parts_of source.raw) (let n = fits_left.count in let k = length-append a b in omega arith)
+    changed_now : content_after_changes c.raw changes ≡ Some raw_now
+    changed_now = does_first (PutMove move) (front ++ slot_creation_changes at name (nameless_slot_at t old_pair old_id)) c.raw raw_mid raw_now (puts_move c.raw move is_state)
+        (left.does (slot_creation_changes at name (nameless_slot_at t old_pair old_id)) raw_now
+        (ap (λ (z : NamelessSlot). content_after_changes left.left (slot_creation_changes at name z)) source.is
+        ∙ slot_comes left.left at name (nameless_slot_of source.raw) (let n = fits_left.count in let k = length-append a b in omega arith)
         (let k = length-append a b in let l = length_left in omega arith) (name_length name named) source.of.are))
 
-    made_raw : made_at t.disk (pair_in t new_pair).at changes ≡ Some raw_now
-    made_raw = ap (λ o. option_and_then (λ (x : RawContent). changed_by x changes) o) c.is ∙ changed_now
+    made_raw : pair_content_after_changes t.disk (kept_pair_at_index t new_pair).at changes ≡ Some raw_now
+    made_raw = ap (λ o. option_and_then (λ (x : RawContent). content_after_changes x changes) o) c.is ∙ changed_now
 
-    slots_now : complete_all raw_now.slots ≡ Some (a ++ moved ∷ b)
+    slots_now : slots_if_all_complete raw_now.slots ≡ Some (a ++ moved ∷ b)
     slots_now = complete_insert left.left.slots (a ++ b) at raw_moved moved left.are (source.of.complete name) ∙ ap (λ (i : ℕ). Some (insert (a ++ b) i moved)) (sym number) ∙ ap Some (insert_here a b moved)
 
-    now_complete : completed raw_now ≡ Some (content_with p (a ++ moved ∷ b) delta)
+    now_complete : content_if_slots_are_complete raw_now ≡ Some (content_with p (a ++ moved ∷ b) delta)
     now_complete =
         completed_from raw_now (a ++ moved ∷ b) slots_now
         ∙ ap₂ (λ t m. Some (record { slots = a ++ moved ∷ b; tail = t; move = m })) (left.tail ∙ sym parts.tail) (left.move ∙ move_is)
 
-    pub made : made_in_thread t new_pair changes ≡ Some (content_with p (a ++ moved ∷ b) delta)
-    made = ap (λ o. option_and_then completed o) made_raw ∙ now_complete
+    pub made : complete_content_after_changes t new_pair changes ≡ Some (content_with p (a ++ moved ∷ b) delta)
+    made = ap (λ o. option_and_then content_if_slots_are_complete o) made_raw ∙ now_complete
 
     cut : CanBeCut t.disk.block_size t.disk.page raw_now.slots
     cut = content_cut t.disk.block_size t.disk.page raw_now (content_with p (a ++ moved ∷ b) delta) a moved b (logged_changed c.raw changes raw_now (logged c.raw c.is) changed_now) now_complete refl
@@ -163,13 +163,13 @@ module _ (sync : Bool) (t : Kept) (old_pair old_id new_pair : ℕ) (can : CanEdi
         (let f = fits_left.size in let k = sum_by-append slot_size a b in omega arith)
         (let n = fits_left.count in let k = length-append a b in omega arith)
 
-    pub can_put : CanPut t new_pair changes
+    pub can_put : CanChangeOrSplitPair t new_pair changes
     can_put = record {
       can = record {
         below = below t can.ready first new_pair p rest place;
         content = content_with p (a ++ moved ∷ b) delta;
         made = made;
-        next = ap (λ (z : Pair). next_of z.content.tail) (sym here_p);
+        next = ap (λ (z : Pair). pair_named_by_tail z.content.tail) (sym here_p);
       };
       raw = raw_now;
       made = made_raw;
@@ -178,14 +178,14 @@ module _ (sync : Bool) (t : Kept) (old_pair old_id new_pair : ℕ) (can : CanEdi
 
 -- ---- to a new name
 
-module _ (t : Kept) (old_pair old_id first new_pair new_id : ℕ) (name : Name) (rename : CanRenameAcross t old_pair old_id first new_pair new_id name) (address : IsAddress (pair_in t old_pair).at) where
-  abbrev can : CanEdit t old_pair old_id
+module _ (t : Kept) (old_pair old_id first new_pair new_id : ℕ) (name : Name) (rename : CanRenameAcrossPairs t old_pair old_id first new_pair new_id name) (address : Are32BitPairAddresses (kept_pair_at_index t old_pair).at) where
+  abbrev can : CanEditEntryOfPair t old_pair old_id
   can = rename.old
 
   abbrev goes : Bool
-  goes = drops_pair t old_pair first
+  goes = is_pair_dropped_with_slot t old_pair first
 
-  abbrev b : BelongsInDirectory t.disk.order t.pairs rename.to_first name new_pair new_id
+  abbrev b : IsPlaceWhereNameBelongs t.disk.order t.pairs rename.to_first name new_pair new_id
   b = rename.belongs
 
   abbrev p : Pair
@@ -218,19 +218,19 @@ module _ (t : Kept) (old_pair old_id first new_pair new_id : ℕ) (name : Name) 
   there : t.pairs ≡ thread_at w (p ∷ [])
   there = thread_is t.disk t.pairs rename.path rename.at can.ready.accepted rename.leads rename.to_first new_pair p (b.later ++ b.rest) b.place rename.begins
 
-  held_all : complete_all (raw_mid false t old_pair old_id new_pair can address rename.to_first p (b.later ++ b.rest) b.place rename.logged).slots ≡ Some (b.left ++ b.right)
+  held_all : slots_if_all_complete (raw_mid false t old_pair old_id new_pair can address rename.to_first p (b.later ++ b.rest) b.place rename.logged).slots ≡ Some (b.left ++ b.right)
   held_all = (completed_parts (c false t old_pair old_id new_pair can address rename.to_first p (b.later ++ b.rest) b.place rename.logged).raw p.content (c false t old_pair old_id new_pair can address rename.to_first p (b.later ++ b.rest) b.place rename.logged).complete).slots ∙ ap Some b.held
 
   leaves : Leaves (raw_mid false t old_pair old_id new_pair can address rename.to_first p (b.later ++ b.rest) b.place rename.logged) [] (b.left ++ b.right)
   leaves = leaves_all (raw_mid false t old_pair old_id new_pair can address rename.to_first p (b.later ++ b.rest) b.place rename.logged) (b.left ++ b.right) held_all
 
-  fits_left : FitsPair t.disk.block_size t.disk.page (record p.content { slots = b.left ++ b.right })
-  fits_left = subst (λ z. FitsPair t.disk.block_size t.disk.page (record p.content { slots = z })) b.held (fits_there t can.ready rename.to_first new_pair p (b.later ++ b.rest) b.place)
+  fits_left : IsContentFittingPair t.disk.block_size t.disk.page (record p.content { slots = b.left ++ b.right })
+  fits_left = subst (λ z. IsContentFittingPair t.disk.block_size t.disk.page (record p.content { slots = z })) b.held (fits_there t can.ready rename.to_first new_pair p (b.later ++ b.rest) b.place)
 
-  pub can_put_across : CanPut t new_pair (moving_changes t old_pair old_id new_pair new_id name)
+  pub can_put_across : CanChangeOrSplitPair t new_pair (rename_across_pairs_changes t old_pair old_id new_pair new_id name)
   can_put_across = can_put false t old_pair old_id new_pair can address rename.to_first p (b.later ++ b.rest) b.place rename.logged [] b.left b.right leaves fits_left new_id b.number name rename.is_name rename.fits
 
-  entry : IsEntry s
+  entry : IsFileOrDirectoryEntry s
   entry =
       let here = each_pair t can.ready can.first old_pair q can.stands.rest can.stands.place (λ x. Each IsEntryIfOther x.content.slots) (other_entries t.disk t.pairs can.ready.accepted) in
       (each_right IsEntryIfOther lo (s ∷ ro) (subst (Each IsEntryIfOther) can.stands.stands.held here)).0 can.stands.stands.entry
@@ -246,7 +246,7 @@ module _ (t : Kept) (old_pair old_id first new_pair new_id : ℕ) (name : Name) 
       let old_site = is_site t.disk t.pairs can.path can.at can.ready.accepted can.leads can.first old_pair q can.stands.rest can.stands.place can.begins in
       let new_site = is_site t.disk t.pairs rename.path rename.at can.ready.accepted rename.leads rename.to_first new_pair p (b.later ++ b.rest) b.place rename.begins in
       record {
-        accepted = subst (IsAccepted t.disk) there can.ready.accepted;
+        accepted = subst (IsAcceptedImage t.disk) there can.ready.accepted;
         writable = subst (IsWritable t.disk) there can.ready.writable;
         settled = ap gstate_of (sym there) ∙ can.ready.settled;
         site = new_site;
@@ -255,7 +255,7 @@ module _ (t : Kept) (old_pair old_id first new_pair new_id : ℕ) (name : Name) 
         held = can.stands.stands.held;
         other = can.stands.stands.entry;
         apart = λ e.
-            let chains = sym old_site.chain ∙ ap superblocks_before (sym there_old ∙ there) ∙ new_site.chain in
+            let chains = sym old_site.chain ∙ ap pair_count_before_root (sym there_old ∙ there) ∙ new_site.chain in
             let m = old_number in
             let n = new_number in
             rename.apart (omega arith);
@@ -266,18 +266,18 @@ module _ (t : Kept) (old_pair old_id first new_pair new_id : ℕ) (name : Name) 
         fit = ((λ e. absurd (let z = sym can.stands.stands.entry ∙ e in cc)), (λ e. rename.fits));
       }
 
-  first_kept : (l : List Slot) → (l ≡ [] → starts_with_superblock b.right ≡ false) → SlotsHaveFirst (l ++ b.right) → SlotsHaveFirst (l ++ v ∷ b.right)
+  first_kept : (l : List Slot) → (l ≡ [] → starts_with_superblock b.right ≡ false) → SlotsBeginWithSuperblock (l ++ b.right) → SlotsBeginWithSuperblock (l ++ v ∷ b.right)
   first_kept [] f e = absurd (let z = sym (f refl) ∙ e.0 in cc)
   first_kept (x ∷ l) f e = e
 
-  turn : IsTurn t new_pair (moving_changes t old_pair old_id new_pair new_id name) w p (b.left ++ v ∷ b.right) (gstate_xor (move_of false q.at (length lo)) p.content.move)
+  turn : IsTurn t new_pair (rename_across_pairs_changes t old_pair old_id new_pair new_id name) w p (b.left ++ v ∷ b.right) (gstate_xor (move_of false q.at (length lo)) p.content.move)
   turn = record {
     accepted = can.ready.accepted;
     there = there;
     place = new_number;
     site = setting.site;
     made = made false t old_pair old_id new_pair can address rename.to_first p (b.later ++ b.rest) b.place rename.logged [] b.left b.right leaves fits_left new_id b.number name rename.is_name rename.fits;
-    first = λ h. first_kept b.left (λ e. b.fronted) (subst SlotsHaveFirst b.held (h.kind, h.name));
+    first = λ h. first_kept b.left (λ e. b.fronted) (subst SlotsBeginWithSuperblock b.held (h.kind, h.name));
   }
 
   same_begin : same_pair (begin_of wo (q ∷ [])) can.at ≡ true
@@ -285,14 +285,14 @@ module _ (t : Kept) (old_pair old_id first new_pair new_id : ℕ) (name : Name) 
 
   led_first : old_pair ≡ can.first → ends_in_hard_tail false (wo.before ++ wo.left) ≡ false
   led_first e =
-      let none_before = alone wo.chain wo.before wo.left (wo.right ++ wo.after) q can.at can.first (subst (λ z. IsDistinct nat_eq (blocks_of z)) there_old can.ready.accepted.thread.distinct) same_begin
-      (subst (λ z. BeginsAt z can.at can.first) there_old can.begins) (sym e ∙ old_number) in
+      let none_before = alone wo.chain wo.before wo.left (wo.right ++ wo.after) q can.at can.first (subst (λ z. IsDistinct nat_eq (blocks_of_pairs z)) there_old can.ready.accepted.thread.distinct) same_begin
+      (subst (λ z. IsPairAtAddress z can.at can.first) there_old can.begins) (sym e ∙ old_number) in
       ap (λ z. ends_in_hard_tail false (wo.before ++ z)) none_before ∙ ap (ends_in_hard_tail false) (append-nil wo.before) ∙ flag_ends wo.before setting.old_site.ends
 
   stays : goes ≡ false → ends_in_hard_tail false (wo.before ++ wo.left) ≡ true → 1 < length q.content.slots
   stays remains hard = go (stays_there t old_pair old_id first can rename.begins_old remains)
     where
-      go : (old_pair ≡ can.first) ⊎ (1 < length (pair_in t old_pair).content.slots) → 1 < length q.content.slots
+      go : (old_pair ≡ can.first) ⊎ (1 < length (kept_pair_at_index t old_pair).content.slots) → 1 < length q.content.slots
       go (inl e) = absurd (let z = sym hard ∙ led_first e in cc)
       go (inr many) = subst (λ (z : Pair). 1 < length z.content.slots) (here t can.ready can.first old_pair q can.stands.rest can.stands.place) many
 
@@ -301,7 +301,7 @@ module _ (t : Kept) (old_pair old_id first new_pair new_id : ℕ) (name : Name) 
       let k = stands_whole t old_pair old_id first can rename.begins_old whole in
       (flag_whole t old_pair old_id first can rename.begins_old whole, ap length k.held)
 
-  place : IsPlace t.disk.order (entries_in t.pairs rename.at) (place_at w b.left) name
+  place : IsPlace t.disk.order (entries_by_directory_in_thread t.pairs rename.at) (place_at w b.left) name
   place = place_of_belongs t.disk t.pairs rename.path rename.at can.ready.accepted rename.leads rename.to_first new_pair new_id name (no_move_from t.pairs can.ready.settled) b rename.begins
 
   abbrev from : Path
@@ -313,13 +313,13 @@ module _ (t : Kept) (old_pair old_id first new_pair new_id : ℕ) (name : Name) 
   follows : (disk : Disk) (x : Pair) (more : List Pair) → HasTurned t.disk w p (b.left ++ v ∷ b.right) (gstate_xor (move_of false q.at (length lo)) p.content.move) disk x more
       → Follows t.disk (thread_at w (p ∷ [])) disk (thread_at w (x ∷ more)) (renamed from to) (walk_by from to)
   follows disk x more turned = subst (λ (n : Name). Follows t.disk (thread_at w (p ∷ [])) disk (thread_at w (x ∷ more)) (renamed (can.path ++ n ∷ []) to) (walk_by (can.path ++ n ∷ []) to)) can.stands.stands.named
-      (set_new t.disk wo q lo s ro w p b.left v b.right false disk x more turned can.path can.at (subst (λ z. PathLeadsTo z can.path can.at) there can.leads) same_begin
-      rename.path rename.at (subst (λ z. PathLeadsTo z rename.path rename.at) there rename.leads)
+      (set_new t.disk wo q lo s ro w p b.left v b.right false disk x more turned can.path can.at (subst (λ z. IsPathToDirectory z can.path can.at) there can.leads) same_begin
+      rename.path rename.at (subst (λ z. IsPathToDirectory z rename.path rename.at) there rename.leads)
       (same t.disk t.pairs rename.path rename.at can.ready.accepted rename.leads rename.to_first new_pair p (b.later ++ b.rest) b.place rename.begins)
-      setting refl (ap (λ (n : Name). rest_after (can.path ++ n ∷ []) to) can.stands.stands.named ∙ rename.not_beneath)
-      (subst (λ z. IsPlace t.disk.order (entries_in z rename.at) (place_at w b.left) name) there place))
+      setting refl (ap (λ (n : Name). path_without_prefix (can.path ++ n ∷ []) to) can.stands.stands.named ∙ rename.not_beneath)
+      (subst (λ z. IsPlace t.disk.order (entries_by_directory_in_thread z rename.at) (place_at w b.left) name) there place))
 
-  is_first : IsFirst t false old_pair goes new_pair (moving_changes t old_pair old_id new_pair new_id name) wo q lo s ro w p b.left None v b.right from to name
+  is_first : IsFirst t false old_pair goes new_pair (rename_across_pairs_changes t old_pair old_id new_pair new_id name) wo q lo s ro w p b.left None v b.right from to name
   is_first = record {
     ready = can.ready;
     turn = turn;
@@ -327,7 +327,7 @@ module _ (t : Kept) (old_pair old_id first new_pair new_id : ℕ) (name : Name) 
     chain = chain_same t.disk wo q lo s ro w p b.left [] v b.right setting;
     old_place = old_number;
     old_is = ap (λ (z : Pair). z.at) (here t can.ready can.first old_pair q can.stands.rest can.stands.place);
-    logged = subst (λ (z : Pair). IsLoggedAt t.disk z.at) (here t can.ready can.first old_pair q can.stands.rest can.stands.place) can.logged;
+    logged = subst (λ (z : Pair). HasLoggableContentAt t.disk z.at) (here t can.ready can.first old_pair q can.stands.rest can.stands.place) can.logged;
     same_slot = refl;
     follows = follows;
     stays = stays;
@@ -339,38 +339,38 @@ module _ (t : Kept) (old_pair old_id first new_pair new_id : ℕ) (name : Name) 
     file = λ e. tt;
   }
 
-  pub ends_across : (mid : Kept) → IsPut t new_pair (moving_changes t old_pair old_id new_pair new_id name) mid → EndsAfter t old_pair old_id goes new_pair mid
+  pub ends_across : (mid : Kept) → IsPairChangedOrSplit t new_pair (rename_across_pairs_changes t old_pair old_id new_pair new_id name) mid → CanEndMoveAfterPut t old_pair old_id goes new_pair mid
   ends_across mid is =
-      let x = first_turned t false old_pair goes new_pair (moving_changes t old_pair old_id new_pair new_id name) wo q lo s ro w p b.left None v b.right from to name is_first mid is in
+      let x = first_turned t false old_pair goes new_pair (rename_across_pairs_changes t old_pair old_id new_pair new_id name) wo q lo s ro w p b.left None v b.right from to name is_first mid is in
       record {
         apart = rename.apart;
-        grown = grown t false old_pair goes new_pair (moving_changes t old_pair old_id new_pair new_id name) wo q lo s ro w p b.left None v b.right from to name is_first mid x;
-        can = subst (λ i. CanEndMoveAt mid (place_after old_pair new_pair (length mid.pairs - length t.pairs)) i goes) can.stands.stands.number
-            (mid_ends t false old_pair goes new_pair (moving_changes t old_pair old_id new_pair new_id name) wo q lo s ro w p b.left None v b.right from to name is_first mid x);
-        at = same_at t false old_pair goes new_pair (moving_changes t old_pair old_id new_pair new_id name) wo q lo s ro w p b.left None v b.right from to name is_first mid x;
+        grown = grown t false old_pair goes new_pair (rename_across_pairs_changes t old_pair old_id new_pair new_id name) wo q lo s ro w p b.left None v b.right from to name is_first mid x;
+        can = subst (λ i. CanEndMoveAt mid (pair_number_after_insertion old_pair new_pair (length mid.pairs - length t.pairs)) i goes) can.stands.stands.number
+            (mid_ends t false old_pair goes new_pair (rename_across_pairs_changes t old_pair old_id new_pair new_id name) wo q lo s ro w p b.left None v b.right from to name is_first mid x);
+        at = same_at t false old_pair goes new_pair (rename_across_pairs_changes t old_pair old_id new_pair new_id name) wo q lo s ro w p b.left None v b.right from to name is_first mid x;
       }
 
-  pub shows_across : (mid : Kept) → IsPut t new_pair (moving_changes t old_pair old_id new_pair new_id name) mid → tree_in mid.disk mid.pairs ≡ with_moved t can.path can.name rename.path name
-  shows_across mid is = mid_shows t false old_pair goes new_pair (moving_changes t old_pair old_id new_pair new_id name) wo q lo s ro w p b.left None v b.right from to name is_first mid
-      (first_turned t false old_pair goes new_pair (moving_changes t old_pair old_id new_pair new_id name) wo q lo s ro w p b.left None v b.right from to name is_first mid is)
+  pub shows_across : (mid : Kept) → IsPairChangedOrSplit t new_pair (rename_across_pairs_changes t old_pair old_id new_pair new_id name) mid → tree_on_disk mid.disk mid.pairs ≡ tree_with_moved_entry t can.path can.name rename.path name
+  shows_across mid is = mid_shows t false old_pair goes new_pair (rename_across_pairs_changes t old_pair old_id new_pair new_id name) wo q lo s ro w p b.left None v b.right from to name is_first mid
+      (first_turned t false old_pair goes new_pair (rename_across_pairs_changes t old_pair old_id new_pair new_id name) wo q lo s ro w p b.left None v b.right from to name is_first mid is)
 
-  pub survives_across : (calls : List Event) → StopsLeave t.history calls (IsLeftByPut t new_pair (moving_changes t old_pair old_id new_pair new_id name))
-      → Survives t.disk t.history calls (tree_in t.disk t.pairs) (with_moved t can.path can.name rename.path name)
-  survives_across calls stops = first_survives t false old_pair goes new_pair (moving_changes t old_pair old_id new_pair new_id name) wo q lo s ro w p b.left None v b.right from to name is_first calls stops
+  pub survives_across : (calls : List CallEvent) → StopsAfterCleanErasesLeave t.history calls (IsLeftByStoppedChangeOrSplit t new_pair (rename_across_pairs_changes t old_pair old_id new_pair new_id name))
+      → SurvivesStopsSince t.disk t.history calls (tree_on_disk t.disk t.pairs) (tree_with_moved_entry t can.path can.name rename.path name)
+  survives_across calls stops = first_survives t false old_pair goes new_pair (rename_across_pairs_changes t old_pair old_id new_pair new_id name) wo q lo s ro w p b.left None v b.right from to name is_first calls stops
 
-  pub renamed_across : (new : Kept) → IsPutAndEnded t old_pair old_id goes new_pair (moving_changes t old_pair old_id new_pair new_id name) new → IsRenamedAcross t new can.path can.name rename.path name
+  pub renamed_across : (new : Kept) → IsSlotPutAndMoveEnded t old_pair old_id goes new_pair (rename_across_pairs_changes t old_pair old_id new_pair new_id name) new → IsEntryRenamedAcrossPairs t new can.path can.name rename.path name
   renamed_across new is =
-      let x = first_turned t false old_pair goes new_pair (moving_changes t old_pair old_id new_pair new_id name) wo q lo s ro w p b.left None v b.right from to name is_first is.mid is.put in
-      let e = subst (λ i. HasEndedMoveAt is.mid (place_after old_pair new_pair (length is.mid.pairs - length t.pairs)) i goes new) (sym can.stands.stands.number) is.ended in
+      let x = first_turned t false old_pair goes new_pair (rename_across_pairs_changes t old_pair old_id new_pair new_id name) wo q lo s ro w p b.left None v b.right from to name is_first is.mid is.put in
+      let e = subst (λ i. HasEndedMoveAt is.mid (pair_number_after_insertion old_pair new_pair (length is.mid.pairs - length t.pairs)) i goes new) (sym can.stands.stands.number) is.ended in
       record {
-        now = rename_becomes t false old_pair goes new_pair (moving_changes t old_pair old_id new_pair new_id name) wo q lo s ro w p b.left None v b.right from to name is_first is.mid x new e refl;
+        now = rename_becomes t false old_pair goes new_pair (rename_across_pairs_changes t old_pair old_id new_pair new_id name) wo q lo s ro w p b.left None v b.right from to name is_first is.mid x new e refl;
         completed = λ z given to_given tree given_is to_is.
-            rename_completed t false old_pair goes new_pair (moving_changes t old_pair old_id new_pair new_id name) wo q lo s ro w p b.left None v b.right from to name is_first is.mid x new e refl z given to_given tree given_is to_is;
+            rename_completed t false old_pair goes new_pair (rename_across_pairs_changes t old_pair old_id new_pair new_id name) wo q lo s ro w p b.left None v b.right from to name is_first is.mid x new e refl z given to_given tree given_is to_is;
       }
 
   -- ---- what stays
 
-  pub across_alters : (new : Kept) → IsPutAndEnded t old_pair old_id goes new_pair (moving_changes t old_pair old_id new_pair new_id name) new → AltersPair t new_pair new
-  across_alters new is = moved_alters t false old_pair goes new_pair (moving_changes t old_pair old_id new_pair new_id name) wo q lo s ro w p b.left v b.right from to name is_first is.mid
-      (first_turned t false old_pair goes new_pair (moving_changes t old_pair old_id new_pair new_id name) wo q lo s ro w p b.left None v b.right from to name is_first is.mid is.put) new
-      (subst (λ i. HasEndedMoveAt is.mid (place_after old_pair new_pair (length is.mid.pairs - length t.pairs)) i goes new) (sym can.stands.stands.number) is.ended)
+  pub across_alters : (new : Kept) → IsSlotPutAndMoveEnded t old_pair old_id goes new_pair (rename_across_pairs_changes t old_pair old_id new_pair new_id name) new → AltersPair t new_pair new
+  across_alters new is = moved_alters t false old_pair goes new_pair (rename_across_pairs_changes t old_pair old_id new_pair new_id name) wo q lo s ro w p b.left v b.right from to name is_first is.mid
+      (first_turned t false old_pair goes new_pair (rename_across_pairs_changes t old_pair old_id new_pair new_id name) wo q lo s ro w p b.left None v b.right from to name is_first is.mid is.put) new
+      (subst (λ i. HasEndedMoveAt is.mid (pair_number_after_insertion old_pair new_pair (length is.mid.pairs - length t.pairs)) i goes new) (sym can.stands.stands.number) is.ended)

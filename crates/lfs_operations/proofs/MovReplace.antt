@@ -2,19 +2,19 @@
 use Rattle.std.proofs.Common.{nat_eq, Bool, ℕ, ◌≡◌, ◌+◌, ◌-◌, ◌<◌, ◌≤◌, ◌⊎◌, inl, inr, true, false, List, [], ◌∷◌, ◌++◌, length, Some, refl, sym, ap, subst, ◌∙◌, arith, append-nil, length-append}
 use Rattle.std.specs.List.{IsDistinct}
 use Rattle.lfs_model.specs.Changes.{Delete}
-use Rattle.lfs_model.specs.Content.{complete_all}
+use Rattle.lfs_model.specs.Content.{slots_if_all_complete}
 use Rattle.lfs_model.specs.Disk.{Disk}
-use Rattle.lfs_model.specs.History.{Event}
-use Rattle.lfs_model.specs.InDirectory.{BeginsAt, HasNameAtPlace}
-use Rattle.lfs_model.specs.LoggedContent.{IsAddress}
+use Rattle.lfs_model.specs.History.{CallEvent}
+use Rattle.lfs_model.specs.InDirectory.{IsPairAtAddress, IsPlaceOfNameInDirectory}
+use Rattle.lfs_model.specs.LoggedContent.{Are32BitPairAddresses}
 use Rattle.lfs_model.specs.Names.{Name, is_name}
-use Rattle.lfs_model.specs.PowerLoss.{Survives}
-use Rattle.lfs_model.specs.Slots.{Slot, FitsPair, gstate_xor, same_pair}
-use Rattle.lfs_model.specs.Thread.{Pair, blocks_of, gstate_of, superblocks_before}
+use Rattle.lfs_model.specs.PowerLoss.{SurvivesStopsSince}
+use Rattle.lfs_model.specs.Slots.{Slot, IsContentFittingPair, gstate_xor, same_pair}
+use Rattle.lfs_model.specs.Thread.{Pair, blocks_of_pairs, gstate_of, pair_count_before_root}
 use Rattle.lfs_model.specs.Tree.{Path}
-use Rattle.lfs_model.specs.TreeEdits.{renamed, rest_after}
-use Rattle.lfs_model.specs.Shown.{file_blocks, PathLeadsTo, tree_in, used_blocks}
-use Rattle.lfs_model.specs.View.{IsAccepted, IsEntry}
+use Rattle.lfs_model.specs.TreeEdits.{renamed, path_without_prefix}
+use Rattle.lfs_model.specs.Shown.{skip_list_blocks_of_struct, IsPathToDirectory, tree_on_disk, used_blocks}
+use Rattle.lfs_model.specs.View.{IsAcceptedImage, IsFileOrDirectoryEntry}
 use Rattle.lfs_model.specs.Profile.{IsWritable}
 use Rattle.lfs_model.specs.SlotEdits.{slot_of_path}
 use Rattle.lfs_model.proofs.Changes.{Follows}
@@ -25,19 +25,19 @@ use Rattle.lfs_model.proofs.Paths.{last_is}
 use Rattle.lfs_model.proofs.Searches.{is_site, number_is, same, site, slot_of_stands, thread_is}
 use Rattle.lfs_model.proofs.Sites.{Site, begin_of, thread_at}
 use Rattle.lfs_model.proofs.Writable.{ends_in_hard_tail}
-use Rattle.lfs_thread.specs.Device.{StopsLeave}
+use Rattle.lfs_thread.specs.Device.{StopsAfterCleanErasesLeave}
 use Rattle.lfs_thread.specs.Kept.{Kept}
-use Rattle.lfs_thread.specs.Steps.{SlotsHaveFirst, pair_in}
-use Rattle.lfs_operations.specs.Changing.{CanPut, IsLeftByPut, IsPut}
-use Rattle.lfs_operations.specs.Editing.{CanEdit}
+use Rattle.lfs_thread.specs.Steps.{SlotsBeginWithSuperblock, kept_pair_at_index}
+use Rattle.lfs_operations.specs.Changing.{CanChangeOrSplitPair, IsLeftByStoppedChangeOrSplit, IsPairChangedOrSplit}
+use Rattle.lfs_operations.specs.Editing.{CanEditEntryOfPair}
 use Rattle.lfs_operations.specs.MoveEnds.{CanEndMoveAt, HasEndedMoveAt, move_of}
-use Rattle.lfs_operations.specs.MovingSteps.{EndsAfter, IsPutAndEnded, place_after}
-use Rattle.lfs_operations.specs.MovingAcross.{with_moved}
-use Rattle.lfs_operations.specs.MovingOnto.{CanPutOnto, CanReplaceAcross, CanReplaceDirectory, IsReplacedAcross, onto_changes}
-use Rattle.lfs_operations.specs.Dropping.{HasShrunk}
-use Rattle.lfs_operations.specs.Ready.{IsLoggedAt}
-use Rattle.lfs_operations.specs.Removing.{drops_pair}
-use Rattle.lfs_operations.specs.RenamingSlots.{HasSlot}
+use Rattle.lfs_operations.specs.MovingSteps.{CanEndMoveAfterPut, IsSlotPutAndMoveEnded, pair_number_after_insertion}
+use Rattle.lfs_operations.specs.MovingAcross.{tree_with_moved_entry}
+use Rattle.lfs_operations.specs.MovingOnto.{CanReplaceEntryAcrossPairs, CanReplaceFileAcrossPairs, CanReplaceDirectoryAcrossPairs, IsFileReplacedAcrossPairs, replace_entry_across_pairs_changes}
+use Rattle.lfs_operations.specs.Dropping.{ShowsTreeAfterDrops}
+use Rattle.lfs_operations.specs.Ready.{HasLoggableContentAt}
+use Rattle.lfs_operations.specs.Removing.{is_pair_dropped_with_slot}
+use Rattle.lfs_operations.specs.RenamingSlots.{HasSlotOfId}
 use Rattle.lfs_operations.proofs.Held.{IsEntryIfOther, each_pair, fits_there, here, other_entries}
 use Rattle.lfs_operations.proofs.MovSet.{HasTurned, IsSetting, chain_same, set_onto, walk_by}
 use Rattle.lfs_operations.proofs.MovStep.{IsFirst, first_survives, first_turned, grown, mid_ends, mid_shows, rename_becomes, rename_completed, rename_once, same_at}
@@ -50,7 +50,7 @@ use Rattle.lfs_operations.proofs.MovRename.{c, can_put, made, raw_mid}
 pub not_plain : {X : Type 0} → true ≡ false → X
 not_plain e = absurd (cc)
 
-abbrev pub onto_file : {t : Kept} {old_pair old_id first new_pair new_id : ℕ} {name : Name} → CanReplaceAcross t old_pair old_id first new_pair new_id name → CanPutOnto t false old_pair old_id first new_pair new_id name
+abbrev pub onto_file : {t : Kept} {old_pair old_id first new_pair new_id : ℕ} {name : Name} → CanReplaceFileAcrossPairs t old_pair old_id first new_pair new_id name → CanReplaceEntryAcrossPairs t false old_pair old_id first new_pair new_id name
 onto_file r = record {
   old = r.old;
   begins_old = r.begins_old;
@@ -67,8 +67,8 @@ onto_file r = record {
   fits = r.fits;
 }
 
-abbrev pub onto_directory : {t : Kept} {old_pair old_id first new_pair new_id : ℕ} {name : Name} {gone : ℕ} → CanReplaceDirectory t old_pair old_id first new_pair new_id name gone
-    → CanPutOnto t true old_pair old_id first new_pair new_id name
+abbrev pub onto_directory : {t : Kept} {old_pair old_id first new_pair new_id : ℕ} {name : Name} {gone : ℕ} → CanReplaceDirectoryAcrossPairs t old_pair old_id first new_pair new_id name gone
+    → CanReplaceEntryAcrossPairs t true old_pair old_id first new_pair new_id name
 onto_directory r = record {
   old = r.old;
   begins_old = r.begins_old;
@@ -85,14 +85,14 @@ onto_directory r = record {
   fits = r.fits;
 }
 
-module _ (sync : Bool) (t : Kept) (old_pair old_id first new_pair new_id : ℕ) (name : Name) (rename : CanPutOnto t sync old_pair old_id first new_pair new_id name) (address : IsAddress (pair_in t old_pair).at) where
-  abbrev can : CanEdit t old_pair old_id
+module _ (sync : Bool) (t : Kept) (old_pair old_id first new_pair new_id : ℕ) (name : Name) (rename : CanReplaceEntryAcrossPairs t sync old_pair old_id first new_pair new_id name) (address : Are32BitPairAddresses (kept_pair_at_index t old_pair).at) where
+  abbrev can : CanEditEntryOfPair t old_pair old_id
   can = rename.old
 
   abbrev goes : Bool
-  goes = drops_pair t old_pair first
+  goes = is_pair_dropped_with_slot t old_pair first
 
-  abbrev b : HasNameAtPlace t.pairs rename.to_first name new_pair new_id
+  abbrev b : IsPlaceOfNameInDirectory t.pairs rename.to_first name new_pair new_id
   b = rename.target
 
   abbrev p : Pair
@@ -135,7 +135,7 @@ module _ (sync : Bool) (t : Kept) (old_pair old_id first new_pair new_id : ℕ) 
   there : t.pairs ≡ thread_at w (p ∷ [])
   there = thread_is t.disk t.pairs rename.path rename.at can.ready.accepted rename.leads rename.to_first new_pair p b.rest b.place rename.begins
 
-  held_all : complete_all (raw_mid sync t old_pair old_id new_pair can address rename.to_first p b.rest b.place rename.logged).slots ≡ Some (l ++ g ∷ r)
+  held_all : slots_if_all_complete (raw_mid sync t old_pair old_id new_pair can address rename.to_first p b.rest b.place rename.logged).slots ≡ Some (l ++ g ∷ r)
   held_all = (completed_parts (c sync t old_pair old_id new_pair can address rename.to_first p b.rest b.place rename.logged).raw p.content (c sync t old_pair old_id new_pair can address rename.to_first p b.rest b.place rename.logged).complete).slots ∙ ap Some b.stands.held
 
   small : new_id < 0x3ff
@@ -149,7 +149,7 @@ module _ (sync : Bool) (t : Kept) (old_pair old_id first new_pair new_id : ℕ) 
   leaves : Leaves (raw_mid sync t old_pair old_id new_pair can address rename.to_first p b.rest b.place rename.logged) (Delete new_id ∷ []) (l ++ r)
   leaves = leaves_without (raw_mid sync t old_pair old_id new_pair can address rename.to_first p b.rest b.place rename.logged) l g r new_id small b.stands.number held_all
 
-  fits_left : FitsPair t.disk.block_size t.disk.page (record p.content { slots = l ++ r })
+  fits_left : IsContentFittingPair t.disk.block_size t.disk.page (record p.content { slots = l ++ r })
   fits_left = fits_without t.disk.block_size t.disk.page p.content l g r b.stands.held (fits_there t can.ready rename.to_first new_pair p b.rest b.place)
 
   -- its name is the one that the entry gets
@@ -159,10 +159,10 @@ module _ (sync : Bool) (t : Kept) (old_pair old_id first new_pair new_id : ℕ) 
       let entry = (each_right IsEntryIfOther l (g ∷ r) (subst (Each IsEntryIfOther) b.stands.held here)).0 b.stands.entry in
       ap is_name (sym b.stands.named) ∙ entry.name
 
-  pub can_put_onto : CanPut t new_pair (onto_changes sync t old_pair old_id new_pair new_id name)
+  pub can_put_onto : CanChangeOrSplitPair t new_pair (replace_entry_across_pairs_changes sync t old_pair old_id new_pair new_id name)
   can_put_onto = can_put sync t old_pair old_id new_pair can address rename.to_first p b.rest b.place rename.logged (Delete new_id ∷ []) l r leaves fits_left new_id b.stands.number name is_named rename.fits
 
-  entry : IsEntry s
+  entry : IsFileOrDirectoryEntry s
   entry =
       let here = each_pair t can.ready can.first old_pair q can.stands.rest can.stands.place (λ x. Each IsEntryIfOther x.content.slots) (other_entries t.disk t.pairs can.ready.accepted) in
       (each_right IsEntryIfOther lo (s ∷ ro) (subst (Each IsEntryIfOther) can.stands.stands.held here)).0 can.stands.stands.entry
@@ -178,7 +178,7 @@ module _ (sync : Bool) (t : Kept) (old_pair old_id first new_pair new_id : ℕ) 
       let old_site = is_site t.disk t.pairs can.path can.at can.ready.accepted can.leads can.first old_pair q can.stands.rest can.stands.place can.begins in
       let new_site = is_site t.disk t.pairs rename.path rename.at can.ready.accepted rename.leads rename.to_first new_pair p b.rest b.place rename.begins in
       record {
-        accepted = subst (IsAccepted t.disk) there can.ready.accepted;
+        accepted = subst (IsAcceptedImage t.disk) there can.ready.accepted;
         writable = subst (IsWritable t.disk) there can.ready.writable;
         settled = ap gstate_of (sym there) ∙ can.ready.settled;
         site = new_site;
@@ -187,7 +187,7 @@ module _ (sync : Bool) (t : Kept) (old_pair old_id first new_pair new_id : ℕ) 
         held = can.stands.stands.held;
         other = can.stands.stands.entry;
         apart = λ e.
-            let chains = sym old_site.chain ∙ ap superblocks_before (sym there_old ∙ there) ∙ new_site.chain in
+            let chains = sym old_site.chain ∙ ap pair_count_before_root (sym there_old ∙ there) ∙ new_site.chain in
             let m = old_number in
             let n = new_number in
             rename.apart (omega arith);
@@ -198,18 +198,18 @@ module _ (sync : Bool) (t : Kept) (old_pair old_id first new_pair new_id : ℕ) 
         fit = ((λ e. absurd (let z = sym can.stands.stands.entry ∙ e in cc)), (λ e. rename.fits));
       }
 
-  first_kept : (l : List Slot) → SlotsHaveFirst (l ++ g ∷ r) → SlotsHaveFirst (l ++ v ∷ r)
+  first_kept : (l : List Slot) → SlotsBeginWithSuperblock (l ++ g ∷ r) → SlotsBeginWithSuperblock (l ++ v ∷ r)
   first_kept [] e = absurd (let z = sym b.stands.entry ∙ e.0 in cc)
   first_kept (x ∷ l) e = e
 
-  turn : IsTurn t new_pair (onto_changes sync t old_pair old_id new_pair new_id name) w p (l ++ v ∷ r) (gstate_xor (move_of sync q.at (length lo)) p.content.move)
+  turn : IsTurn t new_pair (replace_entry_across_pairs_changes sync t old_pair old_id new_pair new_id name) w p (l ++ v ∷ r) (gstate_xor (move_of sync q.at (length lo)) p.content.move)
   turn = record {
     accepted = can.ready.accepted;
     there = there;
     place = new_number;
     site = setting.site;
     made = made sync t old_pair old_id new_pair can address rename.to_first p b.rest b.place rename.logged (Delete new_id ∷ []) l r leaves fits_left new_id b.stands.number name is_named rename.fits;
-    first = λ h. first_kept l (subst SlotsHaveFirst b.stands.held (h.kind, h.name));
+    first = λ h. first_kept l (subst SlotsBeginWithSuperblock b.stands.held (h.kind, h.name));
   }
 
   same_begin : same_pair (begin_of wo (q ∷ [])) can.at ≡ true
@@ -217,14 +217,14 @@ module _ (sync : Bool) (t : Kept) (old_pair old_id first new_pair new_id : ℕ) 
 
   led_first : old_pair ≡ can.first → ends_in_hard_tail false (wo.before ++ wo.left) ≡ false
   led_first e =
-      let none_before = alone wo.chain wo.before wo.left (wo.right ++ wo.after) q can.at can.first (subst (λ z. IsDistinct nat_eq (blocks_of z)) there_old can.ready.accepted.thread.distinct) same_begin
-      (subst (λ z. BeginsAt z can.at can.first) there_old can.begins) (sym e ∙ old_number) in
+      let none_before = alone wo.chain wo.before wo.left (wo.right ++ wo.after) q can.at can.first (subst (λ z. IsDistinct nat_eq (blocks_of_pairs z)) there_old can.ready.accepted.thread.distinct) same_begin
+      (subst (λ z. IsPairAtAddress z can.at can.first) there_old can.begins) (sym e ∙ old_number) in
       ap (λ z. ends_in_hard_tail false (wo.before ++ z)) none_before ∙ ap (ends_in_hard_tail false) (append-nil wo.before) ∙ flag_ends wo.before setting.old_site.ends
 
   stays : goes ≡ false → ends_in_hard_tail false (wo.before ++ wo.left) ≡ true → 1 < length q.content.slots
   stays remains hard = go (stays_there t old_pair old_id first can rename.begins_old remains)
     where
-      go : (old_pair ≡ can.first) ⊎ (1 < length (pair_in t old_pair).content.slots) → 1 < length q.content.slots
+      go : (old_pair ≡ can.first) ⊎ (1 < length (kept_pair_at_index t old_pair).content.slots) → 1 < length q.content.slots
       go (inl e) = absurd (let z = sym hard ∙ led_first e in cc)
       go (inr many) = subst (λ (z : Pair). 1 < length z.content.slots) (here t can.ready can.first old_pair q can.stands.rest can.stands.place) many
 
@@ -242,14 +242,14 @@ module _ (sync : Bool) (t : Kept) (old_pair old_id first new_pair new_id : ℕ) 
   follows : (disk : Disk) (x : Pair) (more : List Pair) → HasTurned t.disk w p (l ++ v ∷ r) (gstate_xor (move_of sync q.at (length lo)) p.content.move) disk x more
       → Follows t.disk (thread_at w (p ∷ [])) disk (thread_at w (x ∷ more)) (renamed from to) (walk_by from to)
   follows disk x more turned = subst (λ (n : Name). Follows t.disk (thread_at w (p ∷ [])) disk (thread_at w (x ∷ more)) (renamed (can.path ++ n ∷ []) to) (walk_by (can.path ++ n ∷ []) to)) can.stands.stands.named
-      (set_onto t.disk wo q lo s ro w p l v r sync disk x more turned can.path can.at (subst (λ z. PathLeadsTo z can.path can.at) there can.leads) same_begin
-      rename.path rename.at (subst (λ z. PathLeadsTo z rename.path rename.at) there rename.leads)
+      (set_onto t.disk wo q lo s ro w p l v r sync disk x more turned can.path can.at (subst (λ z. IsPathToDirectory z can.path can.at) there can.leads) same_begin
+      rename.path rename.at (subst (λ z. IsPathToDirectory z rename.path rename.at) there rename.leads)
       (same t.disk t.pairs rename.path rename.at can.ready.accepted rename.leads rename.to_first new_pair p b.rest b.place rename.begins)
       g b.stands.entry setting (ap (λ (n : Name). record s { name = n }) (sym b.stands.named))
-      (ap (λ (n : Name). rest_after (can.path ++ n ∷ []) (rename.path ++ g.name ∷ [])) can.stands.stands.named
-      ∙ ap (λ (n : Name). rest_after from (rename.path ++ n ∷ [])) b.stands.named ∙ rename.not_beneath) rename.file)
+      (ap (λ (n : Name). path_without_prefix (can.path ++ n ∷ []) (rename.path ++ g.name ∷ [])) can.stands.stands.named
+      ∙ ap (λ (n : Name). path_without_prefix from (rename.path ++ n ∷ [])) b.stands.named ∙ rename.not_beneath) rename.file)
 
-  pub is_first : IsFirst t sync old_pair goes new_pair (onto_changes sync t old_pair old_id new_pair new_id name) wo q lo s ro w p l (Some g) v r from to name
+  pub is_first : IsFirst t sync old_pair goes new_pair (replace_entry_across_pairs_changes sync t old_pair old_id new_pair new_id name) wo q lo s ro w p l (Some g) v r from to name
   is_first = record {
     ready = can.ready;
     turn = turn;
@@ -257,7 +257,7 @@ module _ (sync : Bool) (t : Kept) (old_pair old_id first new_pair new_id : ℕ) 
     chain = chain_same t.disk wo q lo s ro w p l (g ∷ []) v r setting;
     old_place = old_number;
     old_is = ap (λ (z : Pair). z.at) (here t can.ready can.first old_pair q can.stands.rest can.stands.place);
-    logged = subst (λ (z : Pair). IsLoggedAt t.disk z.at) (here t can.ready can.first old_pair q can.stands.rest can.stands.place) can.logged;
+    logged = subst (λ (z : Pair). HasLoggableContentAt t.disk z.at) (here t can.ready can.first old_pair q can.stands.rest can.stands.place) can.logged;
     same_slot = refl;
     follows = follows;
     stays = stays;
@@ -270,34 +270,34 @@ module _ (sync : Bool) (t : Kept) (old_pair old_id first new_pair new_id : ℕ) 
     file = rename.file;
   }
 
-  pub ends_onto : (mid : Kept) → IsPut t new_pair (onto_changes sync t old_pair old_id new_pair new_id name) mid → EndsAfter t old_pair old_id goes new_pair mid
+  pub ends_onto : (mid : Kept) → IsPairChangedOrSplit t new_pair (replace_entry_across_pairs_changes sync t old_pair old_id new_pair new_id name) mid → CanEndMoveAfterPut t old_pair old_id goes new_pair mid
   ends_onto mid is =
-      let x = first_turned t sync old_pair goes new_pair (onto_changes sync t old_pair old_id new_pair new_id name) wo q lo s ro w p l (Some g) v r from to name is_first mid is in
+      let x = first_turned t sync old_pair goes new_pair (replace_entry_across_pairs_changes sync t old_pair old_id new_pair new_id name) wo q lo s ro w p l (Some g) v r from to name is_first mid is in
       record {
         apart = rename.apart;
-        grown = grown t sync old_pair goes new_pair (onto_changes sync t old_pair old_id new_pair new_id name) wo q lo s ro w p l (Some g) v r from to name is_first mid x;
-        can = subst (λ i. CanEndMoveAt mid (place_after old_pair new_pair (length mid.pairs - length t.pairs)) i goes) can.stands.stands.number
-            (mid_ends t sync old_pair goes new_pair (onto_changes sync t old_pair old_id new_pair new_id name) wo q lo s ro w p l (Some g) v r from to name is_first mid x);
-        at = same_at t sync old_pair goes new_pair (onto_changes sync t old_pair old_id new_pair new_id name) wo q lo s ro w p l (Some g) v r from to name is_first mid x;
+        grown = grown t sync old_pair goes new_pair (replace_entry_across_pairs_changes sync t old_pair old_id new_pair new_id name) wo q lo s ro w p l (Some g) v r from to name is_first mid x;
+        can = subst (λ i. CanEndMoveAt mid (pair_number_after_insertion old_pair new_pair (length mid.pairs - length t.pairs)) i goes) can.stands.stands.number
+            (mid_ends t sync old_pair goes new_pair (replace_entry_across_pairs_changes sync t old_pair old_id new_pair new_id name) wo q lo s ro w p l (Some g) v r from to name is_first mid x);
+        at = same_at t sync old_pair goes new_pair (replace_entry_across_pairs_changes sync t old_pair old_id new_pair new_id name) wo q lo s ro w p l (Some g) v r from to name is_first mid x;
       }
 
-  pub shows_onto : (mid : Kept) → IsPut t new_pair (onto_changes sync t old_pair old_id new_pair new_id name) mid → tree_in mid.disk mid.pairs ≡ with_moved t can.path can.name rename.path name
-  shows_onto mid is = mid_shows t sync old_pair goes new_pair (onto_changes sync t old_pair old_id new_pair new_id name) wo q lo s ro w p l (Some g) v r from to name is_first mid
-      (first_turned t sync old_pair goes new_pair (onto_changes sync t old_pair old_id new_pair new_id name) wo q lo s ro w p l (Some g) v r from to name is_first mid is)
+  pub shows_onto : (mid : Kept) → IsPairChangedOrSplit t new_pair (replace_entry_across_pairs_changes sync t old_pair old_id new_pair new_id name) mid → tree_on_disk mid.disk mid.pairs ≡ tree_with_moved_entry t can.path can.name rename.path name
+  shows_onto mid is = mid_shows t sync old_pair goes new_pair (replace_entry_across_pairs_changes sync t old_pair old_id new_pair new_id name) wo q lo s ro w p l (Some g) v r from to name is_first mid
+      (first_turned t sync old_pair goes new_pair (replace_entry_across_pairs_changes sync t old_pair old_id new_pair new_id name) wo q lo s ro w p l (Some g) v r from to name is_first mid is)
 
-  pub survives_onto : (calls : List Event) → StopsLeave t.history calls (IsLeftByPut t new_pair (onto_changes sync t old_pair old_id new_pair new_id name))
-      → Survives t.disk t.history calls (tree_in t.disk t.pairs) (with_moved t can.path can.name rename.path name)
-  survives_onto calls stops = first_survives t sync old_pair goes new_pair (onto_changes sync t old_pair old_id new_pair new_id name) wo q lo s ro w p l (Some g) v r from to name is_first calls stops
+  pub survives_onto : (calls : List CallEvent) → StopsAfterCleanErasesLeave t.history calls (IsLeftByStoppedChangeOrSplit t new_pair (replace_entry_across_pairs_changes sync t old_pair old_id new_pair new_id name))
+      → SurvivesStopsSince t.disk t.history calls (tree_on_disk t.disk t.pairs) (tree_with_moved_entry t can.path can.name rename.path name)
+  survives_onto calls stops = first_survives t sync old_pair goes new_pair (replace_entry_across_pairs_changes sync t old_pair old_id new_pair new_id name) wo q lo s ro w p l (Some g) v r from to name is_first calls stops
 
-  pub replaced_across : sync ≡ false → (new : Kept) → IsPutAndEnded t old_pair old_id goes new_pair (onto_changes sync t old_pair old_id new_pair new_id name) new → IsReplacedAcross t new can.path can.name rename.path name g.struct
+  pub replaced_across : sync ≡ false → (new : Kept) → IsSlotPutAndMoveEnded t old_pair old_id goes new_pair (replace_entry_across_pairs_changes sync t old_pair old_id new_pair new_id name) new → IsFileReplacedAcrossPairs t new can.path can.name rename.path name g.struct
   replaced_across plain new is =
-      let x = first_turned t sync old_pair goes new_pair (onto_changes sync t old_pair old_id new_pair new_id name) wo q lo s ro w p l (Some g) v r from to name is_first is.mid is.put in
-      let e = subst (λ i. HasEndedMoveAt is.mid (place_after old_pair new_pair (length is.mid.pairs - length t.pairs)) i goes new) (sym can.stands.stands.number) is.ended in
+      let x = first_turned t sync old_pair goes new_pair (replace_entry_across_pairs_changes sync t old_pair old_id new_pair new_id name) wo q lo s ro w p l (Some g) v r from to name is_first is.mid is.put in
+      let e = subst (λ i. HasEndedMoveAt is.mid (pair_number_after_insertion old_pair new_pair (length is.mid.pairs - length t.pairs)) i goes new) (sym can.stands.stands.number) is.ended in
       record {
-        now = subst (λ (z : List ℕ). HasShrunk t new (with_moved t can.path can.name rename.path name) z) (append-nil (file_blocks t.disk g.struct))
-            (rename_becomes t sync old_pair goes new_pair (onto_changes sync t old_pair old_id new_pair new_id name) wo q lo s ro w p l (Some g) v r from to name is_first is.mid x new e plain);
-        once = subst (λ (z : List ℕ). (b : ℕ) → count b (used_blocks new.disk new.pairs) + count b z ≤ 1) (append-nil (file_blocks t.disk g.struct))
-            (rename_once t sync old_pair goes new_pair (onto_changes sync t old_pair old_id new_pair new_id name) wo q lo s ro w p l (Some g) v r from to name is_first is.mid x new e);
+        now = subst (λ (z : List ℕ). ShowsTreeAfterDrops t new (tree_with_moved_entry t can.path can.name rename.path name) z) (append-nil (skip_list_blocks_of_struct t.disk g.struct))
+            (rename_becomes t sync old_pair goes new_pair (replace_entry_across_pairs_changes sync t old_pair old_id new_pair new_id name) wo q lo s ro w p l (Some g) v r from to name is_first is.mid x new e plain);
+        once = subst (λ (z : List ℕ). (b : ℕ) → count b (used_blocks new.disk new.pairs) + count b z ≤ 1) (append-nil (skip_list_blocks_of_struct t.disk g.struct))
+            (rename_once t sync old_pair goes new_pair (replace_entry_across_pairs_changes sync t old_pair old_id new_pair new_id name) wo q lo s ro w p l (Some g) v r from to name is_first is.mid x new e);
         completed = λ z given to_given tree given_is to_is.
-            rename_completed t sync old_pair goes new_pair (onto_changes sync t old_pair old_id new_pair new_id name) wo q lo s ro w p l (Some g) v r from to name is_first is.mid x new e plain z given to_given tree given_is to_is;
+            rename_completed t sync old_pair goes new_pair (replace_entry_across_pairs_changes sync t old_pair old_id new_pair new_id name) wo q lo s ro w p l (Some g) v r from to name is_first is.mid x new e plain z given to_given tree given_is to_is;
       }

@@ -5,24 +5,24 @@ use Rattle.std.proofs.lemmas.Bool.{cases_lt, le-ltb, lt-ltb}
 use Rattle.std.proofs.lemmas.List.Elements.{All-from_recursion, recursion_from_All}
 use Rattle.lfs_device.specs.declared.error.Error.{Error}
 use Rattle.lfs_device.specs.declared.error.Error.TheVariants.{Io, NoMemory, NoSpace}
-use Rattle.lfs_model.specs.Changes.{Change}
+use Rattle.lfs_model.specs.Changes.{ContentChange}
 use Rattle.lfs_model.specs.Disk.{Disk}
-use Rattle.lfs_model.specs.History.{Event, EachSince, faults}
+use Rattle.lfs_model.specs.History.{CallEvent, IsTrueOfEachCallSince, faults}
 use Rattle.lfs_model.specs.Blocks.{Blocks}
-use Rattle.lfs_model.specs.PowerLoss.{IsLeftByStop as IsLeftOf, Survives, with_blocks}
-use Rattle.lfs_model.specs.Thread.{Pair, directory_pairs, superblocks_before}
-use Rattle.lfs_model.specs.Shown.{tree_in}
+use Rattle.lfs_model.specs.PowerLoss.{ShowsTreeBeforeOrAfter as IsLeftOf, SurvivesStopsSince, with_blocks}
+use Rattle.lfs_model.specs.Thread.{Pair, pairs_of_all_directories, pair_count_before_root}
+use Rattle.lfs_model.specs.Shown.{tree_on_disk}
 use Rattle.lfs_model.proofs.AfterStops.{survives_then}
-use Rattle.lfs_model.proofs.Histories.{LeavesOnly-trans, LeavesOnly-weaker, StayUnprogrammed-trans, StayUnprogrammed-wider}
-use Rattle.lfs_model.proofs.Overwrites.{SameButThese-trans, SameButThese-wider}
+use Rattle.lfs_model.proofs.Histories.{IsTrueAfterEachStopSince-trans, IsTrueAfterEachStopSince-weaker, AreBytesStillUnprogrammed-trans, AreBytesStillUnprogrammed-wider}
+use Rattle.lfs_model.proofs.Overwrites.{AreBlocksEqualExceptThese-trans, AreBlocksEqualExceptThese-wider}
 use Rattle.lfs_model.proofs.Writable.{ends_in_hard_tail}
-use Rattle.lfs_thread.specs.Device.{StopsLeave, four_of, two_of}
-use Rattle.lfs_thread.specs.Kept.{Kept, State}
-use Rattle.lfs_thread.specs.Steps.{HasShape, IsChanged, Writes, back_pair, front_pair, no_pair, pair_in}
-use Rattle.lfs_operations.specs.Changing.{AreTwoFree, IsPairCutInto, IsLeftByPut, IsPut, ReportsPut, WritesIn, has_failed}
-use Rattle.lfs_operations.specs.MoveEnds.{end_at, follows_hard_tail}
-use Rattle.lfs_operations.specs.MovingSteps.{EndsAfter, SurvivesBoth, ReportsInSteps, WritesInTwo, place_after}
-use Rattle.lfs_operations.specs.Removing.{ReportsOfCalls}
+use Rattle.lfs_thread.specs.Device.{StopsAfterCleanErasesLeave, blocks_of_two_addresses, blocks_of_address}
+use Rattle.lfs_thread.specs.Kept.{Kept, ThreadView}
+use Rattle.lfs_thread.specs.Steps.{HasSameGeometry, IsPairChanged, ThreadChangesOnlyTheseBlocks, back_pair_of_split, front_pair_of_split, no_pair, kept_pair_at_index}
+use Rattle.lfs_operations.specs.Changing.{AreTwoFreeBlocks, IsPairSplitInto, IsLeftByStoppedChangeOrSplit, IsPairChangedOrSplit, ReportsChangeOrSplit, WritesPairAndTwoFreeBlocks, has_failed}
+use Rattle.lfs_operations.specs.MoveEnds.{pair_written_at_move_end, is_pair_named_by_hard_tail}
+use Rattle.lfs_operations.specs.MovingSteps.{CanEndMoveAfterPut, SurvivesBothMoveCommits, ReportsCommitsTakingBlocks, WritesTwoPairsAndTwoFreeBlocks, pair_number_after_insertion}
+use Rattle.lfs_operations.specs.Removing.{ReportsCommitTakingNoBlock}
 
 failing : (e : Error) → (e ≡ Io) ⊎ (e ≡ NoMemory) → has_failed {X = Unit {0}} (Err e) ≡ true
 failing e (inl io) = ap (λ z. has_failed {X = Unit {0}} (Err z)) io
@@ -33,7 +33,7 @@ not_space (Ok x) h e = absurd (cc)
 not_space (Err e) (inl h) k = let z : e ≡ NoSpace = cc in absurd (let w = sym h ∙ z in cc)
 not_space (Err e) (inr h) k = let z : e ≡ NoSpace = cc in absurd (let w = sym h ∙ z in cc)
 
-pub reports_of_end : (old mid new : State) (index : ℕ) (changes : List Change) (r : Result (Unit {0}) Error) → faults mid.kept.history ≡ faults old.kept.history → ReportsOfCalls mid new r → ReportsInSteps old new index changes r
+pub reports_of_end : (old mid new : ThreadView) (index : ℕ) (changes : List ContentChange) (r : Result (Unit {0}) Error) → faults mid.kept.history ≡ faults old.kept.history → ReportsCommitTakingNoBlock mid new r → ReportsCommitsTakingBlocks old new index changes r
 reports_of_end old mid new index changes r same h = record {
   failed = inl (go r h.failed h.reported.errors);
   errors = wider r h.reported.errors;
@@ -58,20 +58,20 @@ not_io r x is io = absurd (let z = sym is ∙ io in cc)
 
 -- ---- the device
 
-wider_writes : (bs cs : List ℕ) (old new : Kept) → ((k : ℕ) → All (λ x. x ≢ k) cs → All (λ x. x ≢ k) bs) → Writes bs old new → Writes cs old new
+wider_writes : (bs cs : List ℕ) (old new : Kept) → ((k : ℕ) → All (λ x. x ≢ k) cs → All (λ x. x ≢ k) bs) → ThreadChangesOnlyTheseBlocks bs old new → ThreadChangesOnlyTheseBlocks cs old new
 wider_writes bs cs old new f w = record {
-  others = SameButThese-wider cs f w.others;
-  elsewhere = StayUnprogrammed-wider cs f w.elsewhere;
+  others = AreBlocksEqualExceptThese-wider cs f w.others;
+  elsewhere = AreBytesStillUnprogrammed-wider cs f w.elsewhere;
   shape = w.shape;
-  at_worst = LeavesOnly-weaker (λ blocks k. SameButThese-wider cs f k) w.at_worst;
+  at_worst = IsTrueAfterEachStopSince-weaker (λ blocks k. AreBlocksEqualExceptThese-wider cs f k) w.at_worst;
 }
 
-writes_then : (bs : List ℕ) (old mid new : Kept) → Writes bs old mid → Writes bs mid new → Writes bs old new
+writes_then : (bs : List ℕ) (old mid new : Kept) → ThreadChangesOnlyTheseBlocks bs old mid → ThreadChangesOnlyTheseBlocks bs mid new → ThreadChangesOnlyTheseBlocks bs old new
 writes_then bs old mid new v w = record {
-  others = SameButThese-trans v.others w.others;
-  elsewhere = StayUnprogrammed-trans v.elsewhere w.elsewhere;
+  others = AreBlocksEqualExceptThese-trans v.others w.others;
+  elsewhere = AreBytesStillUnprogrammed-trans v.elsewhere w.elsewhere;
   shape = record { block_size = w.shape.block_size ∙ v.shape.block_size; page = w.shape.page ∙ v.shape.page; order = w.shape.order ∙ v.shape.order; count = w.shape.count ∙ v.shape.count };
-  at_worst = LeavesOnly-trans v.at_worst (LeavesOnly-weaker (λ blocks k. SameButThese-trans v.others k) w.at_worst);
+  at_worst = IsTrueAfterEachStopSince-trans v.at_worst (IsTrueAfterEachStopSince-weaker (λ blocks k. AreBlocksEqualExceptThese-trans v.others k) w.at_worst);
 }
 
 -- a fact of all blocks of both pairs is one of each pair's
@@ -85,16 +85,16 @@ without_first a b c d fresh k h =
     let e = recursion_from_All (λ x. x ≢ k) (a ∷ b ∷ c ∷ d ∷ fresh) h in
     All-from_recursion (λ x. x ≢ k) (c ∷ d ∷ []) (e.1.1.0, (e.1.1.1.0, tt))
 
-pub writes_first : (old mid : Kept) (one other : ℕ) → WritesIn old other mid → WritesInTwo old one other mid
+pub writes_first : (old mid : Kept) (one other : ℕ) → WritesPairAndTwoFreeBlocks old other mid → WritesTwoPairsAndTwoFreeBlocks old one other mid
 writes_first old mid one other w = record {
   fresh = w.fresh;
   few = w.few;
   free = w.free;
-  writes = wider_writes ((pair_in old other).at.0 ∷ (pair_in old other).at.1 ∷ w.fresh) ((pair_in old other).at.0 ∷ (pair_in old other).at.1 ∷ (pair_in old one).at.0 ∷ (pair_in old one).at.1 ∷ w.fresh) old mid
-      (without_second (pair_in old other).at.0 (pair_in old other).at.1 (pair_in old one).at.0 (pair_in old one).at.1 w.fresh) w.writes;
+  writes = wider_writes ((kept_pair_at_index old other).at.0 ∷ (kept_pair_at_index old other).at.1 ∷ w.fresh) ((kept_pair_at_index old other).at.0 ∷ (kept_pair_at_index old other).at.1 ∷ (kept_pair_at_index old one).at.0 ∷ (kept_pair_at_index old one).at.1 ∷ w.fresh) old mid
+      (without_second (kept_pair_at_index old other).at.0 (kept_pair_at_index old other).at.1 (kept_pair_at_index old one).at.0 (kept_pair_at_index old one).at.1 w.fresh) w.writes;
 }
 
-pub writes_both : (old mid new : Kept) (one other place : ℕ) → (pair_in mid place).at ≡ (pair_in old one).at → WritesIn old other mid → Writes (two_of (pair_in mid place).at) mid new → WritesInTwo old one other new
+pub writes_both : (old mid new : Kept) (one other place : ℕ) → (kept_pair_at_index mid place).at ≡ (kept_pair_at_index old one).at → WritesPairAndTwoFreeBlocks old other mid → ThreadChangesOnlyTheseBlocks (blocks_of_address (kept_pair_at_index mid place).at) mid new → WritesTwoPairsAndTwoFreeBlocks old one other new
 unfolding writes_first
 writes_both old mid new one other place at w e =
     let f = writes_first old mid one other w in
@@ -102,23 +102,23 @@ writes_both old mid new one other place at w e =
       fresh = w.fresh;
       few = w.few;
       free = w.free;
-      writes = writes_then ((pair_in old other).at.0 ∷ (pair_in old other).at.1 ∷ (pair_in old one).at.0 ∷ (pair_in old one).at.1 ∷ w.fresh) old mid new f.writes
-          (wider_writes ((pair_in old one).at.0 ∷ (pair_in old one).at.1 ∷ []) ((pair_in old other).at.0 ∷ (pair_in old other).at.1 ∷ (pair_in old one).at.0 ∷ (pair_in old one).at.1 ∷ w.fresh) mid new
-          (without_first (pair_in old other).at.0 (pair_in old other).at.1 (pair_in old one).at.0 (pair_in old one).at.1 w.fresh)
-          (subst (λ (a : ℕ × ℕ). Writes (two_of a) mid new) at e));
+      writes = writes_then ((kept_pair_at_index old other).at.0 ∷ (kept_pair_at_index old other).at.1 ∷ (kept_pair_at_index old one).at.0 ∷ (kept_pair_at_index old one).at.1 ∷ w.fresh) old mid new f.writes
+          (wider_writes ((kept_pair_at_index old one).at.0 ∷ (kept_pair_at_index old one).at.1 ∷ []) ((kept_pair_at_index old other).at.0 ∷ (kept_pair_at_index old other).at.1 ∷ (kept_pair_at_index old one).at.0 ∷ (kept_pair_at_index old one).at.1 ∷ w.fresh) mid new
+          (without_first (kept_pair_at_index old other).at.0 (kept_pair_at_index old other).at.1 (kept_pair_at_index old one).at.0 (kept_pair_at_index old one).at.1 w.fresh)
+          (subst (λ (a : ℕ × ℕ). ThreadChangesOnlyTheseBlocks (blocks_of_address a) mid new) at e));
     }
 
 -- the second step writes the fresh pair
-writes_fresh : (old mid new : Kept) (one other : ℕ) (fresh : ℕ × ℕ) → AreTwoFree old.map fresh → Writes (four_of (pair_in old other).at fresh) old mid → Writes (two_of fresh) mid new → WritesInTwo old one other new
+writes_fresh : (old mid new : Kept) (one other : ℕ) (fresh : ℕ × ℕ) → AreTwoFreeBlocks old.map fresh → ThreadChangesOnlyTheseBlocks (blocks_of_two_addresses (kept_pair_at_index old other).at fresh) old mid → ThreadChangesOnlyTheseBlocks (blocks_of_address fresh) mid new → WritesTwoPairsAndTwoFreeBlocks old one other new
 writes_fresh old mid new one other fresh free w e =
-    let bs = (pair_in old other).at.0 ∷ (pair_in old other).at.1 ∷ (pair_in old one).at.0 ∷ (pair_in old one).at.1 ∷ fresh.0 ∷ fresh.1 ∷ [] in
+    let bs = (kept_pair_at_index old other).at.0 ∷ (kept_pair_at_index old other).at.1 ∷ (kept_pair_at_index old one).at.0 ∷ (kept_pair_at_index old one).at.1 ∷ fresh.0 ∷ fresh.1 ∷ [] in
     record {
       fresh = fresh.0 ∷ fresh.1 ∷ [];
       few = omega arith;
       free = (free.first, (free.second, tt));
       writes = writes_then bs old mid new
-          (wider_writes (four_of (pair_in old other).at fresh) bs old mid (without_second (pair_in old other).at.0 (pair_in old other).at.1 (pair_in old one).at.0 (pair_in old one).at.1 (fresh.0 ∷ fresh.1 ∷ [])) w)
-          (wider_writes (two_of fresh) bs mid new (λ k h. (let e = recursion_from_All (λ x. x ≢ k) bs h in All-from_recursion (λ x. x ≢ k) (two_of fresh) e.1.1.1.1)) e);
+          (wider_writes (blocks_of_two_addresses (kept_pair_at_index old other).at fresh) bs old mid (without_second (kept_pair_at_index old other).at.0 (kept_pair_at_index old other).at.1 (kept_pair_at_index old one).at.0 (kept_pair_at_index old one).at.1 (fresh.0 ∷ fresh.1 ∷ [])) w)
+          (wider_writes (blocks_of_address fresh) bs mid new (λ k h. (let e = recursion_from_All (λ x. x ≢ k) bs h in All-from_recursion (λ x. x ≢ k) (blocks_of_address fresh) e.1.1.1.1)) e);
     }
 
 -- ---- the pair in front of the old one, once the new one has changed
@@ -161,37 +161,37 @@ next_to i o apart a b = go (cases_lt o i)
 
 -- Where the first step has put the changes, the second one writes the pair in front of the old one: that is a pair that stood
 -- there, or a fresh one.
-module _ (old mid new : Kept) (index other : ℕ) (changes : List Change) (put : IsPut old other changes mid) (below : other < length old.pairs) (apart : index ≢ other)
-    (above : 0 < place_after index other (length mid.pairs - length old.pairs))
-    (first : WritesIn old other mid) (second : Writes (two_of (pair_in mid (place_after index other (length mid.pairs - length old.pairs) - 1)).at) mid new) where
+module _ (old mid new : Kept) (index other : ℕ) (changes : List ContentChange) (put : IsPairChangedOrSplit old other changes mid) (below : other < length old.pairs) (apart : index ≢ other)
+    (above : 0 < pair_number_after_insertion index other (length mid.pairs - length old.pairs))
+    (first : WritesPairAndTwoFreeBlocks old other mid) (second : ThreadChangesOnlyTheseBlocks (blocks_of_address (kept_pair_at_index mid (pair_number_after_insertion index other (length mid.pairs - length old.pairs) - 1)).at) mid new) where
   abbrev place : ℕ
-  place = place_after index other (length mid.pairs - length old.pairs)
+  place = pair_number_after_insertion index other (length mid.pairs - length old.pairs)
 
-  stood : (pair_in mid (place_after index other (length mid.pairs - length old.pairs) - 1)).at ≡ (pair_in old (index - 1)).at → WritesInTwo old (index - 1) other new
-  stood at = writes_both old mid new (index - 1) other (place_after index other (length mid.pairs - length old.pairs) - 1) at first second
+  stood : (kept_pair_at_index mid (pair_number_after_insertion index other (length mid.pairs - length old.pairs) - 1)).at ≡ (kept_pair_at_index old (index - 1)).at → WritesTwoPairsAndTwoFreeBlocks old (index - 1) other new
+  stood at = writes_both old mid new (index - 1) other (pair_number_after_insertion index other (length mid.pairs - length old.pairs) - 1) at first second
 
-  changed : IsChanged old other changes mid → WritesInTwo old (index - 1) other new
+  changed : IsPairChanged old other changes mid → WritesTwoPairsAndTwoFreeBlocks old (index - 1) other new
   changed is =
-      let many = ap length is.pairs ∙ length-set old.pairs other (record { at = (pair_in old other).at; content = is.content }) in
-      let same : place_after index other (length mid.pairs - length old.pairs) ≡ index = place_same index other (length mid.pairs - length old.pairs) (omega arith) in
-      stood (ap (λ (i : ℕ). (pair_in mid (i - 1)).at) same ∙ ap (λ z. (get_or z (index - 1) no_pair).at) is.pairs
-      ∙ get_set old.pairs other (index - 1) (record { at = (pair_in old other).at; content = is.content }) no_pair refl)
+      let many = ap length is.pairs ∙ length-set old.pairs other (record { at = (kept_pair_at_index old other).at; content = is.content }) in
+      let same : pair_number_after_insertion index other (length mid.pairs - length old.pairs) ≡ index = place_same index other (length mid.pairs - length old.pairs) (omega arith) in
+      stood (ap (λ (i : ℕ). (kept_pair_at_index mid (i - 1)).at) same ∙ ap (λ z. (get_or z (index - 1) no_pair).at) is.pairs
+      ∙ get_set old.pairs other (index - 1) (record { at = (kept_pair_at_index old other).at; content = is.content }) no_pair refl)
     where
-      place_same : (i o n : ℕ) → n ≡ 0 → place_after i o n ≡ i
-      place_same i o n e = ap (place_after i o) e ∙ go (nat_lt i o)
+      place_same : (i o n : ℕ) → n ≡ 0 → pair_number_after_insertion i o n ≡ i
+      place_same i o n e = ap (pair_number_after_insertion i o) e ∙ go (nat_lt i o)
         where
           go : (b : Bool) → cond b i (i + 0) ≡ i
           go true = refl
           go false = omega arith
 
-  cut : (fresh : ℕ × ℕ) → IsPairCutInto old other fresh changes mid → WritesInTwo old (index - 1) other new
+  cut : (fresh : ℕ × ℕ) → IsPairSplitInto old other fresh changes mid → WritesTwoPairsAndTwoFreeBlocks old (index - 1) other new
   cut fresh is = go (cases_lt index other)
     where
       in_cut : Pair
-      in_cut = front_pair old other is.content is.cut fresh
+      in_cut = front_pair_of_split old other is.content is.cut fresh
 
       behind_cut : Pair
-      behind_cut = back_pair is.content is.cut fresh
+      behind_cut = back_pair_of_split is.content is.cut fresh
 
       there : length (set old.pairs other in_cut) ≡ length old.pairs
       there = length-set old.pairs other in_cut
@@ -199,76 +199,76 @@ module _ (old mid new : Kept) (index other : ℕ) (changes : List Change) (put :
       many : length mid.pairs ≡ suc (length old.pairs)
       many = ap length is.pairs ∙ length_of_insert (set old.pairs other in_cut) (other + 1) behind_cut (let e = there in omega arith) ∙ ap suc there
 
-      in_front : index < other → place_after index other (length mid.pairs - length old.pairs) ≡ index
+      in_front : index < other → pair_number_after_insertion index other (length mid.pairs - length old.pairs) ≡ index
       in_front l = ap (λ b. cond b index (index + (length mid.pairs - length old.pairs))) (lt-ltb index other l)
 
-      behind : other < index → place_after index other (length mid.pairs - length old.pairs) ≡ index + 1
+      behind : other < index → pair_number_after_insertion index other (length mid.pairs - length old.pairs) ≡ index + 1
       behind l = ap (λ b. cond b index (index + (length mid.pairs - length old.pairs))) (le-ltb index other (omega arith)) ∙ (let m = many in omega arith)
 
-      get_is : (j : ℕ) → pair_in mid j ≡ get_or (insert (set old.pairs other in_cut) (other + 1) behind_cut) j no_pair
+      get_is : (j : ℕ) → kept_pair_at_index mid j ≡ get_or (insert (set old.pairs other in_cut) (other + 1) behind_cut) j no_pair
       get_is j = ap (λ z. get_or z j no_pair) is.pairs
 
-      further : other + 1 < index → WritesInTwo old (index - 1) other new
+      further : other + 1 < index → WritesTwoPairsAndTwoFreeBlocks old (index - 1) other new
       further l =
-          let e : place_after index other (length mid.pairs - length old.pairs) - 1 ≡ suc (index - 1) = (let b = behind (omega arith) in omega arith) in
-          stood (ap (λ (i : ℕ). (pair_in mid i).at) e ∙ ap (λ (z : Pair). z.at) (get_is (suc (index - 1)))
+          let e : pair_number_after_insertion index other (length mid.pairs - length old.pairs) - 1 ≡ suc (index - 1) = (let b = behind (omega arith) in omega arith) in
+          stood (ap (λ (i : ℕ). (kept_pair_at_index mid i).at) e ∙ ap (λ (z : Pair). z.at) (get_is (suc (index - 1)))
           ∙ ap (λ (z : Pair). z.at) (get_after (set old.pairs other in_cut) (other + 1) (index - 1) behind_cut no_pair (omega arith) (let t = there in omega arith))
           ∙ get_set old.pairs other (index - 1) in_cut no_pair refl)
 
-      next : other + 1 ≡ index → WritesInTwo old (index - 1) other new
+      next : other + 1 ≡ index → WritesTwoPairsAndTwoFreeBlocks old (index - 1) other new
       next l =
-          let e : place_after index other (length mid.pairs - length old.pairs) - 1 ≡ other + 1 = (let b = behind (omega arith) in omega arith) in
-          let at : (pair_in mid (place_after index other (length mid.pairs - length old.pairs) - 1)).at ≡ fresh
-          = ap (λ (i : ℕ). (pair_in mid i).at) e ∙ ap (λ (z : Pair). z.at) (get_is (other + 1) ∙ get_inserted (set old.pairs other in_cut) (other + 1) behind_cut no_pair (let t = there in omega arith)) in
-          writes_fresh old mid new (index - 1) other fresh is.free is.writes (subst (λ (a : ℕ × ℕ). Writes (two_of a) mid new) at second)
+          let e : pair_number_after_insertion index other (length mid.pairs - length old.pairs) - 1 ≡ other + 1 = (let b = behind (omega arith) in omega arith) in
+          let at : (kept_pair_at_index mid (pair_number_after_insertion index other (length mid.pairs - length old.pairs) - 1)).at ≡ fresh
+          = ap (λ (i : ℕ). (kept_pair_at_index mid i).at) e ∙ ap (λ (z : Pair). z.at) (get_is (other + 1) ∙ get_inserted (set old.pairs other in_cut) (other + 1) behind_cut no_pair (let t = there in omega arith)) in
+          writes_fresh old mid new (index - 1) other fresh is.free is.writes (subst (λ (a : ℕ × ℕ). ThreadChangesOnlyTheseBlocks (blocks_of_address a) mid new) at second)
 
-      go : (index < other) ⊎ (other ≤ index) → WritesInTwo old (index - 1) other new
+      go : (index < other) ⊎ (other ≤ index) → WritesTwoPairsAndTwoFreeBlocks old (index - 1) other new
       go (inl l) =
           let e = in_front l in
           let a = above in
-          stood (ap (λ (i : ℕ). (pair_in mid (i - 1)).at) e ∙ ap (λ (z : Pair). z.at) (get_is (index - 1))
+          stood (ap (λ (i : ℕ). (kept_pair_at_index mid (i - 1)).at) e ∙ ap (λ (z : Pair). z.at) (get_is (index - 1))
           ∙ ap (λ (z : Pair). z.at) (get_before (set old.pairs other in_cut) (other + 1) (index - 1) behind_cut no_pair (omega arith) (let t = there in omega arith))
           ∙ get_set old.pairs other (index - 1) in_cut no_pair refl)
       go (inr l) = by (cases_lt (other + 1) index)
         where
-          by : (other + 1 < index) ⊎ (index ≤ other + 1) → WritesInTwo old (index - 1) other new
+          by : (other + 1 < index) ⊎ (index ≤ other + 1) → WritesTwoPairsAndTwoFreeBlocks old (index - 1) other new
           by (inl k) = further k
           by (inr k) = next (next_to index other apart l k)
 
-  pub writes_in_front : WritesInTwo old (index - 1) other new
+  pub writes_in_front : WritesTwoPairsAndTwoFreeBlocks old (index - 1) other new
   writes_in_front = go put
     where
-      go : IsPut old other changes mid → WritesInTwo old (index - 1) other new
+      go : IsPairChangedOrSplit old other changes mid → WritesTwoPairsAndTwoFreeBlocks old (index - 1) other new
       go (inl is) = changed is
       go (inr (large, (fresh, is))) = cut fresh is
 
-not_first : (ps : List Pair) (n : ℕ) → follows_hard_tail ps n ≡ true → 0 < n
-not_first ps zero e = absurd (let z : ends_in_hard_tail false (take (0 - superblocks_before ps) (directory_pairs ps)) ≡ true = e in let k : 0 - superblocks_before ps ≡ 0 = omega arith in
-    let w = sym z ∙ ap (λ (i : ℕ). ends_in_hard_tail false (take i (directory_pairs ps))) k in cc)
+not_first : (ps : List Pair) (n : ℕ) → is_pair_named_by_hard_tail ps n ≡ true → 0 < n
+not_first ps zero e = absurd (let z : ends_in_hard_tail false (take (0 - pair_count_before_root ps) (pairs_of_all_directories ps)) ≡ true = e in let k : 0 - pair_count_before_root ps ≡ 0 = omega arith in
+    let w = sym z ∙ ap (λ (i : ℕ). ends_in_hard_tail false (take i (pairs_of_all_directories ps))) k in cc)
 not_first ps (suc n) e = omega arith
 
-pub writes_at_end : (old mid new : Kept) (old_pair old_id : ℕ) (goes : Bool) (new_pair : ℕ) (changes : List Change) → IsPut old new_pair changes mid → new_pair < length old.pairs → EndsAfter old old_pair old_id goes new_pair mid
-    → WritesIn old new_pair mid → Writes (two_of (pair_in mid (end_at (place_after old_pair new_pair (length mid.pairs - length old.pairs)) goes)).at) mid new → WritesInTwo old (end_at old_pair goes) new_pair new
+pub writes_at_end : (old mid new : Kept) (old_pair old_id : ℕ) (goes : Bool) (new_pair : ℕ) (changes : List ContentChange) → IsPairChangedOrSplit old new_pair changes mid → new_pair < length old.pairs → CanEndMoveAfterPut old old_pair old_id goes new_pair mid
+    → WritesPairAndTwoFreeBlocks old new_pair mid → ThreadChangesOnlyTheseBlocks (blocks_of_address (kept_pair_at_index mid (pair_written_at_move_end (pair_number_after_insertion old_pair new_pair (length mid.pairs - length old.pairs)) goes)).at) mid new → WritesTwoPairsAndTwoFreeBlocks old (pair_written_at_move_end old_pair goes) new_pair new
 unfolding writes_both
 writes_at_end old mid new old_pair old_id false new_pair changes put below ends first second =
-    writes_both old mid new old_pair new_pair (place_after old_pair new_pair (length mid.pairs - length old.pairs)) ends.at first second
+    writes_both old mid new old_pair new_pair (pair_number_after_insertion old_pair new_pair (length mid.pairs - length old.pairs)) ends.at first second
 writes_at_end old mid new old_pair old_id true new_pair changes put below ends first second =
-    writes_in_front old mid new old_pair new_pair changes put below ends.apart (not_first mid.pairs (place_after old_pair new_pair (length mid.pairs - length old.pairs)) (ends.can.alone refl).0) first second
+    writes_in_front old mid new old_pair new_pair changes put below ends.apart (not_first mid.pairs (pair_number_after_insertion old_pair new_pair (length mid.pairs - length old.pairs)) (ends.can.alone refl).0) first second
 
 -- ---- at a stop
 
-same_disk : (old new : Disk) (blocks : Blocks) → HasShape old new → with_blocks blocks new ≡ with_blocks blocks old
+same_disk : (old new : Disk) (blocks : Blocks) → HasSameGeometry old new → with_blocks blocks new ≡ with_blocks blocks old
 same_disk old new blocks h = λ j. record { block_size = h.block_size j; page = h.page j; order = h.order j; blocks = blocks }
 
-pub survives_both : (old mid new : Kept) (index : ℕ) (changes : List Change) {P : Event → Type 0} → IsPut old index changes mid → StopsLeave old.history mid.history (IsLeftByPut old index changes)
-    → WritesIn old index mid → EachSince P mid.history new.history → Survives mid.disk mid.history new.history (tree_in mid.disk mid.pairs) (tree_in mid.disk mid.pairs) → SurvivesBoth old index changes new
+pub survives_both : (old mid new : Kept) (index : ℕ) (changes : List ContentChange) {P : CallEvent → Type 0} → IsPairChangedOrSplit old index changes mid → StopsAfterCleanErasesLeave old.history mid.history (IsLeftByStoppedChangeOrSplit old index changes)
+    → WritesPairAndTwoFreeBlocks old index mid → IsTrueOfEachCallSince P mid.history new.history → SurvivesStopsSince mid.disk mid.history new.history (tree_on_disk mid.disk mid.pairs) (tree_on_disk mid.disk mid.pairs) → SurvivesBothMoveCommits old index changes new
 survives_both old mid new index changes put stops w since second before after first shows =
-    survives_then old.disk old.history mid.history new.history before after w.writes.at_worst since (first mid.history stops) (λ clean. LeavesOnly-weaker left (second clean))
+    survives_then old.disk old.history mid.history new.history before after w.writes.at_worst since (first mid.history stops) (λ clean. IsTrueAfterEachStopSince-weaker left (second clean))
   where
-    left : (blocks : Blocks) → IsLeftOf (with_blocks blocks mid.disk) (tree_in mid.disk mid.pairs) (tree_in mid.disk mid.pairs) → IsLeftOf (with_blocks blocks old.disk) before after
+    left : (blocks : Blocks) → IsLeftOf (with_blocks blocks mid.disk) (tree_on_disk mid.disk mid.pairs) (tree_on_disk mid.disk mid.pairs) → IsLeftOf (with_blocks blocks old.disk) before after
     left blocks k = subst (λ d. IsLeftOf d before after) (same_disk old.disk mid.disk blocks w.writes.shape)
         (record { pairs = k.pairs; accepted = k.accepted; writable = k.writable; tree = inr (either k.tree) })
       where
-        either : (tree_in (with_blocks blocks mid.disk) k.pairs ≡ tree_in mid.disk mid.pairs) ⊎ (tree_in (with_blocks blocks mid.disk) k.pairs ≡ tree_in mid.disk mid.pairs) → tree_in (with_blocks blocks mid.disk) k.pairs ≡ after
+        either : (tree_on_disk (with_blocks blocks mid.disk) k.pairs ≡ tree_on_disk mid.disk mid.pairs) ⊎ (tree_on_disk (with_blocks blocks mid.disk) k.pairs ≡ tree_on_disk mid.disk mid.pairs) → tree_on_disk (with_blocks blocks mid.disk) k.pairs ≡ after
         either (inl e) = e ∙ shows mid put
         either (inr e) = e ∙ shows mid put

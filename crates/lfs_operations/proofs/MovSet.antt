@@ -4,15 +4,15 @@ use Rattle.std.specs.Prelude.{All}
 use Rattle.std.specs.List.{IsDistinct}
 use Rattle.std.proofs.lemmas.List.Elements.{recursion_from_All}
 use Rattle.std.proofs.lemmas.List.Concat.{flat_map-append}
-use Rattle.lfs_model.specs.Disk.{Disk, block_at}
-use Rattle.lfs_model.specs.Slots.{Slot, Gstate, is_superblock, same_pair, no_gstate, gstate_xor}
-use Rattle.lfs_model.specs.SlotEdits.{with_slots}
-use Rattle.lfs_model.specs.Thread.{Pair, blocks_of, gstate_of, starts_with_superblock, superblocks_before, slots_not_moved}
-use Rattle.lfs_model.specs.Tree.{Path, Tree, branch_of}
-use Rattle.lfs_model.specs.TreeEdits.{rest_after, with_subtree_moved, renamed}
-use Rattle.lfs_model.specs.Shown.{entries_in, PathLeadsTo, used_blocks, file_blocks, all_slots}
-use Rattle.lfs_model.specs.View.{IsEntry, IsMove, IsOtherSlot, IsAccepted}
-use Rattle.lfs_model.specs.Profile.{IsWritable, FitsSlot}
+use Rattle.lfs_model.specs.Disk.{Disk, block_bytes_on_disk}
+use Rattle.lfs_model.specs.Slots.{Slot, Gstate, is_superblock, same_pair, zero_gstate, gstate_xor}
+use Rattle.lfs_model.specs.SlotEdits.{pair_with_slots}
+use Rattle.lfs_model.specs.Thread.{Pair, blocks_of_pairs, gstate_of, starts_with_superblock, pair_count_before_root, slots_not_moved}
+use Rattle.lfs_model.specs.Tree.{Path, Tree, branch_address_of_struct}
+use Rattle.lfs_model.specs.TreeEdits.{path_without_prefix, tree_after_subtree_replacement, renamed}
+use Rattle.lfs_model.specs.Shown.{entries_by_directory_in_thread, IsPathToDirectory, used_blocks, skip_list_blocks_of_struct, all_slots_not_moved}
+use Rattle.lfs_model.specs.View.{IsFileOrDirectoryEntry, IsMoveOrNone, IsNoSuperblockSlot, IsAcceptedImage}
+use Rattle.lfs_model.specs.Profile.{IsWritable, FitsSlotLimits}
 use Rattle.lfs_model.proofs.Became.{Became, became_front, became_shape}
 use Rattle.lfs_model.proofs.Changes.{Follows, SameFiles, slots_files}
 use Rattle.lfs_model.proofs.Committed.{no_move_from, recovered_from}
@@ -35,23 +35,23 @@ use Rattle.lfs_operations.specs.MoveEnds.{move_of}
 use Rattle.lfs_operations.proofs.MovPlaces.{SameParts, same_parts, InTurn, ahead, behind, in_turn, hidden_place}
 
 abbrev pub walk_by : Path → Path → Walk → Walk
-walk_by old new d = with_subtree_moved new (λ t. d (old ++ t)) (with_subtree_moved old (λ t. None) d)
+walk_by old new d = tree_after_subtree_replacement new (λ t. d (old ++ t)) (tree_after_subtree_replacement old (λ t. None) d)
 
 -- The pair has these slots and that delta on the new disk, or that pair and a fresh one behind it have.
 pub record HasTurned (old : Disk) (w : Site) (p : Pair) (slots : List Slot) (move : Gstate) (disk : Disk) (q : Pair) (more : List Pair) : Type 0 where
   pub at : q.at ≡ p.at
   pub delta : gstate_of (q ∷ more) ≡ move
   pub is : slots_in (q ∷ more) ≡ slots
-  pub became : Became old p (with_slots slots p) q more
+  pub became : Became old p (pair_with_slots slots p) q more
   pub device : IsDevice old disk (thread_at w (p ∷ [])) (thread_at w (q ∷ more))
-  pub free : AreFree old (thread_at w (p ∷ [])) (blocks_of more) []
-  pub same : (b : ℕ) → count b (blocks_of more ++ blocks_of (p ∷ [])) ≡ 0 → block_at disk b ≡ block_at old b
+  pub free : AreFree old (thread_at w (p ∷ [])) (blocks_of_pairs more) []
+  pub same : (b : ℕ) → count b (blocks_of_pairs more ++ blocks_of_pairs (p ∷ [])) ≡ 0 → block_bytes_on_disk disk b ≡ block_bytes_on_disk old b
 
 -- The slot u stands in the pair o at the site wo, and v is to stand in another pair p at the site w, in place of `olds`.
 pub record IsSetting (disk : Disk) (wo : Site) (o : Pair) (lo : List Slot) (u : Slot) (ro : List Slot) (w : Site) (p : Pair) (l olds : List Slot) (v : Slot) (r : List Slot) : Type 0 where
-  pub accepted : IsAccepted disk (thread_at w (p ∷ []))
+  pub accepted : IsAcceptedImage disk (thread_at w (p ∷ []))
   pub writable : IsWritable disk (thread_at w (p ∷ []))
-  pub settled : gstate_of (thread_at w (p ∷ [])) ≡ no_gstate
+  pub settled : gstate_of (thread_at w (p ∷ [])) ≡ zero_gstate
   pub site : IsSite w (p ∷ [])
   pub there : thread_at wo (o ∷ []) ≡ thread_at w (p ∷ [])
   pub old_site : IsSite wo (o ∷ [])
@@ -60,9 +60,9 @@ pub record IsSetting (disk : Disk) (wo : Site) (o : Pair) (lo : List Slot) (u : 
   pub apart : length (w.before ++ w.left) ≢ length (wo.before ++ wo.left)
   pub was : p.content.slots ≡ l ++ (olds ++ r)
   pub front : l ≡ [] → starts_with_superblock (olds ++ r) ≡ false
-  pub entry : IsEntry v
+  pub entry : IsFileOrDirectoryEntry v
   pub struct : v.struct ≡ u.struct
-  pub fit : FitsSlot disk.block_size disk.page v
+  pub fit : FitsSlotLimits disk.block_size disk.page v
 
 module _ (disk : Disk) (wo : Site) (o : Pair) (lo : List Slot) (u : Slot) (ro : List Slot) (w : Site) (p : Pair) (l olds : List Slot) (v : Slot) (r : List Slot)
     (k : IsSetting disk wo o lo u ro w p l olds v r) where
@@ -76,7 +76,7 @@ module _ (disk : Disk) (wo : Site) (o : Pair) (lo : List Slot) (u : Slot) (ro : 
   back_o = wo.right ++ wo.after
 
   same_site : SameParts wo.chain (dirs_at wo (o ∷ [])) w.chain (dirs_at w (p ∷ []))
-  same_site = same_parts wo.chain (dirs_at wo (o ∷ [])) w.chain (dirs_at w (p ∷ [])) (sym k.old_site.chain ∙ ap superblocks_before k.there ∙ k.site.chain) k.there
+  same_site = same_parts wo.chain (dirs_at wo (o ∷ [])) w.chain (dirs_at w (p ∷ [])) (sym k.old_site.chain ∙ ap pair_count_before_root k.there ∙ k.site.chain) k.there
 
   pub chain_same : wo.chain ≡ w.chain
   chain_same = same_site.front
@@ -95,8 +95,8 @@ module _ (disk : Disk) (wo : Site) (o : Pair) (lo : List Slot) (u : Slot) (ro : 
   grouped : thread_at w (p ∷ []) ≡ (w.chain ++ front_o) ++ o ∷ back_o
   grouped = sym (ap (λ z. w.chain ++ z) dirs_same) ∙ sym (append_assoc w.chain front_o (o ∷ back_o))
 
-  distinct_there : IsDistinct nat_eq (blocks_of ((w.chain ++ front_o) ++ o ∷ back_o))
-  distinct_there = subst (λ z. IsDistinct nat_eq (blocks_of z)) grouped k.accepted.thread.distinct
+  distinct_there : IsDistinct nat_eq (blocks_of_pairs ((w.chain ++ front_o) ++ o ∷ back_o))
+  distinct_there = subst (λ z. IsDistinct nat_eq (blocks_of_pairs z)) grouped k.accepted.thread.distinct
 
   flipped : (ss : List Pair) → Each (λ s. same_pair s.at o.at ≡ false) ss → Each Far ss
   flipped ss h = each_weaker (λ s. same_pair s.at o.at ≡ false) Far (λ s e. flip_false s.at o.at e) ss h
@@ -114,8 +114,8 @@ module _ (disk : Disk) (wo : Site) (o : Pair) (lo : List Slot) (u : Slot) (ro : 
       go (ahead mid e f) = (each_right Far mid (p ∷ (w.right ++ w.after)) (subst (Each Far) e far_back)).0
       go (behind mid e f) = (each_right Far (w.before ++ w.left) (p ∷ mid) (subst (Each Far) f (each_right Far w.chain front_o far_front))).0
 
-  blocks_two : (xs ys : List Pair) (b : ℕ) → count b (blocks_of (xs ++ ys)) ≡ count b (blocks_of xs) + count b (blocks_of ys)
-  blocks_two xs ys b = ap (count b) (flat_map-append (λ (s : Pair). s.at.0 ∷ s.at.1 ∷ []) xs ys) ∙ count_append b (blocks_of xs) (blocks_of ys)
+  blocks_two : (xs ys : List Pair) (b : ℕ) → count b (blocks_of_pairs (xs ++ ys)) ≡ count b (blocks_of_pairs xs) + count b (blocks_of_pairs ys)
+  blocks_two xs ys b = ap (count b) (flat_map-append (λ (s : Pair). s.at.0 ∷ s.at.1 ∷ []) xs ys) ∙ count_append b (blocks_of_pairs xs) (blocks_of_pairs ys)
 
   module _ (sync : Bool) (new : Disk) (q : Pair) (more : List Pair) (x : HasTurned disk w p (l ++ v ∷ r) (gstate_xor (move_of sync o.at (length lo)) p.content.move) new q more) where
     abbrev qs : List Pair
@@ -124,19 +124,19 @@ module _ (disk : Disk) (wo : Site) (o : Pair) (lo : List Slot) (u : Slot) (ro : 
     far_more : Each Far more
     far_more = each_left Far more (w.chain ++ front_o) (flipped (more ++ (w.chain ++ front_o))
         (avoids_front (more ++ (w.chain ++ front_o)) o back_o o.at
-        (distinct_from_once (blocks_of ((more ++ (w.chain ++ front_o)) ++ o ∷ back_o)) (λ b.
-        let once = once_from_distinct ((blocks_of more ++ []) ++ used_blocks disk (thread_at w (p ∷ []))) x.free.distinct b in
-        let c = count_append b (blocks_of more ++ []) (used_blocks disk (thread_at w (p ∷ []))) in
-        let d = count_append b (blocks_of more) [] in
-        let e = count_append b (blocks_of (thread_at w (p ∷ []))) (flat_map (λ s. file_blocks_of s) (all_slots (thread_at w (p ∷ [])))) in
-        let g = ap (λ z. count b (blocks_of z)) grouped in
+        (distinct_from_once (blocks_of_pairs ((more ++ (w.chain ++ front_o)) ++ o ∷ back_o)) (λ b.
+        let once = once_from_distinct ((blocks_of_pairs more ++ []) ++ used_blocks disk (thread_at w (p ∷ []))) x.free.distinct b in
+        let c = count_append b (blocks_of_pairs more ++ []) (used_blocks disk (thread_at w (p ∷ []))) in
+        let d = count_append b (blocks_of_pairs more) [] in
+        let e = count_append b (blocks_of_pairs (thread_at w (p ∷ []))) (flat_map (λ s. file_blocks_of s) (all_slots_not_moved (thread_at w (p ∷ [])))) in
+        let g = ap (λ z. count b (blocks_of_pairs z)) grouped in
         let h = blocks_two more ((w.chain ++ front_o) ++ o ∷ back_o) b in
-        let i = ap (λ z. count b (blocks_of z)) (append_assoc more (w.chain ++ front_o) (o ∷ back_o)) in
+        let i = ap (λ z. count b (blocks_of_pairs z)) (append_assoc more (w.chain ++ front_o) (o ∷ back_o)) in
         omega arith))
         (pair_itself o.at)))
       where
         file_blocks_of : Slot → List ℕ
-        file_blocks_of s = file_blocks disk s.struct
+        file_blocks_of s = skip_list_blocks_of_struct disk s.struct
 
     -- ---- the global state
 
@@ -145,21 +145,21 @@ module _ (disk : Disk) (wo : Site) (o : Pair) (lo : List Slot) (u : Slot) (ro : 
         (x.delta ∙ ap (gstate_xor (move_of sync o.at (length lo))) (sym (gstate_cons p [] ∙ gstate_right p.content.move)))
         ∙ ap (gstate_xor (move_of sync o.at (length lo))) k.settled ∙ gstate_right (move_of sync o.at (length lo))
 
-    among : SomeIn (λ s. (same_pair o.at s.at ≡ true) × IsOtherSlot (slice_get s.content.slots (length lo))) qs
+    among : SomeIn (λ s. (same_pair o.at s.at ≡ true) × IsNoSuperblockSlot (slice_get s.content.slots (length lo))) qs
     among = among_right N w.chain (dirs_at w (q ∷ more)) (go turns)
       where
         N : Pair → Type 0
-        N s = (same_pair o.at s.at ≡ true) × IsOtherSlot (slice_get s.content.slots (length lo))
+        N s = (same_pair o.at s.at ≡ true) × IsNoSuperblockSlot (slice_get s.content.slots (length lo))
 
         here : N o
-        here = (pair_itself o.at, subst IsOtherSlot (sym (ap (λ z. slice_get z (length lo)) k.held ∙ get_here lo ro u)) k.other)
+        here = (pair_itself o.at, subst IsNoSuperblockSlot (sym (ap (λ z. slice_get z (length lo)) k.held ∙ get_here lo ro u)) k.other)
 
         go : InTurn (w.before ++ w.left) p (w.right ++ w.after) front_o o back_o → SomeIn N (dirs_at w (q ∷ more))
         go (ahead mid e f) = among_left N (w.before ++ w.left) (q ∷ more ++ (w.right ++ w.after)) (subst (SomeIn N) (sym f) (among_right N front_o (o ∷ mid) (inl here)))
         go (behind mid e f) = among_right N (w.before ++ w.left) (q ∷ more ++ (w.right ++ w.after)) (among_right N (q ∷ more) (w.right ++ w.after) (subst (SomeIn N) (sym e) (among_right N mid (o ∷ back_o) (inl here))))
 
-    is_move : IsMove qs (gstate_of qs)
-    is_move = subst (IsMove qs) (sym state_is) (inr (refl, any_from (λ s. (same_pair o.at s.at ≡ true) × IsOtherSlot (slice_get s.content.slots (length lo))) qs among))
+    is_move : IsMoveOrNone qs (gstate_of qs)
+    is_move = subst (IsMoveOrNone qs) (sym state_is) (inr (refl, any_from (λ s. (same_pair o.at s.at ≡ true) × IsNoSuperblockSlot (slice_get s.content.slots (length lo))) qs among))
 
     named_far : (ss : List Pair) → Each Far ss → Each (λ s. same_pair (gstate_of (thread_at w (q ∷ more))).pair s.at ≡ false) ss
     named_far ss h = subst (λ (g : Gstate). Each (λ s. same_pair g.pair s.at ≡ false) ss) (sym state_is) h
@@ -168,7 +168,7 @@ module _ (disk : Disk) (wo : Site) (o : Pair) (lo : List Slot) (u : Slot) (ro : 
     front_kept [] f slots e h = absurd (let z = sym h ∙ ap starts_with_superblock e ∙ f refl in cc)
     front_kept (s ∷ l) f slots e h = sym (ap starts_with_superblock e) ∙ h
 
-    pub set_step : IsMoveSet disk new wo o lo u ro w p [] q more (blocks_of more) l olds v r
+    pub set_step : IsMoveSet disk new wo o lo u ro w p [] q more (blocks_of_pairs more) l olds v r
     set_step = record {
       accepted = k.accepted;
       site = k.site;
@@ -188,7 +188,7 @@ module _ (disk : Disk) (wo : Site) (o : Pair) (lo : List Slot) (u : Slot) (ro : 
       apart_now = named_far (q ∷ more) (subst (λ at. same_pair o.at at ≡ false) (sym x.at) far_p, far_more);
       device = x.device;
       free = x.free;
-      shape = became_shape disk p (with_slots (l ++ v ∷ r) p) q more x.at x.became (became_front disk p (with_slots (l ++ v ∷ r) p) q more x.is x.became (front_kept l k.front p.content.slots k.was));
+      shape = became_shape disk p (pair_with_slots (l ++ v ∷ r) p) q more x.at x.became (became_front disk p (pair_with_slots (l ++ v ∷ r) p) q more x.is x.became (front_kept l k.front p.content.slots k.was));
       was = append-nil p.content.slots ∙ k.was;
       is = x.is;
       front = k.front;
@@ -213,20 +213,20 @@ module _ (disk : Disk) (wo : Site) (o : Pair) (lo : List Slot) (u : Slot) (ro : 
 
     pub taken_by : (change : Tree → Tree) (walk : Walk → Walk) → Follows disk (thread_at w (p ∷ [])) new (thread_at w (q ∷ more)) change walk
         → IsOnlyStep disk (thread_at w (p ∷ [])) new (thread_at w (q ∷ more)) change walk
-    taken_by change walk follows = set_taken disk w p q more l olds (v ∷ []) r set_put new wo o lo u ro (blocks_of more) v change walk set_step follows
+    taken_by change walk follows = set_taken disk w p q more l olds (v ∷ []) r set_put new wo o lo u ro (blocks_of_pairs more) v change walk set_step follows
 
     -- ---- the blocks that the image uses
 
-    each_slots : (Q : Slot → Type 0) → All Q (all_slots ps) → Each (λ s. Each Q s.content.slots) (dirs_at w (p ∷ []))
+    each_slots : (Q : Slot → Type 0) → All Q (all_slots_not_moved ps) → Each (λ s. Each Q s.content.slots) (dirs_at w (p ∷ []))
     each_slots Q h = each_right (λ (s : Pair). Each Q s.content.slots) w.chain (dirs_at w (p ∷ []))
-        (each_pieces Q (λ (s : Pair). s.content.slots) ps (subst (Each Q) (unmoved_in (gstate_of ps) (no_move_from ps k.settled) ps) (recursion_from_All Q (all_slots ps) h)))
+        (each_pieces Q (λ (s : Pair). s.content.slots) ps (subst (Each Q) (unmoved_in (gstate_of ps) (no_move_from ps k.settled) ps) (recursion_from_All Q (all_slots_not_moved ps) h)))
 
-    these : (Q : Slot → Type 0) → All Q (all_slots ps) → Each Q (l ++ (olds ++ r))
+    these : (Q : Slot → Type 0) → All Q (all_slots_not_moved ps) → Each Q (l ++ (olds ++ r))
     these Q h = subst (Each Q) k.was (each_left (λ (s : Pair). Each Q s.content.slots) (p ∷ []) (w.right ++ w.after)
         (each_right (λ (s : Pair). Each Q s.content.slots) (w.before ++ w.left) (p ∷ [] ++ (w.right ++ w.after)) (each_slots Q h))).0
 
-    same_files : SameFiles disk new (all_slots ps)
-    same_files = recursion_from_All (λ (s : Slot). HasSameFile disk new s.struct) (all_slots ps) x.device.files
+    same_files : SameFiles disk new (all_slots_not_moved ps)
+    same_files = recursion_from_All (λ (s : Slot). HasSameFile disk new s.struct) (all_slots_not_moved ps) x.device.files
 
     hides : slots_not_moved (move_of sync o.at (length lo)) o ≡ lo ++ ro
     hides = ap (λ b. cond b (remove o.content.slots (length lo)) o.content.slots) (pair_itself o.at) ∙ ap (λ s. remove s (length lo)) k.held ∙ remove_here lo ro u
@@ -243,13 +243,13 @@ module _ (disk : Disk) (wo : Site) (o : Pair) (lo : List Slot) (u : Slot) (ro : 
     count_hidden b xs ys = ap (λ z. count b (files_of new z)) (flat_map-append (slots_not_moved (move_of sync o.at (length lo))) xs ys)
         ∙ count_files b new (flat_map (slots_not_moved (move_of sync o.at (length lo))) xs) (flat_map (slots_not_moved (move_of sync o.at (length lo))) ys)
 
-    pub set_count : (b : ℕ) → count b (used_blocks new qs) + count b (files_of disk olds) ≡ count b (blocks_of more) + count b (used_blocks disk ps)
+    pub set_count : (b : ℕ) → count b (used_blocks new qs) + count b (files_of disk olds) ≡ count b (blocks_of_pairs more) + count b (used_blocks disk ps)
     set_count b =
         let D : Gstate = move_of sync o.at (length lo) in
         let hid : List Pair → ℕ = λ z. count b (files_of new (flat_map (slots_not_moved (move_of sync o.at (length lo))) z)) in
         let all : List Pair → ℕ = λ z. count b (files_of new (slots_in z)) in
-        let a1 = count_append b (blocks_of qs) (files_of new (all_slots qs)) in
-        let a2 = count_append b (blocks_of ps) (files_of disk (all_slots ps)) in
+        let a1 = count_append b (blocks_of_pairs qs) (files_of new (all_slots_not_moved qs)) in
+        let a2 = count_append b (blocks_of_pairs ps) (files_of disk (all_slots_not_moved ps)) in
         let b1 = blocks_two w.chain (dirs_at w (q ∷ more)) b in
         let b2 = blocks_two (w.before ++ w.left) (q ∷ more ++ (w.right ++ w.after)) b in
         let b3 = blocks_two (q ∷ more) (w.right ++ w.after) b in
@@ -258,7 +258,7 @@ module _ (disk : Disk) (wo : Site) (o : Pair) (lo : List Slot) (u : Slot) (ro : 
         let b6 = blocks_two (p ∷ []) (w.right ++ w.after) b in
         let b7 = blocks_two (q ∷ []) more b in
         let at = ap (λ (a : ℕ × ℕ). count b (a.0 ∷ a.1 ∷ [])) x.at in
-        let same = ap (count b) (slots_files disk new (all_slots ps) x.device.geometry same_files) in
+        let same = ap (count b) (slots_files disk new (all_slots_not_moved ps) x.device.geometry same_files) in
         let plain = ap (λ z. count b (files_of new z)) (unmoved_in (gstate_of ps) (no_move_from ps k.settled) ps) in
         let now = ap (λ (g : Gstate). count b (files_of new (flat_map (slots_not_moved g) qs))) state_is in
         let old_files = ap (count b) (slots_files disk new olds x.device.geometry (each_left (λ (s : Slot). HasSameFile disk new s.struct) olds r
@@ -292,27 +292,27 @@ module _ (disk : Disk) (wo : Site) (o : Pair) (lo : List Slot) (u : Slot) (ro : 
         let c1 = ap (λ z. count b (files_of new z)) (hidden_none w.chain (each_left Far w.chain front_o far_front)) in
         let c2 = ap (λ z. count b (files_of new z)) (hidden_none front_o (each_right Far w.chain front_o far_front)) in
         let c3 = ap (λ z. count b (files_of new z)) (hidden_none back_o far_back) in
-        let vu = ap (λ z. count b (file_blocks new z ++ [])) k.struct in
+        let vu = ap (λ z. count b (skip_list_blocks_of_struct new z ++ [])) k.struct in
         omega arith
 
 -- ---- to a new name, and onto an entry
 
 module _ (disk : Disk) (wo : Site) (o : Pair) (lo : List Slot) (u : Slot) (ro : List Slot) (w : Site) (p : Pair) (l : List Slot) (v : Slot) (r : List Slot)
     (sync : Bool) (new : Disk) (q : Pair) (more : List Pair) (x : HasTurned disk w p (l ++ v ∷ r) (gstate_xor (move_of sync o.at (length lo)) p.content.move) new q more)
-    (P : Path) (b : ℕ × ℕ) (leads : PathLeadsTo (thread_at w (p ∷ [])) P b) (same_old : same_pair (begin_of wo (o ∷ [])) b ≡ true)
-    (Q : Path) (a : ℕ × ℕ) (arrives : PathLeadsTo (thread_at w (p ∷ [])) Q a) (same : same_pair (begin_of w (p ∷ [])) a ≡ true) where
-  pub set_new : IsSetting disk wo o lo u ro w p l [] v r → v ≡ record u { name = v.name } → rest_after (P ++ u.name ∷ []) (Q ++ v.name ∷ []) ≡ None
-      → IsPlace disk.order (entries_in (thread_at w (p ∷ [])) a) (place_at w l) v.name
+    (P : Path) (b : ℕ × ℕ) (leads : IsPathToDirectory (thread_at w (p ∷ [])) P b) (same_old : same_pair (begin_of wo (o ∷ [])) b ≡ true)
+    (Q : Path) (a : ℕ × ℕ) (arrives : IsPathToDirectory (thread_at w (p ∷ [])) Q a) (same : same_pair (begin_of w (p ∷ [])) a ≡ true) where
+  pub set_new : IsSetting disk wo o lo u ro w p l [] v r → v ≡ record u { name = v.name } → path_without_prefix (P ++ u.name ∷ []) (Q ++ v.name ∷ []) ≡ None
+      → IsPlace disk.order (entries_by_directory_in_thread (thread_at w (p ∷ [])) a) (place_at w l) v.name
       → Follows disk (thread_at w (p ∷ [])) new (thread_at w (q ∷ more)) (renamed (P ++ u.name ∷ []) (Q ++ v.name ∷ [])) (walk_by (P ++ u.name ∷ []) (Q ++ v.name ∷ []))
   set_new k same_slot off place =
       let step = set_step disk wo o lo u ro w p l [] v r k sync new q more x in
-      move_sets disk new wo o lo u ro w p [] q more (blocks_of more) l v r step P b leads same_old Q a arrives same same_slot off
-      (hidden_place disk new wo o lo u ro w p q more (blocks_of more) l v r step P b leads same_old Q a arrives same v.name place)
+      move_sets disk new wo o lo u ro w p [] q more (blocks_of_pairs more) l v r step P b leads same_old Q a arrives same same_slot off
+      (hidden_place disk new wo o lo u ro w p q more (blocks_of_pairs more) l v r step P b leads same_old Q a arrives same v.name place)
       (λ e. (recovered_from disk (thread_at w (p ∷ [])) k.accepted k.settled).reached)
 
   pub set_onto : (target : Slot) → is_superblock target ≡ false → IsSetting disk wo o lo u ro w p l (target ∷ []) v r → v ≡ record u { name = target.name }
-      → rest_after (P ++ u.name ∷ []) (Q ++ target.name ∷ []) ≡ None → (sync ≡ false → branch_of target.struct ≡ None)
+      → path_without_prefix (P ++ u.name ∷ []) (Q ++ target.name ∷ []) ≡ None → (sync ≡ false → branch_address_of_struct target.struct ≡ None)
       → Follows disk (thread_at w (p ∷ [])) new (thread_at w (q ∷ more)) (renamed (P ++ u.name ∷ []) (Q ++ v.name ∷ [])) (walk_by (P ++ u.name ∷ []) (Q ++ v.name ∷ []))
   set_onto target entry k same_slot off file =
-      move_sets_onto disk new wo o lo u ro w p [] q more (blocks_of more) l target v r (set_step disk wo o lo u ro w p l (target ∷ []) v r k sync new q more x) entry P b leads same_old Q a arrives same same_slot off
+      move_sets_onto disk new wo o lo u ro w p [] q more (blocks_of_pairs more) l target v r (set_step disk wo o lo u ro w p l (target ∷ []) v r k sync new q more x) entry P b leads same_old Q a arrives same same_slot off
       (λ e. (file (ap (λ (g : Gstate). g.sync) (sym (state_is disk wo o lo u ro w p l (target ∷ []) v r k sync new q more x)) ∙ e), (recovered_from disk (thread_at w (p ∷ [])) k.accepted k.settled).reached))

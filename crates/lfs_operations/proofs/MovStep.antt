@@ -2,26 +2,26 @@
 use Rattle.std.proofs.Common.{ℕ, ◌≡◌, ◌≢◌, ◌+◌, ◌-◌, ◌<◌, ◌≤◌, ◌⊎◌, inl, inr, Bool, true, false, cond, take, List, [], ◌∷◌, ◌++◌, length, Option, Some, refl, sym, ap, ap₂, subst, ◌∙◌, arith, append_assoc, length-append, get_or, set, remove}
 use Rattle.std.proofs.lemmas.Bool.{le-ltb, lt-ltb}
 use Rattle.lfs_model.specs.Blocks.{Blocks}
-use Rattle.lfs_model.specs.BlockSets.{AreUsed}
+use Rattle.lfs_model.specs.BlockSets.{AreExactlyTheUsedBlocks}
 use Rattle.lfs_model.specs.BlockSets.BlockState.{Free, InFlight}
-use Rattle.lfs_model.specs.Changes.{Change}
-use Rattle.lfs_model.specs.Content.{content_after_all, holder, no_content, raw_at}
-use Rattle.lfs_model.specs.Disk.{block_count, Disk, block_at}
-use Rattle.lfs_model.specs.History.{Event}
-use Rattle.lfs_model.specs.Log.{log_entries}
+use Rattle.lfs_model.specs.Changes.{ContentChange}
+use Rattle.lfs_model.specs.Content.{content_after_log_entries, current_block_of_two, empty_raw_content, raw_content_of_pair_at}
+use Rattle.lfs_model.specs.Disk.{block_count, Disk, block_bytes_on_disk}
+use Rattle.lfs_model.specs.History.{CallEvent}
+use Rattle.lfs_model.specs.Log.{log_entries_of_block}
 use Rattle.std.specs.Option.{option_and_then}
 use Rattle.lfs_model.specs.Names.{Name}
-use Rattle.lfs_model.specs.PowerLoss.{IsLeftByStop as IsLeftOf, Survives, with_blocks}
-use Rattle.lfs_model.specs.Slots.{Slot, Gstate, gstate_xor, no_gstate, same_pair}
+use Rattle.lfs_model.specs.PowerLoss.{ShowsTreeBeforeOrAfter as IsLeftOf, SurvivesStopsSince, with_blocks}
+use Rattle.lfs_model.specs.Slots.{Slot, Gstate, gstate_xor, zero_gstate, same_pair}
 use Rattle.lfs_model.specs.SlotEdits.{slot_of_path}
-use Rattle.lfs_model.specs.Thread.{Pair, blocks_of, gstate_of, is_hard, superblocks_before}
+use Rattle.lfs_model.specs.Thread.{Pair, blocks_of_pairs, gstate_of, is_hard_tail, pair_count_before_root}
 use Rattle.lfs_model.specs.Tree.{Path, Tree}
-use Rattle.lfs_model.specs.TreeEdits.{last_name, renamed}
+use Rattle.lfs_model.specs.TreeEdits.{last_name_of_path, renamed}
 use Rattle.lfs_model.specs.Operations as ops
 use Rattle.lfs_model.specs.Session.{Session}
-use Rattle.lfs_model.specs.Refusals.{as_path}
-use Rattle.lfs_model.specs.Shown.{directories_in, all_slots, file_blocks, tree_in, used_blocks}
-use Rattle.lfs_model.specs.View.{IsAccepted}
+use Rattle.lfs_model.specs.Refusals.{path_or_root}
+use Rattle.lfs_model.specs.Shown.{directories_in_thread, all_slots_not_moved, skip_list_blocks_of_struct, tree_on_disk, used_blocks}
+use Rattle.lfs_model.specs.View.{IsAcceptedImage}
 use Rattle.lfs_model.specs.Profile.{IsWritable}
 use Rattle.std.specs.List.{flat_map}
 use Rattle.lfs_model.proofs.Alike.{AreAlike}
@@ -29,7 +29,7 @@ use Rattle.lfs_model.proofs.LeftFiles.{ends_same}
 use Rattle.lfs_model.proofs.Changes.{Follows, rearranged_chain}
 use Rattle.lfs_model.proofs.Committed.{IsCompleted}
 use Rattle.lfs_model.proofs.Counts.{count, count_append, count_here, once_from_distinct}
-use Rattle.lfs_model.proofs.Histories.{LeavesOnly-weaker}
+use Rattle.lfs_model.proofs.Histories.{IsTrueAfterEachStopSince-weaker}
 use Rattle.lfs_model.proofs.Moves.{remove_here}
 use Rattle.lfs_model.proofs.MoveSets.{first_addresses, set_rearranged}
 use Rattle.lfs_model.proofs.Pairs.{pair_itself}
@@ -40,14 +40,14 @@ use Rattle.lfs_model.proofs.StepsTaken.{IsOnlyStep, taken_then}
 use Rattle.lfs_model.proofs.Superblocks.{IsChain, pairs_behind}
 use Rattle.lfs_model.proofs.TwoPlaces.{OldStays, from_old, two}
 use Rattle.lfs_model.proofs.Writable.{ends_in_hard_tail}
-use Rattle.lfs_thread.specs.Device.{StopsLeave, two_of}
+use Rattle.lfs_thread.specs.Device.{StopsAfterCleanErasesLeave, blocks_of_address}
 use Rattle.lfs_thread.specs.Kept.{Kept}
-use Rattle.lfs_thread.specs.Steps.{HasShape, no_pair, pair_in, without_pair}
-use Rattle.lfs_operations.specs.Changing.{IsLeftByPut, IsPut}
-use Rattle.lfs_operations.specs.Dropping.{HasShrunk, SameInFlight}
-use Rattle.lfs_operations.specs.MoveEnds.{CanEndMoveAt, HasEndedMoveAt, blocks_ended, content_without, follows_hard_tail, map_ended, move_of, pairs_ended, sync_in}
-use Rattle.lfs_operations.specs.MovingSteps.{place_after}
-use Rattle.lfs_operations.specs.Ready.{IsLoggedAt, IsReady, KeepsRoot}
+use Rattle.lfs_thread.specs.Steps.{HasSameGeometry, no_pair, kept_pair_at_index, map_with_freed_pair}
+use Rattle.lfs_operations.specs.Changing.{IsLeftByStoppedChangeOrSplit, IsPairChangedOrSplit}
+use Rattle.lfs_operations.specs.Dropping.{ShowsTreeAfterDrops, HasSameBlocksInFlight}
+use Rattle.lfs_operations.specs.MoveEnds.{CanEndMoveAt, HasEndedMoveAt, blocks_dropped_at_move_end, content_after_move_ends, is_pair_named_by_hard_tail, map_after_move_ends, move_of, pairs_after_move_ends, gstate_of_sync_alone}
+use Rattle.lfs_operations.specs.MovingSteps.{pair_number_after_insertion}
+use Rattle.lfs_operations.specs.Ready.{HasLoggableContentAt, IsImageReadyForChange, KeepsPairCountBeforeRoot}
 use Rattle.lfs_operations.proofs.Dropped.{flying_same, length_fewer, used_fewer}
 use Rattle.lfs_operations.proofs.MovAcross.{Arranged, arrangement, completed}
 use Rattle.lfs_operations.proofs.MovEnding.{writable_same}
@@ -81,13 +81,13 @@ only_left [] [] u e = refl
 only_left [] (s ∷ r) u e = absurd (omega arith)
 only_left (s ∷ l) r u e = absurd (let k = length-append l (u ∷ r) in omega arith)
 
-pub blocks_alike : (xs ys : List Pair) → AreAlike xs ys → blocks_of ys ≡ blocks_of xs
+pub blocks_alike : (xs ys : List Pair) → AreAlike xs ys → blocks_of_pairs ys ≡ blocks_of_pairs xs
 blocks_alike [] [] h = refl
 blocks_alike [] (y ∷ ys) h = absurd h
 blocks_alike (x ∷ xs) [] h = absurd h
 blocks_alike (x ∷ xs) (y ∷ ys) h = ap₂ (λ (at : ℕ × ℕ) (z : List ℕ). at.0 ∷ at.1 ∷ z) h.0 (blocks_alike xs ys h.2)
 
-led_at : (chain pre back : List Pair) (i : ℕ) → IsChain chain (pre ++ back) → i ≡ length chain + length pre → follows_hard_tail (chain ++ (pre ++ back)) i ≡ ends_in_hard_tail false pre
+led_at : (chain pre back : List Pair) (i : ℕ) → IsChain chain (pre ++ back) → i ≡ length chain + length pre → is_pair_named_by_hard_tail (chain ++ (pre ++ back)) i ≡ ends_in_hard_tail false pre
 led_at chain pre back i is_chain number =
     ap₂ (λ n z. ends_in_hard_tail false (take (i - n) z)) is_chain (pairs_behind chain (pre ++ back) is_chain)
     ∙ ap (ends_in_hard_tail false) (take_front pre back (i - length chain) (omega arith))
@@ -95,15 +95,15 @@ led_at chain pre back i is_chain number =
 -- ---- what is known before
 
 -- The changes put the slot v into the pair p at the site w, and set a move that hides u in the pair o at the site wo.
-pub record IsFirst (t : Kept) (sync : Bool) (old_pair : ℕ) (goes : Bool) (new_pair : ℕ) (changes : List Change) (wo : Site) (o : Pair) (lo : List Slot) (u : Slot) (ro : List Slot) (w : Site) (p : Pair) (l : List Slot) (target : Option Slot) (v : Slot) (r : List Slot)
+pub record IsFirst (t : Kept) (sync : Bool) (old_pair : ℕ) (goes : Bool) (new_pair : ℕ) (changes : List ContentChange) (wo : Site) (o : Pair) (lo : List Slot) (u : Slot) (ro : List Slot) (w : Site) (p : Pair) (l : List Slot) (target : Option Slot) (v : Slot) (r : List Slot)
     (old_path new_path : Path) (name : Name) : Type 0 where
-  pub ready : IsReady t
+  pub ready : IsImageReadyForChange t
   pub turn : IsTurn t new_pair changes w p (l ++ v ∷ r) (gstate_xor (move_of sync o.at (length lo)) p.content.move)
   pub setting : IsSetting t.disk wo o lo u ro w p l (target_slots target) v r
   pub chain : wo.chain ≡ w.chain
   pub old_place : old_pair ≡ length wo.chain + length (wo.before ++ wo.left)
-  pub old_is : (pair_in t old_pair).at ≡ o.at
-  pub logged : IsLoggedAt t.disk o.at
+  pub old_is : (kept_pair_at_index t old_pair).at ≡ o.at
+  pub logged : HasLoggableContentAt t.disk o.at
   pub same_slot : v ≡ record u { name = name }
   pub follows : (disk : Disk) (q : Pair) (more : List Pair) → HasTurned t.disk w p (l ++ v ∷ r) (gstate_xor (move_of sync o.at (length lo)) p.content.move) disk q more
       → Follows t.disk (thread_at w (p ∷ [])) disk (thread_at w (q ∷ more)) (renamed old_path new_path) (walk_by old_path new_path)
@@ -111,10 +111,10 @@ pub record IsFirst (t : Kept) (sync : Bool) (old_pair : ℕ) (goes : Bool) (new_
   pub alone : goes ≡ true → (ends_in_hard_tail false (wo.before ++ wo.left) ≡ true) × (length o.content.slots ≡ 1)
   pub from_slot : slot_of_path (thread_at w (p ∷ [])) old_path ≡ Some u
   pub to_slot : slot_of_path (thread_at w (p ∷ [])) new_path ≡ target
-  pub to_name : last_name new_path ≡ name
+  pub to_name : last_name_of_path new_path ≡ name
   pub file : sync ≡ false → IsNoDirectory target
 
-module _ (t : Kept) (sync : Bool) (old_pair : ℕ) (goes : Bool) (new_pair : ℕ) (changes : List Change) (wo : Site) (o : Pair) (lo : List Slot) (u : Slot) (ro : List Slot) (w : Site) (p : Pair) (l : List Slot) (target : Option Slot) (v : Slot) (r : List Slot)
+module _ (t : Kept) (sync : Bool) (old_pair : ℕ) (goes : Bool) (new_pair : ℕ) (changes : List ContentChange) (wo : Site) (o : Pair) (lo : List Slot) (u : Slot) (ro : List Slot) (w : Site) (p : Pair) (l : List Slot) (target : Option Slot) (v : Slot) (r : List Slot)
     (old_path new_path : Path) (name : Name) (k : IsFirst t sync old_pair goes new_pair changes wo o lo u ro w p l target v r old_path new_path name) where
   abbrev ps : List Pair
   ps = thread_at w (p ∷ [])
@@ -126,7 +126,7 @@ module _ (t : Kept) (sync : Bool) (old_pair : ℕ) (goes : Bool) (new_pair : ℕ
   move = gstate_xor (move_of sync o.at (length lo)) p.content.move
 
   abbrev pub after : Tree
-  after = renamed old_path new_path (tree_in t.disk t.pairs)
+  after = renamed old_path new_path (tree_on_disk t.disk t.pairs)
 
   first_taken : (disk : Disk) (q : Pair) (more : List Pair) → HasTurned t.disk w p slots move disk q more
       → IsOnlyStep t.disk (thread_at w (p ∷ [])) disk (thread_at w (q ∷ more)) (renamed old_path new_path) (walk_by old_path new_path)
@@ -134,18 +134,18 @@ module _ (t : Kept) (sync : Bool) (old_pair : ℕ) (goes : Bool) (new_pair : ℕ
 
   -- ---- at a stop in the first step
 
-  left_tree : (left : Blocks) → IsLeftByPut t new_pair changes left → IsLeftOf (with_blocks left t.disk) (tree_in t.disk t.pairs) (renamed old_path new_path (tree_in t.disk t.pairs))
+  left_tree : (left : Blocks) → IsLeftByStoppedChangeOrSplit t new_pair changes left → IsLeftOf (with_blocks left t.disk) (tree_on_disk t.disk t.pairs) (renamed old_path new_path (tree_on_disk t.disk t.pairs))
   left_tree left is = go (left_put t new_pair changes w p slots move k.turn (mapped t k.ready.used k.ready.size) left is)
     where
       go : Stays t new_pair changes w p slots move k.turn (with_blocks left t.disk) ⊎ TurnedOn t w p slots move (with_blocks left t.disk)
-          → IsLeftOf (with_blocks left t.disk) (tree_in t.disk t.pairs) (renamed old_path new_path (tree_in t.disk t.pairs))
+          → IsLeftOf (with_blocks left t.disk) (tree_on_disk t.disk t.pairs) (renamed old_path new_path (tree_on_disk t.disk t.pairs))
       go (inl d) =
           let f = nothing_came t.disk (with_blocks left t.disk) w p k.setting.site k.setting.accepted d in
           record {
             pairs = thread_at w (p ∷ []);
             accepted = f.accepted;
             writable = writable_same t.disk (with_blocks left t.disk) (thread_at w (p ∷ [])) refl refl k.setting.writable;
-            tree = inl (f.shows ∙ ap (tree_in t.disk) (sym k.turn.there));
+            tree = inl (f.shows ∙ ap (tree_on_disk t.disk) (sym k.turn.there));
           }
       go (inr x) =
           let f = first_taken (with_blocks left t.disk) x.q x.more x.turned in
@@ -153,16 +153,16 @@ module _ (t : Kept) (sync : Bool) (old_pair : ℕ) (goes : Bool) (new_pair : ℕ
             pairs = thread_at w (x.q ∷ x.more);
             accepted = f.follows.accepted;
             writable = f.writable;
-            tree = inr (f.follows.shows ∙ ap (λ z. renamed old_path new_path (tree_in t.disk z)) (sym k.turn.there));
+            tree = inr (f.follows.shows ∙ ap (λ z. renamed old_path new_path (tree_on_disk t.disk z)) (sym k.turn.there));
           }
 
-  pub first_survives : (new : List Event) → StopsLeave t.history new (IsLeftByPut t new_pair changes)
-      → Survives t.disk t.history new (tree_in t.disk t.pairs) (renamed old_path new_path (tree_in t.disk t.pairs))
-  first_survives new stops clean = LeavesOnly-weaker left_tree (stops clean)
+  pub first_survives : (new : List CallEvent) → StopsAfterCleanErasesLeave t.history new (IsLeftByStoppedChangeOrSplit t new_pair changes)
+      → SurvivesStopsSince t.disk t.history new (tree_on_disk t.disk t.pairs) (renamed old_path new_path (tree_on_disk t.disk t.pairs))
+  first_survives new stops clean = IsTrueAfterEachStopSince-weaker left_tree (stops clean)
 
   -- ---- after the first step
 
-  pub first_turned : (mid : Kept) → IsPut t new_pair changes mid → TurnedTo t w p slots move mid
+  pub first_turned : (mid : Kept) → IsPairChangedOrSplit t new_pair changes mid → TurnedTo t w p slots move mid
   first_turned mid is = put_turned t new_pair changes w p slots move k.turn (mapped t k.ready.used k.ready.size) mid is
 
   module _ (mid : Kept) (x : TurnedTo t w p slots move mid) where
@@ -181,8 +181,8 @@ module _ (t : Kept) (sync : Bool) (old_pair : ℕ) (goes : Bool) (new_pair : ℕ
     taken : IsOnlyStep t.disk (thread_at w (p ∷ [])) mid.disk (thread_at w (x.q ∷ x.more)) (renamed old_path new_path) (walk_by old_path new_path)
     taken = first_taken mid.disk x.q x.more x.turned
 
-    pub mid_shows : tree_in mid.disk mid.pairs ≡ renamed old_path new_path (tree_in t.disk t.pairs)
-    mid_shows = ap (tree_in mid.disk) x.pairs ∙ taken.follows.shows ∙ ap (λ z. renamed old_path new_path (tree_in t.disk z)) (sym k.turn.there)
+    pub mid_shows : tree_on_disk mid.disk mid.pairs ≡ renamed old_path new_path (tree_on_disk t.disk t.pairs)
+    mid_shows = ap (tree_on_disk mid.disk) x.pairs ∙ taken.follows.shows ∙ ap (λ z. renamed old_path new_path (tree_on_disk t.disk z)) (sym k.turn.there)
 
     mid_state : gstate_of mid.pairs ≡ move_of sync o.at (length lo)
     mid_state = ap gstate_of x.pairs ∙ state_is t.disk wo o lo u ro w p l (target_slots target) v r k.setting sync mid.disk x.q x.more x.turned
@@ -191,9 +191,9 @@ module _ (t : Kept) (sync : Bool) (old_pair : ℕ) (goes : Bool) (new_pair : ℕ
     mid_is = x.pairs ∙ arr.mid_is
 
     mid_chain : IsChain w.chain (arr.pre ++ o ∷ arr.post)
-    mid_chain = ap superblocks_before (sym arr.mid_is)
-        ∙ rearranged_chain t.disk mid.disk w.chain (w.before ++ w.left) p [] x.q x.more (w.right ++ w.after) (blocks_of x.more ++ []) k.setting.site.chain k.setting.accepted
-        (set_rearranged t.disk mid.disk wo o lo u ro w p [] x.q x.more (blocks_of x.more) l (target_slots target) v r (set_step t.disk wo o lo u ro w p l (target_slots target) v r k.setting sync mid.disk x.q x.more x.turned))
+    mid_chain = ap pair_count_before_root (sym arr.mid_is)
+        ∙ rearranged_chain t.disk mid.disk w.chain (w.before ++ w.left) p [] x.q x.more (w.right ++ w.after) (blocks_of_pairs x.more ++ []) k.setting.site.chain k.setting.accepted
+        (set_rearranged t.disk mid.disk wo o lo u ro w p [] x.q x.more (blocks_of_pairs x.more) l (target_slots target) v r (set_step t.disk wo o lo u ro w p l (target_slots target) v r k.setting sync mid.disk x.q x.more x.turned))
 
     -- where the old pair stands
     many : length mid.pairs - length t.pairs ≡ length x.more
@@ -219,9 +219,9 @@ module _ (t : Kept) (sync : Bool) (old_pair : ℕ) (goes : Bool) (new_pair : ℕ
         omega arith
 
     abbrev pub index : ℕ
-    index = place_after old_pair new_pair (length mid.pairs - length t.pairs)
+    index = pair_number_after_insertion old_pair new_pair (length mid.pairs - length t.pairs)
 
-    index_is : place_after old_pair new_pair (length mid.pairs - length t.pairs) ≡ length w.chain + length arr.pre
+    index_is : pair_number_after_insertion old_pair new_pair (length mid.pairs - length t.pairs) ≡ length w.chain + length arr.pre
     index_is = go arr.number
       where
         old_at : old_pair ≡ length w.chain + length (wo.before ++ wo.left)
@@ -229,7 +229,7 @@ module _ (t : Kept) (sync : Bool) (old_pair : ℕ) (goes : Bool) (new_pair : ℕ
 
         go : ((length (wo.before ++ wo.left) < length (w.before ++ w.left)) × (length arr.pre ≡ length (wo.before ++ wo.left)))
             ⊎ ((length (w.before ++ w.left) < length (wo.before ++ wo.left)) × (length arr.pre ≡ length (wo.before ++ wo.left) + length x.more))
-            → place_after old_pair new_pair (length mid.pairs - length t.pairs) ≡ length w.chain + length arr.pre
+            → pair_number_after_insertion old_pair new_pair (length mid.pairs - length t.pairs) ≡ length w.chain + length arr.pre
         go (inl (less, is)) =
             let e = k.turn.place in let f = old_at in
             ap (λ b. cond b old_pair (old_pair + (length mid.pairs - length t.pairs))) (lt-ltb old_pair new_pair (omega arith)) ∙ omega arith
@@ -240,19 +240,19 @@ module _ (t : Kept) (sync : Bool) (old_pair : ℕ) (goes : Bool) (new_pair : ℕ
     grouped : mid.pairs ≡ (w.chain ++ arr.pre) ++ o ∷ arr.post
     grouped = mid_is ∙ sym (append_assoc w.chain arr.pre (o ∷ arr.post))
 
-    index_at : place_after old_pair new_pair (length mid.pairs - length t.pairs) ≡ length (w.chain ++ arr.pre)
+    index_at : pair_number_after_insertion old_pair new_pair (length mid.pairs - length t.pairs) ≡ length (w.chain ++ arr.pre)
     index_at = index_is ∙ sym (length-append w.chain arr.pre)
 
-    here : pair_in mid index ≡ o
+    here : kept_pair_at_index mid index ≡ o
     here = ap₂ (λ (z : List Pair) (i : ℕ). get_or z i no_pair) grouped index_at ∙ get_at (w.chain ++ arr.pre) o arr.post no_pair
 
     -- ---- the old pair isn't written
 
-    both : (b : ℕ) → count b (blocks_of ps) ≡ count b (blocks_of w.chain) + (count b (blocks_of arr.front) + (count b (blocks_of (o ∷ [])) + (count b (blocks_of arr.mid) + (count b (blocks_of (p ∷ [])) + count b (blocks_of arr.back)))))
-    both b = ap (λ z. count b (blocks_of z)) arr.old_is ∙ blocks_append w.chain (two arr.b arr.front (o ∷ []) arr.mid (p ∷ []) arr.back) b ∙ ap (λ n. count b (blocks_of w.chain) + n) (go arr.b)
+    both : (b : ℕ) → count b (blocks_of_pairs ps) ≡ count b (blocks_of_pairs w.chain) + (count b (blocks_of_pairs arr.front) + (count b (blocks_of_pairs (o ∷ [])) + (count b (blocks_of_pairs arr.mid) + (count b (blocks_of_pairs (p ∷ [])) + count b (blocks_of_pairs arr.back)))))
+    both b = ap (λ z. count b (blocks_of_pairs z)) arr.old_is ∙ blocks_append w.chain (two arr.b arr.front (o ∷ []) arr.mid (p ∷ []) arr.back) b ∙ ap (λ n. count b (blocks_of_pairs w.chain) + n) (go arr.b)
       where
-        go : (s : Bool) → count b (blocks_of (two s arr.front (o ∷ []) arr.mid (p ∷ []) arr.back))
-            ≡ count b (blocks_of arr.front) + (count b (blocks_of (o ∷ [])) + (count b (blocks_of arr.mid) + (count b (blocks_of (p ∷ [])) + count b (blocks_of arr.back))))
+        go : (s : Bool) → count b (blocks_of_pairs (two s arr.front (o ∷ []) arr.mid (p ∷ []) arr.back))
+            ≡ count b (blocks_of_pairs arr.front) + (count b (blocks_of_pairs (o ∷ [])) + (count b (blocks_of_pairs arr.mid) + (count b (blocks_of_pairs (p ∷ [])) + count b (blocks_of_pairs arr.back))))
         go true =
             let a = blocks_append arr.front (o ∷ [] ++ (arr.mid ++ (p ∷ [] ++ arr.back))) b in
             let c = blocks_append (o ∷ []) (arr.mid ++ (p ∷ [] ++ arr.back)) b in
@@ -266,31 +266,31 @@ module _ (t : Kept) (sync : Bool) (old_pair : ℕ) (goes : Bool) (new_pair : ℕ
             let e = blocks_append (o ∷ []) arr.back b in
             omega arith
 
-    unwritten : (b : ℕ) → 1 ≤ count b (blocks_of (o ∷ [])) → block_at mid.disk b ≡ block_at t.disk b
+    unwritten : (b : ℕ) → 1 ≤ count b (blocks_of_pairs (o ∷ [])) → block_bytes_on_disk mid.disk b ≡ block_bytes_on_disk t.disk b
     unwritten b some = x.turned.same b (
-        let once = once_from_distinct ((blocks_of x.more ++ []) ++ used_blocks t.disk ps) x.turned.free.distinct b in
-        let c = count_append b (blocks_of x.more ++ []) (used_blocks t.disk ps) in
-        let d = count_append b (blocks_of x.more) [] in
-        let e = count_append b (blocks_of ps) (flat_map (λ s. file_blocks t.disk s.struct) (all_slots ps)) in
+        let once = once_from_distinct ((blocks_of_pairs x.more ++ []) ++ used_blocks t.disk ps) x.turned.free.distinct b in
+        let c = count_append b (blocks_of_pairs x.more ++ []) (used_blocks t.disk ps) in
+        let d = count_append b (blocks_of_pairs x.more) [] in
+        let e = count_append b (blocks_of_pairs ps) (flat_map (λ s. skip_list_blocks_of_struct t.disk s.struct) (all_slots_not_moved ps)) in
         let f = both b in
-        let g = count_append b (blocks_of x.more) (blocks_of (p ∷ [])) in
+        let g = count_append b (blocks_of_pairs x.more) (blocks_of_pairs (p ∷ [])) in
         omega arith)
 
-    raw_same : raw_at mid.disk o.at ≡ raw_at t.disk o.at
-    raw_same = ap (λ h. option_and_then (λ block. content_after_all no_content (log_entries block)) h) (ap₂ holder
+    raw_same : raw_content_of_pair_at mid.disk o.at ≡ raw_content_of_pair_at t.disk o.at
+    raw_same = ap (λ h. option_and_then (λ block. content_after_log_entries empty_raw_content (log_entries_of_block block)) h) (ap₂ current_block_of_two
         (unwritten o.at.0 (let e = count_here o.at.0 (o.at.1 ∷ []) in omega arith))
         (unwritten o.at.1 (let e = count_here o.at.1 [] in let f = count_append o.at.1 (o.at.0 ∷ []) (o.at.1 ∷ []) in omega arith)))
 
-    led_same : follows_hard_tail mid.pairs index ≡ ends_in_hard_tail false (wo.before ++ wo.left)
-    led_same = ap (λ z. follows_hard_tail z index) mid_is ∙ led_at w.chain arr.pre (o ∷ arr.post) index mid_chain index_is ∙ arr.led
+    led_same : is_pair_named_by_hard_tail mid.pairs index ≡ ends_in_hard_tail false (wo.before ++ wo.left)
+    led_same = ap (λ z. is_pair_named_by_hard_tail z index) mid_is ∙ led_at w.chain arr.pre (o ∷ arr.post) index mid_chain index_is ∙ arr.led
 
-    pub mid_ends : CanEndMoveAt mid (place_after old_pair new_pair (length mid.pairs - length t.pairs)) (length lo) goes
+    pub mid_ends : CanEndMoveAt mid (pair_number_after_insertion old_pair new_pair (length mid.pairs - length t.pairs)) (length lo) goes
     mid_ends = record {
-      accepted = subst (IsAccepted mid.disk) (sym x.pairs) taken.follows.accepted;
+      accepted = subst (IsAcceptedImage mid.disk) (sym x.pairs) taken.follows.accepted;
       writable = subst (IsWritable mid.disk) (sym x.pairs) taken.writable;
-      begins = (let e = ap superblocks_before mid_is ∙ mid_chain in let f = index_is in omega arith);
+      begins = (let e = ap pair_count_before_root mid_is ∙ mid_chain in let f = index_is in omega arith);
       below = (let e = ap length grouped in let f = length-append (w.chain ++ arr.pre) (o ∷ arr.post) in let g = index_at in omega arith);
-      logged = λ raw is. k.logged raw (sym raw_same ∙ ap (λ (z : Pair). raw_at mid.disk z.at) (sym here) ∙ is);
+      logged = λ raw is. k.logged raw (sym raw_same ∙ ap (λ (z : Pair). raw_content_of_pair_at mid.disk z.at) (sym here) ∙ is);
       kind = ap (λ (g : Gstate). g.kind) mid_state;
       named = ap₂ (λ (g : Gstate) (z : Pair). same_pair g.pair z.at) mid_state here ∙ pair_itself o.at;
       id_is = ap (λ (g : Gstate). g.id) mid_state;
@@ -308,23 +308,23 @@ module _ (t : Kept) (sync : Bool) (old_pair : ℕ) (goes : Bool) (new_pair : ℕ
       alone = λ goes. (let a = k.alone goes in (led_same ∙ a.0, ap (λ (z : Pair). length z.content.slots) here ∙ a.1));
     }
 
-    pub same_at : (pair_in mid (place_after old_pair new_pair (length mid.pairs - length t.pairs))).at ≡ (pair_in t old_pair).at
+    pub same_at : (kept_pair_at_index mid (pair_number_after_insertion old_pair new_pair (length mid.pairs - length t.pairs))).at ≡ (kept_pair_at_index t old_pair).at
     same_at = ap (λ (z : Pair). z.at) here ∙ sym k.old_is
 
     -- ---- after the second step
 
-    module _ (last : Kept) (e : HasEndedMoveAt mid (place_after old_pair new_pair (length mid.pairs - length t.pairs)) (length lo) goes last) where
+    module _ (last : Kept) (e : HasEndedMoveAt mid (pair_number_after_insertion old_pair new_pair (length mid.pairs - length t.pairs)) (length lo) goes last) where
       abbrev o2 : Pair
-      o2 = record { at = (pair_in mid index).at; content = content_without mid index (length lo) }
+      o2 = record { at = (kept_pair_at_index mid index).at; content = content_after_move_ends mid index (length lo) }
 
       slots_left : o2.content.slots ≡ lo ++ ro
       slots_left = ap (λ (z : Pair). remove z.content.slots (length lo)) here ∙ ap (λ z. remove z (length lo)) k.setting.held ∙ remove_here lo ro u
 
-      pub last_state : gstate_of last.pairs ≡ record no_gstate { sync = sync }
-      last_state = e.state ∙ ap sync_in mid_state
+      pub last_state : gstate_of last.pairs ≡ record zero_gstate { sync = sync }
+      last_state = e.state ∙ ap gstate_of_sync_alone mid_state
 
-      settled_last : sync ≡ false → gstate_of last.pairs ≡ no_gstate
-      settled_last plain = last_state ∙ ap (λ b. record no_gstate { sync = b }) plain
+      settled_last : sync ≡ false → gstate_of last.pairs ≡ zero_gstate
+      settled_last plain = last_state ∙ ap (λ b. record zero_gstate { sync = b }) plain
 
       filled : goes ≡ false → ends_in_hard_tail false (wo.before ++ wo.left) ≡ true → lo ++ ro ≢ []
       filled stays hard none =
@@ -353,14 +353,14 @@ module _ (t : Kept) (sync : Bool) (old_pair : ℕ) (goes : Bool) (new_pair : ℕ
             stays = (ap (λ (z : Pair). z.at) here, slots_left, (λ from. filled is (sym arr.from ∙ from)));
             alike = subst (λ z. AreAlike z last.pairs)
                 (ap₂ (λ (z : List Pair) (i : ℕ). set z i o2) grouped index_at ∙ set_at (w.chain ++ arr.pre) o arr.post o2 ∙ append_assoc w.chain arr.pre (o2 ∷ arr.post))
-                (subst (λ b. AreAlike (pairs_ended mid index (length lo) b) last.pairs) is e.alike);
+                (subst (λ b. AreAlike (pairs_after_move_ends mid index (length lo) b) last.pairs) is e.alike);
           }
           go true is = record {
             os = [];
             stays = (arr.from ∙ (k.alone is).0, nothing_left is);
             alike = subst (λ z. AreAlike z last.pairs)
                 (ap₂ (λ (z : List Pair) (i : ℕ). remove z i) grouped index_at ∙ remove_at (w.chain ++ arr.pre) o arr.post ∙ append_assoc w.chain arr.pre arr.post)
-                (subst (λ b. AreAlike (pairs_ended mid index (length lo) b) last.pairs) is e.alike);
+                (subst (λ b. AreAlike (pairs_after_move_ends mid index (length lo) b) last.pairs) is e.alike);
           }
 
       second : IsOnlyStep mid.disk (thread_at w (x.q ∷ x.more)) last.disk last.pairs (λ t. t) (λ d. d)
@@ -371,13 +371,13 @@ module _ (t : Kept) (sync : Bool) (old_pair : ℕ) (goes : Bool) (new_pair : ℕ
       last_taken = subst (λ z. IsOnlyStep t.disk z last.disk last.pairs (renamed old_path new_path) (walk_by old_path new_path)) (sym k.turn.there)
           (taken_then t.disk mid.disk last.disk (thread_at w (p ∷ [])) (thread_at w (x.q ∷ x.more)) last.pairs (renamed old_path new_path) (λ t. t) (walk_by old_path new_path) (λ d. d) (ends_same (renamed old_path new_path)) taken second)
 
-      pub last_firsts : first_addresses (directories_in last.pairs) ≡ first_addresses (directories_in t.pairs)
-      last_firsts = e.begins ∙ ap (λ z. first_addresses (directories_in z)) x.pairs
-          ∙ set_firsts t.disk mid.disk wo o lo u ro w p [] x.q x.more (blocks_of x.more) l (target_slots target) v r (set_step t.disk wo o lo u ro w p l (target_slots target) v r k.setting sync mid.disk x.q x.more x.turned)
-          ∙ ap (λ z. first_addresses (directories_in z)) (sym k.turn.there)
+      pub last_firsts : first_addresses (directories_in_thread last.pairs) ≡ first_addresses (directories_in_thread t.pairs)
+      last_firsts = e.begins ∙ ap (λ z. first_addresses (directories_in_thread z)) x.pairs
+          ∙ set_firsts t.disk mid.disk wo o lo u ro w p [] x.q x.more (blocks_of_pairs x.more) l (target_slots target) v r (set_step t.disk wo o lo u ro w p l (target_slots target) v r k.setting sync mid.disk x.q x.more x.turned)
+          ∙ ap (λ z. first_addresses (directories_in_thread z)) (sym k.turn.there)
 
       -- a pair stays that isn't one of the two, has no slots and ends its directory
-      pub last_kept : (z : Pair) → (p ≡ z → ⊥) → z.content.slots ≡ [] → is_hard z.content.tail ≡ false → SomeIn (λ y. y ≡ z) t.pairs → SomeIn (λ y. y ≡ z) last.pairs
+      pub last_kept : (z : Pair) → (p ≡ z → ⊥) → z.content.slots ≡ [] → is_hard_tail z.content.tail ≡ false → SomeIn (λ y. y ≡ z) t.pairs → SomeIn (λ y. y ≡ z) last.pairs
       last_kept z other none soft h = e.kept z none soft (subst (SomeIn (λ y. y ≡ z)) (sym x.pairs)
           (past (among_parts (λ y. y ≡ z) w.chain ((w.before ++ w.left) ++ (p ∷ (w.right ++ w.after))) (subst (SomeIn (λ y. y ≡ z)) k.turn.there h))))
         where
@@ -393,14 +393,14 @@ module _ (t : Kept) (sync : Bool) (old_pair : ℕ) (goes : Bool) (new_pair : ℕ
           past (inl h) = among_left (λ y. y ≡ z) w.chain (dirs_at w (x.q ∷ x.more)) h
           past (inr h) = within (among_parts (λ y. y ≡ z) (w.before ++ w.left) (p ∷ (w.right ++ w.after)) h)
 
-      pub last_shape : HasShape t.disk last.disk
+      pub last_shape : HasSameGeometry t.disk last.disk
       last_shape = record { block_size = e.shape.block_size ∙ x.shape.block_size; page = e.shape.page ∙ x.shape.page; order = e.shape.order ∙ x.shape.order; count = e.shape.count ∙ x.shape.count }
 
-      pub rename_completed : sync ≡ false → (s : Session) (old_bytes new_bytes : List ℕ) → s.tree ≡ tree_in t.disk t.pairs → as_path old_bytes ≡ old_path → as_path new_bytes ≡ new_path
+      pub rename_completed : sync ≡ false → (s : Session) (old_bytes new_bytes : List ℕ) → s.tree ≡ tree_on_disk t.disk t.pairs → path_or_root old_bytes ≡ old_path → path_or_root new_bytes ≡ new_path
           → IsCompleted t.disk t.pairs s (ops.Rename old_bytes new_bytes) last.disk last.pairs
       rename_completed plain s old_bytes new_bytes tree old_as new_as = subst (λ z. IsCompleted t.disk z s (ops.Rename old_bytes new_bytes) last.disk last.pairs) (sym k.turn.there)
           (completed t.disk mid.disk last.disk wo o lo u ro w p l target v r k.setting x.q x.more sync x.turned name k.same_slot old_path new_path (walk_by old_path new_path) taken.follows
-          left_over.os last.pairs left_over.stays left_over.alike second (settled_last plain) k.from_slot k.to_slot k.to_name (k.file plain) s old_bytes new_bytes (tree ∙ ap (tree_in t.disk) k.turn.there) old_as new_as)
+          left_over.os last.pairs left_over.stays left_over.alike second (settled_last plain) k.from_slot k.to_slot k.to_name (k.file plain) s old_bytes new_bytes (tree ∙ ap (tree_on_disk t.disk) k.turn.there) old_as new_as)
 
       -- ---- the map
 
@@ -410,53 +410,53 @@ module _ (t : Kept) (sync : Bool) (old_pair : ℕ) (goes : Bool) (new_pair : ℕ
       abbrev kept : List ℕ
       kept = used_blocks last.disk last.pairs ++ gone
 
-      before_last : (b : ℕ) → count b kept + count b (blocks_ended mid index goes) ≡ count b (blocks_of x.more ++ used_blocks t.disk t.pairs)
+      before_last : (b : ℕ) → count b kept + count b (blocks_dropped_at_move_end mid index goes) ≡ count b (blocks_of_pairs x.more ++ used_blocks t.disk t.pairs)
       before_last b =
           let a = e.blocks b in
           let c = ap (λ z. count b (used_blocks mid.disk z)) x.pairs in
           let d = set_count t.disk wo o lo u ro w p l (target_slots target) v r k.setting sync mid.disk x.q x.more x.turned b in
           let f = ap (λ z. count b (used_blocks t.disk z)) k.turn.there in
-          let g = count_append b (blocks_of x.more) (used_blocks t.disk t.pairs) in
+          let g = count_append b (blocks_of_pairs x.more) (used_blocks t.disk t.pairs) in
           let h = count_append b (used_blocks last.disk last.pairs) (files_of t.disk (target_slots target)) in
           omega arith
 
-      once_before : (b : ℕ) → count b (blocks_of x.more ++ used_blocks t.disk t.pairs) ≤ 1
+      once_before : (b : ℕ) → count b (blocks_of_pairs x.more ++ used_blocks t.disk t.pairs) ≤ 1
       once_before b =
-          let once = once_from_distinct ((blocks_of x.more ++ []) ++ used_blocks t.disk ps) x.turned.free.distinct b in
-          let c = count_append b (blocks_of x.more ++ []) (used_blocks t.disk ps) in
-          let d = count_append b (blocks_of x.more) [] in
+          let once = once_from_distinct ((blocks_of_pairs x.more ++ []) ++ used_blocks t.disk ps) x.turned.free.distinct b in
+          let c = count_append b (blocks_of_pairs x.more ++ []) (used_blocks t.disk ps) in
+          let d = count_append b (blocks_of_pairs x.more) [] in
           let f = ap (λ z. count b (used_blocks t.disk z)) k.turn.there in
-          let g = count_append b (blocks_of x.more) (used_blocks t.disk t.pairs) in
+          let g = count_append b (blocks_of_pairs x.more) (used_blocks t.disk t.pairs) in
           omega arith
 
       record IsMapOf : Type 0 where
-        used : AreUsed last.map (used_blocks last.disk last.pairs ++ files_of t.disk (target_slots target))
+        used : AreExactlyTheUsedBlocks last.map (used_blocks last.disk last.pairs ++ files_of t.disk (target_slots target))
         size : length last.map ≡ length mid.map
-        flying : SameInFlight mid.map last.map
+        flying : HasSameBlocksInFlight mid.map last.map
 
       map_is : IsMapOf
       map_is = go goes refl
         where
-          were : AreUsed mid.map (blocks_of x.more ++ used_blocks t.disk t.pairs)
+          were : AreExactlyTheUsedBlocks mid.map (blocks_of_pairs x.more ++ used_blocks t.disk t.pairs)
           were = x.used (used_blocks t.disk t.pairs) k.ready.used
 
           go : (b : Bool) → goes ≡ b → IsMapOf
           go false is =
-              let same : last.map ≡ mid.map = e.map ∙ ap (map_ended mid index) is in
+              let same : last.map ≡ mid.map = e.map ∙ ap (map_after_move_ends mid index) is in
               record {
-                used = subst (λ m. AreUsed m kept) (sym same) (used_same mid.map (blocks_of x.more ++ used_blocks t.disk t.pairs) kept
-                    (λ b. let n = before_last b in let g = ap (λ z. count b (blocks_ended mid index z)) is in omega arith) were);
+                used = subst (λ m. AreExactlyTheUsedBlocks m kept) (sym same) (used_same mid.map (blocks_of_pairs x.more ++ used_blocks t.disk t.pairs) kept
+                    (λ b. let n = before_last b in let g = ap (λ z. count b (blocks_dropped_at_move_end mid index z)) is in omega arith) were);
                 size = ap length same;
-                flying = subst (SameInFlight mid.map) (sym same) (λ b. ((λ h. h), (λ h. h)));
+                flying = subst (HasSameBlocksInFlight mid.map) (sym same) (λ b. ((λ h. h), (λ h. h)));
               }
           go true is =
-              let same : last.map ≡ without_pair mid.map (pair_in mid index).at = e.map ∙ ap (map_ended mid index) is in
-              let less : (b : ℕ) → count b kept + count b (two_of (pair_in mid index).at) ≡ count b (blocks_of x.more ++ used_blocks t.disk t.pairs)
-              = λ b. ap (λ z. count b kept + count b (blocks_ended mid index z)) (sym is) ∙ before_last b in
+              let same : last.map ≡ map_with_freed_pair mid.map (kept_pair_at_index mid index).at = e.map ∙ ap (map_after_move_ends mid index) is in
+              let less : (b : ℕ) → count b kept + count b (blocks_of_address (kept_pair_at_index mid index).at) ≡ count b (blocks_of_pairs x.more ++ used_blocks t.disk t.pairs)
+              = λ b. ap (λ z. count b kept + count b (blocks_dropped_at_move_end mid index z)) (sym is) ∙ before_last b in
               record {
-                used = subst (λ m. AreUsed m kept) (sym same) (used_fewer mid.map (pair_in mid index).at (blocks_of x.more ++ used_blocks t.disk t.pairs) kept were once_before less);
-                size = ap length same ∙ length_fewer mid.map (pair_in mid index).at (blocks_of x.more ++ used_blocks t.disk t.pairs) kept were once_before less;
-                flying = subst (SameInFlight mid.map) (sym same) (flying_same mid.map (pair_in mid index).at (blocks_of x.more ++ used_blocks t.disk t.pairs) kept were once_before less);
+                used = subst (λ m. AreExactlyTheUsedBlocks m kept) (sym same) (used_fewer mid.map (kept_pair_at_index mid index).at (blocks_of_pairs x.more ++ used_blocks t.disk t.pairs) kept were once_before less);
+                size = ap length same ∙ length_fewer mid.map (kept_pair_at_index mid index).at (blocks_of_pairs x.more ++ used_blocks t.disk t.pairs) kept were once_before less;
+                flying = subst (HasSameBlocksInFlight mid.map) (sym same) (flying_same mid.map (kept_pair_at_index mid index).at (blocks_of_pairs x.more ++ used_blocks t.disk t.pairs) kept were once_before less);
               }
 
       pub rename_once : (b : ℕ) → count b (used_blocks last.disk last.pairs) + count b (files_of t.disk (target_slots target)) ≤ 1
@@ -466,23 +466,23 @@ module _ (t : Kept) (sync : Bool) (old_pair : ℕ) (goes : Bool) (new_pair : ℕ
           let h = count_append b (used_blocks last.disk last.pairs) (files_of t.disk (target_slots target)) in
           omega arith
 
-      pub last_used : AreUsed last.map (used_blocks last.disk last.pairs ++ files_of t.disk (target_slots target))
+      pub last_used : AreExactlyTheUsedBlocks last.map (used_blocks last.disk last.pairs ++ files_of t.disk (target_slots target))
       last_used = map_is.used
 
       pub last_size : length last.map ≡ block_count last.disk
       last_size = map_is.size ∙ x.size ∙ k.ready.size ∙ sym x.shape.count ∙ sym e.shape.count
 
-      pub last_flying : SameInFlight t.map last.map
+      pub last_flying : HasSameBlocksInFlight t.map last.map
       last_flying b = (
         (λ h. x.none_comes b ((map_is.flying b).0 h)),
         (λ h. (map_is.flying b).1 (x.stays b (λ free. absurd (let z : Some InFlight ≡ Some Free = sym h ∙ free in cc)) ∙ h)),
       )
 
       -- the root directory begins where it did
-      pub last_root : KeepsRoot t last
-      last_root = move_end_stays mid last index (length lo) goes mid_ends e ∙ ap superblocks_before mid_is ∙ mid_chain ∙ sym (ap superblocks_before k.turn.there ∙ k.setting.site.chain)
+      pub last_root : KeepsPairCountBeforeRoot t last
+      last_root = move_end_stays mid last index (length lo) goes mid_ends e ∙ ap pair_count_before_root mid_is ∙ mid_chain ∙ sym (ap pair_count_before_root k.turn.there ∙ k.setting.site.chain)
 
-      pub rename_becomes : sync ≡ false → HasShrunk t last (renamed old_path new_path (tree_in t.disk t.pairs)) (files_of t.disk (target_slots target))
+      pub rename_becomes : sync ≡ false → ShowsTreeAfterDrops t last (renamed old_path new_path (tree_on_disk t.disk t.pairs)) (files_of t.disk (target_slots target))
       rename_becomes plain = record {
         ready = record {
           accepted = e.taken.follows.accepted;

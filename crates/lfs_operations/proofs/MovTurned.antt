@@ -6,15 +6,15 @@ use Rattle.std.proofs.lemmas.Option.{same_Some}
 use Rattle.std.proofs.lemmas.List.{take-append-drop}
 use Rattle.std.proofs.lemmas.List.Elements.{All-from_recursion, recursion_from_All}
 use Rattle.lfs_model.specs.Blocks.{Blocks}
-use Rattle.lfs_model.specs.BlockSets.{AreUsed, BlockSets, IsFree, IsInFlight}
-use Rattle.lfs_model.specs.Changes.{Change}
-use Rattle.lfs_model.specs.Content.{content_at, holder_at}
-use Rattle.lfs_model.specs.Disk.{Disk, block_at, block_count, SameGeometry}
+use Rattle.lfs_model.specs.BlockSets.{AreExactlyTheUsedBlocks, BlockStateList, IsFree, IsInFlight}
+use Rattle.lfs_model.specs.Changes.{ContentChange}
+use Rattle.lfs_model.specs.Content.{content_of_pair_at, current_block_of_pair_at}
+use Rattle.lfs_model.specs.Disk.{Disk, block_bytes_on_disk, block_count, SameGeometry}
 use Rattle.lfs_model.specs.PowerLoss.{with_blocks}
-use Rattle.lfs_model.specs.Slots.{Slot, Content, Gstate, FitsPair, gstate_xor}
-use Rattle.lfs_model.specs.SlotEdits.{with_slots}
-use Rattle.lfs_model.specs.Thread.{Pair, blocks_of, gstate_of}
-use Rattle.lfs_model.specs.View.{BeginsWithEntry, superblock_entry, IsAccepted}
+use Rattle.lfs_model.specs.Slots.{Slot, Content, Gstate, IsContentFittingPair, gstate_xor}
+use Rattle.lfs_model.specs.SlotEdits.{pair_with_slots}
+use Rattle.lfs_model.specs.Thread.{Pair, blocks_of_pairs, gstate_of}
+use Rattle.lfs_model.specs.View.{BeginsWithLogEntry, superblock_name_log_entry, IsAcceptedImage}
 use Rattle.lfs_model.specs.Shown.{used_blocks}
 use Rattle.lfs_model.proofs.Became.{fits_same}
 use Rattle.lfs_model.proofs.Counts.{Each, each_right, count, once_from_distinct, distinct_from_once}
@@ -22,12 +22,12 @@ use Rattle.lfs_model.proofs.Global.{gstate_cons, gstate_left, gstate_right}
 use Rattle.lfs_model.proofs.Sites.{Site, thread_at, IsSite}
 use Rattle.lfs_model.proofs.Splices.{IsDevice}
 use Rattle.lfs_model.proofs.Unchanged.{HasFirst}
-use Rattle.lfs_pair.specs.Commit.{OutsideKeeps}
-use Rattle.lfs_pair.specs.Split.{OutsideBothKeeps}
+use Rattle.lfs_pair.specs.Commit.{KeepsBlocksOutsidePair}
+use Rattle.lfs_pair.specs.Split.{KeepsBlocksOutsideBothPairs}
 use Rattle.lfs_thread.specs.Kept.{Kept}
-use Rattle.lfs_thread.specs.Steps.{pair_in, no_pair, made_in_thread, with_pair, with_two, AreHalves, HasShape, HasOldContent, IsChanged, IsLeftByChange, IsWrittenAs, SlotsHaveFirst, front_pair, back_pair}
-use Rattle.lfs_operations.specs.Changing.{AreTwoFree, IsPairCutInto, IsLeftByPut, IsPut, IsTooLarge}
-use Rattle.lfs_operations.specs.Ready.{NoNewInFlight, StayTaken}
+use Rattle.lfs_thread.specs.Steps.{kept_pair_at_index, no_pair, complete_content_after_changes, pairs_with_content_at_index, pairs_with_one_replaced_by_two, AreBothSplitPartsOnDisk, HasSameGeometry, HasPairOldContentOnDisk, IsPairChanged, LeavesPairOldOrChanged, IsPairWrittenOnDisk, SlotsBeginWithSuperblock, front_pair_of_split, back_pair_of_split}
+use Rattle.lfs_operations.specs.Changing.{AreTwoFreeBlocks, IsPairSplitInto, IsLeftByStoppedChangeOrSplit, IsPairChangedOrSplit, IsChangedContentTooLarge}
+use Rattle.lfs_operations.specs.Ready.{HasNoNewBlockInFlight, KeepsStatesOfTakenBlocks}
 use Rattle.lfs_operations.proofs.Owning.{length_now, none_comes_now, stay_taken, used_more}
 use Rattle.lfs_operations.proofs.Placing.{IsPlaced, all_apart, device}
 use Rattle.lfs_operations.proofs.Splicing.{AreOn, cut_front, not_used}
@@ -51,7 +51,7 @@ insert_at (x ∷ xs) q zs f =
     let e : suc (length xs) + 1 ≡ suc (length xs + 1) = omega arith in
     ap (λ (n : ℕ). insert (x ∷ (xs ++ q ∷ zs)) n f) e ∙ ap (λ z. x ∷ z) (insert_at xs q zs f)
 
-of_fresh : (sets : BlockSets) (fresh : ℕ × ℕ) → AreTwoFree sets fresh → (b : ℕ) → 1 ≤ count b (fresh.0 ∷ fresh.1 ∷ []) → IsFree sets b
+of_fresh : (sets : BlockStateList) (fresh : ℕ × ℕ) → AreTwoFreeBlocks sets fresh → (b : ℕ) → 1 ≤ count b (fresh.0 ∷ fresh.1 ∷ []) → IsFree sets b
 of_fresh sets fresh two b some = go (nat_eq b fresh.0) (nat_eq b fresh.1) refl refl some
   where
     go : (x y : Bool) → nat_eq b fresh.0 ≡ x → nat_eq b fresh.1 ≡ y → 1 ≤ cond x 1 0 + (cond y 1 0 + 0) → IsFree sets b
@@ -66,20 +66,20 @@ abbrev pub content_with : Pair → List Slot → Gstate → Content
 content_with p slots move = record { slots = slots; tail = p.content.tail; move = move }
 
 -- At the site stands the pair of that number, and the changes give it these slots and that delta.
-pub record IsTurn (t : Kept) (index : ℕ) (changes : List Change) (w : Site) (p : Pair) (slots : List Slot) (move : Gstate) : Type 0 where
-  pub accepted : IsAccepted t.disk t.pairs
+pub record IsTurn (t : Kept) (index : ℕ) (changes : List ContentChange) (w : Site) (p : Pair) (slots : List Slot) (move : Gstate) : Type 0 where
+  pub accepted : IsAcceptedImage t.disk t.pairs
   pub there : t.pairs ≡ thread_at w (p ∷ [])
   pub place : index ≡ length w.chain + length (w.before ++ w.left)
   pub site : IsSite w (p ∷ [])
-  pub made : made_in_thread t index changes ≡ Some (content_with p slots move)
-  pub first : HasFirst p.content.slots → SlotsHaveFirst slots
+  pub made : complete_content_after_changes t index changes ≡ Some (content_with p slots move)
+  pub first : HasFirst p.content.slots → SlotsBeginWithSuperblock slots
 
 -- the map knows each block that the image uses
 pub record IsMapped (t : Kept) : Type 0 where
   pub apart : (b : ℕ) → IsFree t.map b → count b (used_blocks t.disk t.pairs) ≡ 0
   pub size : length t.map ≡ block_count t.disk
 
-pub mapped : (t : Kept) → AreUsed t.map (used_blocks t.disk t.pairs) → length t.map ≡ block_count t.disk → IsMapped t
+pub mapped : (t : Kept) → AreExactlyTheUsedBlocks t.map (used_blocks t.disk t.pairs) → length t.map ≡ block_count t.disk → IsMapped t
 mapped t used size = record { apart = λ b free. not_used t.map (used_blocks t.disk t.pairs) used b free; size = size }
 
 pub record TurnedOn (t : Kept) (w : Site) (p : Pair) (slots : List Slot) (move : Gstate) (disk : Disk) : Type 0 where
@@ -93,22 +93,22 @@ pub record TurnedTo (t : Kept) (w : Site) (p : Pair) (slots : List Slot) (move :
   pub more : List Pair
   pub turned : HasTurned t.disk w p slots move new.disk q more
   pub pairs : new.pairs ≡ thread_at w (q ∷ more)
-  pub used : (owned : List ℕ) → AreUsed t.map owned → AreUsed new.map (blocks_of more ++ owned)
+  pub used : (owned : List ℕ) → AreExactlyTheUsedBlocks t.map owned → AreExactlyTheUsedBlocks new.map (blocks_of_pairs more ++ owned)
   pub size : length new.map ≡ length t.map
-  pub shape : HasShape t.disk new.disk
-  pub stays : StayTaken t.map new.map
-  pub none_comes : NoNewInFlight t.map new.map
-  pub fresh : (b : ℕ) → 1 ≤ count b (blocks_of more) → IsFree t.map b
+  pub shape : HasSameGeometry t.disk new.disk
+  pub stays : KeepsStatesOfTakenBlocks t.map new.map
+  pub none_comes : HasNoNewBlockInFlight t.map new.map
+  pub fresh : (b : ℕ) → 1 ≤ count b (blocks_of_pairs more) → IsFree t.map b
 
 -- the pair alone, as what a change of it comes to
 pub record ChangedOne (t : Kept) (index : ℕ) (w : Site) (p : Pair) (slots : List Slot) (move : Gstate) (new : Kept) : Type 0 where
   pub turned : HasTurned t.disk w p slots move new.disk (record { at = p.at; content = content_with p slots move }) []
   pub pairs : new.pairs ≡ thread_at w (record { at = p.at; content = content_with p slots move } ∷ [])
-  pub is : new.pairs ≡ with_pair t index (content_with p slots move)
+  pub is : new.pairs ≡ pairs_with_content_at_index t index (content_with p slots move)
   pub map : new.map ≡ t.map
-  pub shape : HasShape t.disk new.disk
+  pub shape : HasSameGeometry t.disk new.disk
 
-module _ (t : Kept) (index : ℕ) (changes : List Change) (w : Site) (p : Pair) (slots : List Slot) (move : Gstate) (k : IsTurn t index changes w p slots move) where
+module _ (t : Kept) (index : ℕ) (changes : List ContentChange) (w : Site) (p : Pair) (slots : List Slot) (move : Gstate) (k : IsTurn t index changes w p slots move) where
   abbrev ps : List Pair
   ps = thread_at w (p ∷ [])
 
@@ -121,8 +121,8 @@ module _ (t : Kept) (index : ℕ) (changes : List Change) (w : Site) (p : Pair) 
   abbrev c : Content
   c = content_with p slots move
 
-  pub accepted : IsAccepted t.disk ps
-  accepted = subst (IsAccepted t.disk) k.there k.accepted
+  pub accepted : IsAcceptedImage t.disk ps
+  accepted = subst (IsAcceptedImage t.disk) k.there k.accepted
 
   grouped : (q : Pair) (more : List Pair) → thread_at w (q ∷ more) ≡ ahead ++ q ∷ (more ++ behind)
   grouped q more = sym (append_assoc w.chain (w.before ++ w.left) (q ∷ (more ++ behind)))
@@ -130,65 +130,65 @@ module _ (t : Kept) (index : ℕ) (changes : List Change) (w : Site) (p : Pair) 
   place_is : index ≡ length ahead
   place_is = k.place ∙ sym (length-append w.chain (w.before ++ w.left))
 
-  pub pair_is : pair_in t index ≡ p
+  pub pair_is : kept_pair_at_index t index ≡ p
   pair_is = ap₂ (λ (z : List Pair) (i : ℕ). get_or z i no_pair) (k.there ∙ grouped p []) place_is ∙ get_at ahead p behind no_pair
 
-  at_is : (pair_in t index).at ≡ p.at
+  at_is : (kept_pair_at_index t index).at ≡ p.at
   at_is = ap (λ (z : Pair). z.at) pair_is
 
-  one_now : (c : Content) → with_pair t index c ≡ thread_at w (record { at = p.at; content = c } ∷ [])
+  one_now : (c : Content) → pairs_with_content_at_index t index c ≡ thread_at w (record { at = p.at; content = c } ∷ [])
   one_now c =
       let q : Pair = record { at = p.at; content = c } in
       ap (λ (z : Pair). set t.pairs index (record { at = z.at; content = c })) pair_is
       ∙ ap₂ (λ (z : List Pair) (i : ℕ). set z i q) (k.there ∙ grouped p []) place_is ∙ set_at ahead p behind q ∙ sym (grouped q [])
 
-  two_now : (q f : Pair) → with_two t.pairs index q f ≡ thread_at w (q ∷ f ∷ [])
+  two_now : (q f : Pair) → pairs_with_one_replaced_by_two t.pairs index q f ≡ thread_at w (q ∷ f ∷ [])
   two_now q f =
       ap₂ (λ (z : List Pair) (i : ℕ). insert (set z i q) (i + 1) f) (k.there ∙ grouped p []) place_is
       ∙ ap (λ (z : List Pair). insert z (length ahead + 1) f) (set_at ahead p behind q) ∙ insert_at ahead q behind f ∙ sym (grouped q (f ∷ []))
 
-  front_has : (cut : ℕ) → 0 < cut → HasFirst p.content.slots → SlotsHaveFirst (take cut slots)
+  front_has : (cut : ℕ) → 0 < cut → HasFirst p.content.slots → SlotsBeginWithSuperblock (take cut slots)
   front_has cut some h = go cut some slots (k.first h)
     where
-      go : (cut : ℕ) → 0 < cut → (slots : List Slot) → SlotsHaveFirst slots → SlotsHaveFirst (take cut slots)
+      go : (cut : ℕ) → 0 < cut → (slots : List Slot) → SlotsBeginWithSuperblock slots → SlotsBeginWithSuperblock (take cut slots)
       go zero some slots e = absurd (omega arith)
       go (suc cut) some [] e = e
       go (suc cut) some (s ∷ slots) e = e
 
   -- ---- on the disk
 
-  shape_same : {disk : Disk} → HasShape t.disk disk → SameGeometry t.disk disk
+  shape_same : {disk : Disk} → HasSameGeometry t.disk disk → SameGeometry t.disk disk
   shape_same s = record { block_size = s.block_size; page = s.page; order = s.order; count = s.count }
 
-  same_two : (disk : Disk) → OutsideKeeps p.at t.disk.blocks disk.blocks → (b : ℕ) → count b (blocks_of (p ∷ [])) ≡ 0 → block_at disk b ≡ block_at t.disk b
+  same_two : (disk : Disk) → KeepsBlocksOutsidePair p.at t.disk.blocks disk.blocks → (b : ℕ) → count b (blocks_of_pairs (p ∷ [])) ≡ 0 → block_bytes_on_disk disk b ≡ block_bytes_on_disk t.disk b
   same_two disk others b none = others.others b (all_apart (p.at.0 ∷ p.at.1 ∷ []) b none)
 
-  same_four : (disk : Disk) (fresh : ℕ × ℕ) → OutsideBothKeeps p.at fresh t.disk.blocks disk.blocks → (b : ℕ) → count b (fresh.0 ∷ fresh.1 ∷ blocks_of (p ∷ [])) ≡ 0 → block_at disk b ≡ block_at t.disk b
+  same_four : (disk : Disk) (fresh : ℕ × ℕ) → KeepsBlocksOutsideBothPairs p.at fresh t.disk.blocks disk.blocks → (b : ℕ) → count b (fresh.0 ∷ fresh.1 ∷ blocks_of_pairs (p ∷ [])) ≡ 0 → block_bytes_on_disk disk b ≡ block_bytes_on_disk t.disk b
   same_four disk fresh others b none = others.others b (all_apart (p.at.0 ∷ p.at.1 ∷ fresh.0 ∷ fresh.1 ∷ []) b (omega arith))
 
-  placed_one : (disk : Disk) (c : Content) → (HasFirst p.content.slots → SlotsHaveFirst c.slots) → IsWrittenAs t index c disk → IsPlaced t.disk disk p (record { at = p.at; content = c }) [] []
+  placed_one : (disk : Disk) (c : Content) → (HasFirst p.content.slots → SlotsBeginWithSuperblock c.slots) → IsPairWrittenOnDisk t index c disk → IsPlaced t.disk disk p (record { at = p.at; content = c }) [] []
   placed_one disk c first is = record {
     geometry = shape_same is.shape;
-    same = same_two disk (subst (λ at. OutsideKeeps at t.disk.blocks disk.blocks) at_is is.others);
-    contents = (ap (content_at disk) (sym at_is) ∙ is.holds, tt);
-    first = λ h b. subst (λ at. BeginsWithEntry (holder_at disk at) superblock_entry) at_is (is.first (subst (λ at. BeginsWithEntry (holder_at t.disk at) superblock_entry) (sym at_is) b) (first h));
+    same = same_two disk (subst (λ at. KeepsBlocksOutsidePair at t.disk.blocks disk.blocks) at_is is.others);
+    contents = (ap (content_of_pair_at disk) (sym at_is) ∙ is.holds, tt);
+    first = λ h b. subst (λ at. BeginsWithLogEntry (current_block_of_pair_at disk at) superblock_name_log_entry) at_is (is.first (subst (λ at. BeginsWithLogEntry (current_block_of_pair_at t.disk at) superblock_name_log_entry) (sym at_is) b) (first h));
   }
 
-  placed_still : (disk : Disk) (fresh : ℕ × ℕ) → HasShape t.disk disk → OutsideBothKeeps (pair_in t index).at fresh t.disk.blocks disk.blocks → HasOldContent t index disk → IsPlaced t.disk disk p p [] (fresh.0 ∷ fresh.1 ∷ [])
+  placed_still : (disk : Disk) (fresh : ℕ × ℕ) → HasSameGeometry t.disk disk → KeepsBlocksOutsideBothPairs (kept_pair_at_index t index).at fresh t.disk.blocks disk.blocks → HasPairOldContentOnDisk t index disk → IsPlaced t.disk disk p p [] (fresh.0 ∷ fresh.1 ∷ [])
   placed_still disk fresh shape others is = record {
     geometry = shape_same shape;
-    same = same_four disk fresh (subst (λ at. OutsideBothKeeps at fresh t.disk.blocks disk.blocks) at_is others);
-    contents = (subst (λ (z : Pair). content_at disk z.at ≡ Some z.content) pair_is is.holds, tt);
-    first = λ h b. subst (λ at. BeginsWithEntry (holder_at disk at) superblock_entry) at_is (is.first (subst (λ at. BeginsWithEntry (holder_at t.disk at) superblock_entry) (sym at_is) b));
+    same = same_four disk fresh (subst (λ at. KeepsBlocksOutsideBothPairs at fresh t.disk.blocks disk.blocks) at_is others);
+    contents = (subst (λ (z : Pair). content_of_pair_at disk z.at ≡ Some z.content) pair_is is.holds, tt);
+    first = λ h b. subst (λ at. BeginsWithLogEntry (current_block_of_pair_at disk at) superblock_name_log_entry) at_is (is.first (subst (λ at. BeginsWithLogEntry (current_block_of_pair_at t.disk at) superblock_name_log_entry) (sym at_is) b));
   }
 
-  placed_two : (disk : Disk) (fresh : ℕ × ℕ) (cut : ℕ) → 0 < cut → AreOn t index c disk fresh cut → IsPlaced t.disk disk p (cut_front p.at c cut fresh) (back_pair c cut fresh ∷ []) (fresh.0 ∷ fresh.1 ∷ [])
+  placed_two : (disk : Disk) (fresh : ℕ × ℕ) (cut : ℕ) → 0 < cut → AreOn t index c disk fresh cut → IsPlaced t.disk disk p (cut_front p.at c cut fresh) (back_pair_of_split c cut fresh ∷ []) (fresh.0 ∷ fresh.1 ∷ [])
   placed_two disk fresh cut some is = record {
     geometry = shape_same is.shape;
-    same = same_four disk fresh (subst (λ at. OutsideBothKeeps at fresh t.disk.blocks disk.blocks) at_is is.others);
-    contents = (ap (content_at disk) (sym at_is) ∙ is.front, (is.back, tt));
-    first = λ h b. subst (λ at. BeginsWithEntry (holder_at disk at) superblock_entry) at_is
-        (is.parts.first (subst (λ at. BeginsWithEntry (holder_at t.disk at) superblock_entry) (sym at_is) b) (front_has cut some h));
+    same = same_four disk fresh (subst (λ at. KeepsBlocksOutsideBothPairs at fresh t.disk.blocks disk.blocks) at_is is.others);
+    contents = (ap (content_of_pair_at disk) (sym at_is) ∙ is.front, (is.back, tt));
+    first = λ h b. subst (λ at. BeginsWithLogEntry (current_block_of_pair_at disk at) superblock_name_log_entry) at_is
+        (is.parts.first (subst (λ at. BeginsWithLogEntry (current_block_of_pair_at t.disk at) superblock_name_log_entry) (sym at_is) b) (front_has cut some h));
   }
 
   -- ---- free blocks
@@ -196,7 +196,7 @@ module _ (t : Kept) (index : ℕ) (changes : List Change) (w : Site) (p : Pair) 
   free_apart : IsMapped t → (b : ℕ) → IsFree t.map b → count b (used_blocks t.disk ps) ≡ 0
   free_apart m b free = ap (λ z. count b (used_blocks t.disk z)) (sym k.there) ∙ m.apart b free
 
-  all_distinct : IsMapped t → (fresh : ℕ × ℕ) → AreTwoFree t.map fresh → IsDistinct nat_eq (fresh.0 ∷ fresh.1 ∷ used_blocks t.disk ps)
+  all_distinct : IsMapped t → (fresh : ℕ × ℕ) → AreTwoFreeBlocks t.map fresh → IsDistinct nat_eq (fresh.0 ∷ fresh.1 ∷ used_blocks t.disk ps)
   all_distinct m fresh two = distinct_from_once (fresh.0 ∷ fresh.1 ∷ used_blocks t.disk ps) (λ b. go b (nat_eq b fresh.0) (nat_eq b fresh.1) refl refl)
     where
       go : (b : ℕ) (x y : Bool) → nat_eq b fresh.0 ≡ x → nat_eq b fresh.1 ≡ y → cond x 1 0 + (cond y 1 0 + count b (used_blocks t.disk ps)) ≤ 1
@@ -205,29 +205,29 @@ module _ (t : Kept) (index : ℕ) (changes : List Change) (w : Site) (p : Pair) 
       go b true false e f = let n = free_apart m b (subst (IsFree t.map) (sym (eqb-true b fresh.0 e)) two.first) in omega arith
       go b false true e f = let n = free_apart m b (subst (IsFree t.map) (sym (eqb-true b fresh.1 f)) two.second) in omega arith
 
-  fresh_range : IsMapped t → (fresh : ℕ × ℕ) → AreTwoFree t.map fresh → Each (λ b. b < block_count t.disk) (fresh.0 ∷ fresh.1 ∷ [])
+  fresh_range : IsMapped t → (fresh : ℕ × ℕ) → AreTwoFreeBlocks t.map fresh → Each (λ b. b < block_count t.disk) (fresh.0 ∷ fresh.1 ∷ [])
   fresh_range m fresh two = let e = m.size in let f = within t.map fresh.0 Free two.first in let g = within t.map fresh.1 Free two.second in (omega arith, (omega arith, tt))
 
   -- ---- what it comes to
 
-  turned_one : (disk : Disk) → IsWrittenAs t index c disk → FitsPair t.disk.block_size t.disk.page c → HasTurned t.disk w p slots move disk (record { at = p.at; content = c }) []
+  turned_one : (disk : Disk) → IsPairWrittenOnDisk t index c disk → IsContentFittingPair t.disk.block_size t.disk.page c → HasTurned t.disk w p slots move disk (record { at = p.at; content = c }) []
   turned_one disk is fits = record {
     at = refl;
     delta = gstate_cons (record { at = p.at; content = c }) [] ∙ gstate_right move;
     is = append-nil slots;
-    became = (refl, fits_same t.disk (record { at = p.at; content = c }) (with_slots slots p) refl fits);
+    became = (refl, fits_same t.disk (record { at = p.at; content = c }) (pair_with_slots slots p) refl fits);
     device = device t.disk disk w p (record { at = p.at; content = c }) [] [] accepted accepted.owned_once (placed_one disk c k.first is);
     free = record { distinct = accepted.owned_once; in_range = All-from_recursion (λ b. b < block_count t.disk) [] tt };
     same = (placed_one disk c k.first is).same;
   }
 
-  turned_two : IsMapped t → (disk : Disk) (fresh : ℕ × ℕ) (cut : ℕ) → AreTwoFree t.map fresh → (FitsPair t.disk.block_size t.disk.page c → ⊥) → AreOn t index c disk fresh cut
-      → HasTurned t.disk w p slots move disk (cut_front p.at c cut fresh) (back_pair c cut fresh ∷ [])
+  turned_two : IsMapped t → (disk : Disk) (fresh : ℕ × ℕ) (cut : ℕ) → AreTwoFreeBlocks t.map fresh → (IsContentFittingPair t.disk.block_size t.disk.page c → ⊥) → AreOn t index c disk fresh cut
+      → HasTurned t.disk w p slots move disk (cut_front p.at c cut fresh) (back_pair_of_split c cut fresh ∷ [])
   turned_two m disk fresh cut two large is = record {
     at = refl;
     delta = gstate_cons front (back ∷ []) ∙ ap (gstate_xor move) (gstate_cons back [] ∙ gstate_left (gstate_of [])) ∙ gstate_right move;
     is = ap (λ z. take cut slots ++ z) (append-nil (drop cut slots)) ∙ take-append-drop cut slots;
-    became = (refl, refl, (λ fits. large (fits_same t.disk (with_slots slots p) (record { at = p.at; content = c }) refl fits)), is.parts.front_fits, is.parts.back_fits);
+    became = (refl, refl, (λ fits. large (fits_same t.disk (pair_with_slots slots p) (record { at = p.at; content = c }) refl fits)), is.parts.front_fits, is.parts.back_fits);
     device = device t.disk disk w p front (back ∷ []) (fresh.0 ∷ fresh.1 ∷ []) accepted (all_distinct m fresh two) (placed_two disk fresh cut (is.parts.inside large).0 is);
     free = record {
       distinct = all_distinct m fresh two;
@@ -240,26 +240,26 @@ module _ (t : Kept) (index : ℕ) (changes : List Change) (w : Site) (p : Pair) 
       front = cut_front p.at (content_with p slots move) cut fresh
 
       back : Pair
-      back = back_pair (content_with p slots move) cut fresh
+      back = back_pair_of_split (content_with p slots move) cut fresh
 
-  made_same : (d : Content) → made_in_thread t index changes ≡ Some d → d ≡ c
+  made_same : (d : Content) → complete_content_after_changes t index changes ≡ Some d → d ≡ c
   made_same d m = same_Some d c (sym m ∙ k.made)
 
-  too_large : IsTooLarge t index changes → FitsPair t.disk.block_size t.disk.page c → ⊥
-  too_large large = subst (λ d. FitsPair t.disk.block_size t.disk.page d → ⊥) (made_same large.0 large.1.0) large.1.1
+  too_large : IsChangedContentTooLarge t index changes → IsContentFittingPair t.disk.block_size t.disk.page c → ⊥
+  too_large large = subst (λ d. IsContentFittingPair t.disk.block_size t.disk.page d → ⊥) (made_same large.0 large.1.0) large.1.1
 
-  pub changed_one : (new : Kept) → IsChanged t index changes new → ChangedOne t index w p slots move new
+  pub changed_one : (new : Kept) → IsPairChanged t index changes new → ChangedOne t index w p slots move new
   changed_one new is =
       let same = made_same is.content is.made in
       record {
-        turned = turned_one new.disk (subst (λ d. IsWrittenAs t index d new.disk) same is.written) (subst (FitsPair t.disk.block_size t.disk.page) same is.fits);
+        turned = turned_one new.disk (subst (λ d. IsPairWrittenOnDisk t index d new.disk) same is.written) (subst (IsContentFittingPair t.disk.block_size t.disk.page) same is.fits);
         pairs = is.pairs ∙ one_now is.content ∙ ap (λ d. thread_at w (record { at = p.at; content = d } ∷ [])) same;
-        is = is.pairs ∙ ap (λ d. with_pair t index d) same;
+        is = is.pairs ∙ ap (λ d. pairs_with_content_at_index t index d) same;
         map = is.map;
         shape = is.written.shape;
       }
 
-  changed_turned : (new : Kept) → IsChanged t index changes new → TurnedTo t w p slots move new
+  changed_turned : (new : Kept) → IsPairChanged t index changes new → TurnedTo t w p slots move new
   changed_turned new is =
       let x = changed_one new is in
       record {
@@ -267,7 +267,7 @@ module _ (t : Kept) (index : ℕ) (changes : List Change) (w : Site) (p : Pair) 
         more = [];
         turned = x.turned;
         pairs = x.pairs;
-        used = λ owned h. subst (λ m. AreUsed m owned) (sym is.map) h;
+        used = λ owned h. subst (λ m. AreExactlyTheUsedBlocks m owned) (sym is.map) h;
         size = ap length is.map;
         shape = is.written.shape;
         stays = λ b taken. ap (λ m. slice_get m b) is.map;
@@ -275,24 +275,24 @@ module _ (t : Kept) (index : ℕ) (changes : List Change) (w : Site) (p : Pair) 
         fresh = λ b some. absurd (omega arith);
       }
 
-  cut_turned : IsMapped t → (new : Kept) (fresh : ℕ × ℕ) → IsTooLarge t index changes → IsPairCutInto t index fresh changes new → TurnedTo t w p slots move new
+  cut_turned : IsMapped t → (new : Kept) (fresh : ℕ × ℕ) → IsChangedContentTooLarge t index changes → IsPairSplitInto t index fresh changes new → TurnedTo t w p slots move new
   cut_turned m new fresh large is =
       let same = made_same is.content is.made in
-      let there : new.pairs ≡ thread_at w (front_pair t index is.content is.cut fresh ∷ back_pair is.content is.cut fresh ∷ [])
-      = is.pairs ∙ two_now (front_pair t index is.content is.cut fresh) (back_pair is.content is.cut fresh) in
-      let held = recursion_from_All (λ (x : Pair). content_at new.disk x.at ≡ Some x.content) (thread_at w (front_pair t index is.content is.cut fresh ∷ back_pair is.content is.cut fresh ∷ []))
-      (subst (All (λ (x : Pair). content_at new.disk x.at ≡ Some x.content)) there is.thread.contents) in
-      let here = each_right (λ (x : Pair). content_at new.disk x.at ≡ Some x.content) (w.before ++ w.left) (front_pair t index is.content is.cut fresh ∷ back_pair is.content is.cut fresh ∷ [] ++ (w.right ++ w.after))
-      (each_right (λ (x : Pair). content_at new.disk x.at ≡ Some x.content) w.chain ((w.before ++ w.left) ++ (front_pair t index is.content is.cut fresh ∷ back_pair is.content is.cut fresh ∷ [] ++ (w.right ++ w.after))) held) in
+      let there : new.pairs ≡ thread_at w (front_pair_of_split t index is.content is.cut fresh ∷ back_pair_of_split is.content is.cut fresh ∷ [])
+      = is.pairs ∙ two_now (front_pair_of_split t index is.content is.cut fresh) (back_pair_of_split is.content is.cut fresh) in
+      let held = recursion_from_All (λ (x : Pair). content_of_pair_at new.disk x.at ≡ Some x.content) (thread_at w (front_pair_of_split t index is.content is.cut fresh ∷ back_pair_of_split is.content is.cut fresh ∷ []))
+      (subst (All (λ (x : Pair). content_of_pair_at new.disk x.at ≡ Some x.content)) there is.thread.contents) in
+      let here = each_right (λ (x : Pair). content_of_pair_at new.disk x.at ≡ Some x.content) (w.before ++ w.left) (front_pair_of_split t index is.content is.cut fresh ∷ back_pair_of_split is.content is.cut fresh ∷ [] ++ (w.right ++ w.after))
+      (each_right (λ (x : Pair). content_of_pair_at new.disk x.at ≡ Some x.content) w.chain ((w.before ++ w.left) ++ (front_pair_of_split t index is.content is.cut fresh ∷ back_pair_of_split is.content is.cut fresh ∷ [] ++ (w.right ++ w.after))) held) in
       let on = subst (λ d. AreOn t index d new.disk fresh is.cut) same (record { shape = is.shape; others = is.others; front = here.0; back = here.1.0; parts = is.parts }) in
-      let f = back_pair c is.cut fresh in
+      let f = back_pair_of_split c is.cut fresh in
       record {
         q = cut_front p.at c is.cut fresh;
         more = f ∷ [];
         turned = turned_two m new.disk fresh is.cut is.free (too_large large) on;
-        pairs = there ∙ ap (λ d. thread_at w (front_pair t index d is.cut fresh ∷ back_pair d is.cut fresh ∷ [])) same
+        pairs = there ∙ ap (λ d. thread_at w (front_pair_of_split t index d is.cut fresh ∷ back_pair_of_split d is.cut fresh ∷ [])) same
             ∙ ap (λ at. thread_at w (cut_front at c is.cut fresh ∷ f ∷ [])) at_is;
-        used = λ owned h. subst (λ m. AreUsed m (fresh.0 ∷ fresh.1 ∷ owned)) (sym is.map) (used_more t.map fresh is.free owned (fresh.0 ∷ fresh.1 ∷ owned) (λ b. omega arith) h);
+        used = λ owned h. subst (λ m. AreExactlyTheUsedBlocks m (fresh.0 ∷ fresh.1 ∷ owned)) (sym is.map) (used_more t.map fresh is.free owned (fresh.0 ∷ fresh.1 ∷ owned) (λ b. omega arith) h);
         size = ap length is.map ∙ length_now t.map fresh is.free;
         shape = is.shape;
         stays = λ b taken. ap (λ m. slice_get m b) is.map ∙ stay_taken t.map fresh is.free b taken;
@@ -300,7 +300,7 @@ module _ (t : Kept) (index : ℕ) (changes : List Change) (w : Site) (p : Pair) 
         fresh = λ b some. of_fresh t.map fresh is.free b some;
       }
 
-  pub put_turned : IsMapped t → (new : Kept) → IsPut t index changes new → TurnedTo t w p slots move new
+  pub put_turned : IsMapped t → (new : Kept) → IsPairChangedOrSplit t index changes new → TurnedTo t w p slots move new
   put_turned m new (inl is) = changed_turned new is
   put_turned m new (inr (large, (fresh, is))) = cut_turned m new fresh large is
 
@@ -309,39 +309,39 @@ module _ (t : Kept) (index : ℕ) (changes : List Change) (w : Site) (p : Pair) 
   abbrev pub Stays : Disk → Type 0
   Stays disk = IsDevice t.disk disk (thread_at w (p ∷ [])) (thread_at w (p ∷ []))
 
-  shape_of : (left : Blocks) → length left ≡ length t.disk.blocks → HasShape t.disk (with_blocks left t.disk)
+  shape_of : (left : Blocks) → length left ≡ length t.disk.blocks → HasSameGeometry t.disk (with_blocks left t.disk)
   shape_of left e = record { block_size = refl; page = refl; order = refl; count = e }
 
-  pub left_alone : (left : Blocks) → IsLeftByChange t index changes left
+  pub left_alone : (left : Blocks) → LeavesPairOldOrChanged t index changes left
       → Stays (with_blocks left t.disk) ⊎ HasTurned t.disk w p slots move (with_blocks left t.disk) (record { at = p.at; content = content_with p slots move }) []
   left_alone left is = go is.is
     where
-      go : (is.content ≡ (pair_in t index).content) ⊎ ((made_in_thread t index changes ≡ Some is.content) × FitsPair t.disk.block_size t.disk.page is.content)
+      go : (is.content ≡ (kept_pair_at_index t index).content) ⊎ ((complete_content_after_changes t index changes ≡ Some is.content) × IsContentFittingPair t.disk.block_size t.disk.page is.content)
           → Stays (with_blocks left t.disk) ⊎ HasTurned t.disk w p slots move (with_blocks left t.disk) (record { at = p.at; content = content_with p slots move }) []
       go (inl e) =
           let same = e ∙ ap (λ (z : Pair). z.content) pair_is in
           inl (device t.disk (with_blocks left t.disk) w p p [] [] accepted accepted.owned_once
-          (placed_one (with_blocks left t.disk) p.content (λ h. (h.kind, h.name)) (subst (λ d. IsWrittenAs t index d (with_blocks left t.disk)) same is.written)))
+          (placed_one (with_blocks left t.disk) p.content (λ h. (h.kind, h.name)) (subst (λ d. IsPairWrittenOnDisk t index d (with_blocks left t.disk)) same is.written)))
       go (inr (m, fits)) =
           let same = made_same is.content m in
-          inr (turned_one (with_blocks left t.disk) (subst (λ d. IsWrittenAs t index d (with_blocks left t.disk)) same is.written) (subst (FitsPair t.disk.block_size t.disk.page) same fits))
+          inr (turned_one (with_blocks left t.disk) (subst (λ d. IsPairWrittenOnDisk t index d (with_blocks left t.disk)) same is.written) (subst (IsContentFittingPair t.disk.block_size t.disk.page) same fits))
 
   alone_on : (disk : Disk) → Stays disk ⊎ HasTurned t.disk w p slots move disk (record { at = p.at; content = content_with p slots move }) [] → Stays disk ⊎ TurnedOn t w p slots move disk
   alone_on disk (inl d) = inl d
   alone_on disk (inr x) = inr (record { q = record { at = p.at; content = content_with p slots move }; more = []; turned = x })
 
-  pub left_put : IsMapped t → (left : Blocks) → IsLeftByPut t index changes left → Stays (with_blocks left t.disk) ⊎ TurnedOn t w p slots move (with_blocks left t.disk)
+  pub left_put : IsMapped t → (left : Blocks) → IsLeftByStoppedChangeOrSplit t index changes left → Stays (with_blocks left t.disk) ⊎ TurnedOn t w p slots move (with_blocks left t.disk)
   left_put m left (inl is) = alone_on (with_blocks left t.disk) (left_alone left is)
   left_put m left (inr (large, (fresh, (two, is)))) = go is.content
     where
-      go : HasOldContent t index (with_blocks left t.disk) ⊎ AreHalves t index changes fresh (with_blocks left t.disk) → Stays (with_blocks left t.disk) ⊎ TurnedOn t w p slots move (with_blocks left t.disk)
+      go : HasPairOldContentOnDisk t index (with_blocks left t.disk) ⊎ AreBothSplitPartsOnDisk t index changes fresh (with_blocks left t.disk) → Stays (with_blocks left t.disk) ⊎ TurnedOn t w p slots move (with_blocks left t.disk)
       go (inl b) = inl (device t.disk (with_blocks left t.disk) w p p [] (fresh.0 ∷ fresh.1 ∷ []) accepted (all_distinct m fresh two)
           (placed_still (with_blocks left t.disk) fresh (shape_of left is.others.count) is.others b))
       go (inr h) =
           let same = made_same h.content h.made in
           inr (record {
             q = cut_front p.at (content_with p slots move) h.cut fresh;
-            more = back_pair (content_with p slots move) h.cut fresh ∷ [];
+            more = back_pair_of_split (content_with p slots move) h.cut fresh ∷ [];
             turned = turned_two m (with_blocks left t.disk) fresh h.cut two (too_large large)
                 (subst (λ d. AreOn t index d (with_blocks left t.disk) fresh h.cut) same
                 (record { shape = shape_of left is.others.count; others = is.others; front = h.front; back = h.back; parts = h.parts }));

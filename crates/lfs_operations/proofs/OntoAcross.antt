@@ -4,23 +4,23 @@ use Rattle.std.specs.List.{AllByRecursion, IsDistinct}
 use Rattle.std.specs.Prelude.{Any}
 use Rattle.std.proofs.lemmas.List.Elements.{recursion_from_All}
 use Rattle.std.proofs.lemmas.Option.{same_Some}
-use Rattle.lfs_model.specs.TreeEdits.{last_name, renamed, rest_after, same_path}
+use Rattle.lfs_model.specs.TreeEdits.{last_name_of_path, renamed, path_without_prefix, same_path}
 use Rattle.lfs_model.specs.Blocks.{Blocks}
-use Rattle.lfs_model.specs.Changes.{Change}
-use Rattle.lfs_model.specs.InDirectory.{BeginsAt, HasNameAtPlace}
-use Rattle.lfs_model.specs.Layout.{FitsOnDisk, RemovesDirectory, directory_of, removed_directories}
-use Rattle.lfs_model.specs.LoggedContent.{IsAddress}
+use Rattle.lfs_model.specs.Changes.{ContentChange}
+use Rattle.lfs_model.specs.InDirectory.{IsPairAtAddress, IsPlaceOfNameInDirectory}
+use Rattle.lfs_model.specs.Layout.{FitsPairOnDisk, IsDirectoryUnreachedOrRemoved, directory_addresses_of_slot, addresses_of_removed_directories}
+use Rattle.lfs_model.specs.LoggedContent.{Are32BitPairAddresses}
 use Rattle.lfs_model.specs.Names.{Name}
 use Rattle.lfs_model.specs.Operations as ops
-use Rattle.lfs_model.specs.PowerLoss.{IsLeftByStop as IsLeftOf, with_blocks}
-use Rattle.lfs_model.specs.SlotEdits.{slot_of_path, with_slots}
-use Rattle.lfs_model.specs.Slots.{Branch, Ctz, Inline, Slot, Struct, gstate_xor, no_gstate, same_pair}
-use Rattle.lfs_model.specs.Refusals.{as_path}
-use Rattle.lfs_model.specs.Thread.{IsDirectoryBegin, ThreadDirectory, Pair, anchor, blocks_of, directory_pairs, first_at, gstate_of, is_hard, root_of, superblocks_before}
-use Rattle.lfs_model.specs.Tree.{Path, branch_of, directory_at}
-use Rattle.lfs_model.specs.Profile.{HaveSlots, IsWritable}
-use Rattle.lfs_model.specs.View.{IsAccepted}
-use Rattle.lfs_model.specs.Shown.{IsReached, PathLeadsTo, directories_in, entries_in, tree_in, used_blocks}
+use Rattle.lfs_model.specs.PowerLoss.{ShowsTreeBeforeOrAfter as IsLeftOf, with_blocks}
+use Rattle.lfs_model.specs.SlotEdits.{slot_of_path, pair_with_slots}
+use Rattle.lfs_model.specs.Slots.{Branch, Ctz, Inline, Slot, Struct, gstate_xor, zero_gstate, same_pair}
+use Rattle.lfs_model.specs.Refusals.{path_or_root}
+use Rattle.lfs_model.specs.Thread.{IsDirectoryBegin, ThreadDirectory, Pair, anchor_pair_address, blocks_of_pairs, pairs_of_all_directories, first_pair_address, gstate_of, is_hard_tail, root_directory_of_pairs, pair_count_before_root}
+use Rattle.lfs_model.specs.Tree.{Path, branch_address_of_struct, directory_address_at_path}
+use Rattle.lfs_model.specs.Profile.{HaveSlotsAfterHardTail, IsWritable}
+use Rattle.lfs_model.specs.View.{IsAcceptedImage}
+use Rattle.lfs_model.specs.Shown.{IsDirectoryReached, IsPathToDirectory, directories_in_thread, entries_by_directory_in_thread, tree_on_disk, used_blocks}
 use Rattle.lfs_model.proofs.Alike.{AreAlike, Stood}
 use Rattle.lfs_model.proofs.Changes.{Follows}
 use Rattle.lfs_model.proofs.Committed.{IsCompleted, no_move_from, recovered_from}
@@ -46,14 +46,14 @@ use Rattle.lfs_model.proofs.Superblocks.{IsChain, pairs_behind}
 use Rattle.lfs_model.proofs.Trees.{not_before}
 use Rattle.lfs_model.proofs.TwoPlaces.{OldStays, fits_fewer, from_old, two}
 use Rattle.lfs_thread.specs.Kept.{Kept}
-use Rattle.lfs_thread.specs.Steps.{no_pair, pair_in}
-use Rattle.lfs_operations.specs.Dropping.{CanDropAt, HasDroppedBehind, IsLeftByDrop}
-use Rattle.lfs_operations.specs.Editing.{CanEdit}
+use Rattle.lfs_thread.specs.Steps.{no_pair, kept_pair_at_index}
+use Rattle.lfs_operations.specs.Dropping.{CanDropPairAt, IsNextPairDropped, IsLeftByStoppedDrop}
+use Rattle.lfs_operations.specs.Editing.{CanEditEntryOfPair}
 use Rattle.lfs_operations.specs.MoveEnds.{HasEndedMoveAt, move_of}
-use Rattle.lfs_operations.specs.MovingSteps.{IsPutAndEnded, place_after}
-use Rattle.lfs_operations.specs.MovingAcross.{IsRenamedAcross, with_moved}
-use Rattle.lfs_operations.specs.MovingOnto.{CanReplaceDirectory, IsMovedOnto, onto_changes}
-use Rattle.lfs_operations.specs.Removing.{drops_pair}
+use Rattle.lfs_operations.specs.MovingSteps.{IsSlotPutAndMoveEnded, pair_number_after_insertion}
+use Rattle.lfs_operations.specs.MovingAcross.{IsEntryRenamedAcrossPairs, tree_with_moved_entry}
+use Rattle.lfs_operations.specs.MovingOnto.{CanReplaceDirectoryAcrossPairs, IsEntryReplacedAcrossPairs, replace_entry_across_pairs_changes}
+use Rattle.lfs_operations.specs.Removing.{is_pair_dropped_with_slot}
 use Rattle.lfs_operations.proofs.Held.{below, fits_there}
 use Rattle.lfs_operations.proofs.MovReplace.{is_first, onto_directory}
 use Rattle.lfs_operations.proofs.MovStep.{IsFirst, IsLeftOver, arr, first_turned, last_firsts, last_flying, last_kept, last_root, last_shape, last_size, last_state, last_taken, last_used, left_over}
@@ -78,18 +78,18 @@ somewhere [] o h = absurd h
 somewhere (x ∷ xs) o (inl e) = (0, ap Some e)
 somewhere (x ∷ xs) o (inr h) = let s = somewhere xs o h in (suc s.0, s.1)
 
-pub old_below : (t : Kept) (old_pair old_id first new_pair new_id : ℕ) (name : Name) (gone : ℕ) → CanReplaceDirectory t old_pair old_id first new_pair new_id name gone → old_pair < length t.pairs
+pub old_below : (t : Kept) (old_pair old_id first new_pair new_id : ℕ) (name : Name) (gone : ℕ) → CanReplaceDirectoryAcrossPairs t old_pair old_id first new_pair new_id name gone → old_pair < length t.pairs
 old_below t old_pair old_id first new_pair new_id name gone rename = below t rename.old.ready rename.old.first old_pair rename.old.stands.pair rename.old.stands.rest rename.old.stands.place
 
-pub new_below : (t : Kept) (old_pair old_id first new_pair new_id : ℕ) (name : Name) (gone : ℕ) → CanReplaceDirectory t old_pair old_id first new_pair new_id name gone → new_pair < length t.pairs
+pub new_below : (t : Kept) (old_pair old_id first new_pair new_id : ℕ) (name : Name) (gone : ℕ) → CanReplaceDirectoryAcrossPairs t old_pair old_id first new_pair new_id name gone → new_pair < length t.pairs
 new_below t old_pair old_id first new_pair new_id name gone rename = below t rename.old.ready rename.to_first new_pair rename.target.pair rename.target.rest rename.target.place
 
-module _ (t : Kept) (old_pair old_id first new_pair new_id : ℕ) (name : Name) (gone : ℕ) (rename : CanReplaceDirectory t old_pair old_id first new_pair new_id name gone) (address : IsAddress (pair_in t old_pair).at)
-    (m : Kept) (is : IsPutAndEnded t old_pair old_id (drops_pair t old_pair first) new_pair (onto_changes true t old_pair old_id new_pair new_id name) m) where
-  abbrev can : CanEdit t old_pair old_id
+module _ (t : Kept) (old_pair old_id first new_pair new_id : ℕ) (name : Name) (gone : ℕ) (rename : CanReplaceDirectoryAcrossPairs t old_pair old_id first new_pair new_id name gone) (address : Are32BitPairAddresses (kept_pair_at_index t old_pair).at)
+    (m : Kept) (is : IsSlotPutAndMoveEnded t old_pair old_id (is_pair_dropped_with_slot t old_pair first) new_pair (replace_entry_across_pairs_changes true t old_pair old_id new_pair new_id name) m) where
+  abbrev can : CanEditEntryOfPair t old_pair old_id
   can = rename.old
 
-  abbrev tb : HasNameAtPlace t.pairs rename.to_first name new_pair new_id
+  abbrev tb : IsPlaceOfNameInDirectory t.pairs rename.to_first name new_pair new_id
   tb = rename.target
 
   abbrev p : Pair
@@ -132,13 +132,13 @@ module _ (t : Kept) (old_pair old_id first new_pair new_id : ℕ) (name : Name) 
   to = rename.path ++ name ∷ []
 
   abbrev goes : Bool
-  goes = drops_pair t old_pair first
+  goes = is_pair_dropped_with_slot t old_pair first
 
-  abbrev changes : List Change
-  changes = onto_changes true t old_pair old_id new_pair new_id name
+  abbrev changes : List ContentChange
+  changes = replace_entry_across_pairs_changes true t old_pair old_id new_pair new_id name
 
   abbrev o : Pair
-  o = pair_in t gone
+  o = kept_pair_at_index t gone
 
   first_step : IsFirst t true old_pair goes new_pair changes wo q0 lo s ro w p l (Some g) v r from to name
   first_step = is_first true t old_pair old_id first new_pair new_id name (onto_directory rename) address
@@ -146,8 +146,8 @@ module _ (t : Kept) (old_pair old_id first new_pair new_id : ℕ) (name : Name) 
   x : TurnedTo t w p (l ++ v ∷ r) (gstate_xor (move_of true q0.at (length lo)) p.content.move) is.mid
   x = first_turned t true old_pair goes new_pair changes wo q0 lo s ro w p l (Some g) v r from to name first_step is.mid is.put
 
-  e : HasEndedMoveAt is.mid (place_after old_pair new_pair (length is.mid.pairs - length t.pairs)) (length lo) goes m
-  e = subst (λ i. HasEndedMoveAt is.mid (place_after old_pair new_pair (length is.mid.pairs - length t.pairs)) i goes m) (sym can.stands.stands.number) is.ended
+  e : HasEndedMoveAt is.mid (pair_number_after_insertion old_pair new_pair (length is.mid.pairs - length t.pairs)) (length lo) goes m
+  e = subst (λ i. HasEndedMoveAt is.mid (pair_number_after_insertion old_pair new_pair (length is.mid.pairs - length t.pairs)) i goes m) (sym can.stands.stands.number) is.ended
 
   there : t.pairs ≡ thread_at w (p ∷ [])
   there = thread_is t.disk t.pairs rename.path rename.at can.ready.accepted rename.leads rename.to_first new_pair p tb.rest tb.place rename.begins
@@ -158,22 +158,22 @@ module _ (t : Kept) (old_pair old_id first new_pair new_id : ℕ) (name : Name) 
   same_begin : same_pair (begin_of w (p ∷ [])) rename.at ≡ true
   same_begin = same t.disk t.pairs rename.path rename.at can.ready.accepted rename.leads rename.to_first new_pair p tb.rest tb.place rename.begins
 
-  accepted : IsAccepted t.disk (thread_at w (p ∷ []))
-  accepted = subst (IsAccepted t.disk) there can.ready.accepted
+  accepted : IsAcceptedImage t.disk (thread_at w (p ∷ []))
+  accepted = subst (IsAcceptedImage t.disk) there can.ready.accepted
 
-  settled : gstate_of (thread_at w (p ∷ [])) ≡ no_gstate
+  settled : gstate_of (thread_at w (p ∷ [])) ≡ zero_gstate
   settled = ap gstate_of (sym there) ∙ can.ready.settled
 
-  leads : PathLeadsTo (thread_at w (p ∷ [])) rename.path rename.at
-  leads = subst (λ z. PathLeadsTo z rename.path rename.at) there rename.leads
+  leads : IsPathToDirectory (thread_at w (p ∷ [])) rename.path rename.at
+  leads = subst (λ z. IsPathToDirectory z rename.path rename.at) there rename.leads
 
   -- ---- the directory before
 
-  entry_there : slice_get (entries_in (thread_at w (p ∷ [])) rename.at) (place_at w l) ≡ Some g
+  entry_there : slice_get (entries_by_directory_in_thread (thread_at w (p ∷ [])) rename.at) (place_at w l) ≡ Some g
   entry_there = ap (λ z. slice_get z (place_at w l)) (site_shows t.disk w p l (g ∷ []) r rename.at accepted site_is (no_move_from (thread_at w (p ∷ [])) settled) same_begin tb.stands.held
       ∙ ap (λ z. shown_before w l ++ (z ++ shown_behind w r)) (entry_only g tb.stands.entry)) ∙ get_here (shown_before w l) (shown_behind w r) g
 
-  led : PathLeadsTo (thread_at w (p ∷ [])) (rename.path ++ g.name ∷ []) rename.to
+  led : IsPathToDirectory (thread_at w (p ∷ [])) (rename.path ++ g.name ∷ []) rename.to
   led = directory_led t.disk (thread_at w (p ∷ [])) rename.path rename.at (place_at w l) g rename.to accepted leads entry_there rename.branch
 
   front : HasFront (dirs_at w (p ∷ [])) rename.to
@@ -188,9 +188,9 @@ module _ (t : Kept) (old_pair old_id first new_pair new_id : ℕ) (name : Name) 
   pub gone_above : 0 < gone
   gone_above = let e = first_is.0 in omega arith
 
-  empty : entries_in (thread_at w (p ∷ [])) rename.to ≡ []
+  empty : entries_by_directory_in_thread (thread_at w (p ∷ [])) rename.to ≡ []
   empty = shows_nothing t.disk w.chain (dirs_at w (p ∷ [])) rename.to accepted site_is.chain (no_move_from (thread_at w (p ∷ [])) settled) front
-      (ap (λ (z : Pair). is_hard z.content.tail) first_is.1 ∙ rename.alone) (ap (λ (z : Pair). z.content.slots) first_is.1 ∙ rename.empty)
+      (ap (λ (z : Pair). is_hard_tail z.content.tail) first_is.1 ∙ rename.alone) (ap (λ (z : Pair). z.content.slots) first_is.1 ∙ rename.empty)
 
   has_slot : (xs : List Slot) (y : Slot) (ys : List Slot) → xs ++ y ∷ ys ≡ [] → ⊥
   has_slot [] y ys k = absurd (cc)
@@ -207,65 +207,65 @@ module _ (t : Kept) (old_pair old_id first new_pair new_id : ℕ) (name : Name) 
   moved : IsOnlyStep t.disk t.pairs m.disk m.pairs (renamed (can.path ++ can.name ∷ []) (rename.path ++ name ∷ [])) (rename_walk (can.path ++ can.name ∷ []) (rename.path ++ name ∷ []))
   moved = last_taken t true old_pair goes new_pair changes wo q0 lo s ro w p l (Some g) v r from to name first_step is.mid x m e
 
-  led_there : PathLeadsTo t.pairs (rename.path ++ g.name ∷ []) rename.to
-  led_there = subst (λ z. PathLeadsTo z (rename.path ++ g.name ∷ []) rename.to) (sym there) led
+  led_there : IsPathToDirectory t.pairs (rename.path ++ g.name ∷ []) rename.to
+  led_there = subst (λ z. IsPathToDirectory z (rename.path ++ g.name ∷ []) rename.to) (sym there) led
 
-  begun : IsDirectoryBegin (directories_in m.pairs) rename.to
-  begun = begins_at_firsts (directories_in t.pairs) (directories_in m.pairs) (last_firsts t true old_pair goes new_pair changes wo q0 lo s ro w p l (Some g) v r from to name first_step is.mid x m e) rename.to (can.ready.accepted.branches (rename.path ++ g.name ∷ []) rename.to led_there)
+  begun : IsDirectoryBegin (directories_in_thread m.pairs) rename.to
+  begun = begins_at_firsts (directories_in_thread t.pairs) (directories_in_thread m.pairs) (last_firsts t true old_pair goes new_pair changes wo q0 lo s ro w p l (Some g) v r from to name first_step is.mid x m e) rename.to (can.ready.accepted.branches (rename.path ++ g.name ∷ []) rename.to led_there)
 
-  found : HasDirectory (directory_pairs m.pairs) rename.to
+  found : HasDirectory (pairs_of_all_directories m.pairs) rename.to
   found =
-      let k = links_behind (Some anchor) (superblocks_before m.pairs) m.pairs moved.follows.accepted.thread.links in
-      directory_found (gstate_of m.pairs) rename.to k.0 (directory_pairs m.pairs) k.1 begun
+      let k = links_behind (Some anchor_pair_address) (pair_count_before_root m.pairs) m.pairs moved.follows.accepted.thread.links in
+      directory_found (gstate_of m.pairs) rename.to k.0 (pairs_of_all_directories m.pairs) k.1 begun
 
-  now : HasFront (directory_pairs m.pairs) rename.to
-  now = front_of (directory_pairs m.pairs) rename.to found (λ none. not_the_root t.disk t.pairs rename.path g.name rename.to can.ready.accepted led_there
-      (subst (λ z. same_pair z rename.to ≡ true) (sym (ap first_at (found.is ∙ ap (λ z. z ++ (found.first ∷ found.run ++ found.after)) none)) ∙ moved.follows.root) found.at))
+  now : HasFront (pairs_of_all_directories m.pairs) rename.to
+  now = front_of (pairs_of_all_directories m.pairs) rename.to found (λ none. not_the_root t.disk t.pairs rename.path g.name rename.to can.ready.accepted led_there
+      (subst (λ z. same_pair z rename.to ≡ true) (sym (ap first_pair_address (found.is ∙ ap (λ z. z ++ (found.first ∷ found.run ++ found.after)) none)) ∙ moved.follows.root) found.at))
 
   abbrev chain : List Pair
-  chain = take (superblocks_before m.pairs) m.pairs
+  chain = take (pair_count_before_root m.pairs) m.pairs
 
-  whole : m.pairs ≡ take (superblocks_before m.pairs) m.pairs ++ directory_pairs m.pairs
+  whole : m.pairs ≡ take (pair_count_before_root m.pairs) m.pairs ++ pairs_of_all_directories m.pairs
   whole = (chain_of_thread m.pairs).0
 
-  accepted_now : IsAccepted m.disk (take (superblocks_before m.pairs) m.pairs ++ directory_pairs m.pairs)
-  accepted_now = subst (IsAccepted m.disk) whole moved.follows.accepted
+  accepted_now : IsAcceptedImage m.disk (take (pair_count_before_root m.pairs) m.pairs ++ pairs_of_all_directories m.pairs)
+  accepted_now = subst (IsAcceptedImage m.disk) whole moved.follows.accepted
 
   still_there : (k : ℕ) × (slice_get m.pairs k ≡ Some o)
   still_there = somewhere m.pairs o (last_kept t true old_pair goes new_pair changes wo q0 lo s ro w p l (Some g) v r from to name first_step is.mid x m e o not_new rename.empty rename.alone (among_there t.pairs gone o o_there))
 
   now_is : now.first ≡ o
-  now_is = (number_of_first m.disk chain (directory_pairs m.pairs) rename.to accepted_now now still_there.0 o (subst (λ z. slice_get z still_there.0 ≡ Some o) whole still_there.1) rename.alike).1
+  now_is = (number_of_first m.disk chain (pairs_of_all_directories m.pairs) rename.to accepted_now now still_there.0 o (subst (λ z. slice_get z still_there.0 ≡ Some o) whole still_there.1) rename.alike).1
 
-  dirs_now : directory_pairs m.pairs ≡ now.front ++ now.before ∷ o ∷ (now.run ++ now.after)
+  dirs_now : pairs_of_all_directories m.pairs ≡ now.front ++ now.before ∷ o ∷ (now.run ++ now.after)
   dirs_now = now.is ∙ ap (λ z. now.front ++ now.before ∷ z ∷ (now.run ++ now.after)) now_is
 
-  there_now : m.pairs ≡ take (superblocks_before m.pairs) m.pairs ++ (now.front ++ now.before ∷ o ∷ (now.run ++ now.after))
-  there_now = whole ∙ ap (λ z. take (superblocks_before m.pairs) m.pairs ++ z) dirs_now
+  there_now : m.pairs ≡ take (pair_count_before_root m.pairs) m.pairs ++ (now.front ++ now.before ∷ o ∷ (now.run ++ now.after))
+  there_now = whole ∙ ap (λ z. take (pair_count_before_root m.pairs) m.pairs ++ z) dirs_now
 
   no_list : (b : ℕ) → count b (files_of t.disk (g ∷ [])) ≡ 0
   no_list b = ap (λ z. count b (files_of t.disk (record g { struct = z } ∷ []))) rename.branch
 
-  module _ (n : ℕ) (at : BeginsAt m.pairs (pair_in t gone).at n) where
+  module _ (n : ℕ) (at : IsPairAtAddress m.pairs (kept_pair_at_index t gone).at n) where
     pub replacing_across : IsReplacing t m (can.path ++ can.name ∷ []) (rename.path ++ name ∷ []) rename.to o n
     replacing_across = record {
       ready = can.ready;
       taken = moved;
       state = last_state t true old_pair goes new_pair changes wo q0 lo s ro w p l (Some g) v r from to name first_step is.mid x m e;
-      chain = take (superblocks_before m.pairs) m.pairs;
+      chain = take (pair_count_before_root m.pairs) m.pairs;
       front = now.front;
       x = now.before;
       back = now.run ++ now.after;
       there = there_now;
-      is_chain = subst (IsChain (take (superblocks_before m.pairs) m.pairs)) dirs_now (chain_of_thread m.pairs).1;
-      number = sym (number_of_first m.disk chain (directory_pairs m.pairs) rename.to accepted_now now n at.pair (subst (λ z. slice_get z n ≡ Some at.pair) whole at.there)
+      is_chain = subst (IsChain (take (pair_count_before_root m.pairs) m.pairs)) dirs_now (chain_of_thread m.pairs).1;
+      number = sym (number_of_first m.disk chain (pairs_of_all_directories m.pairs) rename.to accepted_now now n at.pair (subst (λ z. slice_get z n ≡ Some at.pair) whole at.there)
           (pair_on at.pair.at o.at rename.to at.same rename.alike)).0;
       soft = now.soft;
-      replaced = subst (λ z. IsReplaced (directory_at (entries_in z) (root_of z)) from to rename.to) (sym there)
-          (subst (λ (n : Name). IsReplaced (directory_at (entries_in (thread_at w (p ∷ []))) (root_of (thread_at w (p ∷ [])))) from (rename.path ++ n ∷ []) rename.to) tb.stands.named
+      replaced = subst (λ z. IsReplaced (directory_address_at_path (entries_by_directory_in_thread z) (root_directory_of_pairs z)) from to rename.to) (sym there)
+          (subst (λ (n : Name). IsReplaced (directory_address_at_path (entries_by_directory_in_thread (thread_at w (p ∷ []))) (root_directory_of_pairs (thread_at w (p ∷ [])))) from (rename.path ++ n ∷ []) rename.to) tb.stands.named
           (replaced_by t.disk (thread_at w (p ∷ [])) rename.path rename.at (place_at w l) g rename.to from accepted leads entry_there rename.branch empty
-          (ap (λ (n : Name). rest_after from (rename.path ++ n ∷ [])) tb.stands.named ∙ rename.not_beneath)));
-      every = λ Q h. all_at_firsts Q (directories_in t.pairs) (directories_in m.pairs) (last_firsts t true old_pair goes new_pair changes wo q0 lo s ro w p l (Some g) v r from to name first_step is.mid x m e) h;
+          (ap (λ (n : Name). path_without_prefix from (rename.path ++ n ∷ [])) tb.stands.named ∙ rename.not_beneath)));
+      every = λ Q h. all_at_firsts Q (directories_in_thread t.pairs) (directories_in_thread m.pairs) (last_firsts t true old_pair goes new_pair changes wo q0 lo s ro w p l (Some g) v r from to name first_step is.mid x m e) h;
       address = rename.alike;
       alone = rename.alone;
       empty = rename.empty;
@@ -279,7 +279,7 @@ module _ (t : Kept) (old_pair old_id first new_pair new_id : ℕ) (name : Name) 
 
     -- ---- where the slots stand
 
-    module _ (new : Kept) (d : HasDroppedBehind m (n - 1) no_gstate new) where
+    module _ (new : Kept) (d : IsNextPairDropped m (n - 1) zero_gstate new) where
       abbrev a : Arranged t.disk wo q0 w p x.q x.more
       a = arr t true old_pair goes new_pair changes wo q0 lo s ro w p l (Some g) v r from to name first_step is.mid x
 
@@ -300,9 +300,9 @@ module _ (t : Kept) (old_pair old_id first new_pair new_id : ℕ) (name : Name) 
       olds true = ap (λ z. a.front ++ q0 ∷ (a.mid ++ p ∷ z)) (append-nil a.back)
       olds false = ap (λ z. a.front ++ p ∷ (a.mid ++ q0 ∷ z)) (append-nil a.back)
 
-      drafts : (b : Bool) → drafts_of (map segment_of (pieces_of b)) ≡ two b a.front (with_slots (lo ++ ro) q0 ∷ []) a.mid (with_slots (l ++ v ∷ r) p ∷ []) a.back
-      drafts true = ap (λ z. a.front ++ with_slots (lo ++ ro) q0 ∷ (a.mid ++ with_slots (l ++ v ∷ r) p ∷ z)) (append-nil a.back)
-      drafts false = ap (λ z. a.front ++ with_slots (l ++ v ∷ r) p ∷ (a.mid ++ with_slots (lo ++ ro) q0 ∷ z)) (append-nil a.back)
+      drafts : (b : Bool) → drafts_of (map segment_of (pieces_of b)) ≡ two b a.front (pair_with_slots (lo ++ ro) q0 ∷ []) a.mid (pair_with_slots (l ++ v ∷ r) p ∷ []) a.back
+      drafts true = ap (λ z. a.front ++ pair_with_slots (lo ++ ro) q0 ∷ (a.mid ++ pair_with_slots (l ++ v ∷ r) p ∷ z)) (append-nil a.back)
+      drafts false = ap (λ z. a.front ++ pair_with_slots (l ++ v ∷ r) p ∷ (a.mid ++ pair_with_slots (lo ++ ro) q0 ∷ z)) (append-nil a.back)
 
       last_piece : joined_parts (parts_of (map segment_of (Stays a.back ∷ []))) ≡ a.back
       last_piece = joined_stays a.back [] ∙ append-nil a.back
@@ -313,7 +313,7 @@ module _ (t : Kept) (old_pair old_id first new_pair new_id : ℕ) (name : Name) 
       joined false = joined_stays a.front (Gains p (l ++ v ∷ r) x.q x.more ∷ Stays a.mid ∷ Keeps q0 (lo ++ ro) left.os ∷ Stays a.back ∷ [])
           ∙ ap (λ z. a.front ++ ((x.q ∷ x.more) ++ z)) (joined_stays a.mid (Keeps q0 (lo ++ ro) left.os ∷ Stays a.back ∷ []) ∙ ap (λ z. a.mid ++ (left.os ++ z)) last_piece)
 
-      o_fits : FitsOnDisk t.disk (with_slots (lo ++ ro) q0)
+      o_fits : FitsPairOnDisk t.disk (pair_with_slots (lo ++ ro) q0)
       o_fits = fits_fewer t.disk q0 lo ro s can.stands.stands.held (fits_there t can.ready can.first old_pair q0 can.stands.rest can.stands.place)
 
       filled : l ++ v ∷ r ≢ []
@@ -326,10 +326,10 @@ module _ (t : Kept) (old_pair old_id first new_pair new_id : ℕ) (name : Name) 
       -- ---- before
 
       two_chain : IsChain w.chain (two a.b a.front (q0 ∷ []) a.mid (p ∷ []) a.back)
-      two_chain = ap superblocks_before (sym a.old_is) ∙ site_is.chain
+      two_chain = ap pair_count_before_root (sym a.old_is) ∙ site_is.chain
 
       two_is : dirs_at w (p ∷ []) ≡ two a.b a.front (q0 ∷ []) a.mid (p ∷ []) a.back
-      two_is = sym (pairs_behind w.chain (dirs_at w (p ∷ [])) site_is.chain) ∙ ap directory_pairs a.old_is ∙ pairs_behind w.chain (two a.b a.front (q0 ∷ []) a.mid (p ∷ []) a.back) two_chain
+      two_is = sym (pairs_behind w.chain (dirs_at w (p ∷ [])) site_is.chain) ∙ ap pairs_of_all_directories a.old_is ∙ pairs_behind w.chain (two a.b a.front (q0 ∷ []) a.mid (p ∷ []) a.back) two_chain
 
       abbrev ahead : List Pair
       ahead = front.front ++ front.before ∷ []
@@ -343,8 +343,8 @@ module _ (t : Kept) (old_pair old_id first new_pair new_id : ℕ) (name : Name) 
       abbrev Apart : Pair → Type 0
       Apart z = same_pair z.at rename.to ≡ false
 
-      distinct_were : IsDistinct nat_eq (blocks_of ((w.chain ++ ahead) ++ o ∷ behind))
-      distinct_were = subst (λ z. IsDistinct nat_eq (blocks_of z)) (ap (λ z. w.chain ++ z) dirs_were ∙ sym (append_assoc w.chain ahead (o ∷ behind))) accepted.thread.distinct
+      distinct_were : IsDistinct nat_eq (blocks_of_pairs ((w.chain ++ ahead) ++ o ∷ behind))
+      distinct_were = subst (λ z. IsDistinct nat_eq (blocks_of_pairs z)) (ap (λ z. w.chain ++ z) dirs_were ∙ sym (append_assoc w.chain ahead (o ∷ behind))) accepted.thread.distinct
 
       cut : IsCutOut t.disk rename.to o None (pieces_of a.b)
       cut = cut_out t.disk rename.to o rename.alike rename.alone None (pieces_of a.b) ahead behind (olds a.b ∙ sym two_is ∙ dirs_were) (soft_end None front.front front.before front.soft)
@@ -356,17 +356,17 @@ module _ (t : Kept) (old_pair old_id first new_pair new_id : ℕ) (name : Name) 
       -- ---- after
 
       abbrev ahead_now : List Pair
-      ahead_now = take (superblocks_before m.pairs) m.pairs ++ (now.front ++ now.before ∷ [])
+      ahead_now = take (pair_count_before_root m.pairs) m.pairs ++ (now.front ++ now.before ∷ [])
 
       abbrev behind_now : List Pair
       behind_now = now.run ++ now.after
 
-      regrouped : (zs : List Pair) → take (superblocks_before m.pairs) m.pairs ++ (now.front ++ now.before ∷ zs) ≡ ahead_now ++ zs
-      regrouped zs = ap (λ z. take (superblocks_before m.pairs) m.pairs ++ z) (sym (append_assoc now.front (now.before ∷ []) zs))
-          ∙ sym (append_assoc (take (superblocks_before m.pairs) m.pairs) (now.front ++ now.before ∷ []) zs)
+      regrouped : (zs : List Pair) → take (pair_count_before_root m.pairs) m.pairs ++ (now.front ++ now.before ∷ zs) ≡ ahead_now ++ zs
+      regrouped zs = ap (λ z. take (pair_count_before_root m.pairs) m.pairs ++ z) (sym (append_assoc now.front (now.before ∷ []) zs))
+          ∙ sym (append_assoc (take (pair_count_before_root m.pairs) m.pairs) (now.front ++ now.before ∷ []) zs)
 
-      distinct_now : IsDistinct nat_eq (blocks_of (ahead_now ++ o ∷ behind_now))
-      distinct_now = subst (λ z. IsDistinct nat_eq (blocks_of z)) (there_now ∙ regrouped (o ∷ behind_now)) moved.follows.accepted.thread.distinct
+      distinct_now : IsDistinct nat_eq (blocks_of_pairs (ahead_now ++ o ∷ behind_now))
+      distinct_now = subst (λ z. IsDistinct nat_eq (blocks_of_pairs z)) (there_now ∙ regrouped (o ∷ behind_now)) moved.follows.accepted.thread.distinct
 
       alike_before : AreAlike ((w.chain ++ cut.left) ++ o ∷ cut.right) (ahead_now ++ o ∷ behind_now)
       alike_before = subst (λ z. AreAlike z (ahead_now ++ o ∷ behind_now))
@@ -389,40 +389,40 @@ module _ (t : Kept) (old_pair old_id first new_pair new_id : ℕ) (name : Name) 
       were : t.pairs ≡ ps
       were = there ∙ a.old_is
 
-      unreached : NoneGoes (λ z. IsReached ps z → ⊥) None (two a.b a.front (q0 ∷ []) a.mid (p ∷ []) a.back)
-      unreached = subst (NoneGoes (λ z. IsReached ps z → ⊥) None) (pairs_behind w.chain (two a.b a.front (q0 ∷ []) a.mid (p ∷ []) a.back) two_chain)
-          (none_where (λ z. IsReached ps z → ⊥) (gstate_of ps) None (directory_pairs ps) (λ z f. absurd (cc))
-          (subst (Each (λ (z : ThreadDirectory). (IsReached ps z.at → ⊥) → ⊥)) (sym (rest_all (directories_in ps)))
-          (each_weaker (λ (z : ThreadDirectory). IsReached ps z.at) (λ (z : ThreadDirectory). (IsReached ps z.at → ⊥) → ⊥) (λ z h n. n h) (directories_in ps)
-          (recursion_from_All (λ (z : ThreadDirectory). IsReached ps z.at) (directories_in ps) (recovered_from t.disk ps (subst (IsAccepted t.disk) were can.ready.accepted) (ap gstate_of (sym were) ∙ can.ready.settled)).reached))))
+      unreached : NoneGoes (λ z. IsDirectoryReached ps z → ⊥) None (two a.b a.front (q0 ∷ []) a.mid (p ∷ []) a.back)
+      unreached = subst (NoneGoes (λ z. IsDirectoryReached ps z → ⊥) None) (pairs_behind w.chain (two a.b a.front (q0 ∷ []) a.mid (p ∷ []) a.back) two_chain)
+          (none_where (λ z. IsDirectoryReached ps z → ⊥) (gstate_of ps) None (pairs_of_all_directories ps) (λ z f. absurd (cc))
+          (subst (Each (λ (z : ThreadDirectory). (IsDirectoryReached ps z.at → ⊥) → ⊥)) (sym (rest_all (directories_in_thread ps)))
+          (each_weaker (λ (z : ThreadDirectory). IsDirectoryReached ps z.at) (λ (z : ThreadDirectory). (IsDirectoryReached ps z.at → ⊥) → ⊥) (λ z h n. n h) (directories_in_thread ps)
+          (recursion_from_All (λ (z : ThreadDirectory). IsDirectoryReached ps z.at) (directories_in_thread ps) (recovered_from t.disk ps (subst (IsAcceptedImage t.disk) were can.ready.accepted) (ap gstate_of (sym were) ∙ can.ready.settled)).reached))))
 
       writable : IsWritable t.disk ps
       writable = subst (IsWritable t.disk) were can.ready.writable
 
-      stood : Stood t.disk (GoesAt (λ z. IsReached ps z → ⊥) rename.to) (length w.chain) None (w.chain ++ drafts_of (map segment_of cut.all)) new.pairs
-      stood = pieces_stood t.disk (λ z. IsReached ps z → ⊥) rename.to w.chain cut.all new.pairs
-          (subst (λ z. Each (FitsOnDisk t.disk) (w.chain ++ z)) (sym all_olds) (recursion_from_All (FitsOnDisk t.disk) ps writable.pairs))
-          (subst (HaveSlots false) (pairs_behind w.chain (two a.b a.front (q0 ∷ []) a.mid (p ∷ []) a.back) two_chain ∙ sym all_olds) writable.no_empty_pair)
-          (subst (NoneGoes (λ z. IsReached ps z → ⊥) None) (sym all_olds) unreached) cut.there alike_after
+      stood : Stood t.disk (GoesAt (λ z. IsDirectoryReached ps z → ⊥) rename.to) (length w.chain) None (w.chain ++ drafts_of (map segment_of cut.all)) new.pairs
+      stood = pieces_stood t.disk (λ z. IsDirectoryReached ps z → ⊥) rename.to w.chain cut.all new.pairs
+          (subst (λ z. Each (FitsPairOnDisk t.disk) (w.chain ++ z)) (sym all_olds) (recursion_from_All (FitsPairOnDisk t.disk) ps writable.pairs))
+          (subst (HaveSlotsAfterHardTail false) (pairs_behind w.chain (two a.b a.front (q0 ∷ []) a.mid (p ∷ []) a.back) two_chain ∙ sym all_olds) writable.no_empty_pair)
+          (subst (NoneGoes (λ z. IsDirectoryReached ps z → ⊥) None) (sym all_olds) unreached) cut.there alike_after
 
       to_slot : slot_of_path ps to ≡ Some g
       to_slot = subst (λ z. slot_of_path z to ≡ Some g) were (slot_of_stands t.disk t.pairs rename.path rename.at can.ready.accepted rename.leads rename.to_first new_pair new_id name (no_move_from t.pairs can.ready.settled) tb rename.begins)
 
-      removes : (given to_given : List ℕ) → as_path given ≡ from → as_path to_given ≡ to → removed_directories ps (ops.Rename given to_given) ≡ rename.to ∷ []
-      removes given to_given given_is to_is = ap (λ z. cond z [] (directory_of (slot_of_path ps (as_path to_given)))) (ap₂ same_path given_is to_is ∙ not_before from to rename.not_beneath)
-          ∙ ap directory_of (ap (slot_of_path ps) to_is ∙ to_slot) ∙ go g.struct rename.branch
+      removes : (given to_given : List ℕ) → path_or_root given ≡ from → path_or_root to_given ≡ to → addresses_of_removed_directories ps (ops.Rename given to_given) ≡ rename.to ∷ []
+      removes given to_given given_is to_is = ap (λ z. cond z [] (directory_addresses_of_slot (slot_of_path ps (path_or_root to_given)))) (ap₂ same_path given_is to_is ∙ not_before from to rename.not_beneath)
+          ∙ ap directory_addresses_of_slot (ap (slot_of_path ps) to_is ∙ to_slot) ∙ go g.struct rename.branch
         where
-          go : (z : Struct) → z ≡ Branch rename.to → directory_of (Some (record g { struct = z })) ≡ rename.to ∷ []
-          go (Branch b) k = ap (λ y. y ∷ []) (same_Some b rename.to (ap branch_of k))
+          go : (z : Struct) → z ≡ Branch rename.to → directory_addresses_of_slot (Some (record g { struct = z })) ≡ rename.to ∷ []
+          go (Branch b) k = ap (λ y. y ∷ []) (same_Some b rename.to (ap branch_address_of_struct k))
           go (Inline bytes) k = absurd (cc)
           go (Ctz head size) k = absurd (cc)
 
-      laid : (given to_given : List ℕ) → as_path given ≡ from → as_path to_given ≡ to → IsRenameOnto t.disk new.disk new.pairs a.b w.chain a.front a.mid a.back q0 p lo s ro l g r given to_given name
+      laid : (given to_given : List ℕ) → path_or_root given ≡ from → path_or_root to_given ≡ to → IsRenameOnto t.disk new.disk new.pairs a.b w.chain a.front a.mid a.back q0 p lo s ro l g r given to_given name
       laid given to_given given_is to_is = record {
         settled = ap gstate_of (sym were) ∙ can.ready.settled;
         still = d.gstate;
         walk = rename_walk from to;
-        follows = subst (λ y. Follows t.disk ps new.disk new.pairs (renamed y (as_path to_given)) (rename_walk from to)) (sym given_is)
+        follows = subst (λ y. Follows t.disk ps new.disk new.pairs (renamed y (path_or_root to_given)) (rename_walk from to)) (sym given_is)
             (subst (λ y. Follows t.disk ps new.disk new.pairs (renamed from y) (rename_walk from to)) (sym to_is)
             (subst (λ z. Follows t.disk z new.disk new.pairs (renamed from to) (rename_walk from to)) were (taken_end t m from to rename.to o n replacing_across new d).follows));
         still_writable = (taken_end t m from to rename.to o n replacing_across new d).writable;
@@ -431,20 +431,20 @@ module _ (t : Kept) (old_pair old_id first new_pair new_id : ℕ) (name : Name) 
         from_slot = ap (slot_of_path ps) given_is ∙ subst (λ z. slot_of_path z from ≡ Some s) were
             (slot_of_stands t.disk t.pairs can.path can.at can.ready.accepted can.leads can.first old_pair old_id can.name (no_move_from t.pairs can.ready.settled) can.stands can.begins);
         to_slot = ap (slot_of_path ps) to_is ∙ to_slot;
-        to_name = ap last_name to_is ∙ last_is rename.path name;
-        stood = subst (λ k. Stood t.disk (RemovesDirectory ps (ops.Rename given to_given)) k None (w.chain ++ two a.b a.front (with_slots (lo ++ ro) q0 ∷ []) a.mid (with_slots (l ++ v ∷ r) p ∷ []) a.back) new.pairs) (sym two_chain)
-            (subst (λ z. Stood t.disk (RemovesDirectory ps (ops.Rename given to_given)) (length w.chain) None (w.chain ++ z) new.pairs) (cut.drafts ∙ drafts a.b)
-            (subst (λ ds. Stood t.disk (λ y. (IsReached ps y → ⊥) ⊎ Any (λ at. same_pair y at ≡ true) ds) (length w.chain) None (w.chain ++ drafts_of (map segment_of cut.all)) new.pairs) (sym (removes given to_given given_is to_is)) stood));
+        to_name = ap last_name_of_path to_is ∙ last_is rename.path name;
+        stood = subst (λ k. Stood t.disk (IsDirectoryUnreachedOrRemoved ps (ops.Rename given to_given)) k None (w.chain ++ two a.b a.front (pair_with_slots (lo ++ ro) q0 ∷ []) a.mid (pair_with_slots (l ++ v ∷ r) p ∷ []) a.back) new.pairs) (sym two_chain)
+            (subst (λ z. Stood t.disk (IsDirectoryUnreachedOrRemoved ps (ops.Rename given to_given)) (length w.chain) None (w.chain ++ z) new.pairs) (cut.drafts ∙ drafts a.b)
+            (subst (λ ds. Stood t.disk (λ y. (IsDirectoryReached ps y → ⊥) ⊎ Any (λ at. same_pair y at ≡ true) ds) (length w.chain) None (w.chain ++ drafts_of (map segment_of cut.all)) new.pairs) (sym (removes given to_given given_is to_is)) stood));
       }
 
-      pub renamed_onto : IsRenamedAcross t new can.path can.name rename.path name
+      pub renamed_onto : IsEntryRenamedAcrossPairs t new can.path can.name rename.path name
       renamed_onto = record {
         now = replaced_shrunk t m from to rename.to o n replacing_across new d;
         completed = λ z given to_given tree given_is to_is. subst (λ y. IsCompleted t.disk y z (ops.Rename given to_given) new.disk new.pairs) (sym were)
-            (onto_completed t.disk new.disk new.pairs a.b w.chain a.front a.mid a.back q0 p lo s ro l g r given to_given name (laid given to_given given_is to_is) z (tree ∙ ap (tree_in t.disk) were));
+            (onto_completed t.disk new.disk new.pairs a.b w.chain a.front a.mid a.back q0 p lo s ro l g r given to_given name (laid given to_given given_is to_is) z (tree ∙ ap (tree_on_disk t.disk) were));
       }
 
-    pub left_across : (left : Blocks) → IsLeftByDrop m (n - 1) no_gstate left → IsLeftOf (with_blocks left t.disk) (tree_in t.disk t.pairs) (with_moved t can.path can.name rename.path name)
+    pub left_across : (left : Blocks) → IsLeftByStoppedDrop m (n - 1) zero_gstate left → IsLeftOf (with_blocks left t.disk) (tree_on_disk t.disk t.pairs) (tree_with_moved_entry t can.path can.name rename.path name)
     left_across left h = left_last t m from to rename.to o n replacing_across left h
 
   pub not_nowhere : AllByRecursion (λ z. same_pair z.at o.at ≡ false) m.pairs → ⊥
@@ -457,12 +457,12 @@ module _ (t : Kept) (old_pair old_id first new_pair new_id : ℕ) (name : Name) 
 
 -- ---- after the slot was read
 
-module _ (t : Kept) (old_pair old_id first new_pair new_id : ℕ) (name : Name) (gone : ℕ) (rename : CanReplaceDirectory t old_pair old_id first new_pair new_id name gone)
-    (m : Kept) (h : IsMovedOnto t true old_pair old_id first new_pair new_id name m) where
+module _ (t : Kept) (old_pair old_id first new_pair new_id : ℕ) (name : Name) (gone : ℕ) (rename : CanReplaceDirectoryAcrossPairs t old_pair old_id first new_pair new_id name gone)
+    (m : Kept) (h : IsEntryReplacedAcrossPairs t true old_pair old_id first new_pair new_id name m) where
   abbrev later : Kept
   later = with_history t h.from.history
 
-  abbrev there_later : CanReplaceDirectory later old_pair old_id first new_pair new_id name gone
+  abbrev there_later : CanReplaceDirectoryAcrossPairs later old_pair old_id first new_pair new_id name gone
   there_later = record {
     old = edit_later t h.from.history rename.old;
     begins_old = rename.begins_old;
@@ -484,31 +484,31 @@ module _ (t : Kept) (old_pair old_id first new_pair new_id : ℕ) (name : Name) 
     fits = rename.fits;
   }
 
-  done_later : IsPutAndEnded later old_pair old_id (drops_pair t old_pair first) new_pair (onto_changes true later old_pair old_id new_pair new_id name) m
-  done_later = subst (λ k. IsPutAndEnded k old_pair old_id (drops_pair t old_pair first) new_pair (onto_changes true k old_pair old_id new_pair new_id name) m) (read_is t h.from h.only) h.done
+  done_later : IsSlotPutAndMoveEnded later old_pair old_id (is_pair_dropped_with_slot t old_pair first) new_pair (replace_entry_across_pairs_changes true later old_pair old_id new_pair new_id name) m
+  done_later = subst (λ k. IsSlotPutAndMoveEnded k old_pair old_id (is_pair_dropped_with_slot t old_pair first) new_pair (replace_entry_across_pairs_changes true k old_pair old_id new_pair new_id name) m) (read_is t h.from h.only) h.done
 
-  address_later : IsAddress (pair_in later old_pair).at
-  address_later = subst (λ k. IsAddress (pair_in k old_pair).at) (read_is t h.from h.only) h.address
+  address_later : Are32BitPairAddresses (kept_pair_at_index later old_pair).at
+  address_later = subst (λ k. Are32BitPairAddresses (kept_pair_at_index k old_pair).at) (read_is t h.from h.only) h.address
 
   pub gone_above_later : 0 < gone
   gone_above_later = gone_above later old_pair old_id first new_pair new_id name gone there_later address_later m done_later
 
-  pub not_nowhere_later : AllByRecursion (λ z. same_pair z.at (pair_in t gone).at ≡ false) m.pairs → ⊥
+  pub not_nowhere_later : AllByRecursion (λ z. same_pair z.at (kept_pair_at_index t gone).at ≡ false) m.pairs → ⊥
   not_nowhere_later = not_nowhere later old_pair old_id first new_pair new_id name gone there_later address_later m done_later
 
-  module _ (n : ℕ) (at : BeginsAt m.pairs (pair_in t gone).at n) where
-    pub replacing_later : IsReplacing (with_history t h.from.history) m (rename.old.path ++ rename.old.name ∷ []) (rename.path ++ name ∷ []) rename.to (pair_in t gone) n
+  module _ (n : ℕ) (at : IsPairAtAddress m.pairs (kept_pair_at_index t gone).at n) where
+    pub replacing_later : IsReplacing (with_history t h.from.history) m (rename.old.path ++ rename.old.name ∷ []) (rename.path ++ name ∷ []) rename.to (kept_pair_at_index t gone) n
     replacing_later = replacing_across later old_pair old_id first new_pair new_id name gone there_later address_later m done_later n at
 
-    pub can_drop_later : CanDropAt m n no_gstate
-    can_drop_later = can_drop_replaced later m (rename.old.path ++ rename.old.name ∷ []) (rename.path ++ name ∷ []) rename.to (pair_in t gone) n
+    pub can_drop_later : CanDropPairAt m n zero_gstate
+    can_drop_later = can_drop_replaced later m (rename.old.path ++ rename.old.name ∷ []) (rename.path ++ name ∷ []) rename.to (kept_pair_at_index t gone) n
         replacing_later
 
-    pub renamed_directory : (new : Kept) → HasDroppedBehind m (n - 1) no_gstate new → IsRenamedAcross t new rename.old.path rename.old.name rename.path name
+    pub renamed_directory : (new : Kept) → IsNextPairDropped m (n - 1) zero_gstate new → IsEntryRenamedAcrossPairs t new rename.old.path rename.old.name rename.path name
     renamed_directory new d = go (renamed_onto later old_pair old_id first new_pair new_id name gone there_later address_later m done_later n at new d)
       where
-        go : IsRenamedAcross later new rename.old.path rename.old.name rename.path name → IsRenamedAcross t new rename.old.path rename.old.name rename.path name
+        go : IsEntryRenamedAcrossPairs later new rename.old.path rename.old.name rename.path name → IsEntryRenamedAcrossPairs t new rename.old.path rename.old.name rename.path name
         go k = record { now = record { ready = k.now.ready; shows = k.now.shows; flying = k.now.flying; root = k.now.root }; completed = k.completed }
 
-    pub left_directory : (left : Blocks) → IsLeftByDrop m (n - 1) no_gstate left → IsLeftOf (with_blocks left t.disk) (tree_in t.disk t.pairs) (with_moved t rename.old.path rename.old.name rename.path name)
+    pub left_directory : (left : Blocks) → IsLeftByStoppedDrop m (n - 1) zero_gstate left → IsLeftOf (with_blocks left t.disk) (tree_on_disk t.disk t.pairs) (tree_with_moved_entry t rename.old.path rename.old.name rename.path name)
     left_directory left d = left_across later old_pair old_id first new_pair new_id name gone there_later address_later m done_later n at left d

@@ -4,17 +4,17 @@ use Rattle.std.specs.Option.{option_and_then}
 use Rattle.std.specs.Prelude.{All}
 use Rattle.std.proofs.lemmas.Option.{same_Some}
 use Rattle.std.proofs.lemmas.List.Elements.{recursion_from_All}
-use Rattle.lfs_model.specs.TreeEdits.{renamed, rest_after}
+use Rattle.lfs_model.specs.TreeEdits.{renamed, path_without_prefix}
 use Rattle.lfs_model.specs.Blocks.{Blocks}
-use Rattle.lfs_model.specs.BlockSets.{AreUsed}
+use Rattle.lfs_model.specs.BlockSets.{AreExactlyTheUsedBlocks}
 use Rattle.lfs_model.specs.Disk.{Disk, block_count}
-use Rattle.lfs_model.specs.PowerLoss.{IsLeftByStop as IsLeftOf, with_blocks}
-use Rattle.lfs_model.specs.Slots.{Branch, Content, FitsPair, Slot, no_gstate, same_pair}
-use Rattle.lfs_model.specs.Thread.{Pair, blocks_of, gstate_of, is_hard, root_of, superblocks_before}
-use Rattle.lfs_model.specs.Tree.{Path, branch_of, directory_at, directory_from, root_slot}
-use Rattle.lfs_model.specs.View.{IsAccepted}
+use Rattle.lfs_model.specs.PowerLoss.{ShowsTreeBeforeOrAfter as IsLeftOf, with_blocks}
+use Rattle.lfs_model.specs.Slots.{Branch, Content, IsContentFittingPair, Slot, zero_gstate, same_pair}
+use Rattle.lfs_model.specs.Thread.{Pair, blocks_of_pairs, gstate_of, is_hard_tail, root_directory_of_pairs, pair_count_before_root}
+use Rattle.lfs_model.specs.Tree.{Path, branch_address_of_struct, directory_address_at_path, directory_address_from_slot, root_slot}
+use Rattle.lfs_model.specs.View.{IsAcceptedImage}
 use Rattle.lfs_model.specs.Profile.{IsWritable}
-use Rattle.lfs_model.specs.Shown.{PathLeadsTo, all_slots, directories_in, entries_in, tree_in, used_blocks}
+use Rattle.lfs_model.specs.Shown.{IsPathToDirectory, all_slots_not_moved, directories_in_thread, entries_by_directory_in_thread, tree_on_disk, used_blocks}
 use Rattle.lfs_model.proofs.Alike.{AreAlike, alike_append, alike_itself}
 use Rattle.lfs_model.proofs.Committed.{no_move_from, recovered_from}
 use Rattle.lfs_model.proofs.Counts.{Each, count, count_append, count_here, each_right, once_from_distinct}
@@ -32,11 +32,11 @@ use Rattle.lfs_model.proofs.StepsTaken.{IsOnlyStep}
 use Rattle.lfs_model.proofs.Superblocks.{IsChain}
 use Rattle.lfs_model.proofs.Uses.{accepted_sound}
 use Rattle.lfs_model.proofs.Walks.{leaf_leads, leads_below}
-use Rattle.lfs_thread.specs.Device.{two_of}
+use Rattle.lfs_thread.specs.Device.{blocks_of_address}
 use Rattle.lfs_thread.specs.Kept.{Kept}
-use Rattle.lfs_thread.specs.Steps.{HasShape, IsWrittenAs, pair_in, without_pair}
-use Rattle.lfs_operations.specs.Dropping.{CanDropAt, HasDroppedBehind, HasShrunk, IsLeftByDrop, SameInFlight, taken_over, with_tail_taken}
-use Rattle.lfs_operations.specs.Ready.{IsReady, KeepsRoot}
+use Rattle.lfs_thread.specs.Steps.{HasSameGeometry, IsPairWrittenOnDisk, kept_pair_at_index, map_with_freed_pair}
+use Rattle.lfs_operations.specs.Dropping.{CanDropPairAt, IsNextPairDropped, ShowsTreeAfterDrops, IsLeftByStoppedDrop, HasSameBlocksInFlight, tail_over_dropped_pair, content_after_drop}
+use Rattle.lfs_operations.specs.Ready.{IsImageReadyForChange, KeepsPairCountBeforeRoot}
 use Rattle.lfs_operations.proofs.Dropped.{device_dropped, device_kept, dropped_count, flying_same, length_fewer, profile_same, used_fewer}
 use Rattle.lfs_operations.proofs.DroppedTails.{front_is, gone_is, gstate_is, no_move_state, without_is}
 use Rattle.lfs_operations.proofs.Placing.{nothing_came}
@@ -46,27 +46,27 @@ use Rattle.lfs_operations.proofs.RootStays.{root_stays}
 -- ---- the directory that is replaced
 
 -- a path leads to it, which ends with its entry, and to nothing beneath it
-pub replaced_by : (disk : Disk) (ps : List Pair) (P : Path) (a : ℕ × ℕ) (k : ℕ) (u : Slot) (d : ℕ × ℕ) (old : Path) → IsAccepted disk ps → PathLeadsTo ps P a → slice_get (entries_in ps a) k ≡ Some u → u.struct ≡ Branch d
-    → entries_in ps d ≡ [] → rest_after old (P ++ u.name ∷ []) ≡ None → IsReplaced (directory_at (entries_in ps) (root_of ps)) old (P ++ u.name ∷ []) d
+pub replaced_by : (disk : Disk) (ps : List Pair) (P : Path) (a : ℕ × ℕ) (k : ℕ) (u : Slot) (d : ℕ × ℕ) (old : Path) → IsAcceptedImage disk ps → IsPathToDirectory ps P a → slice_get (entries_by_directory_in_thread ps a) k ≡ Some u → u.struct ≡ Branch d
+    → entries_by_directory_in_thread ps d ≡ [] → path_without_prefix old (P ++ u.name ∷ []) ≡ None → IsReplaced (directory_address_at_path (entries_by_directory_in_thread ps) (root_directory_of_pairs ps)) old (P ++ u.name ∷ []) d
 replaced_by disk ps P a k u d old ok leads there branch empty apart = record {
   apart = apart;
-  there = ap (directory_at (entries_in ps) (root_of ps)) (sym (append-nil (P ++ u.name ∷ []))) ∙ below [] ∙ ap branch_of branch;
-  alone = λ t at led. (leaf_leads (entries_in ps) u leaf t at (sym (below t) ∙ led)).0;
+  there = ap (directory_address_at_path (entries_by_directory_in_thread ps) (root_directory_of_pairs ps)) (sym (append-nil (P ++ u.name ∷ []))) ∙ below [] ∙ ap branch_address_of_struct branch;
+  alone = λ t at led. (leaf_leads (entries_by_directory_in_thread ps) u leaf t at (sym (below t) ∙ led)).0;
   once = ok.once;
 }
   where
-    below : (t : Path) → directory_at (entries_in ps) (root_of ps) ((P ++ u.name ∷ []) ++ t) ≡ directory_from (entries_in ps) u t
-    below t = ap (directory_at (entries_in ps) (root_of ps)) (append_step P u.name t) ∙ leads_below (entries_in ps) (root_slot (root_of ps)) P a leads u.name t
-        ∙ ap (option_and_then (λ z. directory_from (entries_in ps) z t)) (found_at disk.order (entries_in ps a) k u ((accepted_sound disk ps ok).tree.order P a leads) there)
+    below : (t : Path) → directory_address_at_path (entries_by_directory_in_thread ps) (root_directory_of_pairs ps) ((P ++ u.name ∷ []) ++ t) ≡ directory_address_from_slot (entries_by_directory_in_thread ps) u t
+    below t = ap (directory_address_at_path (entries_by_directory_in_thread ps) (root_directory_of_pairs ps)) (append_step P u.name t) ∙ leads_below (entries_by_directory_in_thread ps) (root_slot (root_directory_of_pairs ps)) P a leads u.name t
+        ∙ ap (option_and_then (λ z. directory_address_from_slot (entries_by_directory_in_thread ps) z t)) (found_at disk.order (entries_by_directory_in_thread ps a) k u ((accepted_sound disk ps ok).tree.order P a leads) there)
 
-    leaf : (x : ℕ × ℕ) → branch_of u.struct ≡ Some x → entries_in ps x ≡ []
-    leaf x e = ap (entries_in ps) (same_Some x d (sym e ∙ ap branch_of branch)) ∙ empty
+    leaf : (x : ℕ × ℕ) → branch_address_of_struct u.struct ≡ Some x → entries_by_directory_in_thread ps x ≡ []
+    leaf x e = ap (entries_by_directory_in_thread ps) (same_Some x d (sym e ∙ ap branch_address_of_struct branch)) ∙ empty
 
 -- ---- before the last step
 
 -- The image shows the tree with the rename, and the sync bit is set: no path leads to the pair o of number n any more, behind x.
 pub record IsReplacing (t m : Kept) (from to : Path) (d : ℕ × ℕ) (o : Pair) (n : ℕ) : Type 1 where
-  pub ready : IsReady t
+  pub ready : IsImageReadyForChange t
   pub taken : IsOnlyStep t.disk t.pairs m.disk m.pairs (renamed from to) (rename_walk from to)
   pub state : gstate_of m.pairs ≡ sync_delta
   pub chain : List Pair
@@ -76,17 +76,17 @@ pub record IsReplacing (t m : Kept) (from to : Path) (d : ℕ × ℕ) (o : Pair)
   pub there : m.pairs ≡ chain ++ (front ++ x ∷ o ∷ back)
   pub is_chain : IsChain chain (front ++ x ∷ o ∷ back)
   pub number : length (chain ++ front) + 1 ≡ n
-  pub soft : is_hard x.content.tail ≡ false
-  pub replaced : IsReplaced (directory_at (entries_in t.pairs) (root_of t.pairs)) from to d
-  pub every : (Q : ℕ × ℕ → Type 0) → All (λ z. Q z.at) (directories_in t.pairs) → All (λ z. Q z.at) (directories_in m.pairs)
+  pub soft : is_hard_tail x.content.tail ≡ false
+  pub replaced : IsReplaced (directory_address_at_path (entries_by_directory_in_thread t.pairs) (root_directory_of_pairs t.pairs)) from to d
+  pub every : (Q : ℕ × ℕ → Type 0) → All (λ z. Q z.at) (directories_in_thread t.pairs) → All (λ z. Q z.at) (directories_in_thread m.pairs)
   pub address : same_pair o.at d ≡ true
-  pub alone : is_hard o.content.tail ≡ false
+  pub alone : is_hard_tail o.content.tail ≡ false
   pub empty : o.content.slots ≡ []
-  pub used : AreUsed m.map (used_blocks m.disk m.pairs)
+  pub used : AreExactlyTheUsedBlocks m.map (used_blocks m.disk m.pairs)
   pub size : length m.map ≡ block_count m.disk
-  pub flying : SameInFlight t.map m.map
-  pub root : KeepsRoot t m
-  pub shape : HasShape t.disk m.disk
+  pub flying : HasSameBlocksInFlight t.map m.map
+  pub root : KeepsPairCountBeforeRoot t m
+  pub shape : HasSameGeometry t.disk m.disk
 
 module _ (t m : Kept) (from to : Path) (d : ℕ × ℕ) (o : Pair) (n : ℕ) (k : IsReplacing t m from to d o n) where
   abbrev ahead : List Pair
@@ -101,33 +101,33 @@ module _ (t m : Kept) (from to : Path) (d : ℕ × ℕ) (o : Pair) (n : ℕ) (k 
   number : length ahead ≡ n - 1
   number = let e = k.number in omega arith
 
-  accepted_parts : IsAccepted m.disk (ahead ++ k.x ∷ o ∷ k.back)
-  accepted_parts = subst (IsAccepted m.disk) is k.taken.follows.accepted
+  accepted_parts : IsAcceptedImage m.disk (ahead ++ k.x ∷ o ∷ k.back)
+  accepted_parts = subst (IsAcceptedImage m.disk) is k.taken.follows.accepted
 
-  pub x_there : pair_in m (n - 1) ≡ k.x
+  pub x_there : kept_pair_at_index m (n - 1) ≡ k.x
   x_there = front_is m (n - 1) ahead k.x o k.back is number
 
-  pub o_there : pair_in m (n - 1 + 1) ≡ o
+  pub o_there : kept_pair_at_index m (n - 1 + 1) ≡ o
   o_there = gone_is m (n - 1) ahead k.x o k.back is number
 
   no_move : HasNoMove (gstate_of m.pairs)
   no_move = subst HasNoMove (sym k.state) (record { kind = refl; id = refl; pair = refl })
 
-  pub can_drop_replaced : CanDropAt m n no_gstate
+  pub can_drop_replaced : CanDropPairAt m n zero_gstate
   can_drop_replaced = record {
     above = let f = k.number in omega arith;
     below = let e = ap length is in let a = length-append ahead (k.x ∷ o ∷ k.back) in let f = k.number in omega arith;
     thread = k.taken.follows.accepted.thread;
-    fits = subst (λ (z : Pair). FitsPair m.disk.block_size m.disk.page z.content) (sym x_there)
-        (each_right (λ (z : Pair). FitsPair m.disk.block_size m.disk.page z.content) ahead (k.x ∷ o ∷ k.back)
-        (subst (Each (λ (z : Pair). FitsPair m.disk.block_size m.disk.page z.content)) is (recursion_from_All (λ (z : Pair). FitsPair m.disk.block_size m.disk.page z.content) m.pairs k.taken.writable.pairs))).0;
+    fits = subst (λ (z : Pair). IsContentFittingPair m.disk.block_size m.disk.page z.content) (sym x_there)
+        (each_right (λ (z : Pair). IsContentFittingPair m.disk.block_size m.disk.page z.content) ahead (k.x ∷ o ∷ k.back)
+        (subst (Each (λ (z : Pair). IsContentFittingPair m.disk.block_size m.disk.page z.content)) is (recursion_from_All (λ (z : Pair). IsContentFittingPair m.disk.block_size m.disk.page z.content) m.pairs k.taken.writable.pairs))).0;
     storable = no_move_state;
   }
 
   -- ---- the last step
 
   abbrev pub c : Content
-  c = with_tail_taken m (n - 1) no_gstate
+  c = content_after_drop m (n - 1) zero_gstate
 
   abbrev pub y : Pair
   y = record { at = k.x.at; content = c }
@@ -135,13 +135,13 @@ module _ (t m : Kept) (from to : Path) (d : ℕ × ℕ) (o : Pair) (n : ℕ) (k 
   c_slots : c.slots ≡ k.x.content.slots
   c_slots = ap (λ (z : Pair). z.content.slots) x_there
 
-  settled_end : gstate_of (k.chain ++ (k.front ++ y ∷ k.back)) ≡ no_gstate
-  settled_end = ap gstate_of (regrouped (y ∷ k.back)) ∙ gstate_is m (n - 1) ahead k.x o k.back is number no_gstate y refl
+  settled_end : gstate_of (k.chain ++ (k.front ++ y ∷ k.back)) ≡ zero_gstate
+  settled_end = ap gstate_of (regrouped (y ∷ k.back)) ∙ gstate_is m (n - 1) ahead k.x o k.back is number zero_gstate y refl
 
-  device_end : (disk : Disk) → IsWrittenAs m (n - 1) c disk → IsDevice m.disk disk (ahead ++ k.x ∷ o ∷ k.back) (ahead ++ y ∷ k.back)
+  device_end : (disk : Disk) → IsPairWrittenOnDisk m (n - 1) c disk → IsDevice m.disk disk (ahead ++ k.x ∷ o ∷ k.back) (ahead ++ y ∷ k.back)
   device_end disk written = device_dropped m (n - 1) ahead k.x o k.back is number accepted_parts disk c c_slots written
 
-  is_gone : (disk : Disk) → IsWrittenAs m (n - 1) c disk → IsGone m.disk disk k.chain k.front k.x o y k.back
+  is_gone : (disk : Disk) → IsPairWrittenOnDisk m (n - 1) c disk → IsGone m.disk disk k.chain k.front k.x o y k.back
   is_gone disk written = record {
     device = subst (λ z. IsDevice m.disk disk z (k.chain ++ (k.front ++ y ∷ k.back))) (append_assoc k.chain k.front (k.x ∷ o ∷ k.back))
         (subst (IsDevice m.disk disk (ahead ++ k.x ∷ o ∷ k.back)) (sym (regrouped (y ∷ k.back))) (device_end disk written));
@@ -149,24 +149,24 @@ module _ (t m : Kept) (from to : Path) (d : ℕ × ℕ) (o : Pair) (n : ℕ) (k 
     soft = k.soft;
     at = refl;
     slots = c_slots;
-    tail = ap₂ (λ (a b : Pair). taken_over a.content.tail b.content.tail) x_there o_there ∙ over_soft k.x.content.tail o.content.tail k.soft;
+    tail = ap₂ (λ (a b : Pair). tail_over_dropped_pair a.content.tail b.content.tail) x_there o_there ∙ over_soft k.x.content.tail o.content.tail k.soft;
   }
 
   reached : AllReached t.pairs
   reached = (recovered_from t.disk t.pairs k.ready.accepted k.ready.settled).reached
 
-  end_taken : (disk : Disk) → IsWrittenAs m (n - 1) c disk → IsOnlyStep t.disk t.pairs disk (k.chain ++ (k.front ++ y ∷ k.back)) (renamed from to) (rename_walk from to)
+  end_taken : (disk : Disk) → IsPairWrittenOnDisk m (n - 1) c disk → IsOnlyStep t.disk t.pairs disk (k.chain ++ (k.front ++ y ∷ k.back)) (renamed from to) (rename_walk from to)
   end_taken disk written = replacing_taken t.disk m.disk disk t.pairs from to d k.chain k.front k.x o y k.back
       (subst (λ z. IsOnlyStep t.disk t.pairs m.disk z (renamed from to) (rename_walk from to)) k.there k.taken)
       (record {
-        accepted = subst (IsAccepted m.disk) k.there k.taken.follows.accepted;
+        accepted = subst (IsAcceptedImage m.disk) k.there k.taken.follows.accepted;
         writable = subst (IsWritable m.disk) k.there k.taken.writable;
         no_move = subst (λ z. HasNoMove (gstate_of z)) k.there no_move;
         is_chain = k.is_chain;
       })
-      k.replaced reached (λ Q h. subst (λ z. All (λ x. Q x.at) (directories_in z)) k.there (k.every Q h)) k.address k.alone (is_gone disk written)
+      k.replaced reached (λ Q h. subst (λ z. All (λ x. Q x.at) (directories_in_thread z)) k.there (k.every Q h)) k.address k.alone (is_gone disk written)
 
-  module _ (new : Kept) (g : HasDroppedBehind m (n - 1) no_gstate new) where
+  module _ (new : Kept) (g : IsNextPairDropped m (n - 1) zero_gstate new) where
     pub pairs_end : new.pairs ≡ k.chain ++ (k.front ++ y ∷ k.back)
     pairs_end = g.pairs ∙ without_is m (n - 1) ahead k.x o k.back is number c ∙ sym (regrouped (y ∷ k.back))
 
@@ -179,10 +179,10 @@ module _ (t m : Kept) (from to : Path) (d : ℕ × ℕ) (o : Pair) (n : ℕ) (k 
     pub taken_end : IsOnlyStep t.disk t.pairs new.disk new.pairs (renamed from to) (rename_walk from to)
     taken_end = subst (λ z. IsOnlyStep t.disk t.pairs new.disk z (renamed from to) (rename_walk from to)) (sym pairs_end) (end_taken new.disk g.written)
 
-    map_end : new.map ≡ without_pair m.map o.at
-    map_end = g.map ∙ ap (λ (z : Pair). without_pair m.map z.at) o_there
+    map_end : new.map ≡ map_with_freed_pair m.map o.at
+    map_end = g.map ∙ ap (λ (z : Pair). map_with_freed_pair m.map z.at) o_there
 
-    end_used : (b : ℕ) → count b (used_blocks new.disk new.pairs) + count b (two_of o.at) ≡ count b (used_blocks m.disk m.pairs)
+    end_used : (b : ℕ) → count b (used_blocks new.disk new.pairs) + count b (blocks_of_address o.at) ≡ count b (used_blocks m.disk m.pairs)
     end_used b =
         let e = dropped_count m.disk new.disk ahead k.x o y k.back (subst (λ z. HasNoMove (gstate_of z)) is no_move)
         (subst (λ z. HasNoMove (gstate_of z)) (regrouped (y ∷ k.back)) (no_move_from (k.chain ++ (k.front ++ y ∷ k.back)) settled_end)) (device_end new.disk g.written) refl c_slots b in
@@ -198,15 +198,15 @@ module _ (t m : Kept) (from to : Path) (d : ℕ × ℕ) (o : Pair) (n : ℕ) (k 
     pub end_fewer : (b : ℕ) → count b (used_blocks new.disk new.pairs) ≤ count b (used_blocks m.disk m.pairs)
     end_fewer b = let e = end_used b in omega arith
 
-    pub end_gone : count o.at.0 (blocks_of new.pairs) ≡ 0
+    pub end_gone : count o.at.0 (blocks_of_pairs new.pairs) ≡ 0
     end_gone =
         let e = end_used o.at.0 in
         let f = once o.at.0 in
         let h = count_here o.at.0 (o.at.1 ∷ []) in
-        let l = count_append o.at.0 (blocks_of new.pairs) (files_of new.disk (all_slots new.pairs)) in
+        let l = count_append o.at.0 (blocks_of_pairs new.pairs) (files_of new.disk (all_slots_not_moved new.pairs)) in
         omega arith
 
-    pub replaced_shrunk : HasShrunk t new (renamed from to (tree_in t.disk t.pairs)) []
+    pub replaced_shrunk : ShowsTreeAfterDrops t new (renamed from to (tree_on_disk t.disk t.pairs)) []
     replaced_shrunk = record {
       ready = record {
         accepted = taken_end.follows.accepted;
@@ -214,7 +214,7 @@ module _ (t m : Kept) (from to : Path) (d : ℕ × ℕ) (o : Pair) (n : ℕ) (k 
         settled = g.gstate;
         used = record {
           owned = used_blocks new.disk new.pairs;
-          are = subst (λ s. AreUsed s (used_blocks new.disk new.pairs)) (sym map_end) (used_fewer m.map o.at (used_blocks m.disk m.pairs) (used_blocks new.disk new.pairs) k.used once end_used);
+          are = subst (λ s. AreExactlyTheUsedBlocks s (used_blocks new.disk new.pairs)) (sym map_end) (used_fewer m.map o.at (used_blocks m.disk m.pairs) (used_blocks new.disk new.pairs) k.used once end_used);
           same = λ b. omega arith;
         };
         size = ap length map_end ∙ length_fewer m.map o.at (used_blocks m.disk m.pairs) (used_blocks new.disk new.pairs) k.used once end_used ∙ k.size ∙ sym g.written.shape.count;
@@ -225,14 +225,14 @@ module _ (t m : Kept) (from to : Path) (d : ℕ × ℕ) (o : Pair) (n : ℕ) (k 
         (λ h. (k.flying b).0 ((last_flying b).0 h)),
         (λ h. (last_flying b).1 ((k.flying b).1 h)),
       );
-      root = ap superblocks_before pairs_end
-          ∙ root_stays m.disk new.disk k.chain (k.front ++ k.x ∷ o ∷ k.back) (k.front ++ y ∷ k.back) k.is_chain (subst (IsAccepted m.disk) k.there k.taken.follows.accepted)
-          (subst (IsAccepted new.disk) pairs_end taken_end.follows.accepted) (ap root_of (sym pairs_end) ∙ taken_end.follows.root ∙ sym k.taken.follows.root ∙ ap root_of k.there)
-          ∙ sym (ap superblocks_before k.there) ∙ k.root;
+      root = ap pair_count_before_root pairs_end
+          ∙ root_stays m.disk new.disk k.chain (k.front ++ k.x ∷ o ∷ k.back) (k.front ++ y ∷ k.back) k.is_chain (subst (IsAcceptedImage m.disk) k.there k.taken.follows.accepted)
+          (subst (IsAcceptedImage new.disk) pairs_end taken_end.follows.accepted) (ap root_directory_of_pairs (sym pairs_end) ∙ taken_end.follows.root ∙ sym k.taken.follows.root ∙ ap root_directory_of_pairs k.there)
+          ∙ sym (ap pair_count_before_root k.there) ∙ k.root;
     }
       where
-        last_flying : SameInFlight m.map new.map
-        last_flying = subst (SameInFlight m.map) (sym map_end) (flying_same m.map o.at (used_blocks m.disk m.pairs) (used_blocks new.disk new.pairs) k.used once end_used)
+        last_flying : HasSameBlocksInFlight m.map new.map
+        last_flying = subst (HasSameBlocksInFlight m.map) (sym map_end) (flying_same m.map o.at (used_blocks m.disk m.pairs) (used_blocks new.disk new.pairs) k.used once end_used)
 
   -- ---- at a stop
 
@@ -241,26 +241,26 @@ module _ (t m : Kept) (from to : Path) (d : ℕ × ℕ) (o : Pair) (n : ℕ) (k 
 
   h : HasSite m.pairs (n - 1)
   h = site_of_number m.disk m.pairs (n - 1) k.taken.follows.accepted
-      (let e = ap superblocks_before k.there ∙ k.is_chain in let a = length-append k.chain k.front in let f = k.number in omega arith)
+      (let e = ap pair_count_before_root k.there ∙ k.is_chain in let a = length-append k.chain k.front in let f = k.number in omega arith)
       (let e = ap length is in let a = length-append ahead (k.x ∷ o ∷ k.back) in let f = k.number in omega arith)
 
-  pub left_last : (left : Blocks) → IsLeftByDrop m (n - 1) no_gstate left → IsLeftOf (with_blocks left t.disk) (tree_in t.disk t.pairs) (renamed from to (tree_in t.disk t.pairs))
-  left_last left g = subst (λ z. IsLeftOf z (tree_in t.disk t.pairs) (renamed from to (tree_in t.disk t.pairs))) (same_shape left) (go g.is)
+  pub left_last : (left : Blocks) → IsLeftByStoppedDrop m (n - 1) zero_gstate left → IsLeftOf (with_blocks left t.disk) (tree_on_disk t.disk t.pairs) (renamed from to (tree_on_disk t.disk t.pairs))
+  left_last left g = subst (λ z. IsLeftOf z (tree_on_disk t.disk t.pairs) (renamed from to (tree_on_disk t.disk t.pairs))) (same_shape left) (go g.is)
     where
-      go : (g.content ≡ (pair_in m (n - 1)).content) ⊎ (g.content ≡ with_tail_taken m (n - 1) no_gstate) → IsLeftOf (with_blocks left m.disk) (tree_in t.disk t.pairs) (renamed from to (tree_in t.disk t.pairs))
+      go : (g.content ≡ (kept_pair_at_index m (n - 1)).content) ⊎ (g.content ≡ content_after_drop m (n - 1) zero_gstate) → IsLeftOf (with_blocks left m.disk) (tree_on_disk t.disk t.pairs) (renamed from to (tree_on_disk t.disk t.pairs))
       go (inl e) =
           let same = e ∙ ap (λ (z : Pair). z.content) x_there in
           let on = device_kept m (n - 1) ahead k.x o k.back is number accepted_parts (with_blocks left m.disk) k.x.content refl
-          (subst (λ z. IsWrittenAs m (n - 1) z (with_blocks left m.disk)) same g.written) in
-          let f = nothing_came m.disk (with_blocks left m.disk) h.site h.pair h.is_site (subst (IsAccepted m.disk) h.is k.taken.follows.accepted) (subst (λ z. IsDevice m.disk (with_blocks left m.disk) z z) (sym is ∙ h.is) on) in
+          (subst (λ z. IsPairWrittenOnDisk m (n - 1) z (with_blocks left m.disk)) same g.written) in
+          let f = nothing_came m.disk (with_blocks left m.disk) h.site h.pair h.is_site (subst (IsAcceptedImage m.disk) h.is k.taken.follows.accepted) (subst (λ z. IsDevice m.disk (with_blocks left m.disk) z z) (sym is ∙ h.is) on) in
           record {
             pairs = thread_at h.site (h.pair ∷ []);
             accepted = f.accepted;
             writable = profile_same m.disk (with_blocks left m.disk) (thread_at h.site (h.pair ∷ [])) refl refl (subst (IsWritable m.disk) h.is k.taken.writable);
-            tree = inr (f.shows ∙ ap (tree_in m.disk) (sym h.is) ∙ k.taken.follows.shows);
+            tree = inr (f.shows ∙ ap (tree_on_disk m.disk) (sym h.is) ∙ k.taken.follows.shows);
           }
       go (inr e) =
-          let f = end_taken (with_blocks left m.disk) (subst (λ z. IsWrittenAs m (n - 1) z (with_blocks left m.disk)) e g.written) in
+          let f = end_taken (with_blocks left m.disk) (subst (λ z. IsPairWrittenOnDisk m (n - 1) z (with_blocks left m.disk)) e g.written) in
           record {
             pairs = k.chain ++ (k.front ++ y ∷ k.back);
             accepted = f.follows.accepted;

@@ -3,19 +3,19 @@ use Rattle.std.proofs.Common.{ℕ, ◌≡◌, ◌+◌, ◌-◌, Bool, true, fals
 use Rattle.std.specs.List.{IsDistinct}
 use Rattle.std.specs.Prelude.{All}
 use Rattle.std.proofs.lemmas.List.Elements.{recursion_from_All}
-use Rattle.lfs_model.specs.TreeEdits.{renamed, rest_after}
-use Rattle.lfs_model.specs.BlockSets.{AreUsed}
+use Rattle.lfs_model.specs.TreeEdits.{renamed, path_without_prefix}
+use Rattle.lfs_model.specs.BlockSets.{AreExactlyTheUsedBlocks}
 use Rattle.lfs_model.specs.Blocks.{Blocks}
 use Rattle.lfs_model.specs.Names.{Name}
 use Rattle.lfs_model.specs.Operations as ops
-use Rattle.lfs_model.specs.PowerLoss.{IsLeftByStop as IsLeftOf, with_blocks}
-use Rattle.lfs_model.specs.SlotEdits.{slot_of_path, with_slots}
-use Rattle.lfs_model.specs.Slots.{Slot, no_gstate, same_pair}
-use Rattle.lfs_model.specs.Thread.{Pair, blocks_of, gstate_of, is_hard, root_of, superblocks_before}
-use Rattle.lfs_model.specs.Tree.{Path, directory_at}
-use Rattle.lfs_model.specs.View.{IsAccepted}
+use Rattle.lfs_model.specs.PowerLoss.{ShowsTreeBeforeOrAfter as IsLeftOf, with_blocks}
+use Rattle.lfs_model.specs.SlotEdits.{slot_of_path, pair_with_slots}
+use Rattle.lfs_model.specs.Slots.{Slot, zero_gstate, same_pair}
+use Rattle.lfs_model.specs.Thread.{Pair, blocks_of_pairs, gstate_of, is_hard_tail, root_directory_of_pairs, pair_count_before_root}
+use Rattle.lfs_model.specs.Tree.{Path, directory_address_at_path}
+use Rattle.lfs_model.specs.View.{IsAcceptedImage}
 use Rattle.lfs_model.specs.Profile.{IsWritable}
-use Rattle.lfs_model.specs.Shown.{PathLeadsTo, all_slots, directories_in, entries_in, tree_in, used_blocks}
+use Rattle.lfs_model.specs.Shown.{IsPathToDirectory, all_slots_not_moved, directories_in_thread, entries_by_directory_in_thread, tree_on_disk, used_blocks}
 use Rattle.lfs_model.proofs.Alike.{AreAlike}
 use Rattle.lfs_model.proofs.Became.{fits_same}
 use Rattle.lfs_model.proofs.Changes.{Follows, SameFiles}
@@ -39,11 +39,11 @@ use Rattle.lfs_model.proofs.StepsTaken.{IsOnlyStep}
 use Rattle.lfs_model.proofs.Superblocks.{IsChain}
 use Rattle.lfs_model.proofs.TwoPlaces.{two}
 use Rattle.lfs_thread.specs.Kept.{Kept}
-use Rattle.lfs_thread.specs.Steps.{IsChanged, IsWrittenAs, no_pair, pair_in, with_pair}
-use Rattle.lfs_operations.specs.Dropping.{HasDroppedBehind, IsLeftByDrop, SameInFlight}
-use Rattle.lfs_operations.specs.Editing.{CanEdit}
-use Rattle.lfs_operations.specs.Renaming.{with_renamed}
-use Rattle.lfs_operations.specs.RenamingOver.{CanRenameOntoDirectory, CanRenameOver, IsRenamedOntoDirectory, rename_over_changes}
+use Rattle.lfs_thread.specs.Steps.{IsPairChanged, IsPairWrittenOnDisk, no_pair, kept_pair_at_index, pairs_with_content_at_index}
+use Rattle.lfs_operations.specs.Dropping.{IsNextPairDropped, IsLeftByStoppedDrop, HasSameBlocksInFlight}
+use Rattle.lfs_operations.specs.Editing.{CanEditEntryOfPair}
+use Rattle.lfs_operations.specs.Renaming.{tree_with_renamed_entry}
+use Rattle.lfs_operations.specs.RenamingOver.{CanRenameOntoDirectoryInPair, CanReplaceDirectoryInPair, IsEntryRenamedOntoDirectory, replace_directory_in_pair_changes}
 use Rattle.lfs_operations.proofs.OntoGone.{IsReplacing, alike_end, left_last, replaced_by, replaced_shrunk, taken_end}
 use Rattle.lfs_operations.proofs.Owning.{turned_count, used_same}
 use Rattle.lfs_operations.proofs.RenameOver.{HasOver, gstate_now, has_over, over_content, over_fits, pair_now, same_made, step, taken, target_held}
@@ -59,7 +59,7 @@ pub record HasPlaceOver (w : Site) (p q o : Pair) (d : ℕ × ℕ) (n : ℕ) : T
   pub back : List Pair
   pub there : dirs_at w (q ∷ []) ≡ front ++ x ∷ o ∷ back
   pub number : length front ≡ n
-  pub soft : is_hard x.content.tail ≡ false
+  pub soft : is_hard_tail x.content.tail ≡ false
   pub b : Bool
   pub one : List Pair
   pub mid : List Pair
@@ -69,7 +69,7 @@ pub record HasPlaceOver (w : Site) (p q o : Pair) (d : ℕ × ℕ) (n : ℕ) : T
   pub apart : Each (λ z. same_pair z.at d ≡ false) (two b one (p ∷ []) mid [] other)
   pub are : two b one (q ∷ []) mid [] other ≡ front ++ x ∷ back
 
-module _ (w : Site) (p q o : Pair) (d : ℕ × ℕ) (address : same_pair o.at d ≡ true) (distinct : IsDistinct nat_eq (blocks_of (thread_at w (p ∷ [])))) (tail : is_hard q.content.tail ≡ is_hard p.content.tail) where
+module _ (w : Site) (p q o : Pair) (d : ℕ × ℕ) (address : same_pair o.at d ≡ true) (distinct : IsDistinct nat_eq (blocks_of_pairs (thread_at w (p ∷ [])))) (tail : is_hard_tail q.content.tail ≡ is_hard_tail p.content.tail) where
   abbrev in_front : List Pair
   in_front = w.before ++ w.left
 
@@ -79,10 +79,10 @@ module _ (w : Site) (p q o : Pair) (d : ℕ × ℕ) (address : same_pair o.at d 
   -- the pairs but o aren't at its address
   others_apart : (front back : List Pair) → thread_at w (p ∷ []) ≡ w.chain ++ (front ++ o ∷ back) → Each (λ z. same_pair z.at d ≡ false) front × Each (λ z. same_pair z.at d ≡ false) back
   others_apart front back is =
-      let e = subst (λ z. IsDistinct nat_eq (blocks_of z)) (is ∙ sym (append_assoc w.chain front (o ∷ back))) distinct in
+      let e = subst (λ z. IsDistinct nat_eq (blocks_of_pairs z)) (is ∙ sym (append_assoc w.chain front (o ∷ back))) distinct in
       (each_right (λ (z : Pair). same_pair z.at d ≡ false) w.chain front (avoids_front (w.chain ++ front) o back d e address), avoids_behind (w.chain ++ front) o back d e address)
 
-  ahead_place : (mid : List Pair) (x : Pair) (back : List Pair) (n : ℕ) → in_back ≡ mid ++ x ∷ o ∷ back → length (in_front ++ p ∷ mid) ≡ n → is_hard x.content.tail ≡ false → HasPlaceOver w p q o d n
+  ahead_place : (mid : List Pair) (x : Pair) (back : List Pair) (n : ℕ) → in_back ≡ mid ++ x ∷ o ∷ back → length (in_front ++ p ∷ mid) ≡ n → is_hard_tail x.content.tail ≡ false → HasPlaceOver w p q o d n
   ahead_place mid x back n e k soft =
       let whole : thread_at w (p ∷ []) ≡ w.chain ++ ((in_front ++ p ∷ (mid ++ x ∷ [])) ++ o ∷ back)
       = ap (λ z. w.chain ++ (in_front ++ p ∷ z)) (e ∙ sym (append_assoc mid (x ∷ []) (o ∷ back))) ∙ ap (λ z. w.chain ++ z) (sym (append_assoc in_front (p ∷ (mid ++ x ∷ [])) (o ∷ back))) in
@@ -106,7 +106,7 @@ module _ (w : Site) (p q o : Pair) (d : ℕ × ℕ) (address : same_pair o.at d 
         are = ap (λ z. in_front ++ q ∷ z) (append_assoc mid (x ∷ []) back) ∙ sym (append_assoc in_front (q ∷ mid) (x ∷ back));
       }
 
-  next_place : (back : List Pair) (n : ℕ) → in_back ≡ o ∷ back → length in_front ≡ n → is_hard p.content.tail ≡ false → HasPlaceOver w p q o d n
+  next_place : (back : List Pair) (n : ℕ) → in_back ≡ o ∷ back → length in_front ≡ n → is_hard_tail p.content.tail ≡ false → HasPlaceOver w p q o d n
   next_place back n e k soft =
       let whole : thread_at w (p ∷ []) ≡ w.chain ++ ((in_front ++ p ∷ []) ++ o ∷ back) = ap (λ z. w.chain ++ (in_front ++ p ∷ z)) e ∙ ap (λ z. w.chain ++ z) (sym (append_assoc in_front (p ∷ []) (o ∷ back))) in
       let a = others_apart (in_front ++ p ∷ []) back whole in
@@ -129,7 +129,7 @@ module _ (w : Site) (p q o : Pair) (d : ℕ × ℕ) (address : same_pair o.at d 
         are = refl;
       }
 
-  behind_place : (front : List Pair) (x : Pair) (mid : List Pair) → in_front ≡ front ++ x ∷ o ∷ mid → is_hard x.content.tail ≡ false → HasPlaceOver w p q o d (length front)
+  behind_place : (front : List Pair) (x : Pair) (mid : List Pair) → in_front ≡ front ++ x ∷ o ∷ mid → is_hard_tail x.content.tail ≡ false → HasPlaceOver w p q o d (length front)
   behind_place front x mid e soft =
       let turned : dirs_at w (p ∷ []) ≡ (front ++ x ∷ []) ++ o ∷ (mid ++ p ∷ in_back) = ap (λ z. z ++ p ∷ in_back) e ∙ append_assoc front (x ∷ o ∷ mid) (p ∷ in_back) ∙ sym (append_assoc front (x ∷ []) (o ∷ (mid ++ p ∷ in_back))) in
       let a = others_apart (front ++ x ∷ []) (mid ++ p ∷ in_back) (ap (λ z. w.chain ++ z) turned) in
@@ -150,22 +150,22 @@ module _ (w : Site) (p q o : Pair) (d : ℕ × ℕ) (address : same_pair o.at d 
         are = append_assoc front (x ∷ []) (mid ++ q ∷ in_back);
       }
 
-  pub place_over : (front : List Pair) (x : Pair) (back : List Pair) → dirs_at w (p ∷ []) ≡ front ++ x ∷ o ∷ back → is_hard x.content.tail ≡ false → (p ≡ o → ⊥) → HasPlaceOver w p q o d (length front)
+  pub place_over : (front : List Pair) (x : Pair) (back : List Pair) → dirs_at w (p ∷ []) ≡ front ++ x ∷ o ∷ back → is_hard_tail x.content.tail ≡ false → (p ≡ o → ⊥) → HasPlaceOver w p q o d (length front)
   place_over front x back e soft not_itself = by (where_is in_front p in_back front x o back e)
     where
       by : WhereIs in_front p in_back front x o back → HasPlaceOver w p q o d (length front)
       by (Ahead mid h k) = ahead_place mid x back (length front) h (ap length (sym k)) soft
-      by (Next h i k) = next_place back (length front) k (ap length h) (ap (λ (z : Pair). is_hard z.content.tail) (sym i) ∙ soft)
+      by (Next h i k) = next_place back (length front) k (ap length h) (ap (λ (z : Pair). is_hard_tail z.content.tail) (sym i) ∙ soft)
       by (Itself h) = absurd (not_itself h)
       by (Behind mid h) = behind_place front x mid h soft
 
 -- ---- the two steps
 
-module _ (t : Kept) (index id place : ℕ) (name : Name) (gone : ℕ) (rename : CanRenameOntoDirectory t index id place name gone) (m : Kept) (r : IsChanged t index (rename_over_changes t index id place name) m) where
-  abbrev over : CanRenameOver t index id place name
+module _ (t : Kept) (index id place : ℕ) (name : Name) (gone : ℕ) (rename : CanRenameOntoDirectoryInPair t index id place name gone) (m : Kept) (r : IsPairChanged t index (replace_directory_in_pair_changes t index id place name) m) where
+  abbrev over : CanReplaceDirectoryInPair t index id place name
   over = rename.over
 
-  abbrev can : CanEdit t index id
+  abbrev can : CanEditEntryOfPair t index id
   can = over.can
 
   abbrev p : Pair
@@ -184,7 +184,7 @@ module _ (t : Kept) (index id place : ℕ) (name : Name) (gone : ℕ) (rename : 
   r2 = over.target.stands.right
 
   abbrev o : Pair
-  o = pair_in t gone
+  o = kept_pair_at_index t gone
 
   abbrev w : Site
   w = site t.disk t.pairs can.path can.at can.ready.accepted can.leads can.first index p can.stands.rest can.stands.place can.begins
@@ -198,14 +198,14 @@ module _ (t : Kept) (index id place : ℕ) (name : Name) (gone : ℕ) (rename : 
   same_begin : same_pair (begin_of w (p ∷ [])) can.at ≡ true
   same_begin = same t.disk t.pairs can.path can.at can.ready.accepted can.leads can.first index p can.stands.rest can.stands.place can.begins
 
-  accepted : IsAccepted t.disk (thread_at w (p ∷ []))
-  accepted = subst (IsAccepted t.disk) there can.ready.accepted
+  accepted : IsAcceptedImage t.disk (thread_at w (p ∷ []))
+  accepted = subst (IsAcceptedImage t.disk) there can.ready.accepted
 
-  settled : gstate_of (thread_at w (p ∷ [])) ≡ no_gstate
+  settled : gstate_of (thread_at w (p ∷ [])) ≡ zero_gstate
   settled = ap gstate_of (sym there) ∙ can.ready.settled
 
-  leads : PathLeadsTo (thread_at w (p ∷ [])) can.path can.at
-  leads = subst (λ z. PathLeadsTo z can.path can.at) there can.leads
+  leads : IsPathToDirectory (thread_at w (p ∷ [])) can.path can.at
+  leads = subst (λ z. IsPathToDirectory z can.path can.at) there can.leads
 
   abbrev from : Path
   from = can.path ++ can.name ∷ []
@@ -213,7 +213,7 @@ module _ (t : Kept) (index id place : ℕ) (name : Name) (gone : ℕ) (rename : 
   abbrev to : Path
   to = can.path ++ name ∷ []
 
-  apart : rest_after (can.path ++ can.name ∷ []) (can.path ++ name ∷ []) ≡ None
+  apart : path_without_prefix (can.path ++ can.name ∷ []) (can.path ++ name ∷ []) ≡ None
   apart = sibling_apart can.path can.name name over.differs
 
   -- ---- the pair that goes
@@ -221,11 +221,11 @@ module _ (t : Kept) (index id place : ℕ) (name : Name) (gone : ℕ) (rename : 
   held : p.content.slots ≡ l2 ++ target ∷ r2
   held = target_held t index id place name over
 
-  entry_there : slice_get (entries_in (thread_at w (p ∷ [])) can.at) (place_at w l2) ≡ Some target
+  entry_there : slice_get (entries_by_directory_in_thread (thread_at w (p ∷ [])) can.at) (place_at w l2) ≡ Some target
   entry_there = ap (λ s. slice_get s (place_at w l2)) (site_shows t.disk w p l2 (target ∷ []) r2 can.at accepted site_is (no_move_from (thread_at w (p ∷ [])) settled) same_begin held
       ∙ ap (λ s. shown_before w l2 ++ (s ++ shown_behind w r2)) (entry_only target over.target.stands.entry)) ∙ get_here (shown_before w l2) (shown_behind w r2) target
 
-  led : PathLeadsTo (thread_at w (p ∷ [])) (can.path ++ target.name ∷ []) over.to
+  led : IsPathToDirectory (thread_at w (p ∷ [])) (can.path ++ target.name ∷ []) over.to
   led = directory_led t.disk (thread_at w (p ∷ [])) can.path can.at (place_at w l2) target over.to accepted leads entry_there over.branch
 
   front : HasFront (dirs_at w (p ∷ [])) over.to
@@ -235,10 +235,10 @@ module _ (t : Kept) (index id place : ℕ) (name : Name) (gone : ℕ) (rename : 
   first_is = number_of_first t.disk w.chain (dirs_at w (p ∷ [])) over.to accepted front gone o
       (subst (λ z. slice_get z gone ≡ Some o) there (get_some t.pairs gone no_pair rename.below)) rename.at
 
-  alone_first : is_hard front.first.content.tail ≡ false
-  alone_first = ap (λ (z : Pair). is_hard z.content.tail) first_is.1 ∙ rename.alone
+  alone_first : is_hard_tail front.first.content.tail ≡ false
+  alone_first = ap (λ (z : Pair). is_hard_tail z.content.tail) first_is.1 ∙ rename.alone
 
-  empty : entries_in (thread_at w (p ∷ [])) over.to ≡ []
+  empty : entries_by_directory_in_thread (thread_at w (p ∷ [])) over.to ≡ []
   empty = shows_nothing t.disk w.chain (dirs_at w (p ∷ [])) over.to accepted site_is.chain (no_move_from (thread_at w (p ∷ [])) settled) front alone_first
       (ap (λ (z : Pair). z.content.slots) first_is.1 ∙ rename.empty)
 
@@ -260,11 +260,11 @@ module _ (t : Kept) (index id place : ℕ) (name : Name) (gone : ℕ) (rename : 
   abbrev q : Pair
   q = record { at = p.at; content = over_content t index id place name over h.x h.y }
 
-  written : IsWrittenAs t index (over_content t index id place name over h.x h.y) m.disk
-  written = subst (λ z. IsWrittenAs t index z m.disk) (same_made t index id place name over r.content r.made) r.written
+  written : IsPairWrittenOnDisk t index (over_content t index id place name over h.x h.y) m.disk
+  written = subst (λ z. IsPairWrittenOnDisk t index z m.disk) (same_made t index id place name over r.content r.made) r.written
 
   pairs_now : m.pairs ≡ thread_at w (q ∷ [])
-  pairs_now = r.pairs ∙ ap (with_pair t index) (same_made t index id place name over r.content r.made) ∙ pair_now t index id place name over h
+  pairs_now = r.pairs ∙ ap (pairs_with_content_at_index t index) (same_made t index id place name over r.content r.made) ∙ pair_now t index id place name over h
 
   stepped : IsStep t.disk m.disk w p [] q [] [] [] h.l h.olds h.news h.r
   stepped = step t index id place name over h m.disk written
@@ -278,8 +278,8 @@ module _ (t : Kept) (index id place : ℕ) (name : Name) (gone : ℕ) (rename : 
 
   used_now : (b : ℕ) → count b (used_blocks m.disk m.pairs) ≡ count b (used_blocks t.disk t.pairs)
   used_now b =
-      let files : SameFiles t.disk m.disk (all_slots t.pairs) = subst (λ z. SameFiles t.disk m.disk (all_slots z)) (sym there)
-      (recursion_from_All (λ (x : Slot). HasSameFile t.disk m.disk x.struct) (all_slots (thread_at w (p ∷ []))) stepped.device.files) in
+      let files : SameFiles t.disk m.disk (all_slots_not_moved t.pairs) = subst (λ z. SameFiles t.disk m.disk (all_slots_not_moved z)) (sym there)
+      (recursion_from_All (λ (x : Slot). HasSameFile t.disk m.disk x.struct) (all_slots_not_moved (thread_at w (p ∷ []))) stepped.device.files) in
       let e = turned_count t.disk m.disk w p q [] h.l h.olds h.news h.r (files_of t.disk (target ∷ [])) [] (record {
         none = stepped.no_move;
         still = stepped.still_none;
@@ -287,7 +287,7 @@ module _ (t : Kept) (index id place : ℕ) (name : Name) (gone : ℕ) (rename : 
         at = refl;
         was = h.placed.was;
         is = stepped.is;
-      }) (λ b. let n = blocks_now t index (rename_over_changes t index id place name) w p h.l h.olds h.news h.r (target ∷ []) u (with_name u name) h.placed m.disk stepped.device.geometry files b in omega arith) b in
+      }) (λ b. let n = blocks_now t index (replace_directory_in_pair_changes t index id place name) w p h.l h.olds h.news h.r (target ∷ []) u (with_name u name) h.placed m.disk stepped.device.geometry files b in omega arith) b in
       let f = ap (λ z. count b (used_blocks m.disk z)) pairs_now in
       let g = ap (λ z. count b (used_blocks t.disk z)) there in
       let none : count b (files_of t.disk (target ∷ [])) ≡ 0 = ap (λ z. count b (files_of t.disk (record target { struct = z } ∷ []))) over.branch in
@@ -306,25 +306,25 @@ module _ (t : Kept) (index id place : ℕ) (name : Name) (gone : ℕ) (rename : 
     is_chain = subst (IsChain w.chain) placed.there (step_chain t.disk m.disk w p [] q [] [] [] h.l h.olds h.news h.r stepped);
     number = (let a = length-append w.chain placed.front in let b = length-append w.chain front.front in let n = placed.number in let f = first_is.0 in omega arith);
     soft = placed.soft;
-    replaced = subst (λ z. IsReplaced (directory_at (entries_in z) (root_of z)) from to over.to) (sym there)
-        (subst (λ (n : Name). IsReplaced (directory_at (entries_in (thread_at w (p ∷ []))) (root_of (thread_at w (p ∷ [])))) from (can.path ++ n ∷ []) over.to) over.target.stands.named
+    replaced = subst (λ z. IsReplaced (directory_address_at_path (entries_by_directory_in_thread z) (root_directory_of_pairs z)) from to over.to) (sym there)
+        (subst (λ (n : Name). IsReplaced (directory_address_at_path (entries_by_directory_in_thread (thread_at w (p ∷ []))) (root_directory_of_pairs (thread_at w (p ∷ [])))) from (can.path ++ n ∷ []) over.to) over.target.stands.named
         (replaced_by t.disk (thread_at w (p ∷ [])) can.path can.at (place_at w l2) target over.to from accepted leads entry_there over.branch empty
-        (ap (λ (n : Name). rest_after from (can.path ++ n ∷ [])) over.target.stands.named ∙ apart)));
-    every = λ Q k. subst (λ z. All (λ y. Q y.at) (directories_in z)) (sym pairs_now)
-        (step_each t.disk m.disk w p [] q [] [] [] h.l h.olds h.news h.r stepped can.path can.at leads same_begin Q (subst (λ z. All (λ y. Q y.at) (directories_in z)) there k));
+        (ap (λ (n : Name). path_without_prefix from (can.path ++ n ∷ [])) over.target.stands.named ∙ apart)));
+    every = λ Q k. subst (λ z. All (λ y. Q y.at) (directories_in_thread z)) (sym pairs_now)
+        (step_each t.disk m.disk w p [] q [] [] [] h.l h.olds h.news h.r stepped can.path can.at leads same_begin Q (subst (λ z. All (λ y. Q y.at) (directories_in_thread z)) there k));
     address = rename.at;
     alone = rename.alone;
     empty = rename.empty;
-    used = subst (λ s. AreUsed s (used_blocks m.disk m.pairs)) (sym r.map) (used_same t.map (used_blocks t.disk t.pairs) (used_blocks m.disk m.pairs) used_now can.ready.used);
+    used = subst (λ s. AreExactlyTheUsedBlocks s (used_blocks m.disk m.pairs)) (sym r.map) (used_same t.map (used_blocks t.disk t.pairs) (used_blocks m.disk m.pairs) used_now can.ready.used);
     size = ap length r.map ∙ can.ready.size ∙ sym r.written.shape.count;
-    flying = subst (SameInFlight t.map) (sym r.map) (λ b. ((λ k. k), (λ k. k)));
-    root = ap superblocks_before pairs_now ∙ step_chain t.disk m.disk w p [] q [] [] [] h.l h.olds h.news h.r stepped ∙ sym (ap superblocks_before there ∙ site_is.chain);
+    flying = subst (HasSameBlocksInFlight t.map) (sym r.map) (λ b. ((λ k. k), (λ k. k)));
+    root = ap pair_count_before_root pairs_now ∙ step_chain t.disk m.disk w p [] q [] [] [] h.l h.olds h.news h.r stepped ∙ sym (ap pair_count_before_root there ∙ site_is.chain);
     shape = r.written.shape;
   }
 
   -- ---- both
 
-  module _ (new : Kept) (g : HasDroppedBehind m (gone - 1) no_gstate new) where
+  module _ (new : Kept) (g : IsNextPairDropped m (gone - 1) zero_gstate new) where
     ended : IsOnlyStep t.disk t.pairs new.disk new.pairs (renamed (can.path ++ can.name ∷ []) (can.path ++ name ∷ [])) (rename_walk (can.path ++ can.name ∷ []) (can.path ++ name ∷ []))
     ended = taken_end t m from to over.to o gone replacing new g
 
@@ -332,8 +332,8 @@ module _ (t : Kept) (index id place : ℕ) (name : Name) (gone : ℕ) (rename : 
         (can.path ++ can.name ∷ []) (can.path ++ name ∷ []) name
     unfolding replacing
     laid = record {
-      is_chain = ap superblocks_before (sym placed.were) ∙ site_is.chain;
-      accepted = subst (IsAccepted t.disk) placed.were accepted;
+      is_chain = ap pair_count_before_root (sym placed.were) ∙ site_is.chain;
+      accepted = subst (IsAcceptedImage t.disk) placed.were accepted;
       writable = subst (IsWritable t.disk) placed.were (subst (IsWritable t.disk) there can.ready.writable);
       settled = ap gstate_of (sym placed.were) ∙ settled;
       still = g.gstate;
@@ -344,7 +344,7 @@ module _ (t : Kept) (index id place : ℕ) (name : Name) (gone : ℕ) (rename : 
       left_over = h.over.0;
       at = refl;
       is = append-nil q.content.slots;
-      became = (refl, fits_same t.disk q (with_slots (h.x ++ record u { name = name } ∷ h.y) p) refl (over_fits t index id place name over h.x h.y h.over));
+      became = (refl, fits_same t.disk q (pair_with_slots (h.x ++ record u { name = name } ∷ h.y) p) refl (over_fits t index id place name over h.x h.y h.over));
       branch = over.branch;
       alike_address = rename.at;
       soft = rename.alone;
@@ -359,13 +359,13 @@ module _ (t : Kept) (index id place : ℕ) (name : Name) (gone : ℕ) (rename : 
       not_beneath = apart;
     }
 
-    pub renamed_onto_directory : IsRenamedOntoDirectory t new rename.over.can.path rename.over.can.name name
+    pub renamed_onto_directory : IsEntryRenamedOntoDirectory t new rename.over.can.path rename.over.can.name name
     renamed_onto_directory = record {
       now = replaced_shrunk t m from to over.to o gone replacing new g;
       completed = λ s given to_given tree given_is to_is. subst (λ z. IsCompleted t.disk z s (ops.Rename given to_given) new.disk new.pairs) (sym (there ∙ placed.were))
           (within_onto_completed t.disk new.disk new.pairs placed.b w.chain placed.one placed.mid placed.other p o q [] can.stands.stands.left u can.stands.stands.right h.x target h.y over.to from to name laid s given to_given
-          (tree ∙ ap (tree_in t.disk) (there ∙ placed.were)) given_is to_is);
+          (tree ∙ ap (tree_on_disk t.disk) (there ∙ placed.were)) given_is to_is);
     }
 
-  pub left_within : (left : Blocks) → IsLeftByDrop m (gone - 1) no_gstate left → IsLeftOf (with_blocks left t.disk) (tree_in t.disk t.pairs) (with_renamed t rename.over.can.path rename.over.can.name name)
+  pub left_within : (left : Blocks) → IsLeftByStoppedDrop m (gone - 1) zero_gstate left → IsLeftOf (with_blocks left t.disk) (tree_on_disk t.disk t.pairs) (tree_with_renamed_entry t rename.over.can.path rename.over.can.name name)
   left_within left g = left_last t m from to over.to o gone replacing left g

@@ -4,53 +4,53 @@ use Rattle.std.specs.Prelude.{All, Contains}
 use Rattle.std.proofs.lemmas.Bool.{cases_lt}
 use Rattle.std.proofs.lemmas.List.Elements.{All-from_recursion, recursion_from_All}
 use Rattle.lfs_model.specs.BlockSets.{IsFree}
-use Rattle.lfs_model.specs.Changes.{Change}
+use Rattle.lfs_model.specs.Changes.{ContentChange}
 use Rattle.lfs_model.specs.Names.{Name}
-use Rattle.lfs_model.specs.Thread.{Pair, blocks_of}
+use Rattle.lfs_model.specs.Thread.{Pair, blocks_of_pairs}
 use Rattle.lfs_model.proofs.BlockSets.{Contains-count, count-Contains}
 use Rattle.lfs_model.proofs.Counts.{count, count_append, each_append, each_counted, each_from_counted, each_weaker}
-use Rattle.lfs_model.proofs.Histories.{AtWorst-read, LeavesOnly-reads, LeavesOnly-trans, StayUnprogrammed-reads, StayUnprogrammed-trans}
-use Rattle.lfs_thread.specs.Device.{four_of, two_of}
+use Rattle.lfs_model.proofs.Histories.{IsWorstOutcomeOfStop-read, IsTrueAfterEachStopSince-reads, IsTrueAfterEachStopSince-trans, AreBytesStillUnprogrammed-reads, AreBytesStillUnprogrammed-trans}
+use Rattle.lfs_thread.specs.Device.{blocks_of_two_addresses, blocks_of_address}
 use Rattle.lfs_thread.specs.Kept.{Kept}
-use Rattle.lfs_thread.specs.Steps.{IsOnlyRead, Writes, back_pair, front_pair, no_pair, pair_in}
-use Rattle.lfs_operations.specs.Changing.{IsPut, WritesInPairs, WritesIn, WritesWithin}
-use Rattle.lfs_operations.specs.MoveEnds.{HasEndedMoveAt, content_without, end_at, pairs_ended}
-use Rattle.lfs_operations.specs.MovingSteps.{WritesAmong, WritesInTwo}
-use Rattle.lfs_operations.specs.MovingOnto.{IsMovedOnto}
+use Rattle.lfs_thread.specs.Steps.{IsThreadOnlyRead, ThreadChangesOnlyTheseBlocks, back_pair_of_split, front_pair_of_split, no_pair, kept_pair_at_index}
+use Rattle.lfs_operations.specs.Changing.{IsPairChangedOrSplit, WritesPairsAndTwoFreeBlocks, WritesPairAndTwoFreeBlocks, GivesPairsAtMostTwoFreeBlocks}
+use Rattle.lfs_operations.specs.MoveEnds.{HasEndedMoveAt, content_after_move_ends, pair_written_at_move_end, pairs_after_move_ends}
+use Rattle.lfs_operations.specs.MovingSteps.{WritesPairsAndFreeBlocks, WritesTwoPairsAndTwoFreeBlocks}
+use Rattle.lfs_operations.specs.MovingOnto.{IsEntryReplacedAcrossPairs}
 use Rattle.lfs_operations.proofs.MovStep.{blocks_alike}
 use Rattle.lfs_operations.proofs.Putting.{read_is, with_history}
 use Rattle.lfs_operations.proofs.UnlinkedSteps.{writes_trans, writes_wider}
 
 -- ---- blocks of pairs
 
-blocks_set : (xs : List Pair) (n : ℕ) (p d : Pair) → p.at ≡ (get_or xs n d).at → blocks_of (set xs n p) ≡ blocks_of xs
+blocks_set : (xs : List Pair) (n : ℕ) (p d : Pair) → p.at ≡ (get_or xs n d).at → blocks_of_pairs (set xs n p) ≡ blocks_of_pairs xs
 blocks_set [] n p d e = refl
-blocks_set (x ∷ xs) zero p d e = ap (λ (at : ℕ × ℕ). at.0 ∷ at.1 ∷ blocks_of xs) e
+blocks_set (x ∷ xs) zero p d e = ap (λ (at : ℕ × ℕ). at.0 ∷ at.1 ∷ blocks_of_pairs xs) e
 blocks_set (x ∷ xs) (suc n) p d e = ap (λ z. x.at.0 ∷ x.at.1 ∷ z) (blocks_set xs n p d e)
 
-blocks_inserted : (xs : List Pair) (n : ℕ) (p : Pair) → n ≤ length xs → (b : ℕ) → count b (blocks_of (insert xs n p)) ≡ count b (two_of p.at) + count b (blocks_of xs)
-blocks_inserted xs zero p l b = count_append b (two_of p.at) (blocks_of xs)
+blocks_inserted : (xs : List Pair) (n : ℕ) (p : Pair) → n ≤ length xs → (b : ℕ) → count b (blocks_of_pairs (insert xs n p)) ≡ count b (blocks_of_address p.at) + count b (blocks_of_pairs xs)
+blocks_inserted xs zero p l b = count_append b (blocks_of_address p.at) (blocks_of_pairs xs)
 blocks_inserted [] (suc n) p l b = absurd (omega arith)
 blocks_inserted (x ∷ xs) (suc n) p l b =
     let k = blocks_inserted xs n p (omega arith) b in
-    let e = count_append b (two_of x.at) (blocks_of (insert xs n p)) in
-    let f = count_append b (two_of x.at) (blocks_of xs) in
+    let e = count_append b (blocks_of_address x.at) (blocks_of_pairs (insert xs n p)) in
+    let f = count_append b (blocks_of_address x.at) (blocks_of_pairs xs) in
     omega (arith, k, e, f)
 
-blocks_removed : (xs : List Pair) (n b : ℕ) → count b (blocks_of (remove xs n)) ≤ count b (blocks_of xs)
+blocks_removed : (xs : List Pair) (n b : ℕ) → count b (blocks_of_pairs (remove xs n)) ≤ count b (blocks_of_pairs xs)
 blocks_removed [] zero b = omega arith
 blocks_removed [] (suc n) b = omega arith
-blocks_removed (x ∷ xs) zero b = let e = count_append b (two_of x.at) (blocks_of xs) in omega (arith, e)
+blocks_removed (x ∷ xs) zero b = let e = count_append b (blocks_of_address x.at) (blocks_of_pairs xs) in omega (arith, e)
 blocks_removed (x ∷ xs) (suc n) b =
     let k = blocks_removed xs n b in
-    let e = count_append b (two_of x.at) (blocks_of (remove xs n)) in
-    let f = count_append b (two_of x.at) (blocks_of xs) in
+    let e = count_append b (blocks_of_address x.at) (blocks_of_pairs (remove xs n)) in
+    let f = count_append b (blocks_of_address x.at) (blocks_of_pairs xs) in
     omega (arith, k, e, f)
 
-pub there_counted : (xs : List Pair) (i : ℕ) (d : Pair) → i < length xs → (b : ℕ) → 1 ≤ count b (two_of (get_or xs i d).at) → 1 ≤ count b (blocks_of xs)
+pub there_counted : (xs : List Pair) (i : ℕ) (d : Pair) → i < length xs → (b : ℕ) → 1 ≤ count b (blocks_of_address (get_or xs i d).at) → 1 ≤ count b (blocks_of_pairs xs)
 there_counted [] i d l b h = absurd (omega arith)
-there_counted (x ∷ xs) zero d l b h = let e = count_append b (x.at.0 ∷ x.at.1 ∷ []) (blocks_of xs) in omega arith
-there_counted (x ∷ xs) (suc i) d l b h = let k = there_counted xs i d (omega arith) b h in let e = count_append b (x.at.0 ∷ x.at.1 ∷ []) (blocks_of xs) in omega arith
+there_counted (x ∷ xs) zero d l b h = let e = count_append b (x.at.0 ∷ x.at.1 ∷ []) (blocks_of_pairs xs) in omega arith
+there_counted (x ∷ xs) (suc i) d l b h = let k = there_counted xs i d (omega arith) b h in let e = count_append b (x.at.0 ∷ x.at.1 ∷ []) (blocks_of_pairs xs) in omega arith
 
 -- ---- fewer blocks
 
@@ -68,128 +68,128 @@ both_of xs ys cs f g b some = go (cases_lt 0 (count b xs))
     go (inl l) = f b (omega (arith, l))
     go (inr l) = g b (let e = count_append b xs ys in omega (arith, l, e, some))
 
-pair_of : (t : Kept) (i : ℕ) (fresh : List ℕ) → i < length t.pairs → AreOf (two_of (pair_in t i).at) (blocks_of t.pairs ++ fresh)
-pair_of t i fresh l b some = let k = there_counted t.pairs i no_pair l b some in let e = count_append b (blocks_of t.pairs) fresh in omega (arith, k, e)
+pair_of : (t : Kept) (i : ℕ) (fresh : List ℕ) → i < length t.pairs → AreOf (blocks_of_address (kept_pair_at_index t i).at) (blocks_of_pairs t.pairs ++ fresh)
+pair_of t i fresh l b some = let k = there_counted t.pairs i no_pair l b some in let e = count_append b (blocks_of_pairs t.pairs) fresh in omega (arith, k, e)
 
-fresh_of : (t : Kept) (fresh : List ℕ) → AreOf fresh (blocks_of t.pairs ++ fresh)
-fresh_of t fresh b some = let e = count_append b (blocks_of t.pairs) fresh in omega (arith, some, e)
+fresh_of : (t : Kept) (fresh : List ℕ) → AreOf fresh (blocks_of_pairs t.pairs ++ fresh)
+fresh_of t fresh b some = let e = count_append b (blocks_of_pairs t.pairs) fresh in omega (arith, some, e)
 
 -- ---- steps
 
 -- those of two pairs
-pub writes_one : (t m : Kept) (one other : ℕ) → one < length t.pairs → other < length t.pairs → WritesInTwo t one other m → WritesInPairs t m
+pub writes_one : (t m : Kept) (one other : ℕ) → one < length t.pairs → other < length t.pairs → WritesTwoPairsAndTwoFreeBlocks t one other m → WritesPairsAndTwoFreeBlocks t m
 writes_one t m one other l k w =
-    let bs = two_of (pair_in t other).at ++ (two_of (pair_in t one).at ++ w.fresh) in
-    let cs = blocks_of t.pairs ++ w.fresh in
+    let bs = blocks_of_address (kept_pair_at_index t other).at ++ (blocks_of_address (kept_pair_at_index t one).at ++ w.fresh) in
+    let cs = blocks_of_pairs t.pairs ++ w.fresh in
     record {
       fresh = w.fresh;
       few = w.few;
       free = w.free;
-      writes = writes_wider cs (apart_wider bs cs (both_of (two_of (pair_in t other).at) (two_of (pair_in t one).at ++ w.fresh) cs (pair_of t other w.fresh k)
-          (both_of (two_of (pair_in t one).at) w.fresh cs (pair_of t one w.fresh l) (fresh_of t w.fresh)))) w.writes;
+      writes = writes_wider cs (apart_wider bs cs (both_of (blocks_of_address (kept_pair_at_index t other).at) (blocks_of_address (kept_pair_at_index t one).at ++ w.fresh) cs (pair_of t other w.fresh k)
+          (both_of (blocks_of_address (kept_pair_at_index t one).at) w.fresh cs (pair_of t one w.fresh l) (fresh_of t w.fresh)))) w.writes;
     }
 
 -- those of a pair that is changed, or cut in two
-pub put_within : (old mid : Kept) (index : ℕ) (changes : List Change) → index < length old.pairs → IsPut old index changes mid → WritesIn old index mid → WritesWithin old mid
+pub put_within : (old mid : Kept) (index : ℕ) (changes : List ContentChange) → index < length old.pairs → IsPairChangedOrSplit old index changes mid → WritesPairAndTwoFreeBlocks old index mid → GivesPairsAtMostTwoFreeBlocks old mid
 put_within old mid index changes l (inl is) w =
-    let at = (pair_in old index).at in
-    let cs = blocks_of old.pairs ++ w.fresh in
+    let at = (kept_pair_at_index old index).at in
+    let cs = blocks_of_pairs old.pairs ++ w.fresh in
     record {
       written = record {
         fresh = w.fresh;
         few = w.few;
         free = w.free;
-        writes = writes_wider cs (apart_wider (two_of at ++ w.fresh) cs (both_of (two_of at) w.fresh cs (pair_of old index w.fresh l) (fresh_of old w.fresh))) w.writes;
+        writes = writes_wider cs (apart_wider (blocks_of_address at ++ w.fresh) cs (both_of (blocks_of_address at) w.fresh cs (pair_of old index w.fresh l) (fresh_of old w.fresh))) w.writes;
       };
       within = λ b h.
-          let k = count-Contains (blocks_of mid.pairs) b h in
-          let same = ap (λ z. count b (blocks_of z)) is.pairs ∙ ap (count b) (blocks_set old.pairs index (record { at = at; content = is.content }) no_pair refl) in
-          let e = count_append b (blocks_of old.pairs) w.fresh in
+          let k = count-Contains (blocks_of_pairs mid.pairs) b h in
+          let same = ap (λ z. count b (blocks_of_pairs z)) is.pairs ∙ ap (count b) (blocks_set old.pairs index (record { at = at; content = is.content }) no_pair refl) in
+          let e = count_append b (blocks_of_pairs old.pairs) w.fresh in
           Contains-count cs b (omega (arith, k, same, e));
     }
 put_within old mid index changes l (inr (large, (fresh, is))) w =
-    let at = (pair_in old index).at in
-    let front = front_pair old index is.content is.cut fresh in
-    let back = back_pair is.content is.cut fresh in
-    let cs = blocks_of old.pairs ++ two_of fresh in
+    let at = (kept_pair_at_index old index).at in
+    let front = front_pair_of_split old index is.content is.cut fresh in
+    let back = back_pair_of_split is.content is.cut fresh in
+    let cs = blocks_of_pairs old.pairs ++ blocks_of_address fresh in
     record {
       written = record {
-        fresh = two_of fresh;
+        fresh = blocks_of_address fresh;
         few = omega arith;
         free = (is.free.first, (is.free.second, tt));
-        writes = writes_wider cs (apart_wider (four_of at fresh) cs (both_of (two_of at) (two_of fresh) cs (pair_of old index (two_of fresh) l) (fresh_of old (two_of fresh)))) is.writes;
+        writes = writes_wider cs (apart_wider (blocks_of_two_addresses at fresh) cs (both_of (blocks_of_address at) (blocks_of_address fresh) cs (pair_of old index (blocks_of_address fresh) l) (fresh_of old (blocks_of_address fresh)))) is.writes;
       };
       within = λ b h.
-          let k = count-Contains (blocks_of mid.pairs) b h in
+          let k = count-Contains (blocks_of_pairs mid.pairs) b h in
           let n = length-set old.pairs index front in
-          let same = ap (λ z. count b (blocks_of z)) is.pairs ∙ blocks_inserted (set old.pairs index front) (index + 1) back (omega (arith, l, n)) b in
+          let same = ap (λ z. count b (blocks_of_pairs z)) is.pairs ∙ blocks_inserted (set old.pairs index front) (index + 1) back (omega (arith, l, n)) b in
           let were = ap (count b) (blocks_set old.pairs index front no_pair refl) in
-          let e = count_append b (blocks_of old.pairs) (two_of fresh) in
+          let e = count_append b (blocks_of_pairs old.pairs) (blocks_of_address fresh) in
           Contains-count cs b (omega (arith, k, same, were, e));
     }
 
 -- and a pair of the thread then
-more : (old mid new : Kept) (i : ℕ) → WritesWithin old mid → i < length mid.pairs → Writes (two_of (pair_in mid i).at) mid new → WritesInPairs old new
+more : (old mid new : Kept) (i : ℕ) → GivesPairsAtMostTwoFreeBlocks old mid → i < length mid.pairs → ThreadChangesOnlyTheseBlocks (blocks_of_address (kept_pair_at_index mid i).at) mid new → WritesPairsAndTwoFreeBlocks old new
 more old mid new i w l second =
-    let cs = blocks_of old.pairs ++ w.written.fresh in
-    let bs = two_of (pair_in mid i).at in
+    let cs = blocks_of_pairs old.pairs ++ w.written.fresh in
+    let bs = blocks_of_address (kept_pair_at_index mid i).at in
     record {
       fresh = w.written.fresh;
       few = w.written.few;
       free = w.written.free;
-      writes = writes_trans w.written.writes (writes_wider cs (apart_wider bs cs (λ b some. count-Contains cs b (w.within b (Contains-count (blocks_of mid.pairs) b (there_counted mid.pairs i no_pair l b some))))) second);
+      writes = writes_trans w.written.writes (writes_wider cs (apart_wider bs cs (λ b some. count-Contains cs b (w.within b (Contains-count (blocks_of_pairs mid.pairs) b (there_counted mid.pairs i no_pair l b some))))) second);
     }
 
-fewer_ended : (t : Kept) (pair id : ℕ) (goes : Bool) (b : ℕ) → count b (blocks_of (pairs_ended t pair id goes)) ≤ count b (blocks_of t.pairs)
+fewer_ended : (t : Kept) (pair id : ℕ) (goes : Bool) (b : ℕ) → count b (blocks_of_pairs (pairs_after_move_ends t pair id goes)) ≤ count b (blocks_of_pairs t.pairs)
 fewer_ended t pair id true b = blocks_removed t.pairs pair b
-fewer_ended t pair id false b = let e = ap (count b) (blocks_set t.pairs pair (record { at = (pair_in t pair).at; content = content_without t pair id }) no_pair refl) in omega (arith, e)
+fewer_ended t pair id false b = let e = ap (count b) (blocks_set t.pairs pair (record { at = (kept_pair_at_index t pair).at; content = content_after_move_ends t pair id }) no_pair refl) in omega (arith, e)
 
-pub end_below : (n pair : ℕ) (goes : Bool) → pair < n → end_at pair goes < n
+pub end_below : (n pair : ℕ) (goes : Bool) → pair < n → pair_written_at_move_end pair goes < n
 end_below n pair true l = omega (arith, l)
 end_below n pair false l = l
 
-pub end_within : (old mid new : Kept) (pair id : ℕ) (goes : Bool) → WritesWithin old mid → pair < length mid.pairs → HasEndedMoveAt mid pair id goes new → Writes (two_of (pair_in mid (end_at pair goes)).at) mid new → WritesWithin old new
+pub end_within : (old mid new : Kept) (pair id : ℕ) (goes : Bool) → GivesPairsAtMostTwoFreeBlocks old mid → pair < length mid.pairs → HasEndedMoveAt mid pair id goes new → ThreadChangesOnlyTheseBlocks (blocks_of_address (kept_pair_at_index mid (pair_written_at_move_end pair goes)).at) mid new → GivesPairsAtMostTwoFreeBlocks old new
 unfolding more
 end_within old mid new pair id goes w l ended second = record {
-  written = more old mid new (end_at pair goes) w (end_below (length mid.pairs) pair goes l) second;
+  written = more old mid new (pair_written_at_move_end pair goes) w (end_below (length mid.pairs) pair goes l) second;
   within = λ b h. w.within b (
-      let k = count-Contains (blocks_of new.pairs) b h in
-      let same = ap (count b) (blocks_alike (pairs_ended mid pair id goes) new.pairs ended.alike) in
+      let k = count-Contains (blocks_of_pairs new.pairs) b h in
+      let same = ap (count b) (blocks_alike (pairs_after_move_ends mid pair id goes) new.pairs ended.alike) in
       let f = fewer_ended mid pair id goes b in
-      Contains-count (blocks_of mid.pairs) b (omega (arith, k, same, f))
+      Contains-count (blocks_of_pairs mid.pairs) b (omega (arith, k, same, f))
       );
 }
 
-after_read : (t mid new : Kept) → IsOnlyRead t mid → WritesInPairs mid new → WritesInPairs t new
-after_read t mid new only w = earlier (subst (λ k. WritesInPairs k new) (read_is t mid only) w)
+after_read : (t mid new : Kept) → IsThreadOnlyRead t mid → WritesPairsAndTwoFreeBlocks mid new → WritesPairsAndTwoFreeBlocks t new
+after_read t mid new only w = earlier (subst (λ k. WritesPairsAndTwoFreeBlocks k new) (read_is t mid only) w)
   where
-    earlier : WritesInPairs (with_history t mid.history) new → WritesInPairs t new
+    earlier : WritesPairsAndTwoFreeBlocks (with_history t mid.history) new → WritesPairsAndTwoFreeBlocks t new
     earlier f = record {
       fresh = f.fresh;
       few = f.few;
       free = f.free;
       writes = record {
         others = f.writes.others;
-        elsewhere = StayUnprogrammed-trans (StayUnprogrammed-reads (blocks_of t.pairs ++ f.fresh) only.reads) f.writes.elsewhere;
+        elsewhere = AreBytesStillUnprogrammed-trans (AreBytesStillUnprogrammed-reads (blocks_of_pairs t.pairs ++ f.fresh) only.reads) f.writes.elsewhere;
         shape = f.writes.shape;
-        at_worst = LeavesOnly-trans (LeavesOnly-reads AtWorst-read only.reads (record { count = refl; sizes = λ b. refl; others = λ b apart. refl })) f.writes.at_worst;
+        at_worst = IsTrueAfterEachStopSince-trans (IsTrueAfterEachStopSince-reads IsWorstOutcomeOfStop-read only.reads (record { count = refl; sizes = λ b. refl; others = λ b apart. refl })) f.writes.at_worst;
       };
     }
 
 -- a pair of the thread once the entry has moved
-pub writes_last : (t m new : Kept) (sync : Bool) (old_pair old_id first new_pair new_id : ℕ) (name : Name) (n : ℕ) → IsMovedOnto t sync old_pair old_id first new_pair new_id name m → n < length m.pairs → Writes (two_of (pair_in m n).at) m new → WritesInPairs t new
+pub writes_last : (t m new : Kept) (sync : Bool) (old_pair old_id first new_pair new_id : ℕ) (name : Name) (n : ℕ) → IsEntryReplacedAcrossPairs t sync old_pair old_id first new_pair new_id name m → n < length m.pairs → ThreadChangesOnlyTheseBlocks (blocks_of_address (kept_pair_at_index m n).at) m new → WritesPairsAndTwoFreeBlocks t new
 writes_last t m new sync old_pair old_id first new_pair new_id name n moved l second = after_read t moved.from new moved.only (more moved.from m new n moved.done.blocks l second)
 
 -- ---- said of each block
 
 -- it is a pair's, or was free
 abbrev IsPairsOrFree : Kept → ℕ → Type 0
-IsPairsOrFree t b = Contains (blocks_of t.pairs) b ⊎ IsFree t.map b
+IsPairsOrFree t b = Contains (blocks_of_pairs t.pairs) b ⊎ IsFree t.map b
 
-pub each_among : (old new : Kept) → WritesInPairs old new → WritesAmong old new
+pub each_among : (old new : Kept) → WritesPairsAndTwoFreeBlocks old new → WritesPairsAndFreeBlocks old new
 each_among old new w = record {
-  blocks = blocks_of old.pairs ++ w.fresh;
-  each = each_append (IsPairsOrFree old) (blocks_of old.pairs) w.fresh (each_from_counted (IsPairsOrFree old) (blocks_of old.pairs) (λ b some. inl (Contains-count (blocks_of old.pairs) b some)))
+  blocks = blocks_of_pairs old.pairs ++ w.fresh;
+  each = each_append (IsPairsOrFree old) (blocks_of_pairs old.pairs) w.fresh (each_from_counted (IsPairsOrFree old) (blocks_of_pairs old.pairs) (λ b some. inl (Contains-count (blocks_of_pairs old.pairs) b some)))
       (each_weaker (IsFree old.map) (IsPairsOrFree old) (λ b free. inr free) w.fresh w.free);
   writes = w.writes;
 }

@@ -5,11 +5,11 @@ use Rattle.std.specs.List.{flat_map}
 use Rattle.std.proofs.lemmas.List.Elements.{recursion_from_All}
 use Rattle.std.proofs.lemmas.List.Concat.{flat_map-append}
 use Rattle.lfs_model.specs.Disk.{Disk}
-use Rattle.lfs_model.specs.BlockSets.{AreUsed, BlockSets, IsFree, IsInFlight, IsUsed}
+use Rattle.lfs_model.specs.BlockSets.{AreExactlyTheUsedBlocks, BlockStateList, IsFree, IsInFlight, IsUsed}
 use Rattle.lfs_model.specs.BlockSets.BlockState.{Free, InFlight, Used}
 use Rattle.lfs_model.specs.Slots.{Slot}
-use Rattle.lfs_model.specs.Thread.{Pair, blocks_of, gstate_of}
-use Rattle.lfs_model.specs.Shown.{all_slots, file_blocks, used_blocks}
+use Rattle.lfs_model.specs.Thread.{Pair, blocks_of_pairs, gstate_of}
+use Rattle.lfs_model.specs.Shown.{all_slots_not_moved, skip_list_blocks_of_struct, used_blocks}
 use Rattle.lfs_model.proofs.BlockSets.{count-Contains, Contains-count, slice_get-set_same, slice_get-set_other}
 use Rattle.lfs_model.proofs.Changes.{SameFiles, slots_files}
 use Rattle.lfs_model.proofs.Committed.{IsCommit, no_move_from}
@@ -19,8 +19,8 @@ use Rattle.lfs_model.proofs.Global.{HasNoMove}
 use Rattle.lfs_model.proofs.Sites.{Site, thread_at}
 use Rattle.lfs_model.proofs.Splices.{IsDevice, files_of, slots_in, unmoved_in, count_files}
 use Rattle.lfs_thread.specs.Steps.{map_with_used_pair}
-use Rattle.lfs_operations.specs.Changing.{AreTwoFree, map_with_two_in_flight}
-use Rattle.lfs_operations.specs.Ready.{NoNewInFlight, StayTaken}
+use Rattle.lfs_operations.specs.Changing.{AreTwoFreeBlocks, map_with_two_blocks_in_flight}
+use Rattle.lfs_operations.specs.Ready.{HasNoNewBlockInFlight, KeepsStatesOfTakenBlocks}
 use Rattle.lfs_operations.proofs.Placing.{blocks_append}
 use Rattle.lfs_operations.proofs.Taking.{within}
 
@@ -29,9 +29,9 @@ use Rattle.lfs_operations.proofs.Taking.{within}
 slots_append : (xs ys : List Pair) → slots_in (xs ++ ys) ≡ slots_in xs ++ slots_in ys
 slots_append xs ys = flat_map-append (λ (p : Pair). p.content.slots) xs ys
 
-count_used : (b : ℕ) (disk : Disk) (ps : List Pair) → HasNoMove (gstate_of ps) → count b (used_blocks disk ps) ≡ count b (blocks_of ps) + count b (files_of disk (slots_in ps))
-count_used b disk ps none = count_append b (blocks_of ps) (flat_map (λ s. file_blocks disk s.struct) (all_slots ps))
-    ∙ ap (λ z. count b (blocks_of ps) + count b (files_of disk z)) (unmoved_in (gstate_of ps) none ps)
+count_used : (b : ℕ) (disk : Disk) (ps : List Pair) → HasNoMove (gstate_of ps) → count b (used_blocks disk ps) ≡ count b (blocks_of_pairs ps) + count b (files_of disk (slots_in ps))
+count_used b disk ps none = count_append b (blocks_of_pairs ps) (flat_map (λ s. skip_list_blocks_of_struct disk s.struct) (all_slots_not_moved ps))
+    ∙ ap (λ z. count b (blocks_of_pairs ps) + count b (files_of disk z)) (unmoved_in (gstate_of ps) none ps)
 
 -- the slots of a thread, by a site
 slots_at : (w : Site) (ps : List Pair) → slots_in (thread_at w ps) ≡ slots_in w.chain ++ (slots_in (w.before ++ w.left) ++ (slots_in ps ++ slots_in (w.right ++ w.after)))
@@ -54,8 +54,8 @@ count_at b disk w ps l mid r e =
     let k = count_files b disk mid r in
     omega arith
 
-pub count_pairs : (b : ℕ) (w : Site) (ps : List Pair) → count b (blocks_of (thread_at w ps))
-    ≡ count b (blocks_of w.chain) + (count b (blocks_of (w.before ++ w.left)) + (count b (blocks_of ps) + count b (blocks_of (w.right ++ w.after))))
+pub count_pairs : (b : ℕ) (w : Site) (ps : List Pair) → count b (blocks_of_pairs (thread_at w ps))
+    ≡ count b (blocks_of_pairs w.chain) + (count b (blocks_of_pairs (w.before ++ w.left)) + (count b (blocks_of_pairs ps) + count b (blocks_of_pairs (w.right ++ w.after))))
 count_pairs b w ps =
     let a = blocks_append w.chain ((w.before ++ w.left) ++ (ps ++ (w.right ++ w.after))) b in
     let c = blocks_append (w.before ++ w.left) (ps ++ (w.right ++ w.after)) b in
@@ -85,7 +85,7 @@ module _ (disk new : Disk) (w : Site) (p q : Pair) (more : List Pair) (l olds ne
   all_same : SameFiles disk new (slots_in w.chain ++ (slots_in (w.before ++ w.left) ++ ((l ++ (olds ++ r)) ++ slots_in (w.right ++ w.after))))
   all_same = subst (SameFiles disk new)
       (unmoved_in (gstate_of ps) c.none ps ∙ slots_at w (p ∷ []) ∙ ap (λ z. slots_in w.chain ++ (slots_in (w.before ++ w.left) ++ (z ++ slots_in (w.right ++ w.after)))) was_one)
-      (recursion_from_All (λ (s : Slot). HasSameFile disk new s.struct) (all_slots ps) c.device.files)
+      (recursion_from_All (λ (s : Slot). HasSameFile disk new s.struct) (all_slots_not_moved ps) c.device.files)
 
   abbrev F : Slot → Type 0
   F s = HasSameFile disk new s.struct
@@ -93,7 +93,7 @@ module _ (disk new : Disk) (w : Site) (p q : Pair) (more : List Pair) (l olds ne
   kept : (ss : List Slot) → SameFiles disk new ss → (b : ℕ) → count b (files_of new ss) ≡ count b (files_of disk ss)
   kept ss h b = ap (count b) (slots_files disk new ss c.device.geometry h)
 
-  pub turned_count : (b : ℕ) → count b (used_blocks new qs) + count b gone ≡ count b (blocks_of more) + count b (used_blocks disk ps) + count b come
+  pub turned_count : (b : ℕ) → count b (used_blocks new qs) + count b gone ≡ count b (blocks_of_pairs more) + count b (used_blocks disk ps) + count b come
   turned_count b =
       let f1 = slots_in w.chain in
       let f2 = slots_in (w.before ++ w.left) in
@@ -117,12 +117,12 @@ module _ (disk new : Disk) (w : Site) (p q : Pair) (more : List Pair) (l olds ne
       let d1 = count_pairs b w (q ∷ more) in
       let d2 = count_pairs b w (p ∷ []) in
       let at = ap (λ (a : ℕ × ℕ). count b (a.0 ∷ a.1 ∷ [])) c.at in
-      let k = count_append b (q.at.0 ∷ q.at.1 ∷ []) (blocks_of more) in
+      let k = count_append b (q.at.0 ∷ q.at.1 ∷ []) (blocks_of_pairs more) in
       omega arith
 
 pub used_count_now : (disk new : Disk) (w : Site) (p q : Pair) (more : List Pair) (l olds news r : List Slot) (gone come : List ℕ) → IsCommit disk new w p q more come l olds news r
     → ((b : ℕ) → count b (files_of new news) + count b gone ≡ count b come + count b (files_of disk olds))
-    → (b : ℕ) → count b (used_blocks new (thread_at w (q ∷ more))) + count b gone ≡ count b (blocks_of more) + count b (used_blocks disk (thread_at w (p ∷ []))) + count b come
+    → (b : ℕ) → count b (used_blocks new (thread_at w (q ∷ more))) + count b gone ≡ count b (blocks_of_pairs more) + count b (used_blocks disk (thread_at w (p ∷ []))) + count b come
 used_count_now disk new w p q more l olds news r gone come c blocks = turned_count disk new w p q more l olds news r gone come
     (record {
       none = no_move_from (thread_at w (p ∷ [])) c.settled;
@@ -136,41 +136,41 @@ used_count_now disk new w p q more l olds news r gone come c blocks = turned_cou
 -- ---- the map
 
 -- where the image uses the same
-pub used_same : (sets : BlockSets) (us vs : List ℕ) → ((b : ℕ) → count b vs ≡ count b us) → AreUsed sets us → AreUsed sets vs
+pub used_same : (sets : BlockStateList) (us vs : List ℕ) → ((b : ℕ) → count b vs ≡ count b us) → AreExactlyTheUsedBlocks sets us → AreExactlyTheUsedBlocks sets vs
 used_same sets us vs same used b = (
   (λ h. Contains-count vs b (let k = count-Contains us b ((used b).0 h) in let e = same b in omega arith)),
   (λ h. (used b).1 (Contains-count us b (let k = count-Contains vs b h in let e = same b in omega arith))),
 )
 
 -- two blocks come
-module _ (sets : BlockSets) (fresh : ℕ × ℕ) (two : AreTwoFree sets fresh) where
-  abbrev now : BlockSets
-  now = map_with_used_pair (map_with_two_in_flight sets fresh) fresh
+module _ (sets : BlockStateList) (fresh : ℕ × ℕ) (two : AreTwoFreeBlocks sets fresh) where
+  abbrev now : BlockStateList
+  now = map_with_used_pair (map_with_two_blocks_in_flight sets fresh) fresh
 
   pub elsewhere : (b : ℕ) → b ≢ fresh.0 → b ≢ fresh.1 → slice_get now b ≡ slice_get sets b
   elsewhere b e f =
-      slice_get-set_other (set (map_with_two_in_flight sets fresh) fresh.0 Used) fresh.1 b Used f
-      ∙ slice_get-set_other (map_with_two_in_flight sets fresh) fresh.0 b Used e
+      slice_get-set_other (set (map_with_two_blocks_in_flight sets fresh) fresh.0 Used) fresh.1 b Used f
+      ∙ slice_get-set_other (map_with_two_blocks_in_flight sets fresh) fresh.0 b Used e
       ∙ slice_get-set_other (set sets fresh.0 InFlight) fresh.1 b InFlight f
       ∙ slice_get-set_other sets fresh.0 b InFlight e
 
   pub length_now : length now ≡ length sets
-  length_now = length-set (set (map_with_two_in_flight sets fresh) fresh.0 Used) fresh.1 Used ∙ length-set (map_with_two_in_flight sets fresh) fresh.0 Used
+  length_now = length-set (set (map_with_two_blocks_in_flight sets fresh) fresh.0 Used) fresh.1 Used ∙ length-set (map_with_two_blocks_in_flight sets fresh) fresh.0 Used
       ∙ length-set (set sets fresh.0 InFlight) fresh.1 InFlight ∙ length-set sets fresh.0 InFlight
 
   second_used : slice_get now fresh.1 ≡ Some Used
-  second_used = slice_get-set_same (set (map_with_two_in_flight sets fresh) fresh.0 Used) fresh.1 Used
-      (let w = within sets fresh.1 Free two.second in let e = length-set (map_with_two_in_flight sets fresh) fresh.0 Used ∙ length-set (set sets fresh.0 InFlight) fresh.1 InFlight ∙ length-set sets fresh.0 InFlight in omega arith)
+  second_used = slice_get-set_same (set (map_with_two_blocks_in_flight sets fresh) fresh.0 Used) fresh.1 Used
+      (let w = within sets fresh.1 Free two.second in let e = length-set (map_with_two_blocks_in_flight sets fresh) fresh.0 Used ∙ length-set (set sets fresh.0 InFlight) fresh.1 InFlight ∙ length-set sets fresh.0 InFlight in omega arith)
 
   first_used : slice_get now fresh.0 ≡ Some Used
-  first_used = slice_get-set_other (set (map_with_two_in_flight sets fresh) fresh.0 Used) fresh.1 fresh.0 Used two.apart
-      ∙ slice_get-set_same (map_with_two_in_flight sets fresh) fresh.0 Used
+  first_used = slice_get-set_other (set (map_with_two_blocks_in_flight sets fresh) fresh.0 Used) fresh.1 fresh.0 Used two.apart
+      ∙ slice_get-set_same (map_with_two_blocks_in_flight sets fresh) fresh.0 Used
       (let w = within sets fresh.0 Free two.first in let e = length-set (set sets fresh.0 InFlight) fresh.1 InFlight ∙ length-set sets fresh.0 InFlight in omega arith)
 
-  pub stay_taken : StayTaken sets now
+  pub stay_taken : KeepsStatesOfTakenBlocks sets now
   stay_taken b taken = elsewhere b (λ e. taken (subst (IsFree sets) (sym e) two.first)) (λ e. taken (subst (IsFree sets) (sym e) two.second))
 
-  pub none_comes_now : NoNewInFlight sets now
+  pub none_comes_now : HasNoNewBlockInFlight sets now
   none_comes_now b flies = go (nat_eq b fresh.0) (nat_eq b fresh.1) refl refl
     where
       used_there : slice_get now b ≡ Some Used → ⊥
@@ -181,7 +181,7 @@ module _ (sets : BlockSets) (fresh : ℕ × ℕ) (two : AreTwoFree sets fresh) w
       go false true e f = absurd (used_there (ap (slice_get now) (eqb-true b fresh.1 f) ∙ second_used))
       go false false e f = sym (elsewhere b (λ k. absurd (let z = sym (eq-eqb b fresh.0 k) ∙ e in cc)) (λ k. absurd (let z = sym (eq-eqb b fresh.1 k) ∙ f in cc))) ∙ flies
 
-  pub used_more : (us vs : List ℕ) → ((b : ℕ) → count b vs ≡ count b (fresh.0 ∷ fresh.1 ∷ []) + count b us) → AreUsed sets us → AreUsed now vs
+  pub used_more : (us vs : List ℕ) → ((b : ℕ) → count b vs ≡ count b (fresh.0 ∷ fresh.1 ∷ []) + count b us) → AreExactlyTheUsedBlocks sets us → AreExactlyTheUsedBlocks now vs
   used_more us vs more used b = go (nat_eq b fresh.0) (nat_eq b fresh.1) refl refl (more b)
     where
       both : slice_get now b ≡ Some Used → 1 ≤ count b vs → IsUsed now b ↔ Contains vs b

@@ -4,7 +4,7 @@ use Rattle.std.specs.Prelude.{is_some}
 use Rattle.std.specs.Option.{option_and_then, option_map}
 use Rattle.std.proofs.lemmas.Option.{same_Some}
 use Rattle.std.proofs.lemmas.List.Sums.{sum_by-cons}
-use Rattle.lfs_model.specs.Content.{RawSlot, complete, complete_all, kind_named, slot_of_id, struct_typed, without_attribute}
+use Rattle.lfs_model.specs.Content.{RawSlot, complete, slots_if_all_complete, kind_of_name_type, slot_of_id, struct_of_type_and_bytes, attributes_without_attribute}
 use Rattle.lfs_model.specs.Slots.{Attributes, Slot, attributes_size}
 use Rattle.lfs_model.proofs.Completed.{complete_parts}
 
@@ -13,9 +13,9 @@ pub is_named : (s : RawSlot) (t : Slot) → complete s ≡ Some t → is_some s.
 is_named s t h = go s.name h
   where
     go : (o : Option (ℕ × List ℕ)) → option_and_then (λ name. option_map (λ struct. record {
-      kind = kind_named name.0;
+      kind = kind_of_name_type name.0;
       name = name.1;
-      struct = struct_typed struct.0 struct.1;
+      struct = struct_of_type_and_bytes struct.0 struct.1;
       attributes = s.attributes;
     }) s.struct) o ≡ Some t → is_some o ≡ true
     go None k = absurd (cc)
@@ -26,20 +26,20 @@ pub complete_with : (s : RawSlot) (t : Slot) (f : Attributes → Attributes) →
 complete_with s t f h = go s.name s.struct h
   where
     go : (o q : Option (ℕ × List ℕ)) → option_and_then (λ name. option_map (λ struct. record {
-      kind = kind_named name.0;
+      kind = kind_of_name_type name.0;
       name = name.1;
-      struct = struct_typed struct.0 struct.1;
+      struct = struct_of_type_and_bytes struct.0 struct.1;
       attributes = s.attributes;
     }) q) o ≡ Some t → option_and_then (λ name. option_map (λ struct. record {
-      kind = kind_named name.0;
+      kind = kind_of_name_type name.0;
       name = name.1;
-      struct = struct_typed struct.0 struct.1;
+      struct = struct_of_type_and_bytes struct.0 struct.1;
       attributes = f s.attributes;
     }) q) o ≡ Some (record t { attributes = f t.attributes })
     go None q k = absurd (cc)
     go (Some n) None k = absurd (cc)
     go (Some n) (Some q) k =
-        let same = same_Some (record { kind = kind_named n.0; name = n.1; struct = struct_typed q.0 q.1; attributes = s.attributes }) t k in
+        let same = same_Some (record { kind = kind_of_name_type n.0; name = n.1; struct = struct_of_type_and_bytes q.0 q.1; attributes = s.attributes }) t k in
         ap (λ (x : Slot). Some (record x { attributes = f x.attributes })) same
 
 -- ---- one of several
@@ -49,10 +49,10 @@ pub record IsRaw (xs : List RawSlot) (front : List Slot) (u : Slot) : Type 0 whe
   pub there : slot_of_id xs (length front) ≡ here
   pub is : complete here ≡ Some u
 
-pub is_raw : (xs : List RawSlot) (front : List Slot) (u : Slot) (back : List Slot) → complete_all xs ≡ Some (front ++ u ∷ back) → IsRaw xs front u
+pub is_raw : (xs : List RawSlot) (front : List Slot) (u : Slot) (back : List Slot) → slots_if_all_complete xs ≡ Some (front ++ u ∷ back) → IsRaw xs front u
 is_raw [] front u back e = absurd (none front e)
   where
-    none : (front : List Slot) → complete_all [] ≡ Some (front ++ u ∷ back) → ⊥
+    none : (front : List Slot) → slots_if_all_complete [] ≡ Some (front ++ u ∷ back) → ⊥
     none [] k = cc
     none (t ∷ front) k = cc
 is_raw (x ∷ xs) [] u back e =
@@ -71,31 +71,31 @@ is_raw (x ∷ xs) (t ∷ front) u back e =
 
 -- ---- attributes
 
-pub fewer_attributes : (kind : ℕ) (attributes : Attributes) → attributes_size (without_attribute kind attributes) ≤ attributes_size attributes
+pub fewer_attributes : (kind : ℕ) (attributes : Attributes) → attributes_size (attributes_without_attribute kind attributes) ≤ attributes_size attributes
 fewer_attributes kind [] = omega arith
 fewer_attributes kind (a ∷ rest) = go (nat_eq a.0 kind) (fewer_attributes kind rest)
   where
-    go : (b : Bool) → attributes_size (without_attribute kind rest) ≤ attributes_size rest → attributes_size (cond (not b) (a ∷ without_attribute kind rest) (without_attribute kind rest)) ≤ attributes_size (a ∷ rest)
+    go : (b : Bool) → attributes_size (attributes_without_attribute kind rest) ≤ attributes_size rest → attributes_size (cond (not b) (a ∷ attributes_without_attribute kind rest) (attributes_without_attribute kind rest)) ≤ attributes_size (a ∷ rest)
     go true l = omega (arith, sum_by-cons (λ (x : ℕ × List ℕ). 4 + length x.1) a rest)
-    go false l = omega (arith, sum_by-cons (λ (x : ℕ × List ℕ). 4 + length x.1) a rest, sum_by-cons (λ (x : ℕ × List ℕ). 4 + length x.1) a (without_attribute kind rest))
+    go false l = omega (arith, sum_by-cons (λ (x : ℕ × List ℕ). 4 + length x.1) a rest, sum_by-cons (λ (x : ℕ × List ℕ). 4 + length x.1) a (attributes_without_attribute kind rest))
 
 -- with another struct
-pub complete_struct : (s : RawSlot) (t : Slot) (part : ℕ × List ℕ) → complete s ≡ Some t → complete (record s { struct = Some part }) ≡ Some (record t { struct = struct_typed part.0 part.1 })
+pub complete_struct : (s : RawSlot) (t : Slot) (part : ℕ × List ℕ) → complete s ≡ Some t → complete (record s { struct = Some part }) ≡ Some (record t { struct = struct_of_type_and_bytes part.0 part.1 })
 complete_struct s t part h = go s.name s.struct h
   where
     go : (o q : Option (ℕ × List ℕ)) → option_and_then (λ name. option_map (λ struct. record {
-      kind = kind_named name.0;
+      kind = kind_of_name_type name.0;
       name = name.1;
-      struct = struct_typed struct.0 struct.1;
+      struct = struct_of_type_and_bytes struct.0 struct.1;
       attributes = s.attributes;
     }) q) o ≡ Some t → option_and_then (λ name. option_map (λ struct. record {
-      kind = kind_named name.0;
+      kind = kind_of_name_type name.0;
       name = name.1;
-      struct = struct_typed struct.0 struct.1;
+      struct = struct_of_type_and_bytes struct.0 struct.1;
       attributes = s.attributes;
-    }) (Some part)) o ≡ Some (record t { struct = struct_typed part.0 part.1 })
+    }) (Some part)) o ≡ Some (record t { struct = struct_of_type_and_bytes part.0 part.1 })
     go None q k = absurd (cc)
     go (Some n) None k = absurd (cc)
     go (Some n) (Some q) k =
-        let same = same_Some (record { kind = kind_named n.0; name = n.1; struct = struct_typed q.0 q.1; attributes = s.attributes }) t k in
-        ap (λ (x : Slot). Some (record x { struct = struct_typed part.0 part.1 })) same
+        let same = same_Some (record { kind = kind_of_name_type n.0; name = n.1; struct = struct_of_type_and_bytes q.0 q.1; attributes = s.attributes }) t k in
+        ap (λ (x : Slot). Some (record x { struct = struct_of_type_and_bytes part.0 part.1 })) same

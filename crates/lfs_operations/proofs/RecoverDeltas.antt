@@ -4,16 +4,16 @@ use Rattle.std.specs.Option.{option_and_then, option_map}
 use Rattle.std.proofs.lemmas.Nat.{xor_lt}
 use Rattle.std.proofs.lemmas.Option.{same_Some}
 use Rattle.std.proofs.lemmas.List.Elements.{recursion_from_All}
-use Rattle.lfs_model.specs.Changes.{Change, Delete, PutMove, PutTail, changed_by}
-use Rattle.lfs_model.specs.Content.{RawContent, RawSlot, completed, content_after, content_after_all, content_at, holder_at, no_content, raw_at, slots_after}
-use Rattle.lfs_model.specs.EntryTypes.{gstate_at, hard_tail_type, has_its_id, is_in_table, pair_at, tail_of, tail_with}
+use Rattle.lfs_model.specs.Changes.{ContentChange, Delete, PutMove, PutTail, content_after_changes}
+use Rattle.lfs_model.specs.Content.{RawContent, RawSlot, content_if_slots_are_complete, content_after_log_entry, content_after_log_entries, content_of_pair_at, current_block_of_pair_at, empty_raw_content, raw_content_of_pair_at, slots_after_log_entry}
+use Rattle.lfs_model.specs.EntryTypes.{gstate_of_bytes, hard_tail_type, has_id_if_needed, is_known_type_and_length, pair_address_of_bytes, tail_of, tail_to_pair_if_any}
 use Rattle.lfs_model.specs.Disk.{Disk}
-use Rattle.lfs_model.specs.Log.{LogEntry, log_entries}
-use Rattle.lfs_model.specs.LoggedContent.{IsAddress, IsMoveState, is_null}
-use Rattle.lfs_model.specs.Slots.{Content, FitsPair, Gstate, Tail, gstate_xor, no_gstate}
+use Rattle.lfs_model.specs.Log.{LogEntry, log_entries_of_block}
+use Rattle.lfs_model.specs.LoggedContent.{Are32BitPairAddresses, IsWellFormedMoveState, is_null_pair}
+use Rattle.lfs_model.specs.Slots.{Content, IsContentFittingPair, Gstate, Tail, gstate_xor, zero_gstate}
 use Rattle.lfs_model.specs.Tag.{class_of, kind_of}
-use Rattle.lfs_model.specs.Thread.{Pair, gstate_of, next_of, slots_not_moved}
-use Rattle.lfs_model.specs.View.{IsAccepted}
+use Rattle.lfs_model.specs.Thread.{Pair, gstate_of, pair_named_by_tail, slots_not_moved}
+use Rattle.lfs_model.specs.View.{IsAcceptedImage}
 use Rattle.lfs_model.proofs.Completed.{complete_length, complete_remove, completed_from, completed_parts}
 use Rattle.lfs_model.proofs.Counts.{Each}
 use Rattle.lfs_model.proofs.Effects.{deletes, does_first, does_nothing, ends_tail, puts_move, puts_tail}
@@ -21,9 +21,9 @@ use Rattle.lfs_model.proofs.Global.{gstate_cons}
 use Rattle.lfs_model.proofs.Pairs.{pair_itself}
 use Rattle.lfs_model.proofs.RecoveredImage.{fits_unmoved}
 use Rattle.lfs_thread.specs.Kept.{Kept}
-use Rattle.lfs_thread.specs.Steps.{CanChange, CanDrop, IsCommitRefused, made_in_thread, no_pair, pair_in}
-use Rattle.lfs_operations.specs.Deltas.{CanSetState, CanTakeOver, FitsFields, IsAddressIfSome, has_tail_at, set_state_changes, delta_of, takes_delta, take_over_changes, target_of}
-use Rattle.lfs_operations.specs.EndingMove.{CanTakeSlot, take_slot_changes}
+use Rattle.lfs_thread.specs.Steps.{CanChangePair, CanDropNextPair, IsCommitRefused, complete_content_after_changes, no_pair, kept_pair_at_index}
+use Rattle.lfs_operations.specs.Deltas.{CanSetGstateInPair, CanTakeOverNextPair, FitsGstateFields, IsPairAddressIfSome, has_hard_tail_at, gstate_setting_changes, delta_reaching_gstate, delta_after_taking_over_next_pair, next_pair_takeover_changes, pair_named_by_optional_tail}
+use Rattle.lfs_operations.specs.EndingMove.{CanRemoveMovedSlot, remove_moved_slot_changes}
 use Rattle.lfs_operations.proofs.Held.{completes_to}
 
 -- ---- what a log can come to
@@ -31,27 +31,27 @@ use Rattle.lfs_operations.proofs.Held.{completes_to}
 -- a tail doesn't name two null addresses
 abbrev IsNamed : Option Tail → Type 0
 IsNamed None = Unit {0}
-IsNamed (Some t) = is_null t.to ≡ false
+IsNamed (Some t) = is_null_pair t.to ≡ false
 
 record IsKnown (c : RawContent) : Type 0 where
-  fields : FitsFields c.move
+  fields : FitsGstateFields c.move
   tail : IsNamed c.tail
 
-named_with : (hard : Bool) (to : ℕ × ℕ) → IsNamed (tail_with hard to)
-named_with hard to = go (is_null to) refl
+named_with : (hard : Bool) (to : ℕ × ℕ) → IsNamed (tail_to_pair_if_any hard to)
+named_with hard to = go (is_null_pair to) refl
   where
-    go : (b : Bool) → is_null to ≡ b → IsNamed (cond b None (Some (record { hard = hard; to = to })))
+    go : (b : Bool) → is_null_pair to ≡ b → IsNamed (cond b None (Some (record { hard = hard; to = to })))
     go true n = tt
     go false n = n
 
 known_tail : (e : LogEntry) → IsNamed (tail_of e)
-known_tail e = named_with (kind_of e.tag == hard_tail_type) (pair_at e.bytes)
+known_tail e = named_with (kind_of e.tag == hard_tail_type) (pair_address_of_bytes e.bytes)
 
-known_after : (c : RawContent) (e : LogEntry) (d : RawContent) → IsKnown c → content_after c e ≡ Some d → IsKnown d
-known_after c e d h is = go (class_of e.tag == 5) (is_in_table e.tag) (has_its_id e.tag) (class_of e.tag == 6) (class_of e.tag == 7) (slots_after c.slots e) is
+known_after : (c : RawContent) (e : LogEntry) (d : RawContent) → IsKnown c → content_after_log_entry c e ≡ Some d → IsKnown d
+known_after c e d h is = go (class_of e.tag == 5) (is_known_type_and_length e.tag) (has_id_if_needed e.tag) (class_of e.tag == 6) (class_of e.tag == 7) (slots_after_log_entry c.slots e) is
   where
     go : (five t i six seven : Bool) (slots : Option (List RawSlot))
-        → cond five (Some c) (cond (not (t && i)) None (cond six (Some (record c { tail = tail_of e })) (cond seven (Some (record c { move = gstate_at e.bytes })) (option_map (λ all. record c { slots = all }) slots)))) ≡ Some d
+        → cond five (Some c) (cond (not (t && i)) None (cond six (Some (record c { tail = tail_of e })) (cond seven (Some (record c { move = gstate_of_bytes e.bytes })) (option_map (λ all. record c { slots = all }) slots)))) ≡ Some d
         → IsKnown d
     go true t i six seven slots f = subst IsKnown (same_Some c d f) h
     go false false i six seven slots f = absurd (cc)
@@ -61,39 +61,39 @@ known_after c e d h is = go (class_of e.tag == 5) (is_in_table e.tag) (has_its_i
     go false true true false false None f = absurd (cc)
     go false true true false false (Some all) f = subst IsKnown (same_Some _ d f) (record { fields = h.fields; tail = h.tail })
 
-known_after_all : (c : RawContent) (es : List LogEntry) (d : RawContent) → IsKnown c → content_after_all c es ≡ Some d → IsKnown d
+known_after_all : (c : RawContent) (es : List LogEntry) (d : RawContent) → IsKnown c → content_after_log_entries c es ≡ Some d → IsKnown d
 known_after_all c [] d h is = subst IsKnown (same_Some c d is) h
-known_after_all c (e ∷ es) d h is = go (content_after c e) refl is (λ b k. known_after_all b es d k)
+known_after_all c (e ∷ es) d h is = go (content_after_log_entry c e) refl is (λ b k. known_after_all b es d k)
   where
-    go : (o : Option RawContent) → content_after c e ≡ o → option_and_then (λ b. content_after_all b es) o ≡ Some d → ((b : RawContent) → IsKnown b → content_after_all b es ≡ Some d → IsKnown d) → IsKnown d
+    go : (o : Option RawContent) → content_after_log_entry c e ≡ o → option_and_then (λ b. content_after_log_entries b es) o ≡ Some d → ((b : RawContent) → IsKnown b → content_after_log_entries b es ≡ Some d → IsKnown d) → IsKnown d
     go None f g more = absurd (cc)
     go (Some b) f g more = more b (known_after c e b h f) g
 
-known_at : (disk : Disk) (at : ℕ × ℕ) (raw : RawContent) → raw_at disk at ≡ Some raw → IsKnown raw
-known_at disk at raw is = go (holder_at disk at) is
+known_at : (disk : Disk) (at : ℕ × ℕ) (raw : RawContent) → raw_content_of_pair_at disk at ≡ Some raw → IsKnown raw
+known_at disk at raw is = go (current_block_of_pair_at disk at) is
   where
-    go : (o : Option (List ℕ)) → option_and_then (λ block. content_after_all no_content (log_entries block)) o ≡ Some raw → IsKnown raw
+    go : (o : Option (List ℕ)) → option_and_then (λ block. content_after_log_entries empty_raw_content (log_entries_of_block block)) o ≡ Some raw → IsKnown raw
     go None e = absurd (cc)
-    go (Some block) e = known_after_all no_content (log_entries block) raw (record { fields = record { kind = omega arith; id = omega arith }; tail = tt }) e
+    go (Some block) e = known_after_all empty_raw_content (log_entries_of_block block) raw (record { fields = record { kind = omega arith; id = omega arith }; tail = tt }) e
 
 -- ---- deltas
 
-pub xor_fits : (a b : Gstate) → FitsFields a → FitsFields b → FitsFields (gstate_xor a b)
+pub xor_fits : (a b : Gstate) → FitsGstateFields a → FitsGstateFields b → FitsGstateFields (gstate_xor a b)
 xor_fits a b h k = record { kind = xor_lt 11 a.kind b.kind h.kind k.kind; id = xor_lt 10 a.id b.id h.id k.id }
 
-pub none_fits : FitsFields no_gstate
+pub none_fits : FitsGstateFields zero_gstate
 none_fits = record { kind = omega arith; id = omega arith }
 
-content_fits : (disk : Disk) (at : ℕ × ℕ) (c : Content) → content_at disk at ≡ Some c → FitsFields c.move
+content_fits : (disk : Disk) (at : ℕ × ℕ) (c : Content) → content_of_pair_at disk at ≡ Some c → FitsGstateFields c.move
 content_fits disk at c is =
-    let k = completes_to (raw_at disk at) c is in
-    subst FitsFields (sym (completed_parts k.raw c k.complete).move) (known_at disk at k.raw k.is).fields
+    let k = completes_to (raw_content_of_pair_at disk at) c is in
+    subst FitsGstateFields (sym (completed_parts k.raw c k.complete).move) (known_at disk at k.raw k.is).fields
 
-state_fits : (ps : List Pair) → Each (λ p. FitsFields p.content.move) ps → FitsFields (gstate_of ps)
+state_fits : (ps : List Pair) → Each (λ p. FitsGstateFields p.content.move) ps → FitsGstateFields (gstate_of ps)
 state_fits [] h = none_fits
-state_fits (p ∷ ps) h = subst FitsFields (sym (gstate_cons p ps)) (xor_fits p.content.move (gstate_of ps) h.0 (state_fits ps h.1))
+state_fits (p ∷ ps) h = subst FitsGstateFields (sym (gstate_cons p ps)) (xor_fits p.content.move (gstate_of ps) h.0 (state_fits ps h.1))
 
-each_fits : (disk : Disk) (ps : List Pair) → Each (λ p. content_at disk p.at ≡ Some p.content) ps → Each (λ p. FitsFields p.content.move) ps
+each_fits : (disk : Disk) (ps : List Pair) → Each (λ p. content_of_pair_at disk p.at ≡ Some p.content) ps → Each (λ p. FitsGstateFields p.content.move) ps
 each_fits disk [] h = tt
 each_fits disk (p ∷ ps) h = (content_fits disk p.at p.content h.0, each_fits disk ps h.1)
 
@@ -103,26 +103,26 @@ each_at P [] index low h = absurd (omega arith)
 each_at P (p ∷ ps) zero low h = h.0
 each_at P (p ∷ ps) (suc index) low h = each_at P ps index (omega arith) h.1
 
-module _ (t : Kept) (ok : IsAccepted t.disk t.pairs) where
-  all_hold : Each (λ p. content_at t.disk p.at ≡ Some p.content) t.pairs
-  all_hold = recursion_from_All (λ (p : Pair). content_at t.disk p.at ≡ Some p.content) t.pairs ok.thread.contents
+module _ (t : Kept) (ok : IsAcceptedImage t.disk t.pairs) where
+  all_hold : Each (λ p. content_of_pair_at t.disk p.at ≡ Some p.content) t.pairs
+  all_hold = recursion_from_All (λ (p : Pair). content_of_pair_at t.disk p.at ≡ Some p.content) t.pairs ok.thread.contents
 
-  pub thread_fits : FitsFields (gstate_of t.pairs)
+  pub thread_fits : FitsGstateFields (gstate_of t.pairs)
   thread_fits = state_fits t.pairs (each_fits t.disk t.pairs all_hold)
 
-  pub holds_at : (index : ℕ) → index < length t.pairs → content_at t.disk (pair_in t index).at ≡ Some (pair_in t index).content
-  holds_at index low = each_at (λ p. content_at t.disk p.at ≡ Some p.content) t.pairs index low all_hold
+  pub holds_at : (index : ℕ) → index < length t.pairs → content_of_pair_at t.disk (kept_pair_at_index t index).at ≡ Some (kept_pair_at_index t index).content
+  holds_at index low = each_at (λ p. content_of_pair_at t.disk p.at ≡ Some p.content) t.pairs index low all_hold
 
-  pub fits_at : (index : ℕ) → index < length t.pairs → FitsFields (pair_in t index).content.move
-  fits_at index low = content_fits t.disk (pair_in t index).at (pair_in t index).content (holds_at index low)
+  pub fits_at : (index : ℕ) → index < length t.pairs → FitsGstateFields (kept_pair_at_index t index).content.move
+  fits_at index low = content_fits t.disk (kept_pair_at_index t index).at (kept_pair_at_index t index).content (holds_at index low)
 
-  pub delta_fits : (index : ℕ) (g : Gstate) → index < length t.pairs → FitsFields g → FitsFields (delta_of t index g)
-  delta_fits index g low h = xor_fits (gstate_xor g (gstate_of t.pairs)) (pair_in t index).content.move (xor_fits g (gstate_of t.pairs) h thread_fits) (fits_at index low)
+  pub delta_fits : (index : ℕ) (g : Gstate) → index < length t.pairs → FitsGstateFields g → FitsGstateFields (delta_reaching_gstate t index g)
+  delta_fits index g low h = xor_fits (gstate_xor g (gstate_of t.pairs)) (kept_pair_at_index t index).content.move (xor_fits g (gstate_of t.pairs) h thread_fits) (fits_at index low)
 
-  pub tail_named : (index : ℕ) → index < length t.pairs → IsNamed (pair_in t index).content.tail
+  pub tail_named : (index : ℕ) → index < length t.pairs → IsNamed (kept_pair_at_index t index).content.tail
   tail_named index low =
-      let k = completes_to (raw_at t.disk (pair_in t index).at) (pair_in t index).content (holds_at index low) in
-      subst IsNamed (sym (completed_parts k.raw (pair_in t index).content k.complete).tail) (known_at t.disk (pair_in t index).at k.raw k.is).tail
+      let k = completes_to (raw_content_of_pair_at t.disk (kept_pair_at_index t index).at) (kept_pair_at_index t index).content (holds_at index low) in
+      subst IsNamed (sym (completed_parts k.raw (kept_pair_at_index t index).content k.complete).tail) (known_at t.disk (kept_pair_at_index t index).at k.raw k.is).tail
 
 -- ---- another delta
 
@@ -138,143 +138,143 @@ taken_tail hard (Some t) = Some (record { hard = hard; to = t.to })
 abbrev pub with_tail : Content → Option Tail → Gstate → Content
 with_tail c t m = record { slots = c.slots; tail = t; move = m }
 
-small_state : (g : Gstate) → FitsFields g → IsAddress g.pair → IsMoveState g
+small_state : (g : Gstate) → FitsGstateFields g → Are32BitPairAddresses g.pair → IsWellFormedMoveState g
 small_state g h a = record { kind = h.kind; id = h.id; pair = a }
 
-raw_tail : (raw : RawContent) (hard : Bool) (tail : Option Tail) (rest : List Change) (e : RawContent) → IsNamed tail → IsAddressIfSome (target_of tail)
-    → changed_by (record raw { tail = taken_tail hard tail }) rest ≡ Some e → changed_by raw (PutTail hard (target_of tail) ∷ rest) ≡ Some e
+raw_tail : (raw : RawContent) (hard : Bool) (tail : Option Tail) (rest : List ContentChange) (e : RawContent) → IsNamed tail → IsPairAddressIfSome (pair_named_by_optional_tail tail)
+    → content_after_changes (record raw { tail = taken_tail hard tail }) rest ≡ Some e → content_after_changes raw (PutTail hard (pair_named_by_optional_tail tail) ∷ rest) ≡ Some e
 raw_tail raw hard None rest e n a h = does_first (PutTail hard None) rest raw (record raw { tail = None }) e (ends_tail raw hard) h
-raw_tail raw hard (Some t) rest e n a h = does_first (PutTail hard (Some t.to)) rest raw (record raw { tail = tail_with hard t.to }) e (puts_tail raw hard t.to a)
-    (ap (λ b. changed_by (record raw { tail = cond b None (Some (record { hard = hard; to = t.to })) }) rest) n ∙ h)
+raw_tail raw hard (Some t) rest e n a h = does_first (PutTail hard (Some t.to)) rest raw (record raw { tail = tail_to_pair_if_any hard t.to }) e (puts_tail raw hard t.to a)
+    (ap (λ b. content_after_changes (record raw { tail = cond b None (Some (record { hard = hard; to = t.to })) }) rest) n ∙ h)
 
 abbrev pub set_content : Kept → ℕ → Gstate → Content
-set_content t index g = with_move (pair_in t index).content (delta_of t index g)
+set_content t index g = with_move (kept_pair_at_index t index).content (delta_reaching_gstate t index g)
 
-module _ (t : Kept) (index : ℕ) (g : Gstate) (can : CanSetState t index g) (address : IsAddress (delta_of t index g).pair) where
+module _ (t : Kept) (index : ℕ) (g : Gstate) (can : CanSetGstateInPair t index g) (address : Are32BitPairAddresses (delta_reaching_gstate t index g).pair) where
   abbrev p : Pair
-  p = pair_in t index
+  p = kept_pair_at_index t index
 
-  pub set_made : made_in_thread t index (set_state_changes t index g) ≡ Some (set_content t index g)
+  pub set_made : complete_content_after_changes t index (gstate_setting_changes t index g) ≡ Some (set_content t index g)
   set_made =
-      let k = completes_to (raw_at t.disk p.at) p.content (holds_at t can.accepted index can.below) in
+      let k = completes_to (raw_content_of_pair_at t.disk p.at) p.content (holds_at t can.accepted index can.below) in
       let parts = completed_parts k.raw p.content k.complete in
-      let now = record k.raw { move = delta_of t index g } in
-      ap (λ o. option_and_then completed (option_and_then (λ (x : RawContent). changed_by x (set_state_changes t index g)) o)) k.is
-      ∙ ap (λ o. option_and_then completed o) (does_first (PutMove (delta_of t index g)) [] k.raw now now
-      (puts_move k.raw (delta_of t index g) (small_state (delta_of t index g) (delta_fits t can.accepted index g can.below can.fields) address)) (does_nothing now))
+      let now = record k.raw { move = delta_reaching_gstate t index g } in
+      ap (λ o. option_and_then content_if_slots_are_complete (option_and_then (λ (x : RawContent). content_after_changes x (gstate_setting_changes t index g)) o)) k.is
+      ∙ ap (λ o. option_and_then content_if_slots_are_complete o) (does_first (PutMove (delta_reaching_gstate t index g)) [] k.raw now now
+      (puts_move k.raw (delta_reaching_gstate t index g) (small_state (delta_reaching_gstate t index g) (delta_fits t can.accepted index g can.below can.fields) address)) (does_nothing now))
       ∙ completed_from now p.content.slots parts.slots
-      ∙ ap (λ tail. Some (record { slots = p.content.slots; tail = tail; move = delta_of t index g })) (sym parts.tail)
+      ∙ ap (λ tail. Some (record { slots = p.content.slots; tail = tail; move = delta_reaching_gstate t index g })) (sym parts.tail)
 
-  pub can_set : CanChange t index (set_state_changes t index g)
+  pub can_set : CanChangePair t index (gstate_setting_changes t index g)
   can_set = record { below = can.below; content = set_content t index g; made = set_made; next = refl }
 
-  pub set_fits : FitsPair t.disk.block_size t.disk.page (set_content t index g)
+  pub set_fits : IsContentFittingPair t.disk.block_size t.disk.page (set_content t index g)
   set_fits =
-      let f = each_at (λ x. FitsPair t.disk.block_size t.disk.page x.content) t.pairs index can.below
-      (recursion_from_All (λ (x : Pair). FitsPair t.disk.block_size t.disk.page x.content) t.pairs can.writable.pairs) in
+      let f = each_at (λ x. IsContentFittingPair t.disk.block_size t.disk.page x.content) t.pairs index can.below
+      (recursion_from_All (λ (x : Pair). IsContentFittingPair t.disk.block_size t.disk.page x.content) t.pairs can.writable.pairs) in
       record { size = f.size; count = f.count }
 
 -- ---- a tail and a delta taken over
 
 abbrev pub over_content : Kept → ℕ → ℕ → Gstate → Content
-over_content t index behind g = with_tail (pair_in t index).content (taken_tail (has_tail_at t index && has_tail_at t behind) (pair_in t behind).content.tail) (takes_delta t index behind g)
+over_content t index behind g = with_tail (kept_pair_at_index t index).content (taken_tail (has_hard_tail_at t index && has_hard_tail_at t behind) (kept_pair_at_index t behind).content.tail) (delta_after_taking_over_next_pair t index behind g)
 
-module _ (t : Kept) (index behind : ℕ) (g : Gstate) (can : CanTakeOver t index behind g) (address : IsAddress (takes_delta t index behind g).pair)
-    (words : IsAddressIfSome (target_of (pair_in t behind).content.tail)) where
+module _ (t : Kept) (index behind : ℕ) (g : Gstate) (can : CanTakeOverNextPair t index behind g) (address : Are32BitPairAddresses (delta_after_taking_over_next_pair t index behind g).pair)
+    (words : IsPairAddressIfSome (pair_named_by_optional_tail (kept_pair_at_index t behind).content.tail)) where
   abbrev first : Pair
-  first = pair_in t index
+  first = kept_pair_at_index t index
 
   abbrev next : Pair
-  next = pair_in t behind
+  next = kept_pair_at_index t behind
 
   abbrev hard : Bool
-  hard = has_tail_at t index && has_tail_at t behind
+  hard = has_hard_tail_at t index && has_hard_tail_at t behind
 
   below_first : index < length t.pairs
   below_first = let l = can.below in let n = can.next in omega arith
 
-  over_fields : FitsFields (takes_delta t index behind g)
-  over_fields = xor_fits (delta_of t index g) next.content.move (delta_fits t can.accepted index g below_first can.fields) (fits_at t can.accepted behind can.below)
+  over_fields : FitsGstateFields (delta_after_taking_over_next_pair t index behind g)
+  over_fields = xor_fits (delta_reaching_gstate t index g) next.content.move (delta_fits t can.accepted index g below_first can.fields) (fits_at t can.accepted behind can.below)
 
-  pub over_made : made_in_thread t index (take_over_changes t index behind g) ≡ Some (over_content t index behind g)
+  pub over_made : complete_content_after_changes t index (next_pair_takeover_changes t index behind g) ≡ Some (over_content t index behind g)
   over_made =
-      let k = completes_to (raw_at t.disk first.at) first.content (holds_at t can.accepted index below_first) in
+      let k = completes_to (raw_content_of_pair_at t.disk first.at) first.content (holds_at t can.accepted index below_first) in
       let parts = completed_parts k.raw first.content k.complete in
       let mid : RawContent = record k.raw { tail = taken_tail hard next.content.tail } in
-      let now : RawContent = record k.raw { tail = taken_tail hard next.content.tail; move = takes_delta t index behind g } in
-      ap (λ o. option_and_then completed (option_and_then (λ (x : RawContent). changed_by x (take_over_changes t index behind g)) o)) k.is
-      ∙ ap (λ o. option_and_then completed o) (raw_tail k.raw hard next.content.tail (PutMove (takes_delta t index behind g) ∷ []) now (tail_named t can.accepted behind can.below) words
-      (does_first (PutMove (takes_delta t index behind g)) [] mid now now (puts_move mid (takes_delta t index behind g) (small_state (takes_delta t index behind g) over_fields address)) (does_nothing now)))
+      let now : RawContent = record k.raw { tail = taken_tail hard next.content.tail; move = delta_after_taking_over_next_pair t index behind g } in
+      ap (λ o. option_and_then content_if_slots_are_complete (option_and_then (λ (x : RawContent). content_after_changes x (next_pair_takeover_changes t index behind g)) o)) k.is
+      ∙ ap (λ o. option_and_then content_if_slots_are_complete o) (raw_tail k.raw hard next.content.tail (PutMove (delta_after_taking_over_next_pair t index behind g) ∷ []) now (tail_named t can.accepted behind can.below) words
+      (does_first (PutMove (delta_after_taking_over_next_pair t index behind g)) [] mid now now (puts_move mid (delta_after_taking_over_next_pair t index behind g) (small_state (delta_after_taking_over_next_pair t index behind g) over_fields address)) (does_nothing now)))
       ∙ completed_from now first.content.slots parts.slots
 
-  pub can_drop : CanDrop t index (take_over_changes t index behind g)
+  pub can_drop : CanDropNextPair t index (next_pair_takeover_changes t index behind g)
   can_drop = record {
     below = let l = can.below in let n = can.next in omega arith;
     content = over_content t index behind g;
     made = over_made;
-    next = same next.content.tail ∙ ap (λ (i : ℕ). next_of (pair_in t i).content.tail) can.next;
+    next = same next.content.tail ∙ ap (λ (i : ℕ). pair_named_by_tail (kept_pair_at_index t i).content.tail) can.next;
   }
     where
-      same : (tail : Option Tail) → next_of (taken_tail hard tail) ≡ next_of tail
+      same : (tail : Option Tail) → pair_named_by_tail (taken_tail hard tail) ≡ pair_named_by_tail tail
       same None = refl
       same (Some x) = refl
 
-  pub over_fits : FitsPair t.disk.block_size t.disk.page (over_content t index behind g)
+  pub over_fits : IsContentFittingPair t.disk.block_size t.disk.page (over_content t index behind g)
   over_fits =
-      let f = each_at (λ x. FitsPair t.disk.block_size t.disk.page x.content) t.pairs index below_first
-      (recursion_from_All (λ (x : Pair). FitsPair t.disk.block_size t.disk.page x.content) t.pairs can.writable.pairs) in
+      let f = each_at (λ x. IsContentFittingPair t.disk.block_size t.disk.page x.content) t.pairs index below_first
+      (recursion_from_All (λ (x : Pair). IsContentFittingPair t.disk.block_size t.disk.page x.content) t.pairs can.writable.pairs) in
       record { size = f.size; count = f.count }
 
 -- ---- neither is refused
 
-pub set_not_refused : (t : Kept) (index : ℕ) (g : Gstate) → CanSetState t index g → IsAddress (delta_of t index g).pair → (new : Kept) → IsCommitRefused t index (set_state_changes t index g) new → ⊥
+pub set_not_refused : (t : Kept) (index : ℕ) (g : Gstate) → CanSetGstateInPair t index g → Are32BitPairAddresses (delta_reaching_gstate t index g).pair → (new : Kept) → IsCommitRefused t index (gstate_setting_changes t index g) new → ⊥
 set_not_refused t index g can address new is =
-    is.too_large (subst (FitsPair t.disk.block_size t.disk.page) (sym (same_Some is.content (set_content t index g) (sym is.made ∙ set_made t index g can address))) (set_fits t index g can address))
+    is.too_large (subst (IsContentFittingPair t.disk.block_size t.disk.page) (sym (same_Some is.content (set_content t index g) (sym is.made ∙ set_made t index g can address))) (set_fits t index g can address))
 
-pub over_not_refused : (t : Kept) (index behind : ℕ) (g : Gstate) → CanTakeOver t index behind g → IsAddress (takes_delta t index behind g).pair → IsAddressIfSome (target_of (pair_in t behind).content.tail)
-    → (new : Kept) → IsCommitRefused t index (take_over_changes t index behind g) new → ⊥
+pub over_not_refused : (t : Kept) (index behind : ℕ) (g : Gstate) → CanTakeOverNextPair t index behind g → Are32BitPairAddresses (delta_after_taking_over_next_pair t index behind g).pair → IsPairAddressIfSome (pair_named_by_optional_tail (kept_pair_at_index t behind).content.tail)
+    → (new : Kept) → IsCommitRefused t index (next_pair_takeover_changes t index behind g) new → ⊥
 over_not_refused t index behind g can address words new is =
-    is.too_large (subst (FitsPair t.disk.block_size t.disk.page) (sym (same_Some is.content (over_content t index behind g) (sym is.made ∙ over_made t index behind g can address words)))
+    is.too_large (subst (IsContentFittingPair t.disk.block_size t.disk.page) (sym (same_Some is.content (over_content t index behind g) (sym is.made ∙ over_made t index behind g can address words)))
     (over_fits t index behind g can address words))
 
 -- ---- a slot goes
 
 abbrev pub without_content : Kept → ℕ → ℕ → Gstate → Content
-without_content t index id g = record { slots = remove (pair_in t index).content.slots id; tail = (pair_in t index).content.tail; move = delta_of t index g }
+without_content t index id g = record { slots = remove (kept_pair_at_index t index).content.slots id; tail = (kept_pair_at_index t index).content.tail; move = delta_reaching_gstate t index g }
 
-module _ (t : Kept) (index id : ℕ) (g : Gstate) (take : CanTakeSlot t index id g) where
+module _ (t : Kept) (index id : ℕ) (g : Gstate) (take : CanRemoveMovedSlot t index id g) where
   abbrev the_pair : Pair
-  the_pair = pair_in t index
+  the_pair = kept_pair_at_index t index
 
-  pair_fits : FitsPair t.disk.block_size t.disk.page the_pair.content
-  pair_fits = each_at (λ x. FitsPair t.disk.block_size t.disk.page x.content) t.pairs index take.can.below
-      (recursion_from_All (λ (x : Pair). FitsPair t.disk.block_size t.disk.page x.content) t.pairs take.can.writable.pairs)
+  pair_fits : IsContentFittingPair t.disk.block_size t.disk.page the_pair.content
+  pair_fits = each_at (λ x. IsContentFittingPair t.disk.block_size t.disk.page x.content) t.pairs index take.can.below
+      (recursion_from_All (λ (x : Pair). IsContentFittingPair t.disk.block_size t.disk.page x.content) t.pairs take.can.writable.pairs)
 
-  pub take_made : IsAddress (delta_of t index g).pair → made_in_thread t index (take_slot_changes t index id g) ≡ Some (without_content t index id g)
+  pub take_made : Are32BitPairAddresses (delta_reaching_gstate t index g).pair → complete_content_after_changes t index (remove_moved_slot_changes t index id g) ≡ Some (without_content t index id g)
   take_made address =
-      let k = completes_to (raw_at t.disk the_pair.at) the_pair.content (holds_at t take.can.accepted index take.can.below) in
+      let k = completes_to (raw_content_of_pair_at t.disk the_pair.at) the_pair.content (holds_at t take.can.accepted index take.can.below) in
       let parts = completed_parts k.raw the_pair.content k.complete in
       let few = pair_fits.count in
       let n = complete_length k.raw.slots the_pair.content.slots parts.slots in
       let low = take.below in
       let first : RawContent = record k.raw { slots = remove k.raw.slots id } in
-      let now : RawContent = record k.raw { slots = remove k.raw.slots id; move = delta_of t index g } in
-      ap (λ o. option_and_then completed (option_and_then (λ (x : RawContent). changed_by x (take_slot_changes t index id g)) o)) k.is
-      ∙ ap (λ o. option_and_then completed o) (does_first (Delete id) (PutMove (delta_of t index g) ∷ []) k.raw first now (deletes k.raw id (omega arith) (omega arith))
-      (does_first (PutMove (delta_of t index g)) [] first now now
-      (puts_move first (delta_of t index g) (small_state (delta_of t index g) (delta_fits t take.can.accepted index g take.can.below take.can.fields) address)) (does_nothing now)))
+      let now : RawContent = record k.raw { slots = remove k.raw.slots id; move = delta_reaching_gstate t index g } in
+      ap (λ o. option_and_then content_if_slots_are_complete (option_and_then (λ (x : RawContent). content_after_changes x (remove_moved_slot_changes t index id g)) o)) k.is
+      ∙ ap (λ o. option_and_then content_if_slots_are_complete o) (does_first (Delete id) (PutMove (delta_reaching_gstate t index g) ∷ []) k.raw first now (deletes k.raw id (omega arith) (omega arith))
+      (does_first (PutMove (delta_reaching_gstate t index g)) [] first now now
+      (puts_move first (delta_reaching_gstate t index g) (small_state (delta_reaching_gstate t index g) (delta_fits t take.can.accepted index g take.can.below take.can.fields) address)) (does_nothing now)))
       ∙ completed_from now (remove the_pair.content.slots id) (complete_remove k.raw.slots the_pair.content.slots id parts.slots)
-      ∙ ap (λ tail. Some (record { slots = remove the_pair.content.slots id; tail = tail; move = delta_of t index g })) (sym parts.tail)
+      ∙ ap (λ tail. Some (record { slots = remove the_pair.content.slots id; tail = tail; move = delta_reaching_gstate t index g })) (sym parts.tail)
 
-  pub can_take_slot : IsAddress (delta_of t index g).pair → CanChange t index (take_slot_changes t index id g)
+  pub can_take_slot : Are32BitPairAddresses (delta_reaching_gstate t index g).pair → CanChangePair t index (remove_moved_slot_changes t index id g)
   can_take_slot address = record { below = take.can.below; content = without_content t index id g; made = take_made address; next = refl }
 
-  pub take_fits : FitsPair t.disk.block_size t.disk.page (without_content t index id g)
+  pub take_fits : IsContentFittingPair t.disk.block_size t.disk.page (without_content t index id g)
   take_fits =
       let hide : Gstate = record { sync = false; kind = 0x4ff; id = id; pair = the_pair.at } in
       let f = fits_unmoved t.disk hide the_pair pair_fits in
       let e : slots_not_moved hide the_pair ≡ remove the_pair.content.slots id = ap (λ b. cond (nat_eq 0x4ff 0x4ff && b) (remove the_pair.content.slots id) the_pair.content.slots) (pair_itself the_pair.at) in
-      subst (λ slots. FitsPair t.disk.block_size t.disk.page (record { slots = slots; tail = the_pair.content.tail; move = delta_of t index g })) e (record { size = f.size; count = f.count })
+      subst (λ slots. IsContentFittingPair t.disk.block_size t.disk.page (record { slots = slots; tail = the_pair.content.tail; move = delta_reaching_gstate t index g })) e (record { size = f.size; count = f.count })
 
-  pub take_not_refused : IsAddress (delta_of t index g).pair → (new : Kept) → IsCommitRefused t index (take_slot_changes t index id g) new → ⊥
-  take_not_refused address new is = is.too_large (subst (FitsPair t.disk.block_size t.disk.page) (sym (same_Some is.content (without_content t index id g) (sym is.made ∙ take_made address))) take_fits)
+  pub take_not_refused : Are32BitPairAddresses (delta_reaching_gstate t index g).pair → (new : Kept) → IsCommitRefused t index (remove_moved_slot_changes t index id g) new → ⊥
+  take_not_refused address new is = is.too_large (subst (IsContentFittingPair t.disk.block_size t.disk.page) (sym (same_Some is.content (without_content t index id g) (sym is.made ∙ take_made address))) take_fits)

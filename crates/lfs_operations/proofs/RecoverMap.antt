@@ -4,12 +4,12 @@ use Rattle.std.specs.Prelude.{Contains, ◌↔◌}
 use Rattle.std.specs.List.{flat_map}
 use Rattle.std.proofs.lemmas.Bool.{eqb-false}
 use Rattle.std.proofs.lemmas.List.Concat.{flat_map-append}
-use Rattle.lfs_model.specs.BlockSets.{AreUsed, IsUsed}
+use Rattle.lfs_model.specs.BlockSets.{AreExactlyTheUsedBlocks, IsUsed}
 use Rattle.lfs_model.specs.BlockSets.BlockState.{Free, Used}
 use Rattle.lfs_model.specs.Disk.{Disk, SameGeometry, block_count}
 use Rattle.lfs_model.specs.Slots.{Slot}
-use Rattle.lfs_model.specs.Thread.{Pair, blocks_of, gstate_of}
-use Rattle.lfs_model.specs.Shown.{all_slots, file_blocks, used_blocks}
+use Rattle.lfs_model.specs.Thread.{Pair, blocks_of_pairs, gstate_of}
+use Rattle.lfs_model.specs.Shown.{all_slots_not_moved, skip_list_blocks_of_struct, used_blocks}
 use Rattle.lfs_model.proofs.Alike.{AreAlike}
 use Rattle.lfs_model.proofs.BlockSets.{Contains-count, count-Contains, slice_get-set_other, slice_get-set_same}
 use Rattle.lfs_model.proofs.Changes.{SameFiles, slots_files}
@@ -18,8 +18,8 @@ use Rattle.lfs_model.proofs.Files.{HasSameFile}
 use Rattle.lfs_model.proofs.Global.{HasNoMove}
 use Rattle.lfs_model.proofs.Splices.{count_files, files_of, slots_in, unmoved_in}
 use Rattle.lfs_thread.specs.Kept.{Kept}
-use Rattle.lfs_thread.specs.Steps.{without_pair}
-use Rattle.lfs_operations.specs.Dropping.{SameInFlight}
+use Rattle.lfs_thread.specs.Steps.{map_with_freed_pair}
+use Rattle.lfs_operations.specs.Dropping.{HasSameBlocksInFlight}
 use Rattle.lfs_operations.proofs.Dropped.{flying_same}
 use Rattle.lfs_operations.proofs.Placing.{blocks_append}
 use Rattle.lfs_operations.proofs.Taking.{within}
@@ -27,7 +27,7 @@ use Rattle.lfs_operations.proofs.Taking.{within}
 -- the map has the image's blocks and those that are gone, each once
 pub record HasMap (t : Kept) (gone : List ℕ) : Type 0 where
   pub owned : List ℕ
-  pub are : AreUsed t.map owned
+  pub are : AreExactlyTheUsedBlocks t.map owned
   pub same : (b : ℕ) → count b owned ≡ count b (used_blocks t.disk t.pairs) + count b gone
   pub once : (b : ℕ) → count b owned ≤ 1
   pub size : length t.map ≡ block_count t.disk
@@ -35,18 +35,18 @@ pub record HasMap (t : Kept) (gone : List ℕ) : Type 0 where
 slots_append : (xs ys : List Pair) → slots_in (xs ++ ys) ≡ slots_in xs ++ slots_in ys
 slots_append xs ys = flat_map-append (λ (p : Pair). p.content.slots) xs ys
 
-pub count_used : (b : ℕ) (disk : Disk) (ps : List Pair) → HasNoMove (gstate_of ps) → count b (used_blocks disk ps) ≡ count b (blocks_of ps) + count b (files_of disk (slots_in ps))
-count_used b disk ps none = count_append b (blocks_of ps) (flat_map (λ s. file_blocks disk s.struct) (all_slots ps))
-    ∙ ap (λ z. count b (blocks_of ps) + count b (files_of disk z)) (unmoved_in (gstate_of ps) none ps)
+pub count_used : (b : ℕ) (disk : Disk) (ps : List Pair) → HasNoMove (gstate_of ps) → count b (used_blocks disk ps) ≡ count b (blocks_of_pairs ps) + count b (files_of disk (slots_in ps))
+count_used b disk ps none = count_append b (blocks_of_pairs ps) (flat_map (λ s. skip_list_blocks_of_struct disk s.struct) (all_slots_not_moved ps))
+    ∙ ap (λ z. count b (blocks_of_pairs ps) + count b (files_of disk z)) (unmoved_in (gstate_of ps) none ps)
 
 -- ---- the blocks of a pair are freed
 
 module _ (now new : Kept) (x : Pair) (lists : List ℕ)
-    (used_count : (b : ℕ) → count b (used_blocks new.disk new.pairs) + (count b (blocks_of (x ∷ [])) + count b lists) ≡ count b (used_blocks now.disk now.pairs)) where
+    (used_count : (b : ℕ) → count b (used_blocks new.disk new.pairs) + (count b (blocks_of_pairs (x ∷ [])) + count b lists) ≡ count b (used_blocks now.disk now.pairs)) where
   not_used : Some Free ≡ Some Used → ⊥
   not_used e = absurd (cc)
 
-  pub map_frees : (gone : List ℕ) → new.map ≡ without_pair now.map x.at → block_count new.disk ≡ block_count now.disk → HasMap now gone → HasMap new (gone ++ lists)
+  pub map_frees : (gone : List ℕ) → new.map ≡ map_with_freed_pair now.map x.at → block_count new.disk ≡ block_count now.disk → HasMap now gone → HasMap new (gone ++ lists)
   map_frees gone map_is blocks h = record {
     owned = owned;
     are = λ b. subst (λ m. IsUsed m b ↔ Contains owned b) (sym map_is) (go b (nat_eq b x.at.0) (nat_eq b x.at.1) refl refl);
@@ -59,7 +59,7 @@ module _ (now new : Kept) (x : Pair) (lists : List ℕ)
       owned = used_blocks new.disk new.pairs ++ (gone ++ lists)
 
       -- without the pair's own blocks
-      less : (b : ℕ) → count b owned + count b (blocks_of (x ∷ [])) ≡ count b h.owned
+      less : (b : ℕ) → count b owned + count b (blocks_of_pairs (x ∷ [])) ≡ count b h.owned
       less b =
           let c = count_append b (used_blocks new.disk new.pairs) (gone ++ lists) in
           let d = count_append b gone (lists) in
@@ -67,39 +67,39 @@ module _ (now new : Kept) (x : Pair) (lists : List ℕ)
           omega arith
 
       -- one of the pair's blocks
-      freed : (b : ℕ) → 1 ≤ count b (blocks_of (x ∷ [])) → (IsUsed (without_pair now.map x.at) b → ⊥) → IsUsed (without_pair now.map x.at) b ↔ Contains owned b
+      freed : (b : ℕ) → 1 ≤ count b (blocks_of_pairs (x ∷ [])) → (IsUsed (map_with_freed_pair now.map x.at) b → ⊥) → IsUsed (map_with_freed_pair now.map x.at) b ↔ Contains owned b
       freed b some free = (
         (λ used. absurd (free used)),
         (λ has. absurd (let k = count-Contains owned b has in let l = less b in let o = h.once b in omega arith)),
       )
 
-      used_within : (b : ℕ) → 1 ≤ count b (blocks_of (x ∷ [])) → b < length now.map
+      used_within : (b : ℕ) → 1 ≤ count b (blocks_of_pairs (x ∷ [])) → b < length now.map
       used_within b some = within now.map b Used ((h.are b).1 (Contains-count h.owned b (let l = less b in omega arith)))
 
-      go : (b : ℕ) (u v : Bool) → nat_eq b x.at.0 ≡ u → nat_eq b x.at.1 ≡ v → IsUsed (without_pair now.map x.at) b ↔ Contains owned b
+      go : (b : ℕ) (u v : Bool) → nat_eq b x.at.0 ≡ u → nat_eq b x.at.1 ≡ v → IsUsed (map_with_freed_pair now.map x.at) b ↔ Contains owned b
       go b u true e f =
           let same : b ≡ x.at.1 = eqb-true b x.at.1 f in
-          let some : 1 ≤ count b (blocks_of (x ∷ [])) = subst (λ t. 1 ≤ cond (nat_eq b x.at.0) 1 0 + (cond t 1 0 + 0)) (sym f) (omega arith) in
-          freed b some (λ used. not_used (sym (subst (λ z. slice_get (without_pair now.map x.at) z ≡ Some Free) (sym same)
+          let some : 1 ≤ count b (blocks_of_pairs (x ∷ [])) = subst (λ t. 1 ≤ cond (nat_eq b x.at.0) 1 0 + (cond t 1 0 + 0)) (sym f) (omega arith) in
+          freed b some (λ used. not_used (sym (subst (λ z. slice_get (map_with_freed_pair now.map x.at) z ≡ Some Free) (sym same)
           (slice_get-set_same (set now.map x.at.0 Free) x.at.1 Free (let w = used_within b some in let l = length-set now.map x.at.0 Free in omega arith))) ∙ used))
       go b true false e f =
           let same : b ≡ x.at.0 = eqb-true b x.at.0 e in
           let other : b ≢ x.at.1 = eqb-false b x.at.1 f in
-          let some : 1 ≤ count b (blocks_of (x ∷ [])) = subst (λ t. 1 ≤ cond t 1 0 + (cond (nat_eq b x.at.1) 1 0 + 0)) (sym e) (omega arith) in
+          let some : 1 ≤ count b (blocks_of_pairs (x ∷ [])) = subst (λ t. 1 ≤ cond t 1 0 + (cond (nat_eq b x.at.1) 1 0 + 0)) (sym e) (omega arith) in
           freed b some (λ used. not_used (sym (slice_get-set_other (set now.map x.at.0 Free) x.at.1 b Free other
           ∙ subst (λ z. slice_get (set now.map x.at.0 Free) z ≡ Some Free) (sym same) (slice_get-set_same now.map x.at.0 Free (let w = used_within b some in omega arith))) ∙ used))
       go b false false e f =
           let first : b ≢ x.at.0 = eqb-false b x.at.0 e in
           let second : b ≢ x.at.1 = eqb-false b x.at.1 f in
-          let none_of : count b (blocks_of (x ∷ [])) ≡ 0 = ap₂ (λ s t. cond s 1 0 + (cond t 1 0 + 0)) e f in
-          let there : slice_get (without_pair now.map x.at) b ≡ slice_get now.map b
+          let none_of : count b (blocks_of_pairs (x ∷ [])) ≡ 0 = ap₂ (λ s t. cond s 1 0 + (cond t 1 0 + 0)) e f in
+          let there : slice_get (map_with_freed_pair now.map x.at) b ≡ slice_get now.map b
           = slice_get-set_other (set now.map x.at.0 Free) x.at.1 b Free second ∙ slice_get-set_other now.map x.at.0 b Free first in (
             (λ used. Contains-count owned b (let k = count-Contains h.owned b ((h.are b).0 (sym there ∙ used)) in let l = less b in omega arith)),
             (λ has. there ∙ (h.are b).1 (Contains-count h.owned b (let k = count-Contains owned b has in let l = less b in omega arith))),
           )
 
   -- none of them was in flight
-  pub frees_flies : (gone : List ℕ) → HasMap now gone → SameInFlight now.map (without_pair now.map x.at)
+  pub frees_flies : (gone : List ℕ) → HasMap now gone → HasSameBlocksInFlight now.map (map_with_freed_pair now.map x.at)
   frees_flies gone h = flying_same now.map x.at h.owned (used_blocks new.disk new.pairs ++ (gone ++ lists)) h.are h.once
       (λ b.
       let c = count_append b (used_blocks new.disk new.pairs) (gone ++ lists) in
@@ -111,11 +111,11 @@ module _ (now new : Kept) (x : Pair) (lists : List ℕ)
 
 module _ (now new : Kept) (front : List Pair) (before x q : Pair) (back : List Pair) (was : now.pairs ≡ front ++ before ∷ x ∷ back) (is : new.pairs ≡ front ++ q ∷ back)
     (at : q.at ≡ before.at) (slots : q.content.slots ≡ before.content.slots) (none : HasNoMove (gstate_of now.pairs)) (still : HasNoMove (gstate_of new.pairs))
-    (geometry : SameGeometry now.disk new.disk) (files : SameFiles now.disk new.disk (all_slots now.pairs)) where
+    (geometry : SameGeometry now.disk new.disk) (files : SameFiles now.disk new.disk (all_slots_not_moved now.pairs)) where
   abbrev F : Slot → Type 0
   F s = HasSameFile now.disk new.disk s.struct
 
-  all_are : all_slots now.pairs ≡ slots_in front ++ (before.content.slots ++ (x.content.slots ++ slots_in back))
+  all_are : all_slots_not_moved now.pairs ≡ slots_in front ++ (before.content.slots ++ (x.content.slots ++ slots_in back))
   all_are = unmoved_in (gstate_of now.pairs) none now.pairs ∙ ap slots_in was ∙ slots_append front (before ∷ x ∷ back)
 
   same_files : SameFiles now.disk new.disk (slots_in front ++ (before.content.slots ++ (x.content.slots ++ slots_in back)))
@@ -144,10 +144,10 @@ module _ (now new : Kept) (front : List Pair) (before x q : Pair) (back : List P
       let c5 = count_files b now.disk x.content.slots (slots_in back) in
       omega arith
 
-  pub blocks_count : (b : ℕ) → count b (blocks_of new.pairs) + count b (blocks_of (x ∷ [])) ≡ count b (blocks_of now.pairs)
+  pub blocks_count : (b : ℕ) → count b (blocks_of_pairs new.pairs) + count b (blocks_of_pairs (x ∷ [])) ≡ count b (blocks_of_pairs now.pairs)
   blocks_count b =
-      let e1 = ap (λ z. count b (blocks_of z)) is in
-      let e2 = ap (λ z. count b (blocks_of z)) was in
+      let e1 = ap (λ z. count b (blocks_of_pairs z)) is in
+      let e2 = ap (λ z. count b (blocks_of_pairs z)) was in
       let c1 = blocks_append front (q ∷ back) b in
       let c2 = blocks_append (q ∷ []) back b in
       let c3 = blocks_append front (before ∷ x ∷ back) b in
@@ -156,21 +156,21 @@ module _ (now new : Kept) (front : List Pair) (before x q : Pair) (back : List P
       let a = ap (λ (z : ℕ × ℕ). count b (z.0 ∷ z.1 ∷ [])) at in
       omega arith
 
-  used_count : (b : ℕ) → count b (used_blocks new.disk new.pairs) + (count b (blocks_of (x ∷ [])) + count b (files_of now.disk x.content.slots)) ≡ count b (used_blocks now.disk now.pairs)
+  used_count : (b : ℕ) → count b (used_blocks new.disk new.pairs) + (count b (blocks_of_pairs (x ∷ [])) + count b (files_of now.disk x.content.slots)) ≡ count b (used_blocks now.disk now.pairs)
   used_count b =
       let f = files_count b in let k = blocks_count b in
       let u = count_used b new.disk new.pairs still in let v = count_used b now.disk now.pairs none in
       omega arith
 
-  pub map_flies : (gone : List ℕ) → HasMap now gone → SameInFlight now.map (without_pair now.map x.at)
+  pub map_flies : (gone : List ℕ) → HasMap now gone → HasSameBlocksInFlight now.map (map_with_freed_pair now.map x.at)
   map_flies gone h = frees_flies now new x (files_of now.disk x.content.slots) used_count gone h
 
-  pub map_drops : (gone : List ℕ) → new.map ≡ without_pair now.map x.at → block_count new.disk ≡ block_count now.disk → HasMap now gone → HasMap new (gone ++ files_of now.disk x.content.slots)
+  pub map_drops : (gone : List ℕ) → new.map ≡ map_with_freed_pair now.map x.at → block_count new.disk ≡ block_count now.disk → HasMap now gone → HasMap new (gone ++ files_of now.disk x.content.slots)
   map_drops gone map_is blocks h = map_frees now new x (files_of now.disk x.content.slots) used_count gone map_is blocks h
 
 -- ---- the same addresses and slots
 
-pub alike_blocks : (xs ys : List Pair) → AreAlike xs ys → blocks_of ys ≡ blocks_of xs
+pub alike_blocks : (xs ys : List Pair) → AreAlike xs ys → blocks_of_pairs ys ≡ blocks_of_pairs xs
 alike_blocks [] [] h = refl
 alike_blocks [] (y ∷ ys) h = absurd h
 alike_blocks (x ∷ xs) [] h = absurd h
@@ -183,7 +183,7 @@ alike_slots (x ∷ xs) [] h = absurd h
 alike_slots (x ∷ xs) (y ∷ ys) h = ap₂ (λ a b. a ++ b) h.1 (alike_slots xs ys h.2)
 
 module _ (now new : Kept) (alike : AreAlike now.pairs new.pairs) (none : HasNoMove (gstate_of now.pairs)) (still : HasNoMove (gstate_of new.pairs))
-    (geometry : SameGeometry now.disk new.disk) (files : SameFiles now.disk new.disk (all_slots now.pairs)) where
+    (geometry : SameGeometry now.disk new.disk) (files : SameFiles now.disk new.disk (all_slots_not_moved now.pairs)) where
   pub files_stay : (b : ℕ) → count b (files_of new.disk (slots_in new.pairs)) ≡ count b (files_of now.disk (slots_in now.pairs))
   files_stay b = ap (λ z. count b (files_of new.disk z)) (alike_slots now.pairs new.pairs alike)
       ∙ ap (count b) (slots_files now.disk new.disk (slots_in now.pairs) geometry (subst (SameFiles now.disk new.disk) (unmoved_in (gstate_of now.pairs) none now.pairs) files))
@@ -191,7 +191,7 @@ module _ (now new : Kept) (alike : AreAlike now.pairs new.pairs) (none : HasNoMo
   pub map_stays : (gone : List ℕ) → new.map ≡ now.map → HasMap now gone → HasMap new gone
   map_stays gone map_is h = record {
     owned = h.owned;
-    are = subst (λ m. AreUsed m h.owned) (sym map_is) h.are;
+    are = subst (λ m. AreExactlyTheUsedBlocks m h.owned) (sym map_is) h.are;
     same = λ b.
         let f = files_stay b in
         let k = ap (count b) (alike_blocks now.pairs new.pairs alike) in

@@ -8,14 +8,14 @@ use Rattle.std.proofs.lemmas.List.Concat.{flat_map-append}
 use Rattle.std.proofs.lemmas.List.Elements.{All-from_recursion, recursion_from_All}
 use Rattle.lfs_model.specs.Blocks.{Blocks}
 use Rattle.lfs_model.specs.Disk.{Disk}
-use Rattle.lfs_model.specs.LoggedContent.{IsAddress}
-use Rattle.lfs_model.specs.PowerLoss.{IsLeftByStop as IsLeftOf, with_blocks}
-use Rattle.lfs_model.specs.Slots.{FitsPair, Gstate, Slot, same_pair}
-use Rattle.lfs_model.specs.SlotEdits.{without_moved}
-use Rattle.lfs_model.specs.Thread.{Pair, blocks_of, gstate_of, is_hard, starts_with_superblock, superblocks_before, slots_not_moved}
-use Rattle.lfs_model.specs.Profile.{FitsSlot, IsWritable}
-use Rattle.lfs_model.specs.View.{IsAccepted}
-use Rattle.lfs_model.specs.Shown.{all_slots, file_blocks, tree_in, used_blocks}
+use Rattle.lfs_model.specs.LoggedContent.{Are32BitPairAddresses}
+use Rattle.lfs_model.specs.PowerLoss.{ShowsTreeBeforeOrAfter as IsLeftOf, with_blocks}
+use Rattle.lfs_model.specs.Slots.{IsContentFittingPair, Gstate, Slot, same_pair}
+use Rattle.lfs_model.specs.SlotEdits.{pairs_without_moved_slot}
+use Rattle.lfs_model.specs.Thread.{Pair, blocks_of_pairs, gstate_of, is_hard_tail, starts_with_superblock, pair_count_before_root, slots_not_moved}
+use Rattle.lfs_model.specs.Profile.{FitsSlotLimits, IsWritable}
+use Rattle.lfs_model.specs.View.{IsAcceptedImage}
+use Rattle.lfs_model.specs.Shown.{all_slots_not_moved, skip_list_blocks_of_struct, tree_on_disk, used_blocks}
 use Rattle.lfs_model.proofs.Changes.{SameFiles, chain_now, slots_files}
 use Rattle.lfs_model.proofs.Counts.{Each, count, count_append, each_append, each_left, each_right, each_weaker}
 use Rattle.lfs_model.proofs.Files.{HasSameFile}
@@ -33,9 +33,9 @@ use Rattle.lfs_model.proofs.StepsTaken.{IsOnlyStep, fit_spliced, taken_before, w
 use Rattle.lfs_model.proofs.Unchanged.{HasFirst}
 use Rattle.lfs_model.proofs.Writable.{ends_in_hard_tail}
 use Rattle.lfs_thread.specs.Kept.{Kept}
-use Rattle.lfs_thread.specs.Steps.{IsLeftByChange, IsWrittenAs, SlotsHaveFirst, made_in_thread, pair_in, with_pair}
-use Rattle.lfs_operations.specs.Deltas.{FitsFields, has_tail_at, delta_of}
-use Rattle.lfs_operations.specs.EndingMove.{CanEndMove, CanTakeSlot, IsMovedAt, is_alone_at, take_slot_changes, gstate_without_move}
+use Rattle.lfs_thread.specs.Steps.{LeavesPairOldOrChanged, IsPairWrittenOnDisk, SlotsBeginWithSuperblock, complete_content_after_changes, kept_pair_at_index, pairs_with_content_at_index}
+use Rattle.lfs_operations.specs.Deltas.{FitsGstateFields, has_hard_tail_at, delta_reaching_gstate}
+use Rattle.lfs_operations.specs.EndingMove.{CanEndMove, CanRemoveMovedSlot, HasMovedSlotInPair, has_one_slot_after_hard_tail, remove_moved_slot_changes, gstate_without_move}
 use Rattle.lfs_operations.proofs.RecoverBefore.{AreKin, hidden, hidden_append, hidden_far, kin_append}
 use Rattle.lfs_operations.proofs.RecoverMap.{count_used}
 use Rattle.lfs_operations.proofs.RecoverMoved.{in_directory}
@@ -43,7 +43,7 @@ use Rattle.lfs_operations.proofs.RecoverPlaced.{IsAt, here_is, nothing_taken, pl
 use Rattle.lfs_operations.proofs.RecoverDeltas.{take_fits, take_made, without_content}
 
 -- the state without a move
-pub unset_fits : (g : Gstate) → FitsFields (gstate_without_move g)
+pub unset_fits : (g : Gstate) → FitsGstateFields (gstate_without_move g)
 unset_fits g = record { kind = omega arith; id = omega arith }
 
 pub unset_is : (g : Gstate) → HasNoMove (gstate_without_move g)
@@ -54,9 +54,9 @@ pub flipped : (a : ℕ × ℕ) (ps : List Pair) → Each (λ x. same_pair x.at a
 flipped a ps h = each_weaker (λ (x : Pair). same_pair x.at a ≡ false) (λ (x : Pair). same_pair a x.at ≡ false)
     (λ x e. false_from_ne_true (same_pair a x.at) (λ t. absurd (let k = sym e ∙ pair_back a x.at t in cc))) ps h
 
-pub last_flag : (xs : List Pair) (b : Bool) (p : Pair) → ends_in_hard_tail b (xs ++ p ∷ []) ≡ is_hard p.content.tail
+pub last_flag : (xs : List Pair) (b : Bool) (p : Pair) → ends_in_hard_tail b (xs ++ p ∷ []) ≡ is_hard_tail p.content.tail
 last_flag [] b p = refl
-last_flag (x ∷ xs) b p = last_flag xs (is_hard x.content.tail) p
+last_flag (x ∷ xs) b p = last_flag xs (is_hard_tail x.content.tail) p
 
 record HasEnd (xs : List Pair) : Type 0 where
   front : List Pair
@@ -67,7 +67,7 @@ has_end : (x : Pair) (xs : List Pair) → HasEnd (x ∷ xs)
 has_end x [] = record { front = []; last = x; is = refl }
 has_end x (y ∷ xs) = let l = has_end y xs in record { front = x ∷ l.front; last = l.last; is = ap (λ z. x ∷ z) l.is }
 
-module _ (t : Kept) (can : CanEndMove t) (index : ℕ) (m : IsMovedAt t index) where
+module _ (t : Kept) (can : CanEndMove t) (index : ℕ) (m : HasMovedSlotInPair t index) where
   abbrev G : Gstate
   G = gstate_of t.pairs
 
@@ -83,42 +83,42 @@ module _ (t : Kept) (can : CanEndMove t) (index : ℕ) (m : IsMovedAt t index) w
   place : IsAt t h.site.chain front h.pair back index
   place = record { there = h.is; number = sym h.number ∙ length-append h.site.chain front }
 
-  here : pair_in t index ≡ h.pair
+  here : kept_pair_at_index t index ≡ h.pair
   here = here_is t h.site.chain front h.pair back index place
 
   held : h.pair.content.slots ≡ m.left ++ m.slot ∷ m.right
   held = ap (λ (z : Pair). z.content.slots) (sym here) ∙ m.held
 
   abbrev pub y : Pair
-  y = record { at = h.pair.at; content = record { slots = m.left ++ m.right; tail = h.pair.content.tail; move = delta_of t index (gstate_without_move (gstate_of t.pairs)) } }
+  y = record { at = h.pair.at; content = record { slots = m.left ++ m.right; tail = h.pair.content.tail; move = delta_reaching_gstate t index (gstate_without_move (gstate_of t.pairs)) } }
 
-  slots_are : remove (pair_in t index).content.slots G.id ≡ m.left ++ m.right
+  slots_are : remove (kept_pair_at_index t index).content.slots G.id ≡ m.left ++ m.right
   slots_are = ap₂ (λ (s : List Slot) (i : ℕ). remove s i) m.held (sym m.number) ∙ remove_here m.left m.right m.slot
 
   content_is : without_content t index G.id (gstate_without_move (gstate_of t.pairs)) ≡ y.content
-  content_is = ap₂ (λ (s : List Slot) (z : Pair). record { slots = s; tail = z.content.tail; move = delta_of t index (gstate_without_move (gstate_of t.pairs)) }) slots_are here
+  content_is = ap₂ (λ (s : List Slot) (z : Pair). record { slots = s; tail = z.content.tail; move = delta_reaching_gstate t index (gstate_without_move (gstate_of t.pairs)) }) slots_are here
 
-  accepted : IsAccepted t.disk (thread_at h.site (h.pair ∷ []))
-  accepted = subst (IsAccepted t.disk) h.is can.accepted
+  accepted : IsAcceptedImage t.disk (thread_at h.site (h.pair ∷ []))
+  accepted = subst (IsAcceptedImage t.disk) h.is can.accepted
 
   writable : IsWritable t.disk (thread_at h.site (h.pair ∷ []))
   writable = subst (IsWritable t.disk) h.is can.writable
 
-  keeps : HasFirst h.pair.content.slots → SlotsHaveFirst (m.left ++ m.right)
-  keeps k = go m.left (subst SlotsHaveFirst held (k.kind, k.name))
+  keeps : HasFirst h.pair.content.slots → SlotsBeginWithSuperblock (m.left ++ m.right)
+  keeps k = go m.left (subst SlotsBeginWithSuperblock held (k.kind, k.name))
     where
-      go : (l : List Slot) → SlotsHaveFirst (l ++ m.slot ∷ m.right) → SlotsHaveFirst (l ++ m.right)
+      go : (l : List Slot) → SlotsBeginWithSuperblock (l ++ m.slot ∷ m.right) → SlotsBeginWithSuperblock (l ++ m.right)
       go [] f = absurd (let z = sym f.0 ∙ m.other in cc)
       go (s ∷ l) f = f
 
-  pub stays_device : (disk : Disk) → IsWrittenAs t index (without_content t index G.id (gstate_without_move (gstate_of t.pairs))) disk → IsDevice t.disk disk (thread_at h.site (h.pair ∷ [])) (thread_at h.site (y ∷ []))
-  stays_device disk is = placed_by t h.site.chain front h.pair back index place disk y.content keeps accepted (subst (λ c. IsWrittenAs t index c disk) content_is is)
+  pub stays_device : (disk : Disk) → IsPairWrittenOnDisk t index (without_content t index G.id (gstate_without_move (gstate_of t.pairs))) disk → IsDevice t.disk disk (thread_at h.site (h.pair ∷ [])) (thread_at h.site (y ∷ []))
+  stays_device disk is = placed_by t h.site.chain front h.pair back index place disk y.content keeps accepted (subst (λ c. IsPairWrittenOnDisk t index c disk) content_is is)
 
   pub stays_state : gstate_of (thread_at h.site (y ∷ [])) ≡ gstate_without_move (gstate_of t.pairs)
   stays_state = set_state_is t h.site.chain front h.pair back index place (gstate_without_move (gstate_of t.pairs)) y refl
 
-  pub stays_pairs : with_pair t index (without_content t index G.id (gstate_without_move (gstate_of t.pairs))) ≡ thread_at h.site (y ∷ [])
-  stays_pairs = ap (with_pair t index) content_is ∙ with_is t h.site.chain front h.pair back index place y.content
+  pub stays_pairs : pairs_with_content_at_index t index (without_content t index G.id (gstate_without_move (gstate_of t.pairs))) ≡ thread_at h.site (y ∷ [])
+  stays_pairs = ap (pairs_with_content_at_index t index) content_is ∙ with_is t h.site.chain front h.pair back index place y.content
 
   same_is : same_pair h.pair.at G.pair ≡ true
   same_is = subst (λ (z : Pair). same_pair z.at G.pair ≡ true) here m.same
@@ -129,8 +129,8 @@ module _ (t : Kept) (can : CanEndMove t) (index : ℕ) (m : IsMovedAt t index) w
   grouped : t.pairs ≡ (h.site.chain ++ front) ++ h.pair ∷ back
   grouped = h.is ∙ sym (append_assoc h.site.chain front (h.pair ∷ back))
 
-  distinct : IsDistinct nat_eq (blocks_of ((h.site.chain ++ front) ++ h.pair ∷ back))
-  distinct = subst (λ z. IsDistinct nat_eq (blocks_of z)) grouped can.accepted.thread.distinct
+  distinct : IsDistinct nat_eq (blocks_of_pairs ((h.site.chain ++ front) ++ h.pair ∷ back))
+  distinct = subst (λ z. IsDistinct nat_eq (blocks_of_pairs z)) grouped can.accepted.thread.distinct
 
   far_front : Each Far (h.site.chain ++ front)
   far_front = flipped G.pair (h.site.chain ++ front) (avoids_front (h.site.chain ++ front) h.pair back G.pair distinct same_is)
@@ -145,7 +145,7 @@ module _ (t : Kept) (can : CanEndMove t) (index : ℕ) (m : IsMovedAt t index) w
   hides = ap₂ (λ k b. cond (nat_eq k 0x4ff && b) (remove h.pair.content.slots G.id) h.pair.content.slots) m.kind (pair_back h.pair.at G.pair same_is)
       ∙ ap₂ (λ (s : List Slot) (i : ℕ). remove s i) held (sym m.number) ∙ remove_here m.left m.right m.slot
 
-  step : (disk : Disk) → IsWrittenAs t index (without_content t index G.id (gstate_without_move (gstate_of t.pairs))) disk → IsMoveEnd t.disk disk h.site h.pair [] y [] m.left m.slot m.right
+  step : (disk : Disk) → IsPairWrittenOnDisk t index (without_content t index G.id (gstate_without_move (gstate_of t.pairs))) disk → IsMoveEnd t.disk disk h.site h.pair [] y [] m.left m.slot m.right
   step disk is = record {
     accepted = accepted;
     site = h.is_site;
@@ -167,7 +167,7 @@ module _ (t : Kept) (can : CanEndMove t) (index : ℕ) (m : IsMovedAt t index) w
           go (s ∷ l) f = f
 
   -- the pair keeps a slot where a hard tail leads to it
-  filled : is_alone_at t index ≡ false → ends_in_hard_tail false front ≡ true → m.left ++ m.right ≢ []
+  filled : has_one_slot_after_hard_tail t index ≡ false → ends_in_hard_tail false front ≡ true → m.left ++ m.right ≢ []
   filled alone hard none = go front refl
     where
       go : (xs : List Pair) → front ≡ xs → ⊥
@@ -175,68 +175,68 @@ module _ (t : Kept) (can : CanEndMove t) (index : ℕ) (m : IsMovedAt t index) w
       go (x ∷ xs) e =
           let l = has_end x xs in
           let parts : front ≡ l.front ++ l.last ∷ [] = e ∙ l.is in
-          let led : is_hard l.last.content.tail ≡ true = sym (last_flag l.front false l.last) ∙ ap (ends_in_hard_tail false) (sym parts) ∙ hard in
+          let led : is_hard_tail l.last.content.tail ≡ true = sym (last_flag l.front false l.last) ∙ ap (ends_in_hard_tail false) (sym parts) ∙ hard in
           let before : IsAt t h.site.chain l.front l.last (h.pair ∷ back) (index - 1) = record {
             there = h.is ∙ ap (λ z. h.site.chain ++ (z ++ h.pair ∷ back)) parts ∙ ap (λ z. h.site.chain ++ z) (append_assoc l.front (l.last ∷ []) (h.pair ∷ back));
             number = let n = place.number in let a = ap length parts in let b = length-append l.front (l.last ∷ []) in omega arith;
           } in
-          let on : has_tail_at t (index - 1) ≡ true = ap (λ (z : Pair). is_hard z.content.tail) (here_is t h.site.chain l.front l.last (h.pair ∷ back) (index - 1) before) ∙ led in
+          let on : has_hard_tail_at t (index - 1) ≡ true = ap (λ (z : Pair). is_hard_tail z.content.tail) (here_is t h.site.chain l.front l.last (h.pair ∷ back) (index - 1) before) ∙ led in
           let some : nat_lt 0 index ≡ true = lt-ltb 0 index (let n = place.number in let a = ap length parts in let b = length-append l.front (l.last ∷ []) in omega arith) in
-          let one : (length (pair_in t index).content.slots == 1) ≡ true = eq-eqb (length (pair_in t index).content.slots) 1
+          let one : (length (kept_pair_at_index t index).content.slots == 1) ≡ true = eq-eqb (length (kept_pair_at_index t index).content.slots) 1
           (let a = ap length m.held in let b = length-append m.left (m.slot ∷ m.right) in let c = length-append m.left m.right in let d = ap length none in omega arith) in
-          absurd (let z = sym alone ∙ ap₂ (λ a b. a && (b && has_tail_at t (index - 1))) some one ∙ on in cc)
+          absurd (let z = sym alone ∙ ap₂ (λ a b. a && (b && has_hard_tail_at t (index - 1))) some one ∙ on in cc)
 
-  pub stays_taken : CanTakeSlot t index G.id (gstate_without_move (gstate_of t.pairs)) → is_alone_at t index ≡ false → (disk : Disk) → IsWrittenAs t index (without_content t index G.id (gstate_without_move (gstate_of t.pairs))) disk
+  pub stays_taken : CanRemoveMovedSlot t index G.id (gstate_without_move (gstate_of t.pairs)) → has_one_slot_after_hard_tail t index ≡ false → (disk : Disk) → IsPairWrittenOnDisk t index (without_content t index G.id (gstate_without_move (gstate_of t.pairs))) disk
       → IsOnlyStep t.disk (thread_at h.site (h.pair ∷ [])) disk (thread_at h.site (y ∷ [])) (λ t. t) (λ d. d)
   stays_taken take alone disk is = record {
     follows = move_ends t.disk disk h.site h.pair [] y [] m.left m.slot m.right (step disk is)
         (λ off. subst AllReached h.is (can.accepted.reached (ap (λ (z : Gstate). z.sync) (sym stays_state) ∙ off)));
     writable = end_writable t.disk disk h.site h.pair [] y [] m.left m.slot m.right (step disk is) writable (
       record {
-        pair = subst (FitsPair t.disk.block_size t.disk.page) content_is (take_fits t index G.id (gstate_without_move (gstate_of t.pairs)) take);
-        slots = All-from_recursion (FitsSlot t.disk.block_size t.disk.page) (m.left ++ m.right) (fit_spliced t.disk h.pair m.left (m.slot ∷ []) [] m.right (within_at t.disk h.site h.pair [] writable) held tt);
+        pair = subst (IsContentFittingPair t.disk.block_size t.disk.page) content_is (take_fits t index G.id (gstate_without_move (gstate_of t.pairs)) take);
+        slots = All-from_recursion (FitsSlotLimits t.disk.block_size t.disk.page) (m.left ++ m.right) (fit_spliced t.disk h.pair m.left (m.slot ∷ []) [] m.right (within_at t.disk h.site h.pair [] writable) held tt);
       },
       tt,
     ) (λ z. ((λ e. filled alone e), z.1));
   }
 
   -- a stop leaves the tree
-  pub stays_left : CanTakeSlot t index G.id (gstate_without_move (gstate_of t.pairs)) → is_alone_at t index ≡ false → IsAddress (delta_of t index (gstate_without_move (gstate_of t.pairs))).pair
-      → (left : Blocks) → IsLeftByChange t index (take_slot_changes t index G.id (gstate_without_move (gstate_of t.pairs))) left → IsLeftOf (with_blocks left t.disk) (tree_in t.disk t.pairs) (tree_in t.disk t.pairs)
-  stays_left take alone address left is = subst (λ z. IsLeftOf (with_blocks left t.disk) (tree_in t.disk z) (tree_in t.disk z)) (sym h.is) (go is.is)
+  pub stays_left : CanRemoveMovedSlot t index G.id (gstate_without_move (gstate_of t.pairs)) → has_one_slot_after_hard_tail t index ≡ false → Are32BitPairAddresses (delta_reaching_gstate t index (gstate_without_move (gstate_of t.pairs))).pair
+      → (left : Blocks) → LeavesPairOldOrChanged t index (remove_moved_slot_changes t index G.id (gstate_without_move (gstate_of t.pairs))) left → IsLeftOf (with_blocks left t.disk) (tree_on_disk t.disk t.pairs) (tree_on_disk t.disk t.pairs)
+  stays_left take alone address left is = subst (λ z. IsLeftOf (with_blocks left t.disk) (tree_on_disk t.disk z) (tree_on_disk t.disk z)) (sym h.is) (go is.is)
     where
       old : List Pair
       old = thread_at h.site (h.pair ∷ [])
 
-      go : (is.content ≡ (pair_in t index).content) ⊎ ((made_in_thread t index (take_slot_changes t index G.id (gstate_without_move (gstate_of t.pairs))) ≡ Some is.content) × FitsPair t.disk.block_size t.disk.page is.content)
-          → IsLeftOf (with_blocks left t.disk) (tree_in t.disk old) (tree_in t.disk old)
+      go : (is.content ≡ (kept_pair_at_index t index).content) ⊎ ((complete_content_after_changes t index (remove_moved_slot_changes t index G.id (gstate_without_move (gstate_of t.pairs))) ≡ Some is.content) × IsContentFittingPair t.disk.block_size t.disk.page is.content)
+          → IsLeftOf (with_blocks left t.disk) (tree_on_disk t.disk old) (tree_on_disk t.disk old)
       go (inl e) =
           let same : is.content ≡ h.pair.content = e ∙ ap (λ (z : Pair). z.content) here in
-          let on = placed_device t h.site.chain front h.pair back index place (with_blocks left t.disk) h.pair.content refl accepted (subst (λ c. IsWrittenAs t index c (with_blocks left t.disk)) same is.written) in
-          taken_before t.disk old (with_blocks left t.disk) old (λ d. d) (tree_in t.disk old)
+          let on = placed_device t h.site.chain front h.pair back index place (with_blocks left t.disk) h.pair.content refl accepted (subst (λ c. IsPairWrittenOnDisk t index c (with_blocks left t.disk)) same is.written) in
+          taken_before t.disk old (with_blocks left t.disk) old (λ d. d) (tree_on_disk t.disk old)
           (nothing_taken t.disk (with_blocks left t.disk) h.site.chain front h.pair back h.is_site.chain accepted writable on)
       go (inr k) =
           let same = same_Some is.content (without_content t index G.id (gstate_without_move (gstate_of t.pairs))) (sym k.0 ∙ take_made t index G.id (gstate_without_move (gstate_of t.pairs)) take address) in
-          taken_before t.disk old (with_blocks left t.disk) (thread_at h.site (y ∷ [])) (λ d. d) (tree_in t.disk old)
-          (stays_taken take alone (with_blocks left t.disk) (subst (λ c. IsWrittenAs t index c (with_blocks left t.disk)) same is.written))
+          taken_before t.disk old (with_blocks left t.disk) (thread_at h.site (y ∷ [])) (λ d. d) (tree_on_disk t.disk old)
+          (stays_taken take alone (with_blocks left t.disk) (subst (λ c. IsPairWrittenOnDisk t index c (with_blocks left t.disk)) same is.written))
 
   -- ---- where slots stand
 
-  pub stays_kin : AreKin (without_moved t.pairs) (thread_at h.site (y ∷ []))
+  pub stays_kin : AreKin (pairs_without_moved_slot t.pairs) (thread_at h.site (y ∷ []))
   stays_kin = subst (λ x. AreKin x (thread_at h.site (y ∷ [])))
       (sym (ap (λ x. hidden (gstate_of t.pairs) x) h.is ∙ hidden_append G h.site.chain (front ++ h.pair ∷ back) ∙ ap (λ x. hidden G h.site.chain ++ x) (hidden_append G front (h.pair ∷ back))))
       (kin_append (hidden G h.site.chain) (hidden G front ++ hidden G (h.pair ∷ back)) h.site.chain (front ++ y ∷ back) (hidden_far G h.site.chain (each_left Far h.site.chain front far_front))
       (kin_append (hidden G front) (hidden G (h.pair ∷ back)) front (y ∷ back) (hidden_far G front (each_right Far h.site.chain front far_front))
       (record { at = refl; slots = sym hides; hard = refl }, hidden_far G back far_back)))
 
-  pub stays_chain : (disk : Disk) → IsWrittenAs t index (without_content t index G.id (gstate_without_move (gstate_of t.pairs))) disk → superblocks_before (thread_at h.site (y ∷ [])) ≡ superblocks_before t.pairs
+  pub stays_chain : (disk : Disk) → IsPairWrittenOnDisk t index (without_content t index G.id (gstate_without_move (gstate_of t.pairs))) disk → pair_count_before_root (thread_at h.site (y ∷ [])) ≡ pair_count_before_root t.pairs
   stays_chain disk is = chain_now t.disk disk h.site.chain front h.pair [] y [] back [] h.is_site.chain accepted
       (end_change t.disk disk h.site h.pair [] y [] m.left m.slot m.right (step disk is))
-      ∙ sym (ap superblocks_before h.is ∙ h.is_site.chain)
+      ∙ sym (ap pair_count_before_root h.is ∙ h.is_site.chain)
 
   -- ---- the blocks
 
-  all_were : all_slots t.pairs ≡ slots_in h.site.chain ++ (slots_in front ++ ((m.left ++ m.right) ++ slots_in back))
+  all_were : all_slots_not_moved t.pairs ≡ slots_in h.site.chain ++ (slots_in front ++ ((m.left ++ m.right) ++ slots_in back))
   all_were = ap (flat_map (slots_not_moved G)) h.is ∙ flat_map-append (slots_not_moved G) h.site.chain (front ++ h.pair ∷ back)
       ∙ ap₂ (λ a b. a ++ b) (hidden_none G h.site.chain (each_left Far h.site.chain front far_front))
       (flat_map-append (slots_not_moved G) front (h.pair ∷ back) ∙ ap₂ (λ a b. a ++ b) (hidden_none G front (each_right Far h.site.chain front far_front)) (ap₂ (λ a b. a ++ b) hides (hidden_none G back far_back)))
@@ -244,18 +244,18 @@ module _ (t : Kept) (can : CanEndMove t) (index : ℕ) (m : IsMovedAt t index) w
   all_are : slots_in (thread_at h.site (y ∷ [])) ≡ slots_in h.site.chain ++ (slots_in front ++ ((m.left ++ m.right) ++ slots_in back))
   all_are = flat_map-append (λ (p : Pair). p.content.slots) h.site.chain (front ++ y ∷ back) ∙ ap (λ z. slots_in h.site.chain ++ z) (flat_map-append (λ (p : Pair). p.content.slots) front (y ∷ back))
 
-  blocks_are : blocks_of (thread_at h.site (y ∷ [])) ≡ blocks_of (thread_at h.site (h.pair ∷ []))
+  blocks_are : blocks_of_pairs (thread_at h.site (y ∷ [])) ≡ blocks_of_pairs (thread_at h.site (h.pair ∷ []))
   blocks_are = flat_map-append (λ (s : Pair). s.at.0 ∷ s.at.1 ∷ []) h.site.chain (front ++ y ∷ back)
-      ∙ ap (λ z. blocks_of h.site.chain ++ z) (flat_map-append (λ (s : Pair). s.at.0 ∷ s.at.1 ∷ []) front (y ∷ back) ∙ sym (flat_map-append (λ (s : Pair). s.at.0 ∷ s.at.1 ∷ []) front (h.pair ∷ back)))
+      ∙ ap (λ z. blocks_of_pairs h.site.chain ++ z) (flat_map-append (λ (s : Pair). s.at.0 ∷ s.at.1 ∷ []) front (y ∷ back) ∙ sym (flat_map-append (λ (s : Pair). s.at.0 ∷ s.at.1 ∷ []) front (h.pair ∷ back)))
       ∙ sym (flat_map-append (λ (s : Pair). s.at.0 ∷ s.at.1 ∷ []) h.site.chain (front ++ h.pair ∷ back))
 
   -- the image uses the same blocks
-  pub stays_used : (disk : Disk) → IsWrittenAs t index (without_content t index G.id (gstate_without_move (gstate_of t.pairs))) disk → (b : ℕ) → count b (used_blocks disk (thread_at h.site (y ∷ []))) ≡ count b (used_blocks t.disk t.pairs)
+  pub stays_used : (disk : Disk) → IsPairWrittenOnDisk t index (without_content t index G.id (gstate_without_move (gstate_of t.pairs))) disk → (b : ℕ) → count b (used_blocks disk (thread_at h.site (y ∷ []))) ≡ count b (used_blocks t.disk t.pairs)
   stays_used disk is b =
       let on = stays_device disk is in
-      let files : SameFiles t.disk disk (all_slots t.pairs) = subst (λ z. SameFiles t.disk disk (all_slots z)) (sym h.is) (recursion_from_All (λ (s : Slot). HasSameFile t.disk disk s.struct) (all_slots (thread_at h.site (h.pair ∷ []))) on.files) in
+      let files : SameFiles t.disk disk (all_slots_not_moved t.pairs) = subst (λ z. SameFiles t.disk disk (all_slots_not_moved z)) (sym h.is) (recursion_from_All (λ (s : Slot). HasSameFile t.disk disk s.struct) (all_slots_not_moved (thread_at h.site (h.pair ∷ []))) on.files) in
       let u = count_used b disk (thread_at h.site (y ∷ [])) (subst HasNoMove (sym stays_state) (unset_is (gstate_of t.pairs))) in
-      let v = count_append b (blocks_of t.pairs) (flat_map (λ s. file_blocks t.disk s.struct) (all_slots t.pairs)) in
-      let f = ap (λ z. count b (files_of disk z)) (all_are ∙ sym all_were) ∙ ap (count b) (slots_files t.disk disk (all_slots t.pairs) on.geometry files) in
-      let k = ap (count b) blocks_are ∙ ap (λ z. count b (blocks_of z)) (sym h.is) in
+      let v = count_append b (blocks_of_pairs t.pairs) (flat_map (λ s. skip_list_blocks_of_struct t.disk s.struct) (all_slots_not_moved t.pairs)) in
+      let f = ap (λ z. count b (files_of disk z)) (all_are ∙ sym all_were) ∙ ap (count b) (slots_files t.disk disk (all_slots_not_moved t.pairs) on.geometry files) in
+      let k = ap (count b) blocks_are ∙ ap (λ z. count b (blocks_of_pairs z)) (sym h.is) in
       omega arith

@@ -3,14 +3,14 @@ use Rattle.std.proofs.Common.{ℕ, ◌≡◌, ◌+◌, ◌<◌, ◌≤◌, ◌�
 use Rattle.std.proofs.lemmas.Option.{same_Some}
 use Rattle.lfs_model.specs.Blocks.{Blocks}
 use Rattle.lfs_model.specs.Disk.{Disk}
-use Rattle.lfs_model.specs.LoggedContent.{IsAddress}
-use Rattle.lfs_model.specs.PowerLoss.{IsLeftByStop as IsLeftOf, with_blocks}
-use Rattle.lfs_model.specs.Slots.{FitsPair, Gstate, Tail, no_gstate, same_pair}
-use Rattle.lfs_model.specs.Thread.{Pair, gstate_of, is_hard, superblocks_before}
+use Rattle.lfs_model.specs.LoggedContent.{Are32BitPairAddresses}
+use Rattle.lfs_model.specs.PowerLoss.{ShowsTreeBeforeOrAfter as IsLeftOf, with_blocks}
+use Rattle.lfs_model.specs.Slots.{IsContentFittingPair, Gstate, Tail, zero_gstate, same_pair}
+use Rattle.lfs_model.specs.Thread.{Pair, gstate_of, is_hard_tail, pair_count_before_root}
 use Rattle.lfs_model.specs.Tree.{Path}
-use Rattle.lfs_model.specs.View.{IsAccepted}
+use Rattle.lfs_model.specs.View.{IsAcceptedImage}
 use Rattle.lfs_model.specs.Profile.{IsWritable}
-use Rattle.lfs_model.specs.Shown.{PathLeadsTo, tree_in}
+use Rattle.lfs_model.specs.Shown.{IsPathToDirectory, tree_on_disk}
 use Rattle.lfs_model.proofs.Alike.{AreAlike, alike_append, alike_itself}
 use Rattle.lfs_model.proofs.Drops.{softened}
 use Rattle.lfs_model.proofs.Global.{HasNoMove}
@@ -23,8 +23,8 @@ use Rattle.lfs_model.proofs.Splices.{IsDevice, stays_shape}
 use Rattle.lfs_model.proofs.StepsTaken.{IsOnlyStep, taken_before, within_at, within_same}
 use Rattle.lfs_model.proofs.Unthreaded.{IsReady, IsUnthreaded, Unthreads, unthread}
 use Rattle.lfs_thread.specs.Kept.{Kept}
-use Rattle.lfs_thread.specs.Steps.{IsLeftByChange, IsWrittenAs, made_in_thread, pair_in, with_pair}
-use Rattle.lfs_operations.specs.Deltas.{CanSetState, CanTakeOver, IsAddressIfSome, set_state_changes, delta_of, takes_delta, take_over_changes, target_of}
+use Rattle.lfs_thread.specs.Steps.{LeavesPairOldOrChanged, IsPairWrittenOnDisk, complete_content_after_changes, kept_pair_at_index, pairs_with_content_at_index}
+use Rattle.lfs_operations.specs.Deltas.{CanSetGstateInPair, CanTakeOverNextPair, IsPairAddressIfSome, gstate_setting_changes, delta_reaching_gstate, delta_after_taking_over_next_pair, next_pair_takeover_changes, pair_named_by_optional_tail}
 use Rattle.lfs_operations.proofs.RecoverPlaced.{IsAt, dropped_device, dropped_state, here_is, next_is, nothing_taken, placed_device, set_state_is, with_is}
 use Rattle.lfs_operations.proofs.RecoverDeltas.{over_content, over_made, set_content, set_made, taken_tail, with_move}
 
@@ -33,73 +33,73 @@ use Rattle.lfs_operations.proofs.RecoverDeltas.{over_content, over_made, set_con
 -- no move is set then, and no path leads to the pair that goes
 pub record IsUnled (t : Kept) (g : Gstate) (before x : Pair) : Type 0 where
   pub none : HasNoMove g
-  pub soft : is_hard before.content.tail ≡ false
-  pub unled : (path : Path) (a : ℕ × ℕ) → PathLeadsTo t.pairs path a → same_pair x.at a ≡ true → ⊥
-  pub reached : g.sync ≡ false → (is_hard x.content.tail ≡ false) × AllReachedBut t.pairs x.at
+  pub soft : is_hard_tail before.content.tail ≡ false
+  pub unled : (path : Path) (a : ℕ × ℕ) → IsPathToDirectory t.pairs path a → same_pair x.at a ≡ true → ⊥
+  pub reached : g.sync ≡ false → (is_hard_tail x.content.tail ≡ false) × AllReachedBut t.pairs x.at
 
 module _ (t : Kept) (chain front : List Pair) (before x : Pair) (todo : List Pair) (index behind : ℕ) (g : Gstate)
     (k : IsAt t chain front before (x ∷ todo) index) (next : behind ≡ index + 1) (ready : IsReady t.disk chain (front ++ before ∷ x ∷ todo)) (u : IsUnled t g before x) where
   abbrev q : Pair
   q = record { at = before.at; content = over_content t index behind g }
 
-  first_is : pair_in t index ≡ before
+  first_is : kept_pair_at_index t index ≡ before
   first_is = here_is t chain front before (x ∷ todo) index k
 
-  behind_is : pair_in t behind ≡ x
-  behind_is = ap (pair_in t) next ∙ next_is t chain front before x todo index k
+  behind_is : kept_pair_at_index t behind ≡ x
+  behind_is = ap (kept_pair_at_index t) next ∙ next_is t chain front before x todo index k
 
   pub state_now : gstate_of (chain ++ (front ++ q ∷ todo)) ≡ g
-  state_now = dropped_state t chain front before x todo index k g q (ap (λ (i : ℕ). takes_delta t index i g) next)
+  state_now = dropped_state t chain front before x todo index k g q (ap (λ (i : ℕ). delta_after_taking_over_next_pair t index i g) next)
 
   soft_tail : (b : Bool) (tail : Option Tail) → taken_tail (false && b) tail ≡ softened tail
   soft_tail b None = refl
   soft_tail b (Some x) = refl
 
-  pub over_on : (disk : Disk) → IsWrittenAs t index (over_content t index behind g) disk → IsUnthreaded t.disk disk chain front before x q todo
+  pub over_on : (disk : Disk) → IsPairWrittenOnDisk t index (over_content t index behind g) disk → IsUnthreaded t.disk disk chain front before x q todo
   over_on disk is = record {
     device = dropped_device t chain front before x todo index k disk (over_content t index behind g) (ap (λ (z : Pair). z.content.slots) first_is) ready.accepted is;
     no_move = subst HasNoMove (sym state_now) u.none;
     soft = u.soft;
     at = refl;
     slots = ap (λ (z : Pair). z.content.slots) first_is;
-    tail = ap₂ (λ (a b : Pair). taken_tail (is_hard a.content.tail && is_hard b.content.tail) b.content.tail) first_is behind_is
-        ∙ ap (λ h. taken_tail (h && is_hard x.content.tail) x.content.tail) u.soft ∙ soft_tail (is_hard x.content.tail) x.content.tail;
-    unled = λ path a l s. u.unled path a (subst (λ z. PathLeadsTo z path a) (sym k.there) l) s;
+    tail = ap₂ (λ (a b : Pair). taken_tail (is_hard_tail a.content.tail && is_hard_tail b.content.tail) b.content.tail) first_is behind_is
+        ∙ ap (λ h. taken_tail (h && is_hard_tail x.content.tail) x.content.tail) u.soft ∙ soft_tail (is_hard_tail x.content.tail) x.content.tail;
+    unled = λ path a l s. u.unled path a (subst (λ z. IsPathToDirectory z path a) (sym k.there) l) s;
     reached = λ off. let r = u.reached (ap (λ (z : Gstate). z.sync) (sym state_now) ∙ off) in (r.0, subst (λ z. AllReachedBut z x.at) k.there r.1);
   }
 
-  pub over_taken : (disk : Disk) → IsWrittenAs t index (over_content t index behind g) disk → Unthreads t.disk disk chain (front ++ before ∷ x ∷ todo) (front ++ q ∷ todo)
+  pub over_taken : (disk : Disk) → IsPairWrittenOnDisk t index (over_content t index behind g) disk → Unthreads t.disk disk chain (front ++ before ∷ x ∷ todo) (front ++ q ∷ todo)
   over_taken disk is = unthread t.disk disk chain front before x q todo ready (over_on disk is)
 
   -- a stop leaves the tree
-  pub over_left : CanTakeOver t index behind g → IsAddress (takes_delta t index behind g).pair → IsAddressIfSome (target_of (pair_in t behind).content.tail)
-      → (left : Blocks) → IsLeftByChange t index (take_over_changes t index behind g) left → IsLeftOf (with_blocks left t.disk) (tree_in t.disk t.pairs) (tree_in t.disk t.pairs)
-  over_left can address words left is = subst (λ z. IsLeftOf (with_blocks left t.disk) (tree_in t.disk z) (tree_in t.disk z)) (sym k.there) (go is.is)
+  pub over_left : CanTakeOverNextPair t index behind g → Are32BitPairAddresses (delta_after_taking_over_next_pair t index behind g).pair → IsPairAddressIfSome (pair_named_by_optional_tail (kept_pair_at_index t behind).content.tail)
+      → (left : Blocks) → LeavesPairOldOrChanged t index (next_pair_takeover_changes t index behind g) left → IsLeftOf (with_blocks left t.disk) (tree_on_disk t.disk t.pairs) (tree_on_disk t.disk t.pairs)
+  over_left can address words left is = subst (λ z. IsLeftOf (with_blocks left t.disk) (tree_on_disk t.disk z) (tree_on_disk t.disk z)) (sym k.there) (go is.is)
     where
       old : List Pair
       old = chain ++ (front ++ before ∷ x ∷ todo)
 
-      go : (is.content ≡ (pair_in t index).content) ⊎ ((made_in_thread t index (take_over_changes t index behind g) ≡ Some is.content) × FitsPair t.disk.block_size t.disk.page is.content)
-          → IsLeftOf (with_blocks left t.disk) (tree_in t.disk old) (tree_in t.disk old)
+      go : (is.content ≡ (kept_pair_at_index t index).content) ⊎ ((complete_content_after_changes t index (next_pair_takeover_changes t index behind g) ≡ Some is.content) × IsContentFittingPair t.disk.block_size t.disk.page is.content)
+          → IsLeftOf (with_blocks left t.disk) (tree_on_disk t.disk old) (tree_on_disk t.disk old)
       go (inl e) =
           let same : is.content ≡ before.content = e ∙ ap (λ (z : Pair). z.content) first_is in
-          let on = placed_device t chain front before (x ∷ todo) index k (with_blocks left t.disk) before.content refl ready.accepted (subst (λ c. IsWrittenAs t index c (with_blocks left t.disk)) same is.written) in
-          taken_before t.disk old (with_blocks left t.disk) old (λ d. d) (tree_in t.disk old)
+          let on = placed_device t chain front before (x ∷ todo) index k (with_blocks left t.disk) before.content refl ready.accepted (subst (λ c. IsPairWrittenOnDisk t index c (with_blocks left t.disk)) same is.written) in
+          taken_before t.disk old (with_blocks left t.disk) old (λ d. d) (tree_on_disk t.disk old)
           (nothing_taken t.disk (with_blocks left t.disk) chain front before (x ∷ todo) ready.is_chain ready.accepted ready.writable on)
       go (inr m) =
           let same : is.content ≡ over_content t index behind g = same_Some is.content (over_content t index behind g) (sym m.0 ∙ over_made t index behind g can address words) in
-          taken_before t.disk old (with_blocks left t.disk) (chain ++ (front ++ q ∷ todo)) (λ d. d) (tree_in t.disk old)
-          (over_taken (with_blocks left t.disk) (subst (λ c. IsWrittenAs t index c (with_blocks left t.disk)) same is.written)).taken
+          taken_before t.disk old (with_blocks left t.disk) (chain ++ (front ++ q ∷ todo)) (λ d. d) (tree_on_disk t.disk old)
+          (over_taken (with_blocks left t.disk) (subst (λ c. IsPairWrittenOnDisk t index c (with_blocks left t.disk)) same is.written)).taken
 
 -- ---- a delta changes, and with it the sync bit
 
 -- no move is set and all directories are reached; the pair is one of a directory
 pub record CanClear (t : Kept) (index : ℕ) : Type 0 where
-  pub accepted : IsAccepted t.disk t.pairs
+  pub accepted : IsAcceptedImage t.disk t.pairs
   pub writable : IsWritable t.disk t.pairs
   pub none : HasNoMove (gstate_of t.pairs)
   pub reached : AllReached t.pairs
-  pub behind : superblocks_before t.pairs ≤ index
+  pub behind : pair_count_before_root t.pairs ≤ index
   pub below : index < length t.pairs
 
 module _ (t : Kept) (index : ℕ) (can : CanClear t index) where
@@ -116,22 +116,22 @@ module _ (t : Kept) (index : ℕ) (can : CanClear t index) where
   place = record { there = h.is; number = sym h.number ∙ length-append h.site.chain (h.site.before ++ h.site.left) }
 
   abbrev pub y : Pair
-  y = record { at = h.pair.at; content = with_move h.pair.content (delta_of t index no_gstate) }
+  y = record { at = h.pair.at; content = with_move h.pair.content (delta_reaching_gstate t index zero_gstate) }
 
-  content_is : set_content t index no_gstate ≡ with_move h.pair.content (delta_of t index no_gstate)
-  content_is = ap (λ (z : Pair). with_move z.content (delta_of t index no_gstate)) (here_is t h.site.chain (h.site.before ++ h.site.left) h.pair (h.site.right ++ h.site.after) index place)
+  content_is : set_content t index zero_gstate ≡ with_move h.pair.content (delta_reaching_gstate t index zero_gstate)
+  content_is = ap (λ (z : Pair). with_move z.content (delta_reaching_gstate t index zero_gstate)) (here_is t h.site.chain (h.site.before ++ h.site.left) h.pair (h.site.right ++ h.site.after) index place)
 
-  accepted : IsAccepted t.disk (thread_at h.site (h.pair ∷ []))
-  accepted = subst (IsAccepted t.disk) h.is can.accepted
+  accepted : IsAcceptedImage t.disk (thread_at h.site (h.pair ∷ []))
+  accepted = subst (IsAcceptedImage t.disk) h.is can.accepted
 
   fits : IsWritable t.disk (thread_at h.site (h.pair ∷ []))
   fits = subst (IsWritable t.disk) h.is can.writable
 
-  pub clear_state : gstate_of (thread_at h.site (y ∷ [])) ≡ no_gstate
-  clear_state = set_state_is t h.site.chain (h.site.before ++ h.site.left) h.pair (h.site.right ++ h.site.after) index place no_gstate y refl
+  pub clear_state : gstate_of (thread_at h.site (y ∷ [])) ≡ zero_gstate
+  clear_state = set_state_is t h.site.chain (h.site.before ++ h.site.left) h.pair (h.site.right ++ h.site.after) index place zero_gstate y refl
 
-  pub clear_pairs : with_pair t index (set_content t index no_gstate) ≡ thread_at h.site (y ∷ [])
-  clear_pairs = ap (with_pair t index) content_is ∙ with_is t h.site.chain (h.site.before ++ h.site.left) h.pair (h.site.right ++ h.site.after) index place (with_move h.pair.content (delta_of t index no_gstate))
+  pub clear_pairs : pairs_with_content_at_index t index (set_content t index zero_gstate) ≡ thread_at h.site (y ∷ [])
+  clear_pairs = ap (pairs_with_content_at_index t index) content_is ∙ with_is t h.site.chain (h.site.before ++ h.site.left) h.pair (h.site.right ++ h.site.after) index place (with_move h.pair.content (delta_reaching_gstate t index zero_gstate))
 
   pub clear_alike : AreAlike t.pairs (thread_at h.site (y ∷ []))
   clear_alike = subst (λ z. AreAlike z (thread_at h.site (y ∷ []))) (sym h.is)
@@ -139,11 +139,11 @@ module _ (t : Kept) (index : ℕ) (can : CanClear t index) where
       (alike_append (h.site.before ++ h.site.left) (h.pair ∷ (h.site.right ++ h.site.after)) (h.site.before ++ h.site.left) (y ∷ (h.site.right ++ h.site.after)) (alike_itself (h.site.before ++ h.site.left))
       (refl, refl, alike_itself (h.site.right ++ h.site.after))))
 
-  pub device_on : (disk : Disk) → IsWrittenAs t index (set_content t index no_gstate) disk → IsDevice t.disk disk (thread_at h.site (h.pair ∷ [])) (thread_at h.site (y ∷ []))
-  device_on disk is = placed_device t h.site.chain (h.site.before ++ h.site.left) h.pair (h.site.right ++ h.site.after) index place disk (with_move h.pair.content (delta_of t index no_gstate)) refl accepted
-      (subst (λ c. IsWrittenAs t index c disk) content_is is)
+  pub device_on : (disk : Disk) → IsPairWrittenOnDisk t index (set_content t index zero_gstate) disk → IsDevice t.disk disk (thread_at h.site (h.pair ∷ [])) (thread_at h.site (y ∷ []))
+  device_on disk is = placed_device t h.site.chain (h.site.before ++ h.site.left) h.pair (h.site.right ++ h.site.after) index place disk (with_move h.pair.content (delta_reaching_gstate t index zero_gstate)) refl accepted
+      (subst (λ c. IsPairWrittenOnDisk t index c disk) content_is is)
 
-  step : (disk : Disk) → IsWrittenAs t index (set_content t index no_gstate) disk → IsStep t.disk disk h.site h.pair [] y [] [] [] h.pair.content.slots [] [] []
+  step : (disk : Disk) → IsPairWrittenOnDisk t index (set_content t index zero_gstate) disk → IsStep t.disk disk h.site h.pair [] y [] [] [] h.pair.content.slots [] [] []
   step disk is = record {
     accepted = accepted;
     site = h.is_site;
@@ -157,29 +157,29 @@ module _ (t : Kept) (index : ℕ) (can : CanClear t index) where
     splice = record { front = λ e. refl; entries = tt; lists = tt; blocks = λ b. omega arith };
   }
 
-  pub clear_taken : (disk : Disk) → IsWrittenAs t index (set_content t index no_gstate) disk → IsOnlyStep t.disk (thread_at h.site (h.pair ∷ [])) disk (thread_at h.site (y ∷ [])) (λ t. t) (λ d. d)
+  pub clear_taken : (disk : Disk) → IsPairWrittenOnDisk t index (set_content t index zero_gstate) disk → IsOnlyStep t.disk (thread_at h.site (h.pair ∷ [])) disk (thread_at h.site (y ∷ [])) (λ t. t) (λ d. d)
   clear_taken disk is = record {
     follows = slots_stay t.disk disk h.site h.pair [] y [] [] h.pair.content.slots [] (step disk is) (λ off. subst AllReached h.is can.reached);
     writable = step_writable t.disk disk h.site h.pair [] y [] [] [] h.pair.content.slots [] [] [] (step disk is) fits (within_same t.disk h.pair y refl (within_at t.disk h.site h.pair [] fits), tt) (λ x. x);
   }
 
   -- a stop leaves the tree
-  pub clear_left : CanSetState t index no_gstate → IsAddress (delta_of t index no_gstate).pair
-      → (left : Blocks) → IsLeftByChange t index (set_state_changes t index no_gstate) left → IsLeftOf (with_blocks left t.disk) (tree_in t.disk t.pairs) (tree_in t.disk t.pairs)
-  clear_left set address left is = subst (λ z. IsLeftOf (with_blocks left t.disk) (tree_in t.disk z) (tree_in t.disk z)) (sym h.is) (go is.is)
+  pub clear_left : CanSetGstateInPair t index zero_gstate → Are32BitPairAddresses (delta_reaching_gstate t index zero_gstate).pair
+      → (left : Blocks) → LeavesPairOldOrChanged t index (gstate_setting_changes t index zero_gstate) left → IsLeftOf (with_blocks left t.disk) (tree_on_disk t.disk t.pairs) (tree_on_disk t.disk t.pairs)
+  clear_left set address left is = subst (λ z. IsLeftOf (with_blocks left t.disk) (tree_on_disk t.disk z) (tree_on_disk t.disk z)) (sym h.is) (go is.is)
     where
       old : List Pair
       old = thread_at h.site (h.pair ∷ [])
 
-      go : (is.content ≡ (pair_in t index).content) ⊎ ((made_in_thread t index (set_state_changes t index no_gstate) ≡ Some is.content) × FitsPair t.disk.block_size t.disk.page is.content)
-          → IsLeftOf (with_blocks left t.disk) (tree_in t.disk old) (tree_in t.disk old)
+      go : (is.content ≡ (kept_pair_at_index t index).content) ⊎ ((complete_content_after_changes t index (gstate_setting_changes t index zero_gstate) ≡ Some is.content) × IsContentFittingPair t.disk.block_size t.disk.page is.content)
+          → IsLeftOf (with_blocks left t.disk) (tree_on_disk t.disk old) (tree_on_disk t.disk old)
       go (inl e) =
           let same : is.content ≡ h.pair.content = e ∙ ap (λ (z : Pair). z.content) (here_is t h.site.chain (h.site.before ++ h.site.left) h.pair (h.site.right ++ h.site.after) index place) in
           let on = placed_device t h.site.chain (h.site.before ++ h.site.left) h.pair (h.site.right ++ h.site.after) index place (with_blocks left t.disk) h.pair.content refl accepted
-          (subst (λ c. IsWrittenAs t index c (with_blocks left t.disk)) same is.written) in
-          taken_before t.disk old (with_blocks left t.disk) old (λ d. d) (tree_in t.disk old)
+          (subst (λ c. IsPairWrittenOnDisk t index c (with_blocks left t.disk)) same is.written) in
+          taken_before t.disk old (with_blocks left t.disk) old (λ d. d) (tree_on_disk t.disk old)
           (nothing_taken t.disk (with_blocks left t.disk) h.site.chain (h.site.before ++ h.site.left) h.pair (h.site.right ++ h.site.after) h.is_site.chain accepted fits on)
       go (inr m) =
-          let same : is.content ≡ set_content t index no_gstate = same_Some is.content (set_content t index no_gstate) (sym m.0 ∙ set_made t index no_gstate set address) in
-          taken_before t.disk old (with_blocks left t.disk) (thread_at h.site (y ∷ [])) (λ d. d) (tree_in t.disk old)
-          (clear_taken (with_blocks left t.disk) (subst (λ c. IsWrittenAs t index c (with_blocks left t.disk)) same is.written))
+          let same : is.content ≡ set_content t index zero_gstate = same_Some is.content (set_content t index zero_gstate) (sym m.0 ∙ set_made t index zero_gstate set address) in
+          taken_before t.disk old (with_blocks left t.disk) (thread_at h.site (y ∷ [])) (λ d. d) (tree_on_disk t.disk old)
+          (clear_taken (with_blocks left t.disk) (subst (λ c. IsPairWrittenOnDisk t index c (with_blocks left t.disk)) same is.written))

@@ -6,14 +6,14 @@ use Rattle.std.proofs.lemmas.Option.{same_Some}
 use Rattle.std.proofs.lemmas.List.Elements.{recursion_from_All}
 use Rattle.lfs_model.specs.Blocks.{Blocks}
 use Rattle.lfs_model.specs.Disk.{Disk}
-use Rattle.lfs_model.specs.Layout.{directory_begin, directory_after}
-use Rattle.lfs_model.specs.History.{EachSince}
-use Rattle.lfs_model.specs.LoggedContent.{IsAddress}
-use Rattle.lfs_model.specs.PowerLoss.{IsLeftByStop as IsLeftOf, Survives, with_blocks}
-use Rattle.lfs_model.specs.Slots.{Gstate, Slot, no_gstate, same_pair}
-use Rattle.lfs_model.specs.Thread.{Pair, blocks_of, directory_pairs, first_at, gstate_of, superblocks_before}
-use Rattle.lfs_model.specs.View.{IsAccepted}
-use Rattle.lfs_model.specs.Shown.{IsReached, all_slots, tree_in, used_blocks}
+use Rattle.lfs_model.specs.Layout.{directory_address_of_pair, directory_address_after_pair}
+use Rattle.lfs_model.specs.History.{IsTrueOfEachCallSince}
+use Rattle.lfs_model.specs.LoggedContent.{Are32BitPairAddresses}
+use Rattle.lfs_model.specs.PowerLoss.{ShowsTreeBeforeOrAfter as IsLeftOf, SurvivesStopsSince, with_blocks}
+use Rattle.lfs_model.specs.Slots.{Gstate, Slot, zero_gstate, same_pair}
+use Rattle.lfs_model.specs.Thread.{Pair, blocks_of_pairs, pairs_of_all_directories, first_pair_address, gstate_of, pair_count_before_root}
+use Rattle.lfs_model.specs.View.{IsAcceptedImage}
+use Rattle.lfs_model.specs.Shown.{IsDirectoryReached, all_slots_not_moved, tree_on_disk, used_blocks}
 use Rattle.lfs_model.specs.Profile.{IsWritable}
 use Rattle.lfs_model.proofs.AfterStops.{survives_then}
 use Rattle.lfs_model.proofs.Changes.{SameFiles}
@@ -21,7 +21,7 @@ use Rattle.lfs_model.proofs.Counts.{count, count_append, once_from_distinct}
 use Rattle.lfs_model.proofs.Files.{HasSameFile}
 use Rattle.lfs_model.proofs.Found.{HasDirectory, chain_of_thread, led_directory}
 use Rattle.lfs_model.proofs.Global.{HasNoMove}
-use Rattle.lfs_model.proofs.Histories.{EachSince-weaker, LeavesOnly-weaker, goes_on_by}
+use Rattle.lfs_model.proofs.Histories.{IsTrueOfEachCallSince-weaker, IsTrueAfterEachStopSince-weaker, goes_on_by}
 use Rattle.lfs_model.proofs.Layouts.{joined_singles, onward_all}
 use Rattle.lfs_model.proofs.Listings.{Ends}
 use Rattle.lfs_model.proofs.Pairs.{pair_back, pair_itself, pair_on}
@@ -29,12 +29,12 @@ use Rattle.lfs_model.proofs.Recovering.{recovery_begins}
 use Rattle.lfs_model.proofs.Searches.{same_number}
 use Rattle.lfs_model.proofs.Splices.{files_of, slots_in}
 use Rattle.lfs_model.proofs.Unthreaded.{IsReady, IsUnthreaded, same_parts}
-use Rattle.lfs_thread.specs.Device.{StopsLeave, two_of}
+use Rattle.lfs_thread.specs.Device.{StopsAfterCleanErasesLeave, blocks_of_address}
 use Rattle.lfs_thread.specs.Kept.{Kept}
-use Rattle.lfs_thread.specs.Steps.{HasShape, IsDropped, IsLeftByChange, IsWrittenAs, Writes, no_pair, pair_in, with_pair, without_pair}
-use Rattle.lfs_operations.specs.Deltas.{CanTakeOver, FitsFields, IsAddressIfSome, takes_delta, take_over_changes, target_of}
-use Rattle.lfs_operations.specs.Recovering.{AreUnreached, AreUnreachedFrom, CanDropUnreached, list_blocks_at, state_with}
-use Rattle.lfs_operations.specs.Dropping.{SameInFlight}
+use Rattle.lfs_thread.specs.Steps.{HasSameGeometry, IsPairAfterIndexDropped, LeavesPairOldOrChanged, IsPairWrittenOnDisk, ThreadChangesOnlyTheseBlocks, no_pair, kept_pair_at_index, pairs_with_content_at_index, map_with_freed_pair}
+use Rattle.lfs_operations.specs.Deltas.{CanTakeOverNextPair, FitsGstateFields, IsPairAddressIfSome, delta_after_taking_over_next_pair, next_pair_takeover_changes, pair_named_by_optional_tail}
+use Rattle.lfs_operations.specs.Recovering.{AreUnreachedPairNumbers, AreUnreachedPairNumbersFrom, CanDropUnreachedPairs, list_blocks_of_numbered_pairs, gstate_wanted_after_drop}
+use Rattle.lfs_operations.specs.Dropping.{HasSameBlocksInFlight}
 use Rattle.lfs_operations.proofs.RecoverLists.{lists_kept, lists_more, numbered}
 use Rattle.lfs_operations.proofs.RecoverLoop.{FirstsOnly, IsAtDrop, IsAtEnd, IsOnWay, all_but, drops, goes_to, ready, soft, stands, sync_set, unled}
 use Rattle.lfs_operations.proofs.RecoverMap.{HasMap, blocks_count, files_count, map_drops, map_flies}
@@ -48,8 +48,8 @@ use Rattle.lfs_operations.proofs.RecoverSteps.{IsUnled, over_left, over_on, stat
 
 -- as many blocks and pages, of the same sizes; and the history goes on
 pub record StaysOn (old new : Kept) : Type 0 where
-  pub shape : HasShape old.disk new.disk
-  pub calls : EachSince (λ e. Unit {0}) old.history new.history
+  pub shape : HasSameGeometry old.disk new.disk
+  pub calls : IsTrueOfEachCallSince (λ e. Unit {0}) old.history new.history
 
 pub stays_itself : (t : Kept) → StaysOn t t
 stays_itself t = record { shape = record { block_size = refl; page = refl; order = refl; count = refl }; calls = record { events = []; extends = refl; each = tt } }
@@ -60,8 +60,8 @@ stays_then a b c h k = record {
   calls = goes_on_by h.calls k.calls;
 }
 
-pub stays_by : (bs : List ℕ) (a b : Kept) → Writes bs a b → StaysOn a b
-stays_by bs a b w = record { shape = w.shape; calls = EachSince-weaker (λ e k. tt) w.at_worst }
+pub stays_by : (bs : List ℕ) (a b : Kept) → ThreadChangesOnlyTheseBlocks bs a b → StaysOn a b
+stays_by bs a b w = record { shape = w.shape; calls = IsTrueOfEachCallSince-weaker (λ e k. tt) w.at_worst }
 
 -- ---- the beginning
 
@@ -70,24 +70,24 @@ get_behind [] p ys = refl
 get_behind (x ∷ xs) p ys = get_behind xs p ys
 
 ends_on : (from : Option (ℕ × ℕ)) (p : Pair) (ps : List Pair) → Ends (p ∷ ps) → onward_all from (p ∷ ps) ≡ None
-ends_on from p [] h = ap (λ b. cond b (Some (directory_begin from p)) None) h
-ends_on from p (q ∷ ps) h = ends_on (directory_after from p) q ps h
+ends_on from p [] h = ap (λ b. cond b (Some (directory_address_of_pair from p)) None) h
+ends_on from p (q ∷ ps) h = ends_on (directory_address_after_pair from p) q ps h
 
 ends_none : (before : List Pair) → Ends before → onward_all None before ≡ None
 ends_none [] h = refl
 ends_none (p ∷ ps) h = ends_on None p ps h
 
-module _ (disk : Disk) (ps : List Pair) (ok : IsAccepted disk ps) where
+module _ (disk : Disk) (ps : List Pair) (ok : IsAcceptedImage disk ps) where
   abbrev chain : List Pair
-  chain = take (superblocks_before ps) ps
+  chain = take (pair_count_before_root ps) ps
 
-  abbrev whole : ps ≡ take (superblocks_before ps) ps ++ directory_pairs ps
+  abbrev whole : ps ≡ take (pair_count_before_root ps) ps ++ pairs_of_all_directories ps
   whole = (chain_of_thread ps).0
 
   -- no path leads to a pair that a hard tail leads to
-  not_led : (xs : List Pair) (y : Pair) (ys : List Pair) → directory_pairs ps ≡ xs ++ y ∷ ys → is_some (onward_all None xs) ≡ true → IsReached ps y.at → ⊥
+  not_led : (xs : List Pair) (y : Pair) (ys : List Pair) → pairs_of_all_directories ps ≡ xs ++ y ∷ ys → is_some (onward_all None xs) ≡ true → IsDirectoryReached ps y.at → ⊥
   not_led xs y ys parts hard (path, a, (l, s)) =
-      let d : HasDirectory (directory_pairs ps) a = led_directory disk ps path a ok l in
+      let d : HasDirectory (pairs_of_all_directories ps) a = led_directory disk ps path a ok l in
       let one : ps ≡ (chain ++ d.before) ++ d.first ∷ (d.run ++ d.after) = whole ∙ ap (λ z. chain ++ z) d.is ∙ sym (append_assoc chain d.before (d.first ∷ (d.run ++ d.after))) in
       let two : ps ≡ (chain ++ xs) ++ y ∷ ys = whole ∙ ap (λ z. chain ++ z) parts ∙ sym (append_assoc chain xs (y ∷ ys)) in
       let first = ap (λ z. slice_get z (length (chain ++ d.before))) one ∙ get_behind (chain ++ d.before) d.first (d.run ++ d.after) in
@@ -96,19 +96,19 @@ module _ (disk : Disk) (ps : List Pair) (ok : IsAccepted disk ps) where
       let same = same_parts d.before d.first (d.run ++ d.after) xs y ys (let e = length-append chain d.before in let f = length-append chain xs in omega arith) (sym d.is ∙ parts) in
       absurd (let none = ap (onward_all None) (sym same.front) ∙ ends_none d.before d.ends in let z = sym hard ∙ ap is_some none in cc)
 
-  firsts_from : (xs ys : List Pair) → directory_pairs ps ≡ xs ++ ys → FirstsOnly (IsReached ps) (onward_all None xs) ys
+  firsts_from : (xs ys : List Pair) → pairs_of_all_directories ps ≡ xs ++ ys → FirstsOnly (IsDirectoryReached ps) (onward_all None xs) ys
   firsts_from xs [] parts = tt
   firsts_from xs (y ∷ ys) parts = (
     not_led xs y ys parts,
-    subst (λ z. FirstsOnly (IsReached ps) z ys) (end_at None xs) (firsts_from (xs ++ y ∷ []) ys (parts ∙ sym (append_assoc xs (y ∷ []) ys))),
+    subst (λ z. FirstsOnly (IsDirectoryReached ps) z ys) (end_at None xs) (firsts_from (xs ++ y ∷ []) ys (parts ∙ sym (append_assoc xs (y ∷ []) ys))),
   )
     where
-      end_at : (from : Option (ℕ × ℕ)) (xs : List Pair) → onward_all from (xs ++ y ∷ []) ≡ directory_after (onward_all from xs) y
+      end_at : (from : Option (ℕ × ℕ)) (xs : List Pair) → onward_all from (xs ++ y ∷ []) ≡ directory_address_after_pair (onward_all from xs) y
       end_at from [] = refl
-      end_at from (x ∷ xs) = end_at (directory_after from x) xs
+      end_at from (x ∷ xs) = end_at (directory_address_after_pair from x) xs
 
-  root_reached : (x : Pair) (xs : List Pair) → directory_pairs ps ≡ x ∷ xs → IsReached ps x.at
-  root_reached x xs e = ([], first_at (directory_pairs ps), (refl, subst (λ z. same_pair x.at (first_at z) ≡ true) (sym e) (pair_itself x.at)))
+  root_reached : (x : Pair) (xs : List Pair) → pairs_of_all_directories ps ≡ x ∷ xs → IsDirectoryReached ps x.at
+  root_reached x xs e = ([], first_pair_address (pairs_of_all_directories ps), (refl, subst (λ z. same_pair x.at (first_pair_address z) ≡ true) (sym e) (pair_itself x.at)))
 
 -- ---- on the way
 
@@ -117,32 +117,32 @@ pub record IsUnderWay (old now : Kept) (dropped : ℕ) (numbers : List ℕ) : Ty
   pub todo : List Pair
   pub parts : List (List Pair)
   pub kept : List Pair
-  pub way : IsOnWay old.disk old.pairs now dropped (take (superblocks_before old.pairs) old.pairs) seen todo parts kept numbers
-  pub state : 0 < dropped → numbers ≡ [] → gstate_of now.pairs ≡ no_gstate
+  pub way : IsOnWay old.disk old.pairs now dropped (take (pair_count_before_root old.pairs) old.pairs) seen todo parts kept numbers
+  pub state : 0 < dropped → numbers ≡ [] → gstate_of now.pairs ≡ zero_gstate
   pub device : StaysOn old now
   pub gone : List ℕ
   pub map : HasMap now gone
-  pub was : IsAccepted old.disk old.pairs
+  pub was : IsAcceptedImage old.disk old.pairs
   pub took : List ℕ
-  pub reported : AreUnreached old.pairs (took ++ numbers)
-  pub gone_are : gone ≡ list_blocks_at old took
+  pub reported : AreUnreachedPairNumbers old.pairs (took ++ numbers)
+  pub gone_are : gone ≡ list_blocks_of_numbered_pairs old took
   pub lost : (b : ℕ) → count b gone + count b (files_of now.disk (slots_in now.pairs)) ≡ count b (files_of old.disk (slots_in old.pairs))
-  pub flying : SameInFlight old.map now.map
-  pub fewer : (b : ℕ) → count b (blocks_of now.pairs) ≤ count b (blocks_of old.pairs)
-  pub writes : Writes (blocks_of old.pairs) old now
-  pub survives : Survives old.disk old.history now.history (tree_in old.disk old.pairs) (tree_in old.disk old.pairs)
+  pub flying : HasSameBlocksInFlight old.map now.map
+  pub fewer : (b : ℕ) → count b (blocks_of_pairs now.pairs) ≤ count b (blocks_of_pairs old.pairs)
+  pub writes : ThreadChangesOnlyTheseBlocks (blocks_of_pairs old.pairs) old now
+  pub survives : SurvivesStopsSince old.disk old.history now.history (tree_on_disk old.disk old.pairs) (tree_on_disk old.disk old.pairs)
 
-pub begins : (t : Kept) (numbers : List ℕ) → CanDropUnreached t numbers → IsUnderWay t t 0 numbers
+pub begins : (t : Kept) (numbers : List ℕ) → CanDropUnreachedPairs t numbers → IsUnderWay t t 0 numbers
 begins t numbers can =
     let ok = can.accepted in
     let fits = can.writable in
     let none = can.none in
     let reported = can.reported in
     let e = chain_of_thread t.pairs in
-    let count : superblocks_before t.pairs ≡ length (take (superblocks_before t.pairs) t.pairs) + 0 + 0 = let a = ap superblocks_before e.0 in let b = e.1 in omega arith in
+    let count : pair_count_before_root t.pairs ≡ length (take (pair_count_before_root t.pairs) t.pairs) + 0 + 0 = let a = ap pair_count_before_root e.0 in let b = e.1 in omega arith in
     record {
       seen = [];
-      todo = directory_pairs t.pairs;
+      todo = pairs_of_all_directories t.pairs;
       parts = [];
       kept = [];
       way = record {
@@ -150,8 +150,8 @@ begins t numbers can =
         there = e.0;
         counted = refl;
         no_move = none;
-        reported = subst (λ n. AreUnreachedFrom (IsReached t.pairs) n None (directory_pairs t.pairs) numbers) count reported;
-        firsts = firsts_from t.disk t.pairs ok [] (directory_pairs t.pairs) refl;
+        reported = subst (λ n. AreUnreachedPairNumbersFrom (IsDirectoryReached t.pairs) n None (pairs_of_all_directories t.pairs) numbers) count reported;
+        firsts = firsts_from t.disk t.pairs ok [] (pairs_of_all_directories t.pairs) refl;
         filled = fits.no_empty_pair;
         begins = tt;
         goes_on = inl refl;
@@ -174,7 +174,7 @@ begins t numbers can =
       lost = λ b. omega arith;
       flying = λ b. ((λ flies. flies), (λ flies. flies));
       fewer = λ b. omega arith;
-      writes = writes_none (blocks_of t.pairs) t;
+      writes = writes_none (blocks_of_pairs t.pairs) t;
       survives = λ clean. record { events = []; extends = refl; each = tt };
     }
 
@@ -188,13 +188,13 @@ pub record IsNext (old now : Kept) (dropped number : ℕ) (rest : List ℕ) : Ty
   pub todo : List Pair
   pub parts : List (List Pair)
   pub kept : List Pair
-  pub way : IsOnWay old.disk old.pairs now dropped (take (superblocks_before old.pairs) old.pairs) seen (x ∷ todo) parts kept numbers
-  pub unreached : IsReached old.pairs (directory_begin (onward_all None seen) x) → ⊥
-  pub more : AreUnreachedFrom (IsReached old.pairs) (suc (length (take (superblocks_before old.pairs) old.pairs) + length kept + dropped)) (directory_after (onward_all None seen) x) todo rest
+  pub way : IsOnWay old.disk old.pairs now dropped (take (pair_count_before_root old.pairs) old.pairs) seen (x ∷ todo) parts kept numbers
+  pub unreached : IsDirectoryReached old.pairs (directory_address_of_pair (onward_all None seen) x) → ⊥
+  pub more : AreUnreachedPairNumbersFrom (IsDirectoryReached old.pairs) (suc (length (take (pair_count_before_root old.pairs) old.pairs) + length kept + dropped)) (directory_address_after_pair (onward_all None seen) x) todo rest
   pub front : List Pair
   pub before : Pair
   pub split : kept ≡ front ++ before ∷ []
-  pub number_is : number ≡ length (take (superblocks_before old.pairs) old.pairs) + length front + 1 + dropped
+  pub number_is : number ≡ length (take (pair_count_before_root old.pairs) old.pairs) + length front + 1 + dropped
 
 record HasLast (xs : List Pair) : Type 0 where
   front : List Pair
@@ -206,10 +206,10 @@ has_last x [] = record { front = []; last = x; is = refl }
 has_last x (y ∷ xs) = let l = has_last y xs in record { front = x ∷ l.front; last = l.last; is = ap (λ z. x ∷ z) l.is }
 
 pub next_goes : (old now : Kept) (dropped number : ℕ) (rest : List ℕ) → IsUnderWay old now dropped (number ∷ rest) → IsNext old now dropped number rest
-next_goes old now dropped number rest u = go (goes_to old.disk old.pairs now dropped (take (superblocks_before old.pairs) old.pairs) u.seen u.todo u.parts u.kept (number ∷ rest) u.way)
+next_goes old now dropped number rest u = go (goes_to old.disk old.pairs now dropped (take (pair_count_before_root old.pairs) old.pairs) u.seen u.todo u.parts u.kept (number ∷ rest) u.way)
   where
     C : List Pair
-    C = take (superblocks_before old.pairs) old.pairs
+    C = take (pair_count_before_root old.pairs) old.pairs
 
     head : {a b : ℕ} {us vs : List ℕ} → a ∷ us ≡ b ∷ vs → a ≡ b
     head e = cc
@@ -217,7 +217,7 @@ next_goes old now dropped number rest u = go (goes_to old.disk old.pairs now dro
     tail : {a b : ℕ} {us vs : List ℕ} → a ∷ us ≡ b ∷ vs → vs ≡ us
     tail e = cc
 
-    go : IsAtEnd old.disk old.pairs now dropped (take (superblocks_before old.pairs) old.pairs) (number ∷ rest) ⊎ IsAtDrop old.disk old.pairs now dropped (take (superblocks_before old.pairs) old.pairs) (number ∷ rest)
+    go : IsAtEnd old.disk old.pairs now dropped (take (pair_count_before_root old.pairs) old.pairs) (number ∷ rest) ⊎ IsAtDrop old.disk old.pairs now dropped (take (pair_count_before_root old.pairs) old.pairs) (number ∷ rest)
         → IsNext old now dropped number rest
     go (inl d) = absurd (let l = ap length d.none in omega arith)
     go (inr d) = by d.kept refl
@@ -235,7 +235,7 @@ next_goes old now dropped number rest u = go (goes_to old.disk old.pairs now dro
               kept = d.kept;
               way = d.way;
               unreached = d.unreached;
-              more = subst (λ z. AreUnreachedFrom (IsReached old.pairs) (suc (length C + length d.kept + dropped)) (directory_after (onward_all None d.seen) d.x) d.todo z) (tail d.is) d.more;
+              more = subst (λ z. AreUnreachedPairNumbersFrom (IsDirectoryReached old.pairs) (suc (length C + length d.kept + dropped)) (directory_address_after_pair (onward_all None d.seen) d.x) d.todo z) (tail d.is) d.more;
               front = l.front;
               before = l.last;
               split = e ∙ l.is;
@@ -244,12 +244,12 @@ next_goes old now dropped number rest u = go (goes_to old.disk old.pairs now dro
 
 -- the state that is wanted: none with the last one
 pub record IsWanted (now : Kept) (rest : List ℕ) (g : Gstate) : Type 0 where
-  pub last : rest ≡ [] → g ≡ no_gstate
+  pub last : rest ≡ [] → g ≡ zero_gstate
   pub other : rest ≢ [] → g ≡ gstate_of now.pairs
 
 module _ (old now : Kept) (dropped number : ℕ) (rest : List ℕ) (n : IsNext old now dropped number rest) (g : Gstate) (want : IsWanted now rest g) where
   abbrev C : List Pair
-  C = take (superblocks_before old.pairs) old.pairs
+  C = take (pair_count_before_root old.pairs) old.pairs
 
   abbrev at : ℕ
   at = length C + length n.front
@@ -282,15 +282,15 @@ module _ (old now : Kept) (dropped number : ℕ) (rest : List ℕ) (n : IsNext o
     soft = soft old.disk old.pairs now dropped C n.seen n.x n.todo n.parts n.kept n.numbers n.way n.unreached n.front n.before n.split;
     unled = unled old.disk old.pairs now dropped C n.seen n.x n.todo n.parts n.kept n.numbers n.way n.unreached n.front n.before n.split;
     reached = λ off. all_but old.disk old.pairs now dropped C n.seen n.x n.todo n.parts n.kept n.numbers n.way n.unreached n.front n.before n.split
-        (subst (λ z. AreUnreachedFrom (IsReached old.pairs) (suc (length C + length n.kept + dropped)) (directory_after (onward_all None n.seen) n.x) n.todo z) (cases.1 off) n.more);
+        (subst (λ z. AreUnreachedPairNumbersFrom (IsDirectoryReached old.pairs) (suc (length C + length n.kept + dropped)) (directory_address_after_pair (onward_all None n.seen) n.x) n.todo z) (cases.1 off) n.more);
   }
 
-  fields : FitsFields g
+  fields : FitsGstateFields g
   fields = record { kind = let e = cases.0.kind in omega arith; id = let e = cases.0.id in omega arith }
 
-  pub can_take : (index behind : ℕ) → behind ≡ index + 1 → behind + dropped ≡ number → CanTakeOver now index behind g
+  pub can_take : (index behind : ℕ) → behind ≡ index + 1 → behind + dropped ≡ number → CanTakeOverNextPair now index behind g
   can_take index behind next e = record {
-    accepted = subst (IsAccepted now.disk) (sym whole_is) is_ready.accepted;
+    accepted = subst (IsAcceptedImage now.disk) (sym whole_is) is_ready.accepted;
     writable = subst (IsWritable now.disk) (sym whole_is) is_ready.writable;
     next = next;
     below = let b = next_below now C n.front n.before n.x n.todo at place in let k = n.number_is in omega arith;
@@ -305,8 +305,8 @@ module _ (old now : Kept) (dropped number : ℕ) (rest : List ℕ) (n : IsNext o
     here : IsAt now C n.front n.before (n.x ∷ n.todo) index
     here = record { there = whole_is; number = index_is index behind next e }
 
-    shows : tree_in now.disk now.pairs ≡ tree_in old.disk old.pairs
-    shows = ap (tree_in now.disk) (n.way.there ∙ ap (λ z. C ++ (n.kept ++ z)) (sym (joined_singles (n.x ∷ n.todo)))) ∙ n.way.is.taken.follows.shows
+    shows : tree_on_disk now.disk now.pairs ≡ tree_on_disk old.disk old.pairs
+    shows = ap (tree_on_disk now.disk) (n.way.there ∙ ap (λ z. C ++ (n.kept ++ z)) (sym (joined_singles (n.x ∷ n.todo)))) ∙ n.way.is.taken.follows.shows
 
     disk_is : StaysOn old now → (left : Blocks) → with_blocks left now.disk ≡ with_blocks left old.disk
     disk_is d left = λ j. record { block_size = d.shape.block_size j; page = d.shape.page j; order = d.shape.order j; blocks = left }
@@ -315,43 +315,43 @@ module _ (old now : Kept) (dropped number : ℕ) (rest : List ℕ) (n : IsNext o
     number_there = numbered old.pairs C n.seen n.x n.todo number n.way.is.are
         (let k = n.number_is in let c = n.way.counted in let a = ap length n.split in let b = length-append n.front (n.before ∷ []) in omega arith)
 
-    pub survives_on : (new : Kept) → IsUnderWay old now dropped (number ∷ rest) → IsAddress (takes_delta now index behind g).pair → IsAddressIfSome (target_of (pair_in now behind).content.tail)
-        → StaysOn now new → StopsLeave now.history new.history (IsLeftByChange now index (take_over_changes now index behind g))
-        → Survives old.disk old.history new.history (tree_in old.disk old.pairs) (tree_in old.disk old.pairs)
+    pub survives_on : (new : Kept) → IsUnderWay old now dropped (number ∷ rest) → Are32BitPairAddresses (delta_after_taking_over_next_pair now index behind g).pair → IsPairAddressIfSome (pair_named_by_optional_tail (kept_pair_at_index now behind).content.tail)
+        → StaysOn now new → StopsAfterCleanErasesLeave now.history new.history (LeavesPairOldOrChanged now index (next_pair_takeover_changes now index behind g))
+        → SurvivesStopsSince old.disk old.history new.history (tree_on_disk old.disk old.pairs) (tree_on_disk old.disk old.pairs)
     survives_on new u address words on stops =
-        survives_then old.disk old.history now.history new.history (tree_in old.disk old.pairs) (tree_in old.disk old.pairs) u.device.calls on.calls u.survives
-        (λ clean. LeavesOnly-weaker (λ left x. subst (λ z. IsLeftOf z (tree_in old.disk old.pairs) (tree_in old.disk old.pairs)) (disk_is u.device left)
+        survives_then old.disk old.history now.history new.history (tree_on_disk old.disk old.pairs) (tree_on_disk old.disk old.pairs) u.device.calls on.calls u.survives
+        (λ clean. IsTrueAfterEachStopSince-weaker (λ left x. subst (λ z. IsLeftOf z (tree_on_disk old.disk old.pairs) (tree_on_disk old.disk old.pairs)) (disk_is u.device left)
         (subst (λ z. IsLeftOf (with_blocks left now.disk) z z) shows
         (over_left now C n.front n.before n.x n.todo index behind g here next is_ready is_unled (can_take index behind next e) address words left x))) (stops clean))
 
-    pub writes_on : (new : Kept) → IsUnderWay old now dropped (number ∷ rest) → Writes (two_of (pair_in now index).at) now new → Writes (blocks_of old.pairs) old new
+    pub writes_on : (new : Kept) → IsUnderWay old now dropped (number ∷ rest) → ThreadChangesOnlyTheseBlocks (blocks_of_address (kept_pair_at_index now index).at) now new → ThreadChangesOnlyTheseBlocks (blocks_of_pairs old.pairs) old new
     writes_on new u writes =
         let can = can_take index behind next e in
         let low : index < length now.pairs = let w = can.next in let z = can.below in omega arith in
-        writes_trans u.writes (writes_fewer _ (blocks_of old.pairs) (λ b. let f = u.fewer b in let l = two_fewer now.pairs index low b in omega arith) writes)
+        writes_trans u.writes (writes_fewer _ (blocks_of_pairs old.pairs) (λ b. let f = u.fewer b in let l = two_fewer now.pairs index low b in omega arith) writes)
 
-    pub moves_on : (new : Kept) → IsUnderWay old now dropped (number ∷ rest) → IsAddress (takes_delta now index behind g).pair → IsAddressIfSome (target_of (pair_in now behind).content.tail)
-        → IsDropped now index (take_over_changes now index behind g) new → Writes (two_of (pair_in now index).at) now new → StopsLeave now.history new.history (IsLeftByChange now index (take_over_changes now index behind g))
+    pub moves_on : (new : Kept) → IsUnderWay old now dropped (number ∷ rest) → Are32BitPairAddresses (delta_after_taking_over_next_pair now index behind g).pair → IsPairAddressIfSome (pair_named_by_optional_tail (kept_pair_at_index now behind).content.tail)
+        → IsPairAfterIndexDropped now index (next_pair_takeover_changes now index behind g) new → ThreadChangesOnlyTheseBlocks (blocks_of_address (kept_pair_at_index now index).at) now new → StopsAfterCleanErasesLeave now.history new.history (LeavesPairOldOrChanged now index (next_pair_takeover_changes now index behind g))
         → IsUnderWay old new (suc dropped) rest
     moves_on new u address words is writes stops =
         let on = stays_by _ now new writes in
         let can = can_take index behind next e in
         let same : is.content ≡ over_content now index behind g = same_Some is.content (over_content now index behind g) (sym is.made ∙ over_made now index behind g can address words) in
-        let written = subst (λ c. IsWrittenAs now index c new.disk) same is.written in
+        let written = subst (λ c. IsPairWrittenOnDisk now index c new.disk) same is.written in
         let q : Pair = record { at = n.before.at; content = over_content now index behind g } in
         let apart = over_on now C n.front n.before n.x n.todo index behind g here next is_ready is_unled new.disk written in
-        let pairs : new.pairs ≡ C ++ (n.front ++ q ∷ n.todo) = is.pairs ∙ ap (λ c. remove (with_pair now index c) (index + 1)) same ∙ without_is now C n.front n.before n.x n.todo index here (over_content now index behind g) in
+        let pairs : new.pairs ≡ C ++ (n.front ++ q ∷ n.todo) = is.pairs ∙ ap (λ c. remove (pairs_with_content_at_index now index c) (index + 1)) same ∙ without_is now C n.front n.before n.x n.todo index here (over_content now index behind g) in
         let were : now.pairs ≡ (C ++ n.front) ++ n.before ∷ n.x ∷ n.todo = whole_is ∙ sym (append_assoc C n.front (n.before ∷ n.x ∷ n.todo)) in
         let are : new.pairs ≡ (C ++ n.front) ++ q ∷ n.todo = pairs ∙ sym (append_assoc C n.front (q ∷ n.todo)) in
-        let files : SameFiles now.disk new.disk (all_slots now.pairs) = subst (λ z. SameFiles now.disk new.disk (all_slots z)) (sym whole_is)
-        (recursion_from_All (λ (s : Slot). HasSameFile now.disk new.disk s.struct) (all_slots (C ++ (n.front ++ n.before ∷ n.x ∷ n.todo))) apart.device.files) in
+        let files : SameFiles now.disk new.disk (all_slots_not_moved now.pairs) = subst (λ z. SameFiles now.disk new.disk (all_slots_not_moved z)) (sym whole_is)
+        (recursion_from_All (λ (s : Slot). HasSameFile now.disk new.disk s.struct) (all_slots_not_moved (C ++ (n.front ++ n.before ∷ n.x ∷ n.todo))) apart.device.files) in
         let still : HasNoMove (gstate_of new.pairs) = subst (λ z. HasNoMove (gstate_of z)) (sym pairs) apart.no_move in
-        let map_is : new.map ≡ without_pair now.map n.x.at = is.map ∙ ap (λ (z : Pair). without_pair now.map z.at) (next_is now C n.front n.before n.x n.todo index here) in
+        let map_is : new.map ≡ map_with_freed_pair now.map n.x.at = is.map ∙ ap (λ (z : Pair). map_with_freed_pair now.map z.at) (next_is now C n.front n.before n.x n.todo index here) in
         record {
           gone = u.gone ++ files_of now.disk n.x.content.slots;
           was = u.was;
           took = u.took ++ number ∷ [];
-          reported = subst (AreUnreached old.pairs) (sym (append_assoc u.took (number ∷ []) rest)) u.reported;
+          reported = subst (AreUnreachedPairNumbers old.pairs) (sym (append_assoc u.took (number ∷ []) rest)) u.reported;
           gone_are = ap₂ (λ a b. a ++ b) u.gone_are (lists_kept old now C n.seen n.x n.todo n.way.is.are u.was n.way.no_move u.writes) ∙ sym (lists_more old u.took number n.x number_there);
           map = map_drops now new (C ++ n.front) n.before n.x q n.todo were are refl apart.slots now_none still apart.device.geometry files u.gone map_is on.shape.count u.map;
           lost = λ b.
@@ -360,7 +360,7 @@ module _ (old now : Kept) (dropped number : ℕ) (rest : List ℕ) (n : IsNext o
               let l = u.lost b in
               omega arith;
           flying = λ b.
-              let f : SameInFlight now.map new.map = subst (SameInFlight now.map) (sym map_is) (map_flies now new (C ++ n.front) n.before n.x q n.todo were are refl apart.slots now_none still apart.device.geometry files u.gone u.map) in
+              let f : HasSameBlocksInFlight now.map new.map = subst (HasSameBlocksInFlight now.map) (sym map_is) (map_flies now new (C ++ n.front) n.before n.x q n.todo were are refl apart.slots now_none still apart.device.geometry files u.gone u.map) in
               ((λ flies. (u.flying b).0 ((f b).0 flies)), (λ flies. (f b).1 ((u.flying b).1 flies)));
           fewer = λ b. let f = u.fewer b in let k = blocks_count now new (C ++ n.front) n.before n.x q n.todo were are refl apart.slots now_none still apart.device.geometry files b in omega arith;
           writes = writes_on new u writes;
@@ -410,8 +410,8 @@ pub record AreIndexes (number dropped : ℕ) : Type 0 where
 pub indexes : (old now : Kept) (dropped number : ℕ) (rest : List ℕ) → IsNext old now dropped number rest → AreIndexes number dropped
 indexes old now dropped number rest n = let k = n.number_is in record { enough = omega arith; some = omega arith; next = omega arith; sum = omega arith }
 
-pub wanted : (now : Kept) (xs : List ℕ) (dropped : ℕ) (g : Gstate) → dropped < length xs → g ≡ state_with now (nat_eq (dropped + 1) (length xs)) → IsWanted now (drop (suc dropped) xs) g
+pub wanted : (now : Kept) (xs : List ℕ) (dropped : ℕ) (g : Gstate) → dropped < length xs → g ≡ gstate_wanted_after_drop now (nat_eq (dropped + 1) (length xs)) → IsWanted now (drop (suc dropped) xs) g
 wanted now xs dropped g low is = record {
-  last = λ none. is ∙ ap (state_with now) (eq-eqb (dropped + 1) (length xs) (let l = drop_none (suc dropped) xs none in omega arith));
-  other = λ some. is ∙ ap (state_with now) (ne_eqb (dropped + 1) (length xs) (λ e. some (drop_all (suc dropped) xs (omega arith))));
+  last = λ none. is ∙ ap (gstate_wanted_after_drop now) (eq-eqb (dropped + 1) (length xs) (let l = drop_none (suc dropped) xs none in omega arith));
+  other = λ some. is ∙ ap (gstate_wanted_after_drop now) (ne_eqb (dropped + 1) (length xs) (λ e. some (drop_all (suc dropped) xs (omega arith))));
 }

@@ -2,13 +2,13 @@
 use Rattle.std.proofs.Common.{ℕ, zero, suc, ◌≡◌, ◌≢◌, ◌<◌, ◌≤◌, ◌+◌, Bool, true, false, cond, nat_eq, eqb-true, eq-eqb, List, [], ◌∷◌, length, refl, sym, ◌∙◌, arith}
 use Rattle.std.specs.Prelude.{slice_index_or}
 use Rattle.std.proofs.lemmas.List.Elements.{All-from_recursion, recursion_from_All}
-use Rattle.lfs_model.specs.Thread.{Pair, blocks_of}
+use Rattle.lfs_model.specs.Thread.{Pair, blocks_of_pairs}
 use Rattle.lfs_model.proofs.Counts.{Each, count}
-use Rattle.lfs_model.proofs.Histories.{StayUnprogrammed-refl}
-use Rattle.lfs_model.proofs.Overwrites.{SameButThese-refl}
-use Rattle.lfs_thread.specs.Device.{two_of}
+use Rattle.lfs_model.proofs.Histories.{AreBytesStillUnprogrammed-refl}
+use Rattle.lfs_model.proofs.Overwrites.{AreBlocksEqualExceptThese-refl}
+use Rattle.lfs_thread.specs.Device.{blocks_of_address}
 use Rattle.lfs_thread.specs.Kept.{Kept}
-use Rattle.lfs_thread.specs.Steps.{Writes, no_pair}
+use Rattle.lfs_thread.specs.Steps.{ThreadChangesOnlyTheseBlocks, no_pair}
 use Rattle.lfs_operations.proofs.UnlinkedSteps.{writes_wider}
 
 none_counted : (b : ℕ) (xs : List ℕ) → Each (λ c. c ≢ b) xs → count b xs ≡ 0
@@ -28,19 +28,19 @@ none_there b (x ∷ xs) h = go (nat_eq b x) refl h (λ k. none_there b xs k)
     go false e k next = ((λ same. absurd (let z = sym (eq-eqb b x (sym same)) ∙ e in cc)), next (omega arith))
 
 -- of more blocks
-pub writes_fewer : (bs cs : List ℕ) {old new : Kept} → ((b : ℕ) → count b bs ≤ count b cs) → Writes bs old new → Writes cs old new
+pub writes_fewer : (bs cs : List ℕ) {old new : Kept} → ((b : ℕ) → count b bs ≤ count b cs) → ThreadChangesOnlyTheseBlocks bs old new → ThreadChangesOnlyTheseBlocks cs old new
 writes_fewer bs cs fewer w = writes_wider cs
     (λ b apart. All-from_recursion (λ c. c ≢ b) bs (none_there b bs (let k = none_counted b cs (recursion_from_All (λ (c : ℕ). c ≢ b) cs apart) in let f = fewer b in omega arith))) w
 
-pub writes_none : (bs : List ℕ) (t : Kept) → Writes bs t t
+pub writes_none : (bs : List ℕ) (t : Kept) → ThreadChangesOnlyTheseBlocks bs t t
 writes_none bs t = record {
-  others = SameButThese-refl bs t.disk.blocks;
-  elsewhere = StayUnprogrammed-refl bs t.history;
+  others = AreBlocksEqualExceptThese-refl bs t.disk.blocks;
+  elsewhere = AreBytesStillUnprogrammed-refl bs t.history;
   shape = record { block_size = refl; page = refl; order = refl; count = refl };
   at_worst = record { events = []; extends = refl; each = tt };
 }
 
-pub two_fewer : (ps : List Pair) (index : ℕ) → index < length ps → (b : ℕ) → count b (two_of (slice_index_or ps index no_pair).at) ≤ count b (blocks_of ps)
+pub two_fewer : (ps : List Pair) (index : ℕ) → index < length ps → (b : ℕ) → count b (blocks_of_address (slice_index_or ps index no_pair).at) ≤ count b (blocks_of_pairs ps)
 two_fewer [] index low b = absurd (omega arith)
 two_fewer (p ∷ ps) zero low b = omega arith
 two_fewer (p ∷ ps) (suc index) low b = let k = two_fewer ps index (omega arith) b in omega arith

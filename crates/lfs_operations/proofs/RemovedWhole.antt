@@ -3,26 +3,26 @@ use Rattle.std.proofs.Common.{◌<◌, ℕ, ◌≡◌, ◌≢◌, ◌⊎◌, inl
 use Rattle.std.specs.List.{IsDistinct}
 use Rattle.std.proofs.lemmas.Bool.{eqb-false}
 use Rattle.std.proofs.lemmas.List.Elements.{recursion_from_All}
-use Rattle.lfs_model.specs.TreeEdits.{tree_without}
+use Rattle.lfs_model.specs.TreeEdits.{tree_after_removal}
 use Rattle.lfs_model.specs.Blocks.{Blocks}
-use Rattle.lfs_model.specs.BlockSets.{AreUsed}
+use Rattle.lfs_model.specs.BlockSets.{AreExactlyTheUsedBlocks}
 use Rattle.lfs_model.specs.Disk.{Disk}
-use Rattle.lfs_model.specs.History.{Event}
-use Rattle.lfs_model.specs.InDirectory.{BeginsAt}
+use Rattle.lfs_model.specs.History.{CallEvent}
+use Rattle.lfs_model.specs.InDirectory.{IsPairAtAddress}
 use Rattle.lfs_model.specs.Operations as ops
-use Rattle.lfs_model.specs.PowerLoss.{IsLeftByStop as IsLeftOf, Survives, with_blocks}
-use Rattle.lfs_model.specs.Slots.{Content, FitsPair, Slot, Tail, no_gstate, same_pair}
-use Rattle.lfs_model.specs.Thread.{Pair, blocks_of, first_at, gstate_of, is_hard, superblocks_before}
-use Rattle.lfs_model.specs.Tree.{Tree, branch_of}
-use Rattle.lfs_model.specs.View.{IsAccepted}
+use Rattle.lfs_model.specs.PowerLoss.{ShowsTreeBeforeOrAfter as IsLeftOf, SurvivesStopsSince, with_blocks}
+use Rattle.lfs_model.specs.Slots.{Content, IsContentFittingPair, Slot, Tail, zero_gstate, same_pair}
+use Rattle.lfs_model.specs.Thread.{Pair, blocks_of_pairs, first_pair_address, gstate_of, is_hard_tail, pair_count_before_root}
+use Rattle.lfs_model.specs.Tree.{Tree, branch_address_of_struct}
+use Rattle.lfs_model.specs.View.{IsAcceptedImage}
 use Rattle.lfs_model.specs.Profile.{IsWritable}
-use Rattle.lfs_model.specs.Shown.{PathLeadsTo, file_blocks, tree_in, used_blocks}
+use Rattle.lfs_model.specs.Shown.{IsPathToDirectory, skip_list_blocks_of_struct, tree_on_disk, used_blocks}
 use Rattle.lfs_model.proofs.Changes.{Follows}
 use Rattle.lfs_model.proofs.Committed.{IsCompleted, no_move_from, recovered_from}
 use Rattle.lfs_model.proofs.Counts.{Each, each_right, count, count_append, once_from_distinct}
 use Rattle.lfs_model.proofs.Dropped.{IsDrop, drop_completed, drop_step, drop_writable}
 use Rattle.lfs_model.proofs.Global.{HasNoMove}
-use Rattle.lfs_model.proofs.Histories.{LeavesOnly-weaker}
+use Rattle.lfs_model.proofs.Histories.{IsTrueAfterEachStopSince-weaker}
 use Rattle.lfs_model.proofs.Listings.{IsRun}
 use Rattle.lfs_model.proofs.Moves.{file_goes}
 use Rattle.lfs_model.proofs.Searches.{is_site, number_is, same, same_number, site, thread_is}
@@ -31,12 +31,12 @@ use Rattle.lfs_model.proofs.Sites.{IsSite, Site, begin_of, dirs_at, thread_at}
 use Rattle.lfs_model.proofs.Splices.{IsDevice, files_of}
 use Rattle.lfs_model.proofs.Superblocks.{IsChain}
 use Rattle.lfs_model.proofs.Writable.{ends_in_hard_tail}
-use Rattle.lfs_thread.specs.Device.{StopsLeave, two_of}
+use Rattle.lfs_thread.specs.Device.{StopsAfterCleanErasesLeave, blocks_of_address}
 use Rattle.lfs_thread.specs.Kept.{Kept}
-use Rattle.lfs_thread.specs.Steps.{IsWrittenAs, pair_in, without_pair}
-use Rattle.lfs_operations.specs.Dropping.{CanDropAt, HasDroppedBehind, HasShrunk, IsLeftByDrop, SameInFlight, taken_over, with_tail_taken}
-use Rattle.lfs_operations.specs.Editing.{CanEdit, slot_at}
-use Rattle.lfs_operations.specs.Removing.{IsRemoved, drops_pair, without_file}
+use Rattle.lfs_thread.specs.Steps.{IsPairWrittenOnDisk, kept_pair_at_index, map_with_freed_pair}
+use Rattle.lfs_operations.specs.Dropping.{CanDropPairAt, IsNextPairDropped, ShowsTreeAfterDrops, IsLeftByStoppedDrop, HasSameBlocksInFlight, tail_over_dropped_pair, content_after_drop}
+use Rattle.lfs_operations.specs.Editing.{CanEditEntryOfPair, slot_of_editable_entry}
+use Rattle.lfs_operations.specs.Removing.{IsFileRemoved, is_pair_dropped_with_slot, tree_without_named_entry}
 use Rattle.lfs_operations.proofs.Dropped.{device_dropped, device_kept, dropped_count, flying_same, length_fewer, profile_same, used_fewer}
 use Rattle.lfs_operations.proofs.DroppedTails.{front_is, gone_is, gstate_is, no_move_state, without_is}
 use Rattle.lfs_operations.proofs.Held.{below, here}
@@ -60,25 +60,25 @@ get_behind [] p ys = refl
 get_behind (x ∷ xs) p ys = get_behind xs p ys
 
 -- a pair that isn't the first of its directory has others in front of it there
-not_alone : (chain before left tail : List Pair) (p : Pair) (a : ℕ × ℕ) (first : ℕ) → IsDistinct nat_eq (blocks_of (chain ++ ((before ++ left) ++ p ∷ tail))) → same_pair (first_at (left ++ p ∷ [])) a ≡ true
-    → BeginsAt (chain ++ ((before ++ left) ++ p ∷ tail)) a first → (length chain + length (before ++ left) ≡ first → ⊥) → left ≢ []
+not_alone : (chain before left tail : List Pair) (p : Pair) (a : ℕ × ℕ) (first : ℕ) → IsDistinct nat_eq (blocks_of_pairs (chain ++ ((before ++ left) ++ p ∷ tail))) → same_pair (first_pair_address (left ++ p ∷ [])) a ≡ true
+    → IsPairAtAddress (chain ++ ((before ++ left) ++ p ∷ tail)) a first → (length chain + length (before ++ left) ≡ first → ⊥) → left ≢ []
 not_alone chain before left tail p a first distinct h b n none =
     let there = ap (λ z. slice_get z (length (chain ++ (before ++ left)))) (sym (append_assoc chain (before ++ left) (p ∷ tail))) ∙ get_behind (chain ++ (before ++ left)) p tail in
-    let begins : same_pair p.at a ≡ true = subst (λ z. same_pair (first_at (z ++ p ∷ [])) a ≡ true) none h in
+    let begins : same_pair p.at a ≡ true = subst (λ z. same_pair (first_pair_address (z ++ p ∷ [])) a ≡ true) none h in
     let e = same_number (chain ++ ((before ++ left) ++ p ∷ tail)) (length (chain ++ (before ++ left))) first p b.pair distinct there b.there (pair_on p.at a b.pair.at begins (pair_back b.pair.at a b.same)) in
     n (sym (length-append chain (before ++ left)) ∙ e)
 
-pub run_hard : (left : List Pair) (x : Pair) (o : Pair) (right : List Pair) → IsRun (left ++ (x ∷ o ∷ right)) → is_hard x.content.tail ≡ true
+pub run_hard : (left : List Pair) (x : Pair) (o : Pair) (right : List Pair) → IsRun (left ++ (x ∷ o ∷ right)) → is_hard_tail x.content.tail ≡ true
 run_hard [] x o right h = h.0
 run_hard (y ∷ []) x o right h = h.1.0
 run_hard (y ∷ z ∷ left) x o right h = run_hard (z ∷ left) x o right h.1
 
-flag_last : (xs : List Pair) (x : Pair) (b : Bool) → ends_in_hard_tail b (xs ++ x ∷ []) ≡ is_hard x.content.tail
+flag_last : (xs : List Pair) (x : Pair) (b : Bool) → ends_in_hard_tail b (xs ++ x ∷ []) ≡ is_hard_tail x.content.tail
 flag_last [] x b = refl
-flag_last (y ∷ xs) x b = flag_last xs x (is_hard y.content.tail)
+flag_last (y ∷ xs) x b = flag_last xs x (is_hard_tail y.content.tail)
 
 -- a hard tail takes over what comes
-pub over_hard : (f g : Option Tail) → is_hard f ≡ true → taken_over f g ≡ g
+pub over_hard : (f g : Option Tail) → is_hard_tail f ≡ true → tail_over_dropped_pair f g ≡ g
 over_hard f None h = refl
 over_hard f (Some t) h = ap (λ b. Some (record { hard = b && t.hard; to = t.to })) h
 
@@ -89,17 +89,17 @@ only_slot (s ∷ []) r u e = absurd (omega arith)
 only_slot (s ∷ x ∷ l) r u e = absurd (omega arith)
 
 -- The pair o of the slot stands behind x, whose hard tail leads to it, and holds nothing else.
-pub record StandsWhole (t : Kept) (index id : ℕ) (can : CanEdit t index id) : Type 0 where
+pub record StandsWhole (t : Kept) (index id : ℕ) (can : CanEditEntryOfPair t index id) : Type 0 where
   pub w : Site
   pub x : Pair
   pub there : t.pairs ≡ thread_at w (x ∷ can.stands.pair ∷ [])
   pub site : IsSite w (x ∷ can.stands.pair ∷ [])
   pub number : length (w.chain ++ (w.before ++ w.left)) + 1 ≡ index
-  pub hard : is_hard x.content.tail ≡ true
+  pub hard : is_hard_tail x.content.tail ≡ true
   pub same : same_pair (begin_of w (x ∷ can.stands.pair ∷ [])) can.at ≡ true
   pub held : can.stands.pair.content.slots ≡ can.stands.stands.slot ∷ []
 
-module _ (t : Kept) (index id first : ℕ) (can : CanEdit t index id) (begins : can.first ≡ first) (goes : drops_pair t index first ≡ true) where
+module _ (t : Kept) (index id first : ℕ) (can : CanEditEntryOfPair t index id) (begins : can.first ≡ first) (goes : is_pair_dropped_with_slot t index first ≡ true) where
   abbrev o : Pair
   o = can.stands.pair
 
@@ -123,13 +123,13 @@ module _ (t : Kept) (index id first : ℕ) (can : CanEdit t index id) (begins : 
 
   -- ---- what is known by it
 
-  alone_there : (index ≡ can.first → ⊥) × (length (pair_in t index).content.slots ≡ 1)
-  alone_there = by (nat_eq index first) (nat_eq (length (pair_in t index).content.slots) 1) refl refl goes
+  alone_there : (index ≡ can.first → ⊥) × (length (kept_pair_at_index t index).content.slots ≡ 1)
+  alone_there = by (nat_eq index first) (nat_eq (length (kept_pair_at_index t index).content.slots) 1) refl refl goes
     where
-      by : (x y : Bool) → nat_eq index first ≡ x → nat_eq (length (pair_in t index).content.slots) 1 ≡ y → not x && y ≡ true → (index ≡ can.first → ⊥) × (length (pair_in t index).content.slots ≡ 1)
+      by : (x y : Bool) → nat_eq index first ≡ x → nat_eq (length (kept_pair_at_index t index).content.slots) 1 ≡ y → not x && y ≡ true → (index ≡ can.first → ⊥) × (length (kept_pair_at_index t index).content.slots ≡ 1)
       by true y e f k = absurd (cc)
       by false false e f k = absurd (cc)
-      by false true e f k = ((λ same. eqb-false index first e (same ∙ begins)), eqb-true (length (pair_in t index).content.slots) 1 f)
+      by false true e f k = ((λ same. eqb-false index first e (same ∙ begins)), eqb-true (length (kept_pair_at_index t index).content.slots) 1 f)
 
   held : o.content.slots ≡ u ∷ []
   held =
@@ -138,8 +138,8 @@ module _ (t : Kept) (index id first : ℕ) (can : CanEdit t index id) (begins : 
       can.stands.stands.held ∙ only_slot can.stands.stands.left can.stands.stands.right u (sym n ∙ sym e ∙ alone_there.1)
 
   front : LastPair v.left
-  front = last_pair v.left (not_alone v.chain v.before v.left (v.right ++ v.after) o can.at can.first (subst (λ z. IsDistinct nat_eq (blocks_of z)) there_before can.ready.accepted.thread.distinct) same_before
-      (subst (λ z. BeginsAt z can.at can.first) there_before can.begins) (λ e. alone_there.0 (number_before ∙ e)))
+  front = last_pair v.left (not_alone v.chain v.before v.left (v.right ++ v.after) o can.at can.first (subst (λ z. IsDistinct nat_eq (blocks_of_pairs z)) there_before can.ready.accepted.thread.distinct) same_before
+      (subst (λ z. IsPairAtAddress z can.at can.first) there_before can.begins) (λ e. alone_there.0 (number_before ∙ e)))
 
   abbrev x : Pair
   x = front.last
@@ -190,11 +190,11 @@ module _ (t : Kept) (index id first : ℕ) (can : CanEdit t index id) (begins : 
     run = subst IsRun (ap (λ z. z ++ o ∷ v.right) front.is ∙ append_assoc front.front (x ∷ []) (o ∷ v.right)) site_before.run;
   }
 
-  hard : is_hard x.content.tail ≡ true
+  hard : is_hard_tail x.content.tail ≡ true
   hard = run_hard front.front x o v.right site_now.run
 
   same_now : same_pair (begin_of w (x ∷ o ∷ [])) can.at ≡ true
-  same_now = subst (λ z. same_pair (first_at z) can.at ≡ true) (ap (λ z. z ++ o ∷ []) front.is ∙ append_assoc front.front (x ∷ []) (o ∷ [])) same_before
+  same_now = subst (λ z. same_pair (first_pair_address z) can.at ≡ true) (ap (λ z. z ++ o ∷ []) front.is ∙ append_assoc front.front (x ∷ []) (o ∷ [])) same_before
 
   -- a hard tail leads to the pair
   pub flag_whole : ends_in_hard_tail false (v.before ++ v.left) ≡ true
@@ -203,34 +203,34 @@ module _ (t : Kept) (index id first : ℕ) (can : CanEdit t index id) (begins : 
   pub stands_whole : StandsWhole t index id can
   stands_whole = record { w = w; x = x; there = there; site = site_now; number = place; hard = hard; same = same_now; held = held }
 
-  front_there : pair_in t (index - 1) ≡ x
+  front_there : kept_pair_at_index t (index - 1) ≡ x
   front_there = front_is t (index - 1) ahead x o back is number
 
-  gone_there : pair_in t (index - 1 + 1) ≡ o
+  gone_there : kept_pair_at_index t (index - 1 + 1) ≡ o
   gone_there = gone_is t (index - 1) ahead x o back is number
 
   pub below_whole : index - 1 + 1 < length t.pairs
   below_whole = let e = place in let l = below t can.ready can.first index o can.stands.rest can.stands.place in omega arith
 
-  pub can_drop_file : CanDropAt t index no_gstate
+  pub can_drop_file : CanDropPairAt t index zero_gstate
   can_drop_file = record {
     above = let e = place in omega arith;
     below = below t can.ready can.first index o can.stands.rest can.stands.place;
     thread = can.ready.accepted.thread;
-    fits = subst (λ (z : Pair). FitsPair t.disk.block_size t.disk.page z.content) (sym front_there) x_fits;
+    fits = subst (λ (z : Pair). IsContentFittingPair t.disk.block_size t.disk.page z.content) (sym front_there) x_fits;
     storable = no_move_state;
   }
     where
-      x_fits : FitsPair t.disk.block_size t.disk.page x.content
+      x_fits : IsContentFittingPair t.disk.block_size t.disk.page x.content
       x_fits =
-          let F = λ (z : Pair). FitsPair t.disk.block_size t.disk.page z.content in
-          (each_right (λ (z : Pair). FitsPair t.disk.block_size t.disk.page z.content) ahead (x ∷ o ∷ back)
-          (subst (Each (λ (z : Pair). FitsPair t.disk.block_size t.disk.page z.content)) is (recursion_from_All (λ (z : Pair). FitsPair t.disk.block_size t.disk.page z.content) t.pairs can.ready.writable.pairs))).0
+          let F = λ (z : Pair). IsContentFittingPair t.disk.block_size t.disk.page z.content in
+          (each_right (λ (z : Pair). IsContentFittingPair t.disk.block_size t.disk.page z.content) ahead (x ∷ o ∷ back)
+          (subst (Each (λ (z : Pair). IsContentFittingPair t.disk.block_size t.disk.page z.content)) is (recursion_from_All (λ (z : Pair). IsContentFittingPair t.disk.block_size t.disk.page z.content) t.pairs can.ready.writable.pairs))).0
 
   -- ---- what it leaves
 
   abbrev c : Content
-  c = with_tail_taken t (index - 1) no_gstate
+  c = content_after_drop t (index - 1) zero_gstate
 
   abbrev q : Pair
   q = record { at = x.at; content = c }
@@ -238,13 +238,13 @@ module _ (t : Kept) (index id first : ℕ) (can : CanEdit t index id) (begins : 
   slots_same : c.slots ≡ x.content.slots
   slots_same = ap (λ (z : Pair). z.content.slots) front_there
 
-  still : gstate_of (thread_at w (q ∷ [])) ≡ no_gstate
-  still = ap gstate_of (grouped (q ∷ [])) ∙ gstate_is t (index - 1) ahead x o back is number no_gstate q refl
+  still : gstate_of (thread_at w (q ∷ [])) ≡ zero_gstate
+  still = ap gstate_of (grouped (q ∷ [])) ∙ gstate_is t (index - 1) ahead x o back is number zero_gstate q refl
 
-  accepted : IsAccepted t.disk (thread_at w (x ∷ o ∷ []))
-  accepted = subst (IsAccepted t.disk) there can.ready.accepted
+  accepted : IsAcceptedImage t.disk (thread_at w (x ∷ o ∷ []))
+  accepted = subst (IsAcceptedImage t.disk) there can.ready.accepted
 
-  drop_on : (disk : Disk) → IsWrittenAs t (index - 1) c disk → IsDrop t.disk disk w x o q u
+  drop_on : (disk : Disk) → IsPairWrittenOnDisk t (index - 1) c disk → IsDrop t.disk disk w x o q u
   drop_on disk written = record {
     accepted = accepted;
     writable = subst (IsWritable t.disk) there can.ready.writable;
@@ -252,9 +252,9 @@ module _ (t : Kept) (index id first : ℕ) (can : CanEdit t index id) (begins : 
     still = still;
     site = site_now;
     device = subst (λ z. IsDevice t.disk disk z (thread_at w (q ∷ []))) (sym (grouped (x ∷ o ∷ []))) (subst (IsDevice t.disk disk (ahead ++ x ∷ o ∷ back)) (sym (grouped (q ∷ [])))
-        (device_dropped t (index - 1) ahead x o back is number (subst (IsAccepted t.disk) is can.ready.accepted) disk c slots_same written));
+        (device_dropped t (index - 1) ahead x o back is number (subst (IsAcceptedImage t.disk) is can.ready.accepted) disk c slots_same written));
     at = refl;
-    tail = ap₂ (λ (y z : Pair). taken_over y.content.tail z.content.tail) front_there gone_there ∙ over_hard x.content.tail o.content.tail hard;
+    tail = ap₂ (λ (y z : Pair). tail_over_dropped_pair y.content.tail z.content.tail) front_there gone_there ∙ over_hard x.content.tail o.content.tail hard;
     slots = slots_same;
     held = held;
     other = can.stands.stands.entry;
@@ -262,74 +262,74 @@ module _ (t : Kept) (index id first : ℕ) (can : CanEdit t index id) (begins : 
 
   -- ---- a file
 
-  module _ (file : branch_of can.stands.stands.slot.struct ≡ None) where
+  module _ (file : branch_address_of_struct can.stands.stands.slot.struct ≡ None) where
     abbrev turn : Tree → Tree
-    turn = tree_without (can.path ++ can.name ∷ [])
+    turn = tree_after_removal (can.path ++ can.name ∷ [])
 
-    leads_now : PathLeadsTo (thread_at w (x ∷ o ∷ [])) can.path can.at
-    leads_now = subst (λ z. PathLeadsTo z can.path can.at) there can.leads
+    leads_now : IsPathToDirectory (thread_at w (x ∷ o ∷ [])) can.path can.at
+    leads_now = subst (λ z. IsPathToDirectory z can.path can.at) there can.leads
 
-    follows : (disk : Disk) → IsWrittenAs t (index - 1) c disk → Follows t.disk (thread_at w (x ∷ o ∷ [])) disk (thread_at w (q ∷ [])) turn (λ d. d)
-    follows disk written = subst (λ n. Follows t.disk (thread_at w (x ∷ o ∷ [])) disk (thread_at w (q ∷ [])) (tree_without (can.path ++ n ∷ [])) (λ d. d)) can.stands.stands.named
+    follows : (disk : Disk) → IsPairWrittenOnDisk t (index - 1) c disk → Follows t.disk (thread_at w (x ∷ o ∷ [])) disk (thread_at w (q ∷ [])) turn (λ d. d)
+    follows disk written = subst (λ n. Follows t.disk (thread_at w (x ∷ o ∷ [])) disk (thread_at w (q ∷ [])) (tree_after_removal (can.path ++ n ∷ [])) (λ d. d)) can.stands.stands.named
         (file_goes t.disk disk w x (o ∷ []) q [] [] [] x.content.slots [] u (drop_step t.disk disk w x o q u (drop_on disk written)) can.stands.stands.entry can.path can.at leads_now same_now file
         (λ e. (recovered_from t.disk (thread_at w (x ∷ o ∷ [])) accepted (ap gstate_of (sym there) ∙ can.ready.settled)).reached))
 
-    pairs_now : (new : Kept) → HasDroppedBehind t (index - 1) no_gstate new → new.pairs ≡ thread_at w (q ∷ [])
+    pairs_now : (new : Kept) → IsNextPairDropped t (index - 1) zero_gstate new → new.pairs ≡ thread_at w (q ∷ [])
     pairs_now new h = h.pairs ∙ without_is t (index - 1) ahead x o back is number c ∙ sym (grouped (q ∷ []))
 
-    module _ (new : Kept) (h : HasDroppedBehind t (index - 1) no_gstate new) where
-      now_used : (b : ℕ) → count b (used_blocks new.disk new.pairs ++ file_blocks t.disk u.struct) + count b (two_of o.at) ≡ count b (used_blocks t.disk t.pairs)
+    module _ (new : Kept) (h : IsNextPairDropped t (index - 1) zero_gstate new) where
+      now_used : (b : ℕ) → count b (used_blocks new.disk new.pairs ++ skip_list_blocks_of_struct t.disk u.struct) + count b (blocks_of_address o.at) ≡ count b (used_blocks t.disk t.pairs)
       now_used b =
           let d = drop_on new.disk h.written in
           let e = dropped_count t.disk new.disk ahead x o q back (subst (λ z. HasNoMove (gstate_of z)) is (no_move_from t.pairs can.ready.settled)) (subst (λ z. HasNoMove (gstate_of z)) (grouped (q ∷ [])) (no_move_from (thread_at w (q ∷ [])) still))
-          (device_dropped t (index - 1) ahead x o back is number (subst (IsAccepted t.disk) is can.ready.accepted) new.disk c slots_same h.written) refl slots_same b in
+          (device_dropped t (index - 1) ahead x o back is number (subst (IsAcceptedImage t.disk) is can.ready.accepted) new.disk c slots_same h.written) refl slots_same b in
           let f = ap (λ z. count b (used_blocks new.disk z)) (pairs_now new h ∙ grouped (q ∷ [])) in
           let g = ap (λ z. count b (used_blocks t.disk z)) is in
-          let k = count_append b (used_blocks new.disk new.pairs) (file_blocks t.disk u.struct) in
+          let k = count_append b (used_blocks new.disk new.pairs) (skip_list_blocks_of_struct t.disk u.struct) in
           let m = ap (λ z. count b (files_of t.disk z)) held in
-          let n = count_append b (file_blocks t.disk u.struct) [] in
+          let n = count_append b (skip_list_blocks_of_struct t.disk u.struct) [] in
           omega arith
 
-      map_is : new.map ≡ without_pair t.map o.at
-      map_is = h.map ∙ ap (λ (z : Pair). without_pair t.map z.at) gone_there
+      map_is : new.map ≡ map_with_freed_pair t.map o.at
+      map_is = h.map ∙ ap (λ (z : Pair). map_with_freed_pair t.map z.at) gone_there
 
       once : (b : ℕ) → count b (used_blocks t.disk t.pairs) ≤ 1
       once b = once_from_distinct (used_blocks t.disk t.pairs) can.ready.accepted.owned_once b
 
-      shrunk : HasShrunk t new (without_file t can.path can.name) (file_blocks t.disk u.struct)
+      shrunk : ShowsTreeAfterDrops t new (tree_without_named_entry t can.path can.name) (skip_list_blocks_of_struct t.disk u.struct)
       shrunk =
           let f = follows new.disk h.written in
           let p = pairs_now new h in
-          let gone = file_blocks t.disk u.struct in
+          let gone = skip_list_blocks_of_struct t.disk u.struct in
           record {
             ready = record {
-              accepted = subst (IsAccepted new.disk) (sym p) f.accepted;
+              accepted = subst (IsAcceptedImage new.disk) (sym p) f.accepted;
               writable = subst (IsWritable new.disk) (sym p) (drop_writable t.disk new.disk w x o q u (drop_on new.disk h.written));
               settled = h.gstate;
               used = record {
-                owned = used_blocks new.disk new.pairs ++ file_blocks t.disk u.struct;
-                are = subst (λ m. AreUsed m (used_blocks new.disk new.pairs ++ file_blocks t.disk u.struct)) (sym map_is)
-                    (used_fewer t.map o.at (used_blocks t.disk t.pairs) (used_blocks new.disk new.pairs ++ file_blocks t.disk u.struct) can.ready.used once now_used);
-                same = λ b. let k = count_append b (used_blocks new.disk new.pairs) (file_blocks t.disk u.struct) in omega arith;
+                owned = used_blocks new.disk new.pairs ++ skip_list_blocks_of_struct t.disk u.struct;
+                are = subst (λ m. AreExactlyTheUsedBlocks m (used_blocks new.disk new.pairs ++ skip_list_blocks_of_struct t.disk u.struct)) (sym map_is)
+                    (used_fewer t.map o.at (used_blocks t.disk t.pairs) (used_blocks new.disk new.pairs ++ skip_list_blocks_of_struct t.disk u.struct) can.ready.used once now_used);
+                same = λ b. let k = count_append b (used_blocks new.disk new.pairs) (skip_list_blocks_of_struct t.disk u.struct) in omega arith;
               };
-              size = ap length map_is ∙ length_fewer t.map o.at (used_blocks t.disk t.pairs) (used_blocks new.disk new.pairs ++ file_blocks t.disk u.struct) can.ready.used once now_used
+              size = ap length map_is ∙ length_fewer t.map o.at (used_blocks t.disk t.pairs) (used_blocks new.disk new.pairs ++ skip_list_blocks_of_struct t.disk u.struct) can.ready.used once now_used
                   ∙ can.ready.size ∙ sym h.written.shape.count;
               large = subst (λ n. 1024 ≤ n) (sym h.written.shape.block_size) can.ready.large;
             };
-            shows = ap (tree_in new.disk) p ∙ f.shows ∙ ap (λ z. turn (tree_in t.disk z)) (sym there);
-            flying = subst (SameInFlight t.map) (sym map_is) (flying_same t.map o.at (used_blocks t.disk t.pairs) (used_blocks new.disk new.pairs ++ file_blocks t.disk u.struct) can.ready.used once now_used);
-            root = ap superblocks_before p ∙ root_stays t.disk new.disk w.chain (dirs_at w (x ∷ o ∷ [])) (dirs_at w (q ∷ [])) site_now.chain accepted f.accepted f.root ∙ sym (ap superblocks_before there);
+            shows = ap (tree_on_disk new.disk) p ∙ f.shows ∙ ap (λ z. turn (tree_on_disk t.disk z)) (sym there);
+            flying = subst (HasSameBlocksInFlight t.map) (sym map_is) (flying_same t.map o.at (used_blocks t.disk t.pairs) (used_blocks new.disk new.pairs ++ skip_list_blocks_of_struct t.disk u.struct) can.ready.used once now_used);
+            root = ap pair_count_before_root p ∙ root_stays t.disk new.disk w.chain (dirs_at w (x ∷ o ∷ [])) (dirs_at w (q ∷ [])) site_now.chain accepted f.accepted f.root ∙ sym (ap pair_count_before_root there);
           }
 
-      pub gone_whole : IsRemoved t new can.path can.name (slot_at can).struct
+      pub gone_whole : IsFileRemoved t new can.path can.name (slot_of_editable_entry can).struct
       gone_whole = record {
         now = shrunk;
         completed = λ z given tree is_path. subst (λ y. IsCompleted t.disk y z (ops.Remove given) new.disk new.pairs) (sym there)
             (subst (λ y. IsCompleted t.disk (thread_at w (x ∷ o ∷ [])) z (ops.Remove given) new.disk y) (sym (pairs_now new h))
-            (drop_completed t.disk new.disk w x o q u (drop_on new.disk h.written) file can.path can.at leads_now same_now z given (tree ∙ ap (tree_in t.disk) there)
+            (drop_completed t.disk new.disk w x o q u (drop_on new.disk h.written) file can.path can.at leads_now same_now z given (tree ∙ ap (tree_on_disk t.disk) there)
             (is_path ∙ ap (λ n. can.path ++ n ∷ []) (sym can.stands.stands.named))));
         once = λ b.
-            let e = count_append b (used_blocks new.disk new.pairs) (file_blocks t.disk u.struct) in
+            let e = count_append b (used_blocks new.disk new.pairs) (skip_list_blocks_of_struct t.disk u.struct) in
             let n = now_used b in
             let o = once b in
             omega arith;
@@ -337,32 +337,32 @@ module _ (t : Kept) (index id first : ℕ) (can : CanEdit t index id) (begins : 
 
     -- ---- at a stop
 
-    left_tree : (left : Blocks) → IsLeftByDrop t (index - 1) no_gstate left → IsLeftOf (with_blocks left t.disk) (tree_in t.disk t.pairs) (turn (tree_in t.disk t.pairs))
+    left_tree : (left : Blocks) → IsLeftByStoppedDrop t (index - 1) zero_gstate left → IsLeftOf (with_blocks left t.disk) (tree_on_disk t.disk t.pairs) (turn (tree_on_disk t.disk t.pairs))
     left_tree left h = go h.is
       where
-        go : (h.content ≡ (pair_in t (index - 1)).content) ⊎ (h.content ≡ with_tail_taken t (index - 1) no_gstate) → IsLeftOf (with_blocks left t.disk) (tree_in t.disk t.pairs) (turn (tree_in t.disk t.pairs))
+        go : (h.content ≡ (kept_pair_at_index t (index - 1)).content) ⊎ (h.content ≡ content_after_drop t (index - 1) zero_gstate) → IsLeftOf (with_blocks left t.disk) (tree_on_disk t.disk t.pairs) (turn (tree_on_disk t.disk t.pairs))
         go (inl e) =
             let same = e ∙ ap (λ (z : Pair). z.content) front_there in
-            let d = device_kept t (index - 1) ahead x o back is number (subst (IsAccepted t.disk) is can.ready.accepted) (with_blocks left t.disk) x.content refl
-            (subst (λ y. IsWrittenAs t (index - 1) y (with_blocks left t.disk)) same h.written) in
+            let d = device_kept t (index - 1) ahead x o back is number (subst (IsAcceptedImage t.disk) is can.ready.accepted) (with_blocks left t.disk) x.content refl
+            (subst (λ y. IsPairWrittenOnDisk t (index - 1) y (with_blocks left t.disk)) same h.written) in
             let on = subst (λ z. IsDevice t.disk (with_blocks left t.disk) z z) (sym is ∙ there_before) d in
-            let f = nothing_came t.disk (with_blocks left t.disk) v o site_before (subst (IsAccepted t.disk) there_before can.ready.accepted) on in
+            let f = nothing_came t.disk (with_blocks left t.disk) v o site_before (subst (IsAcceptedImage t.disk) there_before can.ready.accepted) on in
             record {
               pairs = thread_at v (o ∷ []);
               accepted = f.accepted;
               writable = profile_same t.disk (with_blocks left t.disk) (thread_at v (o ∷ [])) refl refl (subst (IsWritable t.disk) there_before can.ready.writable);
-              tree = inl (f.shows ∙ ap (tree_in t.disk) (sym there_before));
+              tree = inl (f.shows ∙ ap (tree_on_disk t.disk) (sym there_before));
             }
         go (inr e) =
-            let written = subst (λ y. IsWrittenAs t (index - 1) y (with_blocks left t.disk)) e h.written in
+            let written = subst (λ y. IsPairWrittenOnDisk t (index - 1) y (with_blocks left t.disk)) e h.written in
             let f = follows (with_blocks left t.disk) written in
             record {
               pairs = thread_at w (q ∷ []);
               accepted = f.accepted;
               writable = drop_writable t.disk (with_blocks left t.disk) w x o q u (drop_on (with_blocks left t.disk) written);
-              tree = inr (f.shows ∙ ap (λ z. turn (tree_in t.disk z)) (sym there));
+              tree = inr (f.shows ∙ ap (λ z. turn (tree_on_disk t.disk z)) (sym there));
             }
 
-    pub whole_survives : (new : List Event) → StopsLeave t.history new (IsLeftByDrop t (index - 1) no_gstate)
-        → Survives t.disk t.history new (tree_in t.disk t.pairs) (without_file t can.path can.name)
-    whole_survives new stops clean = LeavesOnly-weaker left_tree (stops clean)
+    pub whole_survives : (new : List CallEvent) → StopsAfterCleanErasesLeave t.history new (IsLeftByStoppedDrop t (index - 1) zero_gstate)
+        → SurvivesStopsSince t.disk t.history new (tree_on_disk t.disk t.pairs) (tree_without_named_entry t can.path can.name)
+    whole_survives new stops clean = IsTrueAfterEachStopSince-weaker left_tree (stops clean)

@@ -5,8 +5,8 @@ use Rattle.std.proofs.Math.Seq.{set-append_seam}
 use Rattle.lfs_model.specs.Disk.{Disk}
 use Rattle.lfs_model.specs.Slots.{Slot, is_superblock, same_pair}
 use Rattle.lfs_model.specs.Thread.{Pair, gstate_of}
-use Rattle.lfs_model.specs.Tree.{Path, branch_of}
-use Rattle.lfs_model.specs.Shown.{PathLeadsTo, entries_in}
+use Rattle.lfs_model.specs.Tree.{Path, branch_address_of_struct}
+use Rattle.lfs_model.specs.Shown.{IsPathToDirectory, entries_by_directory_in_thread}
 use Rattle.lfs_model.specs.TreeEdits.{renamed}
 use Rattle.lfs_model.specs.InDirectory.{entries_only}
 use Rattle.lfs_model.proofs.Changes.{Follows}
@@ -26,39 +26,39 @@ entry_among xs u ys other = both_entries xs (u ∷ ys) ∙ ap (λ z. entries_onl
 -- the file stands behind the old slot
 module _ (disk new : Disk) (w : Site) (p q : Pair) (more : List Pair) (extra : List ℕ) (l : List Slot) (u : Slot) (passed : List Slot) (target : Slot) (r : List Slot)
     (c : IsStep disk new w p [] q more extra [] l (u ∷ (passed ++ target ∷ [])) (passed ++ record u { name = target.name } ∷ []) r) (held : p.content.slots ≡ l ++ ((u ∷ (passed ++ target ∷ [])) ++ r)) (other : is_superblock u ≡ false) (entry : is_superblock target ≡ false)
-    (file : (gstate_of (thread_at w (q ∷ more))).sync ≡ false → (branch_of target.struct ≡ None) × AllReached (thread_at w (p ∷ [])))
+    (file : (gstate_of (thread_at w (q ∷ more))).sync ≡ false → (branch_address_of_struct target.struct ≡ None) × AllReached (thread_at w (p ∷ [])))
     (differs : target.name ≡ u.name → ⊥)
-    (P : Path) (a : ℕ × ℕ) (leads : PathLeadsTo (thread_at w (p ∷ [])) P a) (same : same_pair (begin_of w (p ∷ [])) a ≡ true) where
+    (P : Path) (a : ℕ × ℕ) (leads : IsPathToDirectory (thread_at w (p ∷ [])) P a) (same : same_pair (begin_of w (p ∷ [])) a ≡ true) where
   abbrev moved : Slot
   moved = record u { name = target.name }
 
   abbrev ahead : List Slot
   ahead = shown_before w l ++ entries_only passed
 
-  shows : entries_in (thread_at w (p ∷ [])) a ≡ shown_before w l ++ u ∷ (entries_only passed ++ target ∷ shown_behind w r)
+  shows : entries_by_directory_in_thread (thread_at w (p ∷ [])) a ≡ shown_before w l ++ u ∷ (entries_only passed ++ target ∷ shown_behind w r)
   shows = site_shows disk w p l (u ∷ (passed ++ target ∷ [])) r a c.accepted c.site c.no_move same held
       ∙ ap (λ z. shown_before w l ++ (z ++ shown_behind w r)) (entry_among [] u (passed ++ target ∷ []) other ∙ ap (λ z. u ∷ z) (entry_among passed target [] entry))
       ∙ ap (λ z. shown_before w l ++ u ∷ z) (append_assoc (entries_only passed) (target ∷ []) (shown_behind w r))
 
-  at_old : slice_get (entries_in (thread_at w (p ∷ [])) a) (place_at w l) ≡ Some u
+  at_old : slice_get (entries_by_directory_in_thread (thread_at w (p ∷ [])) a) (place_at w l) ≡ Some u
   at_old = ap (λ z. slice_get z (place_at w l)) shows ∙ get_here (shown_before w l) (entries_only passed ++ target ∷ shown_behind w r) u
 
-  left_over : remove (entries_in (thread_at w (p ∷ [])) a) (place_at w l) ≡ (shown_before w l ++ entries_only passed) ++ target ∷ shown_behind w r
+  left_over : remove (entries_by_directory_in_thread (thread_at w (p ∷ [])) a) (place_at w l) ≡ (shown_before w l ++ entries_only passed) ++ target ∷ shown_behind w r
   left_over = ap (λ z. remove z (place_at w l)) shows ∙ remove_here (shown_before w l) (entries_only passed ++ target ∷ shown_behind w r) u ∙ sym (append_assoc (shown_before w l) (entries_only passed) (target ∷ shown_behind w r))
 
   abbrev number : ℕ
   number = length (shown_before w l ++ entries_only passed)
 
-  there : slice_get (remove (entries_in (thread_at w (p ∷ [])) a) (place_at w l)) (length (shown_before w l ++ entries_only passed)) ≡ Some target
+  there : slice_get (remove (entries_by_directory_in_thread (thread_at w (p ∷ [])) a) (place_at w l)) (length (shown_before w l ++ entries_only passed)) ≡ Some target
   there = ap (λ z. slice_get z number) left_over ∙ get_here ahead (shown_behind w r) target
 
   shown_moved : shown_before w l ++ (entries_only (passed ++ record u { name = target.name } ∷ []) ++ shown_behind w r)
-      ≡ set (remove (entries_in (thread_at w (p ∷ [])) a) (place_at w l)) (length (shown_before w l ++ entries_only passed)) (record u { name = target.name })
+      ≡ set (remove (entries_by_directory_in_thread (thread_at w (p ∷ [])) a) (place_at w l)) (length (shown_before w l ++ entries_only passed)) (record u { name = target.name })
   shown_moved = ap (λ z. shown_before w l ++ (z ++ shown_behind w r)) (entry_among passed moved [] other)
       ∙ ap (λ z. shown_before w l ++ z) (append_assoc (entries_only passed) (moved ∷ []) (shown_behind w r)) ∙ sym (append_assoc (shown_before w l) (entries_only passed) (moved ∷ shown_behind w r))
       ∙ sym (set-append_seam ahead target (shown_behind w r) moved) ∙ ap (λ z. set z number moved) (sym left_over)
 
-  at_target : slice_get (entries_in (thread_at w (p ∷ [])) a) (length (shown_before w l ++ u ∷ entries_only passed)) ≡ Some target
+  at_target : slice_get (entries_by_directory_in_thread (thread_at w (p ∷ [])) a) (length (shown_before w l ++ u ∷ entries_only passed)) ≡ Some target
   at_target = ap (λ z. slice_get z (length (shown_before w l ++ u ∷ entries_only passed))) (shows ∙ sym (append_assoc (shown_before w l) (u ∷ entries_only passed) (target ∷ shown_behind w r)))
       ∙ get_here (shown_before w l ++ u ∷ entries_only passed) (shown_behind w r) target
 
@@ -69,16 +69,16 @@ module _ (disk new : Disk) (w : Site) (p q : Pair) (more : List Pair) (extra : L
 -- the file stands in front of it
 module _ (disk new : Disk) (w : Site) (p q : Pair) (more : List Pair) (extra : List ℕ) (l : List Slot) (u : Slot) (passed : List Slot) (target : Slot) (r : List Slot)
     (c : IsStep disk new w p [] q more extra [] l (target ∷ (passed ++ u ∷ [])) (record u { name = target.name } ∷ passed) r) (held : p.content.slots ≡ l ++ ((target ∷ (passed ++ u ∷ [])) ++ r)) (other : is_superblock u ≡ false) (entry : is_superblock target ≡ false)
-    (file : (gstate_of (thread_at w (q ∷ more))).sync ≡ false → (branch_of target.struct ≡ None) × AllReached (thread_at w (p ∷ [])))
+    (file : (gstate_of (thread_at w (q ∷ more))).sync ≡ false → (branch_address_of_struct target.struct ≡ None) × AllReached (thread_at w (p ∷ [])))
     (differs : target.name ≡ u.name → ⊥)
-    (P : Path) (a : ℕ × ℕ) (leads : PathLeadsTo (thread_at w (p ∷ [])) P a) (same : same_pair (begin_of w (p ∷ [])) a ≡ true) where
+    (P : Path) (a : ℕ × ℕ) (leads : IsPathToDirectory (thread_at w (p ∷ [])) P a) (same : same_pair (begin_of w (p ∷ [])) a ≡ true) where
   abbrev moved2 : Slot
   moved2 = record u { name = target.name }
 
   abbrev before_old : List Slot
   before_old = shown_before w l ++ target ∷ entries_only passed
 
-  shows2 : entries_in (thread_at w (p ∷ [])) a ≡ (shown_before w l ++ target ∷ entries_only passed) ++ u ∷ shown_behind w r
+  shows2 : entries_by_directory_in_thread (thread_at w (p ∷ [])) a ≡ (shown_before w l ++ target ∷ entries_only passed) ++ u ∷ shown_behind w r
   shows2 = site_shows disk w p l (target ∷ (passed ++ u ∷ [])) r a c.accepted c.site c.no_move same held
       ∙ ap (λ z. shown_before w l ++ (z ++ shown_behind w r)) (entry_among [] target (passed ++ u ∷ []) entry ∙ ap (λ z. target ∷ z) (entry_among passed u [] other))
       ∙ ap (λ z. shown_before w l ++ target ∷ z) (append_assoc (entries_only passed) (u ∷ []) (shown_behind w r)) ∙ sym (append_assoc (shown_before w l) (target ∷ entries_only passed) (u ∷ shown_behind w r))
@@ -86,21 +86,21 @@ module _ (disk new : Disk) (w : Site) (p q : Pair) (more : List Pair) (extra : L
   abbrev old_number : ℕ
   old_number = length (shown_before w l ++ target ∷ entries_only passed)
 
-  at_old2 : slice_get (entries_in (thread_at w (p ∷ [])) a) (length (shown_before w l ++ target ∷ entries_only passed)) ≡ Some u
+  at_old2 : slice_get (entries_by_directory_in_thread (thread_at w (p ∷ [])) a) (length (shown_before w l ++ target ∷ entries_only passed)) ≡ Some u
   at_old2 = ap (λ z. slice_get z old_number) shows2 ∙ get_here before_old (shown_behind w r) u
 
-  left_over2 : remove (entries_in (thread_at w (p ∷ [])) a) (length (shown_before w l ++ target ∷ entries_only passed)) ≡ shown_before w l ++ target ∷ (entries_only passed ++ shown_behind w r)
+  left_over2 : remove (entries_by_directory_in_thread (thread_at w (p ∷ [])) a) (length (shown_before w l ++ target ∷ entries_only passed)) ≡ shown_before w l ++ target ∷ (entries_only passed ++ shown_behind w r)
   left_over2 = ap (λ z. remove z old_number) shows2 ∙ remove_here before_old (shown_behind w r) u ∙ append_assoc (shown_before w l) (target ∷ entries_only passed) (shown_behind w r)
 
-  there2 : slice_get (remove (entries_in (thread_at w (p ∷ [])) a) (length (shown_before w l ++ target ∷ entries_only passed))) (place_at w l) ≡ Some target
+  there2 : slice_get (remove (entries_by_directory_in_thread (thread_at w (p ∷ [])) a) (length (shown_before w l ++ target ∷ entries_only passed))) (place_at w l) ≡ Some target
   there2 = ap (λ z. slice_get z (place_at w l)) left_over2 ∙ get_here (shown_before w l) (entries_only passed ++ shown_behind w r) target
 
   shown_moved2 : shown_before w l ++ (entries_only (record u { name = target.name } ∷ passed) ++ shown_behind w r)
-      ≡ set (remove (entries_in (thread_at w (p ∷ [])) a) (length (shown_before w l ++ target ∷ entries_only passed))) (place_at w l) (record u { name = target.name })
+      ≡ set (remove (entries_by_directory_in_thread (thread_at w (p ∷ [])) a) (length (shown_before w l ++ target ∷ entries_only passed))) (place_at w l) (record u { name = target.name })
   shown_moved2 = ap (λ z. shown_before w l ++ (z ++ shown_behind w r)) (entry_among [] moved2 passed other)
       ∙ sym (set-append_seam (shown_before w l) target (entries_only passed ++ shown_behind w r) moved2) ∙ ap (λ z. set z (place_at w l) moved2) (sym left_over2)
 
-  at_target2 : slice_get (entries_in (thread_at w (p ∷ [])) a) (place_at w l) ≡ Some target
+  at_target2 : slice_get (entries_by_directory_in_thread (thread_at w (p ∷ [])) a) (place_at w l) ≡ Some target
   at_target2 = ap (λ z. slice_get z (place_at w l)) (shows2 ∙ append_assoc (shown_before w l) (target ∷ entries_only passed) (u ∷ shown_behind w r))
       ∙ get_here (shown_before w l) (entries_only passed ++ u ∷ shown_behind w r) target
 

@@ -6,20 +6,20 @@ use Rattle.std.proofs.lemmas.List.Sums.{sum_by-append, sum_by-cons}
 use Rattle.std.proofs.lemmas.Option.{same_Some}
 use Rattle.lfs_model.specs.TreeEdits.{renamed}
 use Rattle.lfs_model.specs.Blocks.{Blocks}
-use Rattle.lfs_model.specs.Changes.{Change, Delete, PutMove, changed_by}
-use Rattle.lfs_model.specs.Content.{RawContent, RawSlot, complete_all, completed, content_at, holder_at, raw_at}
+use Rattle.lfs_model.specs.Changes.{ContentChange, Delete, PutMove, content_after_changes}
+use Rattle.lfs_model.specs.Content.{RawContent, RawSlot, slots_if_all_complete, content_if_slots_are_complete, content_of_pair_at, current_block_of_pair_at, raw_content_of_pair_at}
 use Rattle.lfs_model.specs.Disk.{Disk}
-use Rattle.lfs_model.specs.History.{Event}
-use Rattle.lfs_model.specs.InDirectory.{IsNameAt}
-use Rattle.lfs_model.specs.LoggedContent.{IsMoveState}
+use Rattle.lfs_model.specs.History.{CallEvent}
+use Rattle.lfs_model.specs.InDirectory.{HasEntryOfNameAtId}
+use Rattle.lfs_model.specs.LoggedContent.{IsWellFormedMoveState}
 use Rattle.lfs_model.specs.Names.{Name, is_name}
-use Rattle.lfs_model.specs.PowerLoss.{IsLeftByStop as IsLeftOf, Survives, with_blocks}
-use Rattle.lfs_model.specs.SlotEdits.{with_slots}
-use Rattle.lfs_model.specs.Slots.{Content, FitsPair, Gstate, Slot, gstate_xor, no_gstate, same_pair, slot_size, struct_len}
-use Rattle.lfs_model.specs.Thread.{Pair, gstate_of, next_of, starts_with_superblock}
-use Rattle.lfs_model.specs.View.{BeginsWithEntry, IsAccepted, IsEntry, superblock_entry}
+use Rattle.lfs_model.specs.PowerLoss.{ShowsTreeBeforeOrAfter as IsLeftOf, SurvivesStopsSince, with_blocks}
+use Rattle.lfs_model.specs.SlotEdits.{pair_with_slots}
+use Rattle.lfs_model.specs.Slots.{Content, IsContentFittingPair, Gstate, Slot, gstate_xor, zero_gstate, same_pair, slot_size, struct_len}
+use Rattle.lfs_model.specs.Thread.{Pair, gstate_of, pair_named_by_tail, starts_with_superblock}
+use Rattle.lfs_model.specs.View.{BeginsWithLogEntry, IsAcceptedImage, IsFileOrDirectoryEntry, superblock_name_log_entry}
 use Rattle.lfs_model.specs.Profile.{IsWritable}
-use Rattle.lfs_model.specs.Shown.{PathLeadsTo, all_slots, tree_in}
+use Rattle.lfs_model.specs.Shown.{IsPathToDirectory, all_slots_not_moved, tree_on_disk}
 use Rattle.lfs_model.proofs.Became.{fits_same}
 use Rattle.lfs_model.proofs.Changes.{Follows, SameFiles}
 use Rattle.lfs_model.proofs.Committed.{no_move_from}
@@ -27,7 +27,7 @@ use Rattle.lfs_model.proofs.Completed.{complete_insert, complete_length, complet
 use Rattle.lfs_model.proofs.Effects.{does_first, puts_move}
 use Rattle.lfs_model.proofs.Files.{HasSameFile}
 use Rattle.lfs_model.proofs.Global.{HasNoMove, gstate_comm, gstate_cons, gstate_moved, gstate_right, sync_delta, turned_is}
-use Rattle.lfs_model.proofs.Histories.{LeavesOnly-weaker}
+use Rattle.lfs_model.proofs.Histories.{IsTrueAfterEachStopSince-weaker}
 use Rattle.lfs_model.proofs.Moves.{IsStep, insert_here}
 use Rattle.lfs_model.proofs.OneCommit.{some_filled}
 use Rattle.lfs_model.proofs.Renames.{rename_walk}
@@ -36,14 +36,14 @@ use Rattle.lfs_model.proofs.Sites.{Site, begin_of, thread_at}
 use Rattle.lfs_model.proofs.Splices.{IsDevice, stays_shape}
 use Rattle.lfs_model.proofs.StepsTaken.{IsOnlyStep, commit_taken}
 use Rattle.lfs_model.proofs.Unchanged.{HasFirst}
-use Rattle.lfs_pair.specs.Commit.{OutsideKeeps}
-use Rattle.lfs_thread.specs.Device.{StopsLeave}
+use Rattle.lfs_pair.specs.Commit.{KeepsBlocksOutsidePair}
+use Rattle.lfs_thread.specs.Device.{StopsAfterCleanErasesLeave}
 use Rattle.lfs_thread.specs.Kept.{Kept}
-use Rattle.lfs_thread.specs.Steps.{CanChange, IsChanged, IsLeftByChange, IsCommitRefused, IsWrittenAs, SlotsHaveFirst, made_in_thread, pair_in, with_pair}
-use Rattle.lfs_operations.specs.Editing.{CanEdit}
-use Rattle.lfs_operations.specs.Renaming.{place_without, with_renamed}
-use Rattle.lfs_operations.specs.RenamingOver.{CanRenameOver, IsRenamedOver, rename_over_changes}
-use Rattle.lfs_operations.specs.RenamingSlots.{HasSlot, Parts, parts_of, slot_changes}
+use Rattle.lfs_thread.specs.Steps.{CanChangePair, IsPairChanged, LeavesPairOldOrChanged, IsCommitRefused, IsPairWrittenOnDisk, SlotsBeginWithSuperblock, complete_content_after_changes, kept_pair_at_index, pairs_with_content_at_index}
+use Rattle.lfs_operations.specs.Editing.{CanEditEntryOfPair}
+use Rattle.lfs_operations.specs.Renaming.{id_after_slot_removal, tree_with_renamed_entry}
+use Rattle.lfs_operations.specs.RenamingOver.{CanReplaceDirectoryInPair, IsDirectoryReplacedInPair, replace_directory_in_pair_changes}
+use Rattle.lfs_operations.specs.RenamingSlots.{HasSlotOfId, NamelessSlot, nameless_slot_of, slot_creation_changes}
 use Rattle.lfs_operations.proofs.Held.{CompletesTo, below, here, raw_there}
 use Rattle.lfs_operations.proofs.Placing.{IsPlaced as IsPlacedOn, all_apart, device, nothing_came}
 use Rattle.lfs_operations.proofs.RenameMade as made
@@ -56,31 +56,31 @@ use Rattle.lfs_operations.proofs.RenameTarget.{follower}
 
 -- ---- a delta that turns the sync bit
 
-turned_small : (g : Gstate) → IsMoveState g → IsMoveState (gstate_xor g sync_delta)
-turned_small g h = subst IsMoveState (sym (gstate_comm g sync_delta ∙ turned_is g)) (record { kind = h.kind; id = h.id; pair = h.pair })
+turned_small : (g : Gstate) → IsWellFormedMoveState g → IsWellFormedMoveState (gstate_xor g sync_delta)
+turned_small g h = subst IsWellFormedMoveState (sym (gstate_comm g sync_delta ∙ turned_is g)) (record { kind = h.kind; id = h.id; pair = h.pair })
 
 -- ---- a slot comes into what is left
 
-module _ (c : RawContent) (front : List Change) (a b : List Slot) (left : Leaves c front (a ++ b)) (at : ℕ) (number : length a ≡ at) (few : length (a ++ b) ≤ 1000) (name : Name) (named : is_name name ≡ true)
+module _ (c : RawContent) (front : List ContentChange) (a b : List Slot) (left : Leaves c front (a ++ b)) (at : ℕ) (number : length a ≡ at) (few : length (a ++ b) ≤ 1000) (name : Name) (named : is_name name ≡ true)
     (x : RawSlot) (u : Slot) (is : IsOf x u) where
   abbrev raw_moved : RawSlot
-  raw_moved = slot_of_parts name (parts_of x)
+  raw_moved = slot_of_parts name (nameless_slot_of x)
 
-  comes_again : changed_by c (front ++ slot_changes at name (parts_of x)) ≡ Some (with_slot left.left at (slot_of_parts name (parts_of x)))
+  comes_again : content_after_changes c (front ++ slot_creation_changes at name (nameless_slot_of x)) ≡ Some (with_slot left.left at (slot_of_parts name (nameless_slot_of x)))
   comes_again =
       let l = complete_length left.left.slots (a ++ b) left.are in
       let k = length-append a b in
-      left.does (slot_changes at name (parts_of x)) (with_slot left.left at raw_moved) (slot_comes left.left at name (parts_of x) (omega arith) (omega arith) (name_length name named) is.are)
+      left.does (slot_creation_changes at name (nameless_slot_of x)) (with_slot left.left at raw_moved) (slot_comes left.left at name (nameless_slot_of x) (omega arith) (omega arith) (name_length name named) is.are)
 
-  are_again : complete_all (with_slot left.left at (slot_of_parts name (parts_of x))).slots ≡ Some (a ++ record u { name = name } ∷ b)
+  are_again : slots_if_all_complete (with_slot left.left at (slot_of_parts name (nameless_slot_of x))).slots ≡ Some (a ++ record u { name = name } ∷ b)
   are_again = complete_insert left.left.slots (a ++ b) at raw_moved (record u { name = name }) left.are (is.complete name) ∙ ap (λ (i : ℕ). Some (insert (a ++ b) i (record u { name = name }))) (sym number)
       ∙ ap Some (insert_here a b (record u { name = name }))
 
-module _ (t : Kept) (index id place : ℕ) (name : Name) (rename : CanRenameOver t index id place name) where
-  abbrev can : CanEdit t index id
+module _ (t : Kept) (index id place : ℕ) (name : Name) (rename : CanReplaceDirectoryInPair t index id place name) where
+  abbrev can : CanEditEntryOfPair t index id
   can = rename.can
 
-  abbrev s : IsNameAt can.stands.pair.content.slots can.name id
+  abbrev s : HasEntryOfNameAtId can.stands.pair.content.slots can.name id
   s = can.stands.stands
 
   abbrev p : Pair
@@ -92,7 +92,7 @@ module _ (t : Kept) (index id place : ℕ) (name : Name) (rename : CanRenameOver
   abbrev target : Slot
   target = rename.target.stands.slot
 
-  pub has_slot : HasSlot t index id
+  pub has_slot : HasSlotOfId t index id
   has_slot = both.has_slot t index id place name can rename.target rename.differs
 
   pub target_held : p.content.slots ≡ rename.target.stands.left ++ target ∷ rename.target.stands.right
@@ -110,16 +110,16 @@ module _ (t : Kept) (index id place : ℕ) (name : Name) (rename : CanRenameOver
   there : t.pairs ≡ thread_at w (p ∷ [])
   there = both.there t index id place name can rename.target rename.differs
 
-  leads_there : PathLeadsTo (thread_at w (p ∷ [])) can.path can.at
+  leads_there : IsPathToDirectory (thread_at w (p ∷ [])) can.path can.at
   leads_there = both.leads_there t index id place name can rename.target rename.differs
 
   same_there : same_pair (begin_of w (p ∷ [])) can.at ≡ true
   same_there = both.same_there t index id place name can rename.target rename.differs
 
-  fits_here : FitsPair t.disk.block_size t.disk.page p.content
+  fits_here : IsContentFittingPair t.disk.block_size t.disk.page p.content
   fits_here = both.fits_here t index id place name can rename.target rename.differs
 
-  abbrev c : CompletesTo (raw_at t.disk (pair_in t index).at) p.content
+  abbrev c : CompletesTo (raw_content_of_pair_at t.disk (kept_pair_at_index t index).at) p.content
   c = raw_there t can.ready can.first index p can.stands.rest can.stands.place
 
   pub differs : target.name ≡ u.name → ⊥
@@ -128,21 +128,21 @@ module _ (t : Kept) (index id place : ℕ) (name : Name) (rename : CanRenameOver
   named : is_name name ≡ true
   named = both.named t index id place name can rename.target rename.differs
 
-  entry_again : IsEntry u → IsEntry (with_name u name)
+  entry_again : IsFileOrDirectoryEntry u → IsFileOrDirectoryEntry (with_name u name)
   entry_again = both.entry_again t index id place name can rename.target rename.differs
 
   abbrev delta : Gstate
-  delta = gstate_xor (pair_in t index).content.move sync_delta
+  delta = gstate_xor (kept_pair_at_index t index).content.move sync_delta
 
   -- ---- what the changes make
 
   abbrev turned_raw : RawContent
   turned_raw = record c.raw { move = delta }
 
-  does_turn : (rest : List Change) (e : RawContent) → changed_by (record c.raw { move = delta }) rest ≡ Some e → changed_by c.raw (PutMove delta ∷ rest) ≡ Some e
+  does_turn : (rest : List ContentChange) (e : RawContent) → content_after_changes (record c.raw { move = delta }) rest ≡ Some e → content_after_changes c.raw (PutMove delta ∷ rest) ≡ Some e
   does_turn rest e h = does_first (PutMove delta) rest c.raw turned_raw e
-      (puts_move c.raw delta (turned_small (pair_in t index).content.move
-      (subst IsMoveState (sym (completed_parts c.raw p.content c.complete).move ∙ ap (λ (z : Pair). z.content.move) (sym (here t can.ready can.first index p can.stands.rest can.stands.place))) (can.logged c.raw c.is).move))) h
+      (puts_move c.raw delta (turned_small (kept_pair_at_index t index).content.move
+      (subst IsWellFormedMoveState (sym (completed_parts c.raw p.content c.complete).move ∙ ap (λ (z : Pair). z.content.move) (sym (here t can.ready can.first index p can.stands.rest can.stands.place))) (can.logged c.raw c.is).move))) h
 
   abbrev pub IsLeftOver : List Slot → List Slot → Type 0
   IsLeftOver = both.IsLeftOver t index id place name can rename.target rename.differs
@@ -151,10 +151,10 @@ module _ (t : Kept) (index id place : ℕ) (name : Name) (rename : CanRenameOver
   over_content x y = record { slots = x ++ with_name u name ∷ y; tail = p.content.tail; move = delta }
 
   module _ (x y : List Slot) (over : IsLeftOver x y) where
-    fits_two : FitsPair t.disk.block_size t.disk.page (record p.content { slots = x ++ y })
+    fits_two : IsContentFittingPair t.disk.block_size t.disk.page (record p.content { slots = x ++ y })
     fits_two = both.fits_both t index id place name can rename.target rename.differs x y over
 
-    left_two : Leaves turned_raw (Delete id ∷ Delete (place_without id place) ∷ []) (x ++ y)
+    left_two : Leaves turned_raw (Delete id ∷ Delete (id_after_slot_removal id place) ∷ []) (x ++ y)
     left_two = both.left_both t index id place name can rename.target rename.differs x y over turned_raw
         (made.all_slots t index id can.ready can.first p can.stands.rest can.stands.place can.logged can.name s)
 
@@ -165,23 +165,23 @@ module _ (t : Kept) (index id place : ℕ) (name : Name) (rename : CanRenameOver
     raw_here = (made.raw t index id can.ready can.first p can.stands.rest can.stands.place can.logged can.name s).here
 
     abbrev raw_now : RawContent
-    raw_now = with_slot left_two.left (place_without id place) (slot_of_parts name (parts_of raw_here))
+    raw_now = with_slot left_two.left (id_after_slot_removal id place) (slot_of_parts name (nameless_slot_of raw_here))
 
-    changed_now : changed_by c.raw (rename_over_changes t index id place name) ≡ Some raw_now
-    changed_now = ap (λ (z : Parts). changed_by c.raw (PutMove delta ∷ Delete id ∷ Delete (place_without id place) ∷ slot_changes (place_without id place) name z))
+    changed_now : content_after_changes c.raw (replace_directory_in_pair_changes t index id place name) ≡ Some raw_now
+    changed_now = ap (λ (z : NamelessSlot). content_after_changes c.raw (PutMove delta ∷ Delete id ∷ Delete (id_after_slot_removal id place) ∷ slot_creation_changes (id_after_slot_removal id place) name z))
         (made.parts_are t index id can.ready can.first p can.stands.rest can.stands.place can.logged can.name s)
-        ∙ does_turn (Delete id ∷ Delete (place_without id place) ∷ slot_changes (place_without id place) name (parts_of raw_here)) raw_now
-        (comes_again turned_raw (Delete id ∷ Delete (place_without id place) ∷ []) x y left_two (place_without id place) over.1 fits_two.count name named raw_here u is_raw_slot)
+        ∙ does_turn (Delete id ∷ Delete (id_after_slot_removal id place) ∷ slot_creation_changes (id_after_slot_removal id place) name (nameless_slot_of raw_here)) raw_now
+        (comes_again turned_raw (Delete id ∷ Delete (id_after_slot_removal id place) ∷ []) x y left_two (id_after_slot_removal id place) over.1 fits_two.count name named raw_here u is_raw_slot)
 
-    over_made : made_in_thread t index (rename_over_changes t index id place name) ≡ Some (over_content x y)
+    over_made : complete_content_after_changes t index (replace_directory_in_pair_changes t index id place name) ≡ Some (over_content x y)
     over_made =
         let parts = completed_parts c.raw p.content c.complete in
-        ap (λ o. option_and_then completed (option_and_then (λ (z : RawContent). changed_by z (rename_over_changes t index id place name)) o)) c.is
-        ∙ ap (λ o. option_and_then completed o) changed_now
-        ∙ completed_from raw_now (x ++ with_name u name ∷ y) (are_again turned_raw (Delete id ∷ Delete (place_without id place) ∷ []) x y left_two (place_without id place) over.1 fits_two.count name named raw_here u is_raw_slot)
+        ap (λ o. option_and_then content_if_slots_are_complete (option_and_then (λ (z : RawContent). content_after_changes z (replace_directory_in_pair_changes t index id place name)) o)) c.is
+        ∙ ap (λ o. option_and_then content_if_slots_are_complete o) changed_now
+        ∙ completed_from raw_now (x ++ with_name u name ∷ y) (are_again turned_raw (Delete id ∷ Delete (id_after_slot_removal id place) ∷ []) x y left_two (id_after_slot_removal id place) over.1 fits_two.count name named raw_here u is_raw_slot)
         ∙ ap₂ (λ a m. Some (record { slots = x ++ with_name u name ∷ y; tail = a; move = m })) (left_two.tail ∙ sym parts.tail) left_two.move
 
-    pub over_fits : FitsPair t.disk.block_size t.disk.page (over_content x y)
+    pub over_fits : IsContentFittingPair t.disk.block_size t.disk.page (over_content x y)
     over_fits =
         let n : length name ≡ length target.name = ap length (sym rename.target.stands.named) in
         let b : struct_len target.struct ≡ 8 = ap struct_len rename.branch in
@@ -215,7 +215,7 @@ module _ (t : Kept) (index id place : ℕ) (name : Name) (rename : CanRenameOver
     pub olds : List Slot
     pub news : List Slot
     pub r : List Slot
-    pub placed : IsPlaced t index (rename_over_changes t index id place name) w p l olds news r (target ∷ []) u (with_name u name)
+    pub placed : IsPlaced t index (replace_directory_in_pair_changes t index id place name) w p l olds news r (target ∷ []) u (with_name u name)
     pub is_content : placed.content ≡ over_content x y
     pub follows : (disk : Disk) (q : Pair) → IsStep t.disk disk w p [] q [] [] [] l olds news r → (gstate_of (thread_at w (q ∷ []))).sync ≡ true
         → Follows t.disk (thread_at w (p ∷ [])) disk (thread_at w (q ∷ [])) (renamed (can.path ++ can.name ∷ []) (can.path ++ name ∷ [])) (rename_walk (can.path ++ can.name ∷ []) (can.path ++ name ∷ []))
@@ -310,7 +310,7 @@ module _ (t : Kept) (index id place : ℕ) (name : Name) (rename : CanRenameOver
   -- ---- the step
 
   module _ (h : HasOver) where
-    abbrev k : IsPlaced t index (rename_over_changes t index id place name) w p h.l h.olds h.news h.r (target ∷ []) u (with_name u name)
+    abbrev k : IsPlaced t index (replace_directory_in_pair_changes t index id place name) w p h.l h.olds h.news h.r (target ∷ []) u (with_name u name)
     k = h.placed
 
     abbrev q : Pair
@@ -319,16 +319,16 @@ module _ (t : Kept) (index id place : ℕ) (name : Name) (rename : CanRenameOver
     kept : q.content.slots ≡ h.l ++ (h.news ++ h.r)
     kept = ap (λ (z : Content). z.slots) (sym h.is_content) ∙ k.now
 
-    accepted : IsAccepted t.disk (thread_at w (p ∷ []))
-    accepted = subst (IsAccepted t.disk) there can.ready.accepted
+    accepted : IsAcceptedImage t.disk (thread_at w (p ∷ []))
+    accepted = subst (IsAcceptedImage t.disk) there can.ready.accepted
 
-    settled : gstate_of (thread_at w (p ∷ [])) ≡ no_gstate
+    settled : gstate_of (thread_at w (p ∷ [])) ≡ zero_gstate
     settled = ap gstate_of (sym there) ∙ can.ready.settled
 
-    pair_there : pair_in t index ≡ p
+    pair_there : kept_pair_at_index t index ≡ p
     pair_there = here t can.ready can.first index p can.stands.rest can.stands.place
 
-    at_is : (pair_in t index).at ≡ p.at
+    at_is : (kept_pair_at_index t index).at ≡ p.at
     at_is = ap (λ (z : Pair). z.at) pair_there
 
     abbrev ahead : List Pair
@@ -350,7 +350,7 @@ module _ (t : Kept) (index id place : ℕ) (name : Name) (rename : CanRenameOver
     no_move_now : HasNoMove (gstate_of (thread_at w (q ∷ [])))
     no_move_now = subst HasNoMove (sym gstate_now) (record { kind = refl; id = refl; pair = refl })
 
-    still_first : (olds news r l : List Slot) → starts_with_superblock (olds ++ r) ≡ false → SlotsHaveFirst (l ++ (olds ++ r)) → SlotsHaveFirst (l ++ (news ++ r))
+    still_first : (olds news r l : List Slot) → starts_with_superblock (olds ++ r) ≡ false → SlotsBeginWithSuperblock (l ++ (olds ++ r)) → SlotsBeginWithSuperblock (l ++ (news ++ r))
     still_first olds news r [] f e = absurd (let z = sym f ∙ e.0 in cc)
     still_first olds news r (z ∷ l) f e = e
 
@@ -358,24 +358,24 @@ module _ (t : Kept) (index id place : ℕ) (name : Name) (rename : CanRenameOver
     still_starts olds news r [] f e = absurd (let z = sym f ∙ e in cc)
     still_starts olds news r (z ∷ l) f e = e
 
-    still_has : HasFirst p.content.slots → SlotsHaveFirst q.content.slots
-    still_has first = subst SlotsHaveFirst (sym kept) (still_first h.olds h.news h.r h.l k.front (subst SlotsHaveFirst k.was (first.kind, first.name)))
+    still_has : HasFirst p.content.slots → SlotsBeginWithSuperblock q.content.slots
+    still_has first = subst SlotsBeginWithSuperblock (sym kept) (still_first h.olds h.news h.r h.l k.front (subst SlotsBeginWithSuperblock k.was (first.kind, first.name)))
 
-    placed_on : (disk : Disk) (d : Content) → (HasFirst p.content.slots → SlotsHaveFirst d.slots) → IsWrittenAs t index d disk → IsPlacedOn t.disk disk p (record { at = p.at; content = d }) [] []
+    placed_on : (disk : Disk) (d : Content) → (HasFirst p.content.slots → SlotsBeginWithSuperblock d.slots) → IsPairWrittenOnDisk t index d disk → IsPlacedOn t.disk disk p (record { at = p.at; content = d }) [] []
     placed_on disk d first is = record {
       geometry = record { block_size = is.shape.block_size; page = is.shape.page; order = is.shape.order; count = is.shape.count };
-      same = λ b none. (subst (λ at. OutsideKeeps at t.disk.blocks disk.blocks) at_is is.others).others b (all_apart (p.at.0 ∷ p.at.1 ∷ []) b none);
-      contents = (ap (content_at disk) (sym at_is) ∙ is.holds, tt);
-      first = λ z b. subst (λ at. BeginsWithEntry (holder_at disk at) superblock_entry) at_is (is.first (subst (λ at. BeginsWithEntry (holder_at t.disk at) superblock_entry) (sym at_is) b) (first z));
+      same = λ b none. (subst (λ at. KeepsBlocksOutsidePair at t.disk.blocks disk.blocks) at_is is.others).others b (all_apart (p.at.0 ∷ p.at.1 ∷ []) b none);
+      contents = (ap (content_of_pair_at disk) (sym at_is) ∙ is.holds, tt);
+      first = λ z b. subst (λ at. BeginsWithLogEntry (current_block_of_pair_at disk at) superblock_name_log_entry) at_is (is.first (subst (λ at. BeginsWithLogEntry (current_block_of_pair_at t.disk at) superblock_name_log_entry) (sym at_is) b) (first z));
     }
 
-    device_of : (disk : Disk) → IsWrittenAs t index (over_content h.x h.y) disk → IsDevice t.disk disk (thread_at w (p ∷ [])) (thread_at w (q ∷ []))
+    device_of : (disk : Disk) → IsPairWrittenOnDisk t index (over_content h.x h.y) disk → IsDevice t.disk disk (thread_at w (p ∷ [])) (thread_at w (q ∷ []))
     device_of disk is = device t.disk disk w p q [] [] accepted accepted.owned_once (placed_on disk (over_content h.x h.y) still_has is)
 
-    pub step : (disk : Disk) → IsWrittenAs t index (over_content h.x h.y) disk → IsStep t.disk disk w p [] q [] [] [] h.l h.olds h.news h.r
+    pub step : (disk : Disk) → IsPairWrittenOnDisk t index (over_content h.x h.y) disk → IsStep t.disk disk w p [] q [] [] [] h.l h.olds h.news h.r
     step disk is =
         let on = device_of disk is in
-        let files = subst (λ z. SameFiles t.disk disk (all_slots z)) (sym there) (recursion_from_All (λ (x : Slot). HasSameFile t.disk disk x.struct) (all_slots (thread_at w (p ∷ []))) on.files) in
+        let files = subst (λ z. SameFiles t.disk disk (all_slots_not_moved z)) (sym there) (recursion_from_All (λ (x : Slot). HasSameFile t.disk disk x.struct) (all_slots_not_moved (thread_at w (p ∷ []))) on.files) in
         record {
           accepted = accepted;
           site = k.site;
@@ -388,27 +388,27 @@ module _ (t : Kept) (index id place : ℕ) (name : Name) (rename : CanRenameOver
           is = append-nil q.content.slots ∙ kept;
           splice = record {
             front = λ e. k.front;
-            entries = entries_now t index (rename_over_changes t index id place name) w p h.l h.olds h.news h.r (target ∷ []) u (with_name u name) k;
-            lists = lists_now t index (rename_over_changes t index id place name) w p h.l h.olds h.news h.r (target ∷ []) u (with_name u name) k disk on.geometry files;
-            blocks = λ b. let e = blocks_now t index (rename_over_changes t index id place name) w p h.l h.olds h.news h.r (target ∷ []) u (with_name u name) k disk on.geometry files b in omega arith;
+            entries = entries_now t index (replace_directory_in_pair_changes t index id place name) w p h.l h.olds h.news h.r (target ∷ []) u (with_name u name) k;
+            lists = lists_now t index (replace_directory_in_pair_changes t index id place name) w p h.l h.olds h.news h.r (target ∷ []) u (with_name u name) k disk on.geometry files;
+            blocks = λ b. let e = blocks_now t index (replace_directory_in_pair_changes t index id place name) w p h.l h.olds h.news h.r (target ∷ []) u (with_name u name) k disk on.geometry files b in omega arith;
           };
         }
 
-    pub taken : (disk : Disk) → IsWrittenAs t index (over_content h.x h.y) disk
+    pub taken : (disk : Disk) → IsPairWrittenOnDisk t index (over_content h.x h.y) disk
         → IsOnlyStep t.disk (thread_at w (p ∷ [])) disk (thread_at w (q ∷ [])) (renamed (can.path ++ can.name ∷ []) (can.path ++ name ∷ [])) (rename_walk (can.path ++ can.name ∷ []) (can.path ++ name ∷ []))
     taken disk is = commit_taken t.disk w p q [] h.l h.olds h.news h.r
         (record {
           writable = subst (IsWritable t.disk) there can.ready.writable;
           was = k.was;
           is = append-nil q.content.slots ∙ kept;
-          became = (refl, fits_same t.disk q (with_slots (h.l ++ (h.news ++ h.r)) p) (sym kept) (over_fits h.x h.y h.over));
-          fit = fit_now t index (rename_over_changes t index id place name) w p h.l h.olds h.news h.r (target ∷ []) u (with_name u name) k;
+          became = (refl, fits_same t.disk q (pair_with_slots (h.l ++ (h.news ++ h.r)) p) (sym kept) (over_fits h.x h.y h.over));
+          fit = fit_now t index (replace_directory_in_pair_changes t index id place name) w p h.l h.olds h.news h.r (target ∷ []) u (with_name u name) k;
           filled = λ e none. some_filled h.x h.y (with_name u name) (kept ∙ none);
         })
         disk [] [] (renamed (can.path ++ can.name ∷ []) (can.path ++ name ∷ [])) (rename_walk (can.path ++ can.name ∷ []) (can.path ++ name ∷ [])) (step disk is)
         (h.follows disk q (step disk is) (ap (λ (g : Gstate). g.sync) gstate_now))
 
-    pub pair_now : with_pair t index (over_content h.x h.y) ≡ thread_at w (q ∷ [])
+    pub pair_now : pairs_with_content_at_index t index (over_content h.x h.y) ≡ thread_at w (q ∷ [])
     pair_now =
         ap (λ (z : Pair). set t.pairs index (record { at = z.at; content = over_content h.x h.y })) pair_there
         ∙ ap₂ (λ (z : List Pair) (i : ℕ). set z i q) (there ∙ grouped p) (k.place ∙ sym (length-append w.chain (w.before ++ w.left))) ∙ set_at ahead p behind q ∙ sym (grouped q)
@@ -417,25 +417,25 @@ module _ (t : Kept) (index id place : ℕ) (name : Name) (rename : CanRenameOver
         set_at [] x zs y = refl
         set_at (z ∷ xs) x zs y = ap (λ a. z ∷ a) (set_at xs x zs y)
 
-  pub can_over : CanChange t index (rename_over_changes t index id place name)
+  pub can_over : CanChangePair t index (replace_directory_in_pair_changes t index id place name)
   can_over = record {
     below = below t can.ready can.first index p can.stands.rest can.stands.place;
     content = over_content has_over.x has_over.y;
     made = over_made has_over.x has_over.y has_over.over;
-    next = ap (λ (z : Pair). next_of z.content.tail) (sym (here t can.ready can.first index p can.stands.rest can.stands.place));
+    next = ap (λ (z : Pair). pair_named_by_tail z.content.tail) (sym (here t can.ready can.first index p can.stands.rest can.stands.place));
   }
 
-  pub same_made : (z : Content) → made_in_thread t index (rename_over_changes t index id place name) ≡ Some z → z ≡ over_content has_over.x has_over.y
+  pub same_made : (z : Content) → complete_content_after_changes t index (replace_directory_in_pair_changes t index id place name) ≡ Some z → z ≡ over_content has_over.x has_over.y
   same_made z m = same_Some z (over_content has_over.x has_over.y) (sym m ∙ over_made has_over.x has_over.y has_over.over)
 
-  pub over_not_refused : (new : Kept) → IsCommitRefused t index (rename_over_changes t index id place name) new → ⊥
-  over_not_refused new is = is.too_large (subst (FitsPair t.disk.block_size t.disk.page) (sym (same_made is.content is.made)) (over_fits has_over.x has_over.y has_over.over))
+  pub over_not_refused : (new : Kept) → IsCommitRefused t index (replace_directory_in_pair_changes t index id place name) new → ⊥
+  over_not_refused new is = is.too_large (subst (IsContentFittingPair t.disk.block_size t.disk.page) (sym (same_made is.content is.made)) (over_fits has_over.x has_over.y has_over.over))
 
-  pub renamed_over : (new : Kept) → IsChanged t index (rename_over_changes t index id place name) new → IsRenamedOver t new index id place rename.can.path rename.can.name name
+  pub renamed_over : (new : Kept) → IsPairChanged t index (replace_directory_in_pair_changes t index id place name) new → IsDirectoryReplacedInPair t new index id place rename.can.path rename.can.name name
   renamed_over new is =
       let e = same_made is.content is.made in
-      let written = subst (λ z. IsWrittenAs t index z new.disk) e is.written in
-      let pairs = is.pairs ∙ ap (with_pair t index) e in
+      let written = subst (λ z. IsPairWrittenOnDisk t index z new.disk) e is.written in
+      let pairs = is.pairs ∙ ap (pairs_with_content_at_index t index) e in
       let now = pairs ∙ pair_now has_over in
       let done = taken has_over new.disk written in
       record {
@@ -452,31 +452,31 @@ module _ (t : Kept) (index id place : ℕ) (name : Name) (rename : CanRenameOver
 
   -- ---- at a stop
 
-  left_over : (left : Blocks) → IsLeftByChange t index (rename_over_changes t index id place name) left → IsLeftOf (with_blocks left t.disk) (tree_in t.disk t.pairs) (with_renamed t can.path can.name name)
+  left_over : (left : Blocks) → LeavesPairOldOrChanged t index (replace_directory_in_pair_changes t index id place name) left → IsLeftOf (with_blocks left t.disk) (tree_on_disk t.disk t.pairs) (tree_with_renamed_entry t can.path can.name name)
   left_over left is = go is.is
     where
-      go : (is.content ≡ (pair_in t index).content) ⊎ ((made_in_thread t index (rename_over_changes t index id place name) ≡ Some is.content) × FitsPair t.disk.block_size t.disk.page is.content)
-          → IsLeftOf (with_blocks left t.disk) (tree_in t.disk t.pairs) (with_renamed t can.path can.name name)
+      go : (is.content ≡ (kept_pair_at_index t index).content) ⊎ ((complete_content_after_changes t index (replace_directory_in_pair_changes t index id place name) ≡ Some is.content) × IsContentFittingPair t.disk.block_size t.disk.page is.content)
+          → IsLeftOf (with_blocks left t.disk) (tree_on_disk t.disk t.pairs) (tree_with_renamed_entry t can.path can.name name)
       go (inl e) =
           let same = e ∙ ap (λ (z : Pair). z.content) (here t can.ready can.first index p can.stands.rest can.stands.place) in
-          let ok = subst (IsAccepted t.disk) there can.ready.accepted in
+          let ok = subst (IsAcceptedImage t.disk) there can.ready.accepted in
           let f = nothing_came t.disk (with_blocks left t.disk) w p has_over.placed.site ok
-          (device t.disk (with_blocks left t.disk) w p p [] [] ok ok.owned_once (placed_on has_over (with_blocks left t.disk) p.content (λ z. (z.kind, z.name)) (subst (λ z. IsWrittenAs t index z (with_blocks left t.disk)) same is.written))) in
+          (device t.disk (with_blocks left t.disk) w p p [] [] ok ok.owned_once (placed_on has_over (with_blocks left t.disk) p.content (λ z. (z.kind, z.name)) (subst (λ z. IsPairWrittenOnDisk t index z (with_blocks left t.disk)) same is.written))) in
           record {
             pairs = thread_at w (p ∷ []);
             accepted = f.accepted;
             writable = (let o = subst (IsWritable t.disk) there can.ready.writable in record { pairs = o.pairs; slots = o.slots; no_empty_pair = o.no_empty_pair });
-            tree = inl (f.shows ∙ ap (tree_in t.disk) (sym there));
+            tree = inl (f.shows ∙ ap (tree_on_disk t.disk) (sym there));
           }
       go (inr m) =
-          let done = taken has_over (with_blocks left t.disk) (subst (λ z. IsWrittenAs t index z (with_blocks left t.disk)) (same_made is.content m.0) is.written) in
+          let done = taken has_over (with_blocks left t.disk) (subst (λ z. IsPairWrittenOnDisk t index z (with_blocks left t.disk)) (same_made is.content m.0) is.written) in
           record {
             pairs = thread_at w (q has_over ∷ []);
             accepted = done.follows.accepted;
             writable = done.writable;
-            tree = inr (done.follows.shows ∙ ap (λ z. renamed (can.path ++ can.name ∷ []) (can.path ++ name ∷ []) (tree_in t.disk z)) (sym there));
+            tree = inr (done.follows.shows ∙ ap (λ z. renamed (can.path ++ can.name ∷ []) (can.path ++ name ∷ []) (tree_on_disk t.disk z)) (sym there));
           }
 
-  pub over_survives : (new : List Event) → StopsLeave t.history new (IsLeftByChange t index (rename_over_changes t index id place name))
-      → Survives t.disk t.history new (tree_in t.disk t.pairs) (with_renamed t rename.can.path rename.can.name name)
-  over_survives new stops clean = LeavesOnly-weaker left_over (stops clean)
+  pub over_survives : (new : List CallEvent) → StopsAfterCleanErasesLeave t.history new (LeavesPairOldOrChanged t index (replace_directory_in_pair_changes t index id place name))
+      → SurvivesStopsSince t.disk t.history new (tree_on_disk t.disk t.pairs) (tree_with_renamed_entry t rename.can.path rename.can.name name)
+  over_survives new stops clean = IsTrueAfterEachStopSince-weaker left_over (stops clean)

@@ -3,13 +3,13 @@ use Rattle.std.proofs.Common.{ℕ, ◌≡◌, ◌+◌, false, List, [], ◌∷�
 use Rattle.std.specs.Prelude.{All}
 use Rattle.std.proofs.lemmas.List.{take-append-drop}
 use Rattle.std.proofs.lemmas.List.Elements.{recursion_from_All}
-use Rattle.lfs_model.specs.Changes.{Change}
+use Rattle.lfs_model.specs.Changes.{ContentChange}
 use Rattle.lfs_model.specs.Disk.{Disk, SameGeometry}
 use Rattle.lfs_model.specs.Slots.{Content, Slot, is_superblock}
-use Rattle.lfs_model.specs.Thread.{Pair, gstate_of, starts_with_superblock, superblocks_before}
-use Rattle.lfs_model.specs.Profile.{FitsEntry, FitsSlot}
-use Rattle.lfs_model.specs.View.{MayHaveSuperblock, IsAccepted, IsEntry, IsListIfCtz}
-use Rattle.lfs_model.specs.Shown.{all_slots, file_blocks}
+use Rattle.lfs_model.specs.Thread.{Pair, gstate_of, starts_with_superblock, pair_count_before_root}
+use Rattle.lfs_model.specs.Profile.{FitsEntryLimits, FitsSlotLimits}
+use Rattle.lfs_model.specs.View.{HasSuperblockOfBytesIfAny, IsAcceptedImage, IsFileOrDirectoryEntry, IsListIfCtz}
+use Rattle.lfs_model.specs.Shown.{all_slots_not_moved, skip_list_blocks_of_struct}
 use Rattle.lfs_model.proofs.Changes.{SameFiles, slots_files}
 use Rattle.lfs_model.proofs.Committed.{no_move_from}
 use Rattle.lfs_model.proofs.Counts.{Each, count, count_append, each_append, each_both, each_left, each_pieces, each_right, each_weaker}
@@ -17,8 +17,8 @@ use Rattle.lfs_model.proofs.Files.{HasSameFile, is_list_same}
 use Rattle.lfs_model.proofs.Sites.{Site, IsSite, dirs_at, thread_at}
 use Rattle.lfs_model.proofs.Splices.{count_files, files_of, unmoved_in}
 use Rattle.lfs_thread.specs.Kept.{Kept}
-use Rattle.lfs_thread.specs.Steps.{made_in_thread}
-use Rattle.lfs_operations.specs.Ready.{IsReady}
+use Rattle.lfs_thread.specs.Steps.{complete_content_after_changes}
+use Rattle.lfs_operations.specs.Ready.{IsImageReadyForChange}
 use Rattle.lfs_operations.proofs.Splicing.{IsSplicing}
 
 -- ---- what the others keep
@@ -39,8 +39,8 @@ carries_behind u name passed gone = record {
   of_old = λ P h. h.0;
   files = λ disk b.
       let a = count_files b disk passed (with_name u name ∷ []) in
-      let c = count_append b (file_blocks disk u.struct) (files_of disk []) in
-      let d = count_append b (file_blocks disk u.struct) (files_of disk (passed ++ gone)) in
+      let c = count_append b (skip_list_blocks_of_struct disk u.struct) (files_of disk []) in
+      let d = count_append b (skip_list_blocks_of_struct disk u.struct) (files_of disk (passed ++ gone)) in
       let e = count_files b disk passed gone in
       omega arith;
 }
@@ -52,8 +52,8 @@ carries_ahead u name gone passed = record {
   files = λ disk b.
       let a = count_files b disk gone (passed ++ u ∷ []) in
       let c = count_files b disk passed (u ∷ []) in
-      let d = count_append b (file_blocks disk u.struct) (files_of disk []) in
-      let e = count_append b (file_blocks disk u.struct) (files_of disk passed) in
+      let d = count_append b (skip_list_blocks_of_struct disk u.struct) (files_of disk []) in
+      let e = count_append b (skip_list_blocks_of_struct disk u.struct) (files_of disk passed) in
       omega arith;
 }
 
@@ -61,49 +61,49 @@ carries_ahead u name gone passed = record {
 
 -- slots from one on that isn't a superblock's are entries
 abbrev HasRests : List Slot → Type 0
-HasRests slots = (l xs : List Slot) → slots ≡ l ++ xs → starts_with_superblock xs ≡ false → Each IsEntry xs
+HasRests slots = (l xs : List Slot) → slots ≡ l ++ xs → starts_with_superblock xs ≡ false → Each IsFileOrDirectoryEntry xs
 
-headed_rests : (bytes : List ℕ) (slots : List Slot) → MayHaveSuperblock bytes slots → HasRests slots
-headed_rests bytes [] h [] xs e f = subst (Each IsEntry) e tt
+headed_rests : (bytes : List ℕ) (slots : List Slot) → HasSuperblockOfBytesIfAny bytes slots → HasRests slots
+headed_rests bytes [] h [] xs e f = subst (Each IsFileOrDirectoryEntry) e tt
 headed_rests bytes [] h (x ∷ l) xs e f = absurd (cc)
 headed_rests bytes (s ∷ slots) h [] xs e f = absurd (let z = sym f ∙ ap starts_with_superblock (sym e) ∙ h.0 in cc)
-headed_rests bytes (s ∷ slots) h (x ∷ l) xs e f = each_right IsEntry l xs (subst (Each IsEntry) (rest e) (recursion_from_All IsEntry slots h.2))
+headed_rests bytes (s ∷ slots) h (x ∷ l) xs e f = each_right IsFileOrDirectoryEntry l xs (subst (Each IsFileOrDirectoryEntry) (rest e) (recursion_from_All IsFileOrDirectoryEntry slots h.2))
   where
     rest : {a b : Slot} {us vs : List Slot} → a ∷ us ≡ b ∷ vs → us ≡ vs
     rest k = cc
 
-all_rests : (slots : List Slot) → All IsEntry slots → HasRests slots
-all_rests slots h l xs e f = each_right IsEntry l xs (subst (Each IsEntry) e (recursion_from_All IsEntry slots h))
+all_rests : (slots : List Slot) → All IsFileOrDirectoryEntry slots → HasRests slots
+all_rests slots h l xs e f = each_right IsFileOrDirectoryEntry l xs (subst (Each IsFileOrDirectoryEntry) e (recursion_from_All IsFileOrDirectoryEntry slots h))
 
-each_rests : (disk : Disk) (ps : List Pair) → IsAccepted disk ps → Each (λ p. HasRests p.content.slots) ps
-each_rests disk ps ok = subst (Each (λ p. HasRests p.content.slots)) (take-append-drop (superblocks_before ps + 1) ps)
-    (each_append (λ p. HasRests p.content.slots) (take (superblocks_before ps + 1) ps) (drop (superblocks_before ps + 1) ps)
-    (each_weaker (λ (p : Pair). MayHaveSuperblock ok.superblock.0 p.content.slots) (λ (p : Pair). HasRests p.content.slots) (λ p h. headed_rests ok.superblock.0 p.content.slots h)
-    (take (superblocks_before ps + 1) ps) (recursion_from_All (λ (p : Pair). MayHaveSuperblock ok.superblock.0 p.content.slots) (take (superblocks_before ps + 1) ps) ok.superblock.1.1))
-    (each_weaker (λ (p : Pair). All IsEntry p.content.slots) (λ (p : Pair). HasRests p.content.slots) (λ p h. all_rests p.content.slots h) (drop (superblocks_before ps + 1) ps)
-    (recursion_from_All (λ (p : Pair). All IsEntry p.content.slots) (drop (superblocks_before ps + 1) ps) ok.slots)))
+each_rests : (disk : Disk) (ps : List Pair) → IsAcceptedImage disk ps → Each (λ p. HasRests p.content.slots) ps
+each_rests disk ps ok = subst (Each (λ p. HasRests p.content.slots)) (take-append-drop (pair_count_before_root ps + 1) ps)
+    (each_append (λ p. HasRests p.content.slots) (take (pair_count_before_root ps + 1) ps) (drop (pair_count_before_root ps + 1) ps)
+    (each_weaker (λ (p : Pair). HasSuperblockOfBytesIfAny ok.superblock.0 p.content.slots) (λ (p : Pair). HasRests p.content.slots) (λ p h. headed_rests ok.superblock.0 p.content.slots h)
+    (take (pair_count_before_root ps + 1) ps) (recursion_from_All (λ (p : Pair). HasSuperblockOfBytesIfAny ok.superblock.0 p.content.slots) (take (pair_count_before_root ps + 1) ps) ok.superblock.1.1))
+    (each_weaker (λ (p : Pair). All IsFileOrDirectoryEntry p.content.slots) (λ (p : Pair). HasRests p.content.slots) (λ p h. all_rests p.content.slots h) (drop (pair_count_before_root ps + 1) ps)
+    (recursion_from_All (λ (p : Pair). All IsFileOrDirectoryEntry p.content.slots) (drop (pair_count_before_root ps + 1) ps) ok.slots)))
 
 -- ---- the commit
 
 -- At the site stands the pair of that number, whose slots are replaced; what the changes make of it is known.
-pub record IsPlaced (t : Kept) (index : ℕ) (changes : List Change) (w : Site) (p : Pair) (l olds news r gone : List Slot) (u moved : Slot) : Type 1 where
-  pub ready : IsReady t
+pub record IsPlaced (t : Kept) (index : ℕ) (changes : List ContentChange) (w : Site) (p : Pair) (l olds news r gone : List Slot) (u moved : Slot) : Type 1 where
+  pub ready : IsImageReadyForChange t
   pub there : t.pairs ≡ thread_at w (p ∷ [])
   pub place : index ≡ length w.chain + length (w.before ++ w.left)
   pub site : IsSite w (p ∷ [])
   pub content : Content
-  pub made : made_in_thread t index changes ≡ Some content
+  pub made : complete_content_after_changes t index changes ≡ Some content
   pub tail : content.tail ≡ p.content.tail
   pub was : p.content.slots ≡ l ++ (olds ++ r)
   pub now : content.slots ≡ l ++ (news ++ r)
   pub front : starts_with_superblock (olds ++ r) ≡ false
   pub carries : MovesSlots olds news gone u moved
-  pub entry : IsEntry u → IsEntry moved
+  pub entry : IsFileOrDirectoryEntry u → IsFileOrDirectoryEntry moved
   pub struct : moved.struct ≡ u.struct
   pub other : is_superblock moved ≡ false
-  pub fits : FitsEntry t.disk.block_size t.disk.page moved
+  pub fits : FitsEntryLimits t.disk.block_size t.disk.page moved
 
-module _ (t : Kept) (index : ℕ) (changes : List Change) (w : Site) (p : Pair) (l olds news r gone : List Slot) (u moved : Slot) (k : IsPlaced t index changes w p l olds news r gone u moved) where
+module _ (t : Kept) (index : ℕ) (changes : List ContentChange) (w : Site) (p : Pair) (l olds news r gone : List Slot) (u moved : Slot) (k : IsPlaced t index changes w p l olds news r gone u moved) where
   -- of the pairs at the site
   at_site : (P : Pair → Type 0) → Each P t.pairs → P p
   at_site P h = (each_right P (w.before ++ w.left) (p ∷ [] ++ (w.right ++ w.after)) (each_right P w.chain (dirs_at w (p ∷ [])) (subst (Each P) k.there h))).0
@@ -112,31 +112,31 @@ module _ (t : Kept) (index : ℕ) (changes : List Change) (w : Site) (p : Pair) 
   of_slots P h = each_left P olds r (each_right P l (olds ++ r) (subst (Each P) k.was h))
 
   -- what holds of all slots holds of those that are replaced
-  pub of_olds : (P : Slot → Type 0) → Each P (all_slots t.pairs) → Each P olds
+  pub of_olds : (P : Slot → Type 0) → Each P (all_slots_not_moved t.pairs) → Each P olds
   of_olds P h =
       let on = subst (Each P) (unmoved_in (gstate_of t.pairs) (no_move_from t.pairs k.ready.settled) t.pairs) h in
       of_slots P (at_site (λ (x : Pair). Each P x.content.slots) (each_pieces P (λ (x : Pair). x.content.slots) t.pairs on))
 
-  entries_were : Each IsEntry olds
-  entries_were = each_left IsEntry olds r (at_site (λ (x : Pair). HasRests x.content.slots) (each_rests t.disk t.pairs k.ready.accepted) l (olds ++ r) k.was k.front)
+  entries_were : Each IsFileOrDirectoryEntry olds
+  entries_were = each_left IsFileOrDirectoryEntry olds r (at_site (λ (x : Pair). HasRests x.content.slots) (each_rests t.disk t.pairs k.ready.accepted) l (olds ++ r) k.was k.front)
 
-  fit_were : Each (FitsSlot t.disk.block_size t.disk.page) olds
-  fit_were = of_slots (FitsSlot t.disk.block_size t.disk.page) (recursion_from_All (FitsSlot t.disk.block_size t.disk.page) p.content.slots
-      (at_site (λ (x : Pair). All (FitsSlot t.disk.block_size t.disk.page) x.content.slots) (recursion_from_All (λ (x : Pair). All (FitsSlot t.disk.block_size t.disk.page) x.content.slots) t.pairs k.ready.writable.slots)))
+  fit_were : Each (FitsSlotLimits t.disk.block_size t.disk.page) olds
+  fit_were = of_slots (FitsSlotLimits t.disk.block_size t.disk.page) (recursion_from_All (FitsSlotLimits t.disk.block_size t.disk.page) p.content.slots
+      (at_site (λ (x : Pair). All (FitsSlotLimits t.disk.block_size t.disk.page) x.content.slots) (recursion_from_All (λ (x : Pair). All (FitsSlotLimits t.disk.block_size t.disk.page) x.content.slots) t.pairs k.ready.writable.slots)))
 
-  pub entries_now : Each IsEntry news
-  entries_now = k.carries.each IsEntry k.entry entries_were
+  pub entries_now : Each IsFileOrDirectoryEntry news
+  entries_now = k.carries.each IsFileOrDirectoryEntry k.entry entries_were
 
-  pub fit_now : Each (FitsSlot t.disk.block_size t.disk.page) news
-  fit_now = k.carries.each (FitsSlot t.disk.block_size t.disk.page) (λ f. ((λ e. absurd (let z = sym k.other ∙ e in cc)), (λ e. k.fits))) fit_were
+  pub fit_now : Each (FitsSlotLimits t.disk.block_size t.disk.page) news
+  fit_now = k.carries.each (FitsSlotLimits t.disk.block_size t.disk.page) (λ f. ((λ e. absurd (let z = sym k.other ∙ e in cc)), (λ e. k.fits))) fit_were
 
-  pub lists_now : (disk : Disk) → SameGeometry t.disk disk → SameFiles t.disk disk (all_slots t.pairs) → Each (λ s. IsListIfCtz disk s.struct) news
+  pub lists_now : (disk : Disk) → SameGeometry t.disk disk → SameFiles t.disk disk (all_slots_not_moved t.pairs) → Each (λ s. IsListIfCtz disk s.struct) news
   lists_now disk geometry files = k.carries.each (λ (s : Slot). IsListIfCtz disk s.struct) (λ h. subst (IsListIfCtz disk) (sym k.struct) h)
       (each_both (λ (s : Slot). HasSameFile t.disk disk s.struct) (λ (s : Slot). IsListIfCtz t.disk s.struct) (λ (s : Slot). IsListIfCtz disk s.struct) (λ s f h. is_list_same t.disk disk s.struct geometry f h) olds
       (of_olds (λ (s : Slot). HasSameFile t.disk disk s.struct) files)
-      (of_olds (λ (s : Slot). IsListIfCtz t.disk s.struct) (recursion_from_All (λ (s : Slot). IsListIfCtz t.disk s.struct) (all_slots t.pairs) k.ready.accepted.lists)))
+      (of_olds (λ (s : Slot). IsListIfCtz t.disk s.struct) (recursion_from_All (λ (s : Slot). IsListIfCtz t.disk s.struct) (all_slots_not_moved t.pairs) k.ready.accepted.lists)))
 
-  pub blocks_now : (disk : Disk) → SameGeometry t.disk disk → SameFiles t.disk disk (all_slots t.pairs) → (b : ℕ) → count b (files_of disk news) + count b (files_of t.disk gone) ≡ count b (files_of t.disk olds)
+  pub blocks_now : (disk : Disk) → SameGeometry t.disk disk → SameFiles t.disk disk (all_slots_not_moved t.pairs) → (b : ℕ) → count b (files_of disk news) + count b (files_of t.disk gone) ≡ count b (files_of t.disk olds)
   blocks_now disk geometry files b =
       let same = of_olds (λ (s : Slot). HasSameFile t.disk disk s.struct) files in
       let kept = k.carries.each (λ (s : Slot). HasSameFile t.disk disk s.struct) (λ h. subst (HasSameFile t.disk disk) (sym k.struct) h) same in

@@ -2,16 +2,16 @@
 use Rattle.std.proofs.Common.{ℕ, ◌≡◌, ◌≤◌, ◌+◌, ◌⊎◌, inl, inr, true, List, [], ◌∷◌, ◌++◌, refl, sym, ap, subst, ◌∙◌, append_assoc, append-nil}
 use Rattle.lfs_model.specs.TreeEdits.{renamed}
 use Rattle.lfs_model.specs.Changes.{Delete}
-use Rattle.lfs_model.specs.Content.{raw_at}
+use Rattle.lfs_model.specs.Content.{raw_content_of_pair_at}
 use Rattle.lfs_model.specs.Disk.{Disk}
-use Rattle.lfs_model.specs.History.{Event}
-use Rattle.lfs_model.specs.InDirectory.{IsNameAt}
+use Rattle.lfs_model.specs.History.{CallEvent}
+use Rattle.lfs_model.specs.InDirectory.{HasEntryOfNameAtId}
 use Rattle.lfs_model.specs.Names.{Name, is_name}
-use Rattle.lfs_model.specs.PowerLoss.{Survives}
-use Rattle.lfs_model.specs.Slots.{FitsPair, Slot, same_pair}
-use Rattle.lfs_model.specs.Thread.{Pair, blocks_of}
-use Rattle.lfs_model.specs.View.{IsEntry}
-use Rattle.lfs_model.specs.Shown.{PathLeadsTo, file_blocks, tree_in, used_blocks}
+use Rattle.lfs_model.specs.PowerLoss.{SurvivesStopsSince}
+use Rattle.lfs_model.specs.Slots.{IsContentFittingPair, Slot, same_pair}
+use Rattle.lfs_model.specs.Thread.{Pair, blocks_of_pairs}
+use Rattle.lfs_model.specs.View.{IsFileOrDirectoryEntry}
+use Rattle.lfs_model.specs.Shown.{IsPathToDirectory, skip_list_blocks_of_struct, tree_on_disk, used_blocks}
 use Rattle.lfs_model.proofs.Changes.{Follows}
 use Rattle.lfs_model.proofs.Committed.{IsCommit, commit_step, recovered_from}
 use Rattle.lfs_model.proofs.Counts.{count}
@@ -20,14 +20,14 @@ use Rattle.lfs_model.proofs.RenameOntoFile.{onto_file_ahead_completed, onto_file
 use Rattle.lfs_model.proofs.Renames.{rename_walk}
 use Rattle.lfs_model.proofs.Searches.{is_site, number_is, site}
 use Rattle.lfs_model.proofs.Sites.{Site, begin_of, thread_at}
-use Rattle.lfs_thread.specs.Device.{StopsLeave}
+use Rattle.lfs_thread.specs.Device.{StopsAfterCleanErasesLeave}
 use Rattle.lfs_thread.specs.Kept.{Kept}
-use Rattle.lfs_thread.specs.Steps.{pair_in}
-use Rattle.lfs_operations.specs.Changing.{CanPut, IsLeftByPut, IsPut}
-use Rattle.lfs_operations.specs.Editing.{CanEdit}
-use Rattle.lfs_operations.specs.Ready.{HasBecomeBut}
-use Rattle.lfs_operations.specs.Renaming.{CanRenameOnto, IsRenamedOnto, place_without, rename_onto_changes, with_renamed}
-use Rattle.lfs_operations.specs.RenamingSlots.{HasSlot}
+use Rattle.lfs_thread.specs.Steps.{kept_pair_at_index}
+use Rattle.lfs_operations.specs.Changing.{CanChangeOrSplitPair, IsLeftByStoppedChangeOrSplit, IsPairChangedOrSplit}
+use Rattle.lfs_operations.specs.Editing.{CanEditEntryOfPair}
+use Rattle.lfs_operations.specs.Ready.{ShowsTreeReadyOnceBlocksSettle}
+use Rattle.lfs_operations.specs.Renaming.{CanRenameOntoFileInPair, IsEntryRenamedOntoFileInPair, id_after_slot_removal, rename_onto_file_in_pair_changes, tree_with_renamed_entry}
+use Rattle.lfs_operations.specs.RenamingSlots.{HasSlotOfId}
 use Rattle.lfs_operations.proofs.Held.{CompletesTo, raw_there}
 use Rattle.lfs_operations.proofs.RenameMade as made
 use Rattle.lfs_operations.proofs.RenameMade.{ComesAhead, ComesBehind, Leaves, behind_or_ahead}
@@ -37,11 +37,11 @@ use Rattle.lfs_operations.proofs.RenameStepped.{IsMoving, moved_becomes, moved_c
 use Rattle.lfs_operations.proofs.RenameTarget as both
 use Rattle.lfs_operations.proofs.RenameTarget.{Follower, follower}
 
-module _ (t : Kept) (index id place : ℕ) (name : Name) (rename : CanRenameOnto t index id place name) where
-  abbrev can : CanEdit t index id
+module _ (t : Kept) (index id place : ℕ) (name : Name) (rename : CanRenameOntoFileInPair t index id place name) where
+  abbrev can : CanEditEntryOfPair t index id
   can = rename.can
 
-  abbrev s : IsNameAt can.stands.pair.content.slots can.name id
+  abbrev s : HasEntryOfNameAtId can.stands.pair.content.slots can.name id
   s = can.stands.stands
 
   abbrev p : Pair
@@ -53,7 +53,7 @@ module _ (t : Kept) (index id place : ℕ) (name : Name) (rename : CanRenameOnto
   abbrev target : Slot
   target = rename.target.stands.slot
 
-  pub has_slot : HasSlot t index id
+  pub has_slot : HasSlotOfId t index id
   has_slot = both.has_slot t index id place name can rename.target rename.differs
 
   target_held : p.content.slots ≡ rename.target.stands.left ++ target ∷ rename.target.stands.right
@@ -71,13 +71,13 @@ module _ (t : Kept) (index id place : ℕ) (name : Name) (rename : CanRenameOnto
   there : t.pairs ≡ thread_at w (p ∷ [])
   there = both.there t index id place name can rename.target rename.differs
 
-  leads_there : PathLeadsTo (thread_at w (p ∷ [])) can.path can.at
+  leads_there : IsPathToDirectory (thread_at w (p ∷ [])) can.path can.at
   leads_there = both.leads_there t index id place name can rename.target rename.differs
 
   same_there : same_pair (begin_of w (p ∷ [])) can.at ≡ true
   same_there = both.same_there t index id place name can rename.target rename.differs
 
-  abbrev c : CompletesTo (raw_at t.disk (pair_in t index).at) p.content
+  abbrev c : CompletesTo (raw_content_of_pair_at t.disk (kept_pair_at_index t index).at) p.content
   c = raw_there t can.ready can.first index p can.stands.rest can.stands.place
 
   differs : target.name ≡ u.name → ⊥
@@ -86,7 +86,7 @@ module _ (t : Kept) (index id place : ℕ) (name : Name) (rename : CanRenameOnto
   named : is_name name ≡ true
   named = both.named t index id place name can rename.target rename.differs
 
-  entry_again : IsEntry u → IsEntry (with_name u name)
+  entry_again : IsFileOrDirectoryEntry u → IsFileOrDirectoryEntry (with_name u name)
   entry_again = both.entry_again t index id place name can rename.target rename.differs
 
   -- ---- the slots that are left without both
@@ -95,15 +95,15 @@ module _ (t : Kept) (index id place : ℕ) (name : Name) (rename : CanRenameOnto
   IsLeftOver = both.IsLeftOver t index id place name can rename.target rename.differs
 
   module _ (x y : List Slot) (over : IsLeftOver x y) where
-    fits_over : FitsPair t.disk.block_size t.disk.page (record p.content { slots = x ++ y })
+    fits_over : IsContentFittingPair t.disk.block_size t.disk.page (record p.content { slots = x ++ y })
     fits_over = both.fits_both t index id place name can rename.target rename.differs x y over
 
-    left_over : Leaves c.raw (Delete id ∷ Delete (place_without id place) ∷ []) (x ++ y)
+    left_over : Leaves c.raw (Delete id ∷ Delete (id_after_slot_removal id place) ∷ []) (x ++ y)
     left_over = both.left_both t index id place name can rename.target rename.differs x y over c.raw
         (made.all_slots t index id can.ready can.first p can.stands.rest can.stands.place can.logged can.name s)
 
-    can_put_over : CanPut t index (rename_onto_changes t index id place name)
-    can_put_over = made.can_put t index id can.ready can.first p can.stands.rest can.stands.place can.logged can.name s (Delete id ∷ Delete (place_without id place) ∷ []) x y left_over fits_over (place_without id place) over.1
+    can_put_over : CanChangeOrSplitPair t index (rename_onto_file_in_pair_changes t index id place name)
+    can_put_over = made.can_put t index id can.ready can.first p can.stands.rest can.stands.place can.logged can.name s (Delete id ∷ Delete (id_after_slot_removal id place) ∷ []) x y left_over fits_over (id_after_slot_removal id place) over.1
         name named rename.fits
 
   -- ---- the target stands behind the old slot
@@ -119,7 +119,7 @@ module _ (t : Kept) (index id place : ℕ) (name : Name) (rename : CanRenameOnto
         → IsCommit t.disk disk w p q more [] s.left (u ∷ (d.passed ++ target ∷ [])) (d.passed ++ with_name u target.name ∷ []) r2
     under_its_name disk q more k = subst (λ (n : Name). IsCommit t.disk disk w p q more [] s.left (u ∷ (d.passed ++ target ∷ [])) (d.passed ++ with_name u n ∷ []) r2) (sym rename.target.stands.named) k
 
-    moving_behind : IsMoving t index (rename_onto_changes t index id place name) can.path can.name name (target ∷ [])
+    moving_behind : IsMoving t index (rename_onto_file_in_pair_changes t index id place name) can.path can.name name (target ∷ [])
     moving_behind = record {
       w = w;
       p = p;
@@ -135,8 +135,8 @@ module _ (t : Kept) (index id place : ℕ) (name : Name) (rename : CanRenameOnto
         place = number_is t.disk t.pairs can.path can.at can.ready.accepted can.leads can.first index p can.stands.rest can.stands.place can.begins;
         site = is_site t.disk t.pairs can.path can.at can.ready.accepted can.leads can.first index p can.stands.rest can.stands.place can.begins;
         content = record { slots = (s.left ++ d.passed) ++ with_name u name ∷ r2; tail = p.content.tail; move = p.content.move };
-        made = made.made t index id can.ready can.first p can.stands.rest can.stands.place can.logged can.name s (Delete id ∷ Delete (place_without id place) ∷ []) (s.left ++ d.passed) r2
-            (left_over (s.left ++ d.passed) r2 over_behind) (fits_over (s.left ++ d.passed) r2 over_behind) (place_without id place) over_behind.1 name named rename.fits;
+        made = made.made t index id can.ready can.first p can.stands.rest can.stands.place can.logged can.name s (Delete id ∷ Delete (id_after_slot_removal id place) ∷ []) (s.left ++ d.passed) r2
+            (left_over (s.left ++ d.passed) r2 over_behind) (fits_over (s.left ++ d.passed) r2 over_behind) (id_after_slot_removal id place) over_behind.1 name named rename.fits;
         tail = refl;
         was = s.held ∙ ap (λ z. s.left ++ u ∷ z) (d.back ∙ sym (append_assoc d.passed (target ∷ []) r2));
         now = now_behind;
@@ -152,7 +152,7 @@ module _ (t : Kept) (index id place : ℕ) (name : Name) (rename : CanRenameOnto
       follows = λ disk q more k.
           subst (λ (n : Name). Follows t.disk (thread_at w (p ∷ [])) disk (thread_at w (q ∷ more)) (renamed (can.path ++ n ∷ []) (can.path ++ name ∷ [])) (rename_walk (can.path ++ n ∷ []) (can.path ++ name ∷ []))) s.named
           (subst (λ (n : Name). Follows t.disk (thread_at w (p ∷ [])) disk (thread_at w (q ∷ more)) (renamed (can.path ++ u.name ∷ []) (can.path ++ n ∷ [])) (rename_walk (can.path ++ u.name ∷ []) (can.path ++ n ∷ []))) rename.target.stands.named
-          (onto_behind_follows t.disk disk w p q more (blocks_of more) s.left u d.passed target r2
+          (onto_behind_follows t.disk disk w p q more (blocks_of_pairs more) s.left u d.passed target r2
           (commit_step t.disk disk w p q more [] s.left (u ∷ (d.passed ++ target ∷ [])) (d.passed ++ with_name u target.name ∷ []) r2 (under_its_name disk q more k)) k.was s.entry rename.target.stands.entry
           (λ e. (rename.file, (recovered_from t.disk (thread_at w (p ∷ [])) k.accepted k.settled).reached)) differs can.path can.at leads_there same_there));
       completed = λ disk q more k z given to_given tree given_is to_is.
@@ -170,7 +170,7 @@ module _ (t : Kept) (index id place : ℕ) (name : Name) (rename : CanRenameOnto
         → IsCommit t.disk disk w p q more [] l2 (target ∷ (passed ++ u ∷ [])) (with_name u target.name ∷ passed) s.right
     under_that_name disk q more k = subst (λ (n : Name). IsCommit t.disk disk w p q more [] l2 (target ∷ (passed ++ u ∷ [])) (with_name u n ∷ passed) s.right) (sym rename.target.stands.named) k
 
-    moving_ahead : IsMoving t index (rename_onto_changes t index id place name) can.path can.name name (target ∷ [])
+    moving_ahead : IsMoving t index (rename_onto_file_in_pair_changes t index id place name) can.path can.name name (target ∷ [])
     moving_ahead = record {
       w = w;
       p = p;
@@ -186,8 +186,8 @@ module _ (t : Kept) (index id place : ℕ) (name : Name) (rename : CanRenameOnto
         place = number_is t.disk t.pairs can.path can.at can.ready.accepted can.leads can.first index p can.stands.rest can.stands.place can.begins;
         site = is_site t.disk t.pairs can.path can.at can.ready.accepted can.leads can.first index p can.stands.rest can.stands.place can.begins;
         content = record { slots = l2 ++ with_name u name ∷ (passed ++ s.right); tail = p.content.tail; move = p.content.move };
-        made = made.made t index id can.ready can.first p can.stands.rest can.stands.place can.logged can.name s (Delete id ∷ Delete (place_without id place) ∷ []) l2 (passed ++ s.right)
-            (left_over l2 (passed ++ s.right) over_ahead) (fits_over l2 (passed ++ s.right) over_ahead) (place_without id place) over_ahead.1 name named rename.fits;
+        made = made.made t index id can.ready can.first p can.stands.rest can.stands.place can.logged can.name s (Delete id ∷ Delete (id_after_slot_removal id place) ∷ []) l2 (passed ++ s.right)
+            (left_over l2 (passed ++ s.right) over_ahead) (fits_over l2 (passed ++ s.right) over_ahead) (id_after_slot_removal id place) over_ahead.1 name named rename.fits;
         tail = refl;
         was = target_held ∙ ap (λ z. l2 ++ target ∷ z) (back ∙ sym (append_assoc passed (u ∷ []) s.right));
         now = refl;
@@ -203,7 +203,7 @@ module _ (t : Kept) (index id place : ℕ) (name : Name) (rename : CanRenameOnto
       follows = λ disk q more k.
           subst (λ (n : Name). Follows t.disk (thread_at w (p ∷ [])) disk (thread_at w (q ∷ more)) (renamed (can.path ++ n ∷ []) (can.path ++ name ∷ [])) (rename_walk (can.path ++ n ∷ []) (can.path ++ name ∷ []))) s.named
           (subst (λ (n : Name). Follows t.disk (thread_at w (p ∷ [])) disk (thread_at w (q ∷ more)) (renamed (can.path ++ u.name ∷ []) (can.path ++ n ∷ [])) (rename_walk (can.path ++ u.name ∷ []) (can.path ++ n ∷ []))) rename.target.stands.named
-          (onto_ahead_follows t.disk disk w p q more (blocks_of more) l2 u passed target s.right
+          (onto_ahead_follows t.disk disk w p q more (blocks_of_pairs more) l2 u passed target s.right
           (commit_step t.disk disk w p q more [] l2 (target ∷ (passed ++ u ∷ [])) (with_name u target.name ∷ passed) s.right (under_that_name disk q more k)) k.was s.entry rename.target.stands.entry
           (λ e. (rename.file, (recovered_from t.disk (thread_at w (p ∷ [])) k.accepted k.settled).reached)) differs can.path can.at leads_there same_there));
       completed = λ disk q more k z given to_given tree given_is to_is.
@@ -219,29 +219,29 @@ module _ (t : Kept) (index id place : ℕ) (name : Name) (rename : CanRenameOnto
   ahead_of : (d : ComesAhead s.left u s.right l2 (target ∷ r2)) → Follower target r2 u s.right d.passed
   ahead_of d = follower target r2 u s.right d.passed (λ e. differs (ap (λ (z : Slot). z.name) e)) d.back
 
-  pub can_put_replaced : CanPut t index (rename_onto_changes t index id place name)
+  pub can_put_replaced : CanChangeOrSplitPair t index (rename_onto_file_in_pair_changes t index id place name)
   can_put_replaced = go two
     where
-      go : ComesBehind s.left u s.right l2 (target ∷ r2) ⊎ ComesAhead s.left u s.right l2 (target ∷ r2) → CanPut t index (rename_onto_changes t index id place name)
+      go : ComesBehind s.left u s.right l2 (target ∷ r2) ⊎ ComesAhead s.left u s.right l2 (target ∷ r2) → CanChangeOrSplitPair t index (rename_onto_file_in_pair_changes t index id place name)
       go (inl d) = can_put_over (s.left ++ d.passed) r2 (over_behind d)
       go (inr d) = let f = ahead_of d in can_put_over l2 (f.between ++ s.right) (over_ahead f.between (d.front ∙ ap (λ z. l2 ++ z) f.are) f.back)
 
-  moving : IsMoving t index (rename_onto_changes t index id place name) can.path can.name name (target ∷ [])
+  moving : IsMoving t index (rename_onto_file_in_pair_changes t index id place name) can.path can.name name (target ∷ [])
   moving = go two
     where
-      go : ComesBehind s.left u s.right l2 (target ∷ r2) ⊎ ComesAhead s.left u s.right l2 (target ∷ r2) → IsMoving t index (rename_onto_changes t index id place name) can.path can.name name (target ∷ [])
+      go : ComesBehind s.left u s.right l2 (target ∷ r2) ⊎ ComesAhead s.left u s.right l2 (target ∷ r2) → IsMoving t index (rename_onto_file_in_pair_changes t index id place name) can.path can.name name (target ∷ [])
       go (inl d) = moving_behind d
       go (inr d) = let f = ahead_of d in moving_ahead f.between (d.front ∙ ap (λ z. l2 ++ z) f.are) f.back
 
-  pub renamed_onto : (new : Kept) → IsPut t index (rename_onto_changes t index id place name) new → IsRenamedOnto t new rename.can.path rename.can.name name rename.target.stands.slot.struct
+  pub renamed_onto : (new : Kept) → IsPairChangedOrSplit t index (rename_onto_file_in_pair_changes t index id place name) new → IsEntryRenamedOntoFileInPair t new rename.can.path rename.can.name name rename.target.stands.slot.struct
   renamed_onto new is = record {
-    now = subst (λ z. HasBecomeBut t new (with_renamed t can.path can.name name) z []) (append-nil (file_blocks t.disk target.struct))
-        (moved_becomes t index (rename_onto_changes t index id place name) can.path can.name name (target ∷ []) moving new is);
-    once = subst (λ (z : List ℕ). (b : ℕ) → count b (used_blocks new.disk new.pairs) + count b z ≤ 1) (append-nil (file_blocks t.disk target.struct))
-        (moved_once t index (rename_onto_changes t index id place name) can.path can.name name (target ∷ []) moving new is);
-    completed = moved_completed t index (rename_onto_changes t index id place name) can.path can.name name (target ∷ []) moving new is;
+    now = subst (λ z. ShowsTreeReadyOnceBlocksSettle t new (tree_with_renamed_entry t can.path can.name name) z []) (append-nil (skip_list_blocks_of_struct t.disk target.struct))
+        (moved_becomes t index (rename_onto_file_in_pair_changes t index id place name) can.path can.name name (target ∷ []) moving new is);
+    once = subst (λ (z : List ℕ). (b : ℕ) → count b (used_blocks new.disk new.pairs) + count b z ≤ 1) (append-nil (skip_list_blocks_of_struct t.disk target.struct))
+        (moved_once t index (rename_onto_file_in_pair_changes t index id place name) can.path can.name name (target ∷ []) moving new is);
+    completed = moved_completed t index (rename_onto_file_in_pair_changes t index id place name) can.path can.name name (target ∷ []) moving new is;
   }
 
-  pub onto_survives : (new : List Event) → StopsLeave t.history new (IsLeftByPut t index (rename_onto_changes t index id place name))
-      → Survives t.disk t.history new (tree_in t.disk t.pairs) (with_renamed t rename.can.path rename.can.name name)
-  onto_survives new stops = moved_survives t index (rename_onto_changes t index id place name) can.path can.name name (target ∷ []) moving new stops
+  pub onto_survives : (new : List CallEvent) → StopsAfterCleanErasesLeave t.history new (IsLeftByStoppedChangeOrSplit t index (rename_onto_file_in_pair_changes t index id place name))
+      → SurvivesStopsSince t.disk t.history new (tree_on_disk t.disk t.pairs) (tree_with_renamed_entry t rename.can.path rename.can.name name)
+  onto_survives new stops = moved_survives t index (rename_onto_file_in_pair_changes t index id place name) can.path can.name name (target ∷ []) moving new stops

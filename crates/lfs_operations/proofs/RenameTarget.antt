@@ -2,20 +2,20 @@
 use Rattle.std.proofs.Common.{ℕ, ◌≡◌, true, List, [], ◌∷◌, ◌++◌, length, Some, sym, ap, subst, ◌∙◌, arith, append_assoc, length-append, refl}
 use Rattle.std.specs.Prelude.{◌≢◌}
 use Rattle.lfs_model.specs.Changes.{Delete}
-use Rattle.lfs_model.specs.Content.{RawContent, complete_all}
-use Rattle.lfs_model.specs.InDirectory.{HasNameAtPlace, IsNameAt}
+use Rattle.lfs_model.specs.Content.{RawContent, slots_if_all_complete}
+use Rattle.lfs_model.specs.InDirectory.{IsPlaceOfNameInDirectory, HasEntryOfNameAtId}
 use Rattle.lfs_model.specs.Names.{Name, is_name}
-use Rattle.lfs_model.specs.Slots.{FitsPair, Slot, same_pair}
+use Rattle.lfs_model.specs.Slots.{IsContentFittingPair, Slot, same_pair}
 use Rattle.lfs_model.specs.Thread.{Pair}
-use Rattle.lfs_model.specs.View.{IsEntry}
-use Rattle.lfs_model.specs.Shown.{PathLeadsTo}
+use Rattle.lfs_model.specs.View.{IsFileOrDirectoryEntry}
+use Rattle.lfs_model.specs.Shown.{IsPathToDirectory}
 use Rattle.lfs_model.proofs.Counts.{Each, each_right}
 use Rattle.lfs_model.proofs.Searches.{same, site, thread_is}
 use Rattle.lfs_model.proofs.Sites.{Site, begin_of, thread_at}
 use Rattle.lfs_thread.specs.Kept.{Kept}
-use Rattle.lfs_operations.specs.Editing.{CanEdit}
-use Rattle.lfs_operations.specs.Renaming.{place_without}
-use Rattle.lfs_operations.specs.RenamingSlots.{HasSlot}
+use Rattle.lfs_operations.specs.Editing.{CanEditEntryOfPair}
+use Rattle.lfs_operations.specs.Renaming.{id_after_slot_removal}
+use Rattle.lfs_operations.specs.RenamingSlots.{HasSlotOfId}
 use Rattle.lfs_operations.proofs.Held.{IsEntryIfOther, below, each_pair, fits_there, here, other_entries}
 use Rattle.lfs_operations.proofs.RenameMade as made
 use Rattle.lfs_operations.proofs.RenameMade.{ComesBehind, Leaves, fits_without, leaves_then, leaves_without}
@@ -35,8 +35,8 @@ follower target tail u behind (x ∷ passed) apart e = record { between = passed
     first : x ≡ target
     first = cc
 
-module _ (t : Kept) (index id place : ℕ) (name : Name) (can : CanEdit t index id) (to : HasNameAtPlace t.pairs can.first name index place) (apart : name ≢ can.name) where
-  abbrev s : IsNameAt can.stands.pair.content.slots can.name id
+module _ (t : Kept) (index id place : ℕ) (name : Name) (can : CanEditEntryOfPair t index id) (to : IsPlaceOfNameInDirectory t.pairs can.first name index place) (apart : name ≢ can.name) where
+  abbrev s : HasEntryOfNameAtId can.stands.pair.content.slots can.name id
   s = can.stands.stands
 
   abbrev p : Pair
@@ -51,7 +51,7 @@ module _ (t : Kept) (index id place : ℕ) (name : Name) (can : CanEdit t index 
   abbrev w : Site
   w = site t.disk t.pairs can.path can.at can.ready.accepted can.leads can.first index p can.stands.rest can.stands.place can.begins
 
-  pub has_slot : HasSlot t index id
+  pub has_slot : HasSlotOfId t index id
   has_slot =
       let e = ap (λ (z : Pair). length z.content.slots) (here t can.ready can.first index p can.stands.rest can.stands.place) in
       let h = ap length s.held in
@@ -69,13 +69,13 @@ module _ (t : Kept) (index id place : ℕ) (name : Name) (can : CanEdit t index 
   pub there : t.pairs ≡ thread_at w (p ∷ [])
   there = thread_is t.disk t.pairs can.path can.at can.ready.accepted can.leads can.first index p can.stands.rest can.stands.place can.begins
 
-  pub leads_there : PathLeadsTo (thread_at w (p ∷ [])) can.path can.at
-  leads_there = subst (λ z. PathLeadsTo z can.path can.at) there can.leads
+  pub leads_there : IsPathToDirectory (thread_at w (p ∷ [])) can.path can.at
+  leads_there = subst (λ z. IsPathToDirectory z can.path can.at) there can.leads
 
   pub same_there : same_pair (begin_of w (p ∷ [])) can.at ≡ true
   same_there = same t.disk t.pairs can.path can.at can.ready.accepted can.leads can.first index p can.stands.rest can.stands.place can.begins
 
-  pub fits_here : FitsPair t.disk.block_size t.disk.page can.stands.pair.content
+  pub fits_here : IsContentFittingPair t.disk.block_size t.disk.page can.stands.pair.content
   fits_here = fits_there t can.ready can.first index p can.stands.rest can.stands.place
 
   pub differs : to.stands.slot.name ≡ can.stands.stands.slot.name → ⊥
@@ -88,30 +88,30 @@ module _ (t : Kept) (index id place : ℕ) (name : Name) (can : CanEdit t index 
       let e = (each_right IsEntryIfOther to.stands.left (target ∷ to.stands.right) (subst (Each IsEntryIfOther) target_held all)).0 to.stands.entry in
       ap is_name (sym to.stands.named) ∙ e.name
 
-  pub entry_again : IsEntry can.stands.stands.slot → IsEntry (with_name can.stands.stands.slot name)
+  pub entry_again : IsFileOrDirectoryEntry can.stands.stands.slot → IsFileOrDirectoryEntry (with_name can.stands.stands.slot name)
   entry_again e = record { name = named; struct = e.struct }
 
   -- ---- the slots that are left without both
 
   abbrev pub IsLeftOver : List Slot → List Slot → Type 0
-  IsLeftOver x y = (s.left ++ s.right ≡ x ++ target ∷ y) × (length x ≡ place_without id place)
+  IsLeftOver x y = (s.left ++ s.right ≡ x ++ target ∷ y) × (length x ≡ id_after_slot_removal id place)
 
   module _ (x y : List Slot) (over : IsLeftOver x y) where
-    fits_one : FitsPair t.disk.block_size t.disk.page (record p.content { slots = x ++ target ∷ y })
-    fits_one = subst (λ z. FitsPair t.disk.block_size t.disk.page (record p.content { slots = z })) over.0 (fits_without t.disk.block_size t.disk.page p.content s.left u s.right s.held fits_here)
+    fits_one : IsContentFittingPair t.disk.block_size t.disk.page (record p.content { slots = x ++ target ∷ y })
+    fits_one = subst (λ z. IsContentFittingPair t.disk.block_size t.disk.page (record p.content { slots = z })) over.0 (fits_without t.disk.block_size t.disk.page p.content s.left u s.right s.held fits_here)
 
-    pub fits_both : FitsPair t.disk.block_size t.disk.page (record can.stands.pair.content { slots = x ++ y })
+    pub fits_both : IsContentFittingPair t.disk.block_size t.disk.page (record can.stands.pair.content { slots = x ++ y })
     fits_both = fits_without t.disk.block_size t.disk.page (record p.content { slots = x ++ target ∷ y }) x target y refl fits_one
 
-    module _ (raw : RawContent) (all : complete_all raw.slots ≡ Some can.stands.pair.content.slots) where
+    module _ (raw : RawContent) (all : slots_if_all_complete raw.slots ≡ Some can.stands.pair.content.slots) where
       left_one : Leaves raw (Delete id ∷ []) (x ++ target ∷ y)
       left_one = subst (Leaves raw (Delete id ∷ [])) over.0
           (leaves_without raw s.left u s.right id (let few = fits_here.count in let i = made.within t index id can.ready can.first p can.stands.rest can.stands.place can.logged can.name s in omega arith) s.number
           (all ∙ ap Some s.held))
 
-      pub left_both : Leaves raw (Delete id ∷ Delete (place_without id place) ∷ []) (x ++ y)
-      left_both = leaves_then raw (Delete id ∷ []) (Delete (place_without id place) ∷ []) (x ++ target ∷ y) (x ++ y) left_one
-          (leaves_without left_one.left x target y (place_without id place) (let few = fits_one.count in let n = over.1 in let k = length-append x (target ∷ y) in omega arith) over.1 left_one.are)
+      pub left_both : Leaves raw (Delete id ∷ Delete (id_after_slot_removal id place) ∷ []) (x ++ y)
+      left_both = leaves_then raw (Delete id ∷ []) (Delete (id_after_slot_removal id place) ∷ []) (x ++ target ∷ y) (x ++ y) left_one
+          (leaves_without left_one.left x target y (id_after_slot_removal id place) (let few = fits_one.count in let n = over.1 in let k = length-append x (target ∷ y) in omega arith) over.1 left_one.are)
 
   -- the other entry stands behind the slot
   pub over_behind : (d : ComesBehind can.stands.stands.left can.stands.stands.slot can.stands.stands.right to.stands.left (to.stands.slot ∷ to.stands.right))

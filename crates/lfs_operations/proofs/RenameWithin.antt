@@ -3,15 +3,15 @@ use Rattle.std.proofs.Common.{ℕ, ◌≡◌, ◌⊎◌, inl, inr, ◌-◌, ◌<
 use Rattle.std.proofs.lemmas.Bool.{le-ltb, lt-ltb}
 use Rattle.lfs_model.specs.TreeEdits.{renamed}
 use Rattle.lfs_model.specs.Changes.{Delete}
-use Rattle.lfs_model.specs.Content.{raw_at}
-use Rattle.lfs_model.specs.History.{Event}
-use Rattle.lfs_model.specs.InDirectory.{BelongsInDirectory, IsNameAt}
+use Rattle.lfs_model.specs.Content.{raw_content_of_pair_at}
+use Rattle.lfs_model.specs.History.{CallEvent}
+use Rattle.lfs_model.specs.InDirectory.{IsPlaceWhereNameBelongs, HasEntryOfNameAtId}
 use Rattle.lfs_model.specs.Names.{Name}
-use Rattle.lfs_model.specs.PowerLoss.{Survives}
-use Rattle.lfs_model.specs.Slots.{FitsPair, Slot, same_pair}
+use Rattle.lfs_model.specs.PowerLoss.{SurvivesStopsSince}
+use Rattle.lfs_model.specs.Slots.{IsContentFittingPair, Slot, same_pair}
 use Rattle.lfs_model.specs.Thread.{Pair, starts_with_superblock}
-use Rattle.lfs_model.specs.View.{IsEntry}
-use Rattle.lfs_model.specs.Shown.{PathLeadsTo, entries_in, tree_in}
+use Rattle.lfs_model.specs.View.{IsFileOrDirectoryEntry}
+use Rattle.lfs_model.specs.Shown.{IsPathToDirectory, entries_by_directory_in_thread, tree_on_disk}
 use Rattle.lfs_model.proofs.Changes.{Follows}
 use Rattle.lfs_model.proofs.Committed.{no_move_from}
 use Rattle.lfs_model.proofs.Moves.{place_at}
@@ -21,13 +21,13 @@ use Rattle.lfs_model.proofs.RenameSteps.{ahead_follows, behind_follows, renamed_
 use Rattle.lfs_model.proofs.Renames.{rename_walk}
 use Rattle.lfs_model.proofs.Searches.{is_site, number_is, place_of_belongs, same, site, thread_is}
 use Rattle.lfs_model.proofs.Sites.{Site, begin_of, thread_at}
-use Rattle.lfs_thread.specs.Device.{StopsLeave}
+use Rattle.lfs_thread.specs.Device.{StopsAfterCleanErasesLeave}
 use Rattle.lfs_thread.specs.Kept.{Kept}
-use Rattle.lfs_thread.specs.Steps.{pair_in}
-use Rattle.lfs_operations.specs.Changing.{CanPut, IsLeftByPut, IsPut}
-use Rattle.lfs_operations.specs.Editing.{CanEdit}
-use Rattle.lfs_operations.specs.Renaming.{CanRename, IsRenamed, place_without, rename_changes, with_renamed}
-use Rattle.lfs_operations.specs.RenamingSlots.{HasSlot}
+use Rattle.lfs_thread.specs.Steps.{kept_pair_at_index}
+use Rattle.lfs_operations.specs.Changing.{CanChangeOrSplitPair, IsLeftByStoppedChangeOrSplit, IsPairChangedOrSplit}
+use Rattle.lfs_operations.specs.Editing.{CanEditEntryOfPair}
+use Rattle.lfs_operations.specs.Renaming.{CanRenameWithinPair, IsEntryRenamedInPair, id_after_slot_removal, rename_within_pair_changes, tree_with_renamed_entry}
+use Rattle.lfs_operations.specs.RenamingSlots.{HasSlotOfId}
 use Rattle.lfs_operations.proofs.Held.{CompletesTo, below, fits_there, here, raw_there}
 use Rattle.lfs_operations.proofs.RenameMade as made
 use Rattle.lfs_operations.proofs.RenameMade.{ComesAhead, ComesBehind, Leaves, behind_or_ahead, fits_without, leaves_without}
@@ -35,17 +35,17 @@ use Rattle.lfs_operations.proofs.RenamePlaced.{MovesSlots, carries_ahead, carrie
 use Rattle.lfs_operations.proofs.RenameStepped.{IsMoving, moved_becomes, moved_completed, moved_survives}
 use Rattle.lfs_operations.proofs.Stepped.{ready_again}
 
-pub place_behind_is : (id place : ℕ) → id < place → place_without id place ≡ place - 1
+pub place_behind_is : (id place : ℕ) → id < place → id_after_slot_removal id place ≡ place - 1
 place_behind_is id place less = ap (λ b. cond b (place - 1) place) (lt-ltb id place less)
 
-pub place_ahead_is : (id place : ℕ) → place ≤ id → place_without id place ≡ place
+pub place_ahead_is : (id place : ℕ) → place ≤ id → id_after_slot_removal id place ≡ place
 place_ahead_is id place le = ap (λ b. cond b (place - 1) place) (le-ltb id place le)
 
-module _ (t : Kept) (index id place : ℕ) (name : Name) (rename : CanRename t index id place name) where
-  abbrev can : CanEdit t index id
+module _ (t : Kept) (index id place : ℕ) (name : Name) (rename : CanRenameWithinPair t index id place name) where
+  abbrev can : CanEditEntryOfPair t index id
   can = rename.can
 
-  abbrev b : BelongsInDirectory t.disk.order t.pairs can.first name index place
+  abbrev b : IsPlaceWhereNameBelongs t.disk.order t.pairs can.first name index place
   b = rename.belongs
 
   abbrev p : Pair
@@ -54,7 +54,7 @@ module _ (t : Kept) (index id place : ℕ) (name : Name) (rename : CanRename t i
   abbrev u : Slot
   u = can.stands.stands.slot
 
-  pub has_slot : HasSlot t index id
+  pub has_slot : HasSlotOfId t index id
   has_slot =
       let e = ap (λ (z : Pair). length z.content.slots) (here t can.ready can.first index can.stands.pair can.stands.rest can.stands.place) in
       let h = ap length can.stands.stands.held in
@@ -66,7 +66,7 @@ module _ (t : Kept) (index id place : ℕ) (name : Name) (rename : CanRename t i
   pair_same : b.pair ≡ can.stands.pair
   pair_same = sym (here t can.ready can.first index b.pair (b.later ++ b.rest) b.place) ∙ here t can.ready can.first index can.stands.pair can.stands.rest can.stands.place
 
-  abbrev s : IsNameAt b.pair.content.slots can.name id
+  abbrev s : HasEntryOfNameAtId b.pair.content.slots can.name id
   s = record {
     left = can.stands.stands.left;
     slot = can.stands.stands.slot;
@@ -83,26 +83,26 @@ module _ (t : Kept) (index id place : ℕ) (name : Name) (rename : CanRename t i
   there : t.pairs ≡ thread_at w (p ∷ [])
   there = thread_is t.disk t.pairs can.path can.at can.ready.accepted can.leads can.first index p (b.later ++ b.rest) b.place can.begins
 
-  leads_there : PathLeadsTo (thread_at w (p ∷ [])) can.path can.at
-  leads_there = subst (λ z. PathLeadsTo z can.path can.at) there can.leads
+  leads_there : IsPathToDirectory (thread_at w (p ∷ [])) can.path can.at
+  leads_there = subst (λ z. IsPathToDirectory z can.path can.at) there can.leads
 
   same_there : same_pair (begin_of w (p ∷ [])) can.at ≡ true
   same_there = same t.disk t.pairs can.path can.at can.ready.accepted can.leads can.first index p (b.later ++ b.rest) b.place can.begins
 
-  place_there : IsPlace t.disk.order (entries_in (thread_at w (p ∷ [])) can.at) (place_at w b.left) name
-  place_there = subst (λ z. IsPlace t.disk.order (entries_in z can.at) (place_at w b.left) name) there
+  place_there : IsPlace t.disk.order (entries_by_directory_in_thread (thread_at w (p ∷ [])) can.at) (place_at w b.left) name
+  place_there = subst (λ z. IsPlace t.disk.order (entries_by_directory_in_thread z can.at) (place_at w b.left) name) there
       (place_of_belongs t.disk t.pairs can.path can.at can.ready.accepted can.leads can.first index place name (no_move_from t.pairs can.ready.settled) b can.begins)
 
-  fits_here : FitsPair t.disk.block_size t.disk.page p.content
+  fits_here : IsContentFittingPair t.disk.block_size t.disk.page p.content
   fits_here = fits_there t can.ready can.first index p (b.later ++ b.rest) b.place
 
-  abbrev c : CompletesTo (raw_at t.disk (pair_in t index).at) p.content
+  abbrev c : CompletesTo (raw_content_of_pair_at t.disk (kept_pair_at_index t index).at) p.content
   c = raw_there t can.ready can.first index p (b.later ++ b.rest) b.place
 
   -- ---- the slots that are left are cut in two
 
   abbrev IsLeftOver : List Slot → List Slot → Type 0
-  IsLeftOver x y = (s.left ++ s.right ≡ x ++ y) × (length x ≡ place_without id place)
+  IsLeftOver x y = (s.left ++ s.right ≡ x ++ y) × (length x ≡ id_after_slot_removal id place)
 
   module _ (x y : List Slot) (over : IsLeftOver x y) where
     left_over : Leaves c.raw (Delete id ∷ []) (x ++ y)
@@ -110,13 +110,13 @@ module _ (t : Kept) (index id place : ℕ) (name : Name) (rename : CanRename t i
         (leaves_without c.raw s.left u s.right id (let few = fits_here.count in let i = made.within t index id can.ready can.first p (b.later ++ b.rest) b.place can.logged can.name s in omega arith) s.number
         (made.all_slots t index id can.ready can.first p (b.later ++ b.rest) b.place can.logged can.name s ∙ ap Some s.held))
 
-    fits_over : FitsPair t.disk.block_size t.disk.page (record p.content { slots = x ++ y })
-    fits_over = subst (λ z. FitsPair t.disk.block_size t.disk.page (record p.content { slots = z })) over.0 (fits_without t.disk.block_size t.disk.page p.content s.left u s.right s.held fits_here)
+    fits_over : IsContentFittingPair t.disk.block_size t.disk.page (record p.content { slots = x ++ y })
+    fits_over = subst (λ z. IsContentFittingPair t.disk.block_size t.disk.page (record p.content { slots = z })) over.0 (fits_without t.disk.block_size t.disk.page p.content s.left u s.right s.held fits_here)
 
-    can_put_over : CanPut t index (rename_changes t index id place name)
-    can_put_over = made.can_put t index id can.ready can.first p (b.later ++ b.rest) b.place can.logged can.name s (Delete id ∷ []) x y left_over fits_over (place_without id place) over.1 name rename.is_name rename.fits
+    can_put_over : CanChangeOrSplitPair t index (rename_within_pair_changes t index id place name)
+    can_put_over = made.can_put t index id can.ready can.first p (b.later ++ b.rest) b.place can.logged can.name s (Delete id ∷ []) x y left_over fits_over (id_after_slot_removal id place) over.1 name rename.is_name rename.fits
 
-  entry_again : IsEntry u → IsEntry (with_name u name)
+  entry_again : IsFileOrDirectoryEntry u → IsFileOrDirectoryEntry (with_name u name)
   entry_again e = record { name = rename.is_name; struct = e.struct }
 
   -- ---- behind the old slot
@@ -137,7 +137,7 @@ module _ (t : Kept) (index id place : ℕ) (name : Name) (rename : CanRename t i
           omega arith),
     )
 
-    moving_behind : IsMoving t index (rename_changes t index id place name) can.path can.name name []
+    moving_behind : IsMoving t index (rename_within_pair_changes t index id place name) can.path can.name name []
     moving_behind = record {
       w = w;
       p = p;
@@ -154,7 +154,7 @@ module _ (t : Kept) (index id place : ℕ) (name : Name) (rename : CanRename t i
         site = is_site t.disk t.pairs can.path can.at can.ready.accepted can.leads can.first index p (b.later ++ b.rest) b.place can.begins;
         content = record { slots = (s.left ++ d.passed) ++ with_name u name ∷ b.right; tail = p.content.tail; move = p.content.move };
         made = made.made t index id can.ready can.first p (b.later ++ b.rest) b.place can.logged can.name s (Delete id ∷ []) x b.right (left_over x b.right over_behind) (fits_over x b.right over_behind)
-            (place_without id place) over_behind.1 name rename.is_name rename.fits;
+            (id_after_slot_removal id place) over_behind.1 name rename.is_name rename.fits;
         tail = refl;
         was = s.held ∙ ap (λ z. s.left ++ u ∷ z) d.back;
         now = append_assoc s.left d.passed (with_name u name ∷ b.right) ∙ ap (λ z. s.left ++ z) (sym (append_assoc d.passed (with_name u name ∷ []) b.right));
@@ -175,8 +175,8 @@ module _ (t : Kept) (index id place : ℕ) (name : Name) (rename : CanRename t i
           (given_is ∙ ap (λ n. can.path ++ n ∷ []) (sym s.named)) to_is;
     }
       where
-        place_now : IsPlace t.disk.order (entries_in (thread_at w (p ∷ [])) can.at) (place_at w (s.left ++ u ∷ d.passed)) name
-        place_now = subst (λ z. IsPlace t.disk.order (entries_in (thread_at w (p ∷ [])) can.at) (place_at w z) name) d.front place_there
+        place_now : IsPlace t.disk.order (entries_by_directory_in_thread (thread_at w (p ∷ [])) can.at) (place_at w (s.left ++ u ∷ d.passed)) name
+        place_now = subst (λ z. IsPlace t.disk.order (entries_by_directory_in_thread (thread_at w (p ∷ [])) can.at) (place_at w z) name) d.front place_there
 
   -- ---- in front of it
 
@@ -192,7 +192,7 @@ module _ (t : Kept) (index id place : ℕ) (name : Name) (rename : CanRename t i
           omega arith),
     )
 
-    moving_ahead : IsMoving t index (rename_changes t index id place name) can.path can.name name []
+    moving_ahead : IsMoving t index (rename_within_pair_changes t index id place name) can.path can.name name []
     moving_ahead = record {
       w = w;
       p = p;
@@ -209,7 +209,7 @@ module _ (t : Kept) (index id place : ℕ) (name : Name) (rename : CanRename t i
         site = is_site t.disk t.pairs can.path can.at can.ready.accepted can.leads can.first index p (b.later ++ b.rest) b.place can.begins;
         content = record { slots = b.left ++ with_name u name ∷ (d.passed ++ s.right); tail = p.content.tail; move = p.content.move };
         made = made.made t index id can.ready can.first p (b.later ++ b.rest) b.place can.logged can.name s (Delete id ∷ []) b.left (d.passed ++ s.right) (left_over b.left (d.passed ++ s.right) over_ahead)
-            (fits_over b.left (d.passed ++ s.right) over_ahead) (place_without id place) over_ahead.1 name rename.is_name rename.fits;
+            (fits_over b.left (d.passed ++ s.right) over_ahead) (id_after_slot_removal id place) over_ahead.1 name rename.is_name rename.fits;
         tail = refl;
         was = b.held ∙ ap (λ z. b.left ++ z) (d.back ∙ sym (append_assoc d.passed (u ∷ []) s.right));
         now = refl;
@@ -234,26 +234,26 @@ module _ (t : Kept) (index id place : ℕ) (name : Name) (rename : CanRename t i
   two : ComesBehind s.left u s.right b.left b.right ⊎ ComesAhead s.left u s.right b.left b.right
   two = behind_or_ahead s.left u s.right b.left b.right (sym s.held ∙ b.held)
 
-  pub can_put_renamed : CanPut t index (rename_changes t index id place name)
+  pub can_put_renamed : CanChangeOrSplitPair t index (rename_within_pair_changes t index id place name)
   can_put_renamed = go two
     where
-      go : ComesBehind s.left u s.right b.left b.right ⊎ ComesAhead s.left u s.right b.left b.right → CanPut t index (rename_changes t index id place name)
+      go : ComesBehind s.left u s.right b.left b.right ⊎ ComesAhead s.left u s.right b.left b.right → CanChangeOrSplitPair t index (rename_within_pair_changes t index id place name)
       go (inl d) = can_put_over (s.left ++ d.passed) b.right (over_behind d)
       go (inr d) = can_put_over b.left (d.passed ++ s.right) (over_ahead d)
 
-  moving : IsMoving t index (rename_changes t index id place name) can.path can.name name []
+  moving : IsMoving t index (rename_within_pair_changes t index id place name) can.path can.name name []
   moving = go two
     where
-      go : ComesBehind s.left u s.right b.left b.right ⊎ ComesAhead s.left u s.right b.left b.right → IsMoving t index (rename_changes t index id place name) can.path can.name name []
+      go : ComesBehind s.left u s.right b.left b.right ⊎ ComesAhead s.left u s.right b.left b.right → IsMoving t index (rename_within_pair_changes t index id place name) can.path can.name name []
       go (inl d) = moving_behind d
       go (inr d) = moving_ahead d
 
-  pub renamed_within : (new : Kept) → IsPut t index (rename_changes t index id place name) new → IsRenamed t new rename.can.path rename.can.name name
+  pub renamed_within : (new : Kept) → IsPairChangedOrSplit t index (rename_within_pair_changes t index id place name) new → IsEntryRenamedInPair t new rename.can.path rename.can.name name
   renamed_within new is = record {
-    now = ready_again t new (with_renamed t can.path can.name name) (moved_becomes t index (rename_changes t index id place name) can.path can.name name [] moving new is);
-    completed = moved_completed t index (rename_changes t index id place name) can.path can.name name [] moving new is;
+    now = ready_again t new (tree_with_renamed_entry t can.path can.name name) (moved_becomes t index (rename_within_pair_changes t index id place name) can.path can.name name [] moving new is);
+    completed = moved_completed t index (rename_within_pair_changes t index id place name) can.path can.name name [] moving new is;
   }
 
-  pub rename_survives : (new : List Event) → StopsLeave t.history new (IsLeftByPut t index (rename_changes t index id place name))
-      → Survives t.disk t.history new (tree_in t.disk t.pairs) (with_renamed t rename.can.path rename.can.name name)
-  rename_survives new stops = moved_survives t index (rename_changes t index id place name) can.path can.name name [] moving new stops
+  pub rename_survives : (new : List CallEvent) → StopsAfterCleanErasesLeave t.history new (IsLeftByStoppedChangeOrSplit t index (rename_within_pair_changes t index id place name))
+      → SurvivesStopsSince t.disk t.history new (tree_on_disk t.disk t.pairs) (tree_with_renamed_entry t rename.can.path rename.can.name name)
+  rename_survives new stops = moved_survives t index (rename_within_pair_changes t index id place name) can.path can.name name [] moving new stops

@@ -4,16 +4,16 @@ use Rattle.std.specs.Prelude.{is_some}
 use Rattle.std.specs.Option.{option_and_then}
 use Rattle.std.proofs.lemmas.Option.{same_Some}
 use Rattle.std.proofs.lemmas.List.Sums.{sum_by-append, sum_by-cons}
-use Rattle.lfs_model.specs.Changes.{Change, changed_by}
-use Rattle.lfs_model.specs.Content.{RawContent, RawSlot, raw_at, complete, completed, with_slot_changed, slot_of_id}
+use Rattle.lfs_model.specs.Changes.{ContentChange, content_after_changes}
+use Rattle.lfs_model.specs.Content.{RawContent, RawSlot, raw_content_of_pair_at, complete, content_if_slots_are_complete, raw_slots_after_slot_change, slot_of_id}
 use Rattle.lfs_model.specs.Cut.{CanBeCut}
-use Rattle.lfs_model.specs.Disk.{Disk, SameGeometry, block_at}
-use Rattle.lfs_model.specs.InDirectory.{HasNameAtPlace}
-use Rattle.lfs_model.specs.Slots.{Slot, Content, FitsPair, is_superblock, same_pair, slot_size}
-use Rattle.lfs_model.specs.Thread.{Pair, gstate_of, next_of}
-use Rattle.lfs_model.specs.View.{IsEntry, IsListIfCtz}
-use Rattle.lfs_model.specs.Profile.{FitsEntry}
-use Rattle.lfs_model.specs.Shown.{PathLeadsTo, all_slots, file_blocks, used_blocks}
+use Rattle.lfs_model.specs.Disk.{Disk, SameGeometry, block_bytes_on_disk}
+use Rattle.lfs_model.specs.InDirectory.{IsPlaceOfNameInDirectory}
+use Rattle.lfs_model.specs.Slots.{Slot, Content, IsContentFittingPair, is_superblock, same_pair, slot_size}
+use Rattle.lfs_model.specs.Thread.{Pair, gstate_of, pair_named_by_tail}
+use Rattle.lfs_model.specs.View.{IsFileOrDirectoryEntry, IsListIfCtz}
+use Rattle.lfs_model.specs.Profile.{FitsEntryLimits}
+use Rattle.lfs_model.specs.Shown.{IsPathToDirectory, all_slots_not_moved, skip_list_blocks_of_struct, used_blocks}
 use Rattle.lfs_model.proofs.Committed.{no_move_from}
 use Rattle.lfs_model.proofs.Completed.{complete_set, completed_parts, completed_from}
 use Rattle.lfs_model.proofs.Counts.{Each, each_pieces, each_right, count, count_append}
@@ -28,26 +28,26 @@ use Rattle.lfs_model.specs.BlockSets.{IsInFlight}
 use Rattle.lfs_model.proofs.Sites.{Site, dirs_at, thread_at, begin_of}
 use Rattle.lfs_model.proofs.Splices.{unmoved_in}
 use Rattle.lfs_model.proofs.StoredChanges.{logged_changed}
-use Rattle.lfs_pair.specs.Commit.{made_at}
+use Rattle.lfs_pair.specs.Commit.{pair_content_after_changes}
 use Rattle.lfs_thread.specs.Kept.{Kept}
-use Rattle.lfs_thread.specs.Steps.{IsCommitRefused, pair_in, made_in_thread}
-use Rattle.lfs_operations.specs.Changing.{CanPut}
-use Rattle.lfs_operations.specs.Editing.{CanEdit, slot_at}
+use Rattle.lfs_thread.specs.Steps.{IsCommitRefused, kept_pair_at_index, complete_content_after_changes}
+use Rattle.lfs_operations.specs.Changing.{CanChangeOrSplitPair}
+use Rattle.lfs_operations.specs.Editing.{CanEditEntryOfPair, slot_of_editable_entry}
 use Rattle.lfs_operations.proofs.Held.{CompletesTo, IsEntryIfOther, below, each_pair, fits_there, here, other_entries, raw_there}
 use Rattle.lfs_operations.proofs.RawSlots.{IsRaw, is_named, is_raw}
 use Rattle.lfs_operations.proofs.Splicing.{IsSplicing}
 
 -- the change makes that of the slot at the id
-abbrev pub Makes : Change → ℕ → (RawSlot → RawSlot) → Type 0
-Makes change id g = (c : RawContent) → id < 0x3ff → IsNamed c.slots id → Does change c (record c { slots = with_slot_changed g c.slots id })
+abbrev pub Makes : ContentChange → ℕ → (RawSlot → RawSlot) → Type 0
+Makes change id g = (c : RawContent) → id < 0x3ff → IsNamed c.slots id → Does change c (record c { slots = raw_slots_after_slot_change g c.slots id })
 
 -- of what is complete it makes something complete
 abbrev pub Turns : (RawSlot → RawSlot) → Slot → Slot → Type 0
 Turns g u v = (x : RawSlot) → complete x ≡ Some u → complete (g x) ≡ Some v
 
-module _ (t : Kept) (index id : ℕ) (can : CanEdit t index id) (g : RawSlot → RawSlot) (v : Slot) (change : Change) (does : Makes change id g) (turns : Turns g (slot_at can) v)
-    (fits : FitsEntry t.disk.block_size t.disk.page v) where
-  abbrev pub s : HasNameAtPlace t.pairs can.first can.name index id
+module _ (t : Kept) (index id : ℕ) (can : CanEditEntryOfPair t index id) (g : RawSlot → RawSlot) (v : Slot) (change : ContentChange) (does : Makes change id g) (turns : Turns g (slot_of_editable_entry can) v)
+    (fits : FitsEntryLimits t.disk.block_size t.disk.page v) where
+  abbrev pub s : IsPlaceOfNameInDirectory t.pairs can.first can.name index id
   s = can.stands
 
   abbrev pub p : Pair
@@ -70,7 +70,7 @@ module _ (t : Kept) (index id : ℕ) (can : CanEdit t index id) (g : RawSlot →
   within : id < length p.content.slots
   within = let h = ap length s.stands.held in let k = length-append l (u ∷ r) in let n = s.stands.number in omega arith
 
-  abbrev c : CompletesTo (raw_at t.disk (pair_in t index).at) p.content
+  abbrev c : CompletesTo (raw_content_of_pair_at t.disk (kept_pair_at_index t index).at) p.content
   c = raw_there t can.ready can.first index p s.rest s.place
 
   raw : IsRaw c.raw.slots l u
@@ -80,16 +80,16 @@ module _ (t : Kept) (index id : ℕ) (can : CanEdit t index id) (g : RawSlot →
   there_raw = ap (slot_of_id c.raw.slots) (sym s.stands.number) ∙ raw.there
 
   abbrev raw_now : RawContent
-  raw_now = record c.raw { slots = with_slot_changed g c.raw.slots id }
+  raw_now = record c.raw { slots = raw_slots_after_slot_change g c.raw.slots id }
 
-  changed_now : changed_by c.raw (change ∷ []) ≡ Some raw_now
+  changed_now : content_after_changes c.raw (change ∷ []) ≡ Some raw_now
   changed_now =
       let few = (fits_there t can.ready can.first index p s.rest s.place).count in
       let m = within in
       does_first change [] c.raw raw_now raw_now (does c.raw (omega arith) (ap (λ (z : RawSlot). is_some z.name) there_raw ∙ is_named raw.here u raw.is)) (does_nothing raw_now)
 
-  made_raw : made_at t.disk (pair_in t index).at (change ∷ []) ≡ Some raw_now
-  made_raw = ap (λ o. option_and_then (λ (x : RawContent). changed_by x (change ∷ [])) o) c.is ∙ changed_now
+  made_raw : pair_content_after_changes t.disk (kept_pair_at_index t index).at (change ∷ []) ≡ Some raw_now
+  made_raw = ap (λ o. option_and_then (λ (x : RawContent). content_after_changes x (change ∷ [])) o) c.is ∙ changed_now
 
   abbrev now : Content
   now = record { slots = set p.content.slots id v; tail = p.content.tail; move = p.content.move }
@@ -97,22 +97,22 @@ module _ (t : Kept) (index id : ℕ) (can : CanEdit t index id) (g : RawSlot →
   slots_now : set p.content.slots id v ≡ l ++ (v ∷ [] ++ r)
   slots_now = ap₂ (λ (z : List Slot) (i : ℕ). set z i v) s.stands.held (sym s.stands.number) ∙ set_here l r u v
 
-  now_complete : completed raw_now ≡ Some now
+  now_complete : content_if_slots_are_complete raw_now ≡ Some now
   now_complete =
       let parts = completed_parts c.raw p.content c.complete in
       completed_from raw_now (set p.content.slots id v) (complete_set c.raw.slots p.content.slots id (g (slot_of_id c.raw.slots id)) v parts.slots
       (ap (λ (z : RawSlot). complete (g z)) there_raw ∙ turns raw.here raw.is))
       ∙ ap₂ (λ t m. Some (record { slots = set p.content.slots id v; tail = t; move = m })) (sym parts.tail) (sym parts.move)
 
-  made : made_in_thread t index (change ∷ []) ≡ Some now
-  made = ap (λ o. option_and_then completed o) made_raw ∙ now_complete
+  made : complete_content_after_changes t index (change ∷ []) ≡ Some now
+  made = ap (λ o. option_and_then content_if_slots_are_complete o) made_raw ∙ now_complete
 
   cut : CanBeCut t.disk.block_size t.disk.page raw_now.slots
   cut = set_cut t.disk.block_size t.disk.page raw_now now p.content l u v r (logged_changed c.raw (change ∷ []) raw_now (can.logged c.raw c.is) changed_now) now_complete s.stands.held slots_now
       (entry_small t.disk.block_size t.disk.page v can.ready.large fits) (fits_there t can.ready can.first index p s.rest s.place)
 
   -- where it takes no more than it did, what the change makes fits the pair, as what it held did
-  fits_as_before : slot_size v ≤ slot_size u → FitsPair t.disk.block_size t.disk.page now
+  fits_as_before : slot_size v ≤ slot_size u → IsContentFittingPair t.disk.block_size t.disk.page now
   fits_as_before less =
       let f = fits_there t can.ready can.first index p s.rest s.place in
       let a = ap (sum_by slot_size) s.stands.held in
@@ -130,15 +130,15 @@ module _ (t : Kept) (index id : ℕ) (can : CanEdit t index id) (g : RawSlot →
       record { size = omega arith; count = omega arith }
 
   pub not_refused : slot_size v ≤ slot_size u → (new : Kept) → IsCommitRefused t index (change ∷ []) new → ⊥
-  not_refused less new is = is.too_large (subst (FitsPair t.disk.block_size t.disk.page) (sym (same_Some is.content now (sym is.made ∙ made))) (fits_as_before less))
+  not_refused less new is = is.too_large (subst (IsContentFittingPair t.disk.block_size t.disk.page) (sym (same_Some is.content now (sym is.made ∙ made))) (fits_as_before less))
 
-  pub can_put : CanPut t index (change ∷ [])
+  pub can_put : CanChangeOrSplitPair t index (change ∷ [])
   can_put = record {
     can = record {
       below = below t can.ready can.first index p s.rest s.place;
       content = now;
       made = made;
-      next = ap (λ (z : Pair). next_of z.content.tail) (sym (here t can.ready can.first index p s.rest s.place));
+      next = ap (λ (z : Pair). pair_named_by_tail z.content.tail) (sym (here t can.ready can.first index p s.rest s.place));
     };
     raw = raw_now;
     made = made_raw;
@@ -151,9 +151,9 @@ module _ (t : Kept) (index id : ℕ) (can : CanEdit t index id) (g : RawSlot →
   there = thread_is t.disk t.pairs can.path can.at can.ready.accepted can.leads can.first index p s.rest s.place can.begins
 
   -- what holds of all slots holds of it
-  pub of_slot : (P : Slot → Type 0) → Each P (all_slots t.pairs) → P u
+  pub of_slot : (P : Slot → Type 0) → Each P (all_slots_not_moved t.pairs) → P u
   of_slot P h =
-      let on = subst (Each P) (unmoved_in (gstate_of (thread_at w (p ∷ []))) (no_move_from (thread_at w (p ∷ [])) (ap gstate_of (sym there) ∙ can.ready.settled)) (thread_at w (p ∷ []))) (subst (λ z. Each P (all_slots z)) there h) in
+      let on = subst (Each P) (unmoved_in (gstate_of (thread_at w (p ∷ []))) (no_move_from (thread_at w (p ∷ [])) (ap gstate_of (sym there) ∙ can.ready.settled)) (thread_at w (p ∷ []))) (subst (λ z. Each P (all_slots_not_moved z)) there h) in
       let pieces = each_pieces P (λ (x : Pair). x.content.slots) (thread_at w (p ∷ [])) on in
       let here = (each_right (λ (x : Pair). Each P x.content.slots) (w.before ++ w.left) (p ∷ [] ++ (w.right ++ w.after)) (each_right (λ (x : Pair). Each P x.content.slots) w.chain (dirs_at w (p ∷ [])) pieces)).0 in
       (each_right P l (u ∷ r) (subst (Each P) s.stands.held here)).0
@@ -161,19 +161,19 @@ module _ (t : Kept) (index id : ℕ) (can : CanEdit t index id) (g : RawSlot →
   pub other : is_superblock u ≡ false
   other = s.stands.entry
 
-  pub entry : IsEntry u
+  pub entry : IsFileOrDirectoryEntry u
   entry =
       let here = each_pair t can.ready can.first index p s.rest s.place (λ x. Each IsEntryIfOther x.content.slots) (other_entries t.disk t.pairs can.ready.accepted) in
       (each_right IsEntryIfOther l (u ∷ r) (subst (Each IsEntryIfOther) s.stands.held here)).0 other
 
   -- the blocks that the two name
   pub record Names (gone come : List ℕ) : Type 0 where
-    pub entry : IsEntry v
+    pub entry : IsFileOrDirectoryEntry v
     pub flying : Each (IsInFlight t.map) come
     pub apart : IsDistinct nat_eq (come ++ used_blocks t.disk t.pairs)
-    pub lists : (disk : Disk) → SameGeometry t.disk disk → HasSameFile t.disk disk u.struct → Each (λ b. block_at disk b ≡ block_at t.disk b) come → IsListIfCtz disk v.struct
-    pub blocks : (disk : Disk) → SameGeometry t.disk disk → HasSameFile t.disk disk u.struct → Each (λ b. block_at disk b ≡ block_at t.disk b) come
-        → (b : ℕ) → count b (file_blocks disk v.struct) + count b gone ≡ count b come + count b (file_blocks t.disk u.struct)
+    pub lists : (disk : Disk) → SameGeometry t.disk disk → HasSameFile t.disk disk u.struct → Each (λ b. block_bytes_on_disk disk b ≡ block_bytes_on_disk t.disk b) come → IsListIfCtz disk v.struct
+    pub blocks : (disk : Disk) → SameGeometry t.disk disk → HasSameFile t.disk disk u.struct → Each (λ b. block_bytes_on_disk disk b ≡ block_bytes_on_disk t.disk b) come
+        → (b : ℕ) → count b (skip_list_blocks_of_struct disk v.struct) + count b gone ≡ count b come + count b (skip_list_blocks_of_struct t.disk u.struct)
 
   pub splicing : (gone come : List ℕ) → Names gone come → IsSplicing t index (change ∷ []) w p l (u ∷ []) (v ∷ []) r gone come
   splicing gone come n = record {
@@ -195,13 +195,13 @@ module _ (t : Kept) (index id : ℕ) (can : CanEdit t index id) (g : RawSlot →
     lists = λ disk geometry files same. (n.lists disk geometry (of_slot (λ x. HasSameFile t.disk disk x.struct) files) same, tt);
     blocks = λ disk geometry files same b.
         let e = n.blocks disk geometry (of_slot (λ x. HasSameFile t.disk disk x.struct) files) same b in
-        let f = count_append b (file_blocks disk v.struct) [] in
-        let h = count_append b (file_blocks t.disk u.struct) [] in
+        let f = count_append b (skip_list_blocks_of_struct disk v.struct) [] in
+        let h = count_append b (skip_list_blocks_of_struct t.disk u.struct) [] in
         omega arith;
   }
 
-  pub leads_there : PathLeadsTo (thread_at w (p ∷ [])) can.path can.at
-  leads_there = subst (λ z. PathLeadsTo z can.path can.at) there can.leads
+  pub leads_there : IsPathToDirectory (thread_at w (p ∷ [])) can.path can.at
+  leads_there = subst (λ z. IsPathToDirectory z can.path can.at) there can.leads
 
   pub same_there : same_pair (begin_of w (p ∷ [])) can.at ≡ true
   same_there = same t.disk t.pairs can.path can.at can.ready.accepted can.leads can.first index p s.rest s.place can.begins

@@ -3,18 +3,18 @@ use Rattle.std.proofs.Common.{ℕ, ◌≡◌, ◌≢◌, ◌&&◌, true, false, 
 use Rattle.std.specs.Prelude.{is_some}
 use Rattle.std.specs.List.{IsDistinct}
 use Rattle.std.proofs.lemmas.List.Elements.{recursion_from_All}
-use Rattle.lfs_model.specs.TreeEdits.{with_subtree_moved, tree_without}
+use Rattle.lfs_model.specs.TreeEdits.{tree_after_subtree_replacement, tree_after_removal}
 use Rattle.lfs_model.specs.Disk.{Disk}
 use Rattle.lfs_model.specs.Operations as ops
 use Rattle.lfs_model.specs.Session.{Session}
 use Rattle.lfs_model.specs.SlotEdits.{slot_of_path}
-use Rattle.lfs_model.specs.Slots.{Branch, Slot, Tail, is_superblock, no_gstate, same_pair}
-use Rattle.lfs_model.specs.Refusals.{as_path}
-use Rattle.lfs_model.specs.Thread.{Pair, blocks_of, gstate_of, is_hard, superblocks_before}
+use Rattle.lfs_model.specs.Slots.{Branch, Slot, Tail, is_superblock, zero_gstate, same_pair}
+use Rattle.lfs_model.specs.Refusals.{path_or_root}
+use Rattle.lfs_model.specs.Thread.{Pair, blocks_of_pairs, gstate_of, is_hard_tail, pair_count_before_root}
 use Rattle.lfs_model.specs.Tree.{Path}
-use Rattle.lfs_model.specs.View.{IsAccepted}
+use Rattle.lfs_model.specs.View.{IsAcceptedImage}
 use Rattle.lfs_model.specs.Profile.{IsWritable}
-use Rattle.lfs_model.specs.Shown.{PathLeadsTo, all_slots, entries_in, tree_in, used_blocks}
+use Rattle.lfs_model.specs.Shown.{IsPathToDirectory, all_slots_not_moved, entries_by_directory_in_thread, tree_on_disk, used_blocks}
 use Rattle.lfs_model.proofs.Alike.{alike_itself}
 use Rattle.lfs_model.proofs.Changes.{Follows, SameFiles, slots_files}
 use Rattle.lfs_model.proofs.Committed.{IsCompleted}
@@ -30,7 +30,7 @@ use Rattle.lfs_model.proofs.Searches.{avoids_behind, avoids_front}
 use Rattle.lfs_model.proofs.Sites.{Site, begin_of, dirs_at, thread_at}
 use Rattle.lfs_model.proofs.Splices.{IsDevice, count_files, files_of, slots_in, unmoved_in}
 use Rattle.lfs_model.proofs.StepsTaken.{IsOnlyStep}
-use Rattle.lfs_operations.specs.Dropping.{taken_over}
+use Rattle.lfs_operations.specs.Dropping.{tail_over_dropped_pair}
 use Rattle.lfs_operations.proofs.Dropped.{count_used, slots_append}
 use Rattle.lfs_operations.proofs.Placing.{blocks_append}
 use Rattle.lfs_operations.proofs.RmdirPlaces.{Ahead, Behind, Itself, Next, WhereIs, soft_end, where_is}
@@ -43,12 +43,12 @@ pub record Unlinks (disk middle : Disk) (w : Site) (p q : Pair) (l r : List Slot
   pub other : is_superblock u ≡ false
   pub old_writable : IsWritable disk (thread_at w (p ∷ []))
   pub writable : IsWritable middle (thread_at w (q ∷ []))
-  pub leads : PathLeadsTo (thread_at w (p ∷ [])) P a
+  pub leads : IsPathToDirectory (thread_at w (p ∷ [])) P a
   pub same : same_pair (begin_of w (p ∷ [])) a ≡ true
   pub branch : u.struct ≡ Branch d
-  pub empty : entries_in (thread_at w (p ∷ [])) d ≡ []
+  pub empty : entries_by_directory_in_thread (thread_at w (p ∷ [])) d ≡ []
   pub sync : (gstate_of (thread_at w (q ∷ []))).sync ≡ true
-  pub settled : gstate_of (thread_at w (p ∷ [])) ≡ no_gstate
+  pub settled : gstate_of (thread_at w (p ∷ [])) ≡ zero_gstate
   pub held : p.content.slots ≡ l ++ u ∷ r
   pub kept : q.content.slots ≡ l ++ r
   pub tail : q.content.tail ≡ p.content.tail
@@ -61,13 +61,13 @@ pub record HasPlace (disk middle : Disk) (w : Site) (p q : Pair) (u : Slot) (P :
   pub back : List Pair
   pub there : dirs_at w (q ∷ []) ≡ front ++ x ∷ o ∷ back
   pub number : length front ≡ n
-  pub soft : is_hard x.content.tail ≡ false
+  pub soft : is_hard_tail x.content.tail ≡ false
   pub taken : (new : Disk) (y : Pair) → IsGone middle new w.chain front x o y back
-      → IsOnlyStep disk (thread_at w (p ∷ [])) new (w.chain ++ (front ++ y ∷ back)) (tree_without (P ++ u.name ∷ [])) (with_subtree_moved (P ++ u.name ∷ []) (λ t. None))
-  pub completed : (new : Disk) (y : Pair) → IsGone middle new w.chain front x o y back → (s : Session) (path : List ℕ) → s.tree ≡ tree_in disk (thread_at w (p ∷ [])) → as_path path ≡ P ++ u.name ∷ []
+      → IsOnlyStep disk (thread_at w (p ∷ [])) new (w.chain ++ (front ++ y ∷ back)) (tree_after_removal (P ++ u.name ∷ [])) (tree_after_subtree_replacement (P ++ u.name ∷ []) (λ t. None))
+  pub completed : (new : Disk) (y : Pair) → IsGone middle new w.chain front x o y back → (s : Session) (path : List ℕ) → s.tree ≡ tree_on_disk disk (thread_at w (p ∷ [])) → path_or_root path ≡ P ++ u.name ∷ []
       → IsCompleted disk (thread_at w (p ∷ [])) s (ops.Remove path) new (w.chain ++ (front ++ y ∷ back))
 
-module _ (disk middle : Disk) (w : Site) (p q : Pair) (l r : List Slot) (u : Slot) (P : Path) (a d : ℕ × ℕ) (c : Unlinks disk middle w p q l r u P a d) (o : Pair) (address : same_pair o.at d ≡ true) (alone : is_hard o.content.tail ≡ false) where
+module _ (disk middle : Disk) (w : Site) (p q : Pair) (l r : List Slot) (u : Slot) (P : Path) (a d : ℕ × ℕ) (c : Unlinks disk middle w p q l r u P a d) (o : Pair) (address : same_pair o.at d ≡ true) (alone : is_hard_tail o.content.tail ≡ false) where
   abbrev in_front : List Pair
   in_front = w.before ++ w.left
 
@@ -78,11 +78,11 @@ module _ (disk middle : Disk) (w : Site) (p q : Pair) (l r : List Slot) (u : Slo
   path_there = P ++ u.name ∷ []
 
   takes_place : (front : List Pair) (x : Pair) (back : List Pair) → dirs_at w (q ∷ []) ≡ front ++ x ∷ o ∷ back → (new : Disk) (y : Pair) → IsGone middle new w.chain front x o y back
-      → IsOnlyStep disk (thread_at w (p ∷ [])) new (w.chain ++ (front ++ y ∷ back)) (tree_without (P ++ u.name ∷ [])) (with_subtree_moved (P ++ u.name ∷ []) (λ t. None))
+      → IsOnlyStep disk (thread_at w (p ∷ [])) new (w.chain ++ (front ++ y ∷ back)) (tree_after_removal (P ++ u.name ∷ [])) (tree_after_subtree_replacement (P ++ u.name ∷ []) (λ t. None))
   takes_place front x back there new y gone =
       rmdir_taken disk middle new w p [] q l r u c.step c.other c.writable P a c.leads c.same d c.branch c.empty c.sync c.settled front x o y back there address alone gone
 
-  ahead_place : (mid : List Pair) (x : Pair) (back : List Pair) (n : ℕ) → in_back ≡ mid ++ x ∷ o ∷ back → length (in_front ++ p ∷ mid) ≡ n → is_hard x.content.tail ≡ false → HasPlace disk middle w p q u P o n
+  ahead_place : (mid : List Pair) (x : Pair) (back : List Pair) (n : ℕ) → in_back ≡ mid ++ x ∷ o ∷ back → length (in_front ++ p ∷ mid) ≡ n → is_hard_tail x.content.tail ≡ false → HasPlace disk middle w p q u P o n
   ahead_place mid x back n e k soft =
       let there : dirs_at w (q ∷ []) ≡ ((w.before ++ w.left) ++ q ∷ mid) ++ x ∷ o ∷ back = ap (λ z. in_front ++ q ∷ z) e ∙ sym (append_assoc in_front (q ∷ mid) (x ∷ o ∷ back)) in
       record {
@@ -97,7 +97,7 @@ module _ (disk middle : Disk) (w : Site) (p q : Pair) (l r : List Slot) (u : Slo
             mid x o y back e address alone c.held c.kept c.some gone s path tree is;
       }
 
-  behind_place : (front : List Pair) (x : Pair) (mid : List Pair) → in_front ≡ front ++ x ∷ o ∷ mid → is_hard x.content.tail ≡ false → HasPlace disk middle w p q u P o (length front)
+  behind_place : (front : List Pair) (x : Pair) (mid : List Pair) → in_front ≡ front ++ x ∷ o ∷ mid → is_hard_tail x.content.tail ≡ false → HasPlace disk middle w p q u P o (length front)
   behind_place front x mid e soft =
       let there : dirs_at w (q ∷ []) ≡ front ++ x ∷ o ∷ (mid ++ q ∷ (w.right ++ w.after)) = ap (λ z. z ++ q ∷ in_back) e ∙ append_assoc front (x ∷ o ∷ mid) (q ∷ in_back) in
       record {
@@ -113,33 +113,33 @@ module _ (disk middle : Disk) (w : Site) (p q : Pair) (l r : List Slot) (u : Slo
       }
 
   -- the pair that had the entry is the one in front
-  module _ (back : List Pair) (e : in_back ≡ o ∷ back) (soft : is_hard p.content.tail ≡ false) where
+  module _ (back : List Pair) (e : in_back ≡ o ∷ back) (soft : is_hard_tail p.content.tail ≡ false) where
     there_next : dirs_at w (q ∷ []) ≡ in_front ++ q ∷ o ∷ back
     there_next = ap (λ z. in_front ++ q ∷ z) e
 
     were : thread_at w (p ∷ []) ≡ w.chain ++ (in_front ++ p ∷ o ∷ back)
     were = ap (λ z. w.chain ++ (in_front ++ p ∷ z)) e
 
-    distinct : IsDistinct nat_eq (blocks_of ((w.chain ++ (in_front ++ p ∷ [])) ++ o ∷ back))
-    distinct = subst (λ z. IsDistinct nat_eq (blocks_of z))
+    distinct : IsDistinct nat_eq (blocks_of_pairs ((w.chain ++ (in_front ++ p ∷ [])) ++ o ∷ back))
+    distinct = subst (λ z. IsDistinct nat_eq (blocks_of_pairs z))
         (were ∙ ap (λ z. w.chain ++ z) (sym (append_assoc in_front (p ∷ []) (o ∷ back))) ∙ sym (append_assoc w.chain (in_front ++ p ∷ []) (o ∷ back))) c.step.accepted.thread.distinct
 
     module _ (new : Disk) (y : Pair) (gone : IsGone middle new w.chain in_front q o y back) where
       abbrev after : List Pair
       after = w.chain ++ (in_front ++ y ∷ back)
 
-      taken_next : IsOnlyStep disk (thread_at w (p ∷ [])) new after (tree_without path_there) (with_subtree_moved path_there (λ t. None))
+      taken_next : IsOnlyStep disk (thread_at w (p ∷ [])) new after (tree_after_removal path_there) (tree_after_subtree_replacement path_there (λ t. None))
       taken_next = takes_place in_front q back there_next new y gone
 
       made_next : IsRmdir disk new after true w.chain in_front [] back p o (y ∷ []) l u r d path_there
       made_next = record {
-        is_chain = ap superblocks_before (sym were) ∙ c.step.site.chain;
-        accepted = subst (IsAccepted disk) were c.step.accepted;
+        is_chain = ap pair_count_before_root (sym were) ∙ c.step.site.chain;
+        accepted = subst (IsAcceptedImage disk) were c.step.accepted;
         writable = subst (IsWritable disk) were c.old_writable;
         settled = ap gstate_of (sym were) ∙ c.settled;
         still = gone.settled;
-        walk = with_subtree_moved path_there (λ t. None);
-        follows = subst (λ z. Follows disk z new after (tree_without path_there) (with_subtree_moved path_there (λ t. None))) were taken_next.follows;
+        walk = tree_after_subtree_replacement path_there (λ t. None);
+        follows = subst (λ z. Follows disk z new after (tree_after_removal path_there) (tree_after_subtree_replacement path_there (λ t. None))) were taken_next.follows;
         still_writable = taken_next.writable;
         held = c.held;
         branch = c.branch;
@@ -156,9 +156,9 @@ module _ (disk middle : Disk) (w : Site) (p q : Pair) (l r : List Slot) (u : Slo
             (rmdir_named disk middle new w p [] q l r u c.step c.other c.writable P a c.leads c.same d c.branch c.empty c.sync c.settled in_front q o y back there_next address alone gone);
       }
 
-      completed_next : (s : Session) (path : List ℕ) → s.tree ≡ tree_in disk (thread_at w (p ∷ [])) → as_path path ≡ P ++ u.name ∷ [] → IsCompleted disk (thread_at w (p ∷ [])) s (ops.Remove path) new after
+      completed_next : (s : Session) (path : List ℕ) → s.tree ≡ tree_on_disk disk (thread_at w (p ∷ [])) → path_or_root path ≡ P ++ u.name ∷ [] → IsCompleted disk (thread_at w (p ∷ [])) s (ops.Remove path) new after
       completed_next s path tree is = subst (λ z. IsCompleted disk z s (ops.Remove path) new after) (sym were)
-          (rmdir_completed disk new after true w.chain in_front [] back p o (y ∷ []) l u r d path_there made_next s path (tree ∙ ap (tree_in disk) were) is)
+          (rmdir_completed disk new after true w.chain in_front [] back p o (y ∷ []) l u r d path_there made_next s path (tree ∙ ap (tree_on_disk disk) were) is)
 
     next_place : HasPlace disk middle w p q u P o (length in_front)
     next_place = record {
@@ -167,7 +167,7 @@ module _ (disk middle : Disk) (w : Site) (p q : Pair) (l r : List Slot) (u : Slo
       back = back;
       there = there_next;
       number = refl;
-      soft = ap is_hard c.tail ∙ soft;
+      soft = ap is_hard_tail c.tail ∙ soft;
       taken = takes_place (w.before ++ w.left) q back there_next;
       completed = completed_next;
     }
@@ -180,18 +180,18 @@ module _ (disk middle : Disk) (w : Site) (p q : Pair) (l r : List Slot) (u : Slo
       no_slot [] k = absurd (cc)
       no_slot (s ∷ xs) k = absurd (cc)
 
-  pub place_of : (front : List Pair) (x : Pair) (back : List Pair) → dirs_at w (p ∷ []) ≡ front ++ x ∷ o ∷ back → is_hard x.content.tail ≡ false → o.content.slots ≡ [] → HasPlace disk middle w p q u P o (length front)
+  pub place_of : (front : List Pair) (x : Pair) (back : List Pair) → dirs_at w (p ∷ []) ≡ front ++ x ∷ o ∷ back → is_hard_tail x.content.tail ≡ false → o.content.slots ≡ [] → HasPlace disk middle w p q u P o (length front)
   place_of front x back e soft none = by (where_is in_front p in_back front x o back e)
     where
       by : WhereIs in_front p in_back front x o back → HasPlace disk middle w p q u P o (length front)
       by (Ahead mid h k) = ahead_place mid x back (length front) h (ap length (sym k)) soft
-      by (Next h i k) = subst (λ z. HasPlace disk middle w p q u P o (length z)) h (next_place back k (ap (λ (z : Pair). is_hard z.content.tail) (sym i) ∙ soft))
+      by (Next h i k) = subst (λ z. HasPlace disk middle w p q u P o (length z)) h (next_place back k (ap (λ (z : Pair). is_hard_tail z.content.tail) (sym i) ∙ soft))
       by (Itself h) = absurd (not_itself none h)
       by (Behind mid h) = behind_place front x mid h soft
 
 -- ---- the tail
 
-pub over_soft : (f g : Option Tail) → is_hard f ≡ false → taken_over f g ≡ softened g
+pub over_soft : (f g : Option Tail) → is_hard_tail f ≡ false → tail_over_dropped_pair f g ≡ softened g
 over_soft f None h = refl
 over_soft f (Some t) h = ap (λ b. Some (record { hard = b && t.hard; to = t.to })) h
 
@@ -201,7 +201,7 @@ module _ (disk new : Disk) (ahead : List Pair) (p q : Pair) (back : List Pair) (
     (on : IsDevice disk new (ahead ++ p ∷ back) (ahead ++ q ∷ back)) (at : q.at ≡ p.at) (held : p.content.slots ≡ l ++ u ∷ r) (kept : q.content.slots ≡ l ++ r) (branch : u.struct ≡ Branch d) where
   same_files : SameFiles disk new (slots_in ahead ++ (p.content.slots ++ slots_in back))
   same_files = subst (SameFiles disk new) (unmoved_in (gstate_of (ahead ++ p ∷ back)) none (ahead ++ p ∷ back) ∙ slots_append ahead (p ∷ back))
-      (recursion_from_All (λ (s : Slot). HasSameFile disk new s.struct) (all_slots (ahead ++ p ∷ back)) on.files)
+      (recursion_from_All (λ (s : Slot). HasSameFile disk new s.struct) (all_slots_not_moved (ahead ++ p ∷ back)) on.files)
 
   stays_same : (ss : List Slot) → SameFiles disk new ss → (b : ℕ) → count b (files_of new ss) ≡ count b (files_of disk ss)
   stays_same ss h b = ap (count b) (slots_files disk new ss on.geometry h)

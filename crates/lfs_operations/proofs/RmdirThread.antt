@@ -1,20 +1,20 @@
 -- An empty directory that goes in two steps of the thread.
 use Rattle.std.proofs.Common.{ℕ, ◌≡◌, ◌≢◌, ◌⊎◌, inl, inr, ◌+◌, ◌-◌, ◌<◌, ◌≤◌, true, false, nat_eq, slice_get, set, List, [], ◌∷◌, ◌++◌, length, Some, None, refl, sym, ap, ap₂, subst, ◌∙◌, arith, append_assoc, append-nil, length-append}
 use Rattle.std.specs.List.{IsDistinct}
-use Rattle.lfs_model.specs.TreeEdits.{tree_without, with_subtree_moved}
+use Rattle.lfs_model.specs.TreeEdits.{tree_after_removal, tree_after_subtree_replacement}
 use Rattle.lfs_model.specs.Blocks.{Blocks}
-use Rattle.lfs_model.specs.BlockSets.{AreUsed}
-use Rattle.lfs_model.specs.Content.{content_at, holder_at}
+use Rattle.lfs_model.specs.BlockSets.{AreExactlyTheUsedBlocks}
+use Rattle.lfs_model.specs.Content.{content_of_pair_at, current_block_of_pair_at}
 use Rattle.lfs_model.specs.Disk.{Disk}
-use Rattle.lfs_model.specs.InDirectory.{BeginsAt}
+use Rattle.lfs_model.specs.InDirectory.{IsPairAtAddress}
 use Rattle.lfs_model.specs.Operations as ops
-use Rattle.lfs_model.specs.PowerLoss.{IsLeftByStop as IsLeftOf, with_blocks}
-use Rattle.lfs_model.specs.SlotEdits.{with_slots}
-use Rattle.lfs_model.specs.Slots.{Content, Gstate, Slot, gstate_xor, no_gstate, same_pair}
-use Rattle.lfs_model.specs.Thread.{Pair, blocks_of, gstate_of, is_hard, starts_with_superblock, superblocks_before}
-use Rattle.lfs_model.specs.View.{BeginsWithEntry, IsAccepted, superblock_entry}
+use Rattle.lfs_model.specs.PowerLoss.{ShowsTreeBeforeOrAfter as IsLeftOf, with_blocks}
+use Rattle.lfs_model.specs.SlotEdits.{pair_with_slots}
+use Rattle.lfs_model.specs.Slots.{Content, Gstate, Slot, gstate_xor, zero_gstate, same_pair}
+use Rattle.lfs_model.specs.Thread.{Pair, blocks_of_pairs, gstate_of, is_hard_tail, starts_with_superblock, pair_count_before_root}
+use Rattle.lfs_model.specs.View.{BeginsWithLogEntry, IsAcceptedImage, superblock_name_log_entry}
 use Rattle.lfs_model.specs.Profile.{IsWritable}
-use Rattle.lfs_model.specs.Shown.{PathLeadsTo, entries_in, tree_in, used_blocks}
+use Rattle.lfs_model.specs.Shown.{IsPathToDirectory, entries_by_directory_in_thread, tree_on_disk, used_blocks}
 use Rattle.lfs_model.proofs.Became.{fits_same}
 use Rattle.lfs_model.proofs.Committed.{IsCompleted, no_move_from}
 use Rattle.lfs_model.proofs.Counts.{count, once_from_distinct}
@@ -28,14 +28,14 @@ use Rattle.lfs_model.proofs.Splices.{IsDevice, files_of, stays_shape}
 use Rattle.lfs_model.proofs.StepsTaken.{IsOnlyStep, commit_taken}
 use Rattle.lfs_model.proofs.Unchanged.{HasFirst}
 use Rattle.lfs_model.proofs.Writable.{ends_in_hard_tail}
-use Rattle.lfs_pair.specs.Commit.{OutsideKeeps}
-use Rattle.lfs_thread.specs.Device.{two_of}
+use Rattle.lfs_pair.specs.Commit.{KeepsBlocksOutsidePair}
+use Rattle.lfs_thread.specs.Device.{blocks_of_address}
 use Rattle.lfs_thread.specs.Kept.{Kept}
-use Rattle.lfs_thread.specs.Steps.{IsWrittenAs, SlotsHaveFirst, no_pair, pair_in, without_pair}
-use Rattle.lfs_operations.specs.Dropping.{CanDropAt, HasDroppedBehind, IsLeftByDrop, SameInFlight, with_tail_taken}
-use Rattle.lfs_operations.specs.Editing.{CanEdit}
-use Rattle.lfs_operations.specs.Removing.{drops_pair, without_file}
-use Rattle.lfs_operations.specs.Unlinking.{CanRemoveDirectory, IsDirectoryRemoved, IsLeftByUnlink, IsUnlinked, without_entry}
+use Rattle.lfs_thread.specs.Steps.{IsPairWrittenOnDisk, SlotsBeginWithSuperblock, no_pair, kept_pair_at_index, map_with_freed_pair}
+use Rattle.lfs_operations.specs.Dropping.{CanDropPairAt, IsNextPairDropped, IsLeftByStoppedDrop, HasSameBlocksInFlight, content_after_drop}
+use Rattle.lfs_operations.specs.Editing.{CanEditEntryOfPair}
+use Rattle.lfs_operations.specs.Removing.{is_pair_dropped_with_slot, tree_without_named_entry}
+use Rattle.lfs_operations.specs.Unlinking.{CanRemoveDirectory, IsDirectoryRemoved, IsLeftByStoppedUnlink, IsDirectoryEntryUnlinked, content_without_directory_entry}
 use Rattle.lfs_operations.proofs.Dropped.{dropped_count, flying_same, length_fewer, profile_same, used_fewer}
 use Rattle.lfs_operations.proofs.DroppedTails.{no_move_state}
 use Rattle.lfs_operations.proofs.Placing.{IsPlaced, all_apart, device, nothing_came}
@@ -50,8 +50,8 @@ get_at : (xs : List Pair) (p : Pair) (zs : List Pair) (n : ℕ) (q : Pair) → l
 get_at [] p zs n q e = ap (λ (k : ℕ). set (p ∷ zs) k q) (sym e)
 get_at (x ∷ xs) p zs n q e = ap (λ (k : ℕ). set (x ∷ (xs ++ p ∷ zs)) k q) (sym e) ∙ ap (λ z. x ∷ z) (get_at xs p zs (length xs) q refl)
 
-module _ (t : Kept) (index id first gone : ℕ) (take : CanRemoveDirectory t index id first gone) (goes : drops_pair t index first ≡ false) where
-  abbrev can : CanEdit t index id
+module _ (t : Kept) (index id first gone : ℕ) (take : CanRemoveDirectory t index id first gone) (goes : is_pair_dropped_with_slot t index first ≡ false) where
+  abbrev can : CanEditEntryOfPair t index id
   can = take.can
 
   abbrev p : Pair
@@ -67,7 +67,7 @@ module _ (t : Kept) (index id first gone : ℕ) (take : CanRemoveDirectory t ind
   u = can.stands.stands.slot
 
   abbrev o : Pair
-  o = pair_in t gone
+  o = kept_pair_at_index t gone
 
   abbrev w : Site
   w = site t.disk t.pairs can.path can.at can.ready.accepted can.leads can.first index p can.stands.rest can.stands.place can.begins
@@ -84,28 +84,28 @@ module _ (t : Kept) (index id first gone : ℕ) (take : CanRemoveDirectory t ind
   same_begin : same_pair (begin_of w (p ∷ [])) can.at ≡ true
   same_begin = same t.disk t.pairs can.path can.at can.ready.accepted can.leads can.first index p can.stands.rest can.stands.place can.begins
 
-  accepted : IsAccepted t.disk (thread_at w (p ∷ []))
-  accepted = subst (IsAccepted t.disk) there can.ready.accepted
+  accepted : IsAcceptedImage t.disk (thread_at w (p ∷ []))
+  accepted = subst (IsAcceptedImage t.disk) there can.ready.accepted
 
   writable : IsWritable t.disk (thread_at w (p ∷ []))
   writable = subst (IsWritable t.disk) there can.ready.writable
 
-  settled : gstate_of (thread_at w (p ∷ [])) ≡ no_gstate
+  settled : gstate_of (thread_at w (p ∷ [])) ≡ zero_gstate
   settled = ap gstate_of (sym there) ∙ can.ready.settled
 
-  leads : PathLeadsTo (thread_at w (p ∷ [])) can.path can.at
-  leads = subst (λ z. PathLeadsTo z can.path can.at) there can.leads
+  leads : IsPathToDirectory (thread_at w (p ∷ [])) can.path can.at
+  leads = subst (λ z. IsPathToDirectory z can.path can.at) there can.leads
 
   held : p.content.slots ≡ l ++ u ∷ r
   held = can.stands.stands.held
 
   -- ---- the pair that goes
 
-  entry_there : slice_get (entries_in (thread_at w (p ∷ [])) can.at) (place_at w l) ≡ Some u
+  entry_there : slice_get (entries_by_directory_in_thread (thread_at w (p ∷ [])) can.at) (place_at w l) ≡ Some u
   entry_there = ap (λ s. slice_get s (place_at w l)) (site_shows t.disk w p l (u ∷ []) r can.at accepted site_is (no_move_from (thread_at w (p ∷ [])) settled) same_begin held
       ∙ ap (λ s. shown_before w l ++ (s ++ shown_behind w r)) (entry_only u can.stands.stands.entry)) ∙ get_here (shown_before w l) (shown_behind w r) u
 
-  led : PathLeadsTo (thread_at w (p ∷ [])) (can.path ++ u.name ∷ []) take.to
+  led : IsPathToDirectory (thread_at w (p ∷ [])) (can.path ++ u.name ∷ []) take.to
   led = directory_led t.disk (thread_at w (p ∷ [])) can.path can.at (place_at w l) u take.to accepted leads entry_there take.branch
 
   front : HasFront (dirs_at w (p ∷ [])) take.to
@@ -115,10 +115,10 @@ module _ (t : Kept) (index id first gone : ℕ) (take : CanRemoveDirectory t ind
   first_is = number_of_first t.disk w.chain (dirs_at w (p ∷ [])) take.to accepted front gone o
       (subst (λ z. slice_get z gone ≡ Some o) there (get_some t.pairs gone no_pair take.below)) take.at
 
-  alone_first : is_hard front.first.content.tail ≡ false
-  alone_first = ap (λ (z : Pair). is_hard z.content.tail) first_is.1 ∙ take.alone
+  alone_first : is_hard_tail front.first.content.tail ≡ false
+  alone_first = ap (λ (z : Pair). is_hard_tail z.content.tail) first_is.1 ∙ take.alone
 
-  empty : entries_in (thread_at w (p ∷ [])) take.to ≡ []
+  empty : entries_by_directory_in_thread (thread_at w (p ∷ [])) take.to ≡ []
   empty = shows_nothing t.disk w.chain (dirs_at w (p ∷ [])) take.to accepted site_is.chain (no_move_from (thread_at w (p ∷ [])) settled) front alone_first
       (ap (λ (z : Pair). z.content.slots) first_is.1 ∙ take.empty)
 
@@ -129,10 +129,10 @@ module _ (t : Kept) (index id first gone : ℕ) (take : CanRemoveDirectory t ind
   filled : ends_in_hard_tail false (w.before ++ w.left) ≡ true → l ++ ([] ++ r) ≢ []
   filled hard none = go (stays_there t index id first take.can take.begins goes)
     where
-      go : (index ≡ can.first) ⊎ (1 < length (pair_in t index).content.slots) → ⊥
+      go : (index ≡ can.first) ⊎ (1 < length (kept_pair_at_index t index).content.slots) → ⊥
       go (inl e) =
-          let none_before = alone w.chain w.before w.left (w.right ++ w.after) p can.at can.first (subst (λ z. IsDistinct nat_eq (blocks_of z)) there can.ready.accepted.thread.distinct) same_begin
-          (subst (λ z. BeginsAt z can.at can.first) there can.begins) (sym e ∙ number_there) in
+          let none_before = alone w.chain w.before w.left (w.right ++ w.after) p can.at can.first (subst (λ z. IsDistinct nat_eq (blocks_of_pairs z)) there can.ready.accepted.thread.distinct) same_begin
+          (subst (λ z. IsPairAtAddress z can.at can.first) there can.begins) (sym e ∙ number_there) in
           let soft = ap (λ z. ends_in_hard_tail false (w.before ++ z)) none_before ∙ ap (ends_in_hard_tail false) (append-nil w.before) ∙ flag_ends w.before site_is.ends in
           absurd (let z = sym hard ∙ soft in cc)
       go (inr many) =
@@ -145,12 +145,12 @@ module _ (t : Kept) (index id first gone : ℕ) (take : CanRemoveDirectory t ind
   -- ---- the first step
 
   abbrev c : Content
-  c = without_entry t index id
+  c = content_without_directory_entry t index id
 
   abbrev q : Pair
   q = record { at = p.at; content = c }
 
-  at_is : (pair_in t index).at ≡ p.at
+  at_is : (kept_pair_at_index t index).at ≡ p.at
   at_is = ap (λ (z : Pair). z.at) (pair_there t index id can)
 
   kept : q.content.slots ≡ l ++ r
@@ -182,22 +182,22 @@ module _ (t : Kept) (index id first gone : ℕ) (take : CanRemoveDirectory t ind
   no_move_middle = subst HasNoMove (sym gstate_middle) (record { kind = refl; id = refl; pair = refl })
 
   -- the superblock stays in slot 0
-  still_has : HasFirst p.content.slots → SlotsHaveFirst q.content.slots
-  still_has h = subst SlotsHaveFirst (sym kept) (go l (λ e. can.stands.stands.entry) (subst SlotsHaveFirst held (h.kind, h.name)))
+  still_has : HasFirst p.content.slots → SlotsBeginWithSuperblock q.content.slots
+  still_has h = subst SlotsBeginWithSuperblock (sym kept) (go l (λ e. can.stands.stands.entry) (subst SlotsBeginWithSuperblock held (h.kind, h.name)))
     where
-      go : (l : List Slot) → (l ≡ [] → starts_with_superblock (u ∷ r) ≡ false) → SlotsHaveFirst (l ++ u ∷ r) → SlotsHaveFirst (l ++ r)
+      go : (l : List Slot) → (l ≡ [] → starts_with_superblock (u ∷ r) ≡ false) → SlotsBeginWithSuperblock (l ++ u ∷ r) → SlotsBeginWithSuperblock (l ++ r)
       go [] f e = absurd (let z = sym (f refl) ∙ e.0 in cc)
       go (s ∷ l) f e = e
 
-  placed : (disk : Disk) (d : Content) → (HasFirst p.content.slots → SlotsHaveFirst d.slots) → IsWrittenAs t index d disk → IsPlaced t.disk disk p (record { at = p.at; content = d }) [] []
+  placed : (disk : Disk) (d : Content) → (HasFirst p.content.slots → SlotsBeginWithSuperblock d.slots) → IsPairWrittenOnDisk t index d disk → IsPlaced t.disk disk p (record { at = p.at; content = d }) [] []
   placed disk d first h = record {
     geometry = record { block_size = h.shape.block_size; page = h.shape.page; order = h.shape.order; count = h.shape.count };
-    same = λ b none. (subst (λ at. OutsideKeeps at t.disk.blocks disk.blocks) at_is h.others).others b (all_apart (p.at.0 ∷ p.at.1 ∷ []) b none);
-    contents = (ap (content_at disk) (sym at_is) ∙ h.holds, tt);
-    first = λ k b. subst (λ at. BeginsWithEntry (holder_at disk at) superblock_entry) at_is (h.first (subst (λ at. BeginsWithEntry (holder_at t.disk at) superblock_entry) (sym at_is) b) (first k));
+    same = λ b none. (subst (λ at. KeepsBlocksOutsidePair at t.disk.blocks disk.blocks) at_is h.others).others b (all_apart (p.at.0 ∷ p.at.1 ∷ []) b none);
+    contents = (ap (content_of_pair_at disk) (sym at_is) ∙ h.holds, tt);
+    first = λ k b. subst (λ at. BeginsWithLogEntry (current_block_of_pair_at disk at) superblock_name_log_entry) at_is (h.first (subst (λ at. BeginsWithLogEntry (current_block_of_pair_at t.disk at) superblock_name_log_entry) (sym at_is) b) (first k));
   }
 
-  device_of : (disk : Disk) → IsWrittenAs t index c disk → IsDevice t.disk disk (thread_at w (p ∷ [])) (thread_at w (q ∷ []))
+  device_of : (disk : Disk) → IsPairWrittenOnDisk t index c disk → IsDevice t.disk disk (thread_at w (p ∷ [])) (thread_at w (q ∷ []))
   device_of disk h = device t.disk disk w p q [] [] accepted accepted.owned_once (placed disk c still_has h)
 
   front_same : starts_with_superblock p.content.slots ≡ true → starts_with_superblock q.content.slots ≡ true
@@ -207,7 +207,7 @@ module _ (t : Kept) (index id first gone : ℕ) (take : CanRemoveDirectory t ind
       go [] f e = absurd (let z = sym (f refl) ∙ e in cc)
       go (s ∷ l) f e = e
 
-  step : (disk : Disk) → IsWrittenAs t index c disk → IsStep t.disk disk w p [] q [] [] [] l (u ∷ []) [] r
+  step : (disk : Disk) → IsPairWrittenOnDisk t index c disk → IsStep t.disk disk w p [] q [] [] [] l (u ∷ []) [] r
   step disk h = record {
     accepted = accepted;
     site = site_is;
@@ -221,20 +221,20 @@ module _ (t : Kept) (index id first gone : ℕ) (take : CanRemoveDirectory t ind
     splice = record { front = λ e. can.stands.stands.entry; entries = tt; lists = tt; blocks = λ b. omega arith };
   }
 
-  first_taken : (disk : Disk) → IsWrittenAs t index c disk → IsOnlyStep t.disk (thread_at w (p ∷ [])) disk (thread_at w (q ∷ [])) (tree_without (can.path ++ u.name ∷ [])) (with_subtree_moved (can.path ++ u.name ∷ []) (λ t. None))
+  first_taken : (disk : Disk) → IsPairWrittenOnDisk t index c disk → IsOnlyStep t.disk (thread_at w (p ∷ [])) disk (thread_at w (q ∷ [])) (tree_after_removal (can.path ++ u.name ∷ [])) (tree_after_subtree_replacement (can.path ++ u.name ∷ []) (λ t. None))
   first_taken disk h = commit_taken t.disk w p q [] l (u ∷ []) [] r
       (record {
         writable = writable;
         was = held;
         is = append-nil q.content.slots ∙ kept;
-        became = (tail_same, fits_same t.disk q (with_slots (l ++ ([] ++ r)) p) (sym kept) (fits_gone t index id can));
+        became = (tail_same, fits_same t.disk q (pair_with_slots (l ++ ([] ++ r)) p) (sym kept) (fits_gone t index id can));
         fit = tt;
         filled = filled;
       })
-      disk [] [] (tree_without (can.path ++ u.name ∷ [])) (with_subtree_moved (can.path ++ u.name ∷ []) (λ t. None)) (step disk h)
+      disk [] [] (tree_after_removal (can.path ++ u.name ∷ [])) (tree_after_subtree_replacement (can.path ++ u.name ∷ []) (λ t. None)) (step disk h)
       (directory_goes t.disk disk w p [] q [] [] [] l r u (step disk h) can.stands.stands.entry can.path can.at leads same_begin take.to take.branch empty (ap (λ (g : Gstate). g.sync) gstate_middle))
 
-  unlinks : (disk : Disk) → IsWrittenAs t index c disk → Unlinks t.disk disk w p q l r u can.path can.at take.to
+  unlinks : (disk : Disk) → IsPairWrittenOnDisk t index c disk → Unlinks t.disk disk w p q l r u can.path can.at take.to
   unlinks disk h = record {
     step = step disk h;
     other = can.stands.stands.entry;
@@ -252,12 +252,12 @@ module _ (t : Kept) (index id first gone : ℕ) (take : CanRemoveDirectory t ind
     some = λ e. filled (sym (flag_from None (w.before ++ w.left)) ∙ e);
   }
 
-  place : (disk : Disk) → IsWrittenAs t index c disk → HasPlace t.disk disk w p q u can.path o (length front.front)
+  place : (disk : Disk) → IsPairWrittenOnDisk t index c disk → HasPlace t.disk disk w p q u can.path o (length front.front)
   place disk h = place_of t.disk disk w p q l r u can.path can.at take.to (unlinks disk h) o take.at take.alone front.front front.before (front.run ++ front.after) dirs_are front.soft take.empty
 
   -- ---- between the steps
 
-  module _ (m : Kept) (h : IsUnlinked t index id m) where
+  module _ (m : Kept) (h : IsDirectoryEntryUnlinked t index id m) where
     abbrev k : HasPlace t.disk m.disk w p q u can.path o (length front.front)
     k = place m.disk h.written
 
@@ -280,19 +280,19 @@ module _ (t : Kept) (index id first gone : ℕ) (take : CanRemoveDirectory t ind
         let f = first_is.0 in
         omega arith
 
-    accepted_middle : IsAccepted m.disk (thread_at w (q ∷ []))
+    accepted_middle : IsAcceptedImage m.disk (thread_at w (q ∷ []))
     accepted_middle = (first_taken m.disk h.written).follows.accepted
 
-    accepted_parts : IsAccepted m.disk (first_part ++ k.x ∷ o ∷ k.back)
-    accepted_parts = subst (IsAccepted m.disk) (sym pairs_middle ∙ is_middle) accepted_middle
+    accepted_parts : IsAcceptedImage m.disk (first_part ++ k.x ∷ o ∷ k.back)
+    accepted_parts = subst (IsAcceptedImage m.disk) (sym pairs_middle ∙ is_middle) accepted_middle
 
-    x_there : pair_in m (gone - 1) ≡ k.x
+    x_there : kept_pair_at_index m (gone - 1) ≡ k.x
     x_there = end.x_there m (gone - 1) w.chain k.front k.x o k.back is_middle number_middle
 
-    o_there : pair_in m (gone - 1 + 1) ≡ o
+    o_there : kept_pair_at_index m (gone - 1 + 1) ≡ o
     o_there = end.o_there m (gone - 1) w.chain k.front k.x o k.back is_middle number_middle
 
-    pub can_drop_gone : CanDropAt m gone no_gstate
+    pub can_drop_gone : CanDropPairAt m gone zero_gstate
     can_drop_gone = record {
       above = let f = first_is.0 in omega arith;
       below =
@@ -309,7 +309,7 @@ module _ (t : Kept) (index id first gone : ℕ) (take : CanRemoveDirectory t ind
     -- ---- the second step
 
     abbrev d : Content
-    d = with_tail_taken m (gone - 1) no_gstate
+    d = content_after_drop m (gone - 1) zero_gstate
 
     abbrev y : Pair
     y = record { at = k.x.at; content = d }
@@ -320,30 +320,30 @@ module _ (t : Kept) (index id first gone : ℕ) (take : CanRemoveDirectory t ind
     regrouped : w.chain ++ (k.front ++ y ∷ k.back) ≡ first_part ++ y ∷ k.back
     regrouped = end.regrouped m (gone - 1) w.chain k.front k.x o k.back is_middle number_middle
 
-    settled_end : gstate_of (w.chain ++ (k.front ++ y ∷ k.back)) ≡ no_gstate
+    settled_end : gstate_of (w.chain ++ (k.front ++ y ∷ k.back)) ≡ zero_gstate
     settled_end = end.settled_end m (gone - 1) w.chain k.front k.x o k.back is_middle number_middle
 
-    device_end : (disk : Disk) → IsWrittenAs m (gone - 1) d disk → IsDevice m.disk disk (first_part ++ k.x ∷ o ∷ k.back) (first_part ++ y ∷ k.back)
+    device_end : (disk : Disk) → IsPairWrittenOnDisk m (gone - 1) d disk → IsDevice m.disk disk (first_part ++ k.x ∷ o ∷ k.back) (first_part ++ y ∷ k.back)
     device_end = end.device_end m (gone - 1) w.chain k.front k.x o k.back is_middle number_middle accepted_parts
 
-    is_gone : (disk : Disk) → IsWrittenAs m (gone - 1) d disk → IsGone m.disk disk w.chain k.front k.x o y k.back
+    is_gone : (disk : Disk) → IsPairWrittenOnDisk m (gone - 1) d disk → IsGone m.disk disk w.chain k.front k.x o y k.back
     is_gone = end.is_gone m (gone - 1) w.chain k.front k.x o k.back is_middle number_middle accepted_parts k.soft
 
-    end_taken : (disk : Disk) → IsWrittenAs m (gone - 1) d disk
-        → IsOnlyStep t.disk (thread_at w (p ∷ [])) disk (w.chain ++ (k.front ++ y ∷ k.back)) (tree_without (can.path ++ u.name ∷ [])) (with_subtree_moved (can.path ++ u.name ∷ []) (λ t. None))
+    end_taken : (disk : Disk) → IsPairWrittenOnDisk m (gone - 1) d disk
+        → IsOnlyStep t.disk (thread_at w (p ∷ [])) disk (w.chain ++ (k.front ++ y ∷ k.back)) (tree_after_removal (can.path ++ u.name ∷ [])) (tree_after_subtree_replacement (can.path ++ u.name ∷ []) (λ t. None))
     end_taken disk written = k.taken disk y (is_gone disk written)
 
-    turned : tree_without (can.path ++ u.name ∷ []) (tree_in t.disk (thread_at w (p ∷ []))) ≡ without_file t can.path can.name
-    turned = ap₂ (λ n z. tree_without (can.path ++ n ∷ []) (tree_in t.disk z)) can.stands.stands.named (sym there)
+    turned : tree_after_removal (can.path ++ u.name ∷ []) (tree_on_disk t.disk (thread_at w (p ∷ []))) ≡ tree_without_named_entry t can.path can.name
+    turned = ap₂ (λ n z. tree_after_removal (can.path ++ n ∷ []) (tree_on_disk t.disk z)) can.stands.stands.named (sym there)
 
-    module _ (new : Kept) (g : HasDroppedBehind m (gone - 1) no_gstate new) where
+    module _ (new : Kept) (g : IsNextPairDropped m (gone - 1) zero_gstate new) where
       pairs_end : new.pairs ≡ w.chain ++ (k.front ++ y ∷ k.back)
       pairs_end = end.pairs_end m (gone - 1) w.chain k.front k.x o k.back is_middle number_middle new g
 
-      map_end : new.map ≡ without_pair t.map o.at
-      map_end = g.map ∙ ap₂ (λ s (z : Pair). without_pair s z.at) h.map o_there
+      map_end : new.map ≡ map_with_freed_pair t.map o.at
+      map_end = g.map ∙ ap₂ (λ s (z : Pair). map_with_freed_pair s z.at) h.map o_there
 
-      end_used : (b : ℕ) → count b (used_blocks new.disk new.pairs) + count b (two_of o.at) ≡ count b (used_blocks t.disk t.pairs)
+      end_used : (b : ℕ) → count b (used_blocks new.disk new.pairs) + count b (blocks_of_address o.at) ≡ count b (used_blocks t.disk t.pairs)
       end_used b =
           let e1 = unlinked_count t.disk m.disk ahead p q behind l r u take.to (subst (λ z. HasNoMove (gstate_of z)) (grouped p) (no_move_from (thread_at w (p ∷ [])) settled)) (subst (λ z. HasNoMove (gstate_of z)) (grouped q) no_move_middle)
           (subst (λ z. IsDevice t.disk m.disk z (ahead ++ q ∷ behind)) (grouped p) (subst (IsDevice t.disk m.disk (thread_at w (p ∷ []))) (grouped q) (device_of m.disk h.written))) refl held kept take.branch b in
@@ -364,25 +364,25 @@ module _ (t : Kept) (index id first gone : ℕ) (take : CanRemoveDirectory t ind
           record {
             now = record {
               ready = record {
-                accepted = subst (IsAccepted new.disk) (sym pairs_end) f.follows.accepted;
+                accepted = subst (IsAcceptedImage new.disk) (sym pairs_end) f.follows.accepted;
                 writable = subst (IsWritable new.disk) (sym pairs_end) f.writable;
                 settled = g.gstate;
                 used = record {
                   owned = used_blocks new.disk new.pairs;
-                  are = subst (λ s. AreUsed s (used_blocks new.disk new.pairs)) (sym map_end) (used_fewer t.map o.at (used_blocks t.disk t.pairs) (used_blocks new.disk new.pairs) can.ready.used once end_used);
+                  are = subst (λ s. AreExactlyTheUsedBlocks s (used_blocks new.disk new.pairs)) (sym map_end) (used_fewer t.map o.at (used_blocks t.disk t.pairs) (used_blocks new.disk new.pairs) can.ready.used once end_used);
                   same = λ b. omega arith;
                 };
                 size = ap length map_end ∙ length_fewer t.map o.at (used_blocks t.disk t.pairs) (used_blocks new.disk new.pairs) can.ready.used once end_used ∙ can.ready.size
                     ∙ sym h.written.shape.count ∙ sym g.written.shape.count;
                 large = subst (λ n. 1024 ≤ n) (sym (g.written.shape.block_size ∙ h.written.shape.block_size)) can.ready.large;
               };
-              shows = ap (tree_in new.disk) pairs_end ∙ f.follows.shows ∙ turned;
-              flying = subst (SameInFlight t.map) (sym map_end) (flying_same t.map o.at (used_blocks t.disk t.pairs) (used_blocks new.disk new.pairs) can.ready.used once end_used);
-              root = ap superblocks_before pairs_end ∙ root_stays t.disk new.disk w.chain (dirs_at w (p ∷ [])) (k.front ++ y ∷ k.back) site_is.chain accepted f.follows.accepted f.follows.root ∙ sym (ap superblocks_before there);
+              shows = ap (tree_on_disk new.disk) pairs_end ∙ f.follows.shows ∙ turned;
+              flying = subst (HasSameBlocksInFlight t.map) (sym map_end) (flying_same t.map o.at (used_blocks t.disk t.pairs) (used_blocks new.disk new.pairs) can.ready.used once end_used);
+              root = ap pair_count_before_root pairs_end ∙ root_stays t.disk new.disk w.chain (dirs_at w (p ∷ [])) (k.front ++ y ∷ k.back) site_is.chain accepted f.follows.accepted f.follows.root ∙ sym (ap pair_count_before_root there);
             };
             completed = λ z given tree is_path. subst (λ s. IsCompleted t.disk s z (ops.Remove given) new.disk new.pairs) (sym there)
                 (subst (λ s. IsCompleted t.disk (thread_at w (p ∷ [])) z (ops.Remove given) new.disk s) (sym pairs_end)
-                (k.completed new.disk y (is_gone new.disk g.written) z given (tree ∙ ap (tree_in t.disk) there) (is_path ∙ ap (λ n. can.path ++ n ∷ []) (sym can.stands.stands.named))));
+                (k.completed new.disk y (is_gone new.disk g.written) z given (tree ∙ ap (tree_on_disk t.disk) there) (is_path ∙ ap (λ n. can.path ++ n ∷ []) (sym can.stands.stands.named))));
           }
 
     -- ---- at a stop in the second step
@@ -397,12 +397,12 @@ module _ (t : Kept) (index id first gone : ℕ) (take : CanRemoveDirectory t ind
       run = run_changed w.left p w.right q w.right ((step m.disk h.written).shape.run w.right) site_is.run;
     }
 
-    pub left_second : (left : Blocks) → IsLeftByDrop m (gone - 1) no_gstate left → IsLeftOf (with_blocks left t.disk) (tree_in t.disk t.pairs) (without_file t take.can.path take.can.name)
-    left_second left g = subst (λ z. IsLeftOf z (tree_in t.disk t.pairs) (without_file t can.path can.name)) (same_shape left) (go g.is)
+    pub left_second : (left : Blocks) → IsLeftByStoppedDrop m (gone - 1) zero_gstate left → IsLeftOf (with_blocks left t.disk) (tree_on_disk t.disk t.pairs) (tree_without_named_entry t take.can.path take.can.name)
+    left_second left g = subst (λ z. IsLeftOf z (tree_on_disk t.disk t.pairs) (tree_without_named_entry t can.path can.name)) (same_shape left) (go g.is)
       where
-        go : (g.content ≡ (pair_in m (gone - 1)).content) ⊎ (g.content ≡ with_tail_taken m (gone - 1) no_gstate) → IsLeftOf (with_blocks left m.disk) (tree_in t.disk t.pairs) (without_file t can.path can.name)
+        go : (g.content ≡ (kept_pair_at_index m (gone - 1)).content) ⊎ (g.content ≡ content_after_drop m (gone - 1) zero_gstate) → IsLeftOf (with_blocks left m.disk) (tree_on_disk t.disk t.pairs) (tree_without_named_entry t can.path can.name)
         go (inl e) =
-            let on = end.device_left m (gone - 1) w.chain k.front k.x o k.back is_middle number_middle accepted_parts (with_blocks left m.disk) (subst (λ z. IsWrittenAs m (gone - 1) z (with_blocks left m.disk)) e g.written) in
+            let on = end.device_left m (gone - 1) w.chain k.front k.x o k.back is_middle number_middle accepted_parts (with_blocks left m.disk) (subst (λ z. IsPairWrittenOnDisk m (gone - 1) z (with_blocks left m.disk)) e g.written) in
             let f = nothing_came m.disk (with_blocks left m.disk) w q site_middle accepted_middle (subst (λ z. IsDevice m.disk (with_blocks left m.disk) z z) pairs_middle on) in
             record {
               pairs = thread_at w (q ∷ []);
@@ -411,7 +411,7 @@ module _ (t : Kept) (index id first gone : ℕ) (take : CanRemoveDirectory t ind
               tree = inr (f.shows ∙ (first_taken m.disk h.written).follows.shows ∙ turned);
             }
         go (inr e) =
-            let f = end_taken (with_blocks left m.disk) (subst (λ z. IsWrittenAs m (gone - 1) z (with_blocks left m.disk)) e g.written) in
+            let f = end_taken (with_blocks left m.disk) (subst (λ z. IsPairWrittenOnDisk m (gone - 1) z (with_blocks left m.disk)) e g.written) in
             record {
               pairs = w.chain ++ (k.front ++ y ∷ k.back);
               accepted = f.follows.accepted;
@@ -421,26 +421,26 @@ module _ (t : Kept) (index id first gone : ℕ) (take : CanRemoveDirectory t ind
 
   -- ---- at a stop in the first step
 
-  pub left_first : (left : Blocks) → IsLeftByUnlink t index id left → IsLeftOf (with_blocks left t.disk) (tree_in t.disk t.pairs) (without_file t take.can.path take.can.name)
+  pub left_first : (left : Blocks) → IsLeftByStoppedUnlink t index id left → IsLeftOf (with_blocks left t.disk) (tree_on_disk t.disk t.pairs) (tree_without_named_entry t take.can.path take.can.name)
   left_first left g = go g.is
     where
-      go : (g.content ≡ (pair_in t index).content) ⊎ (g.content ≡ without_entry t index id) → IsLeftOf (with_blocks left t.disk) (tree_in t.disk t.pairs) (without_file t can.path can.name)
+      go : (g.content ≡ (kept_pair_at_index t index).content) ⊎ (g.content ≡ content_without_directory_entry t index id) → IsLeftOf (with_blocks left t.disk) (tree_on_disk t.disk t.pairs) (tree_without_named_entry t can.path can.name)
       go (inl e) =
           let same = e ∙ ap (λ (z : Pair). z.content) (pair_there t index id can) in
           let on = device t.disk (with_blocks left t.disk) w p p [] [] accepted accepted.owned_once
-          (placed (with_blocks left t.disk) p.content (λ h. (h.kind, h.name)) (subst (λ z. IsWrittenAs t index z (with_blocks left t.disk)) same g.written)) in
+          (placed (with_blocks left t.disk) p.content (λ h. (h.kind, h.name)) (subst (λ z. IsPairWrittenOnDisk t index z (with_blocks left t.disk)) same g.written)) in
           let f = nothing_came t.disk (with_blocks left t.disk) w p site_is accepted on in
           record {
             pairs = thread_at w (p ∷ []);
             accepted = f.accepted;
             writable = profile_same t.disk (with_blocks left t.disk) (thread_at w (p ∷ [])) refl refl writable;
-            tree = inl (f.shows ∙ ap (tree_in t.disk) (sym there));
+            tree = inl (f.shows ∙ ap (tree_on_disk t.disk) (sym there));
           }
       go (inr e) =
-          let f = first_taken (with_blocks left t.disk) (subst (λ z. IsWrittenAs t index z (with_blocks left t.disk)) e g.written) in
+          let f = first_taken (with_blocks left t.disk) (subst (λ z. IsPairWrittenOnDisk t index z (with_blocks left t.disk)) e g.written) in
           record {
             pairs = thread_at w (q ∷ []);
             accepted = f.follows.accepted;
             writable = f.writable;
-            tree = inr (f.follows.shows ∙ ap₂ (λ n z. tree_without (can.path ++ n ∷ []) (tree_in t.disk z)) can.stands.stands.named (sym there));
+            tree = inr (f.follows.shows ∙ ap₂ (λ n z. tree_after_removal (can.path ++ n ∷ []) (tree_on_disk t.disk z)) can.stands.stands.named (sym there));
           }

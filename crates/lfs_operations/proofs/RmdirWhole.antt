@@ -2,19 +2,19 @@
 use Rattle.std.proofs.Common.{ℕ, ◌≡◌, ◌⊎◌, inl, inr, ◌+◌, ◌<◌, Bool, true, false, cond, nat_eq, List, [], ◌∷◌, ◌++◌, length, Option, Some, None, refl, sym, ap, subst, ◌∙◌, arith, append_assoc, length-append}
 use Rattle.std.specs.Prelude.{is_some}
 use Rattle.std.specs.List.{IsDistinct}
-use Rattle.lfs_model.specs.TreeEdits.{with_subtree_moved, tree_without}
+use Rattle.lfs_model.specs.TreeEdits.{tree_after_subtree_replacement, tree_after_removal}
 use Rattle.lfs_model.specs.Disk.{Disk}
-use Rattle.lfs_model.specs.Layout.{directory_begin, directory_after}
+use Rattle.lfs_model.specs.Layout.{directory_address_of_pair, directory_address_after_pair}
 use Rattle.lfs_model.specs.Operations as ops
 use Rattle.lfs_model.specs.Session.{Session}
 use Rattle.lfs_model.specs.SlotEdits.{slot_of_path}
-use Rattle.lfs_model.specs.Slots.{Branch, Slot, is_superblock, no_gstate, same_pair}
-use Rattle.lfs_model.specs.Refusals.{as_path}
-use Rattle.lfs_model.specs.Thread.{Pair, blocks_of, gstate_of, is_hard, superblocks_before}
+use Rattle.lfs_model.specs.Slots.{Branch, Slot, is_superblock, zero_gstate, same_pair}
+use Rattle.lfs_model.specs.Refusals.{path_or_root}
+use Rattle.lfs_model.specs.Thread.{Pair, blocks_of_pairs, gstate_of, is_hard_tail, pair_count_before_root}
 use Rattle.lfs_model.specs.Tree.{Path}
-use Rattle.lfs_model.specs.View.{IsAccepted}
+use Rattle.lfs_model.specs.View.{IsAcceptedImage}
 use Rattle.lfs_model.specs.Profile.{IsWritable}
-use Rattle.lfs_model.specs.Shown.{PathLeadsTo, entries_in, tree_in}
+use Rattle.lfs_model.specs.Shown.{IsPathToDirectory, entries_by_directory_in_thread, tree_on_disk}
 use Rattle.lfs_model.proofs.Alike.{AreAlike, alike_append, alike_itself}
 use Rattle.lfs_model.proofs.Changes.{Follows}
 use Rattle.lfs_model.proofs.Committed.{IsCompleted}
@@ -31,9 +31,9 @@ use Rattle.lfs_model.proofs.Unthreaded.{SameParts, same_parts}
 use Rattle.lfs_operations.proofs.RemovedWhole.{last_pair}
 use Rattle.lfs_operations.proofs.RmdirPlaces.{Ahead, Behind, Itself, Next, WhereIs, soft_end, where_is}
 
-hard_end : (from : Option (ℕ × ℕ)) (xs : List Pair) (x : Pair) → is_hard x.content.tail ≡ true → is_some (onward_all from (xs ++ x ∷ [])) ≡ true
-hard_end from [] x e = ap (λ b. is_some (cond b (Some (directory_begin from x)) None)) e
-hard_end from (z ∷ xs) x e = hard_end (directory_after from z) xs x e
+hard_end : (from : Option (ℕ × ℕ)) (xs : List Pair) (x : Pair) → is_hard_tail x.content.tail ≡ true → is_some (onward_all from (xs ++ x ∷ [])) ≡ true
+hard_end from [] x e = ap (λ b. is_some (cond b (Some (directory_address_of_pair from x)) None)) e
+hard_end from (z ∷ xs) x e = hard_end (directory_address_after_pair from z) xs x e
 
 same_last : (xs : List Pair) (x : Pair) (ys : List Pair) (y : Pair) → xs ++ x ∷ [] ≡ ys ++ y ∷ [] → SameParts xs x [] ys y []
 same_last xs x ys y e = same_parts xs x [] ys y [] (let a = length-append xs (x ∷ []) in let b = length-append ys (y ∷ []) in let n = ap length e in omega arith) e
@@ -44,17 +44,17 @@ pub record UnlinksWhole (disk middle : Disk) (w : Site) (x0 e q : Pair) (u : Slo
   pub other : is_superblock u ≡ false
   pub old_writable : IsWritable disk (thread_at w (x0 ∷ e ∷ []))
   pub writable : IsWritable middle (thread_at w (q ∷ []))
-  pub leads : PathLeadsTo (thread_at w (x0 ∷ e ∷ [])) P a
+  pub leads : IsPathToDirectory (thread_at w (x0 ∷ e ∷ [])) P a
   pub same : same_pair (begin_of w (x0 ∷ e ∷ [])) a ≡ true
   pub branch : u.struct ≡ Branch d
-  pub empty : entries_in (thread_at w (x0 ∷ e ∷ [])) d ≡ []
+  pub empty : entries_by_directory_in_thread (thread_at w (x0 ∷ e ∷ [])) d ≡ []
   pub sync : (gstate_of (thread_at w (q ∷ []))).sync ≡ true
-  pub settled : gstate_of (thread_at w (x0 ∷ e ∷ [])) ≡ no_gstate
+  pub settled : gstate_of (thread_at w (x0 ∷ e ∷ [])) ≡ zero_gstate
   pub held : e.content.slots ≡ u ∷ []
   pub at : q.at ≡ x0.at
   pub slots : q.content.slots ≡ x0.content.slots
   pub tail : q.content.tail ≡ e.content.tail
-  pub hard : is_hard x0.content.tail ≡ true
+  pub hard : is_hard_tail x0.content.tail ≡ true
 
 -- Where the pair o that goes stands then, and that the operation is completed once it is gone. It has moved up where it stood
 -- behind e.
@@ -65,13 +65,13 @@ pub record HasPlaceWhole (disk middle : Disk) (w : Site) (x0 e q : Pair) (u : Sl
   pub there : dirs_at w (q ∷ []) ≡ front ++ x ∷ o ∷ back
   pub number : ((length (w.before ++ w.left) + 1 < n + 1) × (length front + 1 ≡ n)) ⊎ ((n + 1 < length (w.before ++ w.left) + 1) × (length front ≡ n))
   pub was : (x.at ≡ b.at) ⊎ (x.at ≡ x0.at)
-  pub soft : is_hard x.content.tail ≡ false
+  pub soft : is_hard_tail x.content.tail ≡ false
   pub taken : (new : Disk) (y : Pair) → IsGone middle new w.chain front x o y back
-      → IsOnlyStep disk (thread_at w (x0 ∷ e ∷ [])) new (w.chain ++ (front ++ y ∷ back)) (tree_without (P ++ u.name ∷ [])) (with_subtree_moved (P ++ u.name ∷ []) (λ t. None))
-  pub completed : (new : Disk) (y : Pair) → IsGone middle new w.chain front x o y back → (s : Session) (path : List ℕ) → s.tree ≡ tree_in disk (thread_at w (x0 ∷ e ∷ [])) → as_path path ≡ P ++ u.name ∷ []
+      → IsOnlyStep disk (thread_at w (x0 ∷ e ∷ [])) new (w.chain ++ (front ++ y ∷ back)) (tree_after_removal (P ++ u.name ∷ [])) (tree_after_subtree_replacement (P ++ u.name ∷ []) (λ t. None))
+  pub completed : (new : Disk) (y : Pair) → IsGone middle new w.chain front x o y back → (s : Session) (path : List ℕ) → s.tree ≡ tree_on_disk disk (thread_at w (x0 ∷ e ∷ [])) → path_or_root path ≡ P ++ u.name ∷ []
       → IsCompleted disk (thread_at w (x0 ∷ e ∷ [])) s (ops.Remove path) new (w.chain ++ (front ++ y ∷ back))
 
-module _ (disk middle : Disk) (w : Site) (x0 e q : Pair) (u : Slot) (P : Path) (a d : ℕ × ℕ) (c : UnlinksWhole disk middle w x0 e q u P a d) (o : Pair) (address : same_pair o.at d ≡ true) (alone : is_hard o.content.tail ≡ false) where
+module _ (disk middle : Disk) (w : Site) (x0 e q : Pair) (u : Slot) (P : Path) (a d : ℕ × ℕ) (c : UnlinksWhole disk middle w x0 e q u P a d) (o : Pair) (address : same_pair o.at d ≡ true) (alone : is_hard_tail o.content.tail ≡ false) where
   abbrev in_front : List Pair
   in_front = w.before ++ w.left
 
@@ -85,7 +85,7 @@ module _ (disk middle : Disk) (w : Site) (x0 e q : Pair) (u : Slot) (P : Path) (
   path_there = P ++ u.name ∷ []
 
   takes_place : (front : List Pair) (x : Pair) (back : List Pair) → dirs_at w (q ∷ []) ≡ front ++ x ∷ o ∷ back → (new : Disk) (y : Pair) → IsGone middle new w.chain front x o y back
-      → IsOnlyStep disk (thread_at w (x0 ∷ e ∷ [])) new (w.chain ++ (front ++ y ∷ back)) (tree_without (P ++ u.name ∷ [])) (with_subtree_moved (P ++ u.name ∷ []) (λ t. None))
+      → IsOnlyStep disk (thread_at w (x0 ∷ e ∷ [])) new (w.chain ++ (front ++ y ∷ back)) (tree_after_removal (P ++ u.name ∷ [])) (tree_after_subtree_replacement (P ++ u.name ∷ []) (λ t. None))
   takes_place front x back there new y gone =
       rmdir_taken disk middle new w x0 (e ∷ []) q x0.content.slots [] u c.step c.other c.writable P a c.leads c.same d c.branch c.empty c.sync c.settled front x o y back there address alone gone
 
@@ -98,19 +98,19 @@ module _ (disk middle : Disk) (w : Site) (x0 e q : Pair) (u : Slot) (P : Path) (
     alike : AreAlike (w.chain ++ two b front [] mid [] back) rs
 
   completes : (b : Bool) (front mid back : List Pair) (new : Disk) (y : Pair) (f : List Pair) (x : Pair) (rest : List Pair) (there : dirs_at w (q ∷ []) ≡ f ++ x ∷ o ∷ rest) → IsGone middle new w.chain f x o y rest
-      → IsParted b front mid back (w.chain ++ (f ++ y ∷ rest)) → (s : Session) (path : List ℕ) → s.tree ≡ tree_in disk (thread_at w (x0 ∷ e ∷ [])) → as_path path ≡ P ++ u.name ∷ []
+      → IsParted b front mid back (w.chain ++ (f ++ y ∷ rest)) → (s : Session) (path : List ℕ) → s.tree ≡ tree_on_disk disk (thread_at w (x0 ∷ e ∷ [])) → path_or_root path ≡ P ++ u.name ∷ []
       → IsCompleted disk (thread_at w (x0 ∷ e ∷ [])) s (ops.Remove path) new (w.chain ++ (f ++ y ∷ rest))
   completes b front mid back new y f x rest there gone h s path tree is =
       let rs = w.chain ++ (f ++ y ∷ rest) in
       let taken = takes_place f x rest there new y gone in
       let made : IsRmdir disk new (w.chain ++ (f ++ y ∷ rest)) b w.chain front mid back e o [] [] u [] d path_there = record {
-        is_chain = ap superblocks_before (sym h.were) ∙ c.step.site.chain;
-        accepted = subst (IsAccepted disk) h.were c.step.accepted;
+        is_chain = ap pair_count_before_root (sym h.were) ∙ c.step.site.chain;
+        accepted = subst (IsAcceptedImage disk) h.were c.step.accepted;
         writable = subst (IsWritable disk) h.were c.old_writable;
         settled = ap gstate_of (sym h.were) ∙ c.settled;
         still = gone.settled;
-        walk = with_subtree_moved path_there (λ t. None);
-        follows = subst (λ z. Follows disk z new (w.chain ++ (f ++ y ∷ rest)) (tree_without path_there) (with_subtree_moved path_there (λ t. None))) h.were taken.follows;
+        walk = tree_after_subtree_replacement path_there (λ t. None);
+        follows = subst (λ z. Follows disk z new (w.chain ++ (f ++ y ∷ rest)) (tree_after_removal path_there) (tree_after_subtree_replacement path_there (λ t. None))) h.were taken.follows;
         still_writable = taken.writable;
         held = c.held;
         branch = c.branch;
@@ -124,12 +124,12 @@ module _ (disk middle : Disk) (w : Site) (x0 e q : Pair) (u : Slot) (P : Path) (
             (rmdir_named disk middle new w x0 (e ∷ []) q x0.content.slots [] u c.step c.other c.writable P a c.leads c.same d c.branch c.empty c.sync c.settled f x o y rest there address alone gone);
       } in
       subst (λ z. IsCompleted disk z s (ops.Remove path) new (w.chain ++ (f ++ y ∷ rest))) (sym h.were)
-      (rmdir_completed disk new (w.chain ++ (f ++ y ∷ rest)) b w.chain front mid back e o [] [] u [] d path_there made s path (tree ∙ ap (tree_in disk) h.were) is)
+      (rmdir_completed disk new (w.chain ++ (f ++ y ∷ rest)) b w.chain front mid back e o [] [] u [] d path_there made s path (tree ∙ ap (tree_on_disk disk) h.were) is)
 
   -- the pairs but o aren't at its address
   others_apart : (front back : List Pair) → thread_at w (x0 ∷ e ∷ []) ≡ w.chain ++ (front ++ o ∷ back) → Each (λ z. same_pair z.at d ≡ false) front × Each (λ z. same_pair z.at d ≡ false) back
   others_apart front back is =
-      let distinct = subst (λ z. IsDistinct nat_eq (blocks_of z)) (is ∙ sym (append_assoc w.chain front (o ∷ back))) c.step.accepted.thread.distinct in
+      let distinct = subst (λ z. IsDistinct nat_eq (blocks_of_pairs z)) (is ∙ sym (append_assoc w.chain front (o ∷ back))) c.step.accepted.thread.distinct in
       (each_right (λ (z : Pair). same_pair z.at d ≡ false) w.chain front (avoids_front (w.chain ++ front) o back d distinct address), avoids_behind (w.chain ++ front) o back d distinct address)
 
   dirs_were : dirs_at w (x0 ∷ e ∷ []) ≡ (in_front ++ x0 ∷ []) ++ e ∷ in_back
@@ -137,7 +137,7 @@ module _ (disk middle : Disk) (w : Site) (x0 e q : Pair) (u : Slot) (P : Path) (
 
   -- ---- o stands behind e, with others between them
 
-  ahead_place : (mid : List Pair) (x : Pair) (back : List Pair) (n : ℕ) → in_back ≡ mid ++ x ∷ o ∷ back → length ((in_front ++ x0 ∷ []) ++ e ∷ mid) ≡ n → is_hard x.content.tail ≡ false
+  ahead_place : (mid : List Pair) (x : Pair) (back : List Pair) (n : ℕ) → in_back ≡ mid ++ x ∷ o ∷ back → length ((in_front ++ x0 ∷ []) ++ e ∷ mid) ≡ n → is_hard_tail x.content.tail ≡ false
       → HasPlaceWhole disk middle w x0 e q u P o n x
   ahead_place mid x back n h k soft =
       let there : dirs_at w (q ∷ []) ≡ (in_front ++ q ∷ mid) ++ x ∷ o ∷ back = ap (λ z. in_front ++ q ∷ z) h ∙ sym (append_assoc in_front (q ∷ mid) (x ∷ o ∷ back)) in
@@ -178,7 +178,7 @@ module _ (disk middle : Disk) (w : Site) (x0 e q : Pair) (u : Slot) (P : Path) (
 
   -- ---- o stands right behind e
 
-  next_place : (back : List Pair) (n : ℕ) (b : Pair) → in_back ≡ o ∷ back → length (in_front ++ x0 ∷ []) ≡ n → is_hard e.content.tail ≡ false → HasPlaceWhole disk middle w x0 e q u P o n b
+  next_place : (back : List Pair) (n : ℕ) (b : Pair) → in_back ≡ o ∷ back → length (in_front ++ x0 ∷ []) ≡ n → is_hard_tail e.content.tail ≡ false → HasPlaceWhole disk middle w x0 e q u P o n b
   next_place back n b h k soft =
       let there : dirs_at w (q ∷ []) ≡ in_front ++ q ∷ o ∷ back = ap (λ z. in_front ++ q ∷ z) h in
       let dirs : dirs_at w (x0 ∷ e ∷ []) ≡ (in_front ++ x0 ∷ []) ++ e ∷ o ∷ back = dirs_were ∙ ap (λ z. (in_front ++ x0 ∷ []) ++ e ∷ z) h in
@@ -191,7 +191,7 @@ module _ (disk middle : Disk) (w : Site) (x0 e q : Pair) (u : Slot) (P : Path) (
         there = there;
         number = inl ((let m = length-append in_front (x0 ∷ []) in omega arith), (let m = length-append in_front (x0 ∷ []) in omega arith));
         was = inr c.at;
-        soft = ap is_hard c.tail ∙ soft;
+        soft = ap is_hard_tail c.tail ∙ soft;
         taken = takes_place in_front q back there;
         completed = λ new y gone. completes true (in_front ++ x0 ∷ []) [] back new y in_front q back there gone (record {
           were = ap (λ z. w.chain ++ z) dirs;
@@ -209,7 +209,7 @@ module _ (disk middle : Disk) (w : Site) (x0 e q : Pair) (u : Slot) (P : Path) (
 
   -- ---- o stands in front of x0
 
-  behind_place : (front : List Pair) (x : Pair) (mid : List Pair) → in_front ≡ front ++ x ∷ o ∷ mid → is_hard x.content.tail ≡ false → HasPlaceWhole disk middle w x0 e q u P o (length front) x
+  behind_place : (front : List Pair) (x : Pair) (mid : List Pair) → in_front ≡ front ++ x ∷ o ∷ mid → is_hard_tail x.content.tail ≡ false → HasPlaceWhole disk middle w x0 e q u P o (length front) x
   behind_place front x mid h soft =
       let there : dirs_at w (q ∷ []) ≡ front ++ x ∷ o ∷ (mid ++ q ∷ in_back) = ap (λ z. z ++ q ∷ in_back) h ∙ append_assoc front (x ∷ o ∷ mid) (q ∷ in_back) in
       let dirs : dirs_at w (x0 ∷ e ∷ []) ≡ (front ++ x ∷ []) ++ o ∷ ((mid ++ x0 ∷ []) ++ e ∷ in_back)
@@ -244,9 +244,9 @@ module _ (disk middle : Disk) (w : Site) (x0 e q : Pair) (u : Slot) (P : Path) (
   not_itself none k = absurd (let z = sym c.held ∙ ap (λ (z : Pair). z.content.slots) k ∙ none in cc)
 
   not_front : x0 ≡ o → ⊥
-  not_front k = absurd (let z = sym c.hard ∙ ap (λ (z : Pair). is_hard z.content.tail) k ∙ alone in cc)
+  not_front k = absurd (let z = sym c.hard ∙ ap (λ (z : Pair). is_hard_tail z.content.tail) k ∙ alone in cc)
 
-  pub place_whole : (front : List Pair) (x : Pair) (back : List Pair) → dirs_at w (x0 ∷ e ∷ []) ≡ front ++ x ∷ o ∷ back → is_hard x.content.tail ≡ false → o.content.slots ≡ []
+  pub place_whole : (front : List Pair) (x : Pair) (back : List Pair) → dirs_at w (x0 ∷ e ∷ []) ≡ front ++ x ∷ o ∷ back → is_hard_tail x.content.tail ≡ false → o.content.slots ≡ []
       → HasPlaceWhole disk middle w x0 e q u P o (length front) x
   place_whole front x back h soft none = by (where_is (in_front ++ x0 ∷ []) e in_back front x o back (sym dirs_were ∙ h))
     where
@@ -259,6 +259,6 @@ module _ (disk middle : Disk) (w : Site) (x0 e q : Pair) (u : Slot) (P : Path) (
 
       by : WhereIs (in_front ++ x0 ∷ []) e in_back front x o back → HasPlaceWhole disk middle w x0 e q u P o (length front) x
       by (Ahead mid g k) = ahead_place mid x back (length front) g (ap length (sym k)) soft
-      by (Next g i k) = next_place back (length front) x k (ap length g) (ap (λ (z : Pair). is_hard z.content.tail) (sym i) ∙ soft)
+      by (Next g i k) = next_place back (length front) x k (ap length g) (ap (λ (z : Pair). is_hard_tail z.content.tail) (sym i) ∙ soft)
       by (Itself g) = absurd (not_itself none g)
       by (Behind mid g) = before mid g

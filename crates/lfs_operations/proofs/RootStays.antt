@@ -4,15 +4,15 @@ use Rattle.std.proofs.lemmas.Option.{same_Some}
 use Rattle.lfs_model.specs.Disk.{Disk}
 use Rattle.lfs_model.specs.Slots.{Content, same_pair}
 use Rattle.lfs_model.specs.Steps.{AreAlike, ends_in_hard_tail}
-use Rattle.lfs_model.specs.Thread.{LinkByTails, Pair, anchor, directory_pairs, first_at, next_of, root_of, starts_with_superblock, superblocks_before}
-use Rattle.lfs_model.specs.View.{IsAccepted, first_slots}
+use Rattle.lfs_model.specs.Thread.{AreLinkedByTails, Pair, anchor_pair_address, pairs_of_all_directories, first_pair_address, pair_named_by_tail, root_directory_of_pairs, starts_with_superblock, pair_count_before_root}
+use Rattle.lfs_model.specs.View.{IsAcceptedImage, first_pair_slots}
 use Rattle.lfs_model.proofs.Pairs.{pair_itself}
 use Rattle.lfs_model.proofs.Searches.{same_number}
 use Rattle.lfs_model.proofs.Superblocks.{IsChain, pairs_behind}
 use Rattle.lfs_thread.specs.Kept.{Kept}
 use Rattle.lfs_thread.specs.Steps.{no_pair}
-use Rattle.lfs_operations.specs.MoveEnds.{CanEndMoveAt, HasEndedMoveAt, content_without, follows_hard_tail, pairs_ended}
-use Rattle.lfs_operations.specs.Ready.{KeepsRoot}
+use Rattle.lfs_operations.specs.MoveEnds.{CanEndMoveAt, HasEndedMoveAt, content_after_move_ends, is_pair_named_by_hard_tail, pairs_after_move_ends}
+use Rattle.lfs_operations.specs.Ready.{KeepsPairCountBeforeRoot}
 
 -- the pair of that number has that address
 abbrev HasAddress : List Pair → ℕ → ℕ × ℕ → Type 0
@@ -26,40 +26,40 @@ get_dropped [] (suc n) d ds e = absurd (cc)
 get_dropped (p ∷ ps) zero d ds e = cc
 get_dropped (p ∷ ps) (suc n) d ds e = get_dropped ps n d ds e
 
-root_there : (disk : Disk) (ps : List Pair) → IsAccepted disk ps → HasAddress ps (superblocks_before ps) (root_of ps)
-root_there disk ps ok = go (directory_pairs ps) refl
+root_there : (disk : Disk) (ps : List Pair) → IsAcceptedImage disk ps → HasAddress ps (pair_count_before_root ps) (root_directory_of_pairs ps)
+root_there disk ps ok = go (pairs_of_all_directories ps) refl
   where
-    go : (ds : List Pair) → directory_pairs ps ≡ ds → HasAddress ps (superblocks_before ps) (root_of ps)
-    go [] e = absurd (let k = ap (λ z. starts_with_superblock (first_slots z)) (sym e) ∙ ok.root in cc)
-    go (d ∷ ds) e = (d, (get_dropped ps (superblocks_before ps) d ds e, ap first_at (sym e)))
+    go : (ds : List Pair) → pairs_of_all_directories ps ≡ ds → HasAddress ps (pair_count_before_root ps) (root_directory_of_pairs ps)
+    go [] e = absurd (let k = ap (λ z. starts_with_superblock (first_pair_slots z)) (sym e) ∙ ok.root in cc)
+    go (d ∷ ds) e = (d, (get_dropped ps (pair_count_before_root ps) d ds e, ap first_pair_address (sym e)))
 
-number_of_root : (disk : Disk) (ps : List Pair) (n : ℕ) → IsAccepted disk ps → HasAddress ps n (root_of ps) → superblocks_before ps ≡ n
+number_of_root : (disk : Disk) (ps : List Pair) (n : ℕ) → IsAcceptedImage disk ps → HasAddress ps n (root_directory_of_pairs ps) → pair_count_before_root ps ≡ n
 number_of_root disk ps n ok (p, (there, at)) =
     let r = root_there disk ps ok in
-    same_number ps (superblocks_before ps) n r.0 p ok.thread.distinct r.1.0 there (subst (λ a. same_pair r.0.at a ≡ true) (r.1.1 ∙ sym at) (pair_itself r.0.at))
+    same_number ps (pair_count_before_root ps) n r.0 p ok.thread.distinct r.1.0 there (subst (λ a. same_pair r.0.at a ≡ true) (r.1.1 ∙ sym at) (pair_itself r.0.at))
 
 -- ---- the pairs in front stay
 
-two_links : (at : Option (ℕ × ℕ)) (chain dirs news : List Pair) → LinkByTails at (chain ++ dirs) → LinkByTails at (chain ++ news) → (to : Option (ℕ × ℕ)) × (LinkByTails to dirs × LinkByTails to news)
+two_links : (at : Option (ℕ × ℕ)) (chain dirs news : List Pair) → AreLinkedByTails at (chain ++ dirs) → AreLinkedByTails at (chain ++ news) → (to : Option (ℕ × ℕ)) × (AreLinkedByTails to dirs × AreLinkedByTails to news)
 two_links at [] dirs news l m = (at, (l, m))
-two_links at (c ∷ chain) dirs news l m = two_links (next_of c.content.tail) chain dirs news l.1 m.1
+two_links at (c ∷ chain) dirs news l m = two_links (pair_named_by_tail c.content.tail) chain dirs news l.1 m.1
 
 get_behind : (chain : List Pair) (p : Pair) (ps : List Pair) → slice_get (chain ++ p ∷ ps) (length chain) ≡ Some p
 get_behind [] p ps = refl
 get_behind (c ∷ chain) p ps = get_behind chain p ps
 
-first_there : (chain : List Pair) (to : Option (ℕ × ℕ)) (dirs news : List Pair) → LinkByTails to dirs → LinkByTails to news → starts_with_superblock (first_slots dirs) ≡ true → HasAddress (chain ++ news) (length chain) (first_at dirs)
+first_there : (chain : List Pair) (to : Option (ℕ × ℕ)) (dirs news : List Pair) → AreLinkedByTails to dirs → AreLinkedByTails to news → starts_with_superblock (first_pair_slots dirs) ≡ true → HasAddress (chain ++ news) (length chain) (first_pair_address dirs)
 first_there chain to [] news l m e = absurd (cc)
 first_there chain to (d ∷ dirs) [] l m e = absurd (let k = sym m ∙ l.0 in cc)
 first_there chain to (d ∷ dirs) (n ∷ news) l m e = (n, (get_behind chain n news, same_Some n.at d.at (sym m.0 ∙ l.0)))
 
-pub root_stays : (disk new : Disk) (chain dirs news : List Pair) → IsChain chain dirs → IsAccepted disk (chain ++ dirs) → IsAccepted new (chain ++ news) → root_of (chain ++ news) ≡ root_of (chain ++ dirs)
-    → superblocks_before (chain ++ news) ≡ superblocks_before (chain ++ dirs)
+pub root_stays : (disk new : Disk) (chain dirs news : List Pair) → IsChain chain dirs → IsAcceptedImage disk (chain ++ dirs) → IsAcceptedImage new (chain ++ news) → root_directory_of_pairs (chain ++ news) ≡ root_directory_of_pairs (chain ++ dirs)
+    → pair_count_before_root (chain ++ news) ≡ pair_count_before_root (chain ++ dirs)
 root_stays disk new chain dirs news is_chain ok now same =
-    let l = two_links (Some anchor) chain dirs news ok.thread.links now.thread.links in
+    let l = two_links (Some anchor_pair_address) chain dirs news ok.thread.links now.thread.links in
     let dirs_are = pairs_behind chain dirs is_chain in
-    let first = first_there chain l.0 dirs news l.1.0 l.1.1 (ap (λ z. starts_with_superblock (first_slots z)) (sym dirs_are) ∙ ok.root) in
-    number_of_root new (chain ++ news) (length chain) now (first.0, (first.1.0, first.1.1 ∙ ap first_at (sym dirs_are) ∙ sym same)) ∙ sym is_chain
+    let first = first_there chain l.0 dirs news l.1.0 l.1.1 (ap (λ z. starts_with_superblock (first_pair_slots z)) (sym dirs_are) ∙ ok.root) in
+    number_of_root new (chain ++ news) (length chain) now (first.0, (first.1.0, first.1.1 ∙ ap first_pair_address (sym dirs_are) ∙ sym same)) ∙ sym is_chain
 
 -- ---- pairs of the same addresses
 
@@ -69,11 +69,11 @@ alike_there (x ∷ ps) [] n at alike h = absurd alike
 alike_there (x ∷ ps) (y ∷ qs) zero at alike (p, (e, a)) = (y, (refl, alike.0 ∙ ap (λ (z : Pair). z.at) (same_Some x p e) ∙ a))
 alike_there (x ∷ ps) (y ∷ qs) (suc n) at alike h = alike_there ps qs n at alike.2 h
 
-stays_there : (new : Disk) (ps qs : List Pair) → IsAccepted new qs → root_of qs ≡ root_of ps → HasAddress qs (superblocks_before ps) (root_of ps) → superblocks_before qs ≡ superblocks_before ps
-stays_there new ps qs now same h = number_of_root new qs (superblocks_before ps) now (h.0, (h.1.0, h.1.1 ∙ sym same))
+stays_there : (new : Disk) (ps qs : List Pair) → IsAcceptedImage new qs → root_directory_of_pairs qs ≡ root_directory_of_pairs ps → HasAddress qs (pair_count_before_root ps) (root_directory_of_pairs ps) → pair_count_before_root qs ≡ pair_count_before_root ps
+stays_there new ps qs now same h = number_of_root new qs (pair_count_before_root ps) now (h.0, (h.1.0, h.1.1 ∙ sym same))
 
-pub alike_stays : (disk new : Disk) (ps qs : List Pair) → IsAccepted disk ps → IsAccepted new qs → root_of qs ≡ root_of ps → AreAlike ps qs → superblocks_before qs ≡ superblocks_before ps
-alike_stays disk new ps qs ok now same alike = stays_there new ps qs now same (alike_there ps qs (superblocks_before ps) (root_of ps) alike (root_there disk ps ok))
+pub alike_stays : (disk new : Disk) (ps qs : List Pair) → IsAcceptedImage disk ps → IsAcceptedImage new qs → root_directory_of_pairs qs ≡ root_directory_of_pairs ps → AreAlike ps qs → pair_count_before_root qs ≡ pair_count_before_root ps
+alike_stays disk new ps qs ok now same alike = stays_there new ps qs now same (alike_there ps qs (pair_count_before_root ps) (root_directory_of_pairs ps) alike (root_there disk ps ok))
 
 -- ---- a move ends
 
@@ -91,22 +91,22 @@ remove_there (x ∷ ps) (suc i) zero at low h = h
 remove_there (x ∷ ps) (suc i) (suc n) at low h = remove_there ps i n at (omega arith) h
 
 -- a pair to which a hard tail leads stands behind the root's first one
-led_behind : (ps : List Pair) (pair : ℕ) → superblocks_before ps ≤ pair → follows_hard_tail ps pair ≡ true → superblocks_before ps < pair
-led_behind ps pair low led = go (pair - superblocks_before ps) refl
+led_behind : (ps : List Pair) (pair : ℕ) → pair_count_before_root ps ≤ pair → is_pair_named_by_hard_tail ps pair ≡ true → pair_count_before_root ps < pair
+led_behind ps pair low led = go (pair - pair_count_before_root ps) refl
   where
-    go : (n : ℕ) → pair - superblocks_before ps ≡ n → superblocks_before ps < pair
-    go zero e = absurd (let k = sym (ap (λ i. ends_in_hard_tail false (take i (directory_pairs ps))) e) ∙ led in cc)
+    go : (n : ℕ) → pair - pair_count_before_root ps ≡ n → pair_count_before_root ps < pair
+    go zero e = absurd (let k = sym (ap (λ i. ends_in_hard_tail false (take i (pairs_of_all_directories ps))) e) ∙ led in cc)
     go (suc n) e = omega arith
 
-pub move_end_stays : (old new : Kept) (pair id : ℕ) (goes : Bool) → CanEndMoveAt old pair id goes → HasEndedMoveAt old pair id goes new → KeepsRoot old new
+pub move_end_stays : (old new : Kept) (pair id : ℕ) (goes : Bool) → CanEndMoveAt old pair id goes → HasEndedMoveAt old pair id goes new → KeepsPairCountBeforeRoot old new
 move_end_stays old new pair id goes can ended = stays_there new.disk old.pairs new.pairs ended.taken.follows.accepted ended.taken.follows.root
-    (alike_there (pairs_ended old pair id goes) new.pairs (superblocks_before old.pairs) (root_of old.pairs) ended.alike (go goes refl))
+    (alike_there (pairs_after_move_ends old pair id goes) new.pairs (pair_count_before_root old.pairs) (root_directory_of_pairs old.pairs) ended.alike (go goes refl))
   where
-    was : HasAddress old.pairs (superblocks_before old.pairs) (root_of old.pairs)
+    was : HasAddress old.pairs (pair_count_before_root old.pairs) (root_directory_of_pairs old.pairs)
     was = root_there old.disk old.pairs can.accepted
 
-    go : (b : Bool) → goes ≡ b → HasAddress (pairs_ended old pair id goes) (superblocks_before old.pairs) (root_of old.pairs)
-    go true e = subst (λ b. HasAddress (pairs_ended old pair id b) (superblocks_before old.pairs) (root_of old.pairs)) (sym e)
-        (remove_there old.pairs pair (superblocks_before old.pairs) (root_of old.pairs) (led_behind old.pairs pair can.begins (can.alone e).0) was)
-    go false e = subst (λ b. HasAddress (pairs_ended old pair id b) (superblocks_before old.pairs) (root_of old.pairs)) (sym e)
-        (set_there old.pairs pair (superblocks_before old.pairs) (content_without old pair id) (root_of old.pairs) was)
+    go : (b : Bool) → goes ≡ b → HasAddress (pairs_after_move_ends old pair id goes) (pair_count_before_root old.pairs) (root_directory_of_pairs old.pairs)
+    go true e = subst (λ b. HasAddress (pairs_after_move_ends old pair id b) (pair_count_before_root old.pairs) (root_directory_of_pairs old.pairs)) (sym e)
+        (remove_there old.pairs pair (pair_count_before_root old.pairs) (root_directory_of_pairs old.pairs) (led_behind old.pairs pair can.begins (can.alone e).0) was)
+    go false e = subst (λ b. HasAddress (pairs_after_move_ends old pair id b) (pair_count_before_root old.pairs) (root_directory_of_pairs old.pairs)) (sym e)
+        (set_there old.pairs pair (pair_count_before_root old.pairs) (content_after_move_ends old pair id) (root_directory_of_pairs old.pairs) was)

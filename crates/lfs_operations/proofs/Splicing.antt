@@ -3,17 +3,17 @@ use Rattle.std.proofs.Common.{ℕ, zero, suc, ◌≡◌, ◌+◌, ◌<◌, ◌�
 use Rattle.std.specs.List.{IsDistinct, flat_map}
 use Rattle.std.proofs.lemmas.List.{take-append-drop}
 use Rattle.std.proofs.lemmas.List.Elements.{All-from_recursion, recursion_from_All}
-use Rattle.lfs_model.specs.BlockSets.{BlockSets, AreUsed, IsFree, IsInFlight}
+use Rattle.lfs_model.specs.BlockSets.{BlockStateList, AreExactlyTheUsedBlocks, IsFree, IsInFlight}
 use Rattle.lfs_model.specs.BlockSets.BlockState.{Free, InFlight, Used}
-use Rattle.lfs_model.specs.Changes.{Change}
-use Rattle.lfs_model.specs.Disk.{Disk, block_at, block_count, SameGeometry}
-use Rattle.lfs_model.specs.Slots.{Slot, Content, FitsPair, no_gstate, gstate_xor}
-use Rattle.lfs_model.specs.Content.{content_at, holder_at}
-use Rattle.lfs_model.specs.SlotEdits.{with_slots}
-use Rattle.lfs_model.specs.Thread.{Pair, blocks_of, gstate_of, starts_with_superblock}
-use Rattle.lfs_model.specs.Shown.{file_blocks, all_slots, used_blocks}
-use Rattle.lfs_model.specs.View.{BeginsWithEntry, superblock_entry, IsAccepted, IsEntry, IsListIfCtz}
-use Rattle.lfs_model.specs.Profile.{IsWritable, FitsSlot}
+use Rattle.lfs_model.specs.Changes.{ContentChange}
+use Rattle.lfs_model.specs.Disk.{Disk, block_bytes_on_disk, block_count, SameGeometry}
+use Rattle.lfs_model.specs.Slots.{Slot, Content, IsContentFittingPair, zero_gstate, gstate_xor}
+use Rattle.lfs_model.specs.Content.{content_of_pair_at, current_block_of_pair_at}
+use Rattle.lfs_model.specs.SlotEdits.{pair_with_slots}
+use Rattle.lfs_model.specs.Thread.{Pair, blocks_of_pairs, gstate_of, starts_with_superblock}
+use Rattle.lfs_model.specs.Shown.{skip_list_blocks_of_struct, all_slots_not_moved, used_blocks}
+use Rattle.lfs_model.specs.View.{BeginsWithLogEntry, superblock_name_log_entry, IsAcceptedImage, IsFileOrDirectoryEntry, IsListIfCtz}
+use Rattle.lfs_model.specs.Profile.{IsWritable, FitsSlotLimits}
 use Rattle.lfs_model.proofs.Became.{Became, fits_same}
 use Rattle.lfs_model.proofs.BlockSets.{Contains-count}
 use Rattle.lfs_model.proofs.Changes.{SameFiles}
@@ -24,12 +24,12 @@ use Rattle.lfs_model.proofs.Global.{gstate_append, gstate_cons, gstate_kept, gst
 use Rattle.lfs_model.proofs.Sites.{Site, thread_at, IsSite}
 use Rattle.lfs_model.proofs.Splices.{IsDevice, files_of, slots_in}
 use Rattle.lfs_model.proofs.Unchanged.{HasFirst}
-use Rattle.lfs_pair.specs.Commit.{OutsideKeeps}
-use Rattle.lfs_pair.specs.Split.{OutsideBothKeeps}
+use Rattle.lfs_pair.specs.Commit.{KeepsBlocksOutsidePair}
+use Rattle.lfs_pair.specs.Split.{KeepsBlocksOutsideBothPairs}
 use Rattle.lfs_thread.specs.Kept.{Kept}
-use Rattle.lfs_thread.specs.Steps.{pair_in, no_pair, made_in_thread, with_pair, with_two, HasShape, HasOldContent, IsWrittenAs, ArePartsOf, SlotsHaveFirst, front_pair, back_pair}
-use Rattle.lfs_operations.specs.Changing.{AreTwoFree}
-use Rattle.lfs_operations.specs.Ready.{IsReady}
+use Rattle.lfs_thread.specs.Steps.{kept_pair_at_index, no_pair, complete_content_after_changes, pairs_with_content_at_index, pairs_with_one_replaced_by_two, HasSameGeometry, HasPairOldContentOnDisk, IsPairWrittenOnDisk, PartsFitPairs, SlotsBeginWithSuperblock, front_pair_of_split, back_pair_of_split}
+use Rattle.lfs_operations.specs.Changing.{AreTwoFreeBlocks}
+use Rattle.lfs_operations.specs.Ready.{IsImageReadyForChange}
 use Rattle.lfs_operations.proofs.Placing.{IsPlaced, all_apart, blocks_append, device}
 use Rattle.lfs_operations.proofs.Taking.{within}
 
@@ -53,25 +53,25 @@ insert_at (x ∷ xs) q zs f =
 
 -- At the site stands the pair of that number. The changes make a content of it with the same tail and the same delta of the
 -- global state, in which `news` stand where `olds` did.
-pub record IsSplicing (t : Kept) (index : ℕ) (changes : List Change) (w : Site) (p : Pair) (l olds news r : List Slot) (gone come : List ℕ) : Type 0 where
-  pub ready : IsReady t
+pub record IsSplicing (t : Kept) (index : ℕ) (changes : List ContentChange) (w : Site) (p : Pair) (l olds news r : List Slot) (gone come : List ℕ) : Type 0 where
+  pub ready : IsImageReadyForChange t
   pub there : t.pairs ≡ thread_at w (p ∷ [])
   pub place : index ≡ length w.chain + length (w.before ++ w.left)
   pub site : IsSite w (p ∷ [])
   pub content : Content
-  pub made : made_in_thread t index changes ≡ Some content
+  pub made : complete_content_after_changes t index changes ≡ Some content
   pub tail : content.tail ≡ p.content.tail
   pub move : content.move ≡ p.content.move
   pub was : p.content.slots ≡ l ++ (olds ++ r)
   pub now : content.slots ≡ l ++ (news ++ r)
   pub front : l ≡ [] → starts_with_superblock (olds ++ r) ≡ false
-  pub entries : Each IsEntry news
-  pub fit : Each (FitsSlot t.disk.block_size t.disk.page) news
+  pub entries : Each IsFileOrDirectoryEntry news
+  pub fit : Each (FitsSlotLimits t.disk.block_size t.disk.page) news
   -- blocks that come are in flight; they name these now, and those that are gone no more
   pub flying : Each (IsInFlight t.map) come
   pub apart : IsDistinct nat_eq (come ++ used_blocks t.disk t.pairs)
-  pub lists : (disk : Disk) → SameGeometry t.disk disk → SameFiles t.disk disk (all_slots t.pairs) → Each (λ b. block_at disk b ≡ block_at t.disk b) come → Each (λ s. IsListIfCtz disk s.struct) news
-  pub blocks : (disk : Disk) → SameGeometry t.disk disk → SameFiles t.disk disk (all_slots t.pairs) → Each (λ b. block_at disk b ≡ block_at t.disk b) come
+  pub lists : (disk : Disk) → SameGeometry t.disk disk → SameFiles t.disk disk (all_slots_not_moved t.pairs) → Each (λ b. block_bytes_on_disk disk b ≡ block_bytes_on_disk t.disk b) come → Each (λ s. IsListIfCtz disk s.struct) news
+  pub blocks : (disk : Disk) → SameGeometry t.disk disk → SameFiles t.disk disk (all_slots_not_moved t.pairs) → Each (λ b. block_bytes_on_disk disk b ≡ block_bytes_on_disk t.disk b) come
       → (b : ℕ) → count b (files_of disk news) + count b gone ≡ count b come + count b (files_of t.disk olds)
 
 -- the two parts of a pair that is cut
@@ -81,21 +81,21 @@ cut_front at c cut fresh = record { at = at; content = record { slots = take cut
 -- a commit, on a disk where the blocks that come are as they were
 pub record Commits (t : Kept) (w : Site) (p : Pair) (l olds news r : List Slot) (come : List ℕ) (disk : Disk) (q : Pair) (more : List Pair) : Type 0 where
   pub commit : IsCommit t.disk disk w p q more come l olds news r
-  pub come_same : Each (λ b. block_at disk b ≡ block_at t.disk b) come
+  pub come_same : Each (λ b. block_bytes_on_disk disk b ≡ block_bytes_on_disk t.disk b) come
 
 -- both parts are on the disk
 pub record AreOn (t : Kept) (index : ℕ) (content : Content) (disk : Disk) (fresh : ℕ × ℕ) (cut : ℕ) : Type 0 where
-  pub shape : HasShape t.disk disk
-  pub others : OutsideBothKeeps (pair_in t index).at fresh t.disk.blocks disk.blocks
-  pub front : content_at disk (pair_in t index).at ≡ Some (front_pair t index content cut fresh).content
-  pub back : content_at disk fresh ≡ Some (back_pair content cut fresh).content
-  pub parts : ArePartsOf t index content cut fresh disk
+  pub shape : HasSameGeometry t.disk disk
+  pub others : KeepsBlocksOutsideBothPairs (kept_pair_at_index t index).at fresh t.disk.blocks disk.blocks
+  pub front : content_of_pair_at disk (kept_pair_at_index t index).at ≡ Some (front_pair_of_split t index content cut fresh).content
+  pub back : content_of_pair_at disk fresh ≡ Some (back_pair_of_split content cut fresh).content
+  pub parts : PartsFitPairs t index content cut fresh disk
 
 unlike : Some Free ≡ Some Used → ⊥
 unlike e = absurd (cc)
 
 -- a free block isn't among the used ones
-pub not_used : (sets : BlockSets) (bs : List ℕ) → AreUsed sets bs → (b : ℕ) → IsFree sets b → count b bs ≡ 0
+pub not_used : (sets : BlockStateList) (bs : List ℕ) → AreExactlyTheUsedBlocks sets bs → (b : ℕ) → IsFree sets b → count b bs ≡ 0
 not_used sets bs used b free = go (count b bs) refl
   where
     go : (n : ℕ) → count b bs ≡ n → n ≡ 0
@@ -106,14 +106,14 @@ unlike_flying : Some Free ≡ Some InFlight → ⊥
 unlike_flying e = absurd (cc)
 
 -- nor is it in flight
-not_flying : (sets : BlockSets) (bs : List ℕ) → Each (IsInFlight sets) bs → (b : ℕ) → IsFree sets b → count b bs ≡ 0
+not_flying : (sets : BlockStateList) (bs : List ℕ) → Each (IsInFlight sets) bs → (b : ℕ) → IsFree sets b → count b bs ≡ 0
 not_flying sets bs flying b free = go (count b bs) refl
   where
     go : (n : ℕ) → count b bs ≡ n → n ≡ 0
     go zero e = refl
     go (suc n) e = absurd (unlike_flying (sym free ∙ each_counted (IsInFlight sets) bs flying b (omega arith)))
 
-module _ (t : Kept) (index : ℕ) (changes : List Change) (w : Site) (p : Pair) (l olds news r : List Slot) (gone come : List ℕ) (k : IsSplicing t index changes w p l olds news r gone come) where
+module _ (t : Kept) (index : ℕ) (changes : List ContentChange) (w : Site) (p : Pair) (l olds news r : List Slot) (gone come : List ℕ) (k : IsSplicing t index changes w p l olds news r gone come) where
   abbrev ps : List Pair
   ps = thread_at w (p ∷ [])
 
@@ -123,8 +123,8 @@ module _ (t : Kept) (index : ℕ) (changes : List Change) (w : Site) (p : Pair) 
   abbrev behind : List Pair
   behind = w.right ++ w.after
 
-  pub accepted : IsAccepted t.disk ps
-  accepted = subst (IsAccepted t.disk) k.there k.ready.accepted
+  pub accepted : IsAcceptedImage t.disk ps
+  accepted = subst (IsAcceptedImage t.disk) k.there k.ready.accepted
 
   grouped : (q : Pair) (more : List Pair) → thread_at w (q ∷ more) ≡ ahead ++ q ∷ (more ++ behind)
   grouped q more = sym (append_assoc w.chain (w.before ++ w.left) (q ∷ (more ++ behind)))
@@ -132,20 +132,20 @@ module _ (t : Kept) (index : ℕ) (changes : List Change) (w : Site) (p : Pair) 
   place_is : index ≡ length ahead
   place_is = k.place ∙ sym (length-append w.chain (w.before ++ w.left))
 
-  pub pair_is : pair_in t index ≡ p
+  pub pair_is : kept_pair_at_index t index ≡ p
   pair_is = ap₂ (λ (z : List Pair) (i : ℕ). get_or z i no_pair) (k.there ∙ grouped p []) place_is ∙ get_at ahead p behind no_pair
 
-  pub at_is : (pair_in t index).at ≡ p.at
+  pub at_is : (kept_pair_at_index t index).at ≡ p.at
   at_is = ap (λ (z : Pair). z.at) pair_is
 
   -- the thread with another pair there, or two
-  pub one_now : (c : Content) → with_pair t index c ≡ thread_at w (record { at = p.at; content = c } ∷ [])
+  pub one_now : (c : Content) → pairs_with_content_at_index t index c ≡ thread_at w (record { at = p.at; content = c } ∷ [])
   one_now c =
       let q : Pair = record { at = p.at; content = c } in
       ap (λ (z : Pair). set t.pairs index (record { at = z.at; content = c })) pair_is
       ∙ ap₂ (λ (z : List Pair) (i : ℕ). set z i q) (k.there ∙ grouped p []) place_is ∙ set_at ahead p behind q ∙ sym (grouped q [])
 
-  pub two_now : (q f : Pair) → with_two t.pairs index q f ≡ thread_at w (q ∷ f ∷ [])
+  pub two_now : (q f : Pair) → pairs_with_one_replaced_by_two t.pairs index q f ≡ thread_at w (q ∷ f ∷ [])
   two_now q f =
       ap₂ (λ (z : List Pair) (i : ℕ). insert (set z i q) (i + 1) f) (k.there ∙ grouped p []) place_is
       ∙ ap (λ (z : List Pair). insert z (length ahead + 1) f) (set_at ahead p behind q) ∙ insert_at ahead q behind f ∙ sym (grouped q (f ∷ []))
@@ -153,55 +153,55 @@ module _ (t : Kept) (index : ℕ) (changes : List Change) (w : Site) (p : Pair) 
   -- ---- the first pair
 
   -- the superblock stays in slot 0
-  pub still_has : HasFirst p.content.slots → SlotsHaveFirst k.content.slots
-  still_has h = subst SlotsHaveFirst (sym k.now) (go l k.front (subst SlotsHaveFirst k.was (h.kind, h.name)))
+  pub still_has : HasFirst p.content.slots → SlotsBeginWithSuperblock k.content.slots
+  still_has h = subst SlotsBeginWithSuperblock (sym k.now) (go l k.front (subst SlotsBeginWithSuperblock k.was (h.kind, h.name)))
     where
-      go : (l : List Slot) → (l ≡ [] → starts_with_superblock (olds ++ r) ≡ false) → SlotsHaveFirst (l ++ (olds ++ r)) → SlotsHaveFirst (l ++ (news ++ r))
+      go : (l : List Slot) → (l ≡ [] → starts_with_superblock (olds ++ r) ≡ false) → SlotsBeginWithSuperblock (l ++ (olds ++ r)) → SlotsBeginWithSuperblock (l ++ (news ++ r))
       go [] f e = absurd (let z = sym (f refl) ∙ e.0 in cc)
       go (s ∷ l) f e = e
 
-  front_has : (cut : ℕ) → 0 < cut → HasFirst p.content.slots → SlotsHaveFirst (take cut k.content.slots)
+  front_has : (cut : ℕ) → 0 < cut → HasFirst p.content.slots → SlotsBeginWithSuperblock (take cut k.content.slots)
   front_has cut some h = go cut some k.content.slots (still_has h)
     where
-      go : (cut : ℕ) → 0 < cut → (slots : List Slot) → SlotsHaveFirst slots → SlotsHaveFirst (take cut slots)
+      go : (cut : ℕ) → 0 < cut → (slots : List Slot) → SlotsBeginWithSuperblock slots → SlotsBeginWithSuperblock (take cut slots)
       go zero some slots e = absurd (omega arith)
       go (suc cut) some [] e = e
       go (suc cut) some (s ∷ slots) e = e
 
   -- ---- on the disk
 
-  shape_same : {disk : Disk} → HasShape t.disk disk → SameGeometry t.disk disk
+  shape_same : {disk : Disk} → HasSameGeometry t.disk disk → SameGeometry t.disk disk
   shape_same s = record { block_size = s.block_size; page = s.page; order = s.order; count = s.count }
 
-  same_two : (disk : Disk) → OutsideKeeps p.at t.disk.blocks disk.blocks → (b : ℕ) → count b (blocks_of (p ∷ [])) ≡ 0 → block_at disk b ≡ block_at t.disk b
+  same_two : (disk : Disk) → KeepsBlocksOutsidePair p.at t.disk.blocks disk.blocks → (b : ℕ) → count b (blocks_of_pairs (p ∷ [])) ≡ 0 → block_bytes_on_disk disk b ≡ block_bytes_on_disk t.disk b
   same_two disk others b none = others.others b (all_apart (p.at.0 ∷ p.at.1 ∷ []) b none)
 
-  same_four : (disk : Disk) (fresh : ℕ × ℕ) → OutsideBothKeeps p.at fresh t.disk.blocks disk.blocks → (b : ℕ) → count b (fresh.0 ∷ fresh.1 ∷ blocks_of (p ∷ [])) ≡ 0 → block_at disk b ≡ block_at t.disk b
+  same_four : (disk : Disk) (fresh : ℕ × ℕ) → KeepsBlocksOutsideBothPairs p.at fresh t.disk.blocks disk.blocks → (b : ℕ) → count b (fresh.0 ∷ fresh.1 ∷ blocks_of_pairs (p ∷ [])) ≡ 0 → block_bytes_on_disk disk b ≡ block_bytes_on_disk t.disk b
   same_four disk fresh others b none = others.others b (all_apart (p.at.0 ∷ p.at.1 ∷ fresh.0 ∷ fresh.1 ∷ []) b (omega arith))
 
-  pub placed_one : (disk : Disk) (c : Content) → (HasFirst p.content.slots → SlotsHaveFirst c.slots) → IsWrittenAs t index c disk → IsPlaced t.disk disk p (record { at = p.at; content = c }) [] []
+  pub placed_one : (disk : Disk) (c : Content) → (HasFirst p.content.slots → SlotsBeginWithSuperblock c.slots) → IsPairWrittenOnDisk t index c disk → IsPlaced t.disk disk p (record { at = p.at; content = c }) [] []
   placed_one disk c first is = record {
     geometry = shape_same is.shape;
-    same = same_two disk (subst (λ at. OutsideKeeps at t.disk.blocks disk.blocks) at_is is.others);
-    contents = (ap (content_at disk) (sym at_is) ∙ is.holds, tt);
-    first = λ h b. subst (λ at. BeginsWithEntry (holder_at disk at) superblock_entry) at_is (is.first (subst (λ at. BeginsWithEntry (holder_at t.disk at) superblock_entry) (sym at_is) b) (first h));
+    same = same_two disk (subst (λ at. KeepsBlocksOutsidePair at t.disk.blocks disk.blocks) at_is is.others);
+    contents = (ap (content_of_pair_at disk) (sym at_is) ∙ is.holds, tt);
+    first = λ h b. subst (λ at. BeginsWithLogEntry (current_block_of_pair_at disk at) superblock_name_log_entry) at_is (is.first (subst (λ at. BeginsWithLogEntry (current_block_of_pair_at t.disk at) superblock_name_log_entry) (sym at_is) b) (first h));
   }
 
-  pub placed_still : (disk : Disk) (fresh : ℕ × ℕ) → HasShape t.disk disk → OutsideBothKeeps (pair_in t index).at fresh t.disk.blocks disk.blocks → HasOldContent t index disk → IsPlaced t.disk disk p p [] (fresh.0 ∷ fresh.1 ∷ [])
+  pub placed_still : (disk : Disk) (fresh : ℕ × ℕ) → HasSameGeometry t.disk disk → KeepsBlocksOutsideBothPairs (kept_pair_at_index t index).at fresh t.disk.blocks disk.blocks → HasPairOldContentOnDisk t index disk → IsPlaced t.disk disk p p [] (fresh.0 ∷ fresh.1 ∷ [])
   placed_still disk fresh shape others is = record {
     geometry = shape_same shape;
-    same = same_four disk fresh (subst (λ at. OutsideBothKeeps at fresh t.disk.blocks disk.blocks) at_is others);
-    contents = (subst (λ (z : Pair). content_at disk z.at ≡ Some z.content) pair_is is.holds, tt);
-    first = λ h b. subst (λ at. BeginsWithEntry (holder_at disk at) superblock_entry) at_is (is.first (subst (λ at. BeginsWithEntry (holder_at t.disk at) superblock_entry) (sym at_is) b));
+    same = same_four disk fresh (subst (λ at. KeepsBlocksOutsideBothPairs at fresh t.disk.blocks disk.blocks) at_is others);
+    contents = (subst (λ (z : Pair). content_of_pair_at disk z.at ≡ Some z.content) pair_is is.holds, tt);
+    first = λ h b. subst (λ at. BeginsWithLogEntry (current_block_of_pair_at disk at) superblock_name_log_entry) at_is (is.first (subst (λ at. BeginsWithLogEntry (current_block_of_pair_at t.disk at) superblock_name_log_entry) (sym at_is) b));
   }
 
-  pub placed_two : (disk : Disk) (fresh : ℕ × ℕ) (cut : ℕ) → 0 < cut → AreOn t index k.content disk fresh cut → IsPlaced t.disk disk p (cut_front p.at k.content cut fresh) (back_pair k.content cut fresh ∷ []) (fresh.0 ∷ fresh.1 ∷ [])
+  pub placed_two : (disk : Disk) (fresh : ℕ × ℕ) (cut : ℕ) → 0 < cut → AreOn t index k.content disk fresh cut → IsPlaced t.disk disk p (cut_front p.at k.content cut fresh) (back_pair_of_split k.content cut fresh ∷ []) (fresh.0 ∷ fresh.1 ∷ [])
   placed_two disk fresh cut some is = record {
     geometry = shape_same is.shape;
-    same = same_four disk fresh (subst (λ at. OutsideBothKeeps at fresh t.disk.blocks disk.blocks) at_is is.others);
-    contents = (ap (content_at disk) (sym at_is) ∙ is.front, (is.back, tt));
-    first = λ h b. subst (λ at. BeginsWithEntry (holder_at disk at) superblock_entry) at_is
-        (is.parts.first (subst (λ at. BeginsWithEntry (holder_at t.disk at) superblock_entry) (sym at_is) b) (front_has cut some h));
+    same = same_four disk fresh (subst (λ at. KeepsBlocksOutsideBothPairs at fresh t.disk.blocks disk.blocks) at_is is.others);
+    contents = (ap (content_of_pair_at disk) (sym at_is) ∙ is.front, (is.back, tt));
+    first = λ h b. subst (λ at. BeginsWithLogEntry (current_block_of_pair_at disk at) superblock_name_log_entry) at_is
+        (is.parts.first (subst (λ at. BeginsWithLogEntry (current_block_of_pair_at t.disk at) superblock_name_log_entry) (sym at_is) b) (front_has cut some h));
   }
 
   -- ---- free blocks
@@ -212,12 +212,12 @@ module _ (t : Kept) (index : ℕ) (changes : List Change) (w : Site) (p : Pair) 
   -- a free block is neither used nor one of those that come
   free_apart : (b : ℕ) → IsFree t.map b → count b (come ++ used_blocks t.disk ps) ≡ 0
   free_apart b free =
-      let n = not_used t.map (used_blocks t.disk ps) (subst (λ z. AreUsed t.map (used_blocks t.disk z)) k.there k.ready.used) b free in
+      let n = not_used t.map (used_blocks t.disk ps) (subst (λ z. AreExactlyTheUsedBlocks t.map (used_blocks t.disk z)) k.there k.ready.used) b free in
       let m = not_flying t.map come k.flying b free in
       let e = count_append b come (used_blocks t.disk ps) in
       omega arith
 
-  all_distinct : (fresh : ℕ × ℕ) → AreTwoFree t.map fresh → IsDistinct nat_eq (fresh.0 ∷ fresh.1 ∷ (come ++ used_blocks t.disk ps))
+  all_distinct : (fresh : ℕ × ℕ) → AreTwoFreeBlocks t.map fresh → IsDistinct nat_eq (fresh.0 ∷ fresh.1 ∷ (come ++ used_blocks t.disk ps))
   all_distinct fresh two = distinct_from_once (fresh.0 ∷ fresh.1 ∷ (come ++ used_blocks t.disk ps)) (λ b. go b (nat_eq b fresh.0) (nat_eq b fresh.1) refl refl)
     where
       go : (b : ℕ) (x y : Bool) → nat_eq b fresh.0 ≡ x → nat_eq b fresh.1 ≡ y → cond x 1 0 + (cond y 1 0 + count b (come ++ used_blocks t.disk ps)) ≤ 1
@@ -235,34 +235,34 @@ module _ (t : Kept) (index : ℕ) (changes : List Change) (w : Site) (p : Pair) 
       let g = count_append b extra (used_blocks t.disk ps) in
       omega arith)
 
-  pub fresh_distinct : (fresh : ℕ × ℕ) → AreTwoFree t.map fresh → IsDistinct nat_eq (fresh.0 ∷ fresh.1 ∷ used_blocks t.disk ps)
+  pub fresh_distinct : (fresh : ℕ × ℕ) → AreTwoFreeBlocks t.map fresh → IsDistinct nat_eq (fresh.0 ∷ fresh.1 ∷ used_blocks t.disk ps)
   fresh_distinct fresh two = without_come (fresh.0 ∷ fresh.1 ∷ []) (all_distinct fresh two)
 
   -- what comes isn't written
-  come_same : (disk : Disk) (q : Pair) (more : List Pair) (extra : List ℕ) → IsDistinct nat_eq ((extra ++ come) ++ used_blocks t.disk ps) → IsPlaced t.disk disk p q more extra → Each (λ b. block_at disk b ≡ block_at t.disk b) come
-  come_same disk q more extra all placed = each_from_counted (λ b. block_at disk b ≡ block_at t.disk b) come (λ b some. placed.same b (
+  come_same : (disk : Disk) (q : Pair) (more : List Pair) (extra : List ℕ) → IsDistinct nat_eq ((extra ++ come) ++ used_blocks t.disk ps) → IsPlaced t.disk disk p q more extra → Each (λ b. block_bytes_on_disk disk b ≡ block_bytes_on_disk t.disk b) come
+  come_same disk q more extra all placed = each_from_counted (λ b. block_bytes_on_disk disk b ≡ block_bytes_on_disk t.disk b) come (λ b some. placed.same b (
       let n = once_from_distinct ((extra ++ come) ++ used_blocks t.disk ps) all b in
       let e = count_append b (extra ++ come) (used_blocks t.disk ps) in
       let f = count_append b extra come in
-      let g = count_append b extra (blocks_of (p ∷ [])) in
-      let h = count_append b (blocks_of ps) (flat_map (λ s. file_blocks t.disk s.struct) (all_slots ps)) in
-      let i = ap (λ z. count b (blocks_of z)) (grouped p []) in
+      let g = count_append b extra (blocks_of_pairs (p ∷ [])) in
+      let h = count_append b (blocks_of_pairs ps) (flat_map (λ s. skip_list_blocks_of_struct t.disk s.struct) (all_slots_not_moved ps)) in
+      let i = ap (λ z. count b (blocks_of_pairs z)) (grouped p []) in
       let j = blocks_append ahead (p ∷ behind) b in
       let m = blocks_append (p ∷ []) behind b in
       omega arith))
 
-  pub fresh_range : (fresh : ℕ × ℕ) → AreTwoFree t.map fresh → Each (λ b. b < block_count t.disk) (fresh.0 ∷ fresh.1 ∷ [])
+  pub fresh_range : (fresh : ℕ × ℕ) → AreTwoFreeBlocks t.map fresh → Each (λ b. b < block_count t.disk) (fresh.0 ∷ fresh.1 ∷ [])
   fresh_range fresh two = let e = k.ready.size in let f = within t.map fresh.0 Free two.first in let g = within t.map fresh.1 Free two.second in (omega arith, (omega arith, tt))
 
   -- ---- the commit
 
-  gstate_now : (q : Pair) (more : List Pair) → gstate_of (q ∷ more) ≡ gstate_of (p ∷ []) → gstate_of (thread_at w (q ∷ more)) ≡ no_gstate
+  gstate_now : (q : Pair) (more : List Pair) → gstate_of (q ∷ more) ≡ gstate_of (p ∷ []) → gstate_of (thread_at w (q ∷ more)) ≡ zero_gstate
   gstate_now q more e =
       gstate_append w.chain ((w.before ++ w.left) ++ (q ∷ more ++ behind)) ∙ ap (gstate_xor (gstate_of w.chain)) (gstate_kept (w.before ++ w.left) (p ∷ []) (q ∷ more) behind e)
       ∙ sym (gstate_append w.chain ((w.before ++ w.left) ++ (p ∷ [] ++ behind))) ∙ ap gstate_of (sym k.there) ∙ k.ready.settled
 
-  commit_from : (disk : Disk) (q : Pair) (more : List Pair) → q.at ≡ p.at → gstate_of (q ∷ more) ≡ gstate_of (p ∷ []) → slots_in (q ∷ more) ≡ l ++ (news ++ r) → Became t.disk p (with_slots (l ++ (news ++ r)) p) q more
-      → IsDistinct nat_eq ((blocks_of more ++ come) ++ used_blocks t.disk ps) → Each (λ b. b < block_count t.disk) (blocks_of more) → IsPlaced t.disk disk p q more (blocks_of more) → Commits t w p l olds news r come disk q more
+  commit_from : (disk : Disk) (q : Pair) (more : List Pair) → q.at ≡ p.at → gstate_of (q ∷ more) ≡ gstate_of (p ∷ []) → slots_in (q ∷ more) ≡ l ++ (news ++ r) → Became t.disk p (pair_with_slots (l ++ (news ++ r)) p) q more
+      → IsDistinct nat_eq ((blocks_of_pairs more ++ come) ++ used_blocks t.disk ps) → Each (λ b. b < block_count t.disk) (blocks_of_pairs more) → IsPlaced t.disk disk p q more (blocks_of_pairs more) → Commits t w p l olds news r come disk q more
   commit_from disk q more at delta is became distinct range placed = record {
     commit = record {
       accepted = accepted;
@@ -273,7 +273,7 @@ module _ (t : Kept) (index : ℕ) (changes : List Change) (w : Site) (p : Pair) 
       device = on;
       free = record {
         distinct = distinct;
-        in_range = All-from_recursion (λ b. b < block_count t.disk) (blocks_of more) range;
+        in_range = All-from_recursion (λ b. b < block_count t.disk) (blocks_of_pairs more) range;
       };
       at = at;
       was = k.was;
@@ -291,32 +291,32 @@ module _ (t : Kept) (index : ℕ) (changes : List Change) (w : Site) (p : Pair) 
   }
     where
       on : IsDevice t.disk disk (thread_at w (p ∷ [])) (thread_at w (q ∷ more))
-      on = device t.disk disk w p q more (blocks_of more) accepted (without_come (blocks_of more) distinct) placed
+      on = device t.disk disk w p q more (blocks_of_pairs more) accepted (without_come (blocks_of_pairs more) distinct) placed
 
-      come_there : Each (λ b. block_at disk b ≡ block_at t.disk b) come
-      come_there = come_same disk q more (blocks_of more) distinct placed
+      come_there : Each (λ b. block_bytes_on_disk disk b ≡ block_bytes_on_disk t.disk b) come
+      come_there = come_same disk q more (blocks_of_pairs more) distinct placed
 
-      files : SameFiles t.disk disk (all_slots t.pairs)
-      files = subst (λ z. SameFiles t.disk disk (all_slots z)) (sym k.there) (recursion_from_All (λ (s : Slot). HasSameFile t.disk disk s.struct) (all_slots ps) on.files)
+      files : SameFiles t.disk disk (all_slots_not_moved t.pairs)
+      files = subst (λ z. SameFiles t.disk disk (all_slots_not_moved z)) (sym k.there) (recursion_from_All (λ (s : Slot). HasSameFile t.disk disk s.struct) (all_slots_not_moved ps) on.files)
 
-  pub commit_one : (disk : Disk) → IsWrittenAs t index k.content disk → FitsPair t.disk.block_size t.disk.page k.content
+  pub commit_one : (disk : Disk) → IsPairWrittenOnDisk t index k.content disk → IsContentFittingPair t.disk.block_size t.disk.page k.content
       → Commits t w p l olds news r come disk (record { at = p.at; content = k.content }) []
   commit_one disk is fits = commit_from disk (record { at = p.at; content = k.content }) [] refl
       (gstate_cons (record { at = p.at; content = k.content }) [] ∙ ap (λ m. gstate_xor m (gstate_of [])) k.move ∙ sym (gstate_cons p []))
       (append-nil k.content.slots ∙ k.now)
-      (k.tail, fits_same t.disk (record { at = p.at; content = k.content }) (with_slots (l ++ (news ++ r)) p) (sym k.now) fits)
+      (k.tail, fits_same t.disk (record { at = p.at; content = k.content }) (pair_with_slots (l ++ (news ++ r)) p) (sym k.now) fits)
       apart_there tt (placed_one disk k.content still_has is)
 
-  pub commit_two : (disk : Disk) (fresh : ℕ × ℕ) (cut : ℕ) → AreTwoFree t.map fresh → (FitsPair t.disk.block_size t.disk.page k.content → ⊥) → AreOn t index k.content disk fresh cut
-      → Commits t w p l olds news r come disk (cut_front p.at k.content cut fresh) (back_pair k.content cut fresh ∷ [])
+  pub commit_two : (disk : Disk) (fresh : ℕ × ℕ) (cut : ℕ) → AreTwoFreeBlocks t.map fresh → (IsContentFittingPair t.disk.block_size t.disk.page k.content → ⊥) → AreOn t index k.content disk fresh cut
+      → Commits t w p l olds news r come disk (cut_front p.at k.content cut fresh) (back_pair_of_split k.content cut fresh ∷ [])
   commit_two disk fresh cut two large is = commit_from disk front (back ∷ []) refl
       (gstate_cons front (back ∷ []) ∙ ap₂ gstate_xor k.move (gstate_cons back [] ∙ gstate_left (gstate_of [])) ∙ sym (gstate_cons p []))
       (ap (λ z. take cut k.content.slots ++ z) (append-nil (drop cut k.content.slots)) ∙ take-append-drop cut k.content.slots ∙ k.now)
-      (refl, k.tail, (λ fits. large (fits_same t.disk (with_slots (l ++ (news ++ r)) p) (record { at = p.at; content = k.content }) k.now fits)), is.parts.front_fits, is.parts.back_fits)
+      (refl, k.tail, (λ fits. large (fits_same t.disk (pair_with_slots (l ++ (news ++ r)) p) (record { at = p.at; content = k.content }) k.now fits)), is.parts.front_fits, is.parts.back_fits)
       (all_distinct fresh two) (fresh_range fresh two) (placed_two disk fresh cut (is.parts.inside large).0 is)
     where
       front : Pair
       front = cut_front p.at k.content cut fresh
 
       back : Pair
-      back = back_pair k.content cut fresh
+      back = back_pair_of_split k.content cut fresh

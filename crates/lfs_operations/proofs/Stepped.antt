@@ -5,33 +5,33 @@ use Rattle.std.proofs.lemmas.Bool.{cases_lt}
 use Rattle.std.proofs.lemmas.Option.{same_Some}
 use Rattle.std.proofs.lemmas.List.Elements.{recursion_from_All}
 use Rattle.lfs_model.specs.Blocks.{Blocks}
-use Rattle.lfs_model.specs.BlockSets.{AreUsed, IsFree, IsInFlight}
-use Rattle.lfs_model.specs.Changes.{Change}
-use Rattle.lfs_model.specs.Content.{content_at}
+use Rattle.lfs_model.specs.BlockSets.{AreExactlyTheUsedBlocks, IsFree, IsInFlight}
+use Rattle.lfs_model.specs.Changes.{ContentChange}
+use Rattle.lfs_model.specs.Content.{content_of_pair_at}
 use Rattle.lfs_model.specs.Disk.{Disk, block_count}
-use Rattle.lfs_model.specs.PowerLoss.{IsLeftByStop as IsLeftOf, Survives, with_blocks}
-use Rattle.lfs_model.specs.Slots.{Slot, Content, FitsPair}
-use Rattle.lfs_model.specs.Thread.{Pair, blocks_of, gstate_of, superblocks_before}
+use Rattle.lfs_model.specs.PowerLoss.{ShowsTreeBeforeOrAfter as IsLeftOf, SurvivesStopsSince, with_blocks}
+use Rattle.lfs_model.specs.Slots.{Slot, Content, IsContentFittingPair}
+use Rattle.lfs_model.specs.Thread.{Pair, blocks_of_pairs, gstate_of, pair_count_before_root}
 use Rattle.lfs_model.specs.Tree.{Tree}
-use Rattle.lfs_model.specs.View.{IsAccepted}
-use Rattle.lfs_model.specs.Profile.{IsWritable, FitsSlot}
-use Rattle.lfs_model.specs.Shown.{all_slots, tree_in, used_blocks}
+use Rattle.lfs_model.specs.View.{IsAcceptedImage}
+use Rattle.lfs_model.specs.Profile.{IsWritable, FitsSlotLimits}
+use Rattle.lfs_model.specs.Shown.{all_slots_not_moved, tree_on_disk, used_blocks}
 use Rattle.lfs_model.proofs.BlockSets.{Contains-count, count-Contains}
 use Rattle.lfs_model.proofs.Changes.{Follows, SameFiles}
 use Rattle.lfs_model.proofs.Files.{HasSameFile}
 use Rattle.lfs_model.proofs.Writable.{ends_in_hard_tail}
 use Rattle.lfs_model.proofs.Committed.{IsCommit, commit_writable}
 use Rattle.lfs_model.proofs.Counts.{count, each_counted, each_right, once_from_distinct}
-use Rattle.lfs_model.proofs.Histories.{LeavesOnly-weaker}
+use Rattle.lfs_model.proofs.Histories.{IsTrueAfterEachStopSince-weaker}
 use Rattle.lfs_model.proofs.Laws.{Walk}
 use Rattle.lfs_model.proofs.Sites.{Site, dirs_at, thread_at}
 use Rattle.lfs_model.proofs.Splices.{IsDevice}
-use Rattle.lfs_model.specs.History.{Event}
-use Rattle.lfs_thread.specs.Device.{StopsLeave}
+use Rattle.lfs_model.specs.History.{CallEvent}
+use Rattle.lfs_thread.specs.Device.{StopsAfterCleanErasesLeave}
 use Rattle.lfs_thread.specs.Kept.{Kept}
-use Rattle.lfs_thread.specs.Steps.{pair_in, made_in_thread, front_pair, back_pair, AreHalves, HasShape, HasOldContent, IsChanged, IsLeftByChange, IsWrittenAs}
-use Rattle.lfs_operations.specs.Changing.{IsPairCutInto, IsLeftByPut, IsPut, IsTooLarge}
-use Rattle.lfs_operations.specs.Ready.{AreUsedBut, HasBecome, HasBecomeBut, NoNewInFlight, StayTaken}
+use Rattle.lfs_thread.specs.Steps.{kept_pair_at_index, complete_content_after_changes, front_pair_of_split, back_pair_of_split, AreBothSplitPartsOnDisk, HasSameGeometry, HasPairOldContentOnDisk, IsPairChanged, LeavesPairOldOrChanged, IsPairWrittenOnDisk}
+use Rattle.lfs_operations.specs.Changing.{IsPairSplitInto, IsLeftByStoppedChangeOrSplit, IsPairChangedOrSplit, IsChangedContentTooLarge}
+use Rattle.lfs_operations.specs.Ready.{AreUsedExceptGoneAndCome, ShowsTreeReadyForChange, ShowsTreeReadyOnceBlocksSettle, HasNoNewBlockInFlight, KeepsStatesOfTakenBlocks}
 use Rattle.lfs_operations.proofs.Owning.{count_pairs, length_now, none_comes_now, stay_taken, used_count_now, used_more, used_same}
 use Rattle.lfs_operations.proofs.Placing.{device, nothing_came}
 use Rattle.lfs_operations.proofs.RootStays.{root_stays}
@@ -49,52 +49,52 @@ pub record HasStep (t : Kept) (w : Site) (p : Pair) (l olds news r : List Slot) 
   pub more : List Pair
   pub commit : Commits t w p l olds news r come new.disk q more
   pub pairs : new.pairs ≡ thread_at w (q ∷ more)
-  pub used : AreUsedBut new.map (used_blocks new.disk new.pairs) gone come
+  pub used : AreUsedExceptGoneAndCome new.map (used_blocks new.disk new.pairs) gone come
   pub once : (b : ℕ) → count b used.owned ≤ 1
-  pub places : (b : ℕ) → Contains (blocks_of new.pairs) b → Contains (blocks_of t.pairs) b ⊎ IsFree t.map b
+  pub places : (b : ℕ) → Contains (blocks_of_pairs new.pairs) b → Contains (blocks_of_pairs t.pairs) b ⊎ IsFree t.map b
   pub size : length new.map ≡ block_count new.disk
-  pub stays : StayTaken t.map new.map
-  pub none_comes : NoNewInFlight t.map new.map
+  pub stays : KeepsStatesOfTakenBlocks t.map new.map
+  pub none_comes : HasNoNewBlockInFlight t.map new.map
 
 writable_same : (disk new : Disk) (ps : List Pair) → new.block_size ≡ disk.block_size → new.page ≡ disk.page → IsWritable disk ps → IsWritable new ps
 writable_same disk new ps e f h = record {
-  pairs = subst (λ (n : ℕ). All (λ p. FitsPair n new.page p.content) ps) (sym e) (subst (λ (n : ℕ). All (λ p. FitsPair disk.block_size n p.content) ps) (sym f) h.pairs);
-  slots = subst (λ (n : ℕ). All (λ p. All (FitsSlot n new.page) p.content.slots) ps) (sym e) (subst (λ (n : ℕ). All (λ p. All (FitsSlot disk.block_size n) p.content.slots) ps) (sym f) h.slots);
+  pairs = subst (λ (n : ℕ). All (λ p. IsContentFittingPair n new.page p.content) ps) (sym e) (subst (λ (n : ℕ). All (λ p. IsContentFittingPair disk.block_size n p.content) ps) (sym f) h.pairs);
+  slots = subst (λ (n : ℕ). All (λ p. All (FitsSlotLimits n new.page) p.content.slots) ps) (sym e) (subst (λ (n : ℕ). All (λ p. All (FitsSlotLimits disk.block_size n) p.content.slots) ps) (sym f) h.slots);
   no_empty_pair = h.no_empty_pair;
 }
 
-module _ (t : Kept) (index : ℕ) (changes : List Change) (w : Site) (p : Pair) (l olds news r : List Slot) (gone come : List ℕ) (k : IsSplicing t index changes w p l olds news r gone come) where
-  made_same : (c : Content) → made_in_thread t index changes ≡ Some c → c ≡ k.content
+module _ (t : Kept) (index : ℕ) (changes : List ContentChange) (w : Site) (p : Pair) (l olds news r : List Slot) (gone come : List ℕ) (k : IsSplicing t index changes w p l olds news r gone come) where
+  made_same : (c : Content) → complete_content_after_changes t index changes ≡ Some c → c ≡ k.content
   made_same c m = same_Some c k.content (sym m ∙ k.made)
 
-  used_before : AreUsed t.map (used_blocks t.disk (thread_at w (p ∷ [])))
-  used_before = subst (λ z. AreUsed t.map (used_blocks t.disk z)) k.there k.ready.used
+  used_before : AreExactlyTheUsedBlocks t.map (used_blocks t.disk (thread_at w (p ∷ [])))
+  used_before = subst (λ z. AreExactlyTheUsedBlocks t.map (used_blocks t.disk z)) k.there k.ready.used
 
-  too_large : IsTooLarge t index changes → FitsPair t.disk.block_size t.disk.page k.content → ⊥
-  too_large large = subst (λ c. FitsPair t.disk.block_size t.disk.page c → ⊥) (made_same large.0 large.1.0) large.1.1
+  too_large : IsChangedContentTooLarge t index changes → IsContentFittingPair t.disk.block_size t.disk.page k.content → ⊥
+  too_large large = subst (λ c. IsContentFittingPair t.disk.block_size t.disk.page c → ⊥) (made_same large.0 large.1.0) large.1.1
 
-  files_at : {disk : Disk} {q : Pair} {more : List Pair} → IsCommit t.disk disk w p q more come l olds news r → SameFiles t.disk disk (all_slots t.pairs)
-  files_at {disk = disk} c = subst (λ z. SameFiles t.disk disk (all_slots z)) (sym k.there) (recursion_from_All (λ (s : Slot). HasSameFile t.disk disk s.struct) (all_slots (thread_at w (p ∷ []))) c.device.files)
+  files_at : {disk : Disk} {q : Pair} {more : List Pair} → IsCommit t.disk disk w p q more come l olds news r → SameFiles t.disk disk (all_slots_not_moved t.pairs)
+  files_at {disk = disk} c = subst (λ z. SameFiles t.disk disk (all_slots_not_moved z)) (sym k.there) (recursion_from_All (λ (s : Slot). HasSameFile t.disk disk s.struct) (all_slots_not_moved (thread_at w (p ∷ []))) c.device.files)
 
   -- a block of the pairs was one before, or is one that came
-  place_of : (b : ℕ) (now : List Pair) (fresh : List ℕ) → count b (blocks_of now) ≡ count b (blocks_of (p ∷ [])) + count b fresh → Contains (blocks_of (thread_at w now)) b
-      → Contains (blocks_of t.pairs) b ⊎ (1 ≤ count b fresh)
+  place_of : (b : ℕ) (now : List Pair) (fresh : List ℕ) → count b (blocks_of_pairs now) ≡ count b (blocks_of_pairs (p ∷ [])) + count b fresh → Contains (blocks_of_pairs (thread_at w now)) b
+      → Contains (blocks_of_pairs t.pairs) b ⊎ (1 ≤ count b fresh)
   place_of b now fresh e has = go (cases_lt 0 (count b fresh))
     where
-      go : (0 < count b fresh) ⊎ (count b fresh ≤ 0) → Contains (blocks_of t.pairs) b ⊎ (1 ≤ count b fresh)
+      go : (0 < count b fresh) ⊎ (count b fresh ≤ 0) → Contains (blocks_of_pairs t.pairs) b ⊎ (1 ≤ count b fresh)
       go (inl some) = inr some
       go (inr none) =
-          let some = count-Contains (blocks_of (thread_at w now)) b has in
+          let some = count-Contains (blocks_of_pairs (thread_at w now)) b has in
           let c = count_pairs b w now in
           let d = count_pairs b w (p ∷ []) in
-          let g = ap (λ z. count b (blocks_of z)) k.there in
-          inl (Contains-count (blocks_of t.pairs) b (omega arith))
+          let g = ap (λ z. count b (blocks_of_pairs z)) k.there in
+          inl (Contains-count (blocks_of_pairs t.pairs) b (omega arith))
 
-  changed_step : (new : Kept) → IsChanged t index changes new → HasStep t w p l olds news r gone come new
+  changed_step : (new : Kept) → IsPairChanged t index changes new → HasStep t w p l olds news r gone come new
   changed_step new is =
       let same = made_same is.content is.made in
-      let written = subst (λ c. IsWrittenAs t index c new.disk) same is.written in
-      let commit = commit_one t index changes w p l olds news r gone come k new.disk written (subst (FitsPair t.disk.block_size t.disk.page) same is.fits) in
+      let written = subst (λ c. IsPairWrittenOnDisk t index c new.disk) same is.written in
+      let commit = commit_one t index changes w p l olds news r gone come k new.disk written (subst (IsContentFittingPair t.disk.block_size t.disk.page) same is.fits) in
       let q : Pair = record { at = p.at; content = k.content } in
       let pairs : new.pairs ≡ thread_at w (q ∷ []) = is.pairs ∙ one_now t index changes w p l olds news r gone come k is.content ∙ ap (λ c. thread_at w (record { at = p.at; content = c } ∷ [])) same in
       record {
@@ -104,7 +104,7 @@ module _ (t : Kept) (index : ℕ) (changes : List Change) (w : Site) (p : Pair) 
         pairs = pairs;
         used = record {
           owned = used_blocks t.disk (thread_at w (p ∷ []));
-          are = subst (λ m. AreUsed m (used_blocks t.disk (thread_at w (p ∷ [])))) (sym is.map) used_before;
+          are = subst (λ m. AreExactlyTheUsedBlocks m (used_blocks t.disk (thread_at w (p ∷ [])))) (sym is.map) used_before;
           same = λ b.
               let e = used_count_now t.disk new.disk w p q [] l olds news r gone come commit.commit (k.blocks new.disk commit.commit.device.geometry (files_at commit.commit) commit.come_same) b in
               let f = ap (λ z. count b (used_blocks new.disk z)) pairs in
@@ -112,27 +112,27 @@ module _ (t : Kept) (index : ℕ) (changes : List Change) (w : Site) (p : Pair) 
         };
         once = λ b. once_from_distinct (used_blocks t.disk (thread_at w (p ∷ []))) (accepted t index changes w p l olds news r gone come k).owned_once b;
         places = λ b has. ⊎_elim (λ was. inl was) (λ some. absurd (omega arith))
-            (place_of b (q ∷ []) [] (omega arith) (subst (λ (z : List Pair). Contains (blocks_of z) b) pairs has));
+            (place_of b (q ∷ []) [] (omega arith) (subst (λ (z : List Pair). Contains (blocks_of_pairs z) b) pairs has));
         size = ap length is.map ∙ k.ready.size ∙ sym is.written.shape.count;
         stays = λ b taken. ap (λ m. slice_get m b) is.map;
         none_comes = λ b flies. subst (λ m. IsInFlight m b) is.map flies;
       }
 
-  cut_step : (new : Kept) (fresh : ℕ × ℕ) → IsTooLarge t index changes → IsPairCutInto t index fresh changes new → HasStep t w p l olds news r gone come new
+  cut_step : (new : Kept) (fresh : ℕ × ℕ) → IsChangedContentTooLarge t index changes → IsPairSplitInto t index fresh changes new → HasStep t w p l olds news r gone come new
   cut_step new fresh large is =
       let same = made_same is.content is.made in
-      let there : new.pairs ≡ thread_at w (front_pair t index is.content is.cut fresh ∷ back_pair is.content is.cut fresh ∷ [])
-      = is.pairs ∙ two_now t index changes w p l olds news r gone come k (front_pair t index is.content is.cut fresh) (back_pair is.content is.cut fresh) in
-      let held = recursion_from_All (λ (x : Pair). content_at new.disk x.at ≡ Some x.content) (thread_at w (front_pair t index is.content is.cut fresh ∷ back_pair is.content is.cut fresh ∷ []))
-      (subst (All (λ (x : Pair). content_at new.disk x.at ≡ Some x.content)) there is.thread.contents) in
-      let here = each_right (λ (x : Pair). content_at new.disk x.at ≡ Some x.content) (w.before ++ w.left) (front_pair t index is.content is.cut fresh ∷ back_pair is.content is.cut fresh ∷ [] ++ (w.right ++ w.after))
-      (each_right (λ (x : Pair). content_at new.disk x.at ≡ Some x.content) w.chain ((w.before ++ w.left) ++ (front_pair t index is.content is.cut fresh ∷ back_pair is.content is.cut fresh ∷ [] ++ (w.right ++ w.after))) held) in
+      let there : new.pairs ≡ thread_at w (front_pair_of_split t index is.content is.cut fresh ∷ back_pair_of_split is.content is.cut fresh ∷ [])
+      = is.pairs ∙ two_now t index changes w p l olds news r gone come k (front_pair_of_split t index is.content is.cut fresh) (back_pair_of_split is.content is.cut fresh) in
+      let held = recursion_from_All (λ (x : Pair). content_of_pair_at new.disk x.at ≡ Some x.content) (thread_at w (front_pair_of_split t index is.content is.cut fresh ∷ back_pair_of_split is.content is.cut fresh ∷ []))
+      (subst (All (λ (x : Pair). content_of_pair_at new.disk x.at ≡ Some x.content)) there is.thread.contents) in
+      let here = each_right (λ (x : Pair). content_of_pair_at new.disk x.at ≡ Some x.content) (w.before ++ w.left) (front_pair_of_split t index is.content is.cut fresh ∷ back_pair_of_split is.content is.cut fresh ∷ [] ++ (w.right ++ w.after))
+      (each_right (λ (x : Pair). content_of_pair_at new.disk x.at ≡ Some x.content) w.chain ((w.before ++ w.left) ++ (front_pair_of_split t index is.content is.cut fresh ∷ back_pair_of_split is.content is.cut fresh ∷ [] ++ (w.right ++ w.after))) held) in
       let on = subst (λ c. AreOn t index c new.disk fresh is.cut) same (record { shape = is.shape; others = is.others; front = here.0; back = here.1.0; parts = is.parts }) in
       let commit = commit_two t index changes w p l olds news r gone come k new.disk fresh is.cut is.free (too_large large) on in
       let q = cut_front p.at k.content is.cut fresh in
-      let f = back_pair k.content is.cut fresh in
+      let f = back_pair_of_split k.content is.cut fresh in
       let pairs : new.pairs ≡ thread_at w (q ∷ f ∷ [])
-      = there ∙ ap (λ c. thread_at w (front_pair t index c is.cut fresh ∷ back_pair c is.cut fresh ∷ [])) same
+      = there ∙ ap (λ c. thread_at w (front_pair_of_split t index c is.cut fresh ∷ back_pair_of_split c is.cut fresh ∷ [])) same
       ∙ ap (λ at. thread_at w (cut_front at k.content is.cut fresh ∷ f ∷ [])) (at_is t index changes w p l olds news r gone come k) in
       record {
         q = q;
@@ -141,7 +141,7 @@ module _ (t : Kept) (index : ℕ) (changes : List Change) (w : Site) (p : Pair) 
         pairs = pairs;
         used = record {
           owned = fresh.0 ∷ fresh.1 ∷ used_blocks t.disk (thread_at w (p ∷ []));
-          are = subst (λ m. AreUsed m (fresh.0 ∷ fresh.1 ∷ used_blocks t.disk (thread_at w (p ∷ [])))) (sym is.map)
+          are = subst (λ m. AreExactlyTheUsedBlocks m (fresh.0 ∷ fresh.1 ∷ used_blocks t.disk (thread_at w (p ∷ [])))) (sym is.map)
               (used_more t.map fresh is.free (used_blocks t.disk (thread_at w (p ∷ []))) (fresh.0 ∷ fresh.1 ∷ used_blocks t.disk (thread_at w (p ∷ []))) (λ b. omega arith) used_before);
           same = λ b.
               let e = used_count_now t.disk new.disk w p q (f ∷ []) l olds news r gone come commit.commit (k.blocks new.disk commit.commit.device.geometry (files_at commit.commit) commit.come_same) b in
@@ -150,13 +150,13 @@ module _ (t : Kept) (index : ℕ) (changes : List Change) (w : Site) (p : Pair) 
         };
         once = λ b. once_from_distinct (fresh.0 ∷ fresh.1 ∷ used_blocks t.disk (thread_at w (p ∷ []))) (fresh_distinct t index changes w p l olds news r gone come k fresh is.free) b;
         places = λ b has. ⊎_elim (λ was. inl was) (λ some. inr (each_counted (IsFree t.map) (fresh.0 ∷ fresh.1 ∷ []) (is.free.first, (is.free.second, tt)) b some))
-            (place_of b (q ∷ f ∷ []) (fresh.0 ∷ fresh.1 ∷ []) (omega arith) (subst (λ (z : List Pair). Contains (blocks_of z) b) pairs has));
+            (place_of b (q ∷ f ∷ []) (fresh.0 ∷ fresh.1 ∷ []) (omega arith) (subst (λ (z : List Pair). Contains (blocks_of_pairs z) b) pairs has));
         size = ap length is.map ∙ length_now t.map fresh is.free ∙ k.ready.size ∙ sym is.shape.count;
         stays = λ b taken. ap (λ m. slice_get m b) is.map ∙ stay_taken t.map fresh is.free b taken;
         none_comes = λ b flies. none_comes_now t.map fresh is.free b (subst (λ m. IsInFlight m b) is.map flies);
       }
 
-  pub put_step : (new : Kept) → IsPut t index changes new → HasStep t w p l olds news r gone come new
+  pub put_step : (new : Kept) → IsPairChangedOrSplit t index changes new → HasStep t w p l olds news r gone come new
   put_step new (inl is) = changed_step new is
   put_step new (inr (large, (fresh, is))) = cut_step new fresh large is
 
@@ -165,42 +165,42 @@ module _ (t : Kept) (index : ℕ) (changes : List Change) (w : Site) (p : Pair) 
   abbrev pub Stays : Disk → Type 0
   Stays disk = IsDevice t.disk disk (thread_at w (p ∷ [])) (thread_at w (p ∷ []))
 
-  shape_of : (left : Blocks) → length left ≡ length t.disk.blocks → HasShape t.disk (with_blocks left t.disk)
+  shape_of : (left : Blocks) → length left ≡ length t.disk.blocks → HasSameGeometry t.disk (with_blocks left t.disk)
   shape_of left e = record { block_size = refl; page = refl; order = refl; count = e }
 
-  left_one : (left : Blocks) → IsLeftByChange t index changes left → Stays (with_blocks left t.disk) ⊎ HasCommit t w p l olds news r come (with_blocks left t.disk)
+  left_one : (left : Blocks) → LeavesPairOldOrChanged t index changes left → Stays (with_blocks left t.disk) ⊎ HasCommit t w p l olds news r come (with_blocks left t.disk)
   left_one left is = go is.is
     where
       disk : Disk
       disk = with_blocks left t.disk
 
-      go : (is.content ≡ (pair_in t index).content) ⊎ ((made_in_thread t index changes ≡ Some is.content) × FitsPair t.disk.block_size t.disk.page is.content)
+      go : (is.content ≡ (kept_pair_at_index t index).content) ⊎ ((complete_content_after_changes t index changes ≡ Some is.content) × IsContentFittingPair t.disk.block_size t.disk.page is.content)
           → Stays (with_blocks left t.disk) ⊎ HasCommit t w p l olds news r come (with_blocks left t.disk)
       go (inl e) =
           let same = e ∙ ap (λ (z : Pair). z.content) (pair_is t index changes w p l olds news r gone come k) in
           inl (device t.disk (with_blocks left t.disk) w p p [] [] (accepted t index changes w p l olds news r gone come k) (accepted t index changes w p l olds news r gone come k).owned_once
-          (placed_one t index changes w p l olds news r gone come k (with_blocks left t.disk) p.content (λ h. (h.kind, h.name)) (subst (λ c. IsWrittenAs t index c (with_blocks left t.disk)) same is.written)))
+          (placed_one t index changes w p l olds news r gone come k (with_blocks left t.disk) p.content (λ h. (h.kind, h.name)) (subst (λ c. IsPairWrittenOnDisk t index c (with_blocks left t.disk)) same is.written)))
       go (inr (m, fits)) =
           let same = made_same is.content m in
           inr (record {
             q = record { at = p.at; content = k.content };
             more = [];
-            commit = commit_one t index changes w p l olds news r gone come k (with_blocks left t.disk) (subst (λ c. IsWrittenAs t index c (with_blocks left t.disk)) same is.written)
-                (subst (FitsPair t.disk.block_size t.disk.page) same fits);
+            commit = commit_one t index changes w p l olds news r gone come k (with_blocks left t.disk) (subst (λ c. IsPairWrittenOnDisk t index c (with_blocks left t.disk)) same is.written)
+                (subst (IsContentFittingPair t.disk.block_size t.disk.page) same fits);
           })
 
-  pub left_step : (left : Blocks) → IsLeftByPut t index changes left → Stays (with_blocks left t.disk) ⊎ HasCommit t w p l olds news r come (with_blocks left t.disk)
+  pub left_step : (left : Blocks) → IsLeftByStoppedChangeOrSplit t index changes left → Stays (with_blocks left t.disk) ⊎ HasCommit t w p l olds news r come (with_blocks left t.disk)
   left_step left (inl is) = left_one left is
   left_step left (inr (large, (fresh, (two, is)))) = go is.content
     where
-      go : HasOldContent t index (with_blocks left t.disk) ⊎ AreHalves t index changes fresh (with_blocks left t.disk) → Stays (with_blocks left t.disk) ⊎ HasCommit t w p l olds news r come (with_blocks left t.disk)
+      go : HasPairOldContentOnDisk t index (with_blocks left t.disk) ⊎ AreBothSplitPartsOnDisk t index changes fresh (with_blocks left t.disk) → Stays (with_blocks left t.disk) ⊎ HasCommit t w p l olds news r come (with_blocks left t.disk)
       go (inl b) = inl (device t.disk (with_blocks left t.disk) w p p [] (fresh.0 ∷ fresh.1 ∷ []) (accepted t index changes w p l olds news r gone come k) (fresh_distinct t index changes w p l olds news r gone come k fresh two)
           (placed_still t index changes w p l olds news r gone come k (with_blocks left t.disk) fresh (shape_of left is.others.count) is.others b))
       go (inr h) =
           let same = made_same h.content h.made in
           inr (record {
             q = cut_front p.at k.content h.cut fresh;
-            more = back_pair k.content h.cut fresh ∷ [];
+            more = back_pair_of_split k.content h.cut fresh ∷ [];
             commit = commit_two t index changes w p l olds news r gone come k (with_blocks left t.disk) fresh h.cut two (too_large large)
                 (subst (λ c. AreOn t index c (with_blocks left t.disk) fresh h.cut) same
                 (record { shape = shape_of left is.others.count; others = is.others; front = h.front; back = h.back; parts = h.parts }));
@@ -211,18 +211,18 @@ module _ (t : Kept) (index : ℕ) (changes : List Change) (w : Site) (p : Pair) 
   AllFollow change = (disk : Disk) (q : Pair) (more : List Pair) → Commits t w p l olds news r come disk q more
       → (walk : Walk → Walk) × Follows t.disk (thread_at w (p ∷ [])) disk (thread_at w (q ∷ more)) change walk
 
-  left_tree : (change : Tree → Tree) → AllFollow change → (ends_in_hard_tail false (w.before ++ w.left) ≡ true → l ++ (news ++ r) ≢ []) → (left : Blocks) → IsLeftByPut t index changes left
-      → IsLeftOf (with_blocks left t.disk) (tree_in t.disk t.pairs) (change (tree_in t.disk t.pairs))
+  left_tree : (change : Tree → Tree) → AllFollow change → (ends_in_hard_tail false (w.before ++ w.left) ≡ true → l ++ (news ++ r) ≢ []) → (left : Blocks) → IsLeftByStoppedChangeOrSplit t index changes left
+      → IsLeftOf (with_blocks left t.disk) (tree_on_disk t.disk t.pairs) (change (tree_on_disk t.disk t.pairs))
   left_tree change follow filled left is = go (left_step left is)
     where
-      go : Stays (with_blocks left t.disk) ⊎ HasCommit t w p l olds news r come (with_blocks left t.disk) → IsLeftOf (with_blocks left t.disk) (tree_in t.disk t.pairs) (change (tree_in t.disk t.pairs))
+      go : Stays (with_blocks left t.disk) ⊎ HasCommit t w p l olds news r come (with_blocks left t.disk) → IsLeftOf (with_blocks left t.disk) (tree_on_disk t.disk t.pairs) (change (tree_on_disk t.disk t.pairs))
       go (inl d) =
           let f = nothing_came t.disk (with_blocks left t.disk) w p k.site (accepted t index changes w p l olds news r gone come k) d in
           record {
             pairs = thread_at w (p ∷ []);
             accepted = f.accepted;
             writable = writable_same t.disk (with_blocks left t.disk) (thread_at w (p ∷ [])) refl refl (subst (IsWritable t.disk) k.there k.ready.writable);
-            tree = inl (f.shows ∙ ap (tree_in t.disk) (sym k.there));
+            tree = inl (f.shows ∙ ap (tree_on_disk t.disk) (sym k.there));
           }
       go (inr h) =
           let f = (follow (with_blocks left t.disk) h.q h.more h.commit).1 in
@@ -230,38 +230,38 @@ module _ (t : Kept) (index : ℕ) (changes : List Change) (w : Site) (p : Pair) 
             pairs = thread_at w (h.q ∷ h.more);
             accepted = f.accepted;
             writable = commit_writable t.disk (with_blocks left t.disk) w p h.q h.more come l olds news r h.commit.commit filled;
-            tree = inr (f.shows ∙ ap (λ z. change (tree_in t.disk z)) (sym k.there));
+            tree = inr (f.shows ∙ ap (λ z. change (tree_on_disk t.disk z)) (sym k.there));
           }
 
-  pub survives : (change : Tree → Tree) → AllFollow change → (ends_in_hard_tail false (w.before ++ w.left) ≡ true → l ++ (news ++ r) ≢ []) → (new : List Event) → StopsLeave t.history new (IsLeftByPut t index changes)
-      → Survives t.disk t.history new (tree_in t.disk t.pairs) (change (tree_in t.disk t.pairs))
-  survives change follow filled new stops clean = LeavesOnly-weaker (left_tree change follow filled) (stops clean)
+  pub survives : (change : Tree → Tree) → AllFollow change → (ends_in_hard_tail false (w.before ++ w.left) ≡ true → l ++ (news ++ r) ≢ []) → (new : List CallEvent) → StopsAfterCleanErasesLeave t.history new (IsLeftByStoppedChangeOrSplit t index changes)
+      → SurvivesStopsSince t.disk t.history new (tree_on_disk t.disk t.pairs) (change (tree_on_disk t.disk t.pairs))
+  survives change follow filled new stops clean = IsTrueAfterEachStopSince-weaker (left_tree change follow filled) (stops clean)
 
   -- ---- what it shows
 
   pub becomes : (change : Tree → Tree) → AllFollow change → (ends_in_hard_tail false (w.before ++ w.left) ≡ true → l ++ (news ++ r) ≢ []) → (new : Kept) → HasStep t w p l olds news r gone come new
-      → HasBecomeBut t new (change (tree_in t.disk t.pairs)) gone come
+      → ShowsTreeReadyOnceBlocksSettle t new (change (tree_on_disk t.disk t.pairs)) gone come
   becomes change follow filled new x =
       let f = (follow new.disk x.q x.more x.commit).1 in
       record {
         ready = record {
-          accepted = subst (IsAccepted new.disk) (sym x.pairs) f.accepted;
+          accepted = subst (IsAcceptedImage new.disk) (sym x.pairs) f.accepted;
           writable = subst (IsWritable new.disk) (sym x.pairs) (commit_writable t.disk new.disk w p x.q x.more come l olds news r x.commit.commit filled);
           settled = ap gstate_of x.pairs ∙ x.commit.commit.still;
           used = x.used;
           size = x.size;
           large = subst (λ n. 1024 ≤ n) (sym x.commit.commit.device.geometry.block_size) k.ready.large;
         };
-        shows = ap (tree_in new.disk) x.pairs ∙ f.shows ∙ ap (λ z. change (tree_in t.disk z)) (sym k.there);
+        shows = ap (tree_on_disk new.disk) x.pairs ∙ f.shows ∙ ap (λ z. change (tree_on_disk t.disk z)) (sym k.there);
         stays = x.stays;
         none_comes = x.none_comes;
-        root = ap superblocks_before x.pairs
+        root = ap pair_count_before_root x.pairs
             ∙ root_stays t.disk new.disk w.chain (dirs_at w (p ∷ [])) (dirs_at w (x.q ∷ x.more)) k.site.chain (accepted t index changes w p l olds news r gone come k) f.accepted f.root
-            ∙ sym (ap superblocks_before k.there);
+            ∙ sym (ap pair_count_before_root k.there);
       }
 
 -- where no block came or went
-pub ready_again : (t new : Kept) (tree : Tree) → HasBecomeBut t new tree [] [] → HasBecome t new tree
+pub ready_again : (t new : Kept) (tree : Tree) → ShowsTreeReadyOnceBlocksSettle t new tree [] [] → ShowsTreeReadyForChange t new tree
 ready_again t new tree h = record {
   ready = record {
     accepted = h.ready.accepted;

@@ -4,18 +4,18 @@ use Rattle.std.specs.Prelude.{nat_lt}
 use Rattle.std.specs.Option.{option_and_then}
 use Rattle.std.proofs.lemmas.Bool.{ltb-false, ltb-true}
 use Rattle.std.proofs.lemmas.List.Elements.{recursion_from_All}
-use Rattle.lfs_model.specs.TreeEdits.{tree_without, with_subtree_moved}
+use Rattle.lfs_model.specs.TreeEdits.{tree_after_removal, tree_after_subtree_replacement}
 use Rattle.lfs_model.specs.Blocks.{Blocks}
-use Rattle.lfs_model.specs.BlockSets.{AreUsed}
+use Rattle.lfs_model.specs.BlockSets.{AreExactlyTheUsedBlocks}
 use Rattle.lfs_model.specs.Disk.{Disk}
 use Rattle.lfs_model.specs.Operations as ops
-use Rattle.lfs_model.specs.PowerLoss.{IsLeftByStop as IsLeftOf, with_blocks}
-use Rattle.lfs_model.specs.Slots.{Content, FitsPair, Gstate, Slot, no_gstate}
-use Rattle.lfs_model.specs.Thread.{Pair, gstate_of, is_hard, starts_with_superblock, superblocks_before}
-use Rattle.lfs_model.specs.Tree.{branch_of}
-use Rattle.lfs_model.specs.View.{IsAccepted}
+use Rattle.lfs_model.specs.PowerLoss.{ShowsTreeBeforeOrAfter as IsLeftOf, with_blocks}
+use Rattle.lfs_model.specs.Slots.{Content, IsContentFittingPair, Gstate, Slot, zero_gstate}
+use Rattle.lfs_model.specs.Thread.{Pair, gstate_of, is_hard_tail, starts_with_superblock, pair_count_before_root}
+use Rattle.lfs_model.specs.Tree.{branch_address_of_struct}
+use Rattle.lfs_model.specs.View.{IsAcceptedImage}
 use Rattle.lfs_model.specs.Profile.{IsWritable}
-use Rattle.lfs_model.specs.Shown.{PathLeadsTo, entries_in, tree_in, used_blocks}
+use Rattle.lfs_model.specs.Shown.{IsPathToDirectory, entries_by_directory_in_thread, tree_on_disk, used_blocks}
 use Rattle.lfs_model.proofs.Committed.{IsCompleted, no_move_from}
 use Rattle.lfs_model.proofs.Counts.{Each, count, each_right, once_from_distinct}
 use Rattle.lfs_model.proofs.Global.{HasNoMove, sync_delta}
@@ -25,13 +25,13 @@ use Rattle.lfs_model.proofs.Searches.{slot_of_stands}
 use Rattle.lfs_model.proofs.Sites.{IsSite, Site, dirs_at, run_changed, thread_at}
 use Rattle.lfs_model.proofs.Splices.{IsDevice, drop_shape, files_of}
 use Rattle.lfs_model.proofs.StepsTaken.{IsOnlyStep, drop_taken}
-use Rattle.lfs_thread.specs.Device.{two_of}
+use Rattle.lfs_thread.specs.Device.{blocks_of_address}
 use Rattle.lfs_thread.specs.Kept.{Kept}
-use Rattle.lfs_thread.specs.Steps.{IsWrittenAs, no_pair, pair_in, without_pair}
-use Rattle.lfs_operations.specs.Dropping.{CanDropAt, HasDroppedBehind, IsLeftByDrop, SameInFlight, taken_over, with_tail_taken}
-use Rattle.lfs_operations.specs.Editing.{CanEdit}
-use Rattle.lfs_operations.specs.Removing.{without_file}
-use Rattle.lfs_operations.specs.Unlinking.{CanRemoveDirectory, IsDirectoryRemoved, number_without}
+use Rattle.lfs_thread.specs.Steps.{IsPairWrittenOnDisk, no_pair, kept_pair_at_index, map_with_freed_pair}
+use Rattle.lfs_operations.specs.Dropping.{CanDropPairAt, IsNextPairDropped, IsLeftByStoppedDrop, HasSameBlocksInFlight, tail_over_dropped_pair, content_after_drop}
+use Rattle.lfs_operations.specs.Editing.{CanEditEntryOfPair}
+use Rattle.lfs_operations.specs.Removing.{tree_without_named_entry}
+use Rattle.lfs_operations.specs.Unlinking.{CanRemoveDirectory, IsDirectoryRemoved, pair_number_after_drop}
 use Rattle.lfs_operations.proofs.Dropped.{device_dropped, device_kept, dropped_count, flying_same, length_fewer, profile_same, used_fewer}
 use Rattle.lfs_operations.proofs.DroppedTails.{front_is, gone_is, gstate_is, no_move_state, without_is}
 use Rattle.lfs_operations.proofs.Placing.{nothing_came}
@@ -42,7 +42,7 @@ use Rattle.lfs_operations.proofs.RmdirWhole.{HasPlaceWhole, UnlinksWhole, place_
 use Rattle.lfs_operations.proofs.RootStays.{root_stays}
 
 module _ (t : Kept) (index id first gone : ℕ) (take : CanRemoveDirectory t index id first gone) (s : StandsWhole t index id take.can) where
-  abbrev can : CanEdit t index id
+  abbrev can : CanEditEntryOfPair t index id
   can = take.can
 
   abbrev e : Pair
@@ -52,7 +52,7 @@ module _ (t : Kept) (index id first gone : ℕ) (take : CanRemoveDirectory t ind
   u = can.stands.stands.slot
 
   abbrev o : Pair
-  o = pair_in t gone
+  o = kept_pair_at_index t gone
 
   abbrev w : Site
   w = s.w
@@ -63,25 +63,25 @@ module _ (t : Kept) (index id first gone : ℕ) (take : CanRemoveDirectory t ind
   abbrev old : List Pair
   old = thread_at w (x0 ∷ e ∷ [])
 
-  accepted : IsAccepted t.disk old
-  accepted = subst (IsAccepted t.disk) s.there can.ready.accepted
+  accepted : IsAcceptedImage t.disk old
+  accepted = subst (IsAcceptedImage t.disk) s.there can.ready.accepted
 
   writable : IsWritable t.disk old
   writable = subst (IsWritable t.disk) s.there can.ready.writable
 
-  settled : gstate_of old ≡ no_gstate
+  settled : gstate_of old ≡ zero_gstate
   settled = ap gstate_of (sym s.there) ∙ can.ready.settled
 
-  leads : PathLeadsTo old can.path can.at
-  leads = subst (λ z. PathLeadsTo z can.path can.at) s.there can.leads
+  leads : IsPathToDirectory old can.path can.at
+  leads = subst (λ z. IsPathToDirectory z can.path can.at) s.there can.leads
 
   -- ---- the pair that goes
 
-  led : PathLeadsTo old (can.path ++ u.name ∷ []) take.to
-  led = subst (λ z. PathLeadsTo z (can.path ++ u.name ∷ []) take.to) s.there
-      (subst (λ n. PathLeadsTo t.pairs (can.path ++ n ∷ []) take.to) (sym can.stands.stands.named)
-      (ap (option_and_then (λ (f : Slot). branch_of f.struct)) (slot_of_stands t.disk t.pairs can.path can.at can.ready.accepted can.leads can.first index id can.name (no_move_from t.pairs can.ready.settled) can.stands can.begins)
-      ∙ ap branch_of take.branch))
+  led : IsPathToDirectory old (can.path ++ u.name ∷ []) take.to
+  led = subst (λ z. IsPathToDirectory z (can.path ++ u.name ∷ []) take.to) s.there
+      (subst (λ n. IsPathToDirectory t.pairs (can.path ++ n ∷ []) take.to) (sym can.stands.stands.named)
+      (ap (option_and_then (λ (f : Slot). branch_address_of_struct f.struct)) (slot_of_stands t.disk t.pairs can.path can.at can.ready.accepted can.leads can.first index id can.name (no_move_from t.pairs can.ready.settled) can.stands can.begins)
+      ∙ ap branch_address_of_struct take.branch))
 
   front : HasFront (dirs_at w (x0 ∷ e ∷ [])) take.to
   front = has_front t.disk w.chain (dirs_at w (x0 ∷ e ∷ [])) can.path u.name take.to accepted s.site.chain led
@@ -93,9 +93,9 @@ module _ (t : Kept) (index id first gone : ℕ) (take : CanRemoveDirectory t ind
   pub above_gone : 0 < gone
   above_gone = let f = first_is.0 in omega arith
 
-  empty : entries_in old take.to ≡ []
+  empty : entries_by_directory_in_thread old take.to ≡ []
   empty = shows_nothing t.disk w.chain (dirs_at w (x0 ∷ e ∷ [])) take.to accepted s.site.chain (no_move_from old settled) front
-      (ap (λ (z : Pair). is_hard z.content.tail) first_is.1 ∙ take.alone) (ap (λ (z : Pair). z.content.slots) first_is.1 ∙ take.empty)
+      (ap (λ (z : Pair). is_hard_tail z.content.tail) first_is.1 ∙ take.alone) (ap (λ (z : Pair). z.content.slots) first_is.1 ∙ take.empty)
 
   dirs_are : dirs_at w (x0 ∷ e ∷ []) ≡ front.front ++ front.before ∷ o ∷ (front.run ++ front.after)
   dirs_are = front.is ∙ ap (λ z. front.front ++ front.before ∷ z ∷ (front.run ++ front.after)) first_is.1
@@ -117,16 +117,16 @@ module _ (t : Kept) (index id first gone : ℕ) (take : CanRemoveDirectory t ind
   number : length ahead ≡ index - 1
   number = let n = s.number in omega arith
 
-  accepted_is : IsAccepted t.disk (ahead ++ x0 ∷ e ∷ behind)
-  accepted_is = subst (IsAccepted t.disk) is can.ready.accepted
+  accepted_is : IsAcceptedImage t.disk (ahead ++ x0 ∷ e ∷ behind)
+  accepted_is = subst (IsAcceptedImage t.disk) is can.ready.accepted
 
-  x0_there : pair_in t (index - 1) ≡ x0
+  x0_there : kept_pair_at_index t (index - 1) ≡ x0
   x0_there = front_is t (index - 1) ahead x0 e behind is number
 
-  e_there : pair_in t (index - 1 + 1) ≡ e
+  e_there : kept_pair_at_index t (index - 1 + 1) ≡ e
   e_there = gone_is t (index - 1) ahead x0 e behind is number
 
-  pub can_drop_entry : CanDropAt t index sync_delta
+  pub can_drop_entry : CanDropPairAt t index sync_delta
   can_drop_entry = record {
     above = let n = s.number in omega arith;
     below =
@@ -135,14 +135,14 @@ module _ (t : Kept) (index id first gone : ℕ) (take : CanRemoveDirectory t ind
         let n = s.number in
         omega arith;
     thread = can.ready.accepted.thread;
-    fits = subst (λ (z : Pair). FitsPair t.disk.block_size t.disk.page z.content) (sym x0_there)
-        (each_right (λ (z : Pair). FitsPair t.disk.block_size t.disk.page z.content) ahead (x0 ∷ e ∷ behind)
-        (subst (Each (λ (z : Pair). FitsPair t.disk.block_size t.disk.page z.content)) is (recursion_from_All (λ (z : Pair). FitsPair t.disk.block_size t.disk.page z.content) t.pairs can.ready.writable.pairs))).0;
+    fits = subst (λ (z : Pair). IsContentFittingPair t.disk.block_size t.disk.page z.content) (sym x0_there)
+        (each_right (λ (z : Pair). IsContentFittingPair t.disk.block_size t.disk.page z.content) ahead (x0 ∷ e ∷ behind)
+        (subst (Each (λ (z : Pair). IsContentFittingPair t.disk.block_size t.disk.page z.content)) is (recursion_from_All (λ (z : Pair). IsContentFittingPair t.disk.block_size t.disk.page z.content) t.pairs can.ready.writable.pairs))).0;
     storable = record { kind = omega arith; id = omega arith; pair = (omega arith, omega arith) };
   }
 
   abbrev c : Content
-  c = with_tail_taken t (index - 1) sync_delta
+  c = content_after_drop t (index - 1) sync_delta
 
   abbrev q : Pair
   q = record { at = x0.at; content = c }
@@ -151,7 +151,7 @@ module _ (t : Kept) (index id first gone : ℕ) (take : CanRemoveDirectory t ind
   slots_same = ap (λ (z : Pair). z.content.slots) x0_there
 
   tail_same : q.content.tail ≡ e.content.tail
-  tail_same = ap₂ (λ (y z : Pair). taken_over y.content.tail z.content.tail) x0_there e_there ∙ over_hard x0.content.tail e.content.tail s.hard
+  tail_same = ap₂ (λ (y z : Pair). tail_over_dropped_pair y.content.tail z.content.tail) x0_there e_there ∙ over_hard x0.content.tail e.content.tail s.hard
 
   gstate_middle : gstate_of (thread_at w (q ∷ [])) ≡ sync_delta
   gstate_middle = ap gstate_of (grouped (q ∷ [])) ∙ gstate_is t (index - 1) ahead x0 e behind is number sync_delta q refl
@@ -159,10 +159,10 @@ module _ (t : Kept) (index id first gone : ℕ) (take : CanRemoveDirectory t ind
   no_move_middle : HasNoMove (gstate_of (thread_at w (q ∷ [])))
   no_move_middle = subst HasNoMove (sym gstate_middle) (record { kind = refl; id = refl; pair = refl })
 
-  device_first : (disk : Disk) → IsWrittenAs t (index - 1) c disk → IsDevice t.disk disk (ahead ++ x0 ∷ e ∷ behind) (ahead ++ q ∷ behind)
+  device_first : (disk : Disk) → IsPairWrittenOnDisk t (index - 1) c disk → IsDevice t.disk disk (ahead ++ x0 ∷ e ∷ behind) (ahead ++ q ∷ behind)
   device_first disk h = device_dropped t (index - 1) ahead x0 e behind is number accepted_is disk c slots_same h
 
-  step : (disk : Disk) → IsWrittenAs t (index - 1) c disk → IsStep t.disk disk w x0 (e ∷ []) q [] [] [] x0.content.slots (u ∷ []) [] []
+  step : (disk : Disk) → IsPairWrittenOnDisk t (index - 1) c disk → IsStep t.disk disk w x0 (e ∷ []) q [] [] [] x0.content.slots (u ∷ []) [] []
   step disk h = record {
     accepted = accepted;
     site = s.site;
@@ -176,12 +176,12 @@ module _ (t : Kept) (index id first gone : ℕ) (take : CanRemoveDirectory t ind
     splice = record { front = λ k. can.stands.stands.entry; entries = tt; lists = tt; blocks = λ b. omega arith };
   }
 
-  first_taken : (disk : Disk) → IsWrittenAs t (index - 1) c disk → IsOnlyStep t.disk old disk (thread_at w (q ∷ [])) (tree_without (can.path ++ u.name ∷ [])) (with_subtree_moved (can.path ++ u.name ∷ []) (λ t. None))
+  first_taken : (disk : Disk) → IsPairWrittenOnDisk t (index - 1) c disk → IsOnlyStep t.disk old disk (thread_at w (q ∷ [])) (tree_after_removal (can.path ++ u.name ∷ [])) (tree_after_subtree_replacement (can.path ++ u.name ∷ []) (λ t. None))
   first_taken disk h = drop_taken t.disk w x0 e q (record { writable = writable; tail = tail_same; slots = slots_same })
-      disk [] [] x0.content.slots (u ∷ []) [] [] (tree_without (can.path ++ u.name ∷ [])) (with_subtree_moved (can.path ++ u.name ∷ []) (λ t. None)) (step disk h)
+      disk [] [] x0.content.slots (u ∷ []) [] [] (tree_after_removal (can.path ++ u.name ∷ [])) (tree_after_subtree_replacement (can.path ++ u.name ∷ []) (λ t. None)) (step disk h)
       (directory_goes t.disk disk w x0 (e ∷ []) q [] [] [] x0.content.slots [] u (step disk h) can.stands.stands.entry can.path can.at leads s.same take.to take.branch empty (ap (λ (g : Gstate). g.sync) gstate_middle))
 
-  unlinks : (disk : Disk) → IsWrittenAs t (index - 1) c disk → UnlinksWhole t.disk disk w x0 e q u can.path can.at take.to
+  unlinks : (disk : Disk) → IsPairWrittenOnDisk t (index - 1) c disk → UnlinksWhole t.disk disk w x0 e q u can.path can.at take.to
   unlinks disk h = record {
     step = step disk h;
     other = can.stands.stands.entry;
@@ -200,16 +200,16 @@ module _ (t : Kept) (index id first gone : ℕ) (take : CanRemoveDirectory t ind
     hard = s.hard;
   }
 
-  place : (disk : Disk) → IsWrittenAs t (index - 1) c disk → HasPlaceWhole t.disk disk w x0 e q u can.path o (length front.front) front.before
+  place : (disk : Disk) → IsPairWrittenOnDisk t (index - 1) c disk → HasPlaceWhole t.disk disk w x0 e q u can.path o (length front.front) front.before
   place disk h = place_whole t.disk disk w x0 e q u can.path can.at take.to (unlinks disk h) o take.at take.alone front.front front.before (front.run ++ front.after) dirs_are front.soft take.empty
 
   -- ---- between the steps
 
   -- the number that the pair has then
   abbrev now : ℕ
-  now = number_without index gone
+  now = pair_number_after_drop index gone
 
-  module _ (m : Kept) (h : HasDroppedBehind t (index - 1) sync_delta m) where
+  module _ (m : Kept) (h : IsNextPairDropped t (index - 1) sync_delta m) where
     abbrev k : HasPlaceWhole t.disk m.disk w x0 e q u can.path o (length front.front) front.before
     k = place m.disk h.written
 
@@ -223,7 +223,7 @@ module _ (t : Kept) (index id first gone : ℕ) (take : CanRemoveDirectory t ind
     is_middle = pairs_middle ∙ ap (λ z. w.chain ++ z) k.there ∙ sym (append_assoc w.chain k.front (k.x ∷ o ∷ k.back))
 
     -- it stands behind one pair fewer where it stood behind the entry's
-    number_now : length first_part + 1 ≡ number_without index gone
+    number_now : length first_part + 1 ≡ pair_number_after_drop index gone
     number_now = go k.number (nat_lt index gone) refl
       where
         go : ((length (w.before ++ w.left) + 1 < length front.front + 1) × (length k.front + 1 ≡ length front.front)) ⊎ ((length front.front + 1 < length (w.before ++ w.left) + 1) × (length k.front ≡ length front.front))
@@ -257,36 +257,36 @@ module _ (t : Kept) (index id first gone : ℕ) (take : CanRemoveDirectory t ind
             let y = z.1 in
             omega arith
 
-    number_middle : length first_part ≡ number_without index gone - 1
+    number_middle : length first_part ≡ pair_number_after_drop index gone - 1
     number_middle = let n = number_now in omega arith
 
-    accepted_middle : IsAccepted m.disk (thread_at w (q ∷ []))
+    accepted_middle : IsAcceptedImage m.disk (thread_at w (q ∷ []))
     accepted_middle = (first_taken m.disk h.written).follows.accepted
 
-    accepted_parts : IsAccepted m.disk (first_part ++ k.x ∷ o ∷ k.back)
-    accepted_parts = subst (IsAccepted m.disk) (sym pairs_middle ∙ is_middle) accepted_middle
+    accepted_parts : IsAcceptedImage m.disk (first_part ++ k.x ∷ o ∷ k.back)
+    accepted_parts = subst (IsAcceptedImage m.disk) (sym pairs_middle ∙ is_middle) accepted_middle
 
-    x_there : pair_in m (now - 1) ≡ k.x
+    x_there : kept_pair_at_index m (now - 1) ≡ k.x
     x_there = end.x_there m (now - 1) w.chain k.front k.x o k.back is_middle number_middle
 
-    pub o_there : pair_in m (now - 1 + 1) ≡ o
+    pub o_there : kept_pair_at_index m (now - 1 + 1) ≡ o
     o_there = end.o_there m (now - 1) w.chain k.front k.x o k.back is_middle number_middle
 
     -- the pair that is written in the second step is where the one in front of it was, or where the one in front of the entry's was
-    pub written_then : ((pair_in m (now - 1)).at ≡ (pair_in t (gone - 1)).at) ⊎ ((pair_in m (now - 1)).at ≡ (pair_in t (index - 1)).at)
+    pub written_then : ((kept_pair_at_index m (now - 1)).at ≡ (kept_pair_at_index t (gone - 1)).at) ⊎ ((kept_pair_at_index m (now - 1)).at ≡ (kept_pair_at_index t (index - 1)).at)
     written_then = go k.was
       where
         is_old : t.pairs ≡ (w.chain ++ front.front) ++ front.before ∷ o ∷ (front.run ++ front.after)
         is_old = s.there ∙ ap (λ z. w.chain ++ z) dirs_are ∙ sym (append_assoc w.chain front.front (front.before ∷ o ∷ (front.run ++ front.after)))
 
-        old_front : pair_in t (gone - 1) ≡ front.before
+        old_front : kept_pair_at_index t (gone - 1) ≡ front.before
         old_front = front_is t (gone - 1) (w.chain ++ front.front) front.before o (front.run ++ front.after) is_old (let g = first_is.0 in omega arith)
 
-        go : (k.x.at ≡ front.before.at) ⊎ (k.x.at ≡ x0.at) → ((pair_in m (now - 1)).at ≡ (pair_in t (gone - 1)).at) ⊎ ((pair_in m (now - 1)).at ≡ (pair_in t (index - 1)).at)
+        go : (k.x.at ≡ front.before.at) ⊎ (k.x.at ≡ x0.at) → ((kept_pair_at_index m (now - 1)).at ≡ (kept_pair_at_index t (gone - 1)).at) ⊎ ((kept_pair_at_index m (now - 1)).at ≡ (kept_pair_at_index t (index - 1)).at)
         go (inl z) = inl (ap (λ (v : Pair). v.at) x_there ∙ z ∙ ap (λ (v : Pair). v.at) (sym old_front))
         go (inr z) = inr (ap (λ (v : Pair). v.at) x_there ∙ z ∙ ap (λ (v : Pair). v.at) (sym x0_there))
 
-    pub can_drop_then : CanDropAt m now no_gstate
+    pub can_drop_then : CanDropPairAt m now zero_gstate
     can_drop_then = record {
       above = let n = number_now in omega arith;
       below =
@@ -302,7 +302,7 @@ module _ (t : Kept) (index id first gone : ℕ) (take : CanRemoveDirectory t ind
     -- ---- the second step
 
     abbrev d : Content
-    d = with_tail_taken m (now - 1) no_gstate
+    d = content_after_drop m (now - 1) zero_gstate
 
     abbrev y : Pair
     y = record { at = k.x.at; content = d }
@@ -313,33 +313,33 @@ module _ (t : Kept) (index id first gone : ℕ) (take : CanRemoveDirectory t ind
     regrouped : w.chain ++ (k.front ++ y ∷ k.back) ≡ first_part ++ y ∷ k.back
     regrouped = end.regrouped m (now - 1) w.chain k.front k.x o k.back is_middle number_middle
 
-    settled_end : gstate_of (w.chain ++ (k.front ++ y ∷ k.back)) ≡ no_gstate
+    settled_end : gstate_of (w.chain ++ (k.front ++ y ∷ k.back)) ≡ zero_gstate
     settled_end = end.settled_end m (now - 1) w.chain k.front k.x o k.back is_middle number_middle
 
-    device_end : (disk : Disk) → IsWrittenAs m (now - 1) d disk → IsDevice m.disk disk (first_part ++ k.x ∷ o ∷ k.back) (first_part ++ y ∷ k.back)
+    device_end : (disk : Disk) → IsPairWrittenOnDisk m (now - 1) d disk → IsDevice m.disk disk (first_part ++ k.x ∷ o ∷ k.back) (first_part ++ y ∷ k.back)
     device_end = end.device_end m (now - 1) w.chain k.front k.x o k.back is_middle number_middle accepted_parts
 
-    is_gone : (disk : Disk) → IsWrittenAs m (now - 1) d disk → IsGone m.disk disk w.chain k.front k.x o y k.back
+    is_gone : (disk : Disk) → IsPairWrittenOnDisk m (now - 1) d disk → IsGone m.disk disk w.chain k.front k.x o y k.back
     is_gone = end.is_gone m (now - 1) w.chain k.front k.x o k.back is_middle number_middle accepted_parts k.soft
 
-    end_taken : (disk : Disk) → IsWrittenAs m (now - 1) d disk
-        → IsOnlyStep t.disk (old) disk (w.chain ++ (k.front ++ y ∷ k.back)) (tree_without (can.path ++ u.name ∷ [])) (with_subtree_moved (can.path ++ u.name ∷ []) (λ t. None))
+    end_taken : (disk : Disk) → IsPairWrittenOnDisk m (now - 1) d disk
+        → IsOnlyStep t.disk (old) disk (w.chain ++ (k.front ++ y ∷ k.back)) (tree_after_removal (can.path ++ u.name ∷ [])) (tree_after_subtree_replacement (can.path ++ u.name ∷ []) (λ t. None))
     end_taken disk written = k.taken disk y (is_gone disk written)
 
-    turned : tree_without (can.path ++ u.name ∷ []) (tree_in t.disk (old)) ≡ without_file t can.path can.name
-    turned = ap₂ (λ n z. tree_without (can.path ++ n ∷ []) (tree_in t.disk z)) can.stands.stands.named (sym s.there)
+    turned : tree_after_removal (can.path ++ u.name ∷ []) (tree_on_disk t.disk (old)) ≡ tree_without_named_entry t can.path can.name
+    turned = ap₂ (λ n z. tree_after_removal (can.path ++ n ∷ []) (tree_on_disk t.disk z)) can.stands.stands.named (sym s.there)
 
-    module _ (new : Kept) (g : HasDroppedBehind m (now - 1) no_gstate new) where
+    module _ (new : Kept) (g : IsNextPairDropped m (now - 1) zero_gstate new) where
       pairs_end : new.pairs ≡ w.chain ++ (k.front ++ y ∷ k.back)
       pairs_end = end.pairs_end m (now - 1) w.chain k.front k.x o k.back is_middle number_middle new g
 
-      map_middle : m.map ≡ without_pair t.map e.at
-      map_middle = h.map ∙ ap (λ (z : Pair). without_pair t.map z.at) e_there
+      map_middle : m.map ≡ map_with_freed_pair t.map e.at
+      map_middle = h.map ∙ ap (λ (z : Pair). map_with_freed_pair t.map z.at) e_there
 
-      map_end : new.map ≡ without_pair m.map o.at
-      map_end = g.map ∙ ap (λ (z : Pair). without_pair m.map z.at) o_there
+      map_end : new.map ≡ map_with_freed_pair m.map o.at
+      map_end = g.map ∙ ap (λ (z : Pair). map_with_freed_pair m.map z.at) o_there
 
-      middle_used : (b : ℕ) → count b (used_blocks m.disk m.pairs) + count b (two_of e.at) ≡ count b (used_blocks t.disk t.pairs)
+      middle_used : (b : ℕ) → count b (used_blocks m.disk m.pairs) + count b (blocks_of_address e.at) ≡ count b (used_blocks t.disk t.pairs)
       middle_used b =
           let e1 = dropped_count t.disk m.disk ahead x0 e q behind (subst (λ z. HasNoMove (gstate_of z)) (grouped (x0 ∷ e ∷ [])) (no_move_from old settled)) (subst (λ z. HasNoMove (gstate_of z)) (grouped (q ∷ [])) no_move_middle)
           (device_first m.disk h.written) refl slots_same b in
@@ -349,7 +349,7 @@ module _ (t : Kept) (index id first gone : ℕ) (take : CanRemoveDirectory t ind
           let f4 : count b (files_of t.disk (u ∷ [])) ≡ 0 = ap (λ z. count b (files_of t.disk (record u { struct = z } ∷ []))) take.branch in
           omega arith
 
-      end_used : (b : ℕ) → count b (used_blocks new.disk new.pairs) + count b (two_of o.at) ≡ count b (used_blocks m.disk m.pairs)
+      end_used : (b : ℕ) → count b (used_blocks new.disk new.pairs) + count b (blocks_of_address o.at) ≡ count b (used_blocks m.disk m.pairs)
       end_used b =
           let e2 = dropped_count m.disk new.disk first_part k.x o y k.back (subst (λ z. HasNoMove (gstate_of z)) (sym pairs_middle ∙ is_middle) no_move_middle)
           (subst (λ z. HasNoMove (gstate_of z)) regrouped (no_move_from (w.chain ++ (k.front ++ y ∷ k.back)) settled_end)) (device_end new.disk g.written) refl d_slots b in
@@ -364,14 +364,14 @@ module _ (t : Kept) (index id first gone : ℕ) (take : CanRemoveDirectory t ind
       once_middle : (b : ℕ) → count b (used_blocks m.disk m.pairs) ≤ 1
       once_middle b = let k = once b in let l = middle_used b in omega arith
 
-      used_middle : AreUsed m.map (used_blocks m.disk m.pairs)
-      used_middle = subst (λ s. AreUsed s (used_blocks m.disk m.pairs)) (sym map_middle) (used_fewer t.map e.at (used_blocks t.disk t.pairs) (used_blocks m.disk m.pairs) can.ready.used once middle_used)
+      used_middle : AreExactlyTheUsedBlocks m.map (used_blocks m.disk m.pairs)
+      used_middle = subst (λ s. AreExactlyTheUsedBlocks s (used_blocks m.disk m.pairs)) (sym map_middle) (used_fewer t.map e.at (used_blocks t.disk t.pairs) (used_blocks m.disk m.pairs) can.ready.used once middle_used)
 
-      flying_middle : SameInFlight t.map m.map
-      flying_middle = subst (SameInFlight t.map) (sym map_middle) (flying_same t.map e.at (used_blocks t.disk t.pairs) (used_blocks m.disk m.pairs) can.ready.used once middle_used)
+      flying_middle : HasSameBlocksInFlight t.map m.map
+      flying_middle = subst (HasSameBlocksInFlight t.map) (sym map_middle) (flying_same t.map e.at (used_blocks t.disk t.pairs) (used_blocks m.disk m.pairs) can.ready.used once middle_used)
 
-      flying_end : SameInFlight m.map new.map
-      flying_end = subst (SameInFlight m.map) (sym map_end) (flying_same m.map o.at (used_blocks m.disk m.pairs) (used_blocks new.disk new.pairs) used_middle once_middle end_used)
+      flying_end : HasSameBlocksInFlight m.map new.map
+      flying_end = subst (HasSameBlocksInFlight m.map) (sym map_end) (flying_same m.map o.at (used_blocks m.disk m.pairs) (used_blocks new.disk new.pairs) used_middle once_middle end_used)
 
       pub whole_removed : IsDirectoryRemoved t new take.can.path take.can.name
       whole_removed =
@@ -379,12 +379,12 @@ module _ (t : Kept) (index id first gone : ℕ) (take : CanRemoveDirectory t ind
           record {
             now = record {
               ready = record {
-                accepted = subst (IsAccepted new.disk) (sym pairs_end) f.follows.accepted;
+                accepted = subst (IsAcceptedImage new.disk) (sym pairs_end) f.follows.accepted;
                 writable = subst (IsWritable new.disk) (sym pairs_end) f.writable;
                 settled = g.gstate;
                 used = record {
                   owned = used_blocks new.disk new.pairs;
-                  are = subst (λ s. AreUsed s (used_blocks new.disk new.pairs)) (sym map_end) (used_fewer m.map o.at (used_blocks m.disk m.pairs) (used_blocks new.disk new.pairs) used_middle once_middle end_used);
+                  are = subst (λ s. AreExactlyTheUsedBlocks s (used_blocks new.disk new.pairs)) (sym map_end) (used_fewer m.map o.at (used_blocks m.disk m.pairs) (used_blocks new.disk new.pairs) used_middle once_middle end_used);
                   same = λ b. omega arith;
                 };
                 size = ap length map_end ∙ length_fewer m.map o.at (used_blocks m.disk m.pairs) (used_blocks new.disk new.pairs) used_middle once_middle end_used
@@ -392,15 +392,15 @@ module _ (t : Kept) (index id first gone : ℕ) (take : CanRemoveDirectory t ind
                     ∙ sym h.written.shape.count ∙ sym g.written.shape.count;
                 large = subst (λ n. 1024 ≤ n) (sym (g.written.shape.block_size ∙ h.written.shape.block_size)) can.ready.large;
               };
-              shows = ap (tree_in new.disk) pairs_end ∙ f.follows.shows ∙ turned;
+              shows = ap (tree_on_disk new.disk) pairs_end ∙ f.follows.shows ∙ turned;
               flying = λ b. ((λ f. (flying_middle b).0 ((flying_end b).0 f)), (λ f. (flying_end b).1 ((flying_middle b).1 f)));
-              root = ap superblocks_before pairs_end
-                  ∙ root_stays t.disk new.disk w.chain (dirs_at w (x0 ∷ e ∷ [])) (k.front ++ y ∷ k.back) s.site.chain (subst (IsAccepted t.disk) s.there can.ready.accepted) f.follows.accepted f.follows.root
-                  ∙ sym (ap superblocks_before s.there);
+              root = ap pair_count_before_root pairs_end
+                  ∙ root_stays t.disk new.disk w.chain (dirs_at w (x0 ∷ e ∷ [])) (k.front ++ y ∷ k.back) s.site.chain (subst (IsAcceptedImage t.disk) s.there can.ready.accepted) f.follows.accepted f.follows.root
+                  ∙ sym (ap pair_count_before_root s.there);
             };
             completed = λ z given tree is_path. subst (λ s. IsCompleted t.disk s z (ops.Remove given) new.disk new.pairs) (sym s.there)
                 (subst (λ s. IsCompleted t.disk (old) z (ops.Remove given) new.disk s) (sym pairs_end)
-                (k.completed new.disk y (is_gone new.disk g.written) z given (tree ∙ ap (tree_in t.disk) s.there) (is_path ∙ ap (λ n. can.path ++ n ∷ []) (sym can.stands.stands.named))));
+                (k.completed new.disk y (is_gone new.disk g.written) z given (tree ∙ ap (tree_on_disk t.disk) s.there) (is_path ∙ ap (λ n. can.path ++ n ∷ []) (sym can.stands.stands.named))));
           }
 
     -- ---- at a stop in the second step
@@ -415,12 +415,12 @@ module _ (t : Kept) (index id first gone : ℕ) (take : CanRemoveDirectory t ind
       run = run_changed w.left x0 (e ∷ w.right) q w.right ((step m.disk h.written).shape.run w.right) s.site.run;
     }
 
-    pub whole_second : (left : Blocks) → IsLeftByDrop m (now - 1) no_gstate left → IsLeftOf (with_blocks left t.disk) (tree_in t.disk t.pairs) (without_file t can.path can.name)
-    whole_second left g = subst (λ z. IsLeftOf z (tree_in t.disk t.pairs) (without_file t can.path can.name)) (same_shape left) (go g.is)
+    pub whole_second : (left : Blocks) → IsLeftByStoppedDrop m (now - 1) zero_gstate left → IsLeftOf (with_blocks left t.disk) (tree_on_disk t.disk t.pairs) (tree_without_named_entry t can.path can.name)
+    whole_second left g = subst (λ z. IsLeftOf z (tree_on_disk t.disk t.pairs) (tree_without_named_entry t can.path can.name)) (same_shape left) (go g.is)
       where
-        go : (g.content ≡ (pair_in m (now - 1)).content) ⊎ (g.content ≡ with_tail_taken m (now - 1) no_gstate) → IsLeftOf (with_blocks left m.disk) (tree_in t.disk t.pairs) (without_file t can.path can.name)
+        go : (g.content ≡ (kept_pair_at_index m (now - 1)).content) ⊎ (g.content ≡ content_after_drop m (now - 1) zero_gstate) → IsLeftOf (with_blocks left m.disk) (tree_on_disk t.disk t.pairs) (tree_without_named_entry t can.path can.name)
         go (inl e) =
-            let on = end.device_left m (now - 1) w.chain k.front k.x o k.back is_middle number_middle accepted_parts (with_blocks left m.disk) (subst (λ z. IsWrittenAs m (now - 1) z (with_blocks left m.disk)) e g.written) in
+            let on = end.device_left m (now - 1) w.chain k.front k.x o k.back is_middle number_middle accepted_parts (with_blocks left m.disk) (subst (λ z. IsPairWrittenOnDisk m (now - 1) z (with_blocks left m.disk)) e g.written) in
             let f = nothing_came m.disk (with_blocks left m.disk) w q site_middle accepted_middle (subst (λ z. IsDevice m.disk (with_blocks left m.disk) z z) pairs_middle on) in
             record {
               pairs = thread_at w (q ∷ []);
@@ -429,7 +429,7 @@ module _ (t : Kept) (index id first gone : ℕ) (take : CanRemoveDirectory t ind
               tree = inr (f.shows ∙ (first_taken m.disk h.written).follows.shows ∙ turned);
             }
         go (inr e) =
-            let f = end_taken (with_blocks left m.disk) (subst (λ z. IsWrittenAs m (now - 1) z (with_blocks left m.disk)) e g.written) in
+            let f = end_taken (with_blocks left m.disk) (subst (λ z. IsPairWrittenOnDisk m (now - 1) z (with_blocks left m.disk)) e g.written) in
             record {
               pairs = w.chain ++ (k.front ++ y ∷ k.back);
               accepted = f.follows.accepted;
@@ -449,26 +449,26 @@ module _ (t : Kept) (index id first gone : ℕ) (take : CanRemoveDirectory t ind
 
   -- ---- at a stop in the first step
 
-  pub whole_first : (left : Blocks) → IsLeftByDrop t (index - 1) sync_delta left → IsLeftOf (with_blocks left t.disk) (tree_in t.disk t.pairs) (without_file t can.path can.name)
+  pub whole_first : (left : Blocks) → IsLeftByStoppedDrop t (index - 1) sync_delta left → IsLeftOf (with_blocks left t.disk) (tree_on_disk t.disk t.pairs) (tree_without_named_entry t can.path can.name)
   whole_first left g = go g.is
     where
-      go : (g.content ≡ (pair_in t (index - 1)).content) ⊎ (g.content ≡ with_tail_taken t (index - 1) sync_delta) → IsLeftOf (with_blocks left t.disk) (tree_in t.disk t.pairs) (without_file t can.path can.name)
+      go : (g.content ≡ (kept_pair_at_index t (index - 1)).content) ⊎ (g.content ≡ content_after_drop t (index - 1) sync_delta) → IsLeftOf (with_blocks left t.disk) (tree_on_disk t.disk t.pairs) (tree_without_named_entry t can.path can.name)
       go (inl z) =
           let same = z ∙ ap (λ (z : Pair). z.content) x0_there in
-          let on = device_kept t (index - 1) ahead x0 e behind is number accepted_is (with_blocks left t.disk) x0.content refl (subst (λ z. IsWrittenAs t (index - 1) z (with_blocks left t.disk)) same g.written) in
-          let f = nothing_came t.disk (with_blocks left t.disk) before_it x0 site_before (subst (IsAccepted t.disk) is_before can.ready.accepted)
+          let on = device_kept t (index - 1) ahead x0 e behind is number accepted_is (with_blocks left t.disk) x0.content refl (subst (λ z. IsPairWrittenOnDisk t (index - 1) z (with_blocks left t.disk)) same g.written) in
+          let f = nothing_came t.disk (with_blocks left t.disk) before_it x0 site_before (subst (IsAcceptedImage t.disk) is_before can.ready.accepted)
           (subst (λ z. IsDevice t.disk (with_blocks left t.disk) z z) (sym is ∙ is_before) on) in
           record {
             pairs = thread_at before_it (x0 ∷ []);
             accepted = f.accepted;
             writable = profile_same t.disk (with_blocks left t.disk) (thread_at before_it (x0 ∷ [])) refl refl (subst (IsWritable t.disk) is_before can.ready.writable);
-            tree = inl (f.shows ∙ ap (tree_in t.disk) (sym is_before));
+            tree = inl (f.shows ∙ ap (tree_on_disk t.disk) (sym is_before));
           }
       go (inr z) =
-          let f = first_taken (with_blocks left t.disk) (subst (λ y. IsWrittenAs t (index - 1) y (with_blocks left t.disk)) z g.written) in
+          let f = first_taken (with_blocks left t.disk) (subst (λ y. IsPairWrittenOnDisk t (index - 1) y (with_blocks left t.disk)) z g.written) in
           record {
             pairs = thread_at w (q ∷ []);
             accepted = f.follows.accepted;
             writable = f.writable;
-            tree = inr (f.follows.shows ∙ ap₂ (λ n z. tree_without (can.path ++ n ∷ []) (tree_in t.disk z)) can.stands.stands.named (sym s.there));
+            tree = inr (f.follows.shows ∙ ap₂ (λ n z. tree_after_removal (can.path ++ n ∷ []) (tree_on_disk t.disk z)) can.stands.stands.named (sym s.there));
           }

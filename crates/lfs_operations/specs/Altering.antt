@@ -2,20 +2,20 @@
 use Rattle.std.specs.Prelude.{Contains, ℕ, ◌⊎◌, ◌<◌, List, length}
 use Rattle.std.specs.List.{AllByRecursion}
 use Rattle.lfs_model.specs.BlockSets.{IsFree}
-use Rattle.lfs_thread.specs.Device.{two_of}
+use Rattle.lfs_thread.specs.Device.{blocks_of_address}
 use Rattle.lfs_thread.specs.Kept.{Kept}
-use Rattle.lfs_thread.specs.Steps.{Writes, pair_in}
+use Rattle.lfs_thread.specs.Steps.{ThreadChangesOnlyTheseBlocks, kept_pair_at_index}
 use Rattle.lfs_operations.specs.Changing.{AltersPair}
 
 -- the block is one of a pair that doesn't stay with what it held
-pub record IsAltered (old new : Kept) (b : ℕ) : Type 0 where
+pub record IsBlockOfAlteredPair (old new : Kept) (b : ℕ) : Type 0 where
   pub index : ℕ
   pub below : index < length old.pairs
-  pub own : Contains (two_of (pair_in old index).at) b
+  pub own : Contains (blocks_of_address (kept_pair_at_index old index).at) b
   pub alters : AltersPair old index new
 
 -- No block changed but these, blocks of pairs that don't stay with what they held, and blocks that were free.
-pub record AltersBut (old : Kept) (bs : List ℕ) (new : Kept) : Type 0 where
+pub record ChangesOnlyGivenAlteredOrFreeBlocks (old : Kept) (bs : List ℕ) (new : Kept) : Type 0 where
   pub blocks : List ℕ
-  pub each : AllByRecursion (λ b. Contains bs b ⊎ (IsAltered old new b ⊎ IsFree old.map b)) blocks
-  pub writes : Writes blocks old new
+  pub each : AllByRecursion (λ b. Contains bs b ⊎ (IsBlockOfAlteredPair old new b ⊎ IsFree old.map b)) blocks
+  pub writes : ThreadChangesOnlyTheseBlocks blocks old new

@@ -1,56 +1,56 @@
 -- Attributes of an entry, set and removed.
 use Rattle.std.specs.Prelude.{ℕ, ◌≡◌, ◌≤◌, length, List, [], ◌∷◌, ◌++◌, Some}
-use Rattle.lfs_model.specs.TreeEdits.{attributes_of, change_at, with_attributes}
-use Rattle.lfs_model.specs.Content.{put_attribute, without_attribute}
-use Rattle.lfs_model.specs.InDirectory.{BeginsAt, HasNameAtPlace}
+use Rattle.lfs_model.specs.TreeEdits.{attributes_of_node, tree_after_change_of_node, node_with_attributes}
+use Rattle.lfs_model.specs.Content.{attributes_with_attribute, attributes_without_attribute}
+use Rattle.lfs_model.specs.InDirectory.{IsPairAtAddress, IsPlaceOfNameInDirectory}
 use Rattle.lfs_model.specs.Names.{Name}
 use Rattle.lfs_model.specs.Operations as ops
 use Rattle.lfs_model.specs.Operations.{Operation}
 use Rattle.lfs_model.specs.Session.{Session}
 use Rattle.lfs_model.specs.Slots.{Attributes, Slot}
-use Rattle.lfs_model.specs.Refusals.{as_path}
+use Rattle.lfs_model.specs.Refusals.{path_or_root}
 use Rattle.lfs_model.specs.Tree.{Path, Tree}
-use Rattle.lfs_model.specs.Profile.{FitsEntry}
-use Rattle.lfs_model.specs.Shown.{PathLeadsTo, tree_in}
+use Rattle.lfs_model.specs.Profile.{FitsEntryLimits}
+use Rattle.lfs_model.specs.Shown.{IsPathToDirectory, tree_on_disk}
 use Rattle.lfs_model.specs.Steps.{IsCompleted}
 use Rattle.lfs_thread.specs.Kept.{Kept}
-use Rattle.lfs_thread.specs.Steps.{pair_in}
-use Rattle.lfs_operations.specs.Ready.{HasBecome, IsLoggedAt, IsReady}
+use Rattle.lfs_thread.specs.Steps.{kept_pair_at_index}
+use Rattle.lfs_operations.specs.Ready.{ShowsTreeReadyForChange, HasLoggableContentAt, IsImageReadyForChange}
 
 -- The image may be changed, and an entry is at the id of the pair: the one of that name in the directory at a path.
-pub record CanEdit (t : Kept) (pair id : ℕ) : Type 0 where
-  pub ready : IsReady t
+pub record CanEditEntryOfPair (t : Kept) (pair id : ℕ) : Type 0 where
+  pub ready : IsImageReadyForChange t
   pub path : Path
   pub at : ℕ × ℕ
-  pub leads : PathLeadsTo t.pairs path at
+  pub leads : IsPathToDirectory t.pairs path at
   pub first : ℕ
-  pub begins : BeginsAt t.pairs at first
+  pub begins : IsPairAtAddress t.pairs at first
   pub name : Name
-  pub stands : HasNameAtPlace t.pairs first name pair id
-  pub logged : IsLoggedAt t.disk (pair_in t pair).at
+  pub stands : IsPlaceOfNameInDirectory t.pairs first name pair id
+  pub logged : HasLoggableContentAt t.disk (kept_pair_at_index t pair).at
 
-abbrev pub slot_at : {t : Kept} {pair id : ℕ} → CanEdit t pair id → Slot
-slot_at can = can.stands.stands.slot
+abbrev pub slot_of_editable_entry : {t : Kept} {pair id : ℕ} → CanEditEntryOfPair t pair id → Slot
+slot_of_editable_entry can = can.stands.stands.slot
 
 -- the attribute has at most 1,022 bytes, and the entry may have it beside its other ones
 pub record CanSetAttribute (t : Kept) (pair id kind : ℕ) (bytes : List ℕ) : Type 0 where
-  pub can : CanEdit t pair id
+  pub can : CanEditEntryOfPair t pair id
   pub short : length bytes ≤ 1022
-  pub fits : FitsEntry t.disk.block_size t.disk.page (record (slot_at can) { attributes = put_attribute kind bytes (slot_at can).attributes })
+  pub fits : FitsEntryLimits t.disk.block_size t.disk.page (record (slot_of_editable_entry can) { attributes = attributes_with_attribute kind bytes (slot_of_editable_entry can).attributes })
 
 -- the tree with other attributes there
-abbrev pub with_attributes_at : Kept → Path → Name → (Attributes → Attributes) → Tree
-with_attributes_at t path name f = change_at (path ++ name ∷ []) (λ n. with_attributes (f (attributes_of (Some n))) n) (tree_in t.disk t.pairs)
+abbrev pub tree_with_attributes_at : Kept → Path → Name → (Attributes → Attributes) → Tree
+tree_with_attributes_at t path name f = tree_after_change_of_node (path ++ name ∷ []) (λ n. node_with_attributes (f (attributes_of_node (Some n))) n) (tree_on_disk t.disk t.pairs)
 
 -- The tree has the entry with those attributes, and its slot is where the layout wants it. So that operation on its path is
 -- completed.
-pub record IsEdited (old new : Kept) (path : Path) (name : Name) (f : Attributes → Attributes) (op : List ℕ → Operation) : Type 0 where
-  pub now : HasBecome old new (with_attributes_at old path name f)
-  pub completed : (s : Session) (given : List ℕ) → s.tree ≡ tree_in old.disk old.pairs → as_path given ≡ path ++ name ∷ []
+pub record HasAttributesChanged (old new : Kept) (path : Path) (name : Name) (f : Attributes → Attributes) (op : List ℕ → Operation) : Type 0 where
+  pub now : ShowsTreeReadyForChange old new (tree_with_attributes_at old path name f)
+  pub completed : (s : Session) (given : List ℕ) → s.tree ≡ tree_on_disk old.disk old.pairs → path_or_root given ≡ path ++ name ∷ []
       → IsCompleted old.disk old.pairs s (op given) new.disk new.pairs
 
 abbrev pub HasSetAttribute : Kept → Kept → Path → Name → ℕ → List ℕ → Type 0
-HasSetAttribute old new path name kind bytes = IsEdited old new path name (put_attribute kind bytes) (λ given. ops.SetAttr given kind bytes)
+HasSetAttribute old new path name kind bytes = HasAttributesChanged old new path name (attributes_with_attribute kind bytes) (λ given. ops.SetAttr given kind bytes)
 
 abbrev pub HasRemovedAttribute : Kept → Kept → Path → Name → ℕ → Type 0
-HasRemovedAttribute old new path name kind = IsEdited old new path name (without_attribute kind) (λ given. ops.RemoveAttr given kind)
+HasRemovedAttribute old new path name kind = HasAttributesChanged old new path name (attributes_without_attribute kind) (λ given. ops.RemoveAttr given kind)

@@ -4,86 +4,86 @@ use Rattle.std.specs.List.{remove}
 use Rattle.lfs_device.specs.declared.error.Error.{Error}
 use Rattle.lfs_device.specs.declared.error.Error.TheVariants.{Io, NoMemory}
 use Rattle.lfs_model.specs.Blocks.{Blocks}
-use Rattle.lfs_model.specs.Changes.{Change, Delete, PutMove}
-use Rattle.lfs_model.specs.Content.{content_at}
+use Rattle.lfs_model.specs.Changes.{ContentChange, Delete, PutMove}
+use Rattle.lfs_model.specs.Content.{content_of_pair_at}
 use Rattle.lfs_model.specs.Disk.{block_count}
 use Rattle.lfs_model.specs.History.{faults}
 use Rattle.lfs_model.specs.Names.{Name}
 use Rattle.lfs_model.specs.Operations as ops
 use Rattle.lfs_model.specs.Session.{Session}
 use Rattle.lfs_model.specs.Slots.{Branch, Content, gstate_xor, same_pair}
-use Rattle.lfs_model.specs.Refusals.{as_path}
-use Rattle.lfs_model.specs.Thread.{IsThread, is_hard}
+use Rattle.lfs_model.specs.Refusals.{path_or_root}
+use Rattle.lfs_model.specs.Thread.{IsThread, is_hard_tail}
 use Rattle.lfs_model.specs.Tree.{Path}
-use Rattle.lfs_model.specs.Shown.{tree_in}
+use Rattle.lfs_model.specs.Shown.{tree_on_disk}
 use Rattle.lfs_model.specs.Steps.{IsCompleted, sync_delta}
-use Rattle.lfs_thread.specs.Kept.{Kept, State}
-use Rattle.lfs_thread.specs.Steps.{IsWrittenAs, pair_in, with_pair}
+use Rattle.lfs_thread.specs.Kept.{Kept, ThreadView}
+use Rattle.lfs_thread.specs.Steps.{IsPairWrittenOnDisk, kept_pair_at_index, pairs_with_content_at_index}
 use Rattle.lfs_operations.specs.Changing.{AltersPair}
-use Rattle.lfs_operations.specs.Dropping.{HasShrunk}
-use Rattle.lfs_operations.specs.Editing.{CanEdit, slot_at}
-use Rattle.lfs_operations.specs.Removing.{drops_pair, without_file}
+use Rattle.lfs_operations.specs.Dropping.{ShowsTreeAfterDrops}
+use Rattle.lfs_operations.specs.Editing.{CanEditEntryOfPair, slot_of_editable_entry}
+use Rattle.lfs_operations.specs.Removing.{is_pair_dropped_with_slot, tree_without_named_entry}
 
 -- ---- the entry is removed
 
 -- what the entry's pair holds without it; the pair's delta turns the sync bit
-abbrev pub without_entry : Kept → ℕ → ℕ → Content
-without_entry t pair id = record {
-  slots = remove (pair_in t pair).content.slots id;
-  tail = (pair_in t pair).content.tail;
-  move = gstate_xor (pair_in t pair).content.move sync_delta;
+abbrev pub content_without_directory_entry : Kept → ℕ → ℕ → Content
+content_without_directory_entry t pair id = record {
+  slots = remove (kept_pair_at_index t pair).content.slots id;
+  tail = (kept_pair_at_index t pair).content.tail;
+  move = gstate_xor (kept_pair_at_index t pair).content.move sync_delta;
 }
 
-abbrev pub unlink_changes : Kept → ℕ → ℕ → List Change
-unlink_changes t pair id = Delete id ∷ PutMove (gstate_xor (pair_in t pair).content.move sync_delta) ∷ []
+abbrev pub directory_unlink_changes : Kept → ℕ → ℕ → List ContentChange
+directory_unlink_changes t pair id = Delete id ∷ PutMove (gstate_xor (kept_pair_at_index t pair).content.move sync_delta) ∷ []
 
 -- the pair holds that, and everything else is as it was
-pub record IsUnlinked (old : Kept) (pair id : ℕ) (new : Kept) : Type 0 where
-  pub written : IsWrittenAs old pair (without_entry old pair id) new.disk
-  pub pairs : new.pairs ≡ with_pair old pair (without_entry old pair id)
-  pub thread : IsThread (content_at new.disk) (block_count new.disk) new.pairs
+pub record IsDirectoryEntryUnlinked (old : Kept) (pair id : ℕ) (new : Kept) : Type 0 where
+  pub written : IsPairWrittenOnDisk old pair (content_without_directory_entry old pair id) new.disk
+  pub pairs : new.pairs ≡ pairs_with_content_at_index old pair (content_without_directory_entry old pair id)
+  pub thread : IsThread (content_of_pair_at new.disk) (block_count new.disk) new.pairs
   pub map : new.map ≡ old.map
 
 -- what a stop leaves: the pair with its old content, or with its new one
-pub record IsLeftByUnlink (old : Kept) (pair id : ℕ) (left : Blocks) : Type 0 where
+pub record IsLeftByStoppedUnlink (old : Kept) (pair id : ℕ) (left : Blocks) : Type 0 where
   pub content : Content
-  pub is : (content ≡ (pair_in old pair).content) ⊎ (content ≡ without_entry old pair id)
-  pub written : IsWrittenAs old pair content (record old.disk { blocks = left })
+  pub is : (content ≡ (kept_pair_at_index old pair).content) ⊎ (content ≡ content_without_directory_entry old pair id)
+  pub written : IsPairWrittenOnDisk old pair content (record old.disk { blocks = left })
 
 -- ---- the operation
 
 -- A directory's entry is at the id of the pair, in the directory that begins with the pair of number `first`. The pair of number
 -- `gone` is the only one of the directory that is removed, and has no slots.
 pub record CanRemoveDirectory (t : Kept) (pair id first gone : ℕ) : Type 0 where
-  pub can : CanEdit t pair id
+  pub can : CanEditEntryOfPair t pair id
   pub begins : can.first ≡ first
   pub to : ℕ × ℕ
-  pub branch : (slot_at can).struct ≡ Branch to
+  pub branch : (slot_of_editable_entry can).struct ≡ Branch to
   pub below : gone < length t.pairs
-  pub at : same_pair (pair_in t gone).at to ≡ true
-  pub empty : (pair_in t gone).content.slots ≡ []
-  pub alone : is_hard (pair_in t gone).content.tail ≡ false
+  pub at : same_pair (kept_pair_at_index t gone).at to ≡ true
+  pub empty : (kept_pair_at_index t gone).content.slots ≡ []
+  pub alone : is_hard_tail (kept_pair_at_index t gone).content.tail ≡ false
 
 -- the number of a pair after another one was dropped
-abbrev pub number_without : ℕ → ℕ → ℕ
-number_without other pair = if nat_lt other pair then pair - 1 else pair
+abbrev pub pair_number_after_drop : ℕ → ℕ → ℕ
+pair_number_after_drop other pair = if nat_lt other pair then pair - 1 else pair
 
 -- The tree has no such directory, the other slots are where the layout wants them, and its pair is dropped. So a remove of its
 -- path is completed.
 pub record IsDirectoryRemoved (old new : Kept) (path : Path) (name : Name) : Type 0 where
-  pub now : HasShrunk old new (without_file old path name) []
-  pub completed : (s : Session) (given : List ℕ) → s.tree ≡ tree_in old.disk old.pairs → as_path given ≡ path ++ name ∷ []
+  pub now : ShowsTreeAfterDrops old new (tree_without_named_entry old path name) []
+  pub completed : (s : Session) (given : List ℕ) → s.tree ≡ tree_on_disk old.disk old.pairs → path_or_root given ≡ path ++ name ∷ []
       → IsCompleted old.disk old.pairs s (ops.Remove given) new.disk new.pairs
 
 -- The pair before the directory's own one doesn't stay with what it held. Nor does the one before the entry's pair, where that is
 -- dropped too.
-pub record AltersInFront (old : Kept) (pair first gone : ℕ) (new : Kept) : Type 0 where
+pub record AltersPairsBeforeDroppedOnes (old : Kept) (pair first gone : ℕ) (new : Kept) : Type 0 where
   pub front : AltersPair old (gone - 1) new
-  pub entry : drops_pair old pair first ≡ true → AltersPair old (pair - 1) new
+  pub entry : is_pair_dropped_with_slot old pair first ≡ true → AltersPair old (pair - 1) new
 
 -- What several steps report that take no block: `Io` comes with a fault of the device, and any other result with none. After an
 -- error the thread has failed.
-pub record ReportsOfSteps {X : Type 0} (old new : State) (result : Result X Error) : Type 0 where
+pub record ReportsCommitsTakingNoBlock {X : Type 0} (old new : ThreadView) (result : Result X Error) : Type 0 where
   pub failed : new.failed ≡ is_err result
   pub errors : IfErr result (λ e. (e ≡ Io) ⊎ (e ≡ NoMemory))
   pub fault : IsErrOf result Io → faults old.kept.history < faults new.kept.history

@@ -2,14 +2,14 @@
 
 ghost use Rattle.std.specs.Prelude.{◌≡◌, ◌∷◌, [], false, OnOk};
 ghost use Rattle.lfs_model.specs.Changes.{PutAttribute};
-ghost use Rattle.lfs_model.specs.Content.{put_attribute, without_attribute};
-ghost use Rattle.lfs_model.specs.PowerLoss.{Survives};
-ghost use Rattle.lfs_model.specs.Shown.{tree_in};
-ghost use Rattle.lfs_thread.specs.Device.{two_of};
-ghost use Rattle.lfs_thread.specs.Steps.{Writes, pair_in};
-ghost use Rattle.lfs_operations.specs.Changing.{ReportsPut, WritesIn};
-ghost use Rattle.lfs_operations.specs.Editing.{CanEdit, CanSetAttribute, HasRemovedAttribute, HasSetAttribute, with_attributes_at};
-ghost use Rattle.lfs_operations.specs.Removing.{ReportsOfCalls};
+ghost use Rattle.lfs_model.specs.Content.{attributes_with_attribute, attributes_without_attribute};
+ghost use Rattle.lfs_model.specs.PowerLoss.{SurvivesStopsSince};
+ghost use Rattle.lfs_model.specs.Shown.{tree_on_disk};
+ghost use Rattle.lfs_thread.specs.Device.{blocks_of_address};
+ghost use Rattle.lfs_thread.specs.Steps.{ThreadChangesOnlyTheseBlocks, kept_pair_at_index};
+ghost use Rattle.lfs_operations.specs.Changing.{ReportsChangeOrSplit, WritesPairAndTwoFreeBlocks};
+ghost use Rattle.lfs_operations.specs.Editing.{CanEditEntryOfPair, CanSetAttribute, HasRemovedAttribute, HasSetAttribute, tree_with_attributes_at};
+ghost use Rattle.lfs_operations.specs.Removing.{ReportsCommitTakingNoBlock};
 
 use crate::changes::put;
 use lfs_device::{BlockDevice, Error};
@@ -34,10 +34,10 @@ pub fn set_attribute<D: BlockDevice>(
     requires works { thread.old.failed ≡ false }
     requires can { CanSetAttribute thread.old.kept pair id kind bytes.now }
     ensures is_set { OnOk result ((set : CanSetAttribute thread.old.kept pair id kind bytes.now) → HasSetAttribute thread.old.kept thread.new.kept set.can.path set.can.name kind bytes.now) }
-    ensures errors { ReportsPut thread.old thread.new pair (PutAttribute id kind bytes.now ∷ []) result }
-    ensures device { WritesIn thread.old.kept pair thread.new.kept }
-    ensures survives { (set : CanSetAttribute thread.old.kept pair id kind bytes.now) → Survives thread.old.kept.disk thread.old.kept.history thread.new.kept.history
-        (tree_in thread.old.kept.disk thread.old.kept.pairs) (with_attributes_at thread.old.kept set.can.path set.can.name (put_attribute kind bytes.now)) }
+    ensures errors { ReportsChangeOrSplit thread.old thread.new pair (PutAttribute id kind bytes.now ∷ []) result }
+    ensures device { WritesPairAndTwoFreeBlocks thread.old.kept pair thread.new.kept }
+    ensures survives { (set : CanSetAttribute thread.old.kept pair id kind bytes.now) → SurvivesStopsSince thread.old.kept.disk thread.old.kept.history thread.new.kept.history
+        (tree_on_disk thread.old.kept.disk thread.old.kept.pairs) (tree_with_attributes_at thread.old.kept set.can.path set.can.name (attributes_with_attribute kind bytes.now)) }
 {
     let changes = [Change::Attr {
         id,
@@ -59,12 +59,12 @@ pub fn remove_attribute<D: BlockDevice>(
     kind: u8,
 ) -> Result<(), Error>
     requires works { thread.old.failed ≡ false }
-    requires can { CanEdit thread.old.kept pair id }
-    ensures is_removed { OnOk result ((can : CanEdit thread.old.kept pair id) → HasRemovedAttribute thread.old.kept thread.new.kept can.path can.name kind) }
-    ensures errors { ReportsOfCalls thread.old thread.new result }
-    ensures device { Writes (two_of (pair_in thread.old.kept pair).at) thread.old.kept thread.new.kept }
-    ensures survives { (can : CanEdit thread.old.kept pair id) → Survives thread.old.kept.disk thread.old.kept.history thread.new.kept.history
-        (tree_in thread.old.kept.disk thread.old.kept.pairs) (with_attributes_at thread.old.kept can.path can.name (without_attribute kind)) }
+    requires can { CanEditEntryOfPair thread.old.kept pair id }
+    ensures is_removed { OnOk result ((can : CanEditEntryOfPair thread.old.kept pair id) → HasRemovedAttribute thread.old.kept thread.new.kept can.path can.name kind) }
+    ensures errors { ReportsCommitTakingNoBlock thread.old thread.new result }
+    ensures device { ThreadChangesOnlyTheseBlocks (blocks_of_address (kept_pair_at_index thread.old.kept pair).at) thread.old.kept thread.new.kept }
+    ensures survives { (can : CanEditEntryOfPair thread.old.kept pair id) → SurvivesStopsSince thread.old.kept.disk thread.old.kept.history thread.new.kept.history
+        (tree_on_disk thread.old.kept.disk thread.old.kept.pairs) (tree_with_attributes_at thread.old.kept can.path can.name (attributes_without_attribute kind)) }
 {
     // What is left fits, so the commit is never refused.
     thread.change(alloc, pair, &[Change::NoAttr { id, attr: kind }])?;

@@ -2,10 +2,10 @@
 
 ghost use Rattle.std.specs.Prelude.{◌≡◌, ◌≤◌, ◌+◌, false, IfSome, IfNone, OnOk};
 ghost use Rattle.lfs_model.specs.History.{reads};
-ghost use Rattle.lfs_model.specs.Slots.{address_of};
+ghost use Rattle.lfs_model.specs.Slots.{pair_address_of_array};
 ghost use Rattle.lfs_pair.specs.ChangeView.{changes_view};
-ghost use Rattle.lfs_thread.specs.Device.{StopsLeave};
-ghost use Rattle.lfs_operations.specs.Changing.{AreTwoFree, CanPut, HasTwoFree, IsPairCut, IsLeftByCut, IsLeftByPut, IsPut, Reports, ReportsPut, WritesIn, map_with_two_in_flight};
+ghost use Rattle.lfs_thread.specs.Device.{StopsAfterCleanErasesLeave};
+ghost use Rattle.lfs_operations.specs.Changing.{AreTwoFreeBlocks, CanChangeOrSplitPair, HasTwoFreeBlocks, IsPairSplit, IsLeftByStoppedSplit, IsLeftByStoppedChangeOrSplit, IsPairChangedOrSplit, Reports, ReportsChangeOrSplit, WritesPairAndTwoFreeBlocks, map_with_two_blocks_in_flight};
 
 use lfs_device::{BlockDevice, Error};
 use lfs_pair::{Change, Outcome};
@@ -14,10 +14,10 @@ use std::alloc::Global;
 
 // Takes two free blocks, which are in flight then. Returns None where fewer than two are free;
 // nothing is taken then.
-pub(crate) fn take_two<D: BlockDevice>(thread: &mut Thread<D>) -> Option<[u32; 2]>
-    ensures were_free { IfSome result (λ fresh. AreTwoFree thread.old.kept.map (address_of fresh)) }
-    ensures taken { IfSome result (λ fresh. thread.new ≡ record thread.old { kept = record thread.old.kept { map = map_with_two_in_flight thread.old.kept.map (address_of fresh) } }) }
-    ensures none { IfNone result (HasTwoFree thread.old.kept.map → ⊥) }
+pub(crate) fn take_two_free_blocks<D: BlockDevice>(thread: &mut Thread<D>) -> Option<[u32; 2]>
+    ensures were_free { IfSome result (λ fresh. AreTwoFreeBlocks thread.old.kept.map (pair_address_of_array fresh)) }
+    ensures taken { IfSome result (λ fresh. thread.new ≡ record thread.old { kept = record thread.old.kept { map = map_with_two_blocks_in_flight thread.old.kept.map (pair_address_of_array fresh) } }) }
+    ensures none { IfNone result (HasTwoFreeBlocks thread.old.kept.map → ⊥) }
     ensures same { IfNone result (thread.new ≡ thread.old) }
 {
     let Some(first) = thread.take() else {
@@ -32,21 +32,21 @@ pub(crate) fn take_two<D: BlockDevice>(thread: &mut Thread<D>) -> Option<[u32; 2
 
 // Splits a pair into itself and a fresh pair in two free blocks. `NoSpace` where fewer than two are
 // free.
-fn split_in_two<D: BlockDevice>(
+fn split_pair_in_two<D: BlockDevice>(
     alloc: Global,
     thread: &mut Thread<D>,
     index: usize,
     changes: &[Change<'_>],
 ) -> Result<(), Error>
     requires works { thread.old.failed ≡ false }
-    requires can { CanPut thread.old.kept index (changes_view changes.now) }
-    ensures is_cut { OnOk result (IsPairCut thread.old.kept index (changes_view changes.now) thread.new.kept) }
+    requires can { CanChangeOrSplitPair thread.old.kept index (changes_view changes.now) }
+    ensures is_cut { OnOk result (IsPairSplit thread.old.kept index (changes_view changes.now) thread.new.kept) }
     ensures errors { Reports thread.old thread.new result }
-    ensures device { WritesIn thread.old.kept index thread.new.kept }
+    ensures device { WritesPairAndTwoFreeBlocks thread.old.kept index thread.new.kept }
     ensures few { reads thread.new.kept.history ≤ reads thread.old.kept.history + 4 }
-    ensures stops { StopsLeave thread.old.kept.history thread.new.kept.history (IsLeftByCut thread.old.kept index (changes_view changes.now)) }
+    ensures stops { StopsAfterCleanErasesLeave thread.old.kept.history thread.new.kept.history (IsLeftByStoppedSplit thread.old.kept index (changes_view changes.now)) }
 {
-    let Some(fresh) = take_two(thread) else {
+    let Some(fresh) = take_two_free_blocks(thread) else {
         return Err(Error::NoSpace);
     };
     thread.split(alloc, index, fresh, changes)?;
@@ -61,17 +61,17 @@ pub(crate) fn put<D: BlockDevice>(
     changes: &[Change<'_>],
 ) -> Result<(), Error>
     requires works { thread.old.failed ≡ false }
-    requires can { CanPut thread.old.kept index (changes_view changes.now) }
-    ensures is_put { OnOk result (IsPut thread.old.kept index (changes_view changes.now) thread.new.kept) }
-    ensures errors { ReportsPut thread.old thread.new index (changes_view changes.now) result }
-    ensures device { WritesIn thread.old.kept index thread.new.kept }
+    requires can { CanChangeOrSplitPair thread.old.kept index (changes_view changes.now) }
+    ensures is_put { OnOk result (IsPairChangedOrSplit thread.old.kept index (changes_view changes.now) thread.new.kept) }
+    ensures errors { ReportsChangeOrSplit thread.old thread.new index (changes_view changes.now) result }
+    ensures device { WritesPairAndTwoFreeBlocks thread.old.kept index thread.new.kept }
     ensures few { reads thread.new.kept.history ≤ reads thread.old.kept.history + 6 }
-    ensures stops { StopsLeave thread.old.kept.history thread.new.kept.history (IsLeftByPut thread.old.kept index (changes_view changes.now)) }
+    ensures stops { StopsAfterCleanErasesLeave thread.old.kept.history thread.new.kept.history (IsLeftByStoppedChangeOrSplit thread.old.kept index (changes_view changes.now)) }
 {
     match thread.change(alloc, index, changes)? {
         Outcome::Done => Ok(()),
         Outcome::Full => {
-            split_in_two(alloc, thread, index, changes)?;
+            split_pair_in_two(alloc, thread, index, changes)?;
             Ok(())
         }
     }

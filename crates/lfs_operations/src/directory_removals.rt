@@ -1,18 +1,18 @@
 // Empty directories that are removed.
 
 ghost use Rattle.std.specs.Prelude.{◌≡◌, ◌-◌, true, false, OnOk};
-ghost use Rattle.lfs_model.specs.PowerLoss.{Survives};
-ghost use Rattle.lfs_model.specs.Shown.{tree_in};
+ghost use Rattle.lfs_model.specs.PowerLoss.{SurvivesStopsSince};
+ghost use Rattle.lfs_model.specs.Shown.{tree_on_disk};
 ghost use Rattle.lfs_model.specs.Steps.{sync_delta};
 ghost use Rattle.lfs_tag.specs.FieldsView.{move_view};
-ghost use Rattle.lfs_thread.specs.Device.{StopsLeave, four_of, two_of};
-ghost use Rattle.lfs_thread.specs.Steps.{Writes, pair_in};
-ghost use Rattle.lfs_operations.specs.Editing.{CanEdit};
-ghost use Rattle.lfs_operations.specs.Removing.{ReportsOfCalls, drops_pair, without_file, written_at};
-ghost use Rattle.lfs_operations.specs.Unlinking.{AltersInFront, CanRemoveDirectory, IsDirectoryRemoved, IsLeftByUnlink, IsUnlinked, ReportsOfSteps, number_without};
+ghost use Rattle.lfs_thread.specs.Device.{StopsAfterCleanErasesLeave, blocks_of_two_addresses, blocks_of_address};
+ghost use Rattle.lfs_thread.specs.Steps.{ThreadChangesOnlyTheseBlocks, kept_pair_at_index};
+ghost use Rattle.lfs_operations.specs.Editing.{CanEditEntryOfPair};
+ghost use Rattle.lfs_operations.specs.Removing.{ReportsCommitTakingNoBlock, is_pair_dropped_with_slot, tree_without_named_entry, pair_address_written_by_removal};
+ghost use Rattle.lfs_operations.specs.Unlinking.{AltersPairsBeforeDroppedOnes, CanRemoveDirectory, IsDirectoryRemoved, IsLeftByStoppedUnlink, IsDirectoryEntryUnlinked, ReportsCommitsTakingNoBlock, pair_number_after_drop};
 
 use crate::drops::drop_at;
-use crate::removals::goes_with_slot;
+use crate::removals::is_pair_dropped_with_only_slot;
 use lfs_device::{BlockDevice, Error};
 use lfs_pair::Change;
 use lfs_tag::MoveState;
@@ -20,7 +20,7 @@ use lfs_thread::{Thread, with_delta};
 use std::alloc::Global;
 
 // Returns the delta that turns the sync bit.
-pub(crate) fn sync_bit() -> MoveState
+pub(crate) fn delta_of_sync_bit() -> MoveState
     ensures { move_view result ≡ sync_delta }
 {
     MoveState {
@@ -33,20 +33,20 @@ pub(crate) fn sync_bit() -> MoveState
 
 // Removes the entry at the id of a pair, and turns the sync bit with it. Afterwards no directory
 // may lead to a pair of the thread (DESIGN.md of littlefs, "The move problem").
-fn unlink<D: BlockDevice>(
+fn unlink_directory_entry<D: BlockDevice>(
     alloc: Global,
     thread: &mut Thread<D>,
     pair: usize,
     id: u16,
 ) -> Result<(), Error>
     requires works { thread.old.failed ≡ false }
-    requires can { CanEdit thread.old.kept pair id }
-    ensures is_unlinked { OnOk result (IsUnlinked thread.old.kept pair id thread.new.kept) }
-    ensures errors { ReportsOfCalls thread.old thread.new result }
-    ensures device { Writes (two_of (pair_in thread.old.kept pair).at) thread.old.kept thread.new.kept }
-    ensures stops { StopsLeave thread.old.kept.history thread.new.kept.history (IsLeftByUnlink thread.old.kept pair id) }
+    requires can { CanEditEntryOfPair thread.old.kept pair id }
+    ensures is_unlinked { OnOk result (IsDirectoryEntryUnlinked thread.old.kept pair id thread.new.kept) }
+    ensures errors { ReportsCommitTakingNoBlock thread.old thread.new result }
+    ensures device { ThreadChangesOnlyTheseBlocks (blocks_of_address (kept_pair_at_index thread.old.kept pair).at) thread.old.kept thread.new.kept }
+    ensures stops { StopsAfterCleanErasesLeave thread.old.kept.history thread.new.kept.history (IsLeftByStoppedUnlink thread.old.kept pair id) }
 {
-    let state = with_delta(&thread.delta(pair), &sync_bit());
+    let state = with_delta(&thread.delta(pair), &delta_of_sync_bit());
     let changes = [Change::Delete { id }, Change::Move { state }];
     // What is left fits, so the commit is never refused.
     thread.change(alloc, pair, &changes)?;
@@ -54,14 +54,14 @@ fn unlink<D: BlockDevice>(
 }
 
 // Returns the number of a pair after another one was dropped.
-fn number_after_drop(other: usize, pair: usize) -> usize
-    ensures { result ≡ number_without other pair }
+fn number_of_pair_after_drop(other: usize, pair: usize) -> usize
+    ensures { result ≡ pair_number_after_drop other pair }
 {
     if other < pair { pair - 1 } else { pair }
 }
 
 // Removes an empty directory whose entry's pair stays.
-fn remove_beside<D: BlockDevice>(
+fn remove_directory_keeping_entry_pair<D: BlockDevice>(
     alloc: Global,
     thread: &mut Thread<D>,
     pair: usize,
@@ -71,21 +71,21 @@ fn remove_beside<D: BlockDevice>(
 ) -> Result<(), Error>
     requires works { thread.old.failed ≡ false }
     requires can { CanRemoveDirectory thread.old.kept pair id first gone }
-    requires stays { drops_pair thread.old.kept pair first ≡ false }
+    requires stays { is_pair_dropped_with_slot thread.old.kept pair first ≡ false }
     ensures is_removed { OnOk result ((take : CanRemoveDirectory thread.old.kept pair id first gone) → IsDirectoryRemoved thread.old.kept thread.new.kept take.can.path take.can.name) }
-    ensures alters { OnOk result (AltersInFront thread.old.kept pair first gone thread.new.kept) }
-    ensures errors { ReportsOfSteps thread.old thread.new result }
-    ensures device { Writes (four_of (written_at thread.old.kept pair first) (pair_in thread.old.kept (gone - 1)).at) thread.old.kept thread.new.kept }
-    ensures survives { (take : CanRemoveDirectory thread.old.kept pair id first gone) → Survives thread.old.kept.disk thread.old.kept.history thread.new.kept.history
-        (tree_in thread.old.kept.disk thread.old.kept.pairs) (without_file thread.old.kept take.can.path take.can.name) }
+    ensures alters { OnOk result (AltersPairsBeforeDroppedOnes thread.old.kept pair first gone thread.new.kept) }
+    ensures errors { ReportsCommitsTakingNoBlock thread.old thread.new result }
+    ensures device { ThreadChangesOnlyTheseBlocks (blocks_of_two_addresses (pair_address_written_by_removal thread.old.kept pair first) (kept_pair_at_index thread.old.kept (gone - 1)).at) thread.old.kept thread.new.kept }
+    ensures survives { (take : CanRemoveDirectory thread.old.kept pair id first gone) → SurvivesStopsSince thread.old.kept.disk thread.old.kept.history thread.new.kept.history
+        (tree_on_disk thread.old.kept.disk thread.old.kept.pairs) (tree_without_named_entry thread.old.kept take.can.path take.can.name) }
 {
-    unlink(alloc, thread, pair, id)?;
+    unlink_directory_entry(alloc, thread, pair, id)?;
     drop_at(alloc, thread, gone, &MoveState::none())?;
     Ok(())
 }
 
 // Removes an empty directory with its entry's pair, which has no other slot.
-fn remove_with_pair<D: BlockDevice>(
+fn remove_directory_with_entry_pair<D: BlockDevice>(
     alloc: Global,
     thread: &mut Thread<D>,
     pair: usize,
@@ -95,19 +95,19 @@ fn remove_with_pair<D: BlockDevice>(
 ) -> Result<(), Error>
     requires works { thread.old.failed ≡ false }
     requires can { CanRemoveDirectory thread.old.kept pair id first gone }
-    requires goes { drops_pair thread.old.kept pair first ≡ true }
+    requires goes { is_pair_dropped_with_slot thread.old.kept pair first ≡ true }
     ensures is_removed { OnOk result ((take : CanRemoveDirectory thread.old.kept pair id first gone) → IsDirectoryRemoved thread.old.kept thread.new.kept take.can.path take.can.name) }
-    ensures alters { OnOk result (AltersInFront thread.old.kept pair first gone thread.new.kept) }
-    ensures errors { ReportsOfSteps thread.old thread.new result }
-    ensures device { Writes (four_of (written_at thread.old.kept pair first) (pair_in thread.old.kept (gone - 1)).at) thread.old.kept thread.new.kept }
-    ensures survives { (take : CanRemoveDirectory thread.old.kept pair id first gone) → Survives thread.old.kept.disk thread.old.kept.history thread.new.kept.history
-        (tree_in thread.old.kept.disk thread.old.kept.pairs) (without_file thread.old.kept take.can.path take.can.name) }
+    ensures alters { OnOk result (AltersPairsBeforeDroppedOnes thread.old.kept pair first gone thread.new.kept) }
+    ensures errors { ReportsCommitsTakingNoBlock thread.old thread.new result }
+    ensures device { ThreadChangesOnlyTheseBlocks (blocks_of_two_addresses (pair_address_written_by_removal thread.old.kept pair first) (kept_pair_at_index thread.old.kept (gone - 1)).at) thread.old.kept thread.new.kept }
+    ensures survives { (take : CanRemoveDirectory thread.old.kept pair id first gone) → SurvivesStopsSince thread.old.kept.disk thread.old.kept.history thread.new.kept.history
+        (tree_on_disk thread.old.kept.disk thread.old.kept.pairs) (tree_without_named_entry thread.old.kept take.can.path take.can.name) }
 {
-    drop_at(alloc, thread, pair, &sync_bit())?;
+    drop_at(alloc, thread, pair, &delta_of_sync_bit())?;
     drop_at(
         alloc,
         thread,
-        number_after_drop(pair, gone),
+        number_of_pair_after_drop(pair, gone),
         &MoveState::none(),
     )?;
     Ok(())
@@ -133,15 +133,15 @@ pub fn remove_directory<D: BlockDevice>(
     requires works { thread.old.failed ≡ false }
     requires can { CanRemoveDirectory thread.old.kept pair id first gone }
     ensures is_removed { OnOk result ((take : CanRemoveDirectory thread.old.kept pair id first gone) → IsDirectoryRemoved thread.old.kept thread.new.kept take.can.path take.can.name) }
-    ensures alters { OnOk result (AltersInFront thread.old.kept pair first gone thread.new.kept) }
-    ensures errors { ReportsOfSteps thread.old thread.new result }
-    ensures device { Writes (four_of (written_at thread.old.kept pair first) (pair_in thread.old.kept (gone - 1)).at) thread.old.kept thread.new.kept }
-    ensures survives { (take : CanRemoveDirectory thread.old.kept pair id first gone) → Survives thread.old.kept.disk thread.old.kept.history thread.new.kept.history
-        (tree_in thread.old.kept.disk thread.old.kept.pairs) (without_file thread.old.kept take.can.path take.can.name) }
+    ensures alters { OnOk result (AltersPairsBeforeDroppedOnes thread.old.kept pair first gone thread.new.kept) }
+    ensures errors { ReportsCommitsTakingNoBlock thread.old thread.new result }
+    ensures device { ThreadChangesOnlyTheseBlocks (blocks_of_two_addresses (pair_address_written_by_removal thread.old.kept pair first) (kept_pair_at_index thread.old.kept (gone - 1)).at) thread.old.kept thread.new.kept }
+    ensures survives { (take : CanRemoveDirectory thread.old.kept pair id first gone) → SurvivesStopsSince thread.old.kept.disk thread.old.kept.history thread.new.kept.history
+        (tree_on_disk thread.old.kept.disk thread.old.kept.pairs) (tree_without_named_entry thread.old.kept take.can.path take.can.name) }
 {
-    if goes_with_slot(thread, pair, first) {
-        remove_with_pair(alloc, thread, pair, id, first, gone)
+    if is_pair_dropped_with_only_slot(thread, pair, first) {
+        remove_directory_with_entry_pair(alloc, thread, pair, id, first, gone)
     } else {
-        remove_beside(alloc, thread, pair, id, first, gone)
+        remove_directory_keeping_entry_pair(alloc, thread, pair, id, first, gone)
     }
 }

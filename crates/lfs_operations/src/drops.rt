@@ -2,14 +2,14 @@
 
 ghost use Rattle.std.specs.Prelude.{◌≡◌, ◌<◌, ◌-◌, Some, length, false, OnOk};
 ghost use Rattle.std.specs.Option.{option_map};
-ghost use Rattle.lfs_model.specs.Thread.{is_hard};
+ghost use Rattle.lfs_model.specs.Thread.{is_hard_tail};
 ghost use Rattle.lfs_pair.specs.ChangeView.{change_view, changes_view};
 ghost use Rattle.lfs_tag.specs.ContentView.{tail_view};
 ghost use Rattle.lfs_tag.specs.FieldsView.{move_view};
-ghost use Rattle.lfs_thread.specs.Device.{StopsLeave, two_of};
-ghost use Rattle.lfs_thread.specs.Steps.{Writes, made_in_thread, pair_in, put_tail};
-ghost use Rattle.lfs_operations.specs.Dropping.{CanDropAt, HasDroppedBehind, IsLeftByDrop, delta_taken, taken_over, taking_changes, with_tail_taken};
-ghost use Rattle.lfs_operations.specs.Removing.{ReportsOfCalls};
+ghost use Rattle.lfs_thread.specs.Device.{StopsAfterCleanErasesLeave, blocks_of_address};
+ghost use Rattle.lfs_thread.specs.Steps.{ThreadChangesOnlyTheseBlocks, complete_content_after_changes, kept_pair_at_index, change_that_sets_tail};
+ghost use Rattle.lfs_operations.specs.Dropping.{CanDropPairAt, IsNextPairDropped, IsLeftByStoppedDrop, delta_after_drop, tail_over_dropped_pair, drop_next_pair_changes, content_after_drop};
+ghost use Rattle.lfs_operations.specs.Removing.{ReportsCommitTakingNoBlock};
 
 use lfs_device::{BlockDevice, Error};
 use lfs_pair::Change;
@@ -18,8 +18,8 @@ use lfs_thread::{Thread, with_delta};
 use std::alloc::Global;
 
 // Returns the change that gives a pair with the tail `front` the tail of a dropped pair, `gone`.
-fn tail_over(front: Option<Tail>, gone: Option<Tail>) -> Change<'static>
-    ensures { change_view result ≡ put_tail (taken_over (option_map tail_view front) (option_map tail_view gone)) }
+fn tail_change_over_dropped_pair(front: Option<Tail>, gone: Option<Tail>) -> Change<'static>
+    ensures { change_view result ≡ change_that_sets_tail (tail_over_dropped_pair (option_map tail_view front) (option_map tail_view gone)) }
 {
     match gone {
         None => Change::Tail {
@@ -35,11 +35,15 @@ fn tail_over(front: Option<Tail>, gone: Option<Tail>) -> Change<'static>
 
 // Returns the delta that the pair before the dropped one gets, so that the global state then is
 // `state`.
-fn delta_over<D: BlockDevice>(thread: &Thread<D>, index: usize, state: &MoveState) -> MoveState
+fn delta_over_dropped_pair<D: BlockDevice>(
+    thread: &Thread<D>,
+    index: usize,
+    state: &MoveState,
+) -> MoveState
     requires works { thread.now.failed ≡ false }
     requires above { 0 < index }
     requires below { index < length thread.now.kept.pairs }
-    ensures { move_view result ≡ delta_taken thread.now.kept (index - 1) (move_view state.now) }
+    ensures { move_view result ≡ delta_after_drop thread.now.kept (index - 1) (move_view state.now) }
 {
     let both = with_delta(&thread.delta(index - 1), &thread.delta(index));
     let turned = with_delta(&thread.state(), state);
@@ -47,22 +51,22 @@ fn delta_over<D: BlockDevice>(thread: &Thread<D>, index: usize, state: &MoveStat
 }
 
 // Returns the changes by which the pair before the dropped one takes over its tail and its delta.
-fn taking<D: BlockDevice>(
+fn changes_to_drop_next<D: BlockDevice>(
     thread: &Thread<D>,
     index: usize,
     state: &MoveState,
 ) -> [Change<'static>; 2]
     requires works { thread.now.failed ≡ false }
-    requires can { CanDropAt thread.now.kept index (move_view state.now) }
-    ensures are { changes_view result ≡ taking_changes thread.now.kept (index - 1) (move_view state.now) }
-    ensures made { made_in_thread thread.now.kept (index - 1) (changes_view result) ≡ Some (with_tail_taken thread.now.kept (index - 1) (move_view state.now)) }
+    requires can { CanDropPairAt thread.now.kept index (move_view state.now) }
+    ensures are { changes_view result ≡ drop_next_pair_changes thread.now.kept (index - 1) (move_view state.now) }
+    ensures made { complete_content_after_changes thread.now.kept (index - 1) (changes_view result) ≡ Some (content_after_drop thread.now.kept (index - 1) (move_view state.now)) }
 {
     // A device holds bytes, so what its logs say can be written again.
     let _device = thread.device();
     [
-        tail_over(thread.tail(index - 1), thread.tail(index)),
+        tail_change_over_dropped_pair(thread.tail(index - 1), thread.tail(index)),
         Change::Move {
-            state: delta_over(thread, index, state),
+            state: delta_over_dropped_pair(thread, index, state),
         },
     ]
 }
@@ -80,13 +84,13 @@ pub(crate) fn drop_at<D: BlockDevice>(
     state: &MoveState,
 ) -> Result<(), Error>
     requires works { thread.old.failed ≡ false }
-    requires can { CanDropAt thread.old.kept index (move_view state.now) }
-    ensures is_dropped { OnOk result (HasDroppedBehind thread.old.kept (index - 1) (move_view state.now) thread.new.kept) }
-    ensures errors { ReportsOfCalls thread.old thread.new result }
-    ensures device { Writes (two_of (pair_in thread.old.kept (index - 1)).at) thread.old.kept thread.new.kept }
-    ensures stops { StopsLeave thread.old.kept.history thread.new.kept.history (IsLeftByDrop thread.old.kept (index - 1) (move_view state.now)) }
+    requires can { CanDropPairAt thread.old.kept index (move_view state.now) }
+    ensures is_dropped { OnOk result (IsNextPairDropped thread.old.kept (index - 1) (move_view state.now) thread.new.kept) }
+    ensures errors { ReportsCommitTakingNoBlock thread.old thread.new result }
+    ensures device { ThreadChangesOnlyTheseBlocks (blocks_of_address (kept_pair_at_index thread.old.kept (index - 1)).at) thread.old.kept thread.new.kept }
+    ensures stops { StopsAfterCleanErasesLeave thread.old.kept.history thread.new.kept.history (IsLeftByStoppedDrop thread.old.kept (index - 1) (move_view state.now)) }
 {
-    let changes = taking(thread, index, state);
+    let changes = changes_to_drop_next(thread, index, state);
     // The slots stay, and a pair has room of its own for tail and delta. So the commit is never
     // refused.
     thread.drop_next(alloc, index - 1, &changes)?;

@@ -21,7 +21,7 @@ pub use directory_removals::remove_directory;
 pub use moves::{rename_across, rename_onto_directory_across, rename_onto_file_across};
 pub use new_directories::make_directory;
 pub use new_files::create;
-pub use recovery::{drop_unreached, end_move};
+pub use recovery::{drop_unreached_pairs, end_move};
 pub use removals::remove_file;
 pub use renames::{rename, rename_onto_file};
 pub use replacements::rename_onto_directory;

@@ -4,28 +4,28 @@ ghost use Rattle.std.specs.Prelude.{◌≡◌, ◌<◌, ◌-◌, ◌^◌, ◌∷
 ghost use Rattle.lfs_model.specs.Changes.{Delete, PutMove};
 ghost use Rattle.lfs_model.specs.Slots.{gstate_xor};
 ghost use Rattle.lfs_operations.specs.RenamingView.{slot_copy_view};
-ghost use Rattle.lfs_operations.specs.RenamingSlots.{slot_changes};
-ghost use Rattle.lfs_model.specs.LoggedContent.{IsAddress};
-ghost use Rattle.lfs_model.specs.PowerLoss.{Survives};
+ghost use Rattle.lfs_operations.specs.RenamingSlots.{slot_creation_changes};
+ghost use Rattle.lfs_model.specs.LoggedContent.{Are32BitPairAddresses};
+ghost use Rattle.lfs_model.specs.PowerLoss.{SurvivesStopsSince};
 ghost use Rattle.lfs_model.specs.Thread.{gstate_of};
-ghost use Rattle.lfs_model.specs.Shown.{tree_in};
+ghost use Rattle.lfs_model.specs.Shown.{tree_on_disk};
 ghost use Rattle.lfs_tag.specs.FieldsView.{move_view};
-ghost use Rattle.lfs_thread.specs.Device.{four_of, two_of};
+ghost use Rattle.lfs_thread.specs.Device.{blocks_of_two_addresses, blocks_of_address};
 ghost use Rattle.lfs_thread.specs.Kept.{Kept};
-ghost use Rattle.lfs_thread.specs.Steps.{Writes, pair_in};
+ghost use Rattle.lfs_thread.specs.Steps.{ThreadChangesOnlyTheseBlocks, kept_pair_at_index};
 ghost use Rattle.lfs_pair.specs.ChangeView.{changes_view};
-ghost use Rattle.lfs_operations.specs.Altering.{AltersBut};
-ghost use Rattle.lfs_operations.specs.Changing.{CanPut, IsPut, WritesInPairs};
-ghost use Rattle.lfs_operations.specs.MoveEnds.{CanEndMoveAt, HasEndedMoveAt, end_at, move_of, delta_without_move, sync_in};
-ghost use Rattle.lfs_operations.specs.MovingSteps.{EndsAfter, IsPutAndEnded, SurvivesBoth, ReportsInSteps, WritesInTwo, left_at, place_after};
-ghost use Rattle.lfs_operations.specs.MovingAcross.{CanRenameAcross, IsRenamedAcross, moving_changes, with_moved};
-ghost use Rattle.lfs_operations.specs.MovingOnto.{CanPutOnto, CanReplaceAcross, CanReplaceDirectory, IsMovedOnto, IsReplacedAcross, onto_changes, replacing_changes};
-ghost use Rattle.lfs_operations.specs.Removing.{ReportsOfCalls};
+ghost use Rattle.lfs_operations.specs.Altering.{ChangesOnlyGivenAlteredOrFreeBlocks};
+ghost use Rattle.lfs_operations.specs.Changing.{CanChangeOrSplitPair, IsPairChangedOrSplit, WritesPairsAndTwoFreeBlocks};
+ghost use Rattle.lfs_operations.specs.MoveEnds.{CanEndMoveAt, HasEndedMoveAt, pair_written_at_move_end, move_of, delta_without_move, gstate_of_sync_alone};
+ghost use Rattle.lfs_operations.specs.MovingSteps.{CanEndMoveAfterPut, IsSlotPutAndMoveEnded, SurvivesBothMoveCommits, ReportsCommitsTakingBlocks, WritesTwoPairsAndTwoFreeBlocks, pair_written_by_second_move_commit, pair_number_after_insertion};
+ghost use Rattle.lfs_operations.specs.MovingAcross.{CanRenameAcrossPairs, IsEntryRenamedAcrossPairs, rename_across_pairs_changes, tree_with_moved_entry};
+ghost use Rattle.lfs_operations.specs.MovingOnto.{CanReplaceEntryAcrossPairs, CanReplaceFileAcrossPairs, CanReplaceDirectoryAcrossPairs, IsEntryReplacedAcrossPairs, IsFileReplacedAcrossPairs, replace_entry_across_pairs_changes, replace_file_across_pairs_changes};
+ghost use Rattle.lfs_operations.specs.Removing.{ReportsCommitTakingNoBlock};
 
 use crate::changes::put;
 use crate::drops::drop_at;
-use crate::removals::goes_with_slot;
-use crate::slot_copies::{SlotCopy, copy_at, push_slot};
+use crate::removals::is_pair_dropped_with_only_slot;
+use crate::slot_copies::{SlotCopy, copy_slot_of_pair, push_slot_creation_changes};
 use lfs_device::{BlockDevice, Error};
 use lfs_pair::Change;
 use lfs_tag::MoveState;
@@ -38,7 +38,7 @@ fn delta_without_move<D: BlockDevice>(thread: &Thread<D>, pair: usize) -> MoveSt
     requires works { thread.now.failed ≡ false }
     requires below { pair < length thread.now.kept.pairs }
     ensures delta { move_view result ≡ delta_without_move thread.now.kept pair }
-    ensures address { IsAddress (move_view result).pair }
+    ensures address { Are32BitPairAddresses (move_view result).pair }
 {
     let mut state = thread.state();
     state.sync = false;
@@ -47,7 +47,7 @@ fn delta_without_move<D: BlockDevice>(thread: &Thread<D>, pair: usize) -> MoveSt
 }
 
 // Removes the slot that a set move names from its pair, which stays, and ends the move.
-fn end_in_place<D: BlockDevice>(
+fn end_move_keeping_pair<D: BlockDevice>(
     alloc: Global,
     thread: &mut Thread<D>,
     pair: usize,
@@ -56,10 +56,10 @@ fn end_in_place<D: BlockDevice>(
     requires works { thread.old.failed ≡ false }
     requires can { CanEndMoveAt thread.old.kept pair id false }
     ensures ended { OnOk result (HasEndedMoveAt thread.old.kept pair id false thread.new.kept) }
-    ensures errors { ReportsOfCalls thread.old thread.new result }
-    ensures device { Writes (two_of (pair_in thread.old.kept pair).at) thread.old.kept thread.new.kept }
-    ensures survives { Survives thread.old.kept.disk thread.old.kept.history thread.new.kept.history
-        (tree_in thread.old.kept.disk thread.old.kept.pairs) (tree_in thread.old.kept.disk thread.old.kept.pairs) }
+    ensures errors { ReportsCommitTakingNoBlock thread.old thread.new result }
+    ensures device { ThreadChangesOnlyTheseBlocks (blocks_of_address (kept_pair_at_index thread.old.kept pair).at) thread.old.kept thread.new.kept }
+    ensures survives { SurvivesStopsSince thread.old.kept.disk thread.old.kept.history thread.new.kept.history
+        (tree_on_disk thread.old.kept.disk thread.old.kept.pairs) (tree_on_disk thread.old.kept.disk thread.old.kept.pairs) }
 {
     let state = delta_without_move(thread, pair);
     // What is left fits, so the commit is never refused.
@@ -72,9 +72,9 @@ fn end_in_place<D: BlockDevice>(
 }
 
 // Returns the global state without the move that is set.
-fn state_without_move<D: BlockDevice>(thread: &Thread<D>) -> MoveState
+fn thread_gstate_without_move<D: BlockDevice>(thread: &Thread<D>) -> MoveState
     requires { thread.now.failed ≡ false }
-    ensures { move_view result ≡ sync_in (gstate_of thread.now.kept.pairs) }
+    ensures { move_view result ≡ gstate_of_sync_alone (gstate_of thread.now.kept.pairs) }
 {
     let mut state = MoveState::none();
     state.sync = thread.state().sync;
@@ -82,7 +82,7 @@ fn state_without_move<D: BlockDevice>(thread: &Thread<D>) -> MoveState
 }
 
 // Drops a pair whose only slot a set move names, and ends the move.
-fn end_with_pair<D: BlockDevice>(
+fn end_move_dropping_pair<D: BlockDevice>(
     alloc: Global,
     thread: &mut Thread<D>,
     pair: usize,
@@ -91,12 +91,12 @@ fn end_with_pair<D: BlockDevice>(
     requires works { thread.old.failed ≡ false }
     requires can { CanEndMoveAt thread.old.kept pair id true }
     ensures ended { OnOk result (HasEndedMoveAt thread.old.kept pair id true thread.new.kept) }
-    ensures errors { ReportsOfCalls thread.old thread.new result }
-    ensures device { Writes (two_of (pair_in thread.old.kept (pair - 1)).at) thread.old.kept thread.new.kept }
-    ensures survives { Survives thread.old.kept.disk thread.old.kept.history thread.new.kept.history
-        (tree_in thread.old.kept.disk thread.old.kept.pairs) (tree_in thread.old.kept.disk thread.old.kept.pairs) }
+    ensures errors { ReportsCommitTakingNoBlock thread.old thread.new result }
+    ensures device { ThreadChangesOnlyTheseBlocks (blocks_of_address (kept_pair_at_index thread.old.kept (pair - 1)).at) thread.old.kept thread.new.kept }
+    ensures survives { SurvivesStopsSince thread.old.kept.disk thread.old.kept.history thread.new.kept.history
+        (tree_on_disk thread.old.kept.disk thread.old.kept.pairs) (tree_on_disk thread.old.kept.disk thread.old.kept.pairs) }
 {
-    let state = state_without_move(thread);
+    let state = thread_gstate_without_move(thread);
     drop_at(alloc, thread, pair, &state)?;
     Ok(())
 }
@@ -113,29 +113,29 @@ pub(crate) fn end_move<D: BlockDevice>(
     requires works { thread.old.failed ≡ false }
     requires can { CanEndMoveAt thread.old.kept pair id goes }
     ensures ended { OnOk result (HasEndedMoveAt thread.old.kept pair id goes thread.new.kept) }
-    ensures errors { ReportsOfCalls thread.old thread.new result }
-    ensures device { Writes (two_of (pair_in thread.old.kept (end_at pair goes)).at) thread.old.kept thread.new.kept }
-    ensures survives { Survives thread.old.kept.disk thread.old.kept.history thread.new.kept.history
-        (tree_in thread.old.kept.disk thread.old.kept.pairs) (tree_in thread.old.kept.disk thread.old.kept.pairs) }
+    ensures errors { ReportsCommitTakingNoBlock thread.old thread.new result }
+    ensures device { ThreadChangesOnlyTheseBlocks (blocks_of_address (kept_pair_at_index thread.old.kept (pair_written_at_move_end pair goes)).at) thread.old.kept thread.new.kept }
+    ensures survives { SurvivesStopsSince thread.old.kept.disk thread.old.kept.history thread.new.kept.history
+        (tree_on_disk thread.old.kept.disk thread.old.kept.pairs) (tree_on_disk thread.old.kept.disk thread.old.kept.pairs) }
 {
     if goes {
-        end_with_pair(alloc, thread, pair, id)
+        end_move_dropping_pair(alloc, thread, pair, id)
     } else {
-        end_in_place(alloc, thread, pair, id)
+        end_move_keeping_pair(alloc, thread, pair, id)
     }
 }
 
 // Returns the number of a pair after `fresh` pairs were put in after the pair `other`.
 fn place_after(pair: usize, other: usize, fresh: usize) -> usize
-    requires { place_after pair other fresh < 2 ^ 64 }
-    ensures { result ≡ place_after pair other fresh }
+    requires { pair_number_after_insertion pair other fresh < 2 ^ 64 }
+    ensures { result ≡ pair_number_after_insertion pair other fresh }
 {
     if pair < other { pair } else { pair + fresh }
 }
 
 // Puts changes that set a move into a pair. Then it ends the move in another pair, which has the
 // slot that the move names.
-fn put_and_end<D: BlockDevice>(
+fn put_changes_and_end_move<D: BlockDevice>(
     alloc: Global,
     thread: &mut Thread<D>,
     old_pair: usize,
@@ -145,12 +145,12 @@ fn put_and_end<D: BlockDevice>(
     changes: &[Change<'_>],
 ) -> Result<(), Error>
     requires works { thread.old.failed ≡ false }
-    requires can { CanPut thread.old.kept new_pair (changes_view changes.now) }
-    requires ends { (mid : Kept) → IsPut thread.old.kept new_pair (changes_view changes.now) mid → EndsAfter thread.old.kept old_pair old_id goes new_pair mid }
-    ensures done { OnOk result (IsPutAndEnded thread.old.kept old_pair old_id goes new_pair (changes_view changes.now) thread.new.kept) }
-    ensures errors { ReportsInSteps thread.old thread.new new_pair (changes_view changes.now) result }
-    ensures device { WritesInTwo thread.old.kept (end_at old_pair goes) new_pair thread.new.kept }
-    ensures survives { SurvivesBoth thread.old.kept new_pair (changes_view changes.now) thread.new.kept }
+    requires can { CanChangeOrSplitPair thread.old.kept new_pair (changes_view changes.now) }
+    requires ends { (mid : Kept) → IsPairChangedOrSplit thread.old.kept new_pair (changes_view changes.now) mid → CanEndMoveAfterPut thread.old.kept old_pair old_id goes new_pair mid }
+    ensures done { OnOk result (IsSlotPutAndMoveEnded thread.old.kept old_pair old_id goes new_pair (changes_view changes.now) thread.new.kept) }
+    ensures errors { ReportsCommitsTakingBlocks thread.old thread.new new_pair (changes_view changes.now) result }
+    ensures device { WritesTwoPairsAndTwoFreeBlocks thread.old.kept (pair_written_at_move_end old_pair goes) new_pair thread.new.kept }
+    ensures survives { SurvivesBothMoveCommits thread.old.kept new_pair (changes_view changes.now) thread.new.kept }
 {
     let before = thread.len();
     put(alloc, thread, new_pair, changes)?;
@@ -162,7 +162,7 @@ fn put_and_end<D: BlockDevice>(
 
 // Returns the delta of a pair that sets a move, which names a slot of another pair. With `sync` it
 // sets the sync bit, too. No move is set before.
-fn delta_with_move<D: BlockDevice>(
+fn delta_that_sets_move<D: BlockDevice>(
     thread: &Thread<D>,
     old_pair: usize,
     old_id: u16,
@@ -172,8 +172,8 @@ fn delta_with_move<D: BlockDevice>(
     requires works { thread.now.failed ≡ false }
     requires old_below { old_pair < length thread.now.kept.pairs }
     requires new_below { new_pair < length thread.now.kept.pairs }
-    ensures delta { move_view result ≡ gstate_xor (move_of sync (pair_in thread.now.kept old_pair).at old_id) (pair_in thread.now.kept new_pair).content.move }
-    ensures address { IsAddress (pair_in thread.now.kept old_pair).at }
+    ensures delta { move_view result ≡ gstate_xor (move_of sync (kept_pair_at_index thread.now.kept old_pair).at old_id) (kept_pair_at_index thread.now.kept new_pair).content.move }
+    ensures address { Are32BitPairAddresses (kept_pair_at_index thread.now.kept old_pair).at }
 {
     let pair = thread.address(old_pair);
     let state = MoveState {
@@ -194,11 +194,11 @@ fn changes_of<'a>(
     name: &'a [u8],
     copy: &'a SlotCopy,
 ) -> Result<Vec<Change<'a>>, AllocError>
-    ensures { IfOk result (λ changes. changes_view changes.items ≡ PutMove (move_view state) ∷ slot_changes id name.now (slot_copy_view copy.now)) }
+    ensures { IfOk result (λ changes. changes_view changes.items ≡ PutMove (move_view state) ∷ slot_creation_changes id name.now (slot_copy_view copy.now)) }
 {
     let mut changes = Vec::new(alloc);
     changes.push(Change::Move { state })?;
-    push_slot(&mut changes, id, name, copy)?;
+    push_slot_creation_changes(&mut changes, id, name, copy)?;
     Ok(changes)
 }
 
@@ -228,20 +228,20 @@ pub fn rename_across<D: BlockDevice>(
     name: &[u8],
 ) -> Result<(), Error>
     requires works { thread.old.failed ≡ false }
-    requires can { CanRenameAcross thread.old.kept old_pair old_id first new_pair new_id name.now }
-    ensures renamed { OnOk result ((rename : CanRenameAcross thread.old.kept old_pair old_id first new_pair new_id name.now)
-        → IsRenamedAcross thread.old.kept thread.new.kept rename.old.path rename.old.name rename.path name.now) }
-    ensures alters { OnOk result (AltersBut thread.old.kept (two_of (pair_in thread.old.kept old_pair).at) thread.new.kept) }
-    ensures errors { ReportsInSteps thread.old thread.new new_pair (moving_changes thread.old.kept old_pair old_id new_pair new_id name.now) result }
-    ensures device { WritesInTwo thread.old.kept (left_at thread.old.kept old_pair first) new_pair thread.new.kept }
-    ensures survives { (rename : CanRenameAcross thread.old.kept old_pair old_id first new_pair new_id name.now) → Survives thread.old.kept.disk thread.old.kept.history thread.new.kept.history
-        (tree_in thread.old.kept.disk thread.old.kept.pairs) (with_moved thread.old.kept rename.old.path rename.old.name rename.path name.now) }
+    requires can { CanRenameAcrossPairs thread.old.kept old_pair old_id first new_pair new_id name.now }
+    ensures renamed { OnOk result ((rename : CanRenameAcrossPairs thread.old.kept old_pair old_id first new_pair new_id name.now)
+        → IsEntryRenamedAcrossPairs thread.old.kept thread.new.kept rename.old.path rename.old.name rename.path name.now) }
+    ensures alters { OnOk result (ChangesOnlyGivenAlteredOrFreeBlocks thread.old.kept (blocks_of_address (kept_pair_at_index thread.old.kept old_pair).at) thread.new.kept) }
+    ensures errors { ReportsCommitsTakingBlocks thread.old thread.new new_pair (rename_across_pairs_changes thread.old.kept old_pair old_id new_pair new_id name.now) result }
+    ensures device { WritesTwoPairsAndTwoFreeBlocks thread.old.kept (pair_written_by_second_move_commit thread.old.kept old_pair first) new_pair thread.new.kept }
+    ensures survives { (rename : CanRenameAcrossPairs thread.old.kept old_pair old_id first new_pair new_id name.now) → SurvivesStopsSince thread.old.kept.disk thread.old.kept.history thread.new.kept.history
+        (tree_on_disk thread.old.kept.disk thread.old.kept.pairs) (tree_with_moved_entry thread.old.kept rename.old.path rename.old.name rename.path name.now) }
 {
-    let goes = goes_with_slot(thread, old_pair, first);
-    let copy = copy_at(alloc, thread, old_pair, old_id)?;
-    let state = delta_with_move(thread, old_pair, old_id, new_pair, false);
+    let goes = is_pair_dropped_with_only_slot(thread, old_pair, first);
+    let copy = copy_slot_of_pair(alloc, thread, old_pair, old_id)?;
+    let state = delta_that_sets_move(thread, old_pair, old_id, new_pair, false);
     let changes = changes_of(alloc, state, new_id, name, &copy)?;
-    put_and_end(alloc, thread, old_pair, old_id, goes, new_pair, &changes)?;
+    put_changes_and_end_move(alloc, thread, old_pair, old_id, goes, new_pair, &changes)?;
     Ok(())
 }
 
@@ -254,18 +254,18 @@ fn changes_onto<'a>(
     name: &'a [u8],
     copy: &'a SlotCopy,
 ) -> Result<Vec<Change<'a>>, AllocError>
-    ensures { IfOk result (λ changes. changes_view changes.items ≡ PutMove (move_view state) ∷ Delete id ∷ slot_changes id name.now (slot_copy_view copy.now)) }
+    ensures { IfOk result (λ changes. changes_view changes.items ≡ PutMove (move_view state) ∷ Delete id ∷ slot_creation_changes id name.now (slot_copy_view copy.now)) }
 {
     let mut changes = Vec::new(alloc);
     changes.push(Change::Move { state })?;
     changes.push(Change::Delete { id })?;
-    push_slot(&mut changes, id, name, copy)?;
+    push_slot_creation_changes(&mut changes, id, name, copy)?;
     Ok(changes)
 }
 
 // Puts the entry at an id of a pair in place of the one at an id of another pair, as
 // `rename_across` does. The sync bit is set with it, or not.
-fn put_onto<D: BlockDevice>(
+fn replace_entry_across<D: BlockDevice>(
     alloc: Global,
     thread: &mut Thread<D>,
     old_pair: usize,
@@ -277,18 +277,18 @@ fn put_onto<D: BlockDevice>(
     sync: bool,
 ) -> Result<(), Error>
     requires works { thread.old.failed ≡ false }
-    requires can { CanPutOnto thread.old.kept sync old_pair old_id first new_pair new_id name.now }
-    ensures moved { OnOk result (IsMovedOnto thread.old.kept sync old_pair old_id first new_pair new_id name.now thread.new.kept) }
-    ensures errors { ReportsInSteps thread.old thread.new new_pair (onto_changes sync thread.old.kept old_pair old_id new_pair new_id name.now) result }
-    ensures device { WritesInTwo thread.old.kept (left_at thread.old.kept old_pair first) new_pair thread.new.kept }
-    ensures survives { (rename : CanPutOnto thread.old.kept sync old_pair old_id first new_pair new_id name.now) → Survives thread.old.kept.disk thread.old.kept.history thread.new.kept.history
-        (tree_in thread.old.kept.disk thread.old.kept.pairs) (with_moved thread.old.kept rename.old.path rename.old.name rename.path name.now) }
+    requires can { CanReplaceEntryAcrossPairs thread.old.kept sync old_pair old_id first new_pair new_id name.now }
+    ensures moved { OnOk result (IsEntryReplacedAcrossPairs thread.old.kept sync old_pair old_id first new_pair new_id name.now thread.new.kept) }
+    ensures errors { ReportsCommitsTakingBlocks thread.old thread.new new_pair (replace_entry_across_pairs_changes sync thread.old.kept old_pair old_id new_pair new_id name.now) result }
+    ensures device { WritesTwoPairsAndTwoFreeBlocks thread.old.kept (pair_written_by_second_move_commit thread.old.kept old_pair first) new_pair thread.new.kept }
+    ensures survives { (rename : CanReplaceEntryAcrossPairs thread.old.kept sync old_pair old_id first new_pair new_id name.now) → SurvivesStopsSince thread.old.kept.disk thread.old.kept.history thread.new.kept.history
+        (tree_on_disk thread.old.kept.disk thread.old.kept.pairs) (tree_with_moved_entry thread.old.kept rename.old.path rename.old.name rename.path name.now) }
 {
-    let goes = goes_with_slot(thread, old_pair, first);
-    let copy = copy_at(alloc, thread, old_pair, old_id)?;
-    let state = delta_with_move(thread, old_pair, old_id, new_pair, sync);
+    let goes = is_pair_dropped_with_only_slot(thread, old_pair, first);
+    let copy = copy_slot_of_pair(alloc, thread, old_pair, old_id)?;
+    let state = delta_that_sets_move(thread, old_pair, old_id, new_pair, sync);
     let changes = changes_onto(alloc, state, new_id, name, &copy)?;
-    put_and_end(alloc, thread, old_pair, old_id, goes, new_pair, &changes)?;
+    put_changes_and_end_move(alloc, thread, old_pair, old_id, goes, new_pair, &changes)?;
     Ok(())
 }
 
@@ -309,16 +309,16 @@ pub fn rename_onto_file_across<D: BlockDevice>(
     name: &[u8],
 ) -> Result<(), Error>
     requires works { thread.old.failed ≡ false }
-    requires can { CanReplaceAcross thread.old.kept old_pair old_id first new_pair new_id name.now }
-    ensures replaced { OnOk result ((rename : CanReplaceAcross thread.old.kept old_pair old_id first new_pair new_id name.now)
-        → IsReplacedAcross thread.old.kept thread.new.kept rename.old.path rename.old.name rename.path name.now rename.target.stands.slot.struct) }
-    ensures alters { OnOk result (AltersBut thread.old.kept (four_of (pair_in thread.old.kept old_pair).at (pair_in thread.old.kept new_pair).at) thread.new.kept) }
-    ensures errors { ReportsInSteps thread.old thread.new new_pair (replacing_changes thread.old.kept old_pair old_id new_pair new_id name.now) result }
-    ensures device { WritesInTwo thread.old.kept (left_at thread.old.kept old_pair first) new_pair thread.new.kept }
-    ensures survives { (rename : CanReplaceAcross thread.old.kept old_pair old_id first new_pair new_id name.now) → Survives thread.old.kept.disk thread.old.kept.history thread.new.kept.history
-        (tree_in thread.old.kept.disk thread.old.kept.pairs) (with_moved thread.old.kept rename.old.path rename.old.name rename.path name.now) }
+    requires can { CanReplaceFileAcrossPairs thread.old.kept old_pair old_id first new_pair new_id name.now }
+    ensures replaced { OnOk result ((rename : CanReplaceFileAcrossPairs thread.old.kept old_pair old_id first new_pair new_id name.now)
+        → IsFileReplacedAcrossPairs thread.old.kept thread.new.kept rename.old.path rename.old.name rename.path name.now rename.target.stands.slot.struct) }
+    ensures alters { OnOk result (ChangesOnlyGivenAlteredOrFreeBlocks thread.old.kept (blocks_of_two_addresses (kept_pair_at_index thread.old.kept old_pair).at (kept_pair_at_index thread.old.kept new_pair).at) thread.new.kept) }
+    ensures errors { ReportsCommitsTakingBlocks thread.old thread.new new_pair (replace_file_across_pairs_changes thread.old.kept old_pair old_id new_pair new_id name.now) result }
+    ensures device { WritesTwoPairsAndTwoFreeBlocks thread.old.kept (pair_written_by_second_move_commit thread.old.kept old_pair first) new_pair thread.new.kept }
+    ensures survives { (rename : CanReplaceFileAcrossPairs thread.old.kept old_pair old_id first new_pair new_id name.now) → SurvivesStopsSince thread.old.kept.disk thread.old.kept.history thread.new.kept.history
+        (tree_on_disk thread.old.kept.disk thread.old.kept.pairs) (tree_with_moved_entry thread.old.kept rename.old.path rename.old.name rename.path name.now) }
 {
-    put_onto(
+    replace_entry_across(
         alloc, thread, old_pair, old_id, first, new_pair, new_id, name, false,
     )
 }
@@ -342,17 +342,17 @@ pub fn rename_onto_directory_across<D: BlockDevice>(
     gone: usize,
 ) -> Result<(), Error>
     requires works { thread.old.failed ≡ false }
-    requires can { CanReplaceDirectory thread.old.kept old_pair old_id first new_pair new_id name.now gone }
-    ensures renamed { OnOk result ((rename : CanReplaceDirectory thread.old.kept old_pair old_id first new_pair new_id name.now gone)
-        → IsRenamedAcross thread.old.kept thread.new.kept rename.old.path rename.old.name rename.path name.now) }
-    ensures alters { OnOk result (AltersBut thread.old.kept (four_of (pair_in thread.old.kept old_pair).at (pair_in thread.old.kept new_pair).at) thread.new.kept) }
-    ensures errors { ReportsInSteps thread.old thread.new new_pair (onto_changes true thread.old.kept old_pair old_id new_pair new_id name.now) result }
-    ensures device { WritesInPairs thread.old.kept thread.new.kept }
-    ensures survives { (rename : CanReplaceDirectory thread.old.kept old_pair old_id first new_pair new_id name.now gone) → Survives thread.old.kept.disk thread.old.kept.history thread.new.kept.history
-        (tree_in thread.old.kept.disk thread.old.kept.pairs) (with_moved thread.old.kept rename.old.path rename.old.name rename.path name.now) }
+    requires can { CanReplaceDirectoryAcrossPairs thread.old.kept old_pair old_id first new_pair new_id name.now gone }
+    ensures renamed { OnOk result ((rename : CanReplaceDirectoryAcrossPairs thread.old.kept old_pair old_id first new_pair new_id name.now gone)
+        → IsEntryRenamedAcrossPairs thread.old.kept thread.new.kept rename.old.path rename.old.name rename.path name.now) }
+    ensures alters { OnOk result (ChangesOnlyGivenAlteredOrFreeBlocks thread.old.kept (blocks_of_two_addresses (kept_pair_at_index thread.old.kept old_pair).at (kept_pair_at_index thread.old.kept new_pair).at) thread.new.kept) }
+    ensures errors { ReportsCommitsTakingBlocks thread.old thread.new new_pair (replace_entry_across_pairs_changes true thread.old.kept old_pair old_id new_pair new_id name.now) result }
+    ensures device { WritesPairsAndTwoFreeBlocks thread.old.kept thread.new.kept }
+    ensures survives { (rename : CanReplaceDirectoryAcrossPairs thread.old.kept old_pair old_id first new_pair new_id name.now gone) → SurvivesStopsSince thread.old.kept.disk thread.old.kept.history thread.new.kept.history
+        (tree_on_disk thread.old.kept.disk thread.old.kept.pairs) (tree_with_moved_entry thread.old.kept rename.old.path rename.old.name rename.path name.now) }
 {
     let at = thread.address(gone);
-    put_onto(
+    replace_entry_across(
         alloc, thread, old_pair, old_id, first, new_pair, new_id, name, true,
     )?;
     // Other pairs may have been put in or dropped before it in the thread.

@@ -3,17 +3,17 @@
 ghost use Rattle.std.specs.Prelude.{◌≡◌, ◌<◌, ◌^◌, ℕ, false, is_err, length, Err, OnOk};
 ghost use Rattle.lfs_device.specs.Bytes.{HasBytes};
 ghost use Rattle.lfs_model.specs.Disk.{block_count};
-ghost use Rattle.lfs_model.specs.PowerLoss.{IsLeftByStop, Survives};
-ghost use Rattle.lfs_model.specs.Slots.{address_of};
-ghost use Rattle.lfs_model.specs.Shown.{tree_in};
+ghost use Rattle.lfs_model.specs.PowerLoss.{ShowsTreeBeforeOrAfter, SurvivesStopsSince};
+ghost use Rattle.lfs_model.specs.Slots.{pair_address_of_array};
+ghost use Rattle.lfs_model.specs.Shown.{tree_on_disk};
 ghost use Rattle.lfs_model.specs.Steps.{turned};
 ghost use Rattle.lfs_tag.specs.FieldsView.{move_view};
-ghost use Rattle.lfs_thread.specs.Device.{StopsLeave, four_of, two_of};
-ghost use Rattle.lfs_thread.specs.Steps.{CanJoin, HasReportedBeside, IsThreadedIn, IsLeftByJoin, Writes, pair_in};
-ghost use Rattle.lfs_operations.specs.Changing.{CanPut, IsLeftByPut, IsPut, ReportsPut, WritesIn};
-ghost use Rattle.lfs_operations.specs.Making.{AltersUpTo, CanMakeAt, FitsJoined, IsLastFrom, IsDirectoryMade, ReportsOfMaking, WritesUpTo, enter_changes, name_directory_changes, thread_in_changes, with_directory};
+ghost use Rattle.lfs_thread.specs.Device.{StopsAfterCleanErasesLeave, blocks_of_two_addresses, blocks_of_address};
+ghost use Rattle.lfs_thread.specs.Steps.{CanThreadInFreshPair, HasReportedIoOrNoMemoryBesideBlocks, IsFreshPairThreadedIn, LeavesPairOldOrThreadedIn, ThreadChangesOnlyTheseBlocks, kept_pair_at_index};
+ghost use Rattle.lfs_operations.specs.Changing.{CanChangeOrSplitPair, IsLeftByStoppedChangeOrSplit, IsPairChangedOrSplit, ReportsChangeOrSplit, WritesPairAndTwoFreeBlocks};
+ghost use Rattle.lfs_operations.specs.Making.{AltersPairAndLastPair, CanMakeDirectoryAt, FitsPairWithTailToNewPair, IsLastPairOfHardTailRun, IsDirectoryMade, ReportsMakingOfDirectory, WritesPairAndLastPair, directory_entry_changes, directory_naming_changes, changes_threading_new_pair, tree_with_new_directory};
 
-use crate::changes::{put, take_two};
+use crate::changes::{put, take_two_free_blocks};
 use lfs_device::{BlockDevice, Error};
 use lfs_pair::Change;
 use lfs_tag::kinds::{DIRECTORY_NAME, DIRECTORY_STRUCT};
@@ -23,7 +23,7 @@ use std::alloc::Global;
 
 // What is known of any device, for the proof: its blocks hold bytes, and a block's number has 32
 // bits.
-fn know_device<D: BlockDevice>(thread: &Thread<D>)
+fn show_device_facts_to_proof<D: BlockDevice>(thread: &Thread<D>)
     ensures count { block_count thread.now.kept.disk < 2 ^ 32 }
     ensures bytes { HasBytes thread.now.kept.disk.blocks }
 {
@@ -32,10 +32,10 @@ fn know_device<D: BlockDevice>(thread: &Thread<D>)
 
 // Returns the number of a directory's last pair: the last one that hard tails lead to from the pair
 // at the index.
-fn last_from<D: BlockDevice>(thread: &Thread<D>, index: usize) -> usize
+fn last_pair_of_directory_from<D: BlockDevice>(thread: &Thread<D>, index: usize) -> usize
     requires works { thread.now.failed ≡ false }
     requires below { index < length thread.now.kept.pairs }
-    ensures { IsLastFrom thread.now.kept.pairs index result }
+    ensures { IsLastPairOfHardTailRun thread.now.kept.pairs index result }
 {
     let mut last = index;
     while let Some(next) = thread.next(last) {
@@ -59,20 +59,20 @@ fn turned(delta: &MoveState) -> MoveState
 
 // Puts a fresh pair without slots into the thread, after the last pair of a directory. No entry
 // names it yet, so the sync bit is set.
-fn thread_behind<D: BlockDevice>(
+fn thread_new_pair_behind<D: BlockDevice>(
     alloc: Global,
     thread: &mut Thread<D>,
     last: usize,
     fresh: [u32; 2],
 ) -> Result<(), Error>
     requires works { thread.old.failed ≡ false }
-    requires can { CanJoin thread.old.kept last (address_of fresh) (thread_in_changes thread.old.kept last (address_of fresh)) }
-    requires fits { FitsJoined thread.old.kept last (address_of fresh) }
-    ensures is_joined { OnOk result (IsThreadedIn thread.old.kept last (address_of fresh) (thread_in_changes thread.old.kept last (address_of fresh)) thread.new.kept) }
+    requires can { CanThreadInFreshPair thread.old.kept last (pair_address_of_array fresh) (changes_threading_new_pair thread.old.kept last (pair_address_of_array fresh)) }
+    requires fits { FitsPairWithTailToNewPair thread.old.kept last (pair_address_of_array fresh) }
+    ensures is_joined { OnOk result (IsFreshPairThreadedIn thread.old.kept last (pair_address_of_array fresh) (changes_threading_new_pair thread.old.kept last (pair_address_of_array fresh)) thread.new.kept) }
     ensures failed { thread.new.failed ≡ is_err result }
-    ensures errors { HasReportedBeside (two_of (address_of fresh)) thread.old.kept thread.new.kept result }
-    ensures device { Writes (four_of (pair_in thread.old.kept last).at (address_of fresh)) thread.old.kept thread.new.kept }
-    ensures stops { StopsLeave thread.old.kept.history thread.new.kept.history (IsLeftByJoin thread.old.kept last (address_of fresh) (thread_in_changes thread.old.kept last (address_of fresh))) }
+    ensures errors { HasReportedIoOrNoMemoryBesideBlocks (blocks_of_address (pair_address_of_array fresh)) thread.old.kept thread.new.kept result }
+    ensures device { ThreadChangesOnlyTheseBlocks (blocks_of_two_addresses (kept_pair_at_index thread.old.kept last).at (pair_address_of_array fresh)) thread.old.kept thread.new.kept }
+    ensures stops { StopsAfterCleanErasesLeave thread.old.kept.history thread.new.kept.history (LeavesPairOldOrThreadedIn thread.old.kept last (pair_address_of_array fresh) (changes_threading_new_pair thread.old.kept last (pair_address_of_array fresh))) }
 {
     let changes = [
         Change::Tail {
@@ -98,11 +98,11 @@ fn put_entry<'a, D: BlockDevice>(
     branch: &'a [u8],
 ) -> Result<(), Error>
     requires works { thread.old.failed ≡ false }
-    requires can { CanPut thread.old.kept pair (enter_changes thread.old.kept pair id name.now branch.now) }
-    ensures is_put { OnOk result (IsPut thread.old.kept pair (enter_changes thread.old.kept pair id name.now branch.now) thread.new.kept) }
-    ensures errors { ReportsPut thread.old thread.new pair (enter_changes thread.old.kept pair id name.now branch.now) result }
-    ensures device { WritesIn thread.old.kept pair thread.new.kept }
-    ensures stops { StopsLeave thread.old.kept.history thread.new.kept.history (IsLeftByPut thread.old.kept pair (enter_changes thread.old.kept pair id name.now branch.now)) }
+    requires can { CanChangeOrSplitPair thread.old.kept pair (directory_entry_changes thread.old.kept pair id name.now branch.now) }
+    ensures is_put { OnOk result (IsPairChangedOrSplit thread.old.kept pair (directory_entry_changes thread.old.kept pair id name.now branch.now) thread.new.kept) }
+    ensures errors { ReportsChangeOrSplit thread.old thread.new pair (directory_entry_changes thread.old.kept pair id name.now branch.now) result }
+    ensures device { WritesPairAndTwoFreeBlocks thread.old.kept pair thread.new.kept }
+    ensures stops { StopsAfterCleanErasesLeave thread.old.kept.history thread.new.kept.history (IsLeftByStoppedChangeOrSplit thread.old.kept pair (directory_entry_changes thread.old.kept pair id name.now branch.now)) }
 {
     let changes = [
         Change::Create {
@@ -124,7 +124,7 @@ fn put_entry<'a, D: BlockDevice>(
 }
 
 // Puts the entry of the directory that begins at an address into a pair, and clears the sync bit.
-fn name_directory<D: BlockDevice>(
+fn put_entry_of_new_directory<D: BlockDevice>(
     alloc: Global,
     thread: &mut Thread<D>,
     pair: usize,
@@ -133,11 +133,11 @@ fn name_directory<D: BlockDevice>(
     at: [u32; 2],
 ) -> Result<(), Error>
     requires works { thread.old.failed ≡ false }
-    requires can { CanPut thread.old.kept pair (name_directory_changes thread.old.kept pair id name.now (address_of at)) }
-    ensures is_put { OnOk result (IsPut thread.old.kept pair (name_directory_changes thread.old.kept pair id name.now (address_of at)) thread.new.kept) }
-    ensures errors { ReportsPut thread.old thread.new pair (name_directory_changes thread.old.kept pair id name.now (address_of at)) result }
-    ensures device { WritesIn thread.old.kept pair thread.new.kept }
-    ensures stops { StopsLeave thread.old.kept.history thread.new.kept.history (IsLeftByPut thread.old.kept pair (name_directory_changes thread.old.kept pair id name.now (address_of at))) }
+    requires can { CanChangeOrSplitPair thread.old.kept pair (directory_naming_changes thread.old.kept pair id name.now (pair_address_of_array at)) }
+    ensures is_put { OnOk result (IsPairChangedOrSplit thread.old.kept pair (directory_naming_changes thread.old.kept pair id name.now (pair_address_of_array at)) thread.new.kept) }
+    ensures errors { ReportsChangeOrSplit thread.old thread.new pair (directory_naming_changes thread.old.kept pair id name.now (pair_address_of_array at)) result }
+    ensures device { WritesPairAndTwoFreeBlocks thread.old.kept pair thread.new.kept }
+    ensures stops { StopsAfterCleanErasesLeave thread.old.kept.history thread.new.kept.history (IsLeftByStoppedChangeOrSplit thread.old.kept pair (directory_naming_changes thread.old.kept pair id name.now (pair_address_of_array at))) }
 {
     let branch = pair_bytes(at);
     put_entry(alloc, thread, pair, id, name, &branch)?;
@@ -161,23 +161,23 @@ pub fn make_directory<D: BlockDevice>(
     name: &[u8],
 ) -> Result<(), Error>
     requires works { thread.old.failed ≡ false }
-    requires can { CanMakeAt thread.old.kept pair id name.now }
-    ensures made { OnOk result ((can : CanMakeAt thread.old.kept pair id name.now) → IsDirectoryMade thread.old.kept thread.new.kept can.path name.now) }
-    ensures alters { OnOk result (AltersUpTo thread.old.kept pair thread.new.kept) }
-    ensures errors { ReportsOfMaking thread.old thread.new result }
-    ensures device { WritesUpTo thread.old.kept pair thread.new.kept }
-    ensures stands { result ≡ Err Error.NoMemory → (can : CanMakeAt thread.old.kept pair id name.now) → IsLeftByStop thread.new.kept.disk
-        (tree_in thread.old.kept.disk thread.old.kept.pairs) (with_directory thread.old.kept can.path name.now) }
-    ensures survives { (can : CanMakeAt thread.old.kept pair id name.now) → Survives thread.old.kept.disk thread.old.kept.history thread.new.kept.history
-        (tree_in thread.old.kept.disk thread.old.kept.pairs) (with_directory thread.old.kept can.path name.now) }
+    requires can { CanMakeDirectoryAt thread.old.kept pair id name.now }
+    ensures made { OnOk result ((can : CanMakeDirectoryAt thread.old.kept pair id name.now) → IsDirectoryMade thread.old.kept thread.new.kept can.path name.now) }
+    ensures alters { OnOk result (AltersPairAndLastPair thread.old.kept pair thread.new.kept) }
+    ensures errors { ReportsMakingOfDirectory thread.old thread.new result }
+    ensures device { WritesPairAndLastPair thread.old.kept pair thread.new.kept }
+    ensures stands { result ≡ Err Error.NoMemory → (can : CanMakeDirectoryAt thread.old.kept pair id name.now) → ShowsTreeBeforeOrAfter thread.new.kept.disk
+        (tree_on_disk thread.old.kept.disk thread.old.kept.pairs) (tree_with_new_directory thread.old.kept can.path name.now) }
+    ensures survives { (can : CanMakeDirectoryAt thread.old.kept pair id name.now) → SurvivesStopsSince thread.old.kept.disk thread.old.kept.history thread.new.kept.history
+        (tree_on_disk thread.old.kept.disk thread.old.kept.pairs) (tree_with_new_directory thread.old.kept can.path name.now) }
 {
-    let last = last_from(thread, pair);
-    know_device(thread);
-    let Some(fresh) = take_two(thread) else {
+    let last = last_pair_of_directory_from(thread, pair);
+    show_device_facts_to_proof(thread);
+    let Some(fresh) = take_two_free_blocks(thread) else {
         return Err(Error::NoSpace);
     };
-    thread_behind(alloc, thread, last, fresh)?;
-    know_device(thread);
-    name_directory(alloc, thread, pair, id, name, fresh)?;
+    thread_new_pair_behind(alloc, thread, last, fresh)?;
+    show_device_facts_to_proof(thread);
+    put_entry_of_new_directory(alloc, thread, pair, id, name, fresh)?;
     Ok(())
 }

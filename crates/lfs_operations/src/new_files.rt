@@ -2,10 +2,10 @@
 
 ghost use Rattle.std.specs.Prelude.{◌≡◌, ◌≤◌, ◌+◌, false, OnOk};
 ghost use Rattle.lfs_model.specs.History.{reads};
-ghost use Rattle.lfs_model.specs.PowerLoss.{Survives};
-ghost use Rattle.lfs_model.specs.Shown.{tree_in};
-ghost use Rattle.lfs_operations.specs.Changing.{AltersPair, ReportsPut, WritesIn};
-ghost use Rattle.lfs_operations.specs.Creating.{CanCreate, IsCreated, file_changes, with_file};
+ghost use Rattle.lfs_model.specs.PowerLoss.{SurvivesStopsSince};
+ghost use Rattle.lfs_model.specs.Shown.{tree_on_disk};
+ghost use Rattle.lfs_operations.specs.Changing.{AltersPair, ReportsChangeOrSplit, WritesPairAndTwoFreeBlocks};
+ghost use Rattle.lfs_operations.specs.Creating.{CanCreateFileInPair, IsFileCreated, file_creation_changes, tree_with_new_file};
 
 use crate::changes::put;
 use lfs_device::{BlockDevice, Error};
@@ -30,14 +30,14 @@ pub fn create<D: BlockDevice>(
     name: &[u8],
 ) -> Result<(), Error>
     requires works { thread.old.failed ≡ false }
-    requires can { CanCreate thread.old.kept pair id name.now }
-    ensures created { OnOk result ((can : CanCreate thread.old.kept pair id name.now) → IsCreated thread.old.kept thread.new.kept can.path name.now) }
+    requires can { CanCreateFileInPair thread.old.kept pair id name.now }
+    ensures created { OnOk result ((can : CanCreateFileInPair thread.old.kept pair id name.now) → IsFileCreated thread.old.kept thread.new.kept can.path name.now) }
     ensures alters { OnOk result (AltersPair thread.old.kept pair thread.new.kept) }
-    ensures errors { ReportsPut thread.old thread.new pair (file_changes id name.now) result }
-    ensures device { WritesIn thread.old.kept pair thread.new.kept }
+    ensures errors { ReportsChangeOrSplit thread.old thread.new pair (file_creation_changes id name.now) result }
+    ensures device { WritesPairAndTwoFreeBlocks thread.old.kept pair thread.new.kept }
     ensures few { reads thread.new.kept.history ≤ reads thread.old.kept.history + 6 }
-    ensures survives { (can : CanCreate thread.old.kept pair id name.now) → Survives thread.old.kept.disk thread.old.kept.history thread.new.kept.history
-        (tree_in thread.old.kept.disk thread.old.kept.pairs) (with_file thread.old.kept can.path name.now) }
+    ensures survives { (can : CanCreateFileInPair thread.old.kept pair id name.now) → SurvivesStopsSince thread.old.kept.disk thread.old.kept.history thread.new.kept.history
+        (tree_on_disk thread.old.kept.disk thread.old.kept.pairs) (tree_with_new_file thread.old.kept can.path name.now) }
 {
     let changes = [
         Change::Create {

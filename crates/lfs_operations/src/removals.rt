@@ -1,13 +1,13 @@
 // Files that are removed.
 
 ghost use Rattle.std.specs.Prelude.{◌≡◌, ◌<◌, ◌-◌, length, false, true, OnOk};
-ghost use Rattle.lfs_model.specs.PowerLoss.{Survives};
-ghost use Rattle.lfs_model.specs.Shown.{tree_in};
-ghost use Rattle.lfs_thread.specs.Device.{two_of};
-ghost use Rattle.lfs_thread.specs.Steps.{Writes};
+ghost use Rattle.lfs_model.specs.PowerLoss.{SurvivesStopsSince};
+ghost use Rattle.lfs_model.specs.Shown.{tree_on_disk};
+ghost use Rattle.lfs_thread.specs.Device.{blocks_of_address};
+ghost use Rattle.lfs_thread.specs.Steps.{ThreadChangesOnlyTheseBlocks};
 ghost use Rattle.lfs_operations.specs.Changing.{AltersPair};
-ghost use Rattle.lfs_operations.specs.Editing.{slot_at};
-ghost use Rattle.lfs_operations.specs.Removing.{CanRemove, IsRemoved, ReportsOfCalls, drops_pair, without_file, written_at};
+ghost use Rattle.lfs_operations.specs.Editing.{slot_of_editable_entry};
+ghost use Rattle.lfs_operations.specs.Removing.{CanRemoveFileInPair, IsFileRemoved, ReportsCommitTakingNoBlock, is_pair_dropped_with_slot, tree_without_named_entry, pair_address_written_by_removal};
 
 use crate::drops::drop_at;
 use lfs_device::{BlockDevice, Error};
@@ -18,10 +18,14 @@ use std::alloc::Global;
 
 // Returns whether a pair is dropped with its slot: it has no other slot, and isn't the first of its
 // directory.
-pub(crate) fn goes_with_slot<D: BlockDevice>(thread: &Thread<D>, pair: usize, first: usize) -> bool
+pub(crate) fn is_pair_dropped_with_only_slot<D: BlockDevice>(
+    thread: &Thread<D>,
+    pair: usize,
+    first: usize,
+) -> bool
     requires works { thread.now.failed ≡ false }
     requires below { pair < length thread.now.kept.pairs }
-    ensures { result ≡ drops_pair thread.now.kept pair first }
+    ensures { result ≡ is_pair_dropped_with_slot thread.now.kept pair first }
 {
     pair != first && thread.slot_count(pair) == 1
 }
@@ -41,15 +45,15 @@ pub fn remove_file<D: BlockDevice>(
     first: usize,
 ) -> Result<(), Error>
     requires works { thread.old.failed ≡ false }
-    requires can { CanRemove thread.old.kept pair id first }
-    ensures is_removed { OnOk result ((take : CanRemove thread.old.kept pair id first) → IsRemoved thread.old.kept thread.new.kept take.can.path take.can.name (slot_at take.can).struct) }
-    ensures alters { OnOk result (drops_pair thread.old.kept pair first ≡ true → AltersPair thread.old.kept (pair - 1) thread.new.kept) }
-    ensures errors { ReportsOfCalls thread.old thread.new result }
-    ensures device { Writes (two_of (written_at thread.old.kept pair first)) thread.old.kept thread.new.kept }
-    ensures survives { (take : CanRemove thread.old.kept pair id first) → Survives thread.old.kept.disk thread.old.kept.history thread.new.kept.history
-        (tree_in thread.old.kept.disk thread.old.kept.pairs) (without_file thread.old.kept take.can.path take.can.name) }
+    requires can { CanRemoveFileInPair thread.old.kept pair id first }
+    ensures is_removed { OnOk result ((take : CanRemoveFileInPair thread.old.kept pair id first) → IsFileRemoved thread.old.kept thread.new.kept take.can.path take.can.name (slot_of_editable_entry take.can).struct) }
+    ensures alters { OnOk result (is_pair_dropped_with_slot thread.old.kept pair first ≡ true → AltersPair thread.old.kept (pair - 1) thread.new.kept) }
+    ensures errors { ReportsCommitTakingNoBlock thread.old thread.new result }
+    ensures device { ThreadChangesOnlyTheseBlocks (blocks_of_address (pair_address_written_by_removal thread.old.kept pair first)) thread.old.kept thread.new.kept }
+    ensures survives { (take : CanRemoveFileInPair thread.old.kept pair id first) → SurvivesStopsSince thread.old.kept.disk thread.old.kept.history thread.new.kept.history
+        (tree_on_disk thread.old.kept.disk thread.old.kept.pairs) (tree_without_named_entry thread.old.kept take.can.path take.can.name) }
 {
-    if goes_with_slot(thread, pair, first) {
+    if is_pair_dropped_with_only_slot(thread, pair, first) {
         drop_at(alloc, thread, pair, &MoveState::none())?;
         return Ok(());
     }

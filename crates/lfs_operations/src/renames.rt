@@ -2,16 +2,16 @@
 
 ghost use Rattle.std.specs.Prelude.{◌≡◌, ◌∷◌, IfOk, OnOk, false};
 ghost use Rattle.lfs_model.specs.Changes.{Delete};
-ghost use Rattle.lfs_model.specs.PowerLoss.{Survives};
-ghost use Rattle.lfs_model.specs.Shown.{tree_in};
+ghost use Rattle.lfs_model.specs.PowerLoss.{SurvivesStopsSince};
+ghost use Rattle.lfs_model.specs.Shown.{tree_on_disk};
 ghost use Rattle.lfs_pair.specs.ChangeView.{changes_view};
-ghost use Rattle.lfs_operations.specs.Changing.{WritesIn};
-ghost use Rattle.lfs_operations.specs.Renaming.{CanRename, CanRenameOnto, IsRenamed, IsRenamedOnto, ReportsMove, place_without, rename_changes, rename_onto_changes, with_renamed};
+ghost use Rattle.lfs_operations.specs.Changing.{WritesPairAndTwoFreeBlocks};
+ghost use Rattle.lfs_operations.specs.Renaming.{CanRenameWithinPair, CanRenameOntoFileInPair, IsEntryRenamedInPair, IsEntryRenamedOntoFileInPair, ReportsSlotReadThenChangeOrSplit, id_after_slot_removal, rename_within_pair_changes, rename_onto_file_in_pair_changes, tree_with_renamed_entry};
 ghost use Rattle.lfs_operations.specs.RenamingView.{slot_copy_view};
-ghost use Rattle.lfs_operations.specs.RenamingSlots.{slot_changes};
+ghost use Rattle.lfs_operations.specs.RenamingSlots.{slot_creation_changes};
 
 use crate::changes::put;
-use crate::slot_copies::{SlotCopy, copy_at, push_slot};
+use crate::slot_copies::{SlotCopy, copy_slot_of_pair, push_slot_creation_changes};
 use lfs_device::{BlockDevice, Error};
 use lfs_pair::Change;
 use lfs_thread::Thread;
@@ -19,7 +19,7 @@ use std::alloc::{AllocError, Global};
 
 // Returns a place among slots after the slot at an id was removed.
 pub(crate) fn place_without(id: u16, place: u16) -> u16
-    ensures { result ≡ place_without id place }
+    ensures { result ≡ id_after_slot_removal id place }
 {
     if id < place { place - 1 } else { place }
 }
@@ -32,11 +32,11 @@ fn changes_of<'a>(
     name: &'a [u8],
     copy: &'a SlotCopy,
 ) -> Result<Vec<Change<'a>>, AllocError>
-    ensures { IfOk result (λ changes. changes_view changes.items ≡ Delete id ∷ slot_changes (place_without id place) name.now (slot_copy_view copy.now)) }
+    ensures { IfOk result (λ changes. changes_view changes.items ≡ Delete id ∷ slot_creation_changes (id_after_slot_removal id place) name.now (slot_copy_view copy.now)) }
 {
     let mut changes = Vec::new(alloc);
     changes.push(Change::Delete { id })?;
-    push_slot(&mut changes, place_without(id, place), name, copy)?;
+    push_slot_creation_changes(&mut changes, place_without(id, place), name, copy)?;
     Ok(changes)
 }
 
@@ -59,14 +59,14 @@ pub fn rename<D: BlockDevice>(
     name: &[u8],
 ) -> Result<(), Error>
     requires works { thread.old.failed ≡ false }
-    requires can { CanRename thread.old.kept pair id place name.now }
-    ensures renamed { OnOk result ((rename : CanRename thread.old.kept pair id place name.now) → IsRenamed thread.old.kept thread.new.kept rename.can.path rename.can.name name.now) }
-    ensures errors { ReportsMove thread.old thread.new pair (rename_changes thread.old.kept pair id place name.now) result }
-    ensures device { WritesIn thread.old.kept pair thread.new.kept }
-    ensures survives { (rename : CanRename thread.old.kept pair id place name.now) → Survives thread.old.kept.disk thread.old.kept.history thread.new.kept.history
-        (tree_in thread.old.kept.disk thread.old.kept.pairs) (with_renamed thread.old.kept rename.can.path rename.can.name name.now) }
+    requires can { CanRenameWithinPair thread.old.kept pair id place name.now }
+    ensures renamed { OnOk result ((rename : CanRenameWithinPair thread.old.kept pair id place name.now) → IsEntryRenamedInPair thread.old.kept thread.new.kept rename.can.path rename.can.name name.now) }
+    ensures errors { ReportsSlotReadThenChangeOrSplit thread.old thread.new pair (rename_within_pair_changes thread.old.kept pair id place name.now) result }
+    ensures device { WritesPairAndTwoFreeBlocks thread.old.kept pair thread.new.kept }
+    ensures survives { (rename : CanRenameWithinPair thread.old.kept pair id place name.now) → SurvivesStopsSince thread.old.kept.disk thread.old.kept.history thread.new.kept.history
+        (tree_on_disk thread.old.kept.disk thread.old.kept.pairs) (tree_with_renamed_entry thread.old.kept rename.can.path rename.can.name name.now) }
 {
-    let copy = copy_at(alloc, thread, pair, id)?;
+    let copy = copy_slot_of_pair(alloc, thread, pair, id)?;
     let changes = changes_of(alloc, id, place, name, &copy)?;
     put(alloc, thread, pair, &changes)?;
     Ok(())
@@ -81,13 +81,13 @@ fn changes_onto<'a>(
     name: &'a [u8],
     copy: &'a SlotCopy,
 ) -> Result<Vec<Change<'a>>, AllocError>
-    ensures { IfOk result (λ changes. changes_view changes.items ≡ Delete id ∷ Delete (place_without id place) ∷ slot_changes (place_without id place) name.now (slot_copy_view copy.now)) }
+    ensures { IfOk result (λ changes. changes_view changes.items ≡ Delete id ∷ Delete (id_after_slot_removal id place) ∷ slot_creation_changes (id_after_slot_removal id place) name.now (slot_copy_view copy.now)) }
 {
     let place = place_without(id, place);
     let mut changes = Vec::new(alloc);
     changes.push(Change::Delete { id })?;
     changes.push(Change::Delete { id: place })?;
-    push_slot(&mut changes, place, name, copy)?;
+    push_slot_creation_changes(&mut changes, place, name, copy)?;
     Ok(changes)
 }
 
@@ -106,15 +106,15 @@ pub fn rename_onto_file<D: BlockDevice>(
     name: &[u8],
 ) -> Result<(), Error>
     requires works { thread.old.failed ≡ false }
-    requires can { CanRenameOnto thread.old.kept pair id place name.now }
-    ensures renamed { OnOk result ((rename : CanRenameOnto thread.old.kept pair id place name.now)
-        → IsRenamedOnto thread.old.kept thread.new.kept rename.can.path rename.can.name name.now rename.target.stands.slot.struct) }
-    ensures errors { ReportsMove thread.old thread.new pair (rename_onto_changes thread.old.kept pair id place name.now) result }
-    ensures device { WritesIn thread.old.kept pair thread.new.kept }
-    ensures survives { (rename : CanRenameOnto thread.old.kept pair id place name.now) → Survives thread.old.kept.disk thread.old.kept.history thread.new.kept.history
-        (tree_in thread.old.kept.disk thread.old.kept.pairs) (with_renamed thread.old.kept rename.can.path rename.can.name name.now) }
+    requires can { CanRenameOntoFileInPair thread.old.kept pair id place name.now }
+    ensures renamed { OnOk result ((rename : CanRenameOntoFileInPair thread.old.kept pair id place name.now)
+        → IsEntryRenamedOntoFileInPair thread.old.kept thread.new.kept rename.can.path rename.can.name name.now rename.target.stands.slot.struct) }
+    ensures errors { ReportsSlotReadThenChangeOrSplit thread.old thread.new pair (rename_onto_file_in_pair_changes thread.old.kept pair id place name.now) result }
+    ensures device { WritesPairAndTwoFreeBlocks thread.old.kept pair thread.new.kept }
+    ensures survives { (rename : CanRenameOntoFileInPair thread.old.kept pair id place name.now) → SurvivesStopsSince thread.old.kept.disk thread.old.kept.history thread.new.kept.history
+        (tree_on_disk thread.old.kept.disk thread.old.kept.pairs) (tree_with_renamed_entry thread.old.kept rename.can.path rename.can.name name.now) }
 {
-    let copy = copy_at(alloc, thread, pair, id)?;
+    let copy = copy_slot_of_pair(alloc, thread, pair, id)?;
     let changes = changes_onto(alloc, id, place, name, &copy)?;
     put(alloc, thread, pair, &changes)?;
     Ok(())

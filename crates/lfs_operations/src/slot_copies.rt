@@ -1,15 +1,15 @@
 // Copies of slots, which are written elsewhere.
 
 ghost use Rattle.std.specs.Prelude.{◌≡◌, ◌<◌, ◌++◌, Some, IfErr, IfOk, IsSome, OnOk, false, length, map};
-ghost use Rattle.lfs_model.specs.Changes.{Change as ModelChange};
-ghost use Rattle.lfs_model.specs.Content.{RawContent, content_after_all, no_content, slot_of_id};
-ghost use Rattle.lfs_model.specs.Log.{log_entries};
+ghost use Rattle.lfs_model.specs.Changes.{ContentChange as ModelChange};
+ghost use Rattle.lfs_model.specs.Content.{RawContent, content_after_log_entries, empty_raw_content, slot_of_id};
+ghost use Rattle.lfs_model.specs.Log.{log_entries_of_block};
 ghost use Rattle.lfs_model.specs.Slots.{Content as ModelContent};
 ghost use Rattle.lfs_pair.specs.ChangeView.{changes_view};
 ghost use Rattle.lfs_tag.specs.ContentView.{attribute_view, part_view, slot_view};
-ghost use Rattle.lfs_thread.specs.CachedLog.{IsBlockOf};
-ghost use Rattle.lfs_thread.specs.Steps.{HasReported, IsOnlyRead, pair_in};
-ghost use Rattle.lfs_operations.specs.RenamingSlots.{HasSlot, attribute_changes, parts_at, parts_of, slot_changes};
+ghost use Rattle.lfs_thread.specs.CachedLog.{IsLogBlockOfContent};
+ghost use Rattle.lfs_thread.specs.Steps.{HasReportedIoOrUnwrittenNoMemory, IsThreadOnlyRead, kept_pair_at_index};
+ghost use Rattle.lfs_operations.specs.RenamingSlots.{HasSlotOfId, put_attribute_changes, nameless_slot_at, nameless_slot_of, slot_creation_changes};
 ghost use Rattle.lfs_operations.specs.RenamingView.{attribute_copy_view, slot_copy_view, part_copy_view};
 
 use lfs_device::{BlockDevice, Error};
@@ -77,7 +77,7 @@ fn copy_attributes(
 fn copy_slot(alloc: Global, slot: &Slot<'_>) -> Result<SlotCopy, AllocError>
     requires named { IsSome slot.now.name }
     requires structured { IsSome slot.now.structure }
-    ensures { IfOk result (λ copy. slot_copy_view copy ≡ parts_of (slot_view slot.now)) }
+    ensures { IfOk result (λ copy. slot_copy_view copy ≡ nameless_slot_of (slot_view slot.now)) }
 {
     let name_kind = slot.name.unwrap().kind;
     let structure = copy_part(alloc, &slot.structure.unwrap())?;
@@ -90,9 +90,9 @@ fn copy_slot(alloc: Global, slot: &Slot<'_>) -> Result<SlotCopy, AllocError>
 }
 
 // Copies the slot at an id of a log.
-fn copy_in(alloc: Global, log: &Log<'_>, id: u16) -> Result<SlotCopy, Error>
-    requires { (content : ModelContent) × (IsBlockOf log.now content × (id < length content.slots)) }
-    ensures copied { (raw : RawContent) → content_after_all no_content (log_entries log.now) ≡ Some raw → IfOk result (λ copy. slot_copy_view copy ≡ parts_of (slot_of_id raw.slots id)) }
+fn copy_slot_of_log(alloc: Global, log: &Log<'_>, id: u16) -> Result<SlotCopy, Error>
+    requires { (content : ModelContent) × (IsLogBlockOfContent log.now content × (id < length content.slots)) }
+    ensures copied { (raw : RawContent) → content_after_log_entries empty_raw_content (log_entries_of_block log.now) ≡ Some raw → IfOk result (λ copy. slot_copy_view copy ≡ nameless_slot_of (slot_of_id raw.slots id)) }
     ensures errors { IfErr result (λ e. e ≡ Error.NoMemory) }
 {
     let content = Content::read(alloc, log)?;
@@ -101,32 +101,32 @@ fn copy_in(alloc: Global, log: &Log<'_>, id: u16) -> Result<SlotCopy, Error>
 }
 
 // Copies the slot at an id of a pair. After an error the thread works on, too.
-pub(crate) fn copy_at<D: BlockDevice>(
+pub(crate) fn copy_slot_of_pair<D: BlockDevice>(
     alloc: Global,
     thread: &mut Thread<D>,
     pair: usize,
     id: u16,
 ) -> Result<SlotCopy, Error>
     requires works { thread.old.failed ≡ false }
-    requires there { HasSlot thread.old.kept pair id }
-    ensures copied { IfOk result (λ copy. slot_copy_view copy ≡ parts_at thread.old.kept pair id) }
-    ensures only { IsOnlyRead thread.old.kept thread.new.kept }
+    requires there { HasSlotOfId thread.old.kept pair id }
+    ensures copied { IfOk result (λ copy. slot_copy_view copy ≡ nameless_slot_at thread.old.kept pair id) }
+    ensures only { IsThreadOnlyRead thread.old.kept thread.new.kept }
     ensures works { thread.new.failed ≡ false }
-    ensures errors { HasReported thread.old.kept thread.new.kept result }
+    ensures errors { HasReportedIoOrUnwrittenNoMemory thread.old.kept thread.new.kept result }
 {
     thread.load_pair(pair)?;
-    let copy = copy_in(alloc, &thread.lend(pair).unwrap(), id)?;
+    let copy = copy_slot_of_log(alloc, &thread.lend(pair).unwrap(), id)?;
     Ok(copy)
 }
 
 // Adds the changes that put in a copied slot at an id, under that name.
-pub(crate) fn push_slot<'a>(
+pub(crate) fn push_slot_creation_changes<'a>(
     changes: &mut Vec<Change<'a>>,
     id: u16,
     name: &'a [u8],
     copy: &'a SlotCopy,
 ) -> Result<(), AllocError>
-    ensures { OnOk result (changes_view changes.new.items ≡ changes_view changes.old.items ++ slot_changes id name.now (slot_copy_view copy.now)) }
+    ensures { OnOk result (changes_view changes.new.items ≡ changes_view changes.old.items ++ slot_creation_changes id name.now (slot_copy_view copy.now)) }
 {
     changes.push(Change::Create {
         id,
@@ -138,16 +138,16 @@ pub(crate) fn push_slot<'a>(
         kind: copy.structure.kind,
         bytes: &copy.structure.bytes,
     })?;
-    push_attributes(changes, id, &copy.attributes)?;
+    push_attribute_changes(changes, id, &copy.attributes)?;
     Ok(())
 }
 
-fn push_attributes<'a>(
+fn push_attribute_changes<'a>(
     changes: &mut Vec<Change<'a>>,
     id: u16,
     attributes: &'a [AttributeCopy],
 ) -> Result<(), AllocError>
-    ensures { OnOk result (changes_view changes.new.items ≡ changes_view changes.old.items ++ attribute_changes id (map attribute_copy_view attributes.now)) }
+    ensures { OnOk result (changes_view changes.new.items ≡ changes_view changes.old.items ++ put_attribute_changes id (map attribute_copy_view attributes.now)) }
 {
     for attribute in attributes {
         changes.push(Change::Attr {

@@ -2,10 +2,10 @@
 
 ghost use Rattle.std.specs.Prelude.{◌≡◌, ◌∷◌, [], false, OnOk};
 ghost use Rattle.lfs_model.specs.Changes.{PutStruct};
-ghost use Rattle.lfs_model.specs.PowerLoss.{Survives};
-ghost use Rattle.lfs_model.specs.Shown.{tree_in};
-ghost use Rattle.lfs_operations.specs.Changing.{ReportsPut, WritesIn};
-ghost use Rattle.lfs_operations.specs.Storing.{CanStore, IsStructSet, with_contents_at};
+ghost use Rattle.lfs_model.specs.PowerLoss.{SurvivesStopsSince};
+ghost use Rattle.lfs_model.specs.Shown.{tree_on_disk};
+ghost use Rattle.lfs_operations.specs.Changing.{ReportsChangeOrSplit, WritesPairAndTwoFreeBlocks};
+ghost use Rattle.lfs_operations.specs.Storing.{CanSetFileStruct, HasStoredContentsOfFile, tree_with_contents_at};
 
 use crate::changes::put;
 use lfs_device::{BlockDevice, Error};
@@ -30,13 +30,13 @@ pub fn set_struct<D: BlockDevice>(
     bytes: &[u8],
 ) -> Result<(), Error>
     requires works { thread.old.failed ≡ false }
-    requires can { CanStore thread.old.kept pair id kind bytes.now }
-    ensures is_stored { OnOk result ((store : CanStore thread.old.kept pair id kind bytes.now)
-        → IsStructSet thread.old.kept thread.new.kept store.can.path store.can.name store.contents store.gone store.come) }
-    ensures errors { ReportsPut thread.old thread.new pair (PutStruct id kind bytes.now ∷ []) result }
-    ensures device { WritesIn thread.old.kept pair thread.new.kept }
-    ensures survives { (store : CanStore thread.old.kept pair id kind bytes.now) → Survives thread.old.kept.disk thread.old.kept.history thread.new.kept.history
-        (tree_in thread.old.kept.disk thread.old.kept.pairs) (with_contents_at thread.old.kept store.can.path store.can.name store.contents) }
+    requires can { CanSetFileStruct thread.old.kept pair id kind bytes.now }
+    ensures is_stored { OnOk result ((store : CanSetFileStruct thread.old.kept pair id kind bytes.now)
+        → HasStoredContentsOfFile thread.old.kept thread.new.kept store.can.path store.can.name store.contents store.gone store.come) }
+    ensures errors { ReportsChangeOrSplit thread.old thread.new pair (PutStruct id kind bytes.now ∷ []) result }
+    ensures device { WritesPairAndTwoFreeBlocks thread.old.kept pair thread.new.kept }
+    ensures survives { (store : CanSetFileStruct thread.old.kept pair id kind bytes.now) → SurvivesStopsSince thread.old.kept.disk thread.old.kept.history thread.new.kept.history
+        (tree_on_disk thread.old.kept.disk thread.old.kept.pairs) (tree_with_contents_at thread.old.kept store.can.path store.can.name store.contents) }
 {
     let changes = [Change::Struct { id, kind, bytes }];
     put(alloc, thread, pair, &changes)?;

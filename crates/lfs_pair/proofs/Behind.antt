@@ -4,27 +4,27 @@ use Rattle.lfs_device.specs.declared.device.BlockDevice.{Ghosts}
 use Rattle.lfs_device.specs.declared.error.Error.{Error}
 use Rattle.lfs_device.specs.declared.geometry.Geometry.{Geometry}
 use Rattle.lfs_device.specs.Calls.{ReadsOnly}
-use Rattle.lfs_device.specs.Shown.{disk_of}
+use Rattle.lfs_device.specs.Shown.{disk_of_geometry_and_blocks}
 use Rattle.lfs_model.specs.Blocks.{Blocks}
 use Rattle.lfs_model.specs.Disk.{Disk}
-use Rattle.lfs_model.specs.Slots.{FitsPair}
-use Rattle.lfs_model.specs.WrittenContent.{FitsRaw}
-use Rattle.lfs_model.specs.History.{Event, EachSince, OnlyReads}
-use Rattle.lfs_model.specs.Changes.{Change}
-use Rattle.lfs_model.proofs.Histories.{EachSince-behind, erases-reads, programs-reads}
+use Rattle.lfs_model.specs.Slots.{IsContentFittingPair}
+use Rattle.lfs_model.specs.WrittenContent.{IsRawContentFittingPair}
+use Rattle.lfs_model.specs.History.{CallEvent, IsTrueOfEachCallSince, AreCallsSinceOnlyReads}
+use Rattle.lfs_model.specs.Changes.{ContentChange}
+use Rattle.lfs_model.proofs.Histories.{IsTrueOfEachCallSince-behind, erases-reads, programs-reads}
 use Rattle.lfs_pair.specs.declared.pair.Pair.{Pair}
-use Rattle.lfs_pair.specs.Pair.{address_in}
-use Rattle.lfs_pair.specs.Commit.{Commits, CommitFails, RefusesCommit, made_at}
-use Rattle.lfs_pair.specs.Fresh.{ClearsLogs}
+use Rattle.lfs_pair.specs.Pair.{address_of_header}
+use Rattle.lfs_pair.specs.Commit.{Commits, CommitFails, RefusesCommit, pair_content_after_changes}
+use Rattle.lfs_pair.specs.Fresh.{WritesBlocksAndClearsOne}
 use Rattle.lfs_pair.specs.Split.{Splits}
 use Rattle.lfs_pair.proofs.Calls.{reads_none, reads_trans}
 use Rattle.lfs_pair.proofs.Changed.{some_same}
 use Rattle.lfs_model.proofs.Completed.{fits_raw}
-use Rattle.lfs_model.specs.LoggedContent.{IsLogged}
-use Rattle.lfs_model.specs.Content.{RawContent, completed}
+use Rattle.lfs_model.specs.LoggedContent.{IsWellFormedRawContent}
+use Rattle.lfs_model.specs.Content.{RawContent, content_if_slots_are_complete}
 
 -- a commit, where its disk is known by another name
-pub commits_behind : {disk old new : Disk} {blocks : Blocks} {before mid history : List Event} {changes : List Change} {was pair : Pair} → disk ≡ old → OnlyReads blocks before mid
+pub commits_behind : {disk old new : Disk} {blocks : Blocks} {before mid history : List CallEvent} {changes : List ContentChange} {was pair : Pair} → disk ≡ old → AreCallsSinceOnlyReads blocks before mid
     → Commits disk mid changes was new history pair → Commits old before changes was new history pair
 commits_behind {disk = disk} {new = new} {before = before} {mid = mid} {history = history} {changes = changes} {was = was} {pair = pair} same reads c =
     subst (λ d. Commits d before changes was new history pair) same (record {
@@ -54,10 +54,10 @@ commits_behind {disk = disk} {new = new} {before = before} {mid = mid} {history 
       };
     })
 
-pub full_behind : {D : Type 0} {g : Ghosts D} {changes : List Change} {old mid new : D} {was now : Pair} → ReadsOnly g old mid → RefusesCommit g changes mid new was now → RefusesCommit g changes old new was now
+pub full_behind : {D : Type 0} {g : Ghosts D} {changes : List ContentChange} {old mid new : D} {was now : Pair} → ReadsOnly g old mid → RefusesCommit g changes mid new was now → RefusesCommit g changes old new was now
 full_behind {g = g} {changes = changes} {was = was} reads is = record {
-  full = λ c made fits. is.full c (ap₂ (λ k b. made_at (disk_of k b) (address_in was) changes) reads.geometry reads.same ∙ made) (subst (λ (k : Geometry). FitsRaw k.block_size k.page c) (sym reads.geometry) fits);
-  completed = λ c d made whole fits. is.completed c d (ap₂ (λ k b. made_at (disk_of k b) (address_in was) changes) reads.geometry reads.same ∙ made) whole (subst (λ (k : Geometry). FitsPair k.block_size k.page d) (sym reads.geometry) fits);
+  full = λ c made fits. is.full c (ap₂ (λ k b. pair_content_after_changes (disk_of_geometry_and_blocks k b) (address_of_header was) changes) reads.geometry reads.same ∙ made) (subst (λ (k : Geometry). IsRawContentFittingPair k.block_size k.page c) (sym reads.geometry) fits);
+  completed = λ c d made whole fits. is.completed c d (ap₂ (λ k b. pair_content_after_changes (disk_of_geometry_and_blocks k b) (address_of_header was) changes) reads.geometry reads.same ∙ made) whole (subst (λ (k : Geometry). IsContentFittingPair k.block_size k.page d) (sym reads.geometry) fits);
   pair = is.pair;
   device = reads_trans reads is.device;
 }
@@ -65,17 +65,17 @@ full_behind {g = g} {changes = changes} {was = was} reads is = record {
 pub fails_behind : {D : Type 0} {g : Ghosts D} {old mid new : D} {was now : Pair} {e : Error} → ReadsOnly g old mid → CommitFails g mid new was now e → CommitFails g old new was now e
 fails_behind reads is = record { errors = is.errors; pair = is.pair; no_memory = λ lacks. reads_trans reads (is.no_memory lacks) }
 
-pub clears_behind : {count : ℕ} {blocks : Blocks} {before mid history : List Event} {P : Event → Type 0} → OnlyReads blocks before mid → EachSince P mid history → ClearsLogs count mid history → ClearsLogs count before history
+pub clears_behind : {count : ℕ} {blocks : Blocks} {before mid history : List CallEvent} {P : CallEvent → Type 0} → AreCallsSinceOnlyReads blocks before mid → IsTrueOfEachCallSince P mid history → WritesBlocksAndClearsOne count mid history → WritesBlocksAndClearsOne count before history
 clears_behind {count} reads since clears =
     let same = programs-reads reads in
     record {
       erases = clears.erases ∙ ap (λ n. n + (count + 1)) (erases-reads reads);
-      programs = λ logs. clears.programs (EachSince-behind logs reads since) ∙ ap (λ n. n + count) same;
+      programs = λ logs. clears.programs (IsTrueOfEachCallSince-behind logs reads since) ∙ ap (λ n. n + count) same;
       at_most = let most = clears.at_most in omega (arith, same, most);
     }
 
-pub splits_behind : {disk old new : Disk} {blocks : Blocks} {before mid history : List Event} {changes : List Change} {was pair fresh_pair : Pair} {fresh : ℕ × ℕ} {P : Event → Type 0} → disk ≡ old → OnlyReads blocks before mid
-    → EachSince P mid history → Splits disk mid changes was fresh new history pair fresh_pair → Splits old before changes was fresh new history pair fresh_pair
+pub splits_behind : {disk old new : Disk} {blocks : Blocks} {before mid history : List CallEvent} {changes : List ContentChange} {was pair fresh_pair : Pair} {fresh : ℕ × ℕ} {P : CallEvent → Type 0} → disk ≡ old → AreCallsSinceOnlyReads blocks before mid
+    → IsTrueOfEachCallSince P mid history → Splits disk mid changes was fresh new history pair fresh_pair → Splits old before changes was fresh new history pair fresh_pair
 splits_behind {new = new} {before = before} {history = history} {changes = changes} {was = was} {pair = pair} {fresh_pair = fresh_pair} {fresh = fresh} same reads since s =
     subst (λ d. Splits d before changes was fresh new history pair fresh_pair) same (record {
       new = s.new;
@@ -95,11 +95,11 @@ splits_behind {new = new} {before = before} {history = history} {changes = chang
     })
 
 -- what the changes make doesn't fit, and nothing was called
-pub is_full : {D : Type 0} {g : Ghosts D} {changes : List Change} {d : D} {was : Pair} {c : RawContent} → made_at (disk_of (g.geometry d) (g.blocks d)) (address_in was) changes ≡ Some c → IsLogged c
-    → (FitsRaw (g.geometry d).block_size (g.geometry d).page c → ⊥) → RefusesCommit g changes d d was was
+pub is_full : {D : Type 0} {g : Ghosts D} {changes : List ContentChange} {d : D} {was : Pair} {c : RawContent} → pair_content_after_changes (disk_of_geometry_and_blocks (g.geometry d) (g.blocks d)) (address_of_header was) changes ≡ Some c → IsWellFormedRawContent c
+    → (IsRawContentFittingPair (g.geometry d).block_size (g.geometry d).page c → ⊥) → RefusesCommit g changes d d was was
 is_full {g = g} {d = d} {c = c} made logged full = record {
-  full = λ n is fits. full (subst (FitsRaw (g.geometry d).block_size (g.geometry d).page) (sym (some_same (sym made ∙ is))) fits);
-  completed = λ n e is whole fits. full (fits_raw (g.geometry d).block_size (g.geometry d).page c e logged (ap completed (some_same (sym made ∙ is)) ∙ whole) fits);
+  full = λ n is fits. full (subst (IsRawContentFittingPair (g.geometry d).block_size (g.geometry d).page) (sym (some_same (sym made ∙ is))) fits);
+  completed = λ n e is whole fits. full (fits_raw (g.geometry d).block_size (g.geometry d).page c e logged (ap content_if_slots_are_complete (some_same (sym made ∙ is)) ∙ whole) fits);
   pair = refl;
   device = reads_none;
 }

@@ -1,16 +1,16 @@
 -- What calls behind calls do to a device.
 use Rattle.std.proofs.Common.{arith, ap, inl, inr, Err, ℕ, ◌≡◌, ◌≤◌, ◌+◌, ◌⊎◌, Bool, List, [], ◌∷◌, refl, sym, ◌∙◌, subst}
 use Rattle.lfs_device.specs.declared.device.BlockDevice.{Ghosts}
-use Rattle.lfs_device.specs.Calls.{ReadsOnly, ChangesBlock, ChangesOnly}
+use Rattle.lfs_device.specs.Calls.{ReadsOnly, ChangesOnlyThisBlock, ChangesOnlyTheseBlocks}
 use Rattle.std.specs.Prelude.{All, ◌≢◌, IsErrOf}
 use Rattle.lfs_device.specs.declared.error.Error.{Error}
 use Rattle.lfs_device.specs.declared.error.Error.TheVariants.{Io, NoMemory}
-use Rattle.lfs_model.specs.Blocks.{Blocks, SameBut, SameButThese}
-use Rattle.lfs_model.specs.History.{Event, Read, Program, Erase, event, reads}
-use Rattle.lfs_model.proofs.Histories.{began, goes_on, goes_on_by, AtWorst-read, LeavesOnly-reads, LeavesOnly-weaker, OnlyReads-read, OnlyReads-trans, StayUnprogrammed-erase, StayUnprogrammed-program, StayUnprogrammed-reads, StayUnprogrammed-trans, StayUnprogrammed-wider}
-use Rattle.lfs_model.proofs.Overwrites.{SameBut-refl, SameBut-trans, SameButThese-refl, SameButThese-trans, SameButThese-wider}
-use Rattle.lfs_pair.specs.Commit.{both_blocks}
-use Rattle.lfs_pair.specs.Writing.{ChangesReading}
+use Rattle.lfs_model.specs.Blocks.{Blocks, AreBlocksEqualExceptOne, AreBlocksEqualExceptThese}
+use Rattle.lfs_model.specs.History.{CallEvent, Read, Program, Erase, call_event_with, reads}
+use Rattle.lfs_model.proofs.Histories.{began, goes_on, goes_on_by, IsWorstOutcomeOfStop-read, IsTrueAfterEachStopSince-reads, IsTrueAfterEachStopSince-weaker, AreCallsSinceOnlyReads-read, AreCallsSinceOnlyReads-trans, AreBytesStillUnprogrammed-erase, AreBytesStillUnprogrammed-program, AreBytesStillUnprogrammed-reads, AreBytesStillUnprogrammed-trans, AreBytesStillUnprogrammed-wider}
+use Rattle.lfs_model.proofs.Overwrites.{AreBlocksEqualExceptOne-refl, AreBlocksEqualExceptOne-trans, AreBlocksEqualExceptThese-refl, AreBlocksEqualExceptThese-trans, AreBlocksEqualExceptThese-wider}
+use Rattle.lfs_pair.specs.Commit.{both_blocks_of_pair}
+use Rattle.lfs_pair.specs.Writing.{ChangesBlocksWithFewReads}
 use Rattle.lfs_pair.proofs.Changed.{stays_outside}
 use Rattle.lfs_pair.proofs.TwoBlocks.{outside_one}
 
@@ -20,105 +20,105 @@ pub reads_none : {D : Type 0} {g : Ghosts D} {d : D} → ReadsOnly g d d
 reads_none = record { same = refl; geometry = refl; reads = began }
 
 pub reads_one : {D : Type 0} {g : Ghosts D} {old new : D} {block off len : ℕ} {failed : Bool} → g.blocks new ≡ g.blocks old → g.geometry new ≡ g.geometry old
-    → g.history new ≡ event (Read block off len) (g.blocks old) (g.blocks new) failed ∷ g.history old → ReadsOnly g old new
-reads_one same geometry is = record { same = same; geometry = geometry; reads = OnlyReads-read began is refl same }
+    → g.history new ≡ call_event_with (Read block off len) (g.blocks old) (g.blocks new) failed ∷ g.history old → ReadsOnly g old new
+reads_one same geometry is = record { same = same; geometry = geometry; reads = AreCallsSinceOnlyReads-read began is refl same }
 
 pub reads_trans : {D : Type 0} {g : Ghosts D} {old mid new : D} → ReadsOnly g old mid → ReadsOnly g mid new → ReadsOnly g old new
 reads_trans first second = record {
   same = second.same ∙ first.same;
   geometry = second.geometry ∙ first.geometry;
-  reads = OnlyReads-trans first.reads second.reads first.same;
+  reads = AreCallsSinceOnlyReads-trans first.reads second.reads first.same;
 }
 
 -- ---- one block
 
-pub block_by_reads : {D : Type 0} {g : Ghosts D} {b : ℕ} {old new : D} → ReadsOnly g old new → ChangesBlock g b old new
+pub block_by_reads : {D : Type 0} {g : Ghosts D} {b : ℕ} {old new : D} → ReadsOnly g old new → ChangesOnlyThisBlock g b old new
 block_by_reads {g = g} {b = b} {old = old} reads = record {
-  others = subst (SameBut b (g.blocks old)) (sym reads.same) (SameBut-refl b (g.blocks old));
-  elsewhere = StayUnprogrammed-reads (b ∷ []) reads.reads;
+  others = subst (AreBlocksEqualExceptOne b (g.blocks old)) (sym reads.same) (AreBlocksEqualExceptOne-refl b (g.blocks old));
+  elsewhere = AreBytesStillUnprogrammed-reads (b ∷ []) reads.reads;
   geometry = reads.geometry;
-  at_worst = LeavesOnly-reads AtWorst-read reads.reads (SameBut-refl b (g.blocks old));
+  at_worst = IsTrueAfterEachStopSince-reads IsWorstOutcomeOfStop-read reads.reads (AreBlocksEqualExceptOne-refl b (g.blocks old));
 }
 
-pub block_by_erase : {D : Type 0} {g : Ghosts D} {b : ℕ} {old new : D} {failed : Bool} → SameBut b (g.blocks old) (g.blocks new) → g.geometry new ≡ g.geometry old
-    → g.history new ≡ event (Erase b) (g.blocks old) (g.blocks new) failed ∷ g.history old → ChangesBlock g b old new
+pub block_by_erase : {D : Type 0} {g : Ghosts D} {b : ℕ} {old new : D} {failed : Bool} → AreBlocksEqualExceptOne b (g.blocks old) (g.blocks new) → g.geometry new ≡ g.geometry old
+    → g.history new ≡ call_event_with (Erase b) (g.blocks old) (g.blocks new) failed ∷ g.history old → ChangesOnlyThisBlock g b old new
 block_by_erase same geometry is = record {
   others = same;
-  elsewhere = StayUnprogrammed-erase is;
+  elsewhere = AreBytesStillUnprogrammed-erase is;
   geometry = geometry;
   at_worst = goes_on began is (λ disk left. left);
 }
 
-pub block_by_program : {D : Type 0} {g : Ghosts D} {b off : ℕ} {bytes : List ℕ} {old new : D} {failed : Bool} → SameBut b (g.blocks old) (g.blocks new) → g.geometry new ≡ g.geometry old
-    → g.history new ≡ event (Program b off bytes) (g.blocks old) (g.blocks new) failed ∷ g.history old → ChangesBlock g b old new
+pub block_by_program : {D : Type 0} {g : Ghosts D} {b off : ℕ} {bytes : List ℕ} {old new : D} {failed : Bool} → AreBlocksEqualExceptOne b (g.blocks old) (g.blocks new) → g.geometry new ≡ g.geometry old
+    → g.history new ≡ call_event_with (Program b off bytes) (g.blocks old) (g.blocks new) failed ∷ g.history old → ChangesOnlyThisBlock g b old new
 block_by_program same geometry is = record {
   others = same;
-  elsewhere = StayUnprogrammed-program is;
+  elsewhere = AreBytesStillUnprogrammed-program is;
   geometry = geometry;
   at_worst = goes_on began is (λ disk left. left);
 }
 
-pub block_trans : {D : Type 0} {g : Ghosts D} {b : ℕ} {old mid new : D} → ChangesBlock g b old mid → ChangesBlock g b mid new → ChangesBlock g b old new
+pub block_trans : {D : Type 0} {g : Ghosts D} {b : ℕ} {old mid new : D} → ChangesOnlyThisBlock g b old mid → ChangesOnlyThisBlock g b mid new → ChangesOnlyThisBlock g b old new
 block_trans first second = record {
-  others = SameBut-trans first.others second.others;
-  elsewhere = StayUnprogrammed-trans first.elsewhere second.elsewhere;
+  others = AreBlocksEqualExceptOne-trans first.others second.others;
+  elsewhere = AreBytesStillUnprogrammed-trans first.elsewhere second.elsewhere;
   geometry = second.geometry ∙ first.geometry;
-  at_worst = goes_on_by first.at_worst (LeavesOnly-weaker (λ disk left. SameBut-trans first.others left) second.at_worst);
+  at_worst = goes_on_by first.at_worst (IsTrueAfterEachStopSince-weaker (λ disk left. AreBlocksEqualExceptOne-trans first.others left) second.at_worst);
 }
 
 -- ---- several blocks
 
-pub only_by_reads : {D : Type 0} {g : Ghosts D} {bs : List ℕ} {old new : D} → ReadsOnly g old new → ChangesOnly g bs old new
+pub only_by_reads : {D : Type 0} {g : Ghosts D} {bs : List ℕ} {old new : D} → ReadsOnly g old new → ChangesOnlyTheseBlocks g bs old new
 only_by_reads {g = g} {bs = bs} {old = old} reads = record {
-  others = subst (SameButThese bs (g.blocks old)) (sym reads.same) (SameButThese-refl bs (g.blocks old));
-  elsewhere = StayUnprogrammed-reads bs reads.reads;
+  others = subst (AreBlocksEqualExceptThese bs (g.blocks old)) (sym reads.same) (AreBlocksEqualExceptThese-refl bs (g.blocks old));
+  elsewhere = AreBytesStillUnprogrammed-reads bs reads.reads;
   geometry = reads.geometry;
-  at_worst = LeavesOnly-reads AtWorst-read reads.reads (SameButThese-refl bs (g.blocks old));
+  at_worst = IsTrueAfterEachStopSince-reads IsWorstOutcomeOfStop-read reads.reads (AreBlocksEqualExceptThese-refl bs (g.blocks old));
 }
 
-pub only_trans : {D : Type 0} {g : Ghosts D} {bs : List ℕ} {old mid new : D} → ChangesOnly g bs old mid → ChangesOnly g bs mid new → ChangesOnly g bs old new
+pub only_trans : {D : Type 0} {g : Ghosts D} {bs : List ℕ} {old mid new : D} → ChangesOnlyTheseBlocks g bs old mid → ChangesOnlyTheseBlocks g bs mid new → ChangesOnlyTheseBlocks g bs old new
 only_trans first second = record {
-  others = SameButThese-trans first.others second.others;
-  elsewhere = StayUnprogrammed-trans first.elsewhere second.elsewhere;
+  others = AreBlocksEqualExceptThese-trans first.others second.others;
+  elsewhere = AreBytesStillUnprogrammed-trans first.elsewhere second.elsewhere;
   geometry = second.geometry ∙ first.geometry;
-  at_worst = goes_on_by first.at_worst (LeavesOnly-weaker (λ disk left. SameButThese-trans first.others left) second.at_worst);
+  at_worst = goes_on_by first.at_worst (IsTrueAfterEachStopSince-weaker (λ disk left. AreBlocksEqualExceptThese-trans first.others left) second.at_worst);
 }
 
-pub only_wider : {D : Type 0} {g : Ghosts D} {bs : List ℕ} (cs : List ℕ) {old new : D} → ((other : ℕ) → All (λ c. c ≢ other) cs → All (λ c. c ≢ other) bs) → ChangesOnly g bs old new → ChangesOnly g cs old new
+pub only_wider : {D : Type 0} {g : Ghosts D} {bs : List ℕ} (cs : List ℕ) {old new : D} → ((other : ℕ) → All (λ c. c ≢ other) cs → All (λ c. c ≢ other) bs) → ChangesOnlyTheseBlocks g bs old new → ChangesOnlyTheseBlocks g cs old new
 only_wider cs among only = record {
-  others = SameButThese-wider cs among only.others;
-  elsewhere = StayUnprogrammed-wider cs among only.elsewhere;
+  others = AreBlocksEqualExceptThese-wider cs among only.others;
+  elsewhere = AreBytesStillUnprogrammed-wider cs among only.elsewhere;
   geometry = only.geometry;
-  at_worst = LeavesOnly-weaker (λ disk left. SameButThese-wider cs among left) only.at_worst;
+  at_worst = IsTrueAfterEachStopSince-weaker (λ disk left. AreBlocksEqualExceptThese-wider cs among left) only.at_worst;
 }
 
 -- one block of a pair
-pub only_block : {D : Type 0} {g : Ghosts D} {b : ℕ} {old new : D} (at : ℕ × ℕ) → (b ≡ at.0) ⊎ (b ≡ at.1) → ChangesBlock g b old new → ChangesOnly g (both_blocks at) old new
+pub only_block : {D : Type 0} {g : Ghosts D} {b : ℕ} {old new : D} (at : ℕ × ℕ) → (b ≡ at.0) ⊎ (b ≡ at.1) → ChangesOnlyThisBlock g b old new → ChangesOnlyTheseBlocks g (both_blocks_of_pair at) old new
 only_block {b = b} at is block = record {
   others = outside_one at b _ _ is block.others;
   elsewhere = stays_outside at b _ _ is block.elsewhere;
   geometry = block.geometry;
-  at_worst = LeavesOnly-weaker (λ disk left. outside_one at b _ disk is left) block.at_worst;
+  at_worst = IsTrueAfterEachStopSince-weaker (λ disk left. outside_one at b _ disk is left) block.at_worst;
 }
 
 -- ---- with how often the device is read
 
-pub reading_trans : {D : Type 0} {g : Ghosts D} {n m : ℕ} {bs : List ℕ} {old mid new : D} → ChangesReading g n bs old mid → ChangesReading g m bs mid new → ChangesReading g (n + m) bs old new
+pub reading_trans : {D : Type 0} {g : Ghosts D} {n m : ℕ} {bs : List ℕ} {old mid new : D} → ChangesBlocksWithFewReads g n bs old mid → ChangesBlocksWithFewReads g m bs mid new → ChangesBlocksWithFewReads g (n + m) bs old new
 reading_trans first second = record {
   only = only_trans first.only second.only;
   few = let a = first.few in let b = second.few in omega (arith, a, b);
 }
 
 -- one read, where more are allowed
-pub reading_by_read : {D : Type 0} {g : Ghosts D} {n : ℕ} {bs : List ℕ} {old new : D} → ReadsOnly g old new → reads (g.history new) ≤ reads (g.history old) + 1 → 1 ≤ n → ChangesReading g n bs old new
+pub reading_by_read : {D : Type 0} {g : Ghosts D} {n : ℕ} {bs : List ℕ} {old new : D} → ReadsOnly g old new → reads (g.history new) ≤ reads (g.history old) + 1 → 1 ≤ n → ChangesBlocksWithFewReads g n bs old new
 reading_by_read read few some = record { only = only_by_reads read; few = omega (arith, few, some) }
 
 -- one read
-pub few_by_read : {old new : List Event} {before after : Blocks} {b off len : ℕ} {failed : Bool} → new ≡ event (Read b off len) before after failed ∷ old → reads new ≤ reads old + 1
+pub few_by_read : {old new : List CallEvent} {before after : Blocks} {b off len : ℕ} {failed : Bool} → new ≡ call_event_with (Read b off len) before after failed ∷ old → reads new ≤ reads old + 1
 few_by_read is = let read = ap reads is in omega (arith, read)
 
 -- one read that failed, or none for want of memory
-pub few_at_error : {X : Type 0} {e : Error} {old new : List Event} {before after : Blocks} {b off len : ℕ} {failed : Bool} → (e ≡ Io) ⊎ (e ≡ NoMemory)
-    → (IsErrOf {T = X} (Err e) Io → new ≡ event (Read b off len) before after failed ∷ old) → (IsErrOf {T = X} (Err e) NoMemory → new ≡ old) → reads new ≤ reads old + 1
+pub few_at_error : {X : Type 0} {e : Error} {old new : List CallEvent} {before after : Blocks} {b off len : ℕ} {failed : Bool} → (e ≡ Io) ⊎ (e ≡ NoMemory)
+    → (IsErrOf {T = X} (Err e) Io → new ≡ call_event_with (Read b off len) before after failed ∷ old) → (IsErrOf {T = X} (Err e) NoMemory → new ≡ old) → reads new ≤ reads old + 1
 few_at_error (inl is) io memory = few_by_read (io (ap Err is))
 few_at_error (inr is) io memory = let same = ap reads (memory (ap Err is)) in omega (arith, same)

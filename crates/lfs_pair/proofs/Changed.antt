@@ -3,58 +3,58 @@ use Rattle.std.proofs.Common.{ℕ, zero, suc, get_or, ◌≡◌, ◌≢◌, ◌�
 use Rattle.std.specs.Prelude.{nat_lt, slice_get, unwrap_or}
 use Rattle.std.specs.List.{list_all}
 use Rattle.std.proofs.lemmas.Bool.{lt-ltb, ltb-true}
-use Rattle.lfs_model.specs.Blocks.{Blocks, SameBut, block_in}
-use Rattle.lfs_model.specs.Disk.{Disk, block_at}
-use Rattle.lfs_model.specs.Log.{LogEntry, chain_of, revision_of, log_entries}
-use Rattle.lfs_model.specs.View.{BeginsWithEntry}
-use Rattle.lfs_model.specs.WrittenContent.{FitsRaw, written_entries}
-use Rattle.lfs_model.specs.LoggedContent.{IsLogged}
+use Rattle.lfs_model.specs.Blocks.{Blocks, AreBlocksEqualExceptOne, block_bytes_in}
+use Rattle.lfs_model.specs.Disk.{Disk, block_bytes_on_disk}
+use Rattle.lfs_model.specs.Log.{LogEntry, chain_of, revision_of_block, log_entries_of_block}
+use Rattle.lfs_model.specs.View.{BeginsWithLogEntry}
+use Rattle.lfs_model.specs.WrittenContent.{IsRawContentFittingPair, log_entries_of_content}
+use Rattle.lfs_model.specs.LoggedContent.{IsWellFormedRawContent}
 use Rattle.std.proofs.lemmas.List.Concat.{flat_map-append}
 use Rattle.lfs_pair.proofs.Holders.{held_commit, holder_is, raw_held}
-use Rattle.lfs_model.specs.Content.{RawContent, has_commit, holder_at, raw_at, content_after_all, no_content}
-use Rattle.lfs_model.specs.Changes.{Change, changed_by, entries_of_changes, is_storable}
+use Rattle.lfs_model.specs.Content.{RawContent, has_commit, current_block_of_pair_at, raw_content_of_pair_at, content_after_log_entries, empty_raw_content}
+use Rattle.lfs_model.specs.Changes.{ContentChange, content_after_changes, log_entries_of_changes, is_storable_change}
 use Rattle.lfs_model.proofs.Appended.{appended_content}
-use Rattle.lfs_model.proofs.Histories.{StayUnprogrammed-wider}
-use Rattle.lfs_model.proofs.Overwrites.{SameButThese-refl}
+use Rattle.lfs_model.proofs.Histories.{AreBytesStillUnprogrammed-wider}
+use Rattle.lfs_model.proofs.Overwrites.{AreBlocksEqualExceptThese-refl}
 use Rattle.lfs_model.proofs.Commits.{has_commit-end, chain_ends}
 use Rattle.std.specs.Option.{option_and_then}
-use Rattle.lfs_tag.specs.Builder.{Building, commits_before}
-use Rattle.lfs_model.specs.History.{Event, AllUnprogrammed, StayUnprogrammed}
+use Rattle.lfs_tag.specs.Builder.{CommitBeingBuilt, commits_before}
+use Rattle.lfs_model.specs.History.{CallEvent, AreBytesUnprogrammed, AreBytesStillUnprogrammed}
 use Rattle.lfs_pair.specs.declared.pair.Pair.{Pair}
-use Rattle.lfs_pair.specs.Pair.{EndsWith, IsPair, IsHeaderOf, second_holds, active_at, address_in, other_in}
-use Rattle.lfs_pair.specs.Writing.{GetsCommit, HoldsLogContent, IsWritten, LeftByCommit, LeftByWriting, LeftInBlock}
-use Rattle.lfs_pair.specs.Commit.{IsActive, IsAddressOn, HasChangesMade, HasNewContent, HasSameContent, KeepsFirst, LeftByChange, LeftWith, PairHolds, OutsideStays, made_of, made_in, made_at}
+use Rattle.lfs_pair.specs.Pair.{HeaderHasLogEnd, IsPairOnDisk, IsHeaderOfContent, is_second_block_active, active_block_at, address_of_header, inactive_block_in_header}
+use Rattle.lfs_pair.specs.Writing.{LogGetsCommit, HasContentInOneCommit, LogEndsOnPage, LeavesOldLogOrCommit, LeavesOldLogOrRewritten, DiffersOnlyInBlock}
+use Rattle.lfs_pair.specs.Commit.{HeaderSaysActiveBlock, IsPairAddressOnDisk, HasContentMadeByChanges, HasPairNewContent, HasPairContentAsBefore, KeepsFirstEntry, LeavesOldOrChangedContent, LeavesOldOrNewContent, PairHasContent, KeepsUnprogrammedOutsidePair, content_made_by_changes, log_content_after_changes, pair_content_after_changes}
 use Rattle.lfs_pair.proofs.SameLogs.{entries_same}
 use Rattle.lfs_pair.proofs.TwoBlocks.{active_block, Sides, Stays, sides, raw_is, still_active, other_active, stays_same, stays_log, weaker_same, weaker_log, weaker_none, active_is, other_is, outside_one, sides_apart, below_count}
 
 -- ---- what changes make
 
-pub changed_content : (held new : RawContent) (changes : List Change) → changed_by held changes ≡ Some new → content_after_all held (entries_of_changes changes) ≡ Some new
-changed_content held new changes h = go (list_all is_storable changes) refl
+pub changed_content : (held new : RawContent) (changes : List ContentChange) → content_after_changes held changes ≡ Some new → content_after_log_entries held (log_entries_of_changes changes) ≡ Some new
+changed_content held new changes h = go (list_all is_storable_change changes) refl
   where
-    go : (s : Bool) → list_all is_storable changes ≡ s → content_after_all held (entries_of_changes changes) ≡ Some new
-    go true e = sym (ap (λ s. cond s (content_after_all held (entries_of_changes changes)) None) e) ∙ h
-    go false e = absurd (let none : None ≡ Some new = sym (ap (λ s. cond s (content_after_all held (entries_of_changes changes)) None) e) ∙ h in cc)
+    go : (s : Bool) → list_all is_storable_change changes ≡ s → content_after_log_entries held (log_entries_of_changes changes) ≡ Some new
+    go true e = sym (ap (λ s. cond s (content_after_log_entries held (log_entries_of_changes changes)) None) e) ∙ h
+    go false e = absurd (let none : None ≡ Some new = sym (ap (λ s. cond s (content_after_log_entries held (log_entries_of_changes changes)) None) e) ∙ h in cc)
 
 -- ---- a commit behind others
 
-pub gets_content : (b : Building) (held new : RawContent) (old left : List ℕ) → b.revision ≡ None
-    → content_after_all no_content (log_entries old) ≡ Some held → content_after_all held b.entries ≡ Some new → GetsCommit b old left
-    → content_after_all no_content (log_entries left) ≡ Some new
+pub gets_content : (b : CommitBeingBuilt) (held new : RawContent) (old left : List ℕ) → b.revision ≡ None
+    → content_after_log_entries empty_raw_content (log_entries_of_block old) ≡ Some held → content_after_log_entries held b.entries ≡ Some new → LogGetsCommit b old left
+    → content_after_log_entries empty_raw_content (log_entries_of_block left) ≡ Some new
 gets_content b held new old left none so_far more gets =
     appended_content left (commits_before b.revision old) b.entries gets.checksum held new gets.commits gets.class
-    (ap (λ r. content_after_all no_content (flat_map (λ c. c) (commits_before r old))) none ∙ so_far) more
+    (ap (λ r. content_after_log_entries empty_raw_content (flat_map (λ c. c) (commits_before r old))) none ∙ so_far) more
 
-pub gets_commit : (b : Building) (old left : List ℕ) → GetsCommit b old left → has_commit left ≡ true
+pub gets_commit : (b : CommitBeingBuilt) (old left : List ℕ) → LogGetsCommit b old left → has_commit left ≡ true
 gets_commit b old left gets =
     ap (λ (cs : List (List LogEntry)). nat_lt 0 (length cs)) gets.commits
     ∙ lt-ltb 0 (length (commits_before b.revision old ++ (b.entries ++ gets.checksum ∷ []) ∷ [])) (omega (arith, length-append (commits_before b.revision old) ((b.entries ++ gets.checksum ∷ []) ∷ [])))
 
-pub gets_stays : (b : Building) (old left : List ℕ) → b.revision ≡ None → has_commit old ≡ true → GetsCommit b old left → Stays old left
+pub gets_stays : (b : CommitBeingBuilt) (old left : List ℕ) → b.revision ≡ None → has_commit old ≡ true → LogGetsCommit b old left → Stays old left
 gets_stays b old left none had gets = record {
   had = had;
   has = gets_commit b old left gets;
-  revision_is = gets.revision ∙ ap (λ r. unwrap_or r (revision_of old)) none;
+  revision_is = gets.revision ∙ ap (λ r. unwrap_or r (revision_of_block old)) none;
 }
 
 -- a block that has a commit ends past its beginning
@@ -64,89 +64,89 @@ ends_past block has = ltb-true 4 (chain_of block).end (sym (has_commit-end block
 -- ---- the first entry
 
 -- the log of the block that holds, by which of the two it is
-pub holder_in : (disk : Disk) (at : ℕ × ℕ) (active : ℕ) → active ≡ active_at disk at → has_commit (block_at disk active) ≡ true → holder_at disk at ≡ Some (block_at disk active)
+pub holder_in : (disk : Disk) (at : ℕ × ℕ) (active : ℕ) → active ≡ active_block_at disk at → has_commit (block_bytes_on_disk disk active) ≡ true → current_block_of_pair_at disk at ≡ Some (block_bytes_on_disk disk active)
 holder_in disk at active is has =
     let same = active_block disk at active is in
-    holder_is (block_at disk at.0) (block_at disk at.1) (sym (ap has_commit same) ∙ has) ∙ ap Some (sym same)
+    holder_is (block_bytes_on_disk disk at.0) (block_bytes_on_disk disk at.1) (sym (ap has_commit same) ∙ has) ∙ ap Some (sym same)
 
-begins_by : (old disk : Disk) (at : ℕ × ℕ) (active now : ℕ) (e : LogEntry) → active ≡ active_at old at → has_commit (block_at old active) ≡ true → now ≡ active_at disk at → has_commit (block_at disk now) ≡ true
-    → (slice_get (log_entries (block_at old active)) 0 ≡ Some e → slice_get (log_entries (block_at disk now)) 0 ≡ Some e) → BeginsWithEntry (holder_at old at) e → BeginsWithEntry (holder_at disk at) e
+begins_by : (old disk : Disk) (at : ℕ × ℕ) (active now : ℕ) (e : LogEntry) → active ≡ active_block_at old at → has_commit (block_bytes_on_disk old active) ≡ true → now ≡ active_block_at disk at → has_commit (block_bytes_on_disk disk now) ≡ true
+    → (slice_get (log_entries_of_block (block_bytes_on_disk old active)) 0 ≡ Some e → slice_get (log_entries_of_block (block_bytes_on_disk disk now)) 0 ≡ Some e) → BeginsWithLogEntry (current_block_of_pair_at old at) e → BeginsWithLogEntry (current_block_of_pair_at disk at) e
 begins_by old disk at active now e is had now_is has f h =
-    subst (λ o. BeginsWithEntry o e) (sym (holder_in disk at now now_is has)) (f (subst (λ o. BeginsWithEntry o e) (holder_in old at active is had) h))
+    subst (λ o. BeginsWithLogEntry o e) (sym (holder_in disk at now now_is has)) (f (subst (λ o. BeginsWithLogEntry o e) (holder_in old at active is had) h))
 
 first_of : (xs ys : List LogEntry) (e : LogEntry) → slice_get xs 0 ≡ Some e → slice_get (xs ++ ys) 0 ≡ Some e
 first_of [] ys e h = absurd (cc)
 first_of (x ∷ xs) ys e h = h
 
-gets_first : (b : Building) (old left : List ℕ) (e : LogEntry) → b.revision ≡ None → GetsCommit b old left → slice_get (log_entries old) 0 ≡ Some e → slice_get (log_entries left) 0 ≡ Some e
+gets_first : (b : CommitBeingBuilt) (old left : List ℕ) (e : LogEntry) → b.revision ≡ None → LogGetsCommit b old left → slice_get (log_entries_of_block old) 0 ≡ Some e → slice_get (log_entries_of_block left) 0 ≡ Some e
 gets_first b old left e none gets h =
     ap (λ (cs : List (List LogEntry)). slice_get (flat_map (λ c. c) cs) 0) gets.commits
     ∙ ap (λ (es : List LogEntry). slice_get es 0) (flat_map-append (λ (c : List LogEntry). c) (commits_before b.revision old) ((b.entries ++ gets.checksum ∷ []) ∷ []))
     ∙ first_of (flat_map (λ c. c) (commits_before b.revision old)) (flat_map (λ c. c) ((b.entries ++ gets.checksum ∷ []) ∷ [])) e
     (ap (λ r. slice_get (flat_map (λ c. c) (commits_before r old)) 0) none ∙ h)
 
-holds_first : (revision : ℕ) (c : RawContent) (block : List ℕ) (e : LogEntry) → HoldsLogContent revision c block → slice_get (written_entries c) 0 ≡ Some e → slice_get (log_entries block) 0 ≡ Some e
+holds_first : (revision : ℕ) (c : RawContent) (block : List ℕ) (e : LogEntry) → HasContentInOneCommit revision c block → slice_get (log_entries_of_content c) 0 ≡ Some e → slice_get (log_entries_of_block block) 0 ≡ Some e
 holds_first revision c block e holds h =
     ap (λ (cs : List (List LogEntry)). slice_get (flat_map (λ c. c) cs) 0) holds.commits
-    ∙ first_of (written_entries c ++ holds.checksum ∷ []) [] e (first_of (written_entries c) (holds.checksum ∷ []) e h)
+    ∙ first_of (log_entries_of_content c ++ holds.checksum ∷ []) [] e (first_of (log_entries_of_content c) (holds.checksum ∷ []) e h)
 
 -- an append in progress
-pub record IsAppending (disk : Disk) (at : ℕ × ℕ) (active other : ℕ) (held new : RawContent) (b : Building) : Type 0 where
+pub record IsAppending (disk : Disk) (at : ℕ × ℕ) (active other : ℕ) (held new : RawContent) (b : CommitBeingBuilt) : Type 0 where
   pub sides : Sides disk at active other
   pub apart : other ≢ active
-  pub is : active ≡ active_at disk at
-  pub had : has_commit (block_at disk active) ≡ true
-  pub held_is : content_after_all no_content (log_entries (block_at disk active)) ≡ Some held
-  pub more : content_after_all held b.entries ≡ Some new
+  pub is : active ≡ active_block_at disk at
+  pub had : has_commit (block_bytes_on_disk disk active) ≡ true
+  pub held_is : content_after_log_entries empty_raw_content (log_entries_of_block (block_bytes_on_disk disk active)) ≡ Some held
+  pub more : content_after_log_entries held b.entries ≡ Some new
   pub no_revision : b.revision ≡ None
 
 -- the active block still is, where it has the log from before or behind the commit
-appended_active : (disk : Disk) (at : ℕ × ℕ) (active other : ℕ) (held new : RawContent) (b : Building) (left : Blocks) → IsAppending disk at active other held new b
-    → SameBut active disk.blocks left → Stays (block_at disk active) (block_in left active) → active ≡ active_at (record disk { blocks = left }) at
+appended_active : (disk : Disk) (at : ℕ × ℕ) (active other : ℕ) (held new : RawContent) (b : CommitBeingBuilt) (left : Blocks) → IsAppending disk at active other held new b
+    → AreBlocksEqualExceptOne active disk.blocks left → Stays (block_bytes_on_disk disk active) (block_bytes_in left active) → active ≡ active_block_at (record disk { blocks = left }) at
 appended_active disk at active other held new b left a same stays =
-    still_active disk at active other left a.sides stays (weaker_same (block_at disk other) (block_in left other) (same.others other a.apart))
+    still_active disk at active other left a.sides stays (weaker_same (block_bytes_on_disk disk other) (block_bytes_in left other) (same.others other a.apart))
 
 pub record IsIn (disk : Disk) (at : ℕ × ℕ) (active : ℕ) (c : RawContent) : Type 0 where
-  pub active_is : active ≡ active_at disk at
-  pub has : has_commit (block_at disk active) ≡ true
-  pub content : content_after_all no_content (log_entries (block_at disk active)) ≡ Some c
+  pub active_is : active ≡ active_block_at disk at
+  pub has : has_commit (block_bytes_on_disk disk active) ≡ true
+  pub content : content_after_log_entries empty_raw_content (log_entries_of_block (block_bytes_on_disk disk active)) ≡ Some c
 
-pub raw_in : (disk : Disk) (at : ℕ × ℕ) (active : ℕ) (c : RawContent) → IsIn disk at active c → raw_at disk at ≡ Some c
+pub raw_in : (disk : Disk) (at : ℕ × ℕ) (active : ℕ) (c : RawContent) → IsIn disk at active c → raw_content_of_pair_at disk at ≡ Some c
 raw_in disk at active c h = raw_is disk at active h.active_is h.has ∙ h.content
 
-pub appended : (disk : Disk) (at : ℕ × ℕ) (active other : ℕ) (held new : RawContent) (b : Building) (left : Blocks) → IsAppending disk at active other held new b
-    → SameBut active disk.blocks left → GetsCommit b (block_at disk active) (block_in left active) → IsIn (record disk { blocks = left }) at active new
+pub appended : (disk : Disk) (at : ℕ × ℕ) (active other : ℕ) (held new : RawContent) (b : CommitBeingBuilt) (left : Blocks) → IsAppending disk at active other held new b
+    → AreBlocksEqualExceptOne active disk.blocks left → LogGetsCommit b (block_bytes_on_disk disk active) (block_bytes_in left active) → IsIn (record disk { blocks = left }) at active new
 appended disk at active other held new b left a same gets = record {
-  active_is = appended_active disk at active other held new b left a same (gets_stays b (block_at disk active) (block_in left active) a.no_revision a.had gets);
-  has = gets_commit b (block_at disk active) (block_in left active) gets;
-  content = gets_content b held new (block_at disk active) (block_in left active) a.no_revision a.held_is a.more gets;
+  active_is = appended_active disk at active other held new b left a same (gets_stays b (block_bytes_on_disk disk active) (block_bytes_in left active) a.no_revision a.had gets);
+  has = gets_commit b (block_bytes_on_disk disk active) (block_bytes_in left active) gets;
+  content = gets_content b held new (block_bytes_on_disk disk active) (block_bytes_in left active) a.no_revision a.held_is a.more gets;
 }
 
-pub appended_first : (disk : Disk) (at : ℕ × ℕ) (active other : ℕ) (held new : RawContent) (b : Building) (content : Option RawContent) (left : Blocks) → IsAppending disk at active other held new b
-    → SameBut active disk.blocks left → GetsCommit b (block_at disk active) (block_in left active) → KeepsFirst disk at content (record disk { blocks = left })
+pub appended_first : (disk : Disk) (at : ℕ × ℕ) (active other : ℕ) (held new : RawContent) (b : CommitBeingBuilt) (content : Option RawContent) (left : Blocks) → IsAppending disk at active other held new b
+    → AreBlocksEqualExceptOne active disk.blocks left → LogGetsCommit b (block_bytes_on_disk disk active) (block_bytes_in left active) → KeepsFirstEntry disk at content (record disk { blocks = left })
 appended_first disk at active other held new b content left a same gets e begins anew =
     let there = appended disk at active other held new b left a same gets in
-    begins_by disk (record disk { blocks = left }) at active active e a.is a.had there.active_is there.has (gets_first b (block_at disk active) (block_in left active) e a.no_revision gets) begins
+    begins_by disk (record disk { blocks = left }) at active active e a.is a.had there.active_is there.has (gets_first b (block_bytes_on_disk disk active) (block_bytes_in left active) e a.no_revision gets) begins
 
-pub left_by_append : (disk : Disk) (at : ℕ × ℕ) (active other : ℕ) (held new : RawContent) (b : Building) (end : ℕ) (left : Blocks) → IsAppending disk at active other held new b
-    → end ≡ (chain_of (block_at disk active)).end → LeftInBlock active (LeftByCommit b end) disk.blocks left → LeftWith disk at new left
+pub left_by_append : (disk : Disk) (at : ℕ × ℕ) (active other : ℕ) (held new : RawContent) (b : CommitBeingBuilt) (end : ℕ) (left : Blocks) → IsAppending disk at active other held new b
+    → end ≡ (chain_of (block_bytes_on_disk disk active)).end → DiffersOnlyInBlock active (LeavesOldLogOrCommit b end) disk.blocks left → LeavesOldOrNewContent disk at new left
 left_by_append disk at active other held new b end left a is (same, which) = record {
   others = outside_one at active disk.blocks left (active_is disk at active other a.sides) same;
   content = go which;
 }
   where
-    go : LeftByCommit b end (block_at disk active) (block_in left active) → HasSameContent disk at (record disk { blocks = left }) ⊎ HasNewContent disk at new (record disk { blocks = left })
+    go : LeavesOldLogOrCommit b end (block_bytes_on_disk disk active) (block_bytes_in left active) → HasPairContentAsBefore disk at (record disk { blocks = left }) ⊎ HasPairNewContent disk at new (record disk { blocks = left })
     go (inl log) =
-        let stays = stays_log (block_at disk active) (block_in left active) a.had log in
+        let stays = stays_log (block_bytes_on_disk disk active) (block_bytes_in left active) a.had log in
         let still = appended_active disk at active other held new b left a same stays in
         inl (record {
           content = raw_is (record disk { blocks = left }) at active still stays.has
-              ∙ ap (content_after_all no_content) (entries_same (block_in left active) (block_at disk active) log)
+              ∙ ap (content_after_log_entries empty_raw_content) (entries_same (block_bytes_in left active) (block_bytes_on_disk disk active) log)
               ∙ sym (raw_is disk at active a.is a.had);
           first = λ e h. begins_by disk (record disk { blocks = left }) at active active e a.is a.had still stays.has
-              (λ was. ap (λ es. slice_get es 0) (entries_same (block_in left active) (block_at disk active) log) ∙ was) h;
+              (λ was. ap (λ es. slice_get es 0) (entries_same (block_bytes_in left active) (block_bytes_on_disk disk active) log) ∙ was) h;
         })
-    go (inr (inl (begins, none))) = absurd (let past = ends_past (block_at disk active) a.had in omega (arith, is, begins, past))
+    go (inr (inl (begins, none))) = absurd (let past = ends_past (block_bytes_on_disk disk active) a.had in omega (arith, is, begins, past))
     go (inr (inr gets)) = inr (record {
       content = raw_in (record disk { blocks = left }) at active new (appended disk at active other held new b left a same gets);
       first = appended_first disk at active other held new b (Some new) left a same gets;
@@ -157,51 +157,51 @@ left_by_append disk at active other held new b end left a is (same, which) = rec
 pub record IsCompacting (disk : Disk) (at : ℕ × ℕ) (active other revision : ℕ) : Type 0 where
   pub sides : Sides disk at active other
   pub apart : active ≢ other
-  pub is : active ≡ active_at disk at
-  pub had : has_commit (block_at disk active) ≡ true
-  pub small : revision_of (block_at disk active) < 2 ^ 32
-  pub next : revision ≡ (revision_of (block_at disk active) + 1) % 2 ^ 32
+  pub is : active ≡ active_block_at disk at
+  pub had : has_commit (block_bytes_on_disk disk active) ≡ true
+  pub small : revision_of_block (block_bytes_on_disk disk active) < 2 ^ 32
+  pub next : revision ≡ (revision_of_block (block_bytes_on_disk disk active) + 1) % 2 ^ 32
 
 pub compacted : (disk : Disk) (at : ℕ × ℕ) (active other revision : ℕ) (new : RawContent) (left : Blocks) → IsCompacting disk at active other revision
-    → SameBut other disk.blocks left → HoldsLogContent revision new (block_in left other) → IsIn (record disk { blocks = left }) at other new
+    → AreBlocksEqualExceptOne other disk.blocks left → HasContentInOneCommit revision new (block_bytes_in left other) → IsIn (record disk { blocks = left }) at other new
 compacted disk at active other revision new left k same holds =
-    let stays : block_in left active ≡ block_at disk active = same.others active k.apart in
+    let stays : block_bytes_in left active ≡ block_bytes_on_disk disk active = same.others active k.apart in
     record {
-      active_is = other_active disk at active other left k.sides (ap has_commit stays ∙ k.had) holds.has_commit (subst (λ x. revision_of x < 2 ^ 32) (sym stays) k.small)
-          (holds.revision_is ∙ k.next ∙ ap (λ x. (revision_of x + 1) % 2 ^ 32) (sym stays));
+      active_is = other_active disk at active other left k.sides (ap has_commit stays ∙ k.had) holds.has_commit (subst (λ x. revision_of_block x < 2 ^ 32) (sym stays) k.small)
+          (holds.revision_is ∙ k.next ∙ ap (λ x. (revision_of_block x + 1) % 2 ^ 32) (sym stays));
       has = holds.has_commit;
       content = holds.content;
     }
 
 pub compacted_first : (disk : Disk) (at : ℕ × ℕ) (active other revision : ℕ) (new : RawContent) (left : Blocks) → IsCompacting disk at active other revision
-    → SameBut other disk.blocks left → HoldsLogContent revision new (block_in left other) → KeepsFirst disk at (Some new) (record disk { blocks = left })
+    → AreBlocksEqualExceptOne other disk.blocks left → HasContentInOneCommit revision new (block_bytes_in left other) → KeepsFirstEntry disk at (Some new) (record disk { blocks = left })
 compacted_first disk at active other revision new left k same holds e begins anew =
     let there = compacted disk at active other revision new left k same holds in
-    begins_by disk (record disk { blocks = left }) at active other e k.is k.had there.active_is there.has (λ was. holds_first revision new (block_in left other) e holds anew) begins
+    begins_by disk (record disk { blocks = left }) at active other e k.is k.had there.active_is there.has (λ was. holds_first revision new (block_bytes_in left other) e holds anew) begins
 
 pub left_by_compaction : (disk : Disk) (at : ℕ × ℕ) (active other revision : ℕ) (new : RawContent) (left : Blocks) → IsCompacting disk at active other revision
-    → LeftInBlock other (LeftByWriting revision new) disk.blocks left → LeftWith disk at new left
+    → DiffersOnlyInBlock other (LeavesOldLogOrRewritten revision new) disk.blocks left → LeavesOldOrNewContent disk at new left
 left_by_compaction disk at active other revision new left k (same, which) = record {
   others = outside_one at other disk.blocks left (other_is disk at active other k.sides) same;
   content = go which;
 }
   where
-    stays : block_in left active ≡ block_at disk active
+    stays : block_bytes_in left active ≡ block_bytes_on_disk disk active
     stays = same.others active k.apart
 
-    before : (active ≡ active_at (record disk { blocks = left }) at) → HasSameContent disk at (record disk { blocks = left })
+    before : (active ≡ active_block_at (record disk { blocks = left }) at) → HasPairContentAsBefore disk at (record disk { blocks = left })
     before still = record {
       content = raw_is (record disk { blocks = left }) at active still (ap has_commit stays ∙ k.had)
-          ∙ ap (λ x. content_after_all no_content (log_entries x)) stays ∙ sym (raw_is disk at active k.is k.had);
+          ∙ ap (λ x. content_after_log_entries empty_raw_content (log_entries_of_block x)) stays ∙ sym (raw_is disk at active k.is k.had);
       first = λ e h. begins_by disk (record disk { blocks = left }) at active active e k.is k.had still (ap has_commit stays ∙ k.had)
-          (λ was. ap (λ x. slice_get (log_entries x) 0) stays ∙ was) h;
+          (λ was. ap (λ x. slice_get (log_entries_of_block x) 0) stays ∙ was) h;
     }
 
-    go : LeftByWriting revision new (block_at disk other) (block_in left other) → HasSameContent disk at (record disk { blocks = left }) ⊎ HasNewContent disk at new (record disk { blocks = left })
+    go : LeavesOldLogOrRewritten revision new (block_bytes_on_disk disk other) (block_bytes_in left other) → HasPairContentAsBefore disk at (record disk { blocks = left }) ⊎ HasPairNewContent disk at new (record disk { blocks = left })
     go (inl log) =
-        inl (before (still_active disk at active other left k.sides (stays_same (block_at disk active) (block_in left active) k.had stays) (weaker_log (block_at disk other) (block_in left other) log)))
+        inl (before (still_active disk at active other left k.sides (stays_same (block_bytes_on_disk disk active) (block_bytes_in left active) k.had stays) (weaker_log (block_bytes_on_disk disk other) (block_bytes_in left other) log)))
     go (inr (inl none)) =
-        inl (before (still_active disk at active other left k.sides (stays_same (block_at disk active) (block_in left active) k.had stays) (weaker_none (block_at disk other) (block_in left other) none)))
+        inl (before (still_active disk at active other left k.sides (stays_same (block_bytes_on_disk disk active) (block_bytes_in left active) k.had stays) (weaker_none (block_bytes_on_disk disk other) (block_bytes_in left other) none)))
     go (inr (inr holds)) = inr (record {
       content = raw_in (record disk { blocks = left }) at other new (compacted disk at active other revision new left k same holds);
       first = compacted_first disk at active other revision new left k same holds;
@@ -209,133 +209,133 @@ left_by_compaction disk at active other revision new left k (same, which) = reco
 
 -- ---- by what the pair says
 
-pub is_compacting : (disk : Disk) (pair : Pair) (other revision : ℕ) → IsAddressOn disk (address_in pair) → IsActive disk pair
-    → other ≡ other_in pair → pair.revision < 2 ^ 32 → revision ≡ (pair.revision + 1) % 2 ^ 32 → IsCompacting disk (address_in pair) pair.active other revision
+pub is_compacting : (disk : Disk) (pair : Pair) (other revision : ℕ) → IsPairAddressOnDisk disk (address_of_header pair) → HeaderSaysActiveBlock disk pair
+    → other ≡ inactive_block_in_header pair → pair.revision < 2 ^ 32 → revision ≡ (pair.revision + 1) % 2 ^ 32 → IsCompacting disk (address_of_header pair) pair.active other revision
 is_compacting disk pair other revision on is also small next =
-    let both : Sides disk (address_in pair) pair.active other = subst (Sides disk (address_in pair) pair.active) (sym also) (sides disk (address_in pair) pair.active on.apart is.active) in
+    let both : Sides disk (address_of_header pair) pair.active other = subst (Sides disk (address_of_header pair) pair.active) (sym also) (sides disk (address_of_header pair) pair.active on.apart is.active) in
     record {
       sides = both;
-      apart = λ same. sides_apart disk (address_in pair) pair.active other on.apart both (sym same);
+      apart = λ same. sides_apart disk (address_of_header pair) pair.active other on.apart both (sym same);
       is = is.active;
-      had = held_commit disk (address_in pair) pair.active is.holds;
+      had = held_commit disk (address_of_header pair) pair.active is.holds;
       small = subst (λ r. r < 2 ^ 32) is.revision_is small;
       next = next ∙ ap (λ r. (r + 1) % 2 ^ 32) is.revision_is;
     }
 
-pub is_active : (disk : Disk) (history : List Event) (pair : Pair) (held : RawContent) → IsPair disk history pair held → IsActive disk pair
+pub is_active : (disk : Disk) (history : List CallEvent) (pair : Pair) (held : RawContent) → IsPairOnDisk disk history pair held → HeaderSaysActiveBlock disk pair
 is_active disk history pair held is = record { active = is.active; holds = is.holds; revision_is = is.describes.revision }
 
 -- a pair that was just written
-pub now_holds : (disk : Disk) (history : List Event) (at : ℕ × ℕ) (pair : Pair) (active : ℕ) (c : RawContent) → IsIn disk at active c
-    → address_in pair ≡ at → pair.active ≡ active → pair.is_fetched ≡ false → pair.revision ≡ revision_of (block_at disk active)
-    → {end last : ℕ} → EndsWith end last pair → IsWritten disk history active end last → IsHeaderOf c pair → IsLogged c → PairHolds disk history at pair c
+pub now_holds : (disk : Disk) (history : List CallEvent) (at : ℕ × ℕ) (pair : Pair) (active : ℕ) (c : RawContent) → IsIn disk at active c
+    → address_of_header pair ≡ at → pair.active ≡ active → pair.is_fetched ≡ false → pair.revision ≡ revision_of_block (block_bytes_on_disk disk active)
+    → {end last : ℕ} → HeaderHasLogEnd end last pair → LogEndsOnPage disk history active end last → IsHeaderOfContent c pair → IsWellFormedRawContent c → PairHasContent disk history at pair c
 now_holds disk history at pair active c in_block same is fetched revision ends written sums logged = record {
   is_pair = record {
-    active = is ∙ in_block.active_is ∙ ap (active_at disk) (sym same);
-    holds = ap (holder_at disk) same ∙ holder_in disk at active in_block.active_is in_block.has ∙ ap (λ b. Some (block_at disk b)) (sym is);
+    active = is ∙ in_block.active_is ∙ ap (active_block_at disk) (sym same);
+    holds = ap (current_block_of_pair_at disk) same ∙ holder_in disk at active in_block.active_is in_block.has ∙ ap (λ b. Some (block_bytes_on_disk disk b)) (sym is);
     describes = record {
-      content = ap (λ b. content_after_all no_content (log_entries (block_at disk b))) is ∙ in_block.content;
-      end = ends.end_is ∙ written.end_is ∙ ap (λ b. (chain_of (block_at disk b)).end) (sym is);
-      last = ends.last_is ∙ written.last_is ∙ ap (λ b. (chain_of (block_at disk b)).last) (sym is);
-      revision = revision ∙ ap (λ b. revision_of (block_at disk b)) (sym is);
+      content = ap (λ b. content_after_log_entries empty_raw_content (log_entries_of_block (block_bytes_on_disk disk b))) is ∙ in_block.content;
+      end = ends.end_is ∙ written.end_is ∙ ap (λ b. (chain_of (block_bytes_on_disk disk b)).end) (sym is);
+      last = ends.last_is ∙ written.last_is ∙ ap (λ b. (chain_of (block_bytes_on_disk disk b)).last) (sym is);
+      revision = revision ∙ ap (λ b. revision_of_block (block_bytes_on_disk disk b)) (sym is);
       sums = sums;
       logged = logged;
     };
     whole_pages = λ w. ap (λ e. e % disk.page) ends.end_is ∙ written.whole_pages;
-    unprogrammed = λ w. subst (λ b. AllUnprogrammed history b pair.end disk.block_size) (sym is)
-        (subst (λ e. AllUnprogrammed history active e disk.block_size) (sym ends.end_is) written.unprogrammed);
+    unprogrammed = λ w. subst (λ b. AreBytesUnprogrammed history b pair.end disk.block_size) (sym is)
+        (subst (λ e. AreBytesUnprogrammed history active e disk.block_size) (sym ends.end_is) written.unprogrammed);
   };
   same = same;
   content = raw_in disk at active c in_block;
   written = fetched;
 }
 
-pub is_appending : (disk : Disk) (history : List Event) (pair : Pair) (held new : RawContent) (changes : List Change) (b : Building) → IsAddressOn disk (address_in pair) → IsPair disk history pair held
-    → changed_by held changes ≡ Some new → b.entries ≡ entries_of_changes changes → b.revision ≡ None → IsAppending disk (address_in pair) pair.active (other_in pair) held new b
+pub is_appending : (disk : Disk) (history : List CallEvent) (pair : Pair) (held new : RawContent) (changes : List ContentChange) (b : CommitBeingBuilt) → IsPairAddressOnDisk disk (address_of_header pair) → IsPairOnDisk disk history pair held
+    → content_after_changes held changes ≡ Some new → b.entries ≡ log_entries_of_changes changes → b.revision ≡ None → IsAppending disk (address_of_header pair) pair.active (inactive_block_in_header pair) held new b
 is_appending disk history pair held new changes b on is made entries none =
-    let both = sides disk (address_in pair) pair.active on.apart is.active in
+    let both = sides disk (address_of_header pair) pair.active on.apart is.active in
     record {
       sides = both;
-      apart = sides_apart disk (address_in pair) pair.active (other_in pair) on.apart both;
+      apart = sides_apart disk (address_of_header pair) pair.active (inactive_block_in_header pair) on.apart both;
       is = is.active;
-      had = held_commit disk (address_in pair) pair.active is.holds;
+      had = held_commit disk (address_of_header pair) pair.active is.holds;
       held_is = is.describes.content;
-      more = ap (content_after_all held) entries ∙ changed_content held new changes made;
+      more = ap (content_after_log_entries held) entries ∙ changed_content held new changes made;
       no_revision = none;
     }
 
 -- what the changes make of what the pair holds is what they make of its block's content
-pub made_is : (disk : Disk) (history : List Event) (pair : Pair) (held : RawContent) (changes : List Change) → IsPair disk history pair held → made_at disk (address_in pair) changes ≡ changed_by held changes
+pub made_is : (disk : Disk) (history : List CallEvent) (pair : Pair) (held : RawContent) (changes : List ContentChange) → IsPairOnDisk disk history pair held → pair_content_after_changes disk (address_of_header pair) changes ≡ content_after_changes held changes
 made_is disk history pair held changes is =
-    ap (option_and_then (λ c. changed_by c changes)) (raw_held disk (address_in pair) pair.active is.holds ∙ is.describes.content)
+    ap (option_and_then (λ c. content_after_changes c changes)) (raw_held disk (address_of_header pair) pair.active is.holds ∙ is.describes.content)
 
 -- the log of a pair ends within its block
-pub ends_in_block : (disk : Disk) (history : List Event) (pair : Pair) (held : RawContent) (block_size : ℕ) → IsPair disk history pair held → length (block_at disk pair.active) ≡ block_size → 1024 ≤ block_size → pair.end ≤ block_size
+pub ends_in_block : (disk : Disk) (history : List CallEvent) (pair : Pair) (held : RawContent) (block_size : ℕ) → IsPairOnDisk disk history pair held → length (block_bytes_on_disk disk pair.active) ≡ block_size → 1024 ≤ block_size → pair.end ≤ block_size
 ends_in_block disk history pair held block_size is size large =
-    let within = chain_ends (block_at disk pair.active) (omega (arith, size, large)) in
+    let within = chain_ends (block_bytes_on_disk disk pair.active) (omega (arith, size, large)) in
     let end = is.describes.end in
     omega (arith, within, end, size)
 
 -- the active block is one of the two
-pub active_among : (disk : Disk) (history : List Event) (pair : Pair) (held : RawContent) → IsAddressOn disk (address_in pair) → IsPair disk history pair held
-    → (pair.active ≡ (address_in pair).0) ⊎ (pair.active ≡ (address_in pair).1)
+pub active_among : (disk : Disk) (history : List CallEvent) (pair : Pair) (held : RawContent) → IsPairAddressOnDisk disk (address_of_header pair) → IsPairOnDisk disk history pair held
+    → (pair.active ≡ (address_of_header pair).0) ⊎ (pair.active ≡ (address_of_header pair).1)
 active_among disk history pair held on is =
-    active_is disk (address_in pair) pair.active (other_in pair) (sides disk (address_in pair) pair.active on.apart is.active)
+    active_is disk (address_of_header pair) pair.active (inactive_block_in_header pair) (sides disk (address_of_header pair) pair.active on.apart is.active)
 
 -- it is a block of the device, and the log ends within it
-pub active_below : (disk : Disk) (history : List Event) (pair : Pair) (held : RawContent) (block_count : ℕ) → IsAddressOn disk (address_in pair) → IsPair disk history pair held
+pub active_below : (disk : Disk) (history : List CallEvent) (pair : Pair) (held : RawContent) (block_count : ℕ) → IsPairAddressOnDisk disk (address_of_header pair) → IsPairOnDisk disk history pair held
     → length disk.blocks ≡ block_count → pair.active < block_count
 active_below disk history pair held block_count on is count =
-    let below = below_count disk (address_in pair) pair.active on (active_among disk history pair held on is) in omega (arith, below, count)
+    let below = below_count disk (address_of_header pair) pair.active on (active_among disk history pair held on is) in omega (arith, below, count)
 
 pub some_same : {c d : RawContent} → Some c ≡ Some d → c ≡ d
 some_same e = cc
 
-pub gets_revision : (b : Building) (old left : List ℕ) → b.revision ≡ None → GetsCommit b old left → revision_of left ≡ revision_of old
-gets_revision b old left none gets = gets.revision ∙ ap (λ r. unwrap_or r (revision_of old)) none
+pub gets_revision : (b : CommitBeingBuilt) (old left : List ℕ) → b.revision ≡ None → LogGetsCommit b old left → revision_of_block left ≡ revision_of_block old
+gets_revision b old left none gets = gets.revision ∙ ap (λ r. unwrap_or r (revision_of_block old)) none
 
 only : (other b k d : ℕ) → k < length (b ∷ []) → b ≢ other → get_or (b ∷ []) k d ≢ other
 only other b zero d l apart = apart
 only other b (suc k) d l apart = absurd (omega arith)
 
 -- what a call on one of the pair's blocks leaves unprogrammed elsewhere
-pub stays_outside : (at : ℕ × ℕ) (b : ℕ) (old new : List Event) → (b ≡ at.0) ⊎ (b ≡ at.1) → StayUnprogrammed (b ∷ []) old new → OutsideStays at old new
-stays_outside at b old new (inl is) stays = StayUnprogrammed-wider (at.0 ∷ at.1 ∷ []) (λ other apart k d l. only other b k d l (λ same. apart 0 0 (omega arith) (sym is ∙ same))) stays
-stays_outside at b old new (inr is) stays = StayUnprogrammed-wider (at.0 ∷ at.1 ∷ []) (λ other apart k d l. only other b k d l (λ same. apart 1 0 (omega arith) (sym is ∙ same))) stays
+pub stays_outside : (at : ℕ × ℕ) (b : ℕ) (old new : List CallEvent) → (b ≡ at.0) ⊎ (b ≡ at.1) → AreBytesStillUnprogrammed (b ∷ []) old new → KeepsUnprogrammedOutsidePair at old new
+stays_outside at b old new (inl is) stays = AreBytesStillUnprogrammed-wider (at.0 ∷ at.1 ∷ []) (λ other apart k d l. only other b k d l (λ same. apart 0 0 (omega arith) (sym is ∙ same))) stays
+stays_outside at b old new (inr is) stays = AreBytesStillUnprogrammed-wider (at.0 ∷ at.1 ∷ []) (λ other apart k d l. only other b k d l (λ same. apart 1 0 (omega arith) (sym is ∙ same))) stays
 
 -- what changes make of a block with these bytes, they make of the pair
-pub made_here : (disk : Disk) (history : List Event) (pair : Pair) (held : RawContent) (block : List ℕ) (changes : List Change) (new : Option RawContent) → IsPair disk history pair held
-    → block ≡ block_at disk pair.active → made_in block changes ≡ new → made_at disk (address_in pair) changes ≡ new
+pub made_here : (disk : Disk) (history : List CallEvent) (pair : Pair) (held : RawContent) (block : List ℕ) (changes : List ContentChange) (new : Option RawContent) → IsPairOnDisk disk history pair held
+    → block ≡ block_bytes_on_disk disk pair.active → log_content_after_changes block changes ≡ new → pair_content_after_changes disk (address_of_header pair) changes ≡ new
 made_here disk history pair held block changes new is here made =
-    ap (λ h. made_of h changes) (raw_held disk (address_in pair) pair.active is.holds) ∙ ap (λ b. made_in b changes) (sym here) ∙ made
+    ap (λ h. content_made_by_changes h changes) (raw_held disk (address_of_header pair) pair.active is.holds) ∙ ap (λ b. log_content_after_changes b changes) (sym here) ∙ made
 
 -- where the log ends that holds, and by which tag
-pub ends_here : (disk : Disk) (history : List Event) (pair : Pair) (held : RawContent) (block : List ℕ) → IsPair disk history pair held → block ≡ block_at disk pair.active → EndsWith (chain_of block).end (chain_of block).last pair
+pub ends_here : (disk : Disk) (history : List CallEvent) (pair : Pair) (held : RawContent) (block : List ℕ) → IsPairOnDisk disk history pair held → block ≡ block_bytes_on_disk disk pair.active → HeaderHasLogEnd (chain_of block).end (chain_of block).last pair
 ends_here disk history pair held block is here = record {
   end_is = is.describes.end ∙ ap (λ b. (chain_of b).end) (sym here);
   last_is = is.describes.last ∙ ap (λ b. (chain_of b).last) (sym here);
 }
 
 -- the disk itself, before a call
-pub left_alone : (disk : Disk) (at : ℕ × ℕ) (changes : List Change) → LeftByChange disk at changes disk.blocks
-left_alone disk at changes = record { others = SameButThese-refl (at.0 ∷ at.1 ∷ []) disk.blocks; content = inl (record { content = refl; first = λ e h. h }) }
+pub left_alone : (disk : Disk) (at : ℕ × ℕ) (changes : List ContentChange) → LeavesOldOrChangedContent disk at changes disk.blocks
+left_alone disk at changes = record { others = AreBlocksEqualExceptThese-refl (at.0 ∷ at.1 ∷ []) disk.blocks; content = inl (record { content = refl; first = λ e h. h }) }
 
 -- what changes make is what is left, where that isn't what was
-pub left_by_change : (disk : Disk) (at : ℕ × ℕ) (changes : List Change) (new : RawContent) (left : Blocks) → made_at disk at changes ≡ Some new → FitsRaw disk.block_size disk.page new → IsLogged new
-    → LeftWith disk at new left → LeftByChange disk at changes left
+pub left_by_change : (disk : Disk) (at : ℕ × ℕ) (changes : List ContentChange) (new : RawContent) (left : Blocks) → pair_content_after_changes disk at changes ≡ Some new → IsRawContentFittingPair disk.block_size disk.page new → IsWellFormedRawContent new
+    → LeavesOldOrNewContent disk at new left → LeavesOldOrChangedContent disk at changes left
 left_by_change disk at changes new left made fits logged l = record { others = l.others; content = go l.content }
   where
-    go : HasSameContent disk at (record disk { blocks = left }) ⊎ HasNewContent disk at new (record disk { blocks = left }) → HasSameContent disk at (record disk { blocks = left }) ⊎ HasChangesMade disk at changes (record disk { blocks = left })
+    go : HasPairContentAsBefore disk at (record disk { blocks = left }) ⊎ HasPairNewContent disk at new (record disk { blocks = left }) → HasPairContentAsBefore disk at (record disk { blocks = left }) ⊎ HasContentMadeByChanges disk at changes (record disk { blocks = left })
     go (inl still) = inl still
     go (inr now) = inr (record { new = new; made = made; fits = fits; logged = logged; now = now })
 
-second_alone : (a b : List ℕ) → has_commit b ≡ false → second_holds a b ≡ false
+second_alone : (a b : List ℕ) → has_commit b ≡ false → is_second_block_active a b ≡ false
 second_alone a b none = rw none refl
 
 -- where the second block has no commit, the first holds
-pub first_in : (disk : Disk) (at : ℕ × ℕ) (revision : ℕ) (c : RawContent) → has_commit (block_at disk at.1) ≡ false → HoldsLogContent revision c (block_at disk at.0) → IsIn disk at at.0 c
+pub first_in : (disk : Disk) (at : ℕ × ℕ) (revision : ℕ) (c : RawContent) → has_commit (block_bytes_on_disk disk at.1) ≡ false → HasContentInOneCommit revision c (block_bytes_on_disk disk at.0) → IsIn disk at at.0 c
 first_in disk at revision c cleared holds = record {
-  active_is = sym (ap (λ s. cond s at.1 at.0) (second_alone (block_at disk at.0) (block_at disk at.1) cleared));
+  active_is = sym (ap (λ s. cond s at.1 at.0) (second_alone (block_bytes_on_disk disk at.0) (block_bytes_on_disk disk at.1) cleared));
   has = holds.has_commit;
   content = holds.content;
 }

@@ -3,10 +3,10 @@ use Rattle.std.proofs.Common.{ℕ, zero, suc, ◌≡◌, ◌+◌, ◌*◌, ◌-�
 use Rattle.std.proofs.lemmas.Bool.{cases_lt}
 use Rattle.std.proofs.lemmas.List.{length-map, length-take-le}
 use Rattle.std.proofs.lemmas.List.Sums.{sum_by-cons, sum_by-take-drop, sum_by-take-le}
-use Rattle.lfs_model.specs.Disk.{pair_capacity, slot_limit}
+use Rattle.lfs_model.specs.Disk.{pair_capacity, slots_per_pair_limit}
 use Rattle.lfs_model.specs.Content.{RawSlot}
 use Rattle.lfs_model.specs.WrittenContent.{raw_slot_size}
-use Rattle.lfs_pair.specs.Cut.{FitSlots, IsCutOfSlots, CanBeCut, IsMiddle}
+use Rattle.lfs_pair.specs.Cut.{FitSlots, IsCutOfSlots, CanBeCut, IsMiddleCutOfSlots}
 
 -- a longer front is no smaller
 front_grows : {X : Type 0} (f : X → ℕ) (xs : List X) (a b : ℕ) → a ≤ b → sum_by f (take a xs) ≤ sum_by f (take b xs)
@@ -33,7 +33,7 @@ cut_after block_size page slots first cut is before within fits =
     }
 
 -- where a longer front doesn't fit, no cut is later
-not_later : (block_size page : ℕ) (slots : List RawSlot) (cut k : ℕ) → (cut + 1 ≤ slot_limit → sum_by raw_slot_size (take (cut + 1) slots) ≤ pair_capacity block_size page → ⊥) → IsCutOfSlots block_size page slots k → k ≤ cut
+not_later : (block_size page : ℕ) (slots : List RawSlot) (cut k : ℕ) → (cut + 1 ≤ slots_per_pair_limit → sum_by raw_slot_size (take (cut + 1) slots) ≤ pair_capacity block_size page → ⊥) → IsCutOfSlots block_size page slots k → k ≤ cut
 not_later block_size page slots cut k full is = elim (cases_lt cut k) [
   | inl later ↦ absurd (full (omega (arith, length-take-le k slots is.within, is.front.count)) (omega (arith, front_grows raw_slot_size slots (cut + 1) k (omega arith), is.front.size)))
   | inr le ↦ le
@@ -52,7 +52,7 @@ pub nothing_in_front : (block_size page : ℕ) (slots : List RawSlot) → Fronts
 nothing_in_front block_size page slots = record { fits = record { size = omega arith; count = omega arith }; passes = λ k l is. absurd (omega arith) }
 
 -- at the end all stand in front
-pub cut_at_end : (block_size page : ℕ) (slots : List RawSlot) (cut : ℕ) → cut ≡ length slots → Fronts block_size page slots cut → IsMiddle block_size page slots cut
+pub cut_at_end : (block_size page : ℕ) (slots : List RawSlot) (cut : ℕ) → cut ≡ length slots → Fronts block_size page slots cut → IsMiddleCutOfSlots block_size page slots cut
 cut_at_end block_size page slots cut is front =
     let none : drop cut slots ≡ [] = drop_of_length-le slots (omega arith) in
     record {
@@ -63,8 +63,8 @@ cut_at_end block_size page slots cut is front =
 
 -- the back fits, and one slot more in front is past the middle
 pub cut_where_fits : (block_size page : ℕ) (slots : List RawSlot) (cut : ℕ) → cut ≤ length slots → Fronts block_size page slots cut
-    → sum_by raw_slot_size slots - sum_by raw_slot_size (take cut slots) ≤ pair_capacity block_size page → length slots - cut ≤ slot_limit
-    → sum_by raw_slot_size slots < 2 * sum_by raw_slot_size (take (cut + 1) slots) → IsMiddle block_size page slots cut
+    → sum_by raw_slot_size slots - sum_by raw_slot_size (take cut slots) ≤ pair_capacity block_size page → length slots - cut ≤ slots_per_pair_limit
+    → sum_by raw_slot_size slots < 2 * sum_by raw_slot_size (take (cut + 1) slots) → IsMiddleCutOfSlots block_size page slots cut
 cut_where_fits block_size page slots cut within front size count past =
     record {
       is_cut = record {
@@ -78,7 +78,7 @@ cut_where_fits block_size page slots cut within front size count past =
 
 -- the next slot doesn't fit in front
 pub cut_where_full : (block_size page : ℕ) (slots : List RawSlot) (cut : ℕ) → cut < length slots → Fronts block_size page slots cut → CanBeCut block_size page slots
-    → (cut + 1 ≤ slot_limit → sum_by raw_slot_size (take (cut + 1) slots) ≤ pair_capacity block_size page → ⊥) → IsMiddle block_size page slots cut
+    → (cut + 1 ≤ slots_per_pair_limit → sum_by raw_slot_size (take (cut + 1) slots) ≤ pair_capacity block_size page → ⊥) → IsMiddleCutOfSlots block_size page slots cut
 cut_where_full block_size page slots cut within front can full =
     record {
       is_cut = cut_after block_size page slots can.cut cut can.is_cut (not_later block_size page slots cut can.cut full can.is_cut) (omega arith) front.fits;
@@ -91,7 +91,7 @@ pub passes_where_small : (block_size page : ℕ) (slots : List RawSlot) (cut : �
 passes_where_small block_size page slots cut small = λ k l is. small
 
 pub passes_where_back : (block_size page : ℕ) (slots : List RawSlot) (cut : ℕ) → cut ≤ length slots → FitSlots block_size page (take cut slots)
-    → (length slots - cut ≤ slot_limit → sum_by raw_slot_size slots - sum_by raw_slot_size (take cut slots) ≤ pair_capacity block_size page → ⊥) → Passes block_size page slots (cut + 1)
+    → (length slots - cut ≤ slots_per_pair_limit → sum_by raw_slot_size slots - sum_by raw_slot_size (take cut slots) ≤ pair_capacity block_size page → ⊥) → Passes block_size page slots (cut + 1)
 passes_where_back block_size page slots cut within fits back = λ k l is.
     let here = cut_after block_size page slots k cut is (omega arith) within fits in
     absurd (back (omega (arith, length-drop cut slots, here.back.count)) (omega (arith, sum_by-take-drop raw_slot_size slots cut, here.back.size)))
@@ -126,6 +126,6 @@ sums_of g block_size page xs i x size device can l at is =
     let here : size ≡ raw_slot_size (g x) = omega arith in
     record { small = omega arith; longer = omega arith; within = omega arith }
 
-pub fits_more : {X : Type 0} (g : X → RawSlot) (block_size page : ℕ) (xs : List X) (i : ℕ) → i < length xs → i + 1 ≤ slot_limit → sum_by raw_slot_size (take (i + 1) (map g xs)) ≤ pair_capacity block_size page
+pub fits_more : {X : Type 0} (g : X → RawSlot) (block_size page : ℕ) (xs : List X) (i : ℕ) → i < length xs → i + 1 ≤ slots_per_pair_limit → sum_by raw_slot_size (take (i + 1) (map g xs)) ≤ pair_capacity block_size page
     → FitSlots block_size page (take (i + 1) (map g xs))
 fits_more g block_size page xs i l count within = record { size = within; count = omega (arith, length-take-le (i + 1) (map g xs) (omega (arith, length-map xs g))) }

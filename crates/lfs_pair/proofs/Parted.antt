@@ -3,30 +3,30 @@ use Rattle.std.specs.Prelude.{All}
 use Rattle.std.proofs.Common.{ℕ, zero, suc, get_or, ◌≡◌, ◌≢◌, ◌+◌, ◌≤◌, ◌<◌, ◌==◌, ◌&&◌, ◌^◌, false, List, [], ◌∷◌, Some, length, take, drop, sum_by, refl, sym, ap, ◌∙◌, subst, arith, inl, inr}
 use Rattle.std.proofs.lemmas.Bool.{cases_lt, ne_eqb}
 use Rattle.std.proofs.lemmas.List.{take_all}
-use Rattle.lfs_device.specs.Shown.{disk_of}
+use Rattle.lfs_device.specs.Shown.{disk_of_geometry_and_blocks}
 use Rattle.lfs_device.specs.declared.geometry.Geometry.{Geometry}
-use Rattle.lfs_model.specs.Blocks.{Blocks, block_in}
-use Rattle.lfs_model.specs.Disk.{Disk, pair_capacity, slot_limit}
-use Rattle.lfs_model.specs.History.{EachSince, Event, OnlyReads}
+use Rattle.lfs_model.specs.Blocks.{Blocks, block_bytes_in}
+use Rattle.lfs_model.specs.Disk.{Disk, pair_capacity, slots_per_pair_limit}
+use Rattle.lfs_model.specs.History.{IsTrueOfEachCallSince, CallEvent, AreCallsSinceOnlyReads}
 use Rattle.lfs_model.specs.Slots.{null_address}
-use Rattle.lfs_model.specs.Content.{RawSlot, RawContent, holder_at, raw_at}
+use Rattle.lfs_model.specs.Content.{RawSlot, RawContent, current_block_of_pair_at, raw_content_of_pair_at}
 use Rattle.lfs_model.specs.Log.{LogEntry}
-use Rattle.lfs_model.specs.LoggedContent.{HaveNames, HaveParts, IsLogged}
-use Rattle.lfs_model.specs.WrittenContent.{FitsRaw, raw_slot_size}
-use Rattle.lfs_model.specs.Changes.{Change}
-use Rattle.lfs_model.proofs.Histories.{EachSince-until}
+use Rattle.lfs_model.specs.LoggedContent.{AreNamedSlots, AreWellFormedRawSlots, IsWellFormedRawContent}
+use Rattle.lfs_model.specs.WrittenContent.{IsRawContentFittingPair, raw_slot_size}
+use Rattle.lfs_model.specs.Changes.{ContentChange}
+use Rattle.lfs_model.proofs.Histories.{IsTrueOfEachCallSince-until}
 use Rattle.lfs_model.proofs.Logged.{nothing_logged}
-use Rattle.lfs_model.proofs.Overwrites.{SameButThese-refl, SameButThese-trans, SameButThese-wider}
-use Rattle.lfs_model.proofs.Staying.{AreElsewhere, holder_at-stays, raw_at-stays}
+use Rattle.lfs_model.proofs.Overwrites.{AreBlocksEqualExceptThese-refl, AreBlocksEqualExceptThese-trans, AreBlocksEqualExceptThese-wider}
+use Rattle.lfs_model.proofs.Staying.{AreElsewhere, current_block_of_pair_at-stays, raw_content_of_pair_at-stays}
 use Rattle.lfs_pair.specs.declared.pair.Pair.{Pair}
-use Rattle.lfs_pair.specs.Pair.{address_in}
-use Rattle.lfs_model.specs.View.{BeginsWithEntry}
-use Rattle.lfs_pair.specs.Commit.{HasNewContent, HasSameContent, KeepsFirst, LeftWith, OutsideKeeps, made_in, made_at}
+use Rattle.lfs_pair.specs.Pair.{address_of_header}
+use Rattle.lfs_model.specs.View.{BeginsWithLogEntry}
+use Rattle.lfs_pair.specs.Commit.{HasPairNewContent, HasPairContentAsBefore, KeepsFirstEntry, LeavesOldOrNewContent, KeepsBlocksOutsidePair, log_content_after_changes, pair_content_after_changes}
 use Rattle.lfs_pair.specs.Cut.{IsCutOfSlots}
-use Rattle.lfs_pair.specs.Fresh.{ClearsLogs}
-use Rattle.lfs_pair.specs.Writing.{HoldsAnew}
-use Rattle.lfs_pair.specs.Split.{AreApart, AreParts, CanSplit, CutsInside, LeftBySplit, OutsideBothKeeps}
-use Rattle.lfs_pair.proofs.Stay.{IsPair-reads}
+use Rattle.lfs_pair.specs.Fresh.{WritesBlocksAndClearsOne}
+use Rattle.lfs_pair.specs.Writing.{IsBlockWrittenAnew}
+use Rattle.lfs_pair.specs.Split.{HaveNoCommonBlock, ArePartsOfContent, CanSplitPair, BothPartsHaveSlots, LeavesOldContentOrParts, KeepsBlocksOutsideBothPairs}
+use Rattle.lfs_pair.proofs.Stay.{IsPairOnDisk-reads}
 use Rattle.lfs_pair.proofs.Changed.{made_here, made_is, some_same}
 
 -- ---- blocks of two pairs
@@ -39,13 +39,13 @@ both P a b p q = go
     go (suc zero) d l = q
     go (suc (suc k)) d l = absurd (omega arith)
 
-pub pair_elsewhere : {at fresh : ℕ × ℕ} → AreApart at fresh → AreElsewhere at (fresh.0 ∷ fresh.1 ∷ [])
+pub pair_elsewhere : {at fresh : ℕ × ℕ} → HaveNoCommonBlock at fresh → AreElsewhere at (fresh.0 ∷ fresh.1 ∷ [])
 pair_elsewhere {at} {fresh} apart = record {
   first = both (λ b. b ≢ at.0) fresh.0 fresh.1 (λ is. apart.first_first (sym is)) (λ is. apart.first_second (sym is));
   second = both (λ b. b ≢ at.1) fresh.0 fresh.1 (λ is. apart.second_first (sym is)) (λ is. apart.second_second (sym is));
 }
 
-pub fresh_elsewhere : {at fresh : ℕ × ℕ} → AreApart at fresh → AreElsewhere fresh (at.0 ∷ at.1 ∷ [])
+pub fresh_elsewhere : {at fresh : ℕ × ℕ} → HaveNoCommonBlock at fresh → AreElsewhere fresh (at.0 ∷ at.1 ∷ [])
 fresh_elsewhere {at} {fresh} apart = record {
   first = both (λ b. b ≢ fresh.0) at.0 at.1 apart.first_first apart.second_first;
   second = both (λ b. b ≢ fresh.1) at.0 at.1 apart.first_second apart.second_second;
@@ -57,41 +57,41 @@ among_first at fresh other apart = both (λ c. c ≢ other) at.0 at.1 (apart 0 0
 pub among_second : (at fresh : ℕ × ℕ) (other : ℕ) → All (λ c. c ≢ other) (at.0 ∷ at.1 ∷ fresh.0 ∷ fresh.1 ∷ []) → All (λ c. c ≢ other) (fresh.0 ∷ fresh.1 ∷ [])
 among_second at fresh other apart = both (λ c. c ≢ other) fresh.0 fresh.1 (apart 2 0 (omega arith)) (apart 3 0 (omega arith))
 
-pub keeps_by_fresh : (at fresh : ℕ × ℕ) {old new : Blocks} → OutsideKeeps fresh old new → OutsideBothKeeps at fresh old new
-keeps_by_fresh at fresh same = SameButThese-wider (at.0 ∷ at.1 ∷ fresh.0 ∷ fresh.1 ∷ []) (among_second at fresh) same
+pub keeps_by_fresh : (at fresh : ℕ × ℕ) {old new : Blocks} → KeepsBlocksOutsidePair fresh old new → KeepsBlocksOutsideBothPairs at fresh old new
+keeps_by_fresh at fresh same = AreBlocksEqualExceptThese-wider (at.0 ∷ at.1 ∷ fresh.0 ∷ fresh.1 ∷ []) (among_second at fresh) same
 
-pub keeps_by_both : (at fresh : ℕ × ℕ) {old mid new : Blocks} → OutsideKeeps fresh old mid → OutsideKeeps at mid new → OutsideBothKeeps at fresh old new
-keeps_by_both at fresh first second = SameButThese-trans (keeps_by_fresh at fresh first) (SameButThese-wider (at.0 ∷ at.1 ∷ fresh.0 ∷ fresh.1 ∷ []) (among_first at fresh) second)
+pub keeps_by_both : (at fresh : ℕ × ℕ) {old mid new : Blocks} → KeepsBlocksOutsidePair fresh old mid → KeepsBlocksOutsidePair at mid new → KeepsBlocksOutsideBothPairs at fresh old new
+keeps_by_both at fresh first second = AreBlocksEqualExceptThese-trans (keeps_by_fresh at fresh first) (AreBlocksEqualExceptThese-wider (at.0 ∷ at.1 ∷ fresh.0 ∷ fresh.1 ∷ []) (among_first at fresh) second)
 
 -- ---- both parts can be written
 
-HaveParts-take : (n : ℕ) (slots : List RawSlot) → HaveParts slots → HaveParts (take n slots)
+HaveParts-take : (n : ℕ) (slots : List RawSlot) → AreWellFormedRawSlots slots → AreWellFormedRawSlots (take n slots)
 HaveParts-take zero slots have = tt
 HaveParts-take (suc n) [] have = tt
 HaveParts-take (suc n) (s ∷ slots) have = (have.0, HaveParts-take n slots have.1)
 
-HaveParts-drop : (n : ℕ) (slots : List RawSlot) → HaveParts slots → HaveParts (drop n slots)
+HaveParts-drop : (n : ℕ) (slots : List RawSlot) → AreWellFormedRawSlots slots → AreWellFormedRawSlots (drop n slots)
 HaveParts-drop zero slots have = have
 HaveParts-drop (suc n) [] have = tt
 HaveParts-drop (suc n) (s ∷ slots) have = HaveParts-drop n slots have.1
 
-HaveNames-take : (n : ℕ) (slots : List RawSlot) → HaveNames slots → HaveNames (take n slots)
-HaveNames-take zero slots have = tt
-HaveNames-take (suc n) [] have = tt
-HaveNames-take (suc n) (s ∷ slots) have = (have.0, HaveNames-take n slots have.1)
+AreNamedSlots-take : (n : ℕ) (slots : List RawSlot) → AreNamedSlots slots → AreNamedSlots (take n slots)
+AreNamedSlots-take zero slots have = tt
+AreNamedSlots-take (suc n) [] have = tt
+AreNamedSlots-take (suc n) (s ∷ slots) have = (have.0, AreNamedSlots-take n slots have.1)
 
-HaveNames-drop : (n : ℕ) (slots : List RawSlot) → HaveNames slots → HaveNames (drop n slots)
-HaveNames-drop zero slots have = have
-HaveNames-drop (suc n) [] have = tt
-HaveNames-drop (suc n) (s ∷ slots) have = HaveNames-drop n slots have.1
+AreNamedSlots-drop : (n : ℕ) (slots : List RawSlot) → AreNamedSlots slots → AreNamedSlots (drop n slots)
+AreNamedSlots-drop zero slots have = have
+AreNamedSlots-drop (suc n) [] have = tt
+AreNamedSlots-drop (suc n) (s ∷ slots) have = AreNamedSlots-drop n slots have.1
 
 -- a content that can be written anew
 pub record IsReady (block_size page : ℕ) (c : RawContent) : Type 0 where
-  pub logged : IsLogged c
-  pub names : HaveNames c.slots
-  pub fits : FitsRaw block_size page c
+  pub logged : IsWellFormedRawContent c
+  pub names : AreNamedSlots c.slots
+  pub fits : IsRawContentFittingPair block_size page c
 
-pub front_ready : {block_size page : ℕ} {whole front back : RawContent} {fresh : ℕ × ℕ} → AreParts block_size page whole fresh front back → IsLogged whole → HaveNames whole.slots
+pub front_ready : {block_size page : ℕ} {whole front back : RawContent} {fresh : ℕ × ℕ} → ArePartsOfContent block_size page whole fresh front back → IsWellFormedRawContent whole → AreNamedSlots whole.slots
     → fresh.0 < 2 ^ 16 → fresh.1 < 2 ^ 16 → IsReady block_size page front
 front_ready {block_size} {page} {whole} {fresh = fresh} parts logged names first second =
     let real : (fresh.0 == null_address) ≡ false = ne_eqb fresh.0 null_address (λ is. absurd (omega (arith, is, first))) in
@@ -101,11 +101,11 @@ front_ready {block_size} {page} {whole} {fresh = fresh} parts logged names first
         tail = ((omega (arith, first), omega (arith, second)), ap (λ b. b && fresh.1 == null_address) real);
         move = logged.move;
       };
-      names = HaveNames-take parts.cut whole.slots names;
+      names = AreNamedSlots-take parts.cut whole.slots names;
       fits = record { size = parts.is_cut.front.size; count = parts.is_cut.front.count };
     })
 
-pub back_ready : {block_size page : ℕ} {whole front back : RawContent} {fresh : ℕ × ℕ} → AreParts block_size page whole fresh front back → IsLogged whole → HaveNames whole.slots → IsReady block_size page back
+pub back_ready : {block_size page : ℕ} {whole front back : RawContent} {fresh : ℕ × ℕ} → ArePartsOfContent block_size page whole fresh front back → IsWellFormedRawContent whole → AreNamedSlots whole.slots → IsReady block_size page back
 back_ready {block_size} {page} {whole} parts logged names =
     subst (IsReady block_size page) (sym parts.back_is) (record {
       logged = record {
@@ -113,12 +113,12 @@ back_ready {block_size} {page} {whole} parts logged names =
         tail = logged.tail;
         move = nothing_logged.move;
       };
-      names = HaveNames-drop parts.cut whole.slots names;
+      names = AreNamedSlots-drop parts.cut whole.slots names;
       fits = record { size = parts.is_cut.back.size; count = parts.is_cut.back.count };
     })
 
 -- where the whole doesn't fit, neither part is empty
-pub cut_inside : {block_size page cut : ℕ} {whole : RawContent} → IsCutOfSlots block_size page whole.slots cut → CutsInside block_size page whole cut
+pub cut_inside : {block_size page cut : ℕ} {whole : RawContent} → IsCutOfSlots block_size page whole.slots cut → BothPartsHaveSlots block_size page whole cut
 cut_inside {block_size} {page} {cut} {whole} is full = (front cut is, back)
   where
     front : (k : ℕ) → IsCutOfSlots block_size page whole.slots k → 0 < k
@@ -130,39 +130,39 @@ cut_inside {block_size} {page} {cut} {whole} is full = (front cut is, back)
       | inl lt ↦ lt
       | inr le ↦
           let all = take_all cut whole.slots le in
-          absurd (full (record { size = subst (λ s. sum_by raw_slot_size s ≤ pair_capacity block_size page) all is.front.size; count = subst (λ s. length s ≤ slot_limit) all is.front.count }))
+          absurd (full (record { size = subst (λ s. sum_by raw_slot_size s ≤ pair_capacity block_size page) all is.front.size; count = subst (λ s. length s ≤ slots_per_pair_limit) all is.front.count }))
     ]
 
 -- one more block written anew
-pub clears_more : {count revision : ℕ} {c : RawContent} {block : List ℕ} {before mid history : List Event} {P Q : Event → Type 0} → EachSince P before mid → EachSince Q mid history → ClearsLogs count before mid → HoldsAnew revision c block mid history
-    → ClearsLogs (count + 1) before history
+pub clears_more : {count revision : ℕ} {c : RawContent} {block : List ℕ} {before mid history : List CallEvent} {P Q : CallEvent → Type 0} → IsTrueOfEachCallSince P before mid → IsTrueOfEachCallSince Q mid history → WritesBlocksAndClearsOne count before mid → IsBlockWrittenAnew revision c block mid history
+    → WritesBlocksAndClearsOne (count + 1) before history
 clears_more {before = before} {mid = mid} {history = history} first second clears anew = record {
   erases = let some = clears.erases in let more = anew.erases in omega (arith, some, more);
   at_most = let most = clears.at_most in let more = anew.programs in omega (arith, most, more);
-  programs = λ logs. let one = clears.programs (EachSince-until logs first second) in let more = anew.programs in omega (arith, one, more);
+  programs = λ logs. let one = clears.programs (IsTrueOfEachCallSince-until logs first second) in let more = anew.programs in omega (arith, one, more);
 }
 
 -- ---- a pair that is being split
 
-pub record IsSplitting (disk : Disk) (at fresh : ℕ × ℕ) (changes : List Change) (front back : RawContent) : Type 0 where
+pub record IsSplitting (disk : Disk) (at fresh : ℕ × ℕ) (changes : List ContentChange) (front back : RawContent) : Type 0 where
   pub whole : RawContent
-  pub made : made_at disk at changes ≡ Some whole
-  pub logged : IsLogged whole
-  pub parts : AreParts disk.block_size disk.page whole fresh front back
-  pub apart : AreApart at fresh
+  pub made : pair_content_after_changes disk at changes ≡ Some whole
+  pub logged : IsWellFormedRawContent whole
+  pub parts : ArePartsOfContent disk.block_size disk.page whole fresh front back
+  pub apart : HaveNoCommonBlock at fresh
   pub front_ready : IsReady disk.block_size disk.page front
   pub back_ready : IsReady disk.block_size disk.page back
 
-pub is_splitting : (geometry here : Geometry) (blocks : Blocks) (history : List Event) (pair : Pair) (fresh : ℕ × ℕ) (block : List ℕ) (changes : List Change) (whole front back : RawContent)
-    → here ≡ geometry → length blocks ≡ geometry.block_count → CanSplit (disk_of geometry blocks) history pair fresh changes → block ≡ block_in blocks pair.active
-    → made_in block changes ≡ Some whole → IsLogged whole → AreParts here.block_size here.page whole fresh front back
-    → IsSplitting (disk_of geometry blocks) (address_in pair) fresh changes front back
+pub is_splitting : (geometry here : Geometry) (blocks : Blocks) (history : List CallEvent) (pair : Pair) (fresh : ℕ × ℕ) (block : List ℕ) (changes : List ContentChange) (whole front back : RawContent)
+    → here ≡ geometry → length blocks ≡ geometry.block_count → CanSplitPair (disk_of_geometry_and_blocks geometry blocks) history pair fresh changes → block ≡ block_bytes_in blocks pair.active
+    → log_content_after_changes block changes ≡ Some whole → IsWellFormedRawContent whole → ArePartsOfContent here.block_size here.page whole fresh front back
+    → IsSplitting (disk_of_geometry_and_blocks geometry blocks) (address_of_header pair) fresh changes front back
 is_splitting geometry here blocks history pair fresh block changes whole front back same count can is made_is_whole logged cut =
     let commit = can.commit in
-    let made = made_here (disk_of geometry blocks) history pair commit.held block changes (Some whole) commit.is_pair is made_is_whole in
-    let whole_is : commit.new ≡ whole = some_same (sym (made_is (disk_of geometry blocks) history pair commit.held changes commit.is_pair ∙ commit.changed) ∙ made) in
-    let names = subst (λ (c : RawContent). HaveNames c.slots) whole_is commit.names in
-    let parts = subst (λ (k : Geometry). AreParts k.block_size k.page whole fresh front back) same cut in
+    let made = made_here (disk_of_geometry_and_blocks geometry blocks) history pair commit.held block changes (Some whole) commit.is_pair is made_is_whole in
+    let whole_is : commit.new ≡ whole = some_same (sym (made_is (disk_of_geometry_and_blocks geometry blocks) history pair commit.held changes commit.is_pair ∙ commit.changed) ∙ made) in
+    let names = subst (λ (c : RawContent). AreNamedSlots c.slots) whole_is commit.names in
+    let parts = subst (λ (k : Geometry). ArePartsOfContent k.block_size k.page whole fresh front back) same cut in
     let few = geometry.valid.no_more in
     record {
       whole = whole;
@@ -174,12 +174,12 @@ is_splitting geometry here blocks history pair fresh block changes whole front b
       back_ready = back_ready parts logged names;
     }
 
-pub CanSplit-reads : {blocks : Blocks} {disk : Disk} {before after : List Event} {pair : Pair} {fresh : ℕ × ℕ} {changes : List Change} → OnlyReads blocks before after
-    → CanSplit disk before pair fresh changes → CanSplit disk after pair fresh changes
-CanSplit-reads reads can =
+pub CanSplitPair-reads : {blocks : Blocks} {disk : Disk} {before after : List CallEvent} {pair : Pair} {fresh : ℕ × ℕ} {changes : List ContentChange} → AreCallsSinceOnlyReads blocks before after
+    → CanSplitPair disk before pair fresh changes → CanSplitPair disk after pair fresh changes
+CanSplitPair-reads reads can =
     let commit = can.commit in
     record {
-      commit = record { address = commit.address; held = commit.held; is_pair = IsPair-reads reads commit.is_pair; new = commit.new; changed = commit.changed; names = commit.names };
+      commit = record { address = commit.address; held = commit.held; is_pair = IsPairOnDisk-reads reads commit.is_pair; new = commit.new; changed = commit.changed; names = commit.names };
       fresh_is = can.fresh_is;
       apart = can.apart;
       cut = can.cut;
@@ -188,35 +188,35 @@ CanSplit-reads reads can =
 -- ---- what a stop on the way there leaves
 
 -- before a call
-pub left_before : (old : Disk) (at fresh : ℕ × ℕ) (changes : List Change) → LeftBySplit old at fresh changes old.blocks
-left_before old at fresh changes = record { others = SameButThese-refl (at.0 ∷ at.1 ∷ fresh.0 ∷ fresh.1 ∷ []) old.blocks; content = inl (record { content = refl; first = λ e h. h }) }
+pub left_before : (old : Disk) (at fresh : ℕ × ℕ) (changes : List ContentChange) → LeavesOldContentOrParts old at fresh changes old.blocks
+left_before old at fresh changes = record { others = AreBlocksEqualExceptThese-refl (at.0 ∷ at.1 ∷ fresh.0 ∷ fresh.1 ∷ []) old.blocks; content = inl (record { content = refl; first = λ e h. h }) }
 
-still_elsewhere : (old : Disk) (at fresh : ℕ × ℕ) (left : Blocks) → AreApart at fresh → OutsideKeeps fresh old.blocks left → HasSameContent old at (record old { blocks = left })
+still_elsewhere : (old : Disk) (at fresh : ℕ × ℕ) (left : Blocks) → HaveNoCommonBlock at fresh → KeepsBlocksOutsidePair fresh old.blocks left → HasPairContentAsBefore old at (record old { blocks = left })
 still_elsewhere old at fresh left apart same = record {
-  content = raw_at-stays old (pair_elsewhere apart) same;
-  first = λ e h. subst (λ o. BeginsWithEntry o e) (sym (holder_at-stays old (pair_elsewhere apart) same)) h;
+  content = raw_content_of_pair_at-stays old (pair_elsewhere apart) same;
+  first = λ e h. subst (λ o. BeginsWithLogEntry o e) (sym (current_block_of_pair_at-stays old (pair_elsewhere apart) same)) h;
 }
 
-pub first_while_fresh : (old : Disk) (at fresh : ℕ × ℕ) (left : Blocks) → AreApart at fresh → OutsideKeeps fresh old.blocks left → (e : LogEntry) → BeginsWithEntry (holder_at old at) e
-    → BeginsWithEntry (holder_at (record old { blocks = left }) at) e
+pub first_while_fresh : (old : Disk) (at fresh : ℕ × ℕ) (left : Blocks) → HaveNoCommonBlock at fresh → KeepsBlocksOutsidePair fresh old.blocks left → (e : LogEntry) → BeginsWithLogEntry (current_block_of_pair_at old at) e
+    → BeginsWithLogEntry (current_block_of_pair_at (record old { blocks = left }) at) e
 first_while_fresh old at fresh left apart same = (still_elsewhere old at fresh left apart same).first
 
 -- the first entry stays where the fresh pair was written first
-pub first_behind : (old : Disk) (at fresh : ℕ × ℕ) (mid left : Blocks) (new : RawContent) → AreApart at fresh → OutsideKeeps fresh old.blocks mid
-    → KeepsFirst (record old { blocks = mid }) at (Some new) (record old { blocks = left }) → KeepsFirst old at (Some new) (record old { blocks = left })
+pub first_behind : (old : Disk) (at fresh : ℕ × ℕ) (mid left : Blocks) (new : RawContent) → HaveNoCommonBlock at fresh → KeepsBlocksOutsidePair fresh old.blocks mid
+    → KeepsFirstEntry (record old { blocks = mid }) at (Some new) (record old { blocks = left }) → KeepsFirstEntry old at (Some new) (record old { blocks = left })
 first_behind old at fresh mid left new apart same keeps e h anew = keeps e ((still_elsewhere old at fresh mid apart same).first e h) anew
 
-pub left_while_fresh : (old : Disk) (at fresh : ℕ × ℕ) (changes : List Change) (left : Blocks) → AreApart at fresh → OutsideKeeps fresh old.blocks left → LeftBySplit old at fresh changes left
+pub left_while_fresh : (old : Disk) (at fresh : ℕ × ℕ) (changes : List ContentChange) (left : Blocks) → HaveNoCommonBlock at fresh → KeepsBlocksOutsidePair fresh old.blocks left → LeavesOldContentOrParts old at fresh changes left
 left_while_fresh old at fresh changes left apart same = record { others = keeps_by_fresh at fresh same; content = inl (still_elsewhere old at fresh left apart same) }
 
-pub left_while_old : (old : Disk) (at fresh : ℕ × ℕ) (changes : List Change) (mid left : Blocks) {whole front back : RawContent} → AreApart at fresh → OutsideKeeps fresh old.blocks mid
-    → made_at old at changes ≡ Some whole → IsLogged whole → AreParts old.block_size old.page whole fresh front back → raw_at (record old { blocks = mid }) fresh ≡ Some back
-    → LeftWith (record old { blocks = mid }) at front left → LeftBySplit old at fresh changes left
+pub left_while_old : (old : Disk) (at fresh : ℕ × ℕ) (changes : List ContentChange) (mid left : Blocks) {whole front back : RawContent} → HaveNoCommonBlock at fresh → KeepsBlocksOutsidePair fresh old.blocks mid
+    → pair_content_after_changes old at changes ≡ Some whole → IsWellFormedRawContent whole → ArePartsOfContent old.block_size old.page whole fresh front back → raw_content_of_pair_at (record old { blocks = mid }) fresh ≡ Some back
+    → LeavesOldOrNewContent (record old { blocks = mid }) at front left → LeavesOldContentOrParts old at fresh changes left
 left_while_old old at fresh changes mid left {whole} {front} apart same made logged parts held stopped = record {
   others = keeps_by_both at fresh same stopped.others;
   content = elim stopped.content [
     | inl was ↦ inl (record {
-      content = was.content ∙ raw_at-stays old (pair_elsewhere apart) same;
+      content = was.content ∙ raw_content_of_pair_at-stays old (pair_elsewhere apart) same;
       first = λ e h. was.first e ((still_elsewhere old at fresh mid apart same).first e h);
     })
     | inr is ↦ inr (record {
@@ -226,8 +226,8 @@ left_while_old old at fresh changes mid left {whole} {front} apart same made log
       cut = parts.cut;
       is_cut = parts.is_cut;
       inside = cut_inside parts.is_cut;
-      front = subst (λ c. HasNewContent old at c (record old { blocks = left })) parts.front_is (record { content = is.content; first = first_behind old at fresh mid left front apart same is.first });
-      back = raw_at-stays (record old { blocks = mid }) (fresh_elsewhere apart) stopped.others ∙ held ∙ ap Some parts.back_is;
+      front = subst (λ c. HasPairNewContent old at c (record old { blocks = left })) parts.front_is (record { content = is.content; first = first_behind old at fresh mid left front apart same is.first });
+      back = raw_content_of_pair_at-stays (record old { blocks = mid }) (fresh_elsewhere apart) stopped.others ∙ held ∙ ap Some parts.back_is;
     })
   ];
 }

@@ -7,7 +7,7 @@ pub use Rattle.lfs_model.specs.Cut.{FitSlots, IsCutOfSlots, CanBeCut}
 
 -- The cut is the last possible one with at most half of the bytes before it. Where no possible cut is such, it is the first
 -- possible one.
-pub record IsMiddle (block_size page : ℕ) (slots : List RawSlot) (cut : ℕ) : Type 0 where
+pub record IsMiddleCutOfSlots (block_size page : ℕ) (slots : List RawSlot) (cut : ℕ) : Type 0 where
   pub is_cut : IsCutOfSlots block_size page slots cut
   pub later : (k : ℕ) → cut < k → IsCutOfSlots block_size page slots k → sum_by raw_slot_size slots < 2 * sum_by raw_slot_size (take k slots)
   pub earlier : (k : ℕ) → k < cut → IsCutOfSlots block_size page slots k → 2 * sum_by raw_slot_size (take cut slots) ≤ sum_by raw_slot_size slots

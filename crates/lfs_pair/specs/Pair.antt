@@ -1,70 +1,70 @@
 -- The header of a pair, and what it says of the disk.
 use Rattle.std.specs.Prelude.{ℕ, ◌≡◌, ◌==◌, ◌%◌, ◌&&◌, ◌||◌, not, Bool, true, false, if◌then◌else◌, List, length, Some, is_some}
 use Rattle.std.specs.Option.{option_map}
-use Rattle.lfs_model.specs.Disk.{Disk, block_at}
-use Rattle.lfs_model.specs.History.{Event, AllUnprogrammed}
-use Rattle.lfs_model.specs.Log.{chain_of, revision_of, log_entries}
-use Rattle.lfs_model.specs.Slots.{address_of}
-use Rattle.lfs_model.specs.Content.{RawContent, has_commit, holder_at, is_later, content_after_all, no_content, raw_at, completed}
-use Rattle.lfs_model.specs.LoggedContent.{IsLogged}
+use Rattle.lfs_model.specs.Disk.{Disk, block_bytes_on_disk}
+use Rattle.lfs_model.specs.History.{CallEvent, AreBytesUnprogrammed}
+use Rattle.lfs_model.specs.Log.{chain_of, revision_of_block, log_entries_of_block}
+use Rattle.lfs_model.specs.Slots.{pair_address_of_array}
+use Rattle.lfs_model.specs.Content.{RawContent, has_commit, current_block_of_pair_at, is_later_revision, content_after_log_entries, empty_raw_content, raw_content_of_pair_at, content_if_slots_are_complete}
+use Rattle.lfs_model.specs.LoggedContent.{IsWellFormedRawContent}
 use Rattle.lfs_tag.specs.ContentView.{tail_view}
 use Rattle.lfs_tag.specs.FieldsView.{move_view}
 use Rattle.lfs_pair.specs.declared.pair.Pair.{Pair}
 
 -- the address of a header's pair
-abbrev pub address_in : Pair → ℕ × ℕ
-address_in pair = address_of pair.blocks
+abbrev pub address_of_header : Pair → ℕ × ℕ
+address_of_header pair = pair_address_of_array pair.blocks
 
 -- the block of a pair that isn't active
-abbrev pub other_of : ℕ × ℕ → ℕ → ℕ
-other_of at active = if active == at.0 then at.1 else at.0
+abbrev pub inactive_block_of : ℕ × ℕ → ℕ → ℕ
+inactive_block_of at active = if active == at.0 then at.1 else at.0
 
-abbrev pub other_in : Pair → ℕ
-other_in pair = other_of (address_in pair) pair.active
+abbrev pub inactive_block_in_header : Pair → ℕ
+inactive_block_in_header pair = inactive_block_of (address_of_header pair) pair.active
 
 -- The header counts the content's slots, says whether each is complete, and has the content's tail and its delta of the global
 -- state.
-pub record IsHeaderOf (c : RawContent) (pair : Pair) : Type 0 where
+pub record IsHeaderOfContent (c : RawContent) (pair : Pair) : Type 0 where
   pub slot_count : pair.slot_count ≡ length c.slots
   pub tail : option_map tail_view pair.tail ≡ c.tail
   pub move : move_view pair.move_state ≡ c.move
-  pub complete : pair.is_complete ≡ is_some (completed c)
+  pub complete : pair.is_complete ≡ is_some (content_if_slots_are_complete c)
 
 -- the header has this end of the log, and this last tag
-pub record EndsWith (end last : ℕ) (pair : Pair) : Type 0 where
+pub record HeaderHasLogEnd (end last : ℕ) (pair : Pair) : Type 0 where
   pub end_is : pair.end ≡ end
   pub last_is : pair.last ≡ last
 
 -- a block's log comes to that content, and the header describes it
-pub record DescribesLog (block : List ℕ) (pair : Pair) (held : RawContent) : Type 0 where
-  pub content : content_after_all no_content (log_entries block) ≡ Some held
+pub record HeaderDescribesLog (block : List ℕ) (pair : Pair) (held : RawContent) : Type 0 where
+  pub content : content_after_log_entries empty_raw_content (log_entries_of_block block) ≡ Some held
   pub end : pair.end ≡ (chain_of block).end
   pub last : pair.last ≡ (chain_of block).last
-  pub revision : pair.revision ≡ revision_of block
-  pub sums : IsHeaderOf held pair
-  pub logged : IsLogged held
+  pub revision : pair.revision ≡ revision_of_block block
+  pub sums : IsHeaderOfContent held pair
+  pub logged : IsWellFormedRawContent held
 
 -- The second of two blocks is the active one: it has a commit, and the first has none or an earlier revision.
-abbrev pub second_holds : List ℕ → List ℕ → Bool
-second_holds a b = has_commit b && (not (has_commit a) || is_later (revision_of a) (revision_of b))
+abbrev pub is_second_block_active : List ℕ → List ℕ → Bool
+is_second_block_active a b = has_commit b && (not (has_commit a) || is_later_revision (revision_of_block a) (revision_of_block b))
 
 -- the active block of two; the first one where neither has a commit
-abbrev pub active_at : Disk → ℕ × ℕ → ℕ
-active_at disk at = if second_holds (block_at disk at.0) (block_at disk at.1) then at.1 else at.0
+abbrev pub active_block_at : Disk → ℕ × ℕ → ℕ
+active_block_at disk at = if is_second_block_active (block_bytes_on_disk disk at.0) (block_bytes_on_disk disk at.1) then at.1 else at.0
 
 -- The disk has the pair with that content, as the header says. Unless the header was only fetched, nothing is programmed after
 -- the end of the log.
-pub record IsPair (disk : Disk) (history : List Event) (pair : Pair) (held : RawContent) : Type 0 where
-  pub active : pair.active ≡ active_at disk (address_in pair)
-  pub holds : holder_at disk (address_in pair) ≡ Some (block_at disk pair.active)
-  pub describes : DescribesLog (block_at disk pair.active) pair held
+pub record IsPairOnDisk (disk : Disk) (history : List CallEvent) (pair : Pair) (held : RawContent) : Type 0 where
+  pub active : pair.active ≡ active_block_at disk (address_of_header pair)
+  pub holds : current_block_of_pair_at disk (address_of_header pair) ≡ Some (block_bytes_on_disk disk pair.active)
+  pub describes : HeaderDescribesLog (block_bytes_on_disk disk pair.active) pair held
   pub whole_pages : pair.is_fetched ≡ false → pair.end % disk.page ≡ 0
-  pub unprogrammed : pair.is_fetched ≡ false → AllUnprogrammed history pair.active pair.end disk.block_size
+  pub unprogrammed : pair.is_fetched ≡ false → AreBytesUnprogrammed history pair.active pair.end disk.block_size
 
 -- what a fetch finds at a pair's address
-pub record Fetches (disk : Disk) (history : List Event) (address : ℕ × ℕ) (pair : Pair) : Type 0 where
+pub record FetchFindsPair (disk : Disk) (history : List CallEvent) (address : ℕ × ℕ) (pair : Pair) : Type 0 where
   pub held : RawContent
-  pub is_pair : IsPair disk history pair held
-  pub at : address_in pair ≡ address
-  pub content : raw_at disk address ≡ Some held
+  pub is_pair : IsPairOnDisk disk history pair held
+  pub at : address_of_header pair ≡ address
+  pub content : raw_content_of_pair_at disk address ≡ Some held
   pub fetched : pair.is_fetched ≡ true

@@ -1,22 +1,22 @@
 -- What a split does to a pair.
 use Rattle.std.specs.Prelude.{ℕ, ◌≡◌, ◌≢◌, ◌⊎◌, ◌+◌, ◌<◌, ◌%◌, ◌^◌, true, List, [], ◌∷◌, length, take, drop, Some}
-use Rattle.lfs_model.specs.Blocks.{Blocks, SameButThese}
-use Rattle.lfs_model.specs.Disk.{Disk, block_at}
-use Rattle.lfs_model.specs.History.{Event, StayUnprogrammed}
-use Rattle.lfs_model.specs.Slots.{no_gstate}
-use Rattle.lfs_model.specs.Content.{RawContent, raw_at}
-use Rattle.lfs_model.specs.LoggedContent.{IsLogged}
-use Rattle.lfs_model.specs.Changes.{Change}
-use Rattle.lfs_model.specs.WrittenContent.{FitsRaw}
-use Rattle.lfs_pair.specs.Fresh.{ClearsLogs, HoldsFresh}
+use Rattle.lfs_model.specs.Blocks.{Blocks, AreBlocksEqualExceptThese}
+use Rattle.lfs_model.specs.Disk.{Disk, block_bytes_on_disk}
+use Rattle.lfs_model.specs.History.{CallEvent, AreBytesStillUnprogrammed}
+use Rattle.lfs_model.specs.Slots.{zero_gstate}
+use Rattle.lfs_model.specs.Content.{RawContent, raw_content_of_pair_at}
+use Rattle.lfs_model.specs.LoggedContent.{IsWellFormedRawContent}
+use Rattle.lfs_model.specs.Changes.{ContentChange}
+use Rattle.lfs_model.specs.WrittenContent.{IsRawContentFittingPair}
+use Rattle.lfs_pair.specs.Fresh.{WritesBlocksAndClearsOne, HasContentWithRevisionOne}
 use Rattle.lfs_pair.specs.declared.pair.Pair.{Pair}
-use Rattle.lfs_pair.specs.Pair.{address_in}
-use Rattle.lfs_pair.specs.Commit.{IsAddressOn, CanCommit, HasNewContent, HasSameContent, KeepsFirst, PairHolds, made_at}
-use Rattle.lfs_pair.specs.Writing.{HoldsLogContent}
+use Rattle.lfs_pair.specs.Pair.{address_of_header}
+use Rattle.lfs_pair.specs.Commit.{IsPairAddressOnDisk, CanCommit, HasPairNewContent, HasPairContentAsBefore, KeepsFirstEntry, PairHasContent, pair_content_after_changes}
+use Rattle.lfs_pair.specs.Writing.{HasContentInOneCommit}
 use Rattle.lfs_pair.specs.Cut.{CanBeCut, IsCutOfSlots}
 
 -- two pairs have no block in common
-pub record AreApart (at fresh : ℕ × ℕ) : Type 0 where
+pub record HaveNoCommonBlock (at fresh : ℕ × ℕ) : Type 0 where
   pub first_first : at.0 ≢ fresh.0
   pub first_second : at.0 ≢ fresh.1
   pub second_first : at.1 ≢ fresh.0
@@ -24,74 +24,74 @@ pub record AreApart (at fresh : ℕ × ℕ) : Type 0 where
 
 -- The premises of a split: those of a commit, two blocks of the disk that aren't the pair's, and a content that can be cut into
 -- two parts that fit a pair each.
-pub record CanSplit (disk : Disk) (history : List Event) (pair : Pair) (fresh : ℕ × ℕ) (changes : List Change) : Type 0 where
+pub record CanSplitPair (disk : Disk) (history : List CallEvent) (pair : Pair) (fresh : ℕ × ℕ) (changes : List ContentChange) : Type 0 where
   pub commit : CanCommit disk history pair changes
-  pub fresh_is : IsAddressOn disk fresh
-  pub apart : AreApart (address_in pair) fresh
+  pub fresh_is : IsPairAddressOnDisk disk fresh
+  pub apart : HaveNoCommonBlock (address_of_header pair) fresh
   pub cut : CanBeCut disk.block_size disk.page commit.new.slots
 
 -- the old pair's new content: the first slots, a hard tail to the fresh pair, and the delta of the global state
-abbrev pub front_content : RawContent → ℕ → ℕ × ℕ → RawContent
-front_content c cut fresh = record { slots = take cut c.slots; tail = Some (record { hard = true; to = fresh }); move = c.move }
+abbrev pub front_content_of_split : RawContent → ℕ → ℕ × ℕ → RawContent
+front_content_of_split c cut fresh = record { slots = take cut c.slots; tail = Some (record { hard = true; to = fresh }); move = c.move }
 
 -- the fresh pair's content: the other slots, and the old tail
-abbrev pub back_content : RawContent → ℕ → RawContent
-back_content c cut = record { slots = drop cut c.slots; tail = c.tail; move = no_gstate }
+abbrev pub back_content_of_split : RawContent → ℕ → RawContent
+back_content_of_split c cut = record { slots = drop cut c.slots; tail = c.tail; move = zero_gstate }
 
 -- where the whole doesn't fit one pair, both parts have slots, and so the first slot stays in the old pair
-abbrev pub CutsInside : ℕ → ℕ → RawContent → ℕ → Type 0
-CutsInside block_size page whole cut = (FitsRaw block_size page whole → ⊥) → (0 < cut) × (cut < length whole.slots)
+abbrev pub BothPartsHaveSlots : ℕ → ℕ → RawContent → ℕ → Type 0
+BothPartsHaveSlots block_size page whole cut = (IsRawContentFittingPair block_size page whole → ⊥) → (0 < cut) × (cut < length whole.slots)
 
 -- a content is cut into these two parts
-pub record AreParts (block_size page : ℕ) (whole : RawContent) (fresh : ℕ × ℕ) (front back : RawContent) : Type 0 where
+pub record ArePartsOfContent (block_size page : ℕ) (whole : RawContent) (fresh : ℕ × ℕ) (front back : RawContent) : Type 0 where
   pub cut : ℕ
   pub is_cut : IsCutOfSlots block_size page whole.slots cut
-  pub front_is : front ≡ front_content whole cut fresh
-  pub back_is : back ≡ back_content whole cut
+  pub front_is : front ≡ front_content_of_split whole cut fresh
+  pub back_is : back ≡ back_content_of_split whole cut
 
 -- A split that is done: each pair has its part of what the changes make, and each part fits.
-pub record Splits (old : Disk) (before : List Event) (changes : List Change) (was : Pair) (fresh : ℕ × ℕ) (disk : Disk) (history : List Event) (pair fresh_pair : Pair) : Type 0 where
+pub record Splits (old : Disk) (before : List CallEvent) (changes : List ContentChange) (was : Pair) (fresh : ℕ × ℕ) (disk : Disk) (history : List CallEvent) (pair fresh_pair : Pair) : Type 0 where
   pub new : RawContent
-  pub made : made_at old (address_in was) changes ≡ Some new
-  pub logged : IsLogged new
+  pub made : pair_content_after_changes old (address_of_header was) changes ≡ Some new
+  pub logged : IsWellFormedRawContent new
   pub cut : ℕ
   pub is_cut : IsCutOfSlots old.block_size old.page new.slots cut
-  pub inside : CutsInside old.block_size old.page new cut
-  pub front : PairHolds disk history (address_in was) pair (front_content new cut fresh)
-  pub back : PairHolds disk history fresh fresh_pair (back_content new cut)
-  pub first : KeepsFirst old (address_in was) (Some (front_content new cut fresh)) disk
+  pub inside : BothPartsHaveSlots old.block_size old.page new cut
+  pub front : PairHasContent disk history (address_of_header was) pair (front_content_of_split new cut fresh)
+  pub back : PairHasContent disk history fresh fresh_pair (back_content_of_split new cut)
+  pub first : KeepsFirstEntry old (address_of_header was) (Some (front_content_of_split new cut fresh)) disk
   -- The old pair's part is written into the block that wasn't active, with the next revision. The block that was active stays as
   -- it was.
   pub moved : pair.active ≢ was.active
-  pub kept : block_at disk was.active ≡ block_at old was.active
-  pub front_anew : HoldsLogContent ((was.revision + 1) % 2 ^ 32) (front_content new cut fresh) (block_at disk pair.active)
-  pub back_fresh : HoldsFresh (back_content new cut) disk fresh fresh_pair
-  pub clears : ClearsLogs 2 before history
+  pub kept : block_bytes_on_disk disk was.active ≡ block_bytes_on_disk old was.active
+  pub front_anew : HasContentInOneCommit ((was.revision + 1) % 2 ^ 32) (front_content_of_split new cut fresh) (block_bytes_on_disk disk pair.active)
+  pub back_fresh : HasContentWithRevisionOne (back_content_of_split new cut) disk fresh fresh_pair
+  pub clears : WritesBlocksAndClearsOne 2 before history
 
 -- each pair on the disk has its part
-pub record PairsHaveParts (old : Disk) (at fresh : ℕ × ℕ) (changes : List Change) (disk : Disk) : Type 0 where
+pub record PairsHavePartsOfSplit (old : Disk) (at fresh : ℕ × ℕ) (changes : List ContentChange) (disk : Disk) : Type 0 where
   pub new : RawContent
-  pub made : made_at old at changes ≡ Some new
-  pub logged : IsLogged new
+  pub made : pair_content_after_changes old at changes ≡ Some new
+  pub logged : IsWellFormedRawContent new
   pub cut : ℕ
   pub is_cut : IsCutOfSlots old.block_size old.page new.slots cut
-  pub inside : CutsInside old.block_size old.page new cut
-  pub front : HasNewContent old at (front_content new cut fresh) disk
-  pub back : raw_at disk fresh ≡ Some (back_content new cut)
+  pub inside : BothPartsHaveSlots old.block_size old.page new cut
+  pub front : HasPairNewContent old at (front_content_of_split new cut fresh) disk
+  pub back : raw_content_of_pair_at disk fresh ≡ Some (back_content_of_split new cut)
 
 -- the blocks of both pairs
-abbrev pub blocks_of_both : ℕ × ℕ → ℕ × ℕ → List ℕ
-blocks_of_both at fresh = at.0 ∷ at.1 ∷ fresh.0 ∷ fresh.1 ∷ []
+abbrev pub blocks_of_both_pairs : ℕ × ℕ → ℕ × ℕ → List ℕ
+blocks_of_both_pairs at fresh = at.0 ∷ at.1 ∷ fresh.0 ∷ fresh.1 ∷ []
 
 -- no block changes but those of the two pairs
-abbrev pub OutsideBothKeeps : ℕ × ℕ → ℕ × ℕ → Blocks → Blocks → Type 0
-OutsideBothKeeps at fresh old new = SameButThese (blocks_of_both at fresh) old new
+abbrev pub KeepsBlocksOutsideBothPairs : ℕ × ℕ → ℕ × ℕ → Blocks → Blocks → Type 0
+KeepsBlocksOutsideBothPairs at fresh old new = AreBlocksEqualExceptThese (blocks_of_both_pairs at fresh) old new
 
 -- bytes of other blocks that were unprogrammed still are
-abbrev pub OutsideBothStays : ℕ × ℕ → ℕ × ℕ → List Event → List Event → Type 0
-OutsideBothStays at fresh old new = StayUnprogrammed (blocks_of_both at fresh) old new
+abbrev pub KeepsUnprogrammedOutsideBothPairs : ℕ × ℕ → ℕ × ℕ → List CallEvent → List CallEvent → Type 0
+KeepsUnprogrammedOutsideBothPairs at fresh old new = AreBytesStillUnprogrammed (blocks_of_both_pairs at fresh) old new
 
 -- What a stop leaves of a split: the old pair with its old content, or both pairs with their parts.
-pub record LeftBySplit (old : Disk) (at fresh : ℕ × ℕ) (changes : List Change) (left : Blocks) : Type 0 where
-  pub others : OutsideBothKeeps at fresh old.blocks left
-  pub content : HasSameContent old at (record old { blocks = left }) ⊎ PairsHaveParts old at fresh changes (record old { blocks = left })
+pub record LeavesOldContentOrParts (old : Disk) (at fresh : ℕ × ℕ) (changes : List ContentChange) (left : Blocks) : Type 0 where
+  pub others : KeepsBlocksOutsideBothPairs at fresh old.blocks left
+  pub content : HasPairContentAsBefore old at (record old { blocks = left }) ⊎ PairsHavePartsOfSplit old at fresh changes (record old { blocks = left })

@@ -3,13 +3,13 @@
 ghost use Rattle.std.specs.Prelude.{◌≡◌, ◌<◌, ◌≤◌, ◌^◌, ◌++◌, true, [], ◌∷◌, length, map, Some};
 ghost use Rattle.std.specs.List.{list_all};
 ghost use Rattle.std.specs.Option.{option_map};
-ghost use Rattle.lfs_model.specs.Slots.{address_of};
-ghost use Rattle.lfs_model.specs.Content.{content_after, content_after_all};
-ghost use Rattle.lfs_model.specs.EntryTypes.{tail_with as tail_with_pair};
-ghost use Rattle.lfs_model.specs.WrittenContent.{entry_with, named_pair};
-ghost use Rattle.lfs_model.specs.Changes.{entries_of_change, entries_of_changes, is_storable, RemoveAttribute};
+ghost use Rattle.lfs_model.specs.Slots.{pair_address_of_array};
+ghost use Rattle.lfs_model.specs.Content.{content_after_log_entry, content_after_log_entries};
+ghost use Rattle.lfs_model.specs.EntryTypes.{tail_to_pair_if_any as tail_with_pair};
+ghost use Rattle.lfs_model.specs.WrittenContent.{log_entry_with, tail_pair_or_null};
+ghost use Rattle.lfs_model.specs.Changes.{log_entries_of_change, log_entries_of_changes, is_storable_change, RemoveAttribute};
 ghost use Rattle.lfs_tag.specs.ContentView.{content_view, tail_view};
-ghost use Rattle.lfs_tag.specs.ContentGives.{GivesValue};
+ghost use Rattle.lfs_tag.specs.ContentGives.{GivesValueUnlessNoMemory};
 ghost use Rattle.lfs_pair.specs.ChangeView.{change_view, changes_view};
 
 use lfs_tag::kinds::{ATTRIBUTE, CREATE, DELETE};
@@ -47,7 +47,7 @@ fn put<'a>(
     requires kind { kind < 2 ^ 11 }
     requires id { id < 2 ^ 10 }
     requires bytes { length bytes.now ≤ 1022 }
-    ensures { GivesValue (λ _. content_view content.new) result (content_after (content_view content.old) (entry_with kind id bytes.now)) }
+    ensures { GivesValueUnlessNoMemory (λ _. content_view content.new) result (content_after_log_entry (content_view content.old) (log_entry_with kind id bytes.now)) }
 {
     let tag = Tag::new(kind, id, bytes.len() as u16);
     content.take(alloc, &Entry { tag, bytes })?;
@@ -55,14 +55,14 @@ fn put<'a>(
 }
 
 // Adds an entry that removes an attribute to the content.
-fn put_removal(
+fn put_attribute_removal(
     alloc: Global,
     content: &mut Content<'_>,
     id: u16,
     attr: u8,
 ) -> Result<(), ContentError>
     requires { id < 2 ^ 10 }
-    ensures { GivesValue (λ _. content_view content.new) result (content_after_all (content_view content.old) (entries_of_change (RemoveAttribute id attr))) }
+    ensures { GivesValueUnlessNoMemory (λ _. content_view content.new) result (content_after_log_entries (content_view content.old) (log_entries_of_change (RemoveAttribute id attr))) }
 {
     let tag = Tag::new(ATTRIBUTE + u16::from(attr), id, 0x3ff);
     content.take(alloc, &Entry { tag, bytes: &[] })?;
@@ -71,7 +71,7 @@ fn put_removal(
 
 // Returns the tail that a change sets. Two null addresses are no tail.
 fn tail_with(hard: bool, pair: Option<[u32; 2]>) -> Option<Tail>
-    ensures { option_map tail_view result ≡ tail_with_pair hard (named_pair (option_map address_of pair)) }
+    ensures { option_map tail_view result ≡ tail_with_pair hard (tail_pair_or_null (option_map pair_address_of_array pair)) }
 {
     match pair {
         None => None,
@@ -91,8 +91,8 @@ pub(crate) fn apply<'a>(
     content: &mut Content<'a>,
     change: &Change<'a>,
 ) -> Result<(), ContentError>
-    requires { is_storable (change_view change.now) ≡ true }
-    ensures { GivesValue (λ _. content_view content.new) result (content_after_all (content_view content.old) (entries_of_change (change_view change.now))) }
+    requires { is_storable_change (change_view change.now) ≡ true }
+    ensures { GivesValueUnlessNoMemory (λ _. content_view content.new) result (content_after_log_entries (content_view content.old) (log_entries_of_change (change_view change.now))) }
 {
     match *change {
         Change::Create { id, kind, name } => {
@@ -113,7 +113,7 @@ pub(crate) fn apply<'a>(
             Ok(())
         }
         Change::NoAttr { id, attr } => {
-            put_removal(alloc, content, id, attr)?;
+            put_attribute_removal(alloc, content, id, attr)?;
             Ok(())
         }
         Change::Tail { hard, pair } => {
@@ -135,13 +135,13 @@ pub(crate) fn apply<'a>(
 /// above the number of slots, and a delete, struct or attribute for an id that isn't there. They
 /// are also a struct or attribute for a slot without a name, and a type or a length that the format
 /// doesn't have. After an error nothing is known of the content.
-pub fn apply_all<'a>(
+pub fn apply_all_changes<'a>(
     alloc: Global,
     content: &mut Content<'a>,
     changes: &[Change<'a>],
 ) -> Result<(), ContentError>
-    requires { list_all is_storable (changes_view changes.now) ≡ true }
-    ensures { GivesValue (λ _. content_view content.new) result (content_after_all (content_view content.old) (entries_of_changes (changes_view changes.now))) }
+    requires { list_all is_storable_change (changes_view changes.now) ≡ true }
+    ensures { GivesValueUnlessNoMemory (λ _. content_view content.new) result (content_after_log_entries (content_view content.old) (log_entries_of_changes (changes_view changes.now))) }
 {
     for change in changes {
         match apply(alloc, content, change) {

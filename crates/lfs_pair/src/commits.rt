@@ -1,24 +1,24 @@
 // Commits of changes to a pair.
 
 ghost use Rattle.std.specs.Prelude.{◌≡◌, true, false, IfErr, OnErr, OnOk, Some, length};
-ghost use Rattle.lfs_device.specs.Shown.{disk_of};
-ghost use Rattle.lfs_model.specs.Blocks.{block_in};
+ghost use Rattle.lfs_device.specs.Shown.{disk_of_geometry_and_blocks};
+ghost use Rattle.lfs_model.specs.Blocks.{block_bytes_in};
 ghost use Rattle.lfs_device.specs.Calls.{ReportsFaults};
-ghost use Rattle.lfs_model.specs.History.{EachSince, LeavesOnly};
-ghost use Rattle.lfs_model.specs.Stops.{ErasesCleanly, Stops};
-ghost use Rattle.lfs_model.specs.WrittenContent.{FitsRaw};
-ghost use Rattle.lfs_model.specs.LoggedContent.{HaveNames, IsLogged};
+ghost use Rattle.lfs_model.specs.History.{IsTrueOfEachCallSince, IsTrueAfterEachStopSince};
+ghost use Rattle.lfs_model.specs.Stops.{LeavesNoNewLogIfErase, IsLeftByStopIn};
+ghost use Rattle.lfs_model.specs.WrittenContent.{IsRawContentFittingPair};
+ghost use Rattle.lfs_model.specs.LoggedContent.{AreNamedSlots, IsWellFormedRawContent};
 ghost use Rattle.lfs_tag.specs.ContentView.{content_view};
-ghost use Rattle.lfs_pair.specs.Pair.{address_in};
+ghost use Rattle.lfs_pair.specs.Pair.{address_of_header};
 ghost use Rattle.lfs_pair.specs.ChangeView.{changes_view};
-ghost use Rattle.lfs_pair.specs.Commit.{made_at, both_blocks, AppendsNow, CanCommit, Commits, CompactsNow, CommitFails, HasNoRoom, RefusesCommit, IsAddressOn, IsActive, LeftByChange, LeftWith};
-ghost use Rattle.lfs_pair.specs.Writing.{ChangesReading, WritesOnly};
+ghost use Rattle.lfs_pair.specs.Commit.{pair_content_after_changes, both_blocks_of_pair, AppendsChanges, CanCommit, Commits, CompactsToContent, CommitFails, HasNoRoomToAppend, RefusesCommit, IsPairAddressOnDisk, HeaderSaysActiveBlock, LeavesOldOrChangedContent, LeavesOldOrNewContent};
+ghost use Rattle.lfs_pair.specs.Writing.{ChangesBlocksWithFewReads, WritesOnlyTheseBlocks};
 
 use crate::change::Change;
 use crate::contents::made_in;
 use crate::entries::push_changes;
 use crate::pair::Pair;
-use crate::programs::{program, write_anew};
+use crate::programs::{program, write_block_anew};
 use crate::size::fits;
 use lfs_device::{BlockDevice, Error, read_block};
 use lfs_tag::{CommitBuilder, Content};
@@ -60,16 +60,16 @@ pub fn commit<D: BlockDevice>(
     pair: &mut Pair,
     changes: &[Change<'_>],
 ) -> Result<Outcome, Error>
-    requires { CanCommit (disk_of (D.geometry dev.old) (D.blocks dev.old)) (D.history dev.old) pair.old (changes_view changes.now) }
+    requires { CanCommit (disk_of_geometry_and_blocks (D.geometry dev.old) (D.blocks dev.old)) (D.history dev.old) pair.old (changes_view changes.now) }
 
     ensures done { result ≡ Ok Outcome.Done
-        → Commits (disk_of (D.geometry dev.old) (D.blocks dev.old)) (D.history dev.old) (changes_view changes.now) pair.old (disk_of (D.geometry dev.new) (D.blocks dev.new)) (D.history dev.new) pair.new }
+        → Commits (disk_of_geometry_and_blocks (D.geometry dev.old) (D.blocks dev.old)) (D.history dev.old) (changes_view changes.now) pair.old (disk_of_geometry_and_blocks (D.geometry dev.new) (D.blocks dev.new)) (D.history dev.new) pair.new }
     ensures full { result ≡ Ok Outcome.Full → RefusesCommit D.BlockDevice (changes_view changes.now) dev.old dev.new pair.old pair.new }
     ensures error { IfErr result (λ e. CommitFails D.BlockDevice dev.old dev.new pair.old pair.new e) }
-    ensures device { ChangesReading D.BlockDevice 2 (both_blocks (address_in pair.old)) dev.old dev.new }
+    ensures device { ChangesBlocksWithFewReads D.BlockDevice 2 (both_blocks_of_pair (address_of_header pair.old)) dev.old dev.new }
     ensures faults { ReportsFaults D.BlockDevice dev.old dev.new result }
-    ensures stops { EachSince ErasesCleanly (D.history dev.old) (D.history dev.new)
-        → LeavesOnly Stops (D.history dev.old) (D.history dev.new) (LeftByChange (disk_of (D.geometry dev.old) (D.blocks dev.old)) (address_in pair.old) (changes_view changes.now)) }
+    ensures stops { IsTrueOfEachCallSince LeavesNoNewLogIfErase (D.history dev.old) (D.history dev.new)
+        → IsTrueAfterEachStopSince IsLeftByStopIn (D.history dev.old) (D.history dev.new) (LeavesOldOrChangedContent (disk_of_geometry_and_blocks (D.geometry dev.old) (D.blocks dev.old)) (address_of_header pair.old) (changes_view changes.now)) }
 {
     let block = read_block(alloc, dev, pair.active)?;
     let outcome = commit_in(alloc, dev, pair, &block, changes)?;
@@ -88,17 +88,17 @@ pub fn commit_in<'a, 'b: 'a, D: BlockDevice>(
     block: &'a [u8],
     changes: &[Change<'b>],
 ) -> Result<Outcome, Error>
-    requires can { CanCommit (disk_of (D.geometry dev.old) (D.blocks dev.old)) (D.history dev.old) pair.old (changes_view changes.now) }
-    requires block { block.now ≡ block_in (D.blocks dev.old) pair.old.active }
+    requires can { CanCommit (disk_of_geometry_and_blocks (D.geometry dev.old) (D.blocks dev.old)) (D.history dev.old) pair.old (changes_view changes.now) }
+    requires block { block.now ≡ block_bytes_in (D.blocks dev.old) pair.old.active }
 
     ensures done { result ≡ Ok Outcome.Done
-        → Commits (disk_of (D.geometry dev.old) (D.blocks dev.old)) (D.history dev.old) (changes_view changes.now) pair.old (disk_of (D.geometry dev.new) (D.blocks dev.new)) (D.history dev.new) pair.new }
+        → Commits (disk_of_geometry_and_blocks (D.geometry dev.old) (D.blocks dev.old)) (D.history dev.old) (changes_view changes.now) pair.old (disk_of_geometry_and_blocks (D.geometry dev.new) (D.blocks dev.new)) (D.history dev.new) pair.new }
     ensures full { result ≡ Ok Outcome.Full → RefusesCommit D.BlockDevice (changes_view changes.now) dev.old dev.new pair.old pair.new }
     ensures error { IfErr result (λ e. CommitFails D.BlockDevice dev.old dev.new pair.old pair.new e) }
-    ensures device { ChangesReading D.BlockDevice 1 (both_blocks (address_in pair.old)) dev.old dev.new }
+    ensures device { ChangesBlocksWithFewReads D.BlockDevice 1 (both_blocks_of_pair (address_of_header pair.old)) dev.old dev.new }
     ensures faults { ReportsFaults D.BlockDevice dev.old dev.new result }
-    ensures stops { EachSince ErasesCleanly (D.history dev.old) (D.history dev.new)
-        → LeavesOnly Stops (D.history dev.old) (D.history dev.new) (LeftByChange (disk_of (D.geometry dev.old) (D.blocks dev.old)) (address_in pair.old) (changes_view changes.now)) }
+    ensures stops { IsTrueOfEachCallSince LeavesNoNewLogIfErase (D.history dev.old) (D.history dev.new)
+        → IsTrueAfterEachStopSince IsLeftByStopIn (D.history dev.old) (D.history dev.new) (LeavesOldOrChangedContent (disk_of_geometry_and_blocks (D.geometry dev.old) (D.blocks dev.old)) (address_of_header pair.old) (changes_view changes.now)) }
 {
     let geometry = dev.geometry();
     let content = made_in(alloc, pair, block, changes)?;
@@ -122,18 +122,18 @@ fn append<D: BlockDevice>(
     content: &Content<'_>,
     buf: &mut [u8],
 ) -> Result<bool, Error>
-    requires can { CanCommit (disk_of (D.geometry dev.old) (D.blocks dev.old)) (D.history dev.old) pair.old (changes_view changes.now) }
-    requires logged { IsLogged (content_view content.now) }
-    requires made { made_at (disk_of (D.geometry dev.old) (D.blocks dev.old)) (address_in pair.old) (changes_view changes.now) ≡ Some (content_view content.now) }
+    requires can { CanCommit (disk_of_geometry_and_blocks (D.geometry dev.old) (D.blocks dev.old)) (D.history dev.old) pair.old (changes_view changes.now) }
+    requires logged { IsWellFormedRawContent (content_view content.now) }
+    requires made { pair_content_after_changes (disk_of_geometry_and_blocks (D.geometry dev.old) (D.blocks dev.old)) (address_of_header pair.old) (changes_view changes.now) ≡ Some (content_view content.now) }
     requires buf { length buf.old ≡ (D.geometry dev.old).block_size }
 
-    ensures done { result ≡ Ok true → AppendsNow (disk_of (D.geometry dev.old) (D.blocks dev.old)) (D.history dev.old) pair.old (changes_view changes.now) (content_view content.now)
-        (disk_of (D.geometry dev.new) (D.blocks dev.new)) (D.history dev.new) pair.new }
-    ensures no_room { result ≡ Ok false → HasNoRoom D.BlockDevice (changes_view changes.now) dev.old dev.new pair.old pair.new }
+    ensures done { result ≡ Ok true → AppendsChanges (disk_of_geometry_and_blocks (D.geometry dev.old) (D.blocks dev.old)) (D.history dev.old) pair.old (changes_view changes.now) (content_view content.now)
+        (disk_of_geometry_and_blocks (D.geometry dev.new) (D.blocks dev.new)) (D.history dev.new) pair.new }
+    ensures no_room { result ≡ Ok false → HasNoRoomToAppend D.BlockDevice (changes_view changes.now) dev.old dev.new pair.old pair.new }
     ensures buf { length buf.new ≡ length buf.old }
     ensures err_pair { OnErr result (pair.new ≡ pair.old) }
-    ensures writes { WritesOnly D.BlockDevice 1 (both_blocks (address_in pair.old)) dev.old dev.new result }
-    ensures stops { LeavesOnly Stops (D.history dev.old) (D.history dev.new) (LeftWith (disk_of (D.geometry dev.old) (D.blocks dev.old)) (address_in pair.old) (content_view content.now)) }
+    ensures writes { WritesOnlyTheseBlocks D.BlockDevice 1 (both_blocks_of_pair (address_of_header pair.old)) dev.old dev.new result }
+    ensures stops { IsTrueAfterEachStopSince IsLeftByStopIn (D.history dev.old) (D.history dev.new) (LeavesOldOrNewContent (disk_of_geometry_and_blocks (D.geometry dev.old) (D.blocks dev.old)) (address_of_header pair.old) (content_view content.now)) }
 {
     let geometry = dev.geometry();
     let mut builder = CommitBuilder::new(geometry.page, buf, pair.last, None);
@@ -154,24 +154,24 @@ pub(crate) fn compact<D: BlockDevice>(
     content: &Content<'_>,
     buf: &mut [u8],
 ) -> Result<(), Error>
-    requires address { IsAddressOn (disk_of (D.geometry dev.old) (D.blocks dev.old)) (address_in pair.old) }
-    requires active { IsActive (disk_of (D.geometry dev.old) (D.blocks dev.old)) pair.old }
+    requires address { IsPairAddressOnDisk (disk_of_geometry_and_blocks (D.geometry dev.old) (D.blocks dev.old)) (address_of_header pair.old) }
+    requires active { HeaderSaysActiveBlock (disk_of_geometry_and_blocks (D.geometry dev.old) (D.blocks dev.old)) pair.old }
     requires buf { length buf.old ≡ (D.geometry dev.old).block_size }
-    requires logged { IsLogged (content_view content.now) }
-    requires names { HaveNames (content_view content.now).slots }
-    requires fits { FitsRaw (D.geometry dev.old).block_size (D.geometry dev.old).page (content_view content.now) }
+    requires logged { IsWellFormedRawContent (content_view content.now) }
+    requires names { AreNamedSlots (content_view content.now).slots }
+    requires fits { IsRawContentFittingPair (D.geometry dev.old).block_size (D.geometry dev.old).page (content_view content.now) }
 
     ensures buf { length buf.new ≡ length buf.old }
-    ensures done { OnOk result (CompactsNow (disk_of (D.geometry dev.old) (D.blocks dev.old)) (D.history dev.old) pair.old (content_view content.now)
-        (disk_of (D.geometry dev.new) (D.blocks dev.new)) (D.history dev.new) pair.new) }
+    ensures done { OnOk result (CompactsToContent (disk_of_geometry_and_blocks (D.geometry dev.old) (D.blocks dev.old)) (D.history dev.old) pair.old (content_view content.now)
+        (disk_of_geometry_and_blocks (D.geometry dev.new) (D.blocks dev.new)) (D.history dev.new) pair.new) }
     ensures err_pair { OnErr result (pair.new ≡ pair.old) }
-    ensures writes { WritesOnly D.BlockDevice 1 (both_blocks (address_in pair.old)) dev.old dev.new result }
-    ensures stops { EachSince ErasesCleanly (D.history dev.old) (D.history dev.new)
-        → LeavesOnly Stops (D.history dev.old) (D.history dev.new) (LeftWith (disk_of (D.geometry dev.old) (D.blocks dev.old)) (address_in pair.old) (content_view content.now)) }
+    ensures writes { WritesOnlyTheseBlocks D.BlockDevice 1 (both_blocks_of_pair (address_of_header pair.old)) dev.old dev.new result }
+    ensures stops { IsTrueOfEachCallSince LeavesNoNewLogIfErase (D.history dev.old) (D.history dev.new)
+        → IsTrueAfterEachStopSince IsLeftByStopIn (D.history dev.old) (D.history dev.new) (LeavesOldOrNewContent (disk_of_geometry_and_blocks (D.geometry dev.old) (D.blocks dev.old)) (address_of_header pair.old) (content_view content.now)) }
 {
     let other = pair.other();
     let revision = pair.revision.wrapping_add(1);
-    let written = write_anew(dev, other, revision, content, buf)?;
+    let written = write_block_anew(dev, other, revision, content, buf)?;
     *pair = Pair::written(pair.blocks, other, revision, written, content);
     Ok(())
 }

@@ -1,15 +1,15 @@
 // What changes make of a pair's content.
 
 ghost use Rattle.std.specs.Prelude.{◌≡◌, true, is_some, IfOk, IfErr, Some, length, None};
-ghost use Rattle.lfs_model.specs.Content.{no_content};
+ghost use Rattle.lfs_model.specs.Content.{empty_raw_content};
 ghost use Rattle.lfs_model.specs.Log.{chain_of};
-ghost use Rattle.lfs_model.specs.LoggedContent.{IsLogged};
+ghost use Rattle.lfs_model.specs.LoggedContent.{IsWellFormedRawContent};
 ghost use Rattle.lfs_tag.specs.ContentView.{content_view};
 ghost use Rattle.lfs_pair.specs.ChangeView.{changes_view};
-ghost use Rattle.lfs_pair.specs.Commit.{made_of, made_in};
-ghost use Rattle.lfs_pair.specs.Pair.{EndsWith};
+ghost use Rattle.lfs_pair.specs.Commit.{content_made_by_changes, log_content_after_changes};
+ghost use Rattle.lfs_pair.specs.Pair.{HeaderHasLogEnd};
 
-use crate::change::{Change, apply_all};
+use crate::change::{Change, apply_all_changes};
 use crate::pair::Pair;
 use lfs_device::Error;
 use lfs_tag::{Content, ContentError, Log, MoveState};
@@ -17,7 +17,7 @@ use std::alloc::Global;
 
 // Makes the content of an empty log.
 fn empty<'a>(alloc: Global) -> Content<'a>
-    ensures { content_view result ≡ no_content }
+    ensures { content_view result ≡ empty_raw_content }
 {
     Content {
         slots: Vec::new(alloc),
@@ -27,17 +27,17 @@ fn empty<'a>(alloc: Global) -> Content<'a>
 }
 
 // Makes the content that the changes make of an empty log.
-pub(crate) fn made_of_nothing<'a>(
+pub(crate) fn content_of_changes_to_empty_log<'a>(
     alloc: Global,
     changes: &[Change<'a>],
 ) -> Result<Content<'a>, Error>
-    requires { is_some (made_of (Some no_content) (changes_view changes.now)) ≡ true }
-    ensures content { IfOk result (λ c. made_of (Some no_content) (changes_view changes.now) ≡ Some (content_view c)) }
-    ensures logged { IfOk result (λ c. IsLogged (content_view c)) }
+    requires { is_some (content_made_by_changes (Some empty_raw_content) (changes_view changes.now)) ≡ true }
+    ensures content { IfOk result (λ c. content_made_by_changes (Some empty_raw_content) (changes_view changes.now) ≡ Some (content_view c)) }
+    ensures logged { IfOk result (λ c. IsWellFormedRawContent (content_view c)) }
     ensures errors { IfErr result (λ e. e ≡ Error.NoMemory) }
 {
     let mut content = empty(alloc);
-    match apply_all(alloc, &mut content, changes) {
+    match apply_all_changes(alloc, &mut content, changes) {
         Ok(()) => Ok(content),
         Err(ContentError::NoMemory) => Err(Error::NoMemory),
         Err(ContentError::Malformed) => unreachable!(),
@@ -52,10 +52,10 @@ pub(crate) fn made_in<'a, 'b: 'a>(
     block: &'a [u8],
     changes: &[Change<'b>],
 ) -> Result<Content<'a>, Error>
-    requires made { is_some (made_in block.now (changes_view changes.now)) ≡ true }
-    requires ends { EndsWith (chain_of block.now).end (chain_of block.now).last pair.now }
-    ensures content { IfOk result (λ c. made_in block.now (changes_view changes.now) ≡ Some (content_view c)) }
-    ensures logged { IfOk result (λ c. IsLogged (content_view c)) }
+    requires made { is_some (log_content_after_changes block.now (changes_view changes.now)) ≡ true }
+    requires ends { HeaderHasLogEnd (chain_of block.now).end (chain_of block.now).last pair.now }
+    ensures content { IfOk result (λ c. log_content_after_changes block.now (changes_view changes.now) ≡ Some (content_view c)) }
+    ensures logged { IfOk result (λ c. IsWellFormedRawContent (content_view c)) }
     ensures errors { IfErr result (λ e. e ≡ Error.NoMemory) }
 {
     let log = Log::known(block, pair.end, pair.last);
@@ -64,7 +64,7 @@ pub(crate) fn made_in<'a, 'b: 'a>(
         Err(ContentError::NoMemory) => return Err(Error::NoMemory),
         Err(ContentError::Malformed) => unreachable!(),
     };
-    match apply_all(alloc, &mut content, changes) {
+    match apply_all_changes(alloc, &mut content, changes) {
         Ok(()) => Ok(content),
         Err(ContentError::NoMemory) => Err(Error::NoMemory),
         Err(ContentError::Malformed) => unreachable!(),

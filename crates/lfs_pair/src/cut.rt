@@ -2,7 +2,7 @@
 
 ghost use Rattle.std.specs.Prelude.{map};
 ghost use Rattle.lfs_tag.specs.ContentView.{slot_view};
-ghost use Rattle.lfs_pair.specs.Cut.{CanBeCut, IsMiddle};
+ghost use Rattle.lfs_pair.specs.Cut.{CanBeCut, IsMiddleCutOfSlots};
 
 use crate::size::{is_within, slot_size, slots_size};
 use lfs_device::Geometry;
@@ -11,9 +11,9 @@ use lfs_tag::Slot;
 // Returns how many slots come before the cut. The cut is the last one that has at most half of the
 // bytes before it. So what is written later finds room in both parts. Where no cut is such, it is
 // the first that is possible.
-pub(crate) fn cut_of(slots: &[Slot<'_>], geometry: Geometry) -> usize
+pub(crate) fn middle_cut_of_slots(slots: &[Slot<'_>], geometry: Geometry) -> usize
     requires { CanBeCut geometry.block_size geometry.page (map slot_view slots.now) }
-    ensures { IsMiddle geometry.block_size geometry.page (map slot_view slots.now) result }
+    ensures { IsMiddleCutOfSlots geometry.block_size geometry.page (map slot_view slots.now) result }
 {
     let total = slots_size(slots);
     let mut cut = 0;

@@ -3,14 +3,14 @@
 ghost use Rattle.std.specs.Prelude.{◌≡◌, ◌≢◌, ◌+◌, ◌/◌, ◌<◌, ◌≤◌, ◌^◌, true, [], ◌∷◌, length, map};
 ghost use Rattle.std.specs.List.{list_all};
 ghost use Rattle.std.specs.Option.{option_map};
-ghost use Rattle.lfs_model.specs.Slots.{address_of};
-ghost use Rattle.lfs_model.specs.LoggedContent.{Ascend, HasParts, HaveParts, IsLogged, IsMoveState, IsPartIfSome};
-ghost use Rattle.lfs_model.specs.WrittenContent.{part_entries, attribute_entries, entries_of_slot, entries_of_slots, tail_entries, tail_entry, move_entry, move_entries, written_entries, entry_with};
-ghost use Rattle.lfs_model.specs.Changes.{entries_of_change, entries_of_changes, is_storable, RemoveAttribute};
+ghost use Rattle.lfs_model.specs.Slots.{pair_address_of_array};
+ghost use Rattle.lfs_model.specs.LoggedContent.{AreAttributesInTypeOrder, IsWellFormedRawSlot, AreWellFormedRawSlots, IsWellFormedRawContent, IsWellFormedMoveState, IsNameOrStructIfSome};
+ghost use Rattle.lfs_model.specs.WrittenContent.{log_entries_of_name_or_struct, log_entries_of_attributes, log_entries_of_slot, log_entries_of_slots, log_entries_of_tail, tail_log_entry, move_state_log_entry, log_entries_of_move_state, log_entries_of_content, log_entry_with};
+ghost use Rattle.lfs_model.specs.Changes.{log_entries_of_change, log_entries_of_changes, is_storable_change, RemoveAttribute};
 ghost use Rattle.lfs_tag.specs.ContentView.{part_view, attribute_view, slot_view, tail_view, content_view};
 ghost use Rattle.lfs_tag.specs.FieldsView.{move_view};
 ghost use Rattle.lfs_pair.specs.ChangeView.{change_view, changes_view};
-ghost use Rattle.lfs_pair.specs.Writing.{building_with_entries};
+ghost use Rattle.lfs_pair.specs.Writing.{commit_with_more_entries};
 
 use crate::change::Change;
 use lfs_tag::kinds::{ATTRIBUTE, CREATE, DELETE, HARD_TAIL, MOVE_STATE, SOFT_TAIL};
@@ -25,22 +25,22 @@ fn push(builder: &mut CommitBuilder<'_>, kind: u16, id: u16, bytes: &[u8])
     requires other { kind / 2 ^ 8 ≢ 5 }
     requires id { id < 2 ^ 10 }
     requires bytes { length bytes.now ≤ 1022 }
-    ensures { builder.new ≡ building_with_entries (entry_with kind id bytes.now ∷ []) builder.old }
+    ensures { builder.new ≡ commit_with_more_entries (log_entry_with kind id bytes.now ∷ []) builder.old }
 {
     builder.push(Tag::new(kind, id, bytes.len() as u16), bytes);
 }
 
 // Adds an entry that removes an attribute.
-fn push_removal(builder: &mut CommitBuilder<'_>, id: u16, attr: u8)
+fn push_attribute_removal(builder: &mut CommitBuilder<'_>, id: u16, attr: u8)
     requires { id < 2 ^ 10 }
-    ensures { builder.new ≡ building_with_entries (entries_of_change (RemoveAttribute id attr)) builder.old }
+    ensures { builder.new ≡ commit_with_more_entries (log_entries_of_change (RemoveAttribute id attr)) builder.old }
 {
     builder.push(Tag::new(ATTRIBUTE + u16::from(attr), id, Tag::REMOVED), &[]);
 }
 
 // Adds a tail; without a pair it is two null addresses.
 fn push_tail(builder: &mut CommitBuilder<'_>, hard: bool, pair: Option<[u32; 2]>)
-    ensures { builder.new ≡ building_with_entries (tail_entry hard (option_map address_of pair) ∷ []) builder.old }
+    ensures { builder.new ≡ commit_with_more_entries (tail_log_entry hard (option_map pair_address_of_array pair) ∷ []) builder.old }
 {
     let kind = if hard { HARD_TAIL } else { SOFT_TAIL };
     let pair = pair.unwrap_or([NULL_ADDRESS, NULL_ADDRESS]);
@@ -49,8 +49,8 @@ fn push_tail(builder: &mut CommitBuilder<'_>, hard: bool, pair: Option<[u32; 2]>
 
 // Adds a move state.
 fn push_move(builder: &mut CommitBuilder<'_>, state: &MoveState)
-    requires { IsMoveState (move_view state.now) }
-    ensures { builder.new ≡ building_with_entries (move_entry (move_view state.now) ∷ []) builder.old }
+    requires { IsWellFormedMoveState (move_view state.now) }
+    ensures { builder.new ≡ commit_with_more_entries (move_state_log_entry (move_view state.now) ∷ []) builder.old }
 {
     push(builder, MOVE_STATE, Tag::NO_ID, &move_bytes(state));
 }
@@ -59,8 +59,8 @@ fn push_move(builder: &mut CommitBuilder<'_>, state: &MoveState)
 
 // Adds the entries of a change.
 fn push_change(builder: &mut CommitBuilder<'_>, change: &Change<'_>)
-    requires { is_storable (change_view change.now) ≡ true }
-    ensures { builder.new ≡ building_with_entries (entries_of_change (change_view change.now)) builder.old }
+    requires { is_storable_change (change_view change.now) ≡ true }
+    ensures { builder.new ≡ commit_with_more_entries (log_entries_of_change (change_view change.now)) builder.old }
 {
     match *change {
         Change::Create { id, kind, name } => {
@@ -72,7 +72,7 @@ fn push_change(builder: &mut CommitBuilder<'_>, change: &Change<'_>)
         Change::Attr { id, attr, bytes } => {
             push(builder, ATTRIBUTE + u16::from(attr), id, bytes);
         }
-        Change::NoAttr { id, attr } => push_removal(builder, id, attr),
+        Change::NoAttr { id, attr } => push_attribute_removal(builder, id, attr),
         Change::Tail { hard, pair } => push_tail(builder, hard, pair),
         Change::Move { state } => push_move(builder, &state),
     }
@@ -80,8 +80,8 @@ fn push_change(builder: &mut CommitBuilder<'_>, change: &Change<'_>)
 
 // Adds the entries of all changes, in order.
 pub(crate) fn push_changes(builder: &mut CommitBuilder<'_>, changes: &[Change<'_>])
-    requires { list_all is_storable (changes_view changes.now) ≡ true }
-    ensures { builder.new ≡ building_with_entries (entries_of_changes (changes_view changes.now)) builder.old }
+    requires { list_all is_storable_change (changes_view changes.now) ≡ true }
+    ensures { builder.new ≡ commit_with_more_entries (log_entries_of_changes (changes_view changes.now)) builder.old }
 {
     for change in changes {
         push_change(builder, change);
@@ -91,11 +91,16 @@ pub(crate) fn push_changes(builder: &mut CommitBuilder<'_>, changes: &[Change<'_
 // ---- contents
 
 // Adds a name or a struct, if there is one.
-fn push_part(builder: &mut CommitBuilder<'_>, id: u16, part: &Option<Part<'_>>, class: u16)
+fn push_name_or_struct(
+    builder: &mut CommitBuilder<'_>,
+    id: u16,
+    part: &Option<Part<'_>>,
+    class: u16,
+)
     requires id { id < 2 ^ 10 }
     requires class { class < 5 }
-    requires part { IsPartIfSome class (option_map part_view part.now) }
-    ensures { builder.new ≡ building_with_entries (part_entries id (option_map part_view part.now)) builder.old }
+    requires part { IsNameOrStructIfSome class (option_map part_view part.now) }
+    ensures { builder.new ≡ commit_with_more_entries (log_entries_of_name_or_struct id (option_map part_view part.now)) builder.old }
 {
     if let Some(part) = part {
         push(builder, part.kind, id, part.bytes);
@@ -105,8 +110,8 @@ fn push_part(builder: &mut CommitBuilder<'_>, id: u16, part: &Option<Part<'_>>, 
 // Adds attributes.
 fn push_attributes(builder: &mut CommitBuilder<'_>, id: u16, attributes: &[Attribute<'_>])
     requires id { id < 2 ^ 10 }
-    requires attributes { Ascend 0 (map attribute_view attributes.now) }
-    ensures { builder.new ≡ building_with_entries (attribute_entries id (map attribute_view attributes.now)) builder.old }
+    requires attributes { AreAttributesInTypeOrder 0 (map attribute_view attributes.now) }
+    ensures { builder.new ≡ commit_with_more_entries (log_entries_of_attributes id (map attribute_view attributes.now)) builder.old }
 {
     for attribute in attributes {
         push(
@@ -121,19 +126,19 @@ fn push_attributes(builder: &mut CommitBuilder<'_>, id: u16, attributes: &[Attri
 // Adds a slot.
 fn push_slot(builder: &mut CommitBuilder<'_>, id: u16, slot: &Slot<'_>)
     requires id { id < 2 ^ 10 }
-    requires parts { HasParts (slot_view slot.now) }
-    ensures { builder.new ≡ building_with_entries (entries_of_slot id (slot_view slot.now)) builder.old }
+    requires parts { IsWellFormedRawSlot (slot_view slot.now) }
+    ensures { builder.new ≡ commit_with_more_entries (log_entries_of_slot id (slot_view slot.now)) builder.old }
 {
-    push_part(builder, id, &slot.name, 0);
-    push_part(builder, id, &slot.structure, 2);
+    push_name_or_struct(builder, id, &slot.name, 0);
+    push_name_or_struct(builder, id, &slot.structure, 2);
     push_attributes(builder, id, &slot.attributes);
 }
 
 // Adds slots, from id 0 on.
 fn push_slots(builder: &mut CommitBuilder<'_>, slots: &[Slot<'_>])
     requires few { length slots.now < 0x3ff }
-    requires parts { HaveParts (map slot_view slots.now) }
-    ensures { builder.new ≡ building_with_entries (entries_of_slots 0 (map slot_view slots.now)) builder.old }
+    requires parts { AreWellFormedRawSlots (map slot_view slots.now) }
+    ensures { builder.new ≡ commit_with_more_entries (log_entries_of_slots 0 (map slot_view slots.now)) builder.old }
 {
     let mut id = 0;
     for slot in slots {
@@ -144,7 +149,7 @@ fn push_slots(builder: &mut CommitBuilder<'_>, slots: &[Slot<'_>])
 
 // Adds a tail, if there is one.
 fn push_tail_if_some(builder: &mut CommitBuilder<'_>, tail: &Option<Tail>)
-    ensures { builder.new ≡ building_with_entries (tail_entries (option_map tail_view tail.now)) builder.old }
+    ensures { builder.new ≡ commit_with_more_entries (log_entries_of_tail (option_map tail_view tail.now)) builder.old }
 {
     if let Some(tail) = tail {
         push_tail(builder, tail.hard, Some(tail.pair));
@@ -153,8 +158,8 @@ fn push_tail_if_some(builder: &mut CommitBuilder<'_>, tail: &Option<Tail>)
 
 // Adds a move state, unless it is zero.
 fn push_move_if_any(builder: &mut CommitBuilder<'_>, state: &MoveState)
-    requires { IsMoveState (move_view state.now) }
-    ensures { builder.new ≡ building_with_entries (move_entries (move_view state.now)) builder.old }
+    requires { IsWellFormedMoveState (move_view state.now) }
+    ensures { builder.new ≡ commit_with_more_entries (log_entries_of_move_state (move_view state.now)) builder.old }
 {
     if !state.is_none() {
         push_move(builder, state);
@@ -164,9 +169,9 @@ fn push_move_if_any(builder: &mut CommitBuilder<'_>, state: &MoveState)
 // Adds the entries that write a content into an empty log: each slot's name, struct and attributes
 // by ascending type, then the tail and the move state where there are such.
 pub(crate) fn push_content(builder: &mut CommitBuilder<'_>, content: &Content<'_>)
-    requires logged { IsLogged (content_view content.now) }
+    requires logged { IsWellFormedRawContent (content_view content.now) }
     requires few { length (content_view content.now).slots < 0x3ff }
-    ensures { builder.new ≡ building_with_entries (written_entries (content_view content.now)) builder.old }
+    ensures { builder.new ≡ commit_with_more_entries (log_entries_of_content (content_view content.now)) builder.old }
 {
     push_slots(builder, &content.slots);
     push_tail_if_some(builder, &content.tail);

@@ -1,15 +1,15 @@
 // The header of a pair, read from the device.
 
 ghost use Rattle.std.specs.Prelude.{◌≡◌, ◌≢◌, ◌+◌, ◌≤◌, ◌<◌, ◌⊎◌, true, IfOk, IfErr, IsOk, None, OnOk, Some};
-ghost use Rattle.lfs_device.specs.Shown.{disk_of};
+ghost use Rattle.lfs_device.specs.Shown.{disk_of_geometry_and_blocks};
 ghost use Rattle.lfs_device.specs.Calls.{ReadsOnly, ReportsFaults};
 ghost use Rattle.lfs_model.specs.History.{reads};
-ghost use Rattle.lfs_model.specs.Slots.{address_of};
-ghost use Rattle.lfs_model.specs.Log.{chain_of, log_entries, revision_of};
-ghost use Rattle.lfs_model.specs.Content.{raw_at, content_after_all, no_content, RawContent};
-ghost use Rattle.lfs_pair.specs.Pair.{DescribesLog, Fetches};
+ghost use Rattle.lfs_model.specs.Slots.{pair_address_of_array};
+ghost use Rattle.lfs_model.specs.Log.{chain_of, log_entries_of_block, revision_of_block};
+ghost use Rattle.lfs_model.specs.Content.{raw_content_of_pair_at, content_after_log_entries, empty_raw_content, RawContent};
+ghost use Rattle.lfs_pair.specs.Pair.{HeaderDescribesLog, FetchFindsPair};
 
-use crate::heads::Head;
+use crate::heads::BlockLogEnd;
 use crate::pair::Pair;
 use lfs_device::{BlockDevice, Error, read_block};
 use lfs_tag::{Log, Summary, is_later};
@@ -20,17 +20,17 @@ fn header_of(
     alloc: Global,
     blocks: [u32; 2],
     active: u32,
-    head: Head,
+    head: BlockLogEnd,
     bytes: &[u8],
 ) -> Result<Pair, Error>
     requires end { head.end ≡ (chain_of bytes.now).end }
     requires last { head.last ≡ (chain_of bytes.now).last }
-    requires revision { head.revision ≡ revision_of bytes.now }
-    ensures describes { IfOk result (λ pair. (held : RawContent) × DescribesLog bytes.now pair held) }
+    requires revision { head.revision ≡ revision_of_block bytes.now }
+    ensures describes { IfOk result (λ pair. (held : RawContent) × HeaderDescribesLog bytes.now pair held) }
     ensures blocks { IfOk result (λ pair. pair.blocks ≡ blocks) }
     ensures active { IfOk result (λ pair. pair.active ≡ active) }
     ensures fetched { IfOk result (λ pair. pair.is_fetched ≡ true) }
-    ensures corrupt { result ≡ Err Error.Corrupt → content_after_all no_content (log_entries bytes.now) ≡ None }
+    ensures corrupt { result ≡ Err Error.Corrupt → content_after_log_entries empty_raw_content (log_entries_of_block bytes.now) ≡ None }
     ensures errors { IfErr result (λ e. (e ≡ Error.Corrupt) ⊎ (e ≡ Error.NoMemory)) }
 {
     let log = Log::known(bytes, head.end, head.last);
@@ -59,11 +59,11 @@ fn header_of(
 /// malformed. `Io` where a read failed. `NoMemory` where memory for the blocks and the slots isn't
 /// granted.
 pub fn fetch<D: BlockDevice>(alloc: Global, dev: &mut D, blocks: [u32; 2]) -> Result<Pair, Error>
-    requires apart { (address_of blocks).0 ≢ (address_of blocks).1 }
-    requires first { (address_of blocks).0 < (D.geometry dev.old).block_count }
-    requires second { (address_of blocks).1 < (D.geometry dev.old).block_count }
-    ensures ok { IfOk result (λ pair. Fetches (disk_of (D.geometry dev.old) (D.blocks dev.old)) (D.history dev.new) (address_of blocks) pair) }
-    ensures corrupt { result ≡ Err Error.Corrupt → raw_at (disk_of (D.geometry dev.old) (D.blocks dev.old)) (address_of blocks) ≡ None }
+    requires apart { (pair_address_of_array blocks).0 ≢ (pair_address_of_array blocks).1 }
+    requires first { (pair_address_of_array blocks).0 < (D.geometry dev.old).block_count }
+    requires second { (pair_address_of_array blocks).1 < (D.geometry dev.old).block_count }
+    ensures ok { IfOk result (λ pair. FetchFindsPair (disk_of_geometry_and_blocks (D.geometry dev.old) (D.blocks dev.old)) (D.history dev.new) (pair_address_of_array blocks) pair) }
+    ensures corrupt { result ≡ Err Error.Corrupt → raw_content_of_pair_at (disk_of_geometry_and_blocks (D.geometry dev.old) (D.blocks dev.old)) (pair_address_of_array blocks) ≡ None }
     ensures errors { IfErr result (λ e. (e ≡ Error.Corrupt) ⊎ (e ≡ Error.NoMemory) ⊎ (e ≡ Error.Io)) }
     ensures faults { ReportsFaults D.BlockDevice dev.old dev.new result }
     ensures device { ReadsOnly D.BlockDevice dev.old dev.new }
@@ -72,8 +72,8 @@ pub fn fetch<D: BlockDevice>(alloc: Global, dev: &mut D, blocks: [u32; 2]) -> Re
 {
     let second_bytes = read_block(alloc, dev, blocks[1])?;
     let bytes = read_block(alloc, dev, blocks[0])?;
-    let second = Head::of(&second_bytes);
-    let first = Head::of(&bytes);
+    let second = BlockLogEnd::of(&second_bytes);
+    let first = BlockLogEnd::of(&bytes);
     if first.has_commit && !(second.has_commit && is_later(first.revision, second.revision)) {
         return header_of(alloc, blocks, blocks[0], first, &bytes);
     }

@@ -1,23 +1,23 @@
 // Pairs that are made of two blocks.
 
 ghost use Rattle.std.specs.Prelude.{◌≡◌, ◌<◌, false, length, IfErr, IfOk, OnOk};
-ghost use Rattle.lfs_device.specs.Shown.{disk_of};
+ghost use Rattle.lfs_device.specs.Shown.{disk_of_geometry_and_blocks};
 ghost use Rattle.lfs_device.specs.Calls.{ReportsFaults};
-ghost use Rattle.lfs_model.specs.Blocks.{block_in};
+ghost use Rattle.lfs_model.specs.Blocks.{block_bytes_in};
 ghost use Rattle.lfs_model.specs.Content.{has_commit};
-ghost use Rattle.lfs_model.specs.LoggedContent.{HaveNames, IsLogged};
-ghost use Rattle.lfs_model.specs.Slots.{address_of};
-ghost use Rattle.lfs_model.specs.WrittenContent.{FitsRaw};
+ghost use Rattle.lfs_model.specs.LoggedContent.{AreNamedSlots, IsWellFormedRawContent};
+ghost use Rattle.lfs_model.specs.Slots.{pair_address_of_array};
+ghost use Rattle.lfs_model.specs.WrittenContent.{IsRawContentFittingPair};
 ghost use Rattle.lfs_tag.specs.ContentView.{content_view};
 ghost use Rattle.lfs_pair.specs.ChangeView.{changes_view};
-ghost use Rattle.lfs_pair.specs.Commit.{IsAddressOn, PairHolds, both_blocks};
-ghost use Rattle.lfs_pair.specs.Writing.{ChangesReading, WritesBlock, WritesOnly};
-ghost use Rattle.lfs_pair.specs.Fresh.{CanBeFresh, ClearsLogs, FailsUntouched, HoldsFresh, IsFreshPair};
+ghost use Rattle.lfs_pair.specs.Commit.{IsPairAddressOnDisk, PairHasContent, both_blocks_of_pair};
+ghost use Rattle.lfs_pair.specs.Writing.{ChangesBlocksWithFewReads, WritesOnlyThisBlock, WritesOnlyTheseBlocks};
+ghost use Rattle.lfs_pair.specs.Fresh.{CanWriteFreshPair, WritesBlocksAndClearsOne, FailsUntouchedAtNoMemory, HasContentWithRevisionOne, IsFreshPair};
 
 use crate::change::Change;
-use crate::contents::made_of_nothing;
+use crate::contents::content_of_changes_to_empty_log;
 use crate::pair::Pair;
-use crate::programs::write_anew;
+use crate::programs::write_block_anew;
 use lfs_device::{BlockDevice, Error};
 use lfs_tag::{Content, Log};
 use std::alloc::Global;
@@ -33,10 +33,10 @@ const ZEROS: [u8; 512] = [0; 512];
 fn clear<D: BlockDevice>(dev: &mut D, block: u32, buf: &mut [u8]) -> Result<(), Error>
     requires in_device { block < (D.geometry dev.old).block_count }
     requires buf { length buf.old ≡ (D.geometry dev.old).block_size }
-    ensures cleared { OnOk result (has_commit (block_in (D.blocks dev.new) block) ≡ false) }
+    ensures cleared { OnOk result (has_commit (block_bytes_in (D.blocks dev.new) block) ≡ false) }
     ensures buf { length buf.new ≡ length buf.old }
-    ensures clears { OnOk result (ClearsLogs 0 (D.history dev.old) (D.history dev.new)) }
-    ensures writes { WritesBlock D.BlockDevice 1 block dev.old dev.new result }
+    ensures clears { OnOk result (WritesBlocksAndClearsOne 0 (D.history dev.old) (D.history dev.new)) }
+    ensures writes { WritesOnlyThisBlock D.BlockDevice 1 block dev.old dev.new result }
 {
     let page = dev.geometry().page as usize;
     dev.erase(block)?;
@@ -48,27 +48,27 @@ fn clear<D: BlockDevice>(dev: &mut D, block: u32, buf: &mut [u8]) -> Result<(), 
 }
 
 // Makes a pair of two blocks. The first block is active and holds the content.
-pub(crate) fn write_fresh<D: BlockDevice>(
+pub(crate) fn write_fresh_pair<D: BlockDevice>(
     dev: &mut D,
     blocks: [u32; 2],
     content: &Content<'_>,
     buf: &mut [u8],
 ) -> Result<Pair, Error>
-    requires address { IsAddressOn (disk_of (D.geometry dev.old) (D.blocks dev.old)) (address_of blocks) }
+    requires address { IsPairAddressOnDisk (disk_of_geometry_and_blocks (D.geometry dev.old) (D.blocks dev.old)) (pair_address_of_array blocks) }
     requires buf { length buf.old ≡ (D.geometry dev.old).block_size }
-    requires logged { IsLogged (content_view content.now) }
-    requires names { HaveNames (content_view content.now).slots }
-    requires fits { FitsRaw (D.geometry dev.old).block_size (D.geometry dev.old).page (content_view content.now) }
+    requires logged { IsWellFormedRawContent (content_view content.now) }
+    requires names { AreNamedSlots (content_view content.now).slots }
+    requires fits { IsRawContentFittingPair (D.geometry dev.old).block_size (D.geometry dev.old).page (content_view content.now) }
 
-    ensures holds { IfOk result (λ pair. PairHolds (disk_of (D.geometry dev.new) (D.blocks dev.new)) (D.history dev.new) (address_of blocks) pair (content_view content.now)) }
-    ensures fresh { IfOk result (λ pair. HoldsFresh (content_view content.now) (disk_of (D.geometry dev.new) (D.blocks dev.new)) (address_of blocks) pair) }
+    ensures holds { IfOk result (λ pair. PairHasContent (disk_of_geometry_and_blocks (D.geometry dev.new) (D.blocks dev.new)) (D.history dev.new) (pair_address_of_array blocks) pair (content_view content.now)) }
+    ensures fresh { IfOk result (λ pair. HasContentWithRevisionOne (content_view content.now) (disk_of_geometry_and_blocks (D.geometry dev.new) (D.blocks dev.new)) (pair_address_of_array blocks) pair) }
     ensures buf { length buf.new ≡ length buf.old }
-    ensures clears { OnOk result (ClearsLogs 1 (D.history dev.old) (D.history dev.new)) }
-    ensures writes { WritesOnly D.BlockDevice 2 (both_blocks (address_of blocks)) dev.old dev.new result }
+    ensures clears { OnOk result (WritesBlocksAndClearsOne 1 (D.history dev.old) (D.history dev.new)) }
+    ensures writes { WritesOnlyTheseBlocks D.BlockDevice 2 (both_blocks_of_pair (pair_address_of_array blocks)) dev.old dev.new result }
 {
     let [first, second] = blocks;
     clear(dev, second, buf)?;
-    let written = write_anew(dev, first, FIRST_REVISION, content, buf)?;
+    let written = write_block_anew(dev, first, FIRST_REVISION, content, buf)?;
     Ok(Pair::written(blocks, first, FIRST_REVISION, written, content))
 }
 
@@ -93,17 +93,17 @@ impl Pair {
         blocks: [u32; 2],
         changes: &[Change<'_>],
     ) -> Result<Pair, Error>
-        requires { CanBeFresh (disk_of (D.geometry dev.old) (D.blocks dev.old)) (address_of blocks) (changes_view changes.now) }
+        requires { CanWriteFreshPair (disk_of_geometry_and_blocks (D.geometry dev.old) (D.blocks dev.old)) (pair_address_of_array blocks) (changes_view changes.now) }
 
-        ensures fresh { IfOk result (λ pair. IsFreshPair (D.history dev.old) (changes_view changes.now) (disk_of (D.geometry dev.new) (D.blocks dev.new)) (D.history dev.new) (address_of blocks) pair) }
-        ensures error { IfErr result (λ e. FailsUntouched dev.old dev.new e) }
-        ensures device { ChangesReading D.BlockDevice 2 (both_blocks (address_of blocks)) dev.old dev.new }
+        ensures fresh { IfOk result (λ pair. IsFreshPair (D.history dev.old) (changes_view changes.now) (disk_of_geometry_and_blocks (D.geometry dev.new) (D.blocks dev.new)) (D.history dev.new) (pair_address_of_array blocks) pair) }
+        ensures error { IfErr result (λ e. FailsUntouchedAtNoMemory dev.old dev.new e) }
+        ensures device { ChangesBlocksWithFewReads D.BlockDevice 2 (both_blocks_of_pair (pair_address_of_array blocks)) dev.old dev.new }
         ensures faults { ReportsFaults D.BlockDevice dev.old dev.new result }
     {
-        let content = made_of_nothing(alloc, changes)?;
+        let content = content_of_changes_to_empty_log(alloc, changes)?;
         let block_size = dev.geometry().block_size as usize;
         let mut buf = Vec::from_elem(alloc, 0u8, block_size)?;
-        let pair = write_fresh(dev, blocks, &content, &mut buf)?;
+        let pair = write_fresh_pair(dev, blocks, &content, &mut buf)?;
         Ok(pair)
     }
 }

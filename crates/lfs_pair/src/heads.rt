@@ -1,14 +1,14 @@
 // What decides which block of a pair is active.
 
 ghost use Rattle.std.specs.Prelude.{◌≡◌};
-ghost use Rattle.lfs_model.specs.Log.{chain_of, revision_of};
+ghost use Rattle.lfs_model.specs.Log.{chain_of, revision_of_block};
 ghost use Rattle.lfs_model.specs.Content.{has_commit};
 
 use lfs_tag::{Log, Tag};
 
 // What is read of a block to decide whether it is its pair's active one.
 #[derive(Clone, Copy, Drop)]
-pub(crate) struct Head {
+pub(crate) struct BlockLogEnd {
     pub has_commit: bool,
     pub revision: u32,
     // Where the log ends in bytes, and its last tag.
@@ -16,16 +16,16 @@ pub(crate) struct Head {
     pub last: Tag,
 }
 
-impl Head {
+impl BlockLogEnd {
     // Reads the head of a block with these bytes.
-    pub(crate) fn of(bytes: &[u8]) -> Head
+    pub(crate) fn of(bytes: &[u8]) -> BlockLogEnd
         ensures has_commit { result.has_commit ≡ has_commit bytes.now }
-        ensures revision { result.revision ≡ revision_of bytes.now }
+        ensures revision { result.revision ≡ revision_of_block bytes.now }
         ensures end { result.end ≡ (chain_of bytes.now).end }
         ensures last { result.last ≡ (chain_of bytes.now).last }
     {
         let log = Log::read(bytes);
-        Head {
+        BlockLogEnd {
             has_commit: log.has_commit(),
             revision: log.revision(),
             end: log.end(),

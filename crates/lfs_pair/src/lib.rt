@@ -14,7 +14,7 @@ mod programs;
 mod size;
 mod splits;
 
-pub use change::{Change, apply_all};
+pub use change::{Change, apply_all_changes};
 pub use commits::{Outcome, commit, commit_in};
 pub use fetches::fetch;
 pub use pair::{Pair, is_same_pair};

@@ -1,17 +1,17 @@
 // The header that is kept of a metadata pair.
 
 ghost use Rattle.std.specs.Prelude.{◌≡◌, false, is_some, map};
-ghost use Rattle.lfs_model.specs.Content.{complete_all};
-ghost use Rattle.lfs_model.specs.Slots.{address_of, same_pair};
+ghost use Rattle.lfs_model.specs.Content.{slots_if_all_complete};
+ghost use Rattle.lfs_model.specs.Slots.{pair_address_of_array, same_pair};
 ghost use Rattle.lfs_tag.specs.ContentView.{content_view, slot_view};
-ghost use Rattle.lfs_pair.specs.Pair.{EndsWith, IsHeaderOf, other_in};
+ghost use Rattle.lfs_pair.specs.Pair.{HeaderHasLogEnd, IsHeaderOfContent, inactive_block_in_header};
 
 use crate::programs::Written;
 use lfs_tag::{Content, MoveState, Slot, Tag, Tail};
 
 // Returns whether each slot has a name and a struct.
-pub(crate) fn are_complete(slots: &[Slot<'_>]) -> bool
-    ensures { result ≡ is_some (complete_all (map slot_view slots.now)) }
+pub(crate) fn are_slots_complete(slots: &[Slot<'_>]) -> bool
+    ensures { result ≡ is_some (slots_if_all_complete (map slot_view slots.now)) }
 {
     for slot in slots {
         if slot.name.is_none() || slot.structure.is_none() {
@@ -24,7 +24,7 @@ pub(crate) fn are_complete(slots: &[Slot<'_>]) -> bool
 /// Returns whether two addresses name the same pair. The two blocks of an address may come in
 /// either order.
 pub fn is_same_pair(a: [u32; 2], b: [u32; 2]) -> bool
-    ensures { result ≡ same_pair (address_of a) (address_of b) }
+    ensures { result ≡ same_pair (pair_address_of_array a) (pair_address_of_array b) }
 {
     a[0] == b[0] && a[1] == b[1] || a[0] == b[1] && a[1] == b[0]
 }
@@ -60,7 +60,7 @@ pub struct Pair {
 impl Pair {
     // Returns the block that isn't active.
     pub(crate) fn other(&self) -> u32
-        ensures { result ≡ other_in self.now }
+        ensures { result ≡ inactive_block_in_header self.now }
     {
         if self.active == self.blocks[0] {
             self.blocks[1]
@@ -80,8 +80,8 @@ impl Pair {
         ensures blocks { result.blocks ≡ blocks }
         ensures active { result.active ≡ active }
         ensures revision { result.revision ≡ revision }
-        ensures ends { EndsWith written.end written.last result }
-        ensures sums { IsHeaderOf (content_view content.now) result }
+        ensures ends { HeaderHasLogEnd written.end written.last result }
+        ensures sums { IsHeaderOfContent (content_view content.now) result }
         ensures fetched { result.is_fetched ≡ false }
     {
         Pair {
@@ -93,7 +93,7 @@ impl Pair {
             slot_count: content.slots.len(),
             tail: content.tail,
             move_state: content.move_state,
-            is_complete: are_complete(&content.slots),
+            is_complete: are_slots_complete(&content.slots),
             is_fetched: false,
         }
     }

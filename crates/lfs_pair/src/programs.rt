@@ -1,17 +1,17 @@
 // Commits that are written to a block of the device.
 
 ghost use Rattle.std.specs.Prelude.{◌≡◌, ◌<◌, ◌≤◌, ◌+◌, ◌%◌, length, IfOk, IfErr, OnOk};
-ghost use Rattle.lfs_device.specs.Shown.{disk_of};
+ghost use Rattle.lfs_device.specs.Shown.{disk_of_geometry_and_blocks};
 ghost use Rattle.lfs_device.specs.Calls.{ReadsOnly, ReportsFaults};
-ghost use Rattle.lfs_model.specs.Blocks.{block_in};
-ghost use Rattle.lfs_model.specs.History.{AllUnprogrammed, EachSince, LeavesOnly, erases, programs, reads};
-ghost use Rattle.lfs_model.specs.LoggedContent.{HaveNames, IsLogged};
-ghost use Rattle.lfs_model.specs.Commit.{entries_size, next_four_bytes, page_end};
-ghost use Rattle.lfs_model.specs.Stops.{ErasesCleanly, Stops};
-ghost use Rattle.lfs_model.specs.WrittenContent.{FitsRaw, written_entries};
+ghost use Rattle.lfs_model.specs.Blocks.{block_bytes_in};
+ghost use Rattle.lfs_model.specs.History.{AreBytesUnprogrammed, IsTrueOfEachCallSince, IsTrueAfterEachStopSince, erases, programs, reads};
+ghost use Rattle.lfs_model.specs.LoggedContent.{AreNamedSlots, IsWellFormedRawContent};
+ghost use Rattle.lfs_model.specs.Commit.{encoded_size_of_log_entries, four_bytes_from_offset, page_aligned_commit_end};
+ghost use Rattle.lfs_model.specs.Stops.{LeavesNoNewLogIfErase, IsLeftByStopIn};
+ghost use Rattle.lfs_model.specs.WrittenContent.{IsRawContentFittingPair, log_entries_of_content};
 ghost use Rattle.lfs_tag.specs.Builder.{CommitIsAt, padded_end};
 ghost use Rattle.lfs_tag.specs.ContentView.{content_view};
-ghost use Rattle.lfs_pair.specs.Writing.{AddsCommit, HoldsAnew, IsWritten, LeftByCommit, LeftByWriting, LeftInBlock, WritesBlock};
+ghost use Rattle.lfs_pair.specs.Writing.{BlockGetsCommitAtOffset, IsBlockWrittenAnew, LogEndsOnPage, LeavesOldLogOrCommit, LeavesOldLogOrRewritten, DiffersOnlyInBlock, WritesOnlyThisBlock};
 
 use crate::entries::push_content;
 use lfs_device::{BlockDevice, Error};
@@ -27,10 +27,14 @@ pub(crate) struct Written {
 }
 
 // Reads the four bytes of a block at an offset. Returns None where the block has fewer.
-fn next_bytes<D: BlockDevice>(dev: &mut D, block: u32, at: u32) -> Result<Option<[u8; 4]>, Error>
+fn read_next_four_bytes<D: BlockDevice>(
+    dev: &mut D,
+    block: u32,
+    at: u32,
+) -> Result<Option<[u8; 4]>, Error>
     requires in_device { block < (D.geometry dev.old).block_count }
     requires in_block { at ≤ (D.geometry dev.old).block_size }
-    ensures bytes { IfOk result (λ next. next ≡ next_four_bytes (block_in (D.blocks dev.old) block) at) }
+    ensures bytes { IfOk result (λ next. next ≡ four_bytes_from_offset (block_bytes_in (D.blocks dev.old) block) at) }
     ensures device { ReadsOnly D.BlockDevice dev.old dev.new }
     ensures errors { IfErr result (λ e. e ≡ Error.Io) }
     ensures faults { ReportsFaults D.BlockDevice dev.old dev.new result }
@@ -56,18 +60,18 @@ pub(crate) fn program<D: BlockDevice>(
     requires page { builder.page ≡ (D.geometry dev.old).page }
     requires room { padded_end builder ≤ builder.room }
     requires ends { at + padded_end builder ≤ (D.geometry dev.old).block_size }
-    requires goes { CommitIsAt builder.revision builder.previous (block_in (D.blocks dev.old) block) at }
-    requires unprogrammed { AllUnprogrammed (D.history dev.old) block at (D.geometry dev.old).block_size }
+    requires goes { CommitIsAt builder.revision builder.previous (block_bytes_in (D.blocks dev.old) block) at }
+    requires unprogrammed { AreBytesUnprogrammed (D.history dev.old) block at (D.geometry dev.old).block_size }
 
-    ensures adds { IfOk result (λ written. AddsCommit builder.entry at written.end (block_in (D.blocks dev.old) block) (block_in (D.blocks dev.new) block)) }
-    ensures written { IfOk result (λ written. IsWritten (disk_of (D.geometry dev.new) (D.blocks dev.new)) (D.history dev.new) block written.end written.last) }
-    ensures writes { WritesBlock D.BlockDevice 1 block dev.old dev.new result }
+    ensures adds { IfOk result (λ written. BlockGetsCommitAtOffset builder.entry at written.end (block_bytes_in (D.blocks dev.old) block) (block_bytes_in (D.blocks dev.new) block)) }
+    ensures written { IfOk result (λ written. LogEndsOnPage (disk_of_geometry_and_blocks (D.geometry dev.new) (D.blocks dev.new)) (D.history dev.new) block written.end written.last) }
+    ensures writes { WritesOnlyThisBlock D.BlockDevice 1 block dev.old dev.new result }
     ensures erases { erases (D.history dev.new) ≡ erases (D.history dev.old) }
     ensures programs { OnOk result (programs (D.history dev.new) ≡ programs (D.history dev.old) + 1) }
-    ensures stops { LeavesOnly Stops (D.history dev.old) (D.history dev.new) (LeftInBlock block (LeftByCommit builder.entry at) (D.blocks dev.old)) }
+    ensures stops { IsTrueAfterEachStopSince IsLeftByStopIn (D.history dev.old) (D.history dev.new) (DiffersOnlyInBlock block (LeavesOldLogOrCommit builder.entry at) (D.blocks dev.old)) }
 {
     let end = at + builder.end();
-    let next = next_bytes(dev, block, end)?;
+    let next = read_next_four_bytes(dev, block, end)?;
     let last = builder.last(next);
     let pages = builder.finish(next)?;
     dev.prog(block, at, pages)?;
@@ -79,7 +83,7 @@ pub(crate) fn program<D: BlockDevice>(
 
 // Erases a block, and writes a content into it as its first commit. The buffer is as long as a
 // block.
-pub(crate) fn write_anew<D: BlockDevice>(
+pub(crate) fn write_block_anew<D: BlockDevice>(
     dev: &mut D,
     block: u32,
     revision: u32,
@@ -88,16 +92,16 @@ pub(crate) fn write_anew<D: BlockDevice>(
 ) -> Result<Written, Error>
     requires in_device { block < (D.geometry dev.old).block_count }
     requires buf { length buf.old ≡ (D.geometry dev.old).block_size }
-    requires logged { IsLogged (content_view content.now) }
-    requires names { HaveNames (content_view content.now).slots }
-    requires fits { FitsRaw (D.geometry dev.old).block_size (D.geometry dev.old).page (content_view content.now) }
+    requires logged { IsWellFormedRawContent (content_view content.now) }
+    requires names { AreNamedSlots (content_view content.now).slots }
+    requires fits { IsRawContentFittingPair (D.geometry dev.old).block_size (D.geometry dev.old).page (content_view content.now) }
 
-    ensures size { IfOk result (λ written. written.end ≡ page_end (D.geometry dev.old).page (4 + entries_size (written_entries (content_view content.now)))) }
-    ensures written { IfOk result (λ written. IsWritten (disk_of (D.geometry dev.new) (D.blocks dev.new)) (D.history dev.new) block written.end written.last) }
-    ensures anew { OnOk result (HoldsAnew revision (content_view content.now) (block_in (D.blocks dev.new) block) (D.history dev.old) (D.history dev.new)) }
-    ensures writes { WritesBlock D.BlockDevice 1 block dev.old dev.new result }
-    ensures stops { EachSince ErasesCleanly (D.history dev.old) (D.history dev.new)
-        → LeavesOnly Stops (D.history dev.old) (D.history dev.new) (LeftInBlock block (LeftByWriting revision (content_view content.now)) (D.blocks dev.old)) }
+    ensures size { IfOk result (λ written. written.end ≡ page_aligned_commit_end (D.geometry dev.old).page (4 + encoded_size_of_log_entries (log_entries_of_content (content_view content.now)))) }
+    ensures written { IfOk result (λ written. LogEndsOnPage (disk_of_geometry_and_blocks (D.geometry dev.new) (D.blocks dev.new)) (D.history dev.new) block written.end written.last) }
+    ensures anew { OnOk result (IsBlockWrittenAnew revision (content_view content.now) (block_bytes_in (D.blocks dev.new) block) (D.history dev.old) (D.history dev.new)) }
+    ensures writes { WritesOnlyThisBlock D.BlockDevice 1 block dev.old dev.new result }
+    ensures stops { IsTrueOfEachCallSince LeavesNoNewLogIfErase (D.history dev.old) (D.history dev.new)
+        → IsTrueAfterEachStopSince IsLeftByStopIn (D.history dev.old) (D.history dev.new) (DiffersOnlyInBlock block (LeavesOldLogOrRewritten revision (content_view content.now)) (D.blocks dev.old)) }
 {
     let page = dev.geometry().page;
     let before = Tag::from_bits(0xffff_ffff);

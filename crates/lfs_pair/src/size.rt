@@ -2,9 +2,9 @@
 
 ghost use Rattle.std.specs.Prelude.{◌≡◌, ℕ, ◌+◌, ◌-◌, ◌^◌, ◌<◌, ◌≤◌, ◌↔◌, IsTrue, length, min, map, sum_by};
 ghost use Rattle.std.specs.Option.{option_map};
-ghost use Rattle.lfs_model.specs.Disk.{pair_capacity, slot_limit};
+ghost use Rattle.lfs_model.specs.Disk.{pair_capacity, slots_per_pair_limit};
 ghost use Rattle.lfs_model.specs.Slots.{attributes_size};
-ghost use Rattle.lfs_model.specs.WrittenContent.{part_size, raw_slot_size, raw_size, FitsRaw};
+ghost use Rattle.lfs_model.specs.WrittenContent.{name_or_struct_size, raw_slot_size, raw_content_size, IsRawContentFittingPair};
 ghost use Rattle.lfs_tag.specs.ContentView.{part_view, attribute_view, slot_view, content_view};
 
 use lfs_device::Geometry;
@@ -13,7 +13,7 @@ use lfs_tag::{Attribute, Content, Part, Slot};
 // Returns how many bytes a name or a struct takes with its tag, or the greatest number where there
 // are more. None takes no bytes.
 fn part_size(part: &Option<Part<'_>>) -> u64
-    ensures { result ≡ min (part_size (option_map part_view part.now)) (2 ^ 64 - 1) }
+    ensures { result ≡ min (name_or_struct_size (option_map part_view part.now)) (2 ^ 64 - 1) }
 {
     match part {
         None => 0,
@@ -57,15 +57,15 @@ pub(crate) fn slots_size(slots: &[Slot<'_>]) -> u64
 
 // Returns whether a pair may hold `count` slots of `size` bytes.
 pub(crate) fn is_within(count: usize, size: u64, geometry: Geometry) -> bool
-    ensures { IsTrue result ↔ ((count ≤ slot_limit) × (size ≤ pair_capacity geometry.block_size geometry.page)) }
+    ensures { IsTrue result ↔ ((count ≤ slots_per_pair_limit) × (size ≤ pair_capacity geometry.block_size geometry.page)) }
 {
     count <= geometry.slot_limit() && size <= u64::from(geometry.pair_capacity())
 }
 
-/// Returns whether a pair may hold the content: at most [`Geometry::slot_limit`] slots, whose bytes
+/// Returns whether a pair may hold the content: at most [`Geometry::slots_per_pair_limit`] slots, whose bytes
 /// are at most [`Geometry::pair_capacity`].
 pub fn fits(content: &Content<'_>, geometry: Geometry) -> bool
-    ensures { IsTrue result ↔ FitsRaw geometry.block_size geometry.page (content_view content.now) }
+    ensures { IsTrue result ↔ IsRawContentFittingPair geometry.block_size geometry.page (content_view content.now) }
 {
     is_within(content.slots.len(), slots_size(&content.slots), geometry)
 }

@@ -1,25 +1,25 @@
 // Splits of a pair into itself and a fresh pair.
 
 ghost use Rattle.std.specs.Prelude.{◌≡◌, IfErr, IfOk};
-ghost use Rattle.lfs_device.specs.Shown.{disk_of};
-ghost use Rattle.lfs_model.specs.Blocks.{block_in};
+ghost use Rattle.lfs_device.specs.Shown.{disk_of_geometry_and_blocks};
+ghost use Rattle.lfs_model.specs.Blocks.{block_bytes_in};
 ghost use Rattle.lfs_device.specs.Calls.{ReportsFaults};
-ghost use Rattle.lfs_model.specs.History.{EachSince, LeavesOnly};
-ghost use Rattle.lfs_model.specs.Slots.{address_of};
-ghost use Rattle.lfs_model.specs.Stops.{ErasesCleanly, Stops};
+ghost use Rattle.lfs_model.specs.History.{IsTrueOfEachCallSince, IsTrueAfterEachStopSince};
+ghost use Rattle.lfs_model.specs.Slots.{pair_address_of_array};
+ghost use Rattle.lfs_model.specs.Stops.{LeavesNoNewLogIfErase, IsLeftByStopIn};
 ghost use Rattle.lfs_tag.specs.ContentView.{content_view};
-ghost use Rattle.lfs_pair.specs.Pair.{address_in};
+ghost use Rattle.lfs_pair.specs.Pair.{address_of_header};
 ghost use Rattle.lfs_pair.specs.Commit.{CommitFails};
 ghost use Rattle.lfs_pair.specs.ChangeView.{changes_view};
 ghost use Rattle.lfs_pair.specs.Cut.{CanBeCut};
-ghost use Rattle.lfs_pair.specs.Writing.{ChangesReading};
-ghost use Rattle.lfs_pair.specs.Split.{blocks_of_both, CanSplit, Splits, LeftBySplit, AreParts};
+ghost use Rattle.lfs_pair.specs.Writing.{ChangesBlocksWithFewReads};
+ghost use Rattle.lfs_pair.specs.Split.{blocks_of_both_pairs, CanSplitPair, Splits, LeavesOldContentOrParts, ArePartsOfContent};
 
 use crate::change::Change;
 use crate::commits::compact;
 use crate::contents::made_in;
-use crate::cut::cut_of;
-use crate::fresh::write_fresh;
+use crate::cut::middle_cut_of_slots;
+use crate::fresh::write_fresh_pair;
 use crate::pair::Pair;
 use lfs_device::{BlockDevice, Error, Geometry, read_block};
 use lfs_tag::{Content, MoveState, Tail};
@@ -49,15 +49,15 @@ pub fn split<D: BlockDevice>(
     fresh: [u32; 2],
     changes: &[Change<'_>],
 ) -> Result<Pair, Error>
-    requires { CanSplit (disk_of (D.geometry dev.old) (D.blocks dev.old)) (D.history dev.old) pair.old (address_of fresh) (changes_view changes.now) }
+    requires { CanSplitPair (disk_of_geometry_and_blocks (D.geometry dev.old) (D.blocks dev.old)) (D.history dev.old) pair.old (pair_address_of_array fresh) (changes_view changes.now) }
 
-    ensures splits { IfOk result (λ fresh_pair. Splits (disk_of (D.geometry dev.old) (D.blocks dev.old)) (D.history dev.old) (changes_view changes.now) pair.old (address_of fresh)
-        (disk_of (D.geometry dev.new) (D.blocks dev.new)) (D.history dev.new) pair.new fresh_pair) }
+    ensures splits { IfOk result (λ fresh_pair. Splits (disk_of_geometry_and_blocks (D.geometry dev.old) (D.blocks dev.old)) (D.history dev.old) (changes_view changes.now) pair.old (pair_address_of_array fresh)
+        (disk_of_geometry_and_blocks (D.geometry dev.new) (D.blocks dev.new)) (D.history dev.new) pair.new fresh_pair) }
     ensures error { IfErr result (λ e. CommitFails D.BlockDevice dev.old dev.new pair.old pair.new e) }
-    ensures device { ChangesReading D.BlockDevice 4 (blocks_of_both (address_in pair.old) (address_of fresh)) dev.old dev.new }
+    ensures device { ChangesBlocksWithFewReads D.BlockDevice 4 (blocks_of_both_pairs (address_of_header pair.old) (pair_address_of_array fresh)) dev.old dev.new }
     ensures faults { ReportsFaults D.BlockDevice dev.old dev.new result }
-    ensures stops { EachSince ErasesCleanly (D.history dev.old) (D.history dev.new)
-        → LeavesOnly Stops (D.history dev.old) (D.history dev.new) (LeftBySplit (disk_of (D.geometry dev.old) (D.blocks dev.old)) (address_in pair.old) (address_of fresh) (changes_view changes.now)) }
+    ensures stops { IsTrueOfEachCallSince LeavesNoNewLogIfErase (D.history dev.old) (D.history dev.new)
+        → IsTrueAfterEachStopSince IsLeftByStopIn (D.history dev.old) (D.history dev.new) (LeavesOldContentOrParts (disk_of_geometry_and_blocks (D.geometry dev.old) (D.blocks dev.old)) (address_of_header pair.old) (pair_address_of_array fresh) (changes_view changes.now)) }
 {
     let block = read_block(alloc, dev, pair.active)?;
     let fresh_pair = split_in(alloc, dev, pair, fresh, &block, changes)?;
@@ -77,38 +77,38 @@ pub fn split_in<'a, 'b: 'a, D: BlockDevice>(
     block: &'a [u8],
     changes: &[Change<'b>],
 ) -> Result<Pair, Error>
-    requires can { CanSplit (disk_of (D.geometry dev.old) (D.blocks dev.old)) (D.history dev.old) pair.old (address_of fresh) (changes_view changes.now) }
-    requires block { block.now ≡ block_in (D.blocks dev.old) pair.old.active }
+    requires can { CanSplitPair (disk_of_geometry_and_blocks (D.geometry dev.old) (D.blocks dev.old)) (D.history dev.old) pair.old (pair_address_of_array fresh) (changes_view changes.now) }
+    requires block { block.now ≡ block_bytes_in (D.blocks dev.old) pair.old.active }
 
-    ensures splits { IfOk result (λ fresh_pair. Splits (disk_of (D.geometry dev.old) (D.blocks dev.old)) (D.history dev.old) (changes_view changes.now) pair.old (address_of fresh)
-        (disk_of (D.geometry dev.new) (D.blocks dev.new)) (D.history dev.new) pair.new fresh_pair) }
+    ensures splits { IfOk result (λ fresh_pair. Splits (disk_of_geometry_and_blocks (D.geometry dev.old) (D.blocks dev.old)) (D.history dev.old) (changes_view changes.now) pair.old (pair_address_of_array fresh)
+        (disk_of_geometry_and_blocks (D.geometry dev.new) (D.blocks dev.new)) (D.history dev.new) pair.new fresh_pair) }
     ensures error { IfErr result (λ e. CommitFails D.BlockDevice dev.old dev.new pair.old pair.new e) }
-    ensures device { ChangesReading D.BlockDevice 3 (blocks_of_both (address_in pair.old) (address_of fresh)) dev.old dev.new }
+    ensures device { ChangesBlocksWithFewReads D.BlockDevice 3 (blocks_of_both_pairs (address_of_header pair.old) (pair_address_of_array fresh)) dev.old dev.new }
     ensures faults { ReportsFaults D.BlockDevice dev.old dev.new result }
-    ensures stops { EachSince ErasesCleanly (D.history dev.old) (D.history dev.new)
-        → LeavesOnly Stops (D.history dev.old) (D.history dev.new) (LeftBySplit (disk_of (D.geometry dev.old) (D.blocks dev.old)) (address_in pair.old) (address_of fresh) (changes_view changes.now)) }
+    ensures stops { IsTrueOfEachCallSince LeavesNoNewLogIfErase (D.history dev.old) (D.history dev.new)
+        → IsTrueAfterEachStopSince IsLeftByStopIn (D.history dev.old) (D.history dev.new) (LeavesOldContentOrParts (disk_of_geometry_and_blocks (D.geometry dev.old) (D.blocks dev.old)) (address_of_header pair.old) (pair_address_of_array fresh) (changes_view changes.now)) }
 {
     let geometry = dev.geometry();
     let mut front = made_in(alloc, pair, block, changes)?;
-    let back = cut_off(&mut front, fresh, geometry)?;
+    let back = split_off_back_content(&mut front, fresh, geometry)?;
     let mut buf = Vec::from_elem(alloc, 0u8, geometry.block_size as usize)?;
-    let fresh_pair = write_fresh(dev, fresh, &back, &mut buf)?;
+    let fresh_pair = write_fresh_pair(dev, fresh, &back, &mut buf)?;
     compact(dev, pair, &front, &mut buf)?;
     Ok(fresh_pair)
 }
 
 // Takes the slots from the cut on out of the content, and returns them with its tail. The content's
 // tail then is a hard one to the fresh pair.
-fn cut_off<'a>(
+fn split_off_back_content<'a>(
     content: &mut Content<'a>,
     fresh: [u32; 2],
     geometry: Geometry,
 ) -> Result<Content<'a>, Error>
     requires { CanBeCut geometry.block_size geometry.page (content_view content.old).slots }
-    ensures parts { IfOk result (λ back. AreParts geometry.block_size geometry.page (content_view content.old) (address_of fresh) (content_view content.new) (content_view back)) }
+    ensures parts { IfOk result (λ back. ArePartsOfContent geometry.block_size geometry.page (content_view content.old) (pair_address_of_array fresh) (content_view content.new) (content_view back)) }
     ensures errors { IfErr result (λ e. e ≡ Error.NoMemory) }
 {
-    let cut = cut_of(&content.slots, geometry);
+    let cut = middle_cut_of_slots(&content.slots, geometry);
     let slots = content.slots.split_off(cut)?;
     let back = Content {
         slots,

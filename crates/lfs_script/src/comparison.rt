@@ -38,16 +38,16 @@ fn different_block(
     Ok(None)
 }
 
-fn are_same(item: &Item, other: &Item) -> bool {
+fn are_same_items(item: &Item, other: &Item) -> bool {
     item.name.as_slice() == other.name.as_slice()
         && item.kind == other.kind
         && item.size == other.size
 }
 
 // Returns the first place where two listings differ.
-fn different_place(items: &[Item], others: &[Item]) -> Option<usize> {
+fn first_different_index(items: &[Item], others: &[Item]) -> Option<usize> {
     for (place, (item, other)) in items.iter().zip(others).enumerate() {
-        if !are_same(item, other) {
+        if !are_same_items(item, other) {
             return Some(place);
         }
     }
@@ -60,7 +60,7 @@ fn different_place(items: &[Item], others: &[Item]) -> Option<usize> {
 
 // Returns the name of the first entry in which two listings differ.
 fn different_name<'a>(items: &'a [Item], others: &'a [Item]) -> Option<&'a [u8]> {
-    let place = different_place(items, others)?;
+    let place = first_different_index(items, others)?;
     match items.get(place) {
         Some(item) => Some(item.name.as_slice()),
         None => Some(others.get(place)?.name.as_slice()),
@@ -68,7 +68,11 @@ fn different_name<'a>(items: &'a [Item], others: &'a [Item]) -> Option<&'a [u8]>
 }
 
 // Returns the path of a name in a directory. The root's own path is one byte.
-fn path_below(alloc: Global, directory: &[u8], name: &[u8]) -> Result<Vec<u8>, AllocError>
+fn path_of_name_in_directory(
+    alloc: Global,
+    directory: &[u8],
+    name: &[u8],
+) -> Result<Vec<u8>, AllocError>
     ensures root { length directory.now ≤ 1 → IfOk result (λ path. path.items ≡ 0x2f ∷ name.now) }
     ensures deeper { 1 < length directory.now → IfOk result (λ path. path.items ≡ directory.now ++ 0x2f ∷ name.now) }
 {
@@ -100,7 +104,7 @@ fn bytes_of(
 }
 
 // Returns whether a file holds the same bytes in both.
-fn hold_same(
+fn have_same_bytes(
     alloc: Global,
     session: &mut Session<Device>,
     other: &mut Session<Device>,
@@ -163,7 +167,7 @@ fn first_different_type(
 }
 
 // Returns what differs of an entry that both list as of this kind.
-fn difference_at(
+fn difference_of_entry(
     alloc: Global,
     session: &mut Session<Device>,
     other: &mut Session<Device>,
@@ -179,14 +183,14 @@ fn difference_at(
     if let Some(kind) = first_different_type(alloc, session, other, path, first, last)? {
         return Ok(Some(Difference::Attribute(Vec::from_slice(alloc, path)?, kind)));
     }
-    if kind == Kind::File && !hold_same(alloc, session, other, path)? {
+    if kind == Kind::File && !have_same_bytes(alloc, session, other, path)? {
         return Ok(Some(Difference::Bytes(Vec::from_slice(alloc, path)?)));
     }
     Ok(None)
 }
 
 // Returns what differs first of a directory's entries. Its directories are compared later.
-fn difference_in(
+fn difference_of_directory(
     alloc: Global,
     session: &mut Session<Device>,
     other: &mut Session<Device>,
@@ -197,11 +201,11 @@ fn difference_in(
     let items = session.list(alloc, directory)?;
     let others = other.list(alloc, directory)?;
     if let Some(name) = different_name(&items, &others) {
-        return Ok(Some(Difference::Entry(path_below(alloc, directory, name)?)));
+        return Ok(Some(Difference::Entry(path_of_name_in_directory(alloc, directory, name)?)));
     }
     for item in items.iter() {
-        let path = path_below(alloc, directory, item.name.as_slice())?;
-        let difference = difference_at(alloc, session, other, scope, &path, item.kind)?;
+        let path = path_of_name_in_directory(alloc, directory, item.name.as_slice())?;
+        let difference = difference_of_entry(alloc, session, other, scope, &path, item.kind)?;
         if difference.is_some() {
             return Ok(difference);
         }
@@ -225,7 +229,14 @@ fn different_entry(
         let Some(directory) = waiting.pop() else {
             return Ok(None);
         };
-        let difference = difference_in(alloc, session, other, scope, &directory, &mut waiting)?;
+        let difference = difference_of_directory(
+            alloc,
+            session,
+            other,
+            scope,
+            &directory,
+            &mut waiting,
+        )?;
         if difference.is_some() {
             return Ok(difference);
         }

@@ -7,18 +7,18 @@ use lfs_device::{BlockDevice, Error, Geometry};
 
 /// A device with the count of its calls that failed. The count saturates.
 #[derive(Drop)]
-pub struct Counted<D: BlockDevice> {
+pub struct DeviceWithCountedFaults<D: BlockDevice> {
     inner: D,
     failed: u64,
     ghost counted: { failed ≡ min (faults (D.history inner)) (2 ^ 64 - 1) },
 }
 
-impl<D: BlockDevice> Counted<D> {
-    pub fn new(inner: D) -> Counted<D>
+impl<D: BlockDevice> DeviceWithCountedFaults<D> {
+    pub fn new(inner: D) -> DeviceWithCountedFaults<D>
         requires { faults (D.history inner) ≡ 0 }
         ensures { result.inner ≡ inner }
     {
-        Counted { inner, failed: 0 }
+        DeviceWithCountedFaults { inner, failed: 0 }
     }
 
     /// Borrows the device below.
@@ -42,7 +42,7 @@ impl<D: BlockDevice> Counted<D> {
     }
 }
 
-impl<D: BlockDevice> BlockDevice for Counted<D> {
+impl<D: BlockDevice> BlockDevice for DeviceWithCountedFaults<D> {
     ghost geometry = { λ d. D.geometry d.inner };
 
     ghost blocks = { λ d. D.blocks d.inner };

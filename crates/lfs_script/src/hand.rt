@@ -2,18 +2,18 @@
 
 ghost use Rattle.std.specs.Prelude.{◌≡◌, ◌↔◌, [], IfSome, None};
 ghost use Rattle.lfs_device.specs.FaultDevice.{fault_of, history_of, inner_of};
-ghost use Rattle.lfs_script.specs.Hands.{IsLeftBy, counted};
+ghost use Rattle.lfs_script.specs.Hands.{IsDeviceLeftBySession, call_counts_of_history};
 
-use crate::counted_device::Counted;
-use lfs_device::{Extent, Fault, FaultDevice, RamDevice, Which};
+use crate::counted_device::DeviceWithCountedFaults;
+use lfs_device::{Extent, FaultDevice, PlannedFault, RamDevice, Which};
 use lfs_fs::Session;
 use lfs_script_lines::Calls;
 
 /// A device in memory, one of whose calls may fail.
-pub type Device = Counted<FaultDevice<RamDevice>>;
+pub type Device = DeviceWithCountedFaults<FaultDevice<RamDevice>>;
 
 /// Returns a fault that never comes.
-pub const NO_FAULT: Fault = Fault {
+pub const NO_FAULT: PlannedFault = PlannedFault {
     which: Which::Any,
     nth: 0,
     stops: false,
@@ -21,7 +21,7 @@ pub const NO_FAULT: Fault = Fault {
 };
 
 /// Counts the calls of the device from now on. One of them may fail.
-pub fn with_fault(device: RamDevice, fault: Fault) -> Device
+pub fn with_fault(device: RamDevice, fault: PlannedFault) -> Device
     ensures fault { fault_of result.inner ≡ fault }
     ensures device { inner_of result.inner ≡ device }
     ensures no_call { history_of result.inner ≡ [] }
@@ -32,7 +32,7 @@ pub fn with_fault(device: RamDevice, fault: Fault) -> Device
         Extent::FirstBytes(count) => device.torn(count),
         Extent::Whole => device.whole(),
     };
-    Counted::new(device)
+    DeviceWithCountedFaults::new(device)
 }
 
 /// The device that a script works with, and its session.
@@ -48,7 +48,7 @@ impl Hand {
     pub fn device(&self) -> Option<&Device>
         ensures none { (result ≡ None) ↔ (self.now ≡ Hand.Nothing) }
         ensures device { IfSome result (λ found. (d : _) → self.now ≡ Hand.Device d → found.now ≡ d) }
-        ensures session { IfSome result (λ found. (s : _) → self.now ≡ Hand.Session s → IsLeftBy s (inner_of found.now.inner) (history_of found.now.inner)) }
+        ensures session { IfSome result (λ found. (s : _) → self.now ≡ Hand.Session s → IsDeviceLeftBySession s (inner_of found.now.inner) (history_of found.now.inner)) }
     {
         match self {
             Hand::Nothing => None,
@@ -61,7 +61,7 @@ impl Hand {
     pub fn into_device(self) -> Option<Device>
         ensures none { (result ≡ None) ↔ (self ≡ Hand.Nothing) }
         ensures device { IfSome result (λ found. (d : _) → self ≡ Hand.Device d → found ≡ d) }
-        ensures session { IfSome result (λ found. (s : _) → self ≡ Hand.Session s → IsLeftBy s (inner_of found.inner) (history_of found.inner)) }
+        ensures session { IfSome result (λ found. (s : _) → self ≡ Hand.Session s → IsDeviceLeftBySession s (inner_of found.inner) (history_of found.inner)) }
     {
         match self {
             Hand::Nothing => None,
@@ -73,7 +73,7 @@ impl Hand {
 
 /// Returns how many calls a device had. Each count saturates.
 pub fn calls_of(device: &Device) -> Calls
-    ensures { result ≡ counted (history_of device.now.inner) }
+    ensures { result ≡ call_counts_of_history (history_of device.now.inner) }
 {
     Calls {
         reads: device.inner().calls(Which::Read),

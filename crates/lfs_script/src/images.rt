@@ -1,8 +1,8 @@
 // Devices in memory, and files with their bytes.
 
 ghost use Rattle.std.specs.Prelude.{◌≡◌, ◌⊎◌, ◌*◌, [], IfErr, IfOk, OnOk, replicate};
-ghost use Rattle.lfs_model.specs.Disk.{IsImage};
-ghost use Rattle.lfs_model.specs.Geometry.{IsGeometry};
+ghost use Rattle.lfs_model.specs.Disk.{IsImageOfWholeBlocks};
+ghost use Rattle.lfs_model.specs.Geometry.{IsValidGeometry};
 ghost use Rattle.lfs_device.specs.RamDevice.{bytes_of, geometry_of, history_of};
 
 use lfs_device::{Error, Geometry, RamDevice};
@@ -24,7 +24,7 @@ pub fn blank(
     ensures geometry { IfOk result (λ d. ((geometry_of d).block_size ≡ block_size) × ((geometry_of d).page ≡ page) × ((geometry_of d).block_count ≡ block_count)) }
     ensures bytes { IfOk result (λ d. bytes_of d ≡ replicate (block_size * block_count) 255) }
     ensures no_call { IfOk result (λ d. history_of d ≡ []) }
-    ensures errors { IfErr result (λ e. (e ≡ Error.NoMemory) ⊎ ((e ≡ Error.Invalid) × (¬ IsGeometry block_size page block_count))) }
+    ensures errors { IfErr result (λ e. (e ≡ Error.NoMemory) ⊎ ((e ≡ Error.Invalid) × (¬ IsValidGeometry block_size page block_count))) }
 {
     RamDevice::blank(alloc, Geometry::new(block_size, page, block_count)?)
 }
@@ -34,11 +34,11 @@ pub fn blank(
 /// # Errors
 /// - `Invalid` exactly where they aren't the blocks of a device.
 pub fn device_of(bytes: Vec<u8>, block_size: u32, page: u32) -> Result<RamDevice, Error>
-    ensures image { OnOk result (IsImage block_size page bytes.items) }
+    ensures image { OnOk result (IsImageOfWholeBlocks block_size page bytes.items) }
     ensures geometry { IfOk result (λ d. ((geometry_of d).block_size ≡ block_size) × ((geometry_of d).page ≡ page)) }
     ensures bytes { IfOk result (λ d. bytes_of d ≡ bytes.items) }
     ensures no_call { IfOk result (λ d. history_of d ≡ []) }
-    ensures err { IfErr result (λ e. (e ≡ Error.Invalid) × (¬ IsImage block_size page bytes.items)) }
+    ensures err { IfErr result (λ e. (e ≡ Error.Invalid) × (¬ IsImageOfWholeBlocks block_size page bytes.items)) }
 {
     if block_size == 0 {
         return Err(Error::Invalid);

@@ -18,7 +18,7 @@ use std::process::ExitCode;
 use std::{env, io};
 
 // Shows why a script ended before its last line, and returns the status. A failed write is ignored.
-fn report(rt: &HostRuntime, end: End) -> ExitCode {
+fn report_script_end(rt: &HostRuntime, end: End) -> ExitCode {
     let (shown, status) = match end {
         End::Done => return ExitCode::SUCCESS,
         End::Line(number, refusal) => (eprintln!(rt; "error: line {number}: {refusal}"), 2),
@@ -58,12 +58,12 @@ fn words(rt: &HostRuntime) -> io::Result<Vec<String>> {
 fn show_help(rt: &HostRuntime) -> ExitCode {
     match print!(rt; "{HELP}") {
         Ok(()) => ExitCode::SUCCESS,
-        Err(_) => report(rt, End::Output),
+        Err(_) => report_script_end(rt, End::Output),
     }
 }
 
 // Says that there are no such words, and returns the status. A failed write is ignored.
-fn refuse_words(rt: &HostRuntime) -> ExitCode {
+fn say_unknown_words(rt: &HostRuntime) -> ExitCode {
     let _ = eprintln!(rt; "error: a script is read from standard input (--help says more)");
     ExitCode::from(2)
 }
@@ -71,21 +71,24 @@ fn refuse_words(rt: &HostRuntime) -> ExitCode {
 // Performs the lines of standard input, and returns the status.
 fn run_script(rt: &HostRuntime) -> ExitCode {
     let Ok(mut input) = BufReader::new(rt.alloc(), rt.stdin()) else {
-        return report(rt, End::NoMemory);
+        return report_script_end(rt, End::NoMemory);
     };
     let end = run(rt, &mut input, &mut rt.stdout());
-    report(rt, end)
+    report_script_end(rt, end)
 }
 
 fn main(rt: HostRuntime) -> ExitCode {
     let words = match words(&rt) {
         Ok(words) => words,
-        Err(error) if error.kind() == ErrorKind::OutOfMemory => return report(&rt, End::NoMemory),
-        Err(_) => return refuse_words(&rt),
+        Err(error) if error.kind() == ErrorKind::OutOfMemory => return report_script_end(
+            &rt,
+            End::NoMemory,
+        ),
+        Err(_) => return say_unknown_words(&rt),
     };
     match request_of(&words) {
         Request::Script => run_script(&rt),
         Request::Help => show_help(&rt),
-        Request::Unknown => refuse_words(&rt),
+        Request::Unknown => say_unknown_words(&rt),
     }
 }

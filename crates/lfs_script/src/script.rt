@@ -1,14 +1,14 @@
 // The commands of a script on the device in hand.
 
 ghost use Rattle.std.specs.Prelude.{◌≡◌, IfErr, IfOk};
-ghost use Rattle.lfs_script.specs.Hands.{IsCompared, IsUnmounted, calls_answer, calls_in};
+ghost use Rattle.lfs_script.specs.Hands.{IsComparisonInHand, IsUnmountInHand, answer_to_calls, history_of_hand};
 ghost use Rattle.lfs_script.specs.PerformedOperations.{IsPerformedInHand};
 
 use crate::comparison::{compare, compare_with};
 use crate::hand::{Device, Hand, NO_FAULT, calls_of, with_fault};
 use crate::images::{blank, device_of, read_file, write_file};
 use crate::operation_calls::perform;
-use lfs_device::{Erased, Error, Fault, NameOrder, RamDevice};
+use lfs_device::{Erased, Error, NameOrder, PlannedFault, RamDevice};
 use lfs_fs::{Reply, Session, format_ordered, mount};
 use lfs_script_lines::{Answer, Command, Operation, Scope};
 use std::mem;
@@ -88,7 +88,7 @@ impl<'a, R: Files + AllocGlobal> Script<'a, R> {
     }
 
     fn unmount(&mut self) -> Answer
-        ensures { IsUnmounted self.old.hand result self.new.hand }
+        ensures { IsUnmountInHand self.old.hand result self.new.hand }
     {
         match mem::replace(&mut self.hand, Hand::Nothing) {
             Hand::Session(session) => {
@@ -102,7 +102,7 @@ impl<'a, R: Files + AllocGlobal> Script<'a, R> {
         }
     }
 
-    fn mount(&mut self, fault: Fault) -> Answer {
+    fn mount(&mut self, fault: PlannedFault) -> Answer {
         match mem::replace(&mut self.hand, Hand::Nothing).into_device() {
             Some(device) => {
                 let device = with_fault(device.into_inner().into_inner(), fault);
@@ -126,7 +126,7 @@ impl<'a, R: Files + AllocGlobal> Script<'a, R> {
     }
 
     fn calls(&self) -> Answer
-        ensures { result ≡ calls_answer (calls_in self.now.hand) }
+        ensures { result ≡ answer_to_calls (history_of_hand self.now.hand) }
     {
         match self.hand.device() {
             Some(device) => Answer::Calls(calls_of(device)),
@@ -135,7 +135,7 @@ impl<'a, R: Files + AllocGlobal> Script<'a, R> {
     }
 
     fn compare(&mut self, scope: Scope) -> Answer
-        ensures { IsCompared self.old.hand result self.new.hand }
+        ensures { IsComparisonInHand self.old.hand result self.new.hand }
     {
         match &mut self.hand {
             Hand::Session(session) => compare(self.rt.alloc(), session, scope),
@@ -144,7 +144,7 @@ impl<'a, R: Files + AllocGlobal> Script<'a, R> {
     }
 
     fn compare_with(&mut self, file: &[u8]) -> Answer
-        ensures { IsCompared self.old.hand result self.new.hand }
+        ensures { IsComparisonInHand self.old.hand result self.new.hand }
     {
         match &mut self.hand {
             Hand::Session(session) => compare_with_file(self.rt, session, file),
@@ -152,7 +152,7 @@ impl<'a, R: Files + AllocGlobal> Script<'a, R> {
         }
     }
 
-    fn operate(&mut self, operation: &Operation) -> Answer
+    fn perform_in_hand(&mut self, operation: &Operation) -> Answer
         ensures { IsPerformedInHand self.old.hand operation.now result self.new.hand }
     {
         match &mut self.hand {
@@ -167,10 +167,10 @@ impl<'a, R: Files + AllocGlobal> Script<'a, R> {
     /// is `Nothing`. `Calls` and `Save` leave the device and the session.
     pub fn carry_out(&mut self, command: &Command) -> Answer
         ensures performed { (op : _) → command.now ≡ Command.Perform op → IsPerformedInHand self.old.hand op result self.new.hand }
-        ensures unmounted { command.now ≡ Command.Unmount → IsUnmounted self.old.hand result self.new.hand }
-        ensures calls { command.now ≡ Command.Calls → (result ≡ calls_answer (calls_in self.old.hand)) × (self.new.hand ≡ self.old.hand) }
-        ensures compared { (scope : _) → command.now ≡ Command.Compare scope → IsCompared self.old.hand result self.new.hand }
-        ensures compared_with { (file : _) → command.now ≡ Command.CompareWith file → IsCompared self.old.hand result self.new.hand }
+        ensures unmounted { command.now ≡ Command.Unmount → IsUnmountInHand self.old.hand result self.new.hand }
+        ensures calls { command.now ≡ Command.Calls → (result ≡ answer_to_calls (history_of_hand self.old.hand)) × (self.new.hand ≡ self.old.hand) }
+        ensures compared { (scope : _) → command.now ≡ Command.Compare scope → IsComparisonInHand self.old.hand result self.new.hand }
+        ensures compared_with { (file : _) → command.now ≡ Command.CompareWith file → IsComparisonInHand self.old.hand result self.new.hand }
         ensures saved { (file : _) → command.now ≡ Command.Save file → self.new.hand ≡ self.old.hand }
     {
         match command {
@@ -196,7 +196,7 @@ impl<'a, R: Files + AllocGlobal> Script<'a, R> {
             Command::Calls => self.calls(),
             Command::Compare(scope) => self.compare(*scope),
             Command::CompareWith(file) => self.compare_with(file),
-            Command::Perform(operation) => self.operate(operation),
+            Command::Perform(operation) => self.perform_in_hand(operation),
         }
     }
 }

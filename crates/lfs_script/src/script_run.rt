@@ -1,18 +1,18 @@
 // Scripts, read and performed line by line.
 
 use crate::script::Script;
-use lfs_script_lines::{LineError, Refusal, push_answer, read_line};
+use lfs_script_lines::{LineError, LineObjection, push_answer, read_line};
 use std::alloc::AllocError;
 use std::io::{BufRead, ErrorKind, Write};
 use std::rt::Files;
 
 /// How a script ended.
 #[derive(Clone, Copy, Debug, PartialEq, Eq)]
-pub enum End {
+pub enum ScriptEnd {
     /// With its last line.
     Done,
     /// At a line that is no command: its number, from 1 on, and the reason.
-    Line(u64, Refusal),
+    Line(u64, LineObjection),
     /// Where a growth was refused.
     NoMemory,
     /// Where its lines could not be read.
@@ -28,19 +28,19 @@ fn answer_line<R: Files + AllocGlobal, W: Write>(
     line: &[u8],
     number: u64,
     out: &mut W,
-) -> Result<(), End> {
+) -> Result<(), ScriptEnd> {
     let command = match read_line(rt.alloc(), line) {
         Ok(Some(command)) => command,
         Ok(None) => return Ok(()),
-        Err(LineError::Refused(refusal)) => return Err(End::Line(number, refusal)),
-        Err(LineError::NoMemory) => return Err(End::NoMemory),
+        Err(LineError::Refused(refusal)) => return Err(ScriptEnd::Line(number, refusal)),
+        Err(LineError::NoMemory) => return Err(ScriptEnd::NoMemory),
     };
     let answer = script.carry_out(&command);
     let mut text = Vec::new(rt.alloc());
     if push_answer(&mut text, &answer).is_err() || text.push(b'\n').is_err() {
-        return Err(End::NoMemory);
+        return Err(ScriptEnd::NoMemory);
     }
-    out.write_all(&text).map_err(|_| End::Output)
+    out.write_all(&text).map_err(|_| ScriptEnd::Output)
 }
 
 /// Performs the lines of a reader, and prints their answers.
@@ -48,20 +48,20 @@ pub fn run<R: Files + AllocGlobal, I: BufRead, W: Write>(
     rt: &R,
     input: &mut I,
     out: &mut W,
-) -> End {
+) -> ScriptEnd {
     let mut script = Script::new(rt);
     let mut line = Vec::new(rt.alloc());
     for number in 1..u64::MAX {
         line.clear();
         match input.read_until(b'\n', &mut line) {
-            Ok(0) => return End::Done,
+            Ok(0) => return ScriptEnd::Done,
             Ok(_) => {}
-            Err(error) if error.kind() == ErrorKind::OutOfMemory => return End::NoMemory,
-            Err(_) => return End::Input,
+            Err(error) if error.kind() == ErrorKind::OutOfMemory => return ScriptEnd::NoMemory,
+            Err(_) => return ScriptEnd::Input,
         }
         if let Err(end) = answer_line(rt, &mut script, &line, number, out) {
             return end;
         }
     }
-    End::Done
+    ScriptEnd::Done
 }

@@ -1,7 +1,7 @@
 -- The ends of lines.
 use Rattle.std.proofs.Common.{◌≡◌, ◌∙◌, ◌++◌, ◌∷◌, ℕ, List, [], ap, arith, cond, false, nat_eq, refl, true}
 use Rattle.std.proofs.lemmas.Bool.Decides.{nat_tests}
-use Rattle.lfs_script_lines.specs.Lines.{before_spaces, without_end, without_spaces_before, without_spaces_behind}
+use Rattle.lfs_script_lines.specs.Lines.{prepended_unless_trailing_space, without_byte_at_end, without_leading_spaces, without_trailing_spaces}
 
 same_byte : (b c : ℕ) → b ≡ c → nat_eq b c ≡ true
 same_byte b c is = grind (arith, nat_tests)
@@ -9,33 +9,33 @@ same_byte b c is = grind (arith, nat_tests)
 other_byte : (b c : ℕ) → (b ≡ c → ⊥) → nat_eq b c ≡ false
 other_byte b c other = grind (arith, nat_tests)
 
-pub without_end-empty : (end : ℕ) → without_end end [] ≡ []
-without_end-empty end = refl
+pub without_byte_at_end-empty : (end : ℕ) → without_byte_at_end end [] ≡ []
+without_byte_at_end-empty end = refl
 
-pub without_end-has : (end b : ℕ) (rest : List ℕ) → b ≡ end → without_end end (rest ++ b ∷ []) ≡ rest
-without_end-has end b [] is = ap (λ t. cond t [] (b ∷ [])) (same_byte b end is)
-without_end-has end b (c ∷ []) is = ap (λ (w : List ℕ). c ∷ w) (without_end-has end b [] is)
-without_end-has end b (c ∷ d ∷ rest) is = ap (λ (w : List ℕ). c ∷ w) (without_end-has end b (d ∷ rest) is)
+pub without_byte_at_end-has : (end b : ℕ) (rest : List ℕ) → b ≡ end → without_byte_at_end end (rest ++ b ∷ []) ≡ rest
+without_byte_at_end-has end b [] is = ap (λ t. cond t [] (b ∷ [])) (same_byte b end is)
+without_byte_at_end-has end b (c ∷ []) is = ap (λ (w : List ℕ). c ∷ w) (without_byte_at_end-has end b [] is)
+without_byte_at_end-has end b (c ∷ d ∷ rest) is = ap (λ (w : List ℕ). c ∷ w) (without_byte_at_end-has end b (d ∷ rest) is)
 
-pub without_end-other : (end b : ℕ) (rest : List ℕ) → (b ≡ end → ⊥) → without_end end (rest ++ b ∷ []) ≡ rest ++ b ∷ []
-without_end-other end b [] other = ap (λ t. cond t [] (b ∷ [])) (other_byte b end other)
-without_end-other end b (c ∷ []) other = ap (λ (w : List ℕ). c ∷ w) (without_end-other end b [] other)
-without_end-other end b (c ∷ d ∷ rest) other = ap (λ (w : List ℕ). c ∷ w) (without_end-other end b (d ∷ rest) other)
+pub without_byte_at_end-other : (end b : ℕ) (rest : List ℕ) → (b ≡ end → ⊥) → without_byte_at_end end (rest ++ b ∷ []) ≡ rest ++ b ∷ []
+without_byte_at_end-other end b [] other = ap (λ t. cond t [] (b ∷ [])) (other_byte b end other)
+without_byte_at_end-other end b (c ∷ []) other = ap (λ (w : List ℕ). c ∷ w) (without_byte_at_end-other end b [] other)
+without_byte_at_end-other end b (c ∷ d ∷ rest) other = ap (λ (w : List ℕ). c ∷ w) (without_byte_at_end-other end b (d ∷ rest) other)
 
-pub before-space : (b : ℕ) (rest : List ℕ) → b ≡ 0x20 → without_spaces_before (b ∷ rest) ≡ without_spaces_before rest
-before-space b rest is = ap (λ t. cond t (without_spaces_before rest) (b ∷ rest)) (same_byte b 0x20 is)
+pub before-space : (b : ℕ) (rest : List ℕ) → b ≡ 0x20 → without_leading_spaces (b ∷ rest) ≡ without_leading_spaces rest
+before-space b rest is = ap (λ t. cond t (without_leading_spaces rest) (b ∷ rest)) (same_byte b 0x20 is)
 
-pub before-other : (b : ℕ) (rest : List ℕ) → (b ≡ 0x20 → ⊥) → without_spaces_before (b ∷ rest) ≡ b ∷ rest
-before-other b rest other = ap (λ t. cond t (without_spaces_before rest) (b ∷ rest)) (other_byte b 0x20 other)
+pub before-other : (b : ℕ) (rest : List ℕ) → (b ≡ 0x20 → ⊥) → without_leading_spaces (b ∷ rest) ≡ b ∷ rest
+before-other b rest other = ap (λ t. cond t (without_leading_spaces rest) (b ∷ rest)) (other_byte b 0x20 other)
 
-pub behind-space : (b : ℕ) (rest : List ℕ) → b ≡ 0x20 → without_spaces_behind (rest ++ b ∷ []) ≡ without_spaces_behind rest
+pub behind-space : (b : ℕ) (rest : List ℕ) → b ≡ 0x20 → without_trailing_spaces (rest ++ b ∷ []) ≡ without_trailing_spaces rest
 behind-space b [] is = ap (λ t. cond t [] (b ∷ [])) (same_byte b 0x20 is)
-behind-space b (c ∷ rest) is = ap (before_spaces c) (behind-space b rest is)
+behind-space b (c ∷ rest) is = ap (prepended_unless_trailing_space c) (behind-space b rest is)
 
-before_spaces-last : (c b : ℕ) (rest : List ℕ) → before_spaces c (rest ++ b ∷ []) ≡ c ∷ rest ++ b ∷ []
-before_spaces-last c b [] = refl
-before_spaces-last c b (d ∷ rest) = refl
+prepended_unless_trailing_space-last : (c b : ℕ) (rest : List ℕ) → prepended_unless_trailing_space c (rest ++ b ∷ []) ≡ c ∷ rest ++ b ∷ []
+prepended_unless_trailing_space-last c b [] = refl
+prepended_unless_trailing_space-last c b (d ∷ rest) = refl
 
-pub behind-other : (b : ℕ) (rest : List ℕ) → (b ≡ 0x20 → ⊥) → without_spaces_behind (rest ++ b ∷ []) ≡ rest ++ b ∷ []
+pub behind-other : (b : ℕ) (rest : List ℕ) → (b ≡ 0x20 → ⊥) → without_trailing_spaces (rest ++ b ∷ []) ≡ rest ++ b ∷ []
 behind-other b [] other = ap (λ t. cond t [] (b ∷ [])) (other_byte b 0x20 other)
-behind-other b (c ∷ rest) other = ap (before_spaces c) (behind-other b rest other) ∙ before_spaces-last c b rest
+behind-other b (c ∷ rest) other = ap (prepended_unless_trailing_space c) (behind-other b rest other) ∙ prepended_unless_trailing_space-last c b rest

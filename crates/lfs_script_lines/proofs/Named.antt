@@ -1,6 +1,6 @@
 -- The names of lines.
 use Rattle.std.proofs.Common.{◌≡◌, ◌≢◌, ℕ, suc, List, [], ◌∷◌, Bor, Option, Some, None, IsSomeAnd, MatchOption, ap, length, refl, subst, sym}
-use Rattle.lfs_script_lines.specs.Lines.{IsNamed, texts, word_at}
+use Rattle.lfs_script_lines.specs.Lines.{IsNamedByFirstWord, texts, word_at}
 use Rattle.lfs_script_lines.specs.Names.{command_text}
 use Rattle.lfs_script_lines.specs.declared.names.CommandName.{CommandName}
 
@@ -8,15 +8,15 @@ pub length-texts : (words : List (Bor (List ℕ))) → length (texts words) ≡ 
 length-texts [] = refl
 length-texts (word ∷ words) = ap suc (length-texts words)
 
-pub is_named : (words : List (List ℕ)) (word : List ℕ) (name : CommandName) → word_at words 0 ≡ Some word → word ≡ command_text name → IsNamed words name
+pub is_named : (words : List (List ℕ)) (word : List ℕ) (name : CommandName) → word_at words 0 ≡ Some word → word ≡ command_text name → IsNamedByFirstWord words name
 is_named words word name at is = subst (λ (found : Option (List ℕ)). IsSomeAnd found (λ w. w ≡ command_text name)) (sym at) is
 
-pub not_named : (words : List (List ℕ)) (word : List ℕ) → word_at words 0 ≡ Some word → ((name : CommandName) → word ≢ command_text name) → (name : CommandName) → ¬ IsNamed words name
+pub not_named : (words : List (List ℕ)) (word : List ℕ) → word_at words 0 ≡ Some word → ((name : CommandName) → word ≢ command_text name) → (name : CommandName) → ¬ IsNamedByFirstWord words name
 not_named words word at other name named = other name (subst (λ (found : Option (List ℕ)). IsSomeAnd found (λ w. w ≡ command_text name)) at named)
 
 -- what the first word names is the line's command
 pub named_by : (words : List (List ℕ)) (word : List ℕ) (found : Option CommandName) → word_at words 0 ≡ Some word
     → MatchOption found ((name : CommandName) → word ≢ command_text name) (λ name. word ≡ command_text name)
-    → MatchOption found ((name : CommandName) → ¬ IsNamed words name) (IsNamed words)
+    → MatchOption found ((name : CommandName) → ¬ IsNamedByFirstWord words name) (IsNamedByFirstWord words)
 named_by words word (Some name) at is = is_named words word name at is
 named_by words word None at none = not_named words word at none

@@ -1,9 +1,9 @@
 -- Words, as their bytes.
 use Rattle.std.proofs.Common.{◌≡◌, ◌<◌, ◌∷◌, ℕ, zero, suc, List, [], Bor, Bool, Option, Some, IsSomeAnd, ap, arith, get_or, length, nat_eq, refl, subst, sym, ◌||◌}
 use Rattle.std.specs.List.{list_any}
-use Rattle.lfs_script_lines.specs.Lines.{has_gap, texts, word_at}
+use Rattle.lfs_script_lines.specs.Lines.{has_empty_word, texts, word_at}
 
-pub list_any-texts : (words : List (Bor (List ℕ))) → list_any (λ (word : Bor (List ℕ)). nat_eq (length word.now) 0) words ≡ has_gap (texts words)
+pub list_any-texts : (words : List (Bor (List ℕ))) → list_any (λ (word : Bor (List ℕ)). nat_eq (length word.now) 0) words ≡ has_empty_word (texts words)
 list_any-texts [] = refl
 list_any-texts (word ∷ words) = ap (λ (more : Bool). nat_eq (length word.now) 0 || more) (list_any-texts words)
 

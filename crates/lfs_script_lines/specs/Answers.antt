@@ -16,7 +16,7 @@ use Rattle.lfs_script_lines.specs.declared.answer.Answer.TheVariants as answer
 use Rattle.lfs_script_lines.specs.declared.answer.Calls.{Calls}
 use Rattle.lfs_script_lines.specs.declared.answer.Difference.{Difference}
 use Rattle.lfs_script_lines.specs.declared.answer.Difference.TheVariants as differs
-use Rattle.lfs_script_lines.specs.Words.{written}
+use Rattle.lfs_script_lines.specs.Words.{word_of_bytes}
 
 abbrev pub number_text : ℕ → List ℕ
 number_text n = codes " " ++ decimal n
@@ -25,12 +25,12 @@ abbrev pub error_text : Error → List ℕ
 error_text e = codes " " ++ name_of e ++ number_text (number_of e)
 
 -- the kind and the size of an entry; a directory has size 0
-abbrev pub entry_text : Kind → ℕ → List ℕ
-entry_text kind.File size = codes " f:" ++ decimal size ++ codes ":"
-entry_text kind.Dir size = codes " d:0:"
+abbrev pub kind_and_size_text : Kind → ℕ → List ℕ
+kind_and_size_text kind.File size = codes " f:" ++ decimal size ++ codes ":"
+kind_and_size_text kind.Dir size = codes " d:0:"
 
 abbrev pub item_text : ListItem → List ℕ
-item_text item = entry_text item.kind item.size ++ written item.name.items
+item_text item = kind_and_size_text item.kind item.size ++ word_of_bytes item.name.items
 
 abbrev pub items_text : List ListItem → List ℕ
 items_text items = codes "items" ++ number_text (length items) ++ flat_map item_text items
@@ -40,48 +40,48 @@ stat_text kind.File size = codes "stat f" ++ number_text size
 stat_text kind.Dir size = codes "stat d 0"
 
 -- the pair and the id of a moved slot
-abbrev pub moving_text : Option (List ℕ × ℕ) → List ℕ
-moving_text (Some slot) = number_text (slice_index slot.0 0) ++ number_text (slice_index slot.0 1) ++ number_text slot.1
-moving_text None = codes " none"
+abbrev pub moved_slot_text : Option (List ℕ × ℕ) → List ℕ
+moved_slot_text (Some slot) = number_text (slice_index slot.0 0) ++ number_text (slice_index slot.0 1) ++ number_text slot.1
+moved_slot_text None = codes " none"
 
 abbrev pub flag_text : Bool → List ℕ
 flag_text true = codes "1"
 flag_text false = codes "0"
 
 abbrev pub gstate_text : Gstate → List ℕ
-gstate_text g = codes "gstate " ++ flag_text g.sync ++ moving_text g.moving
+gstate_text g = codes "gstate " ++ flag_text g.sync ++ moved_slot_text g.moving
 
-abbrev pub yes_text : Bool → List ℕ
-yes_text true = codes "yes"
-yes_text false = codes "no"
+abbrev pub yes_or_no_text : Bool → List ℕ
+yes_or_no_text true = codes "yes"
+yes_or_no_text false = codes "no"
 
 abbrev pub reply_text : Reply → List ℕ
 reply_text reply.Done = codes "done"
 reply_text (reply.Fd fd) = codes "fd" ++ number_text fd
-reply_text (reply.Bytes bytes) = codes "bytes " ++ written bytes.items
+reply_text (reply.Bytes bytes) = codes "bytes " ++ word_of_bytes bytes.items
 reply_text (reply.Count count) = codes "count" ++ number_text count
 reply_text (reply.Items items) = items_text items.items
 reply_text (reply.Stat stat) = stat_text stat.kind stat.size
 reply_text (reply.Gstate gstate) = gstate_text gstate
-reply_text (reply.Yes is) = yes_text is
+reply_text (reply.Yes is) = yes_or_no_text is
 reply_text (reply.Refused error) = codes "refused" ++ error_text error
 
 abbrev pub calls_text : Calls → List ℕ
 calls_text c = codes "calls" ++ number_text c.reads ++ number_text c.programs ++ number_text c.erases ++ number_text c.faults
 
 -- an attribute's type, in two hexadecimal digits
-abbrev pub kind_text : ℕ → List ℕ
-kind_text kind = 0x20 ∷ hex_digit (kind / 16) ∷ hex_digit (kind % 16) ∷ []
+abbrev pub attribute_type_text : ℕ → List ℕ
+attribute_type_text kind = 0x20 ∷ hex_digit (kind / 16) ∷ hex_digit (kind % 16) ∷ []
 
-abbrev pub block_text : ℕ → List ℕ
-block_text block = codes "differs block" ++ number_text block
+abbrev pub differing_block_text : ℕ → List ℕ
+differing_block_text block = codes "differs block" ++ number_text block
 
 abbrev pub difference_text : Difference → List ℕ
-difference_text (differs.Entry path) = codes "differs entry " ++ written path.items
-difference_text (differs.Bytes path) = codes "differs bytes " ++ written path.items
-difference_text (differs.Attribute path kind) = codes "differs attribute " ++ written path.items ++ kind_text kind
+difference_text (differs.Entry path) = codes "differs entry " ++ word_of_bytes path.items
+difference_text (differs.Bytes path) = codes "differs bytes " ++ word_of_bytes path.items
+difference_text (differs.Attribute path kind) = codes "differs attribute " ++ word_of_bytes path.items ++ attribute_type_text kind
 difference_text differs.Gstate = codes "differs gstate"
-difference_text (differs.Block block) = block_text block
+difference_text (differs.Block block) = differing_block_text block
 difference_text differs.UsedCount = codes "differs used-count"
 
 -- the line, without its end

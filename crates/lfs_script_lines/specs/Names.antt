@@ -44,51 +44,51 @@ command_text command.CompareWith = codes "compare-with"
 command_text (command.Perform name) = operation_text name
 
 -- how many words an operation takes behind its name
-abbrev pub operation_count : OperationName → ℕ
-operation_count operation.Open = 2
-operation_count operation.Read = 2
-operation_count operation.Write = 2
-operation_count operation.Seek = 2
-operation_count operation.Truncate = 2
-operation_count operation.Sync = 1
-operation_count operation.Close = 1
-operation_count operation.Mkdir = 1
-operation_count operation.Remove = 1
-operation_count operation.Rename = 2
-operation_count operation.List = 1
-operation_count operation.Stat = 1
-operation_count operation.GetAttr = 2
-operation_count operation.SetAttr = 3
-operation_count operation.RemoveAttr = 2
-operation_count operation.Gstate = 0
-operation_count operation.IsUsed = 1
-operation_count operation.UsedCount = 0
-operation_count operation.Recover = 0
-operation_count operation.Remount = 0
+abbrev pub operation_word_count : OperationName → ℕ
+operation_word_count operation.Open = 2
+operation_word_count operation.Read = 2
+operation_word_count operation.Write = 2
+operation_word_count operation.Seek = 2
+operation_word_count operation.Truncate = 2
+operation_word_count operation.Sync = 1
+operation_word_count operation.Close = 1
+operation_word_count operation.Mkdir = 1
+operation_word_count operation.Remove = 1
+operation_word_count operation.Rename = 2
+operation_word_count operation.List = 1
+operation_word_count operation.Stat = 1
+operation_word_count operation.GetAttr = 2
+operation_word_count operation.SetAttr = 3
+operation_word_count operation.RemoveAttr = 2
+operation_word_count operation.Gstate = 0
+operation_word_count operation.IsUsed = 1
+operation_word_count operation.UsedCount = 0
+operation_word_count operation.Recover = 0
+operation_word_count operation.Remount = 0
 
 -- the fewest words behind a command's name
-abbrev pub least_count : CommandName → ℕ
-least_count command.Fresh = 3
-least_count command.Image = 3
-least_count command.Unmount = 0
-least_count command.Mount = 0
-least_count command.Save = 1
-least_count command.Calls = 0
-least_count command.Compare = 0
-least_count command.CompareWith = 1
-least_count (command.Perform name) = operation_count name
+abbrev pub least_word_count : CommandName → ℕ
+least_word_count command.Fresh = 3
+least_word_count command.Image = 3
+least_word_count command.Unmount = 0
+least_word_count command.Mount = 0
+least_word_count command.Save = 1
+least_word_count command.Calls = 0
+least_word_count command.Compare = 0
+least_word_count command.CompareWith = 1
+least_word_count (command.Perform name) = operation_word_count name
 
 -- the most words behind a command's name
-abbrev pub most_count : CommandName → ℕ
-most_count command.Fresh = 6
-most_count command.Image = 5
-most_count command.Unmount = 0
-most_count command.Mount = 5
-most_count command.Save = 1
-most_count command.Calls = 0
-most_count command.Compare = 1
-most_count command.CompareWith = 1
-most_count (command.Perform name) = operation_count name
+abbrev pub most_word_count : CommandName → ℕ
+most_word_count command.Fresh = 6
+most_word_count command.Image = 5
+most_word_count command.Unmount = 0
+most_word_count command.Mount = 5
+most_word_count command.Save = 1
+most_word_count command.Calls = 0
+most_word_count command.Compare = 1
+most_word_count command.CompareWith = 1
+most_word_count (command.Perform name) = operation_word_count name
 
 -- the name of an operation
 abbrev pub name_of_operation : Operation → OperationName
@@ -126,7 +126,7 @@ name_of_command (made.CompareWith path) = command.CompareWith
 name_of_command (made.Perform op) = command.Perform (name_of_operation op)
 
 -- a command that another test finds by its name: `compare-with`, or an operation
-abbrev pub IsNamedElsewhere : CommandName → Type 0
-IsNamedElsewhere command.CompareWith = Unit {0}
-IsNamedElsewhere (command.Perform name) = Unit {0}
-IsNamedElsewhere _ = ⊥
+abbrev pub IsCompareWithOrOperation : CommandName → Type 0
+IsCompareWithOrOperation command.CompareWith = Unit {0}
+IsCompareWithOrOperation (command.Perform name) = Unit {0}
+IsCompareWithOrOperation _ = ⊥

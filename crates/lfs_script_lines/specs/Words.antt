@@ -5,28 +5,28 @@ use Rattle.std.specs.List.{AllByRecursion, flat_map}
 use Rattle.std.specs.Str.{bytes_eq}
 use Rattle.std.specs.Str.Parse.{IsNumeral, digits_value}
 use Rattle.lfs_model.specs.Listing.{hex_digit}
-use Rattle.lfs_script_lines.specs.declared.words.Part.{Part}
-use Rattle.lfs_script_lines.specs.declared.words.Part.TheVariants.{Text, Backslash, Mark, Digit}
-use Rattle.lfs_script_lines.specs.declared.words.Step.{Step}
-use Rattle.lfs_script_lines.specs.declared.words.Step.TheVariants.{To, Byte, Never}
+use Rattle.lfs_script_lines.specs.declared.words.EscapePart.{EscapePart}
+use Rattle.lfs_script_lines.specs.declared.words.EscapePart.TheVariants.{Text, Backslash, Mark, Digit}
+use Rattle.lfs_script_lines.specs.declared.words.EscapeOutcome.{EscapeOutcome}
+use Rattle.lfs_script_lines.specs.declared.words.EscapeOutcome.TheVariants.{To, Byte, Never}
 
 abbrev pub AreBytes : List ℕ → Type 0
 AreBytes bytes = All (λ b. b < 256) bytes
 
 -- the bytes from `!` to `~` are written as themselves, but not the backslash
-abbrev pub is_plain : ℕ → Bool
-is_plain b = nat_le 0x21 b && (nat_le b 0x7e && not (b == 0x5c))
+abbrev pub is_byte_unescaped_in_word : ℕ → Bool
+is_byte_unescaped_in_word b = nat_le 0x21 b && (nat_le b 0x7e && not (b == 0x5c))
 
 -- ---- written
 
 -- a byte as it is written: itself, or `\x` and two digits; a star always so
 abbrev pub escaped_byte : ℕ → List ℕ
-escaped_byte b = if is_plain b && not (b == 0x2a) then b ∷ [] else 0x5c ∷ 0x78 ∷ hex_digit (b / 16) ∷ hex_digit (b % 16) ∷ []
+escaped_byte b = if is_byte_unescaped_in_word b && not (b == 0x2a) then b ∷ [] else 0x5c ∷ 0x78 ∷ hex_digit (b / 16) ∷ hex_digit (b % 16) ∷ []
 
 -- the word for bytes; for no bytes it is `\e`
-abbrev pub written : List ℕ → List ℕ
-written [] = 0x5c ∷ 0x65 ∷ []
-written (b ∷ bytes) = flat_map escaped_byte (b ∷ bytes)
+abbrev pub word_of_bytes : List ℕ → List ℕ
+word_of_bytes [] = 0x5c ∷ 0x65 ∷ []
+word_of_bytes (b ∷ bytes) = flat_map escaped_byte (b ∷ bytes)
 
 -- ---- read
 
@@ -39,64 +39,64 @@ hex_value c =
     else None
 
 -- the byte of two digits
-abbrev pub byte_of : Option ℕ → Option ℕ → Step
-byte_of (Some high) (Some low) = Byte (high * 16 + low)
-byte_of _ _ = Never
+abbrev pub outcome_of_two_digits : Option ℕ → Option ℕ → EscapeOutcome
+outcome_of_two_digits (Some high) (Some low) = Byte (high * 16 + low)
+outcome_of_two_digits _ _ = Never
 
 -- the result of a byte after such a part of a word
-abbrev pub advance : Part → ℕ → Step
-advance Text b = if b == 0x5c then To Backslash else if is_plain b then Byte b else Never
-advance Backslash b = if b == 0x78 then To Mark else Never
-advance Mark b = To (Digit b)
-advance (Digit first) b = byte_of (hex_value first) (hex_value b)
+abbrev pub outcome_after_byte : EscapePart → ℕ → EscapeOutcome
+outcome_after_byte Text b = if b == 0x5c then To Backslash else if is_byte_unescaped_in_word b then Byte b else Never
+outcome_after_byte Backslash b = if b == 0x78 then To Mark else Never
+outcome_after_byte Mark b = To (Digit b)
+outcome_after_byte (Digit first) b = outcome_of_two_digits (hex_value first) (hex_value b)
 
 -- the result of a part, or after a byte
-abbrev pub after_step : Step → (Part → Option (List ℕ)) → Option (List ℕ)
-after_step (To part) rest = rest part
-after_step (Byte b) rest = option_map (λ bytes. b ∷ bytes) (rest Text)
-after_step Never rest = None
+abbrev pub bytes_after_outcome : EscapeOutcome → (EscapePart → Option (List ℕ)) → Option (List ℕ)
+bytes_after_outcome (To part) rest = rest part
+bytes_after_outcome (Byte b) rest = option_map (λ bytes. b ∷ bytes) (rest Text)
+bytes_after_outcome Never rest = None
 
 -- the bytes of a text, where a part of it was before
-abbrev pub spelled_bytes : Part → List ℕ → Option (List ℕ)
-spelled_bytes Text [] = Some []
-spelled_bytes _ [] = None
-spelled_bytes part (b ∷ word) = after_step (advance part b) (λ p. spelled_bytes p word)
+abbrev pub bytes_of_spelling_after_part : EscapePart → List ℕ → Option (List ℕ)
+bytes_of_spelling_after_part Text [] = Some []
+bytes_of_spelling_after_part _ [] = None
+bytes_of_spelling_after_part part (b ∷ word) = bytes_after_outcome (outcome_after_byte part b) (λ p. bytes_of_spelling_after_part p word)
 
-abbrev pub text_bytes : List ℕ → Option (List ℕ)
-text_bytes word = spelled_bytes Text word
+abbrev pub bytes_of_escaped_text : List ℕ → Option (List ℕ)
+bytes_of_escaped_text word = bytes_of_spelling_after_part Text word
 
 -- the bytes of a word without a repetition
-abbrev pub word_bytes : List ℕ → Option (List ℕ)
-word_bytes word = if bytes_eq word (0x5c ∷ 0x65 ∷ []) then Some [] else text_bytes word
+abbrev pub bytes_of_word_without_counts : List ℕ → Option (List ℕ)
+bytes_of_word_without_counts word = if bytes_eq word (0x5c ∷ 0x65 ∷ []) then Some [] else bytes_of_escaped_text word
 
 -- ---- repeated
 
 -- counts before a word, each after a star and with a colon after it
-abbrev pub starred : List ℕ → List ℕ → List ℕ
-starred [] word = word
-starred (n ∷ counts) word = (0x2a ∷ decimal n) ++ 0x3a ∷ starred counts word
+abbrev pub word_with_repetition_counts : List ℕ → List ℕ → List ℕ
+word_with_repetition_counts [] word = word
+word_with_repetition_counts (n ∷ counts) word = (0x2a ∷ decimal n) ++ 0x3a ∷ word_with_repetition_counts counts word
 
-abbrev pub AreCounts : List ℕ → Type 0
-AreCounts counts = AllByRecursion (λ n. n < 2 ^ 32) counts
+abbrev pub AreRepetitionCounts : List ℕ → Type 0
+AreRepetitionCounts counts = AllByRecursion (λ n. n < 2 ^ 32) counts
 
 -- how many times the word is meant
-abbrev pub times_in : List ℕ → ℕ
-times_in [] = 1
-times_in (n ∷ counts) = n * times_in counts
+abbrev pub repetition_times : List ℕ → ℕ
+repetition_times [] = 1
+repetition_times (n ∷ counts) = n * repetition_times counts
 
 -- a word that stands for bytes: counts, if any, and behind them a spelling of bytes
-abbrev pub IsSpelling : List ℕ → Type 0
-IsSpelling word = (counts : List ℕ) × (rest : List ℕ) × AreCounts counts × (slice_index rest 0 ≢ 0x2a) × (word ≡ starred counts rest) × IsSome (word_bytes rest)
+abbrev pub IsWordOfBytes : List ℕ → Type 0
+IsWordOfBytes word = (counts : List ℕ) × (rest : List ℕ) × AreRepetitionCounts counts × (slice_index rest 0 ≢ 0x2a) × (word ≡ word_with_repetition_counts counts rest) × IsSome (bytes_of_word_without_counts rest)
 
 -- ---- numbers
 
 -- a word of digits in a base, without a sign, whose number is below a limit
-abbrev pub IsNumber : ℕ → ℕ → List ℕ → Type 0
-IsNumber base limit word = IsNumeral base word × (digits_value base word < limit)
+abbrev pub IsNumberWordBelow : ℕ → ℕ → List ℕ → Type 0
+IsNumberWordBelow base limit word = IsNumeral base word × (digits_value base word < limit)
 
 -- ---- lines
 
 -- a line without a command: it is empty, or a comment
-abbrev pub is_silent : List ℕ → Bool
-is_silent [] = true
-is_silent (b ∷ line) = b == 0x23
+abbrev pub is_line_without_command : List ℕ → Bool
+is_line_without_command [] = true
+is_line_without_command (b ∷ line) = b == 0x23

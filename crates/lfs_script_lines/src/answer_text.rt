@@ -1,7 +1,7 @@
 // The lines that scripts print.
 
 ghost use Rattle.std.specs.Prelude.{◌≡◌, ◌++◌, OnOk};
-ghost use Rattle.lfs_script_lines.specs.Answers.{answer_text, block_text, calls_text, difference_text, error_text, entry_text, gstate_text, item_text, items_text, kind_text, moving_text, number_text, reply_text, stat_text};
+ghost use Rattle.lfs_script_lines.specs.Answers.{answer_text, differing_block_text, calls_text, difference_text, error_text, kind_and_size_text, gstate_text, item_text, items_text, attribute_type_text, moved_slot_text, number_text, reply_text, stat_text};
 
 use crate::answer::{Answer, Calls, Difference};
 use crate::word_text::{hex_digit, push_word};
@@ -30,8 +30,8 @@ fn push_error(text: &mut Vec<u8>, error: Error) -> Result<(), AllocError>
 }
 
 // Adds the kind and the size of an entry.
-fn push_entry(text: &mut Vec<u8>, kind: Kind, size: u32) -> Result<(), AllocError>
-    ensures { OnOk result (text.new.items ≡ text.old.items ++ entry_text kind size) }
+fn push_kind_and_size(text: &mut Vec<u8>, kind: Kind, size: u32) -> Result<(), AllocError>
+    ensures { OnOk result (text.new.items ≡ text.old.items ++ kind_and_size_text kind size) }
 {
     match kind {
         Kind::File => {
@@ -47,7 +47,7 @@ fn push_entry(text: &mut Vec<u8>, kind: Kind, size: u32) -> Result<(), AllocErro
 fn push_item(text: &mut Vec<u8>, item: &Item) -> Result<(), AllocError>
     ensures { OnOk result (text.new.items ≡ text.old.items ++ item_text item.now) }
 {
-    push_entry(text, item.kind, item.size)?;
+    push_kind_and_size(text, item.kind, item.size)?;
     push_word(text, item.name.as_slice())
 }
 
@@ -76,8 +76,8 @@ fn push_stat(text: &mut Vec<u8>, kind: Kind, size: u32) -> Result<(), AllocError
 }
 
 // Adds the pair and the id of a moved slot.
-fn push_moving(text: &mut Vec<u8>, moving: &Option<([u32; 2], u16)>) -> Result<(), AllocError>
-    ensures { OnOk result (text.new.items ≡ text.old.items ++ moving_text moving.now) }
+fn push_moved_slot(text: &mut Vec<u8>, moving: &Option<([u32; 2], u16)>) -> Result<(), AllocError>
+    ensures { OnOk result (text.new.items ≡ text.old.items ++ moved_slot_text moving.now) }
 {
     match moving {
         Some(slot) => {
@@ -100,7 +100,7 @@ fn push_gstate(text: &mut Vec<u8>, gstate: &Gstate) -> Result<(), AllocError>
         b"gstate 0"
     };
     text.extend_from_slice(sync)?;
-    push_moving(text, &gstate.moving)
+    push_moved_slot(text, &gstate.moving)
 }
 
 fn push_reply(text: &mut Vec<u8>, reply: &Reply) -> Result<(), AllocError>
@@ -144,15 +144,15 @@ fn push_calls(text: &mut Vec<u8>, calls: Calls) -> Result<(), AllocError>
 }
 
 // Adds a space and the type of an attribute.
-fn push_kind(text: &mut Vec<u8>, kind: u8) -> Result<(), AllocError>
-    ensures { OnOk result (text.new.items ≡ text.old.items ++ kind_text kind) }
+fn push_attribute_type(text: &mut Vec<u8>, kind: u8) -> Result<(), AllocError>
+    ensures { OnOk result (text.new.items ≡ text.old.items ++ attribute_type_text kind) }
 {
     let word = [b' ', hex_digit(kind / 16), hex_digit(kind % 16)];
     text.extend_from_slice(&word)
 }
 
 fn push_block(text: &mut Vec<u8>, block: u32) -> Result<(), AllocError>
-    ensures { OnOk result (text.new.items ≡ text.old.items ++ block_text block) }
+    ensures { OnOk result (text.new.items ≡ text.old.items ++ differing_block_text block) }
 {
     text.extend_from_slice(b"differs block")?;
     push_number(text, u64::from(block))
@@ -173,7 +173,7 @@ fn push_difference(text: &mut Vec<u8>, difference: &Difference) -> Result<(), Al
         Difference::Attribute(path, kind) => {
             text.extend_from_slice(b"differs attribute ")?;
             push_word(text, path)?;
-            push_kind(text, *kind)?;
+            push_attribute_type(text, *kind)?;
         }
         Difference::Gstate => text.extend_from_slice(b"differs gstate")?,
         Difference::Block(block) => push_block(text, *block)?,

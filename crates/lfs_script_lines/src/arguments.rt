@@ -3,11 +3,11 @@
 ghost use Rattle.std.specs.Prelude.{◌≡◌, ◌<◌, ◌∷◌, IfErr, Some, [], length};
 ghost use Rattle.std.specs.Str.{bytes_eq};
 ghost use Rattle.lfs_script_lines.specs.Kinds.{Byte, Bytes, Flags, NoOption, Number};
-ghost use Rattle.lfs_script_lines.specs.Lines.{IsWordFault, texts, word_at};
+ghost use Rattle.lfs_script_lines.specs.Lines.{IsErrorOfWordsByKinds, texts, word_at};
 
 use crate::lines::LineError;
 use crate::numbers::{read_decimal, read_hex};
-use crate::refusal::Refusal;
+use crate::refusal::LineObjection;
 use crate::words::read_word;
 use bitflags::Flags;
 use lfs_fs::OpenFlags;
@@ -30,23 +30,23 @@ pub(crate) fn is_keyword(word: &[u8], keyword: &[u8]) -> bool
 
 // Returns the refusal of a word that is no option.
 #[tactic(auto, using(crate::proofs::Misfits::here))]
-pub(crate) fn no_options(words: &[&[u8]], place: usize) -> LineError
+pub(crate) fn objection_to_option_word(words: &[&[u8]], place: usize) -> LineError
     requires { place < length words.now }
-    ensures { IsWordFault (texts words.now) place (NoOption ∷ []) result }
+    ensures { IsErrorOfWordsByKinds (texts words.now) place (NoOption ∷ []) result }
 {
     let _word = word_at(words, place);
-    LineError::Refused(Refusal::Options(place))
+    LineError::Refused(LineObjection::Options(place))
 }
 
 // Returns the bytes of the word at a place.
 pub(crate) fn bytes(alloc: Global, words: &[&[u8]], place: usize) -> Result<Vec<u8>, LineError>
     requires { place < length words.now }
-    ensures { IfErr result (IsWordFault (texts words.now) place (Bytes ∷ [])) }
+    ensures { IfErr result (IsErrorOfWordsByKinds (texts words.now) place (Bytes ∷ [])) }
 {
     let found = read_word(alloc, word_at(words, place))?;
     match found {
         Some(bytes) => Ok(bytes),
-        None => Err(LineError::Refused(Refusal::Spelling(place))),
+        None => Err(LineError::Refused(LineObjection::Spelling(place))),
     }
 }
 
@@ -54,11 +54,11 @@ pub(crate) fn bytes(alloc: Global, words: &[&[u8]], place: usize) -> Result<Vec<
 #[tactic(auto, using(crate::proofs::Misfits::here))]
 pub(crate) fn number(words: &[&[u8]], place: usize) -> Result<u32, LineError>
     requires { place < length words.now }
-    ensures { IfErr result (IsWordFault (texts words.now) place (Number ∷ [])) }
+    ensures { IfErr result (IsErrorOfWordsByKinds (texts words.now) place (Number ∷ [])) }
 {
     match read_decimal(word_at(words, place)) {
         Some(value) => Ok(value),
-        None => Err(LineError::Refused(Refusal::Number(place))),
+        None => Err(LineError::Refused(LineObjection::Number(place))),
     }
 }
 
@@ -66,11 +66,11 @@ pub(crate) fn number(words: &[&[u8]], place: usize) -> Result<u32, LineError>
 #[tactic(auto, using(crate::proofs::Misfits::here))]
 pub(crate) fn flags(words: &[&[u8]], place: usize) -> Result<OpenFlags, LineError>
     requires { place < length words.now }
-    ensures { IfErr result (IsWordFault (texts words.now) place (Flags ∷ [])) }
+    ensures { IfErr result (IsErrorOfWordsByKinds (texts words.now) place (Flags ∷ [])) }
 {
     match read_hex(word_at(words, place)) {
         Some(bits) => Ok(OpenFlags::from_bits_retain(bits)),
-        None => Err(LineError::Refused(Refusal::Flags(place))),
+        None => Err(LineError::Refused(LineObjection::Flags(place))),
     }
 }
 
@@ -78,14 +78,14 @@ pub(crate) fn flags(words: &[&[u8]], place: usize) -> Result<OpenFlags, LineErro
 #[tactic(auto, using(crate::proofs::Misfits::here))]
 pub(crate) fn byte(words: &[&[u8]], place: usize) -> Result<u8, LineError>
     requires { place < length words.now }
-    ensures { IfErr result (IsWordFault (texts words.now) place (Byte ∷ [])) }
+    ensures { IfErr result (IsErrorOfWordsByKinds (texts words.now) place (Byte ∷ [])) }
 {
     let Some(value) = read_hex(word_at(words, place)) else {
-        return Err(LineError::Refused(Refusal::Byte(place)));
+        return Err(LineError::Refused(LineObjection::Byte(place)));
     };
     if value < 256 {
         Ok(value as u8)
     } else {
-        Err(LineError::Refused(Refusal::Byte(place)))
+        Err(LineError::Refused(LineObjection::Byte(place)))
     }
 }

@@ -1,6 +1,6 @@
 // The commands of lines.
 
-use lfs_device::{Erased, Fault, NameOrder};
+use lfs_device::{Erased, NameOrder, PlannedFault};
 use lfs_fs::OpenFlags;
 
 /// How much of two sessions is compared.
@@ -40,7 +40,7 @@ pub enum Command {
     /// The end of the session.
     Unmount,
     /// A session over the device in hand, one of whose calls will fail.
-    Mount(Fault),
+    Mount(PlannedFault),
     /// The device's bytes, into the file at a path.
     Save(Vec<u8>),
     /// How many calls the device had.

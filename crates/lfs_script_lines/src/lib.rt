@@ -20,6 +20,6 @@ pub use answer_text::push_answer;
 pub use command::{Command, Operation, Scope};
 pub use lines::{LineError, read_line};
 pub use names::{CommandName, OperationName};
-pub use refusal::Refusal;
+pub use refusal::LineObjection;
 pub use word_text::push_word;
 pub use words::read_word;

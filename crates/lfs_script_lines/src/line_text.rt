@@ -1,13 +1,13 @@
 // Lines and their words.
 
 ghost use Rattle.std.specs.Prelude.{◌≡◌, ◌<◌, IfOk, length};
-ghost use Rattle.lfs_script_lines.specs.Lines.{content_of, has_gap, texts, without_end, without_spaces_behind, without_spaces_before, words_of};
+ghost use Rattle.lfs_script_lines.specs.Lines.{trimmed_line, has_empty_word, texts, without_byte_at_end, without_trailing_spaces, without_leading_spaces, words_between_spaces};
 
 use std::alloc::{AllocError, Global};
 
 // Returns a text without this byte at its end.
 fn without_end(text: &[u8], end: u8) -> &[u8]
-    ensures { result.now ≡ without_end end text.now }
+    ensures { result.now ≡ without_byte_at_end end text.now }
 {
     match text.split_last() {
         Some((last, rest)) if *last == end => rest,
@@ -17,7 +17,7 @@ fn without_end(text: &[u8], end: u8) -> &[u8]
 
 // Returns a text without the spaces at its beginning.
 fn without_spaces_before(text: &[u8]) -> &[u8]
-    ensures { result.now ≡ without_spaces_before text.now }
+    ensures { result.now ≡ without_leading_spaces text.now }
 {
     let mut rest = text;
     while let Some((b' ', behind)) = rest.split_first() {
@@ -28,7 +28,7 @@ fn without_spaces_before(text: &[u8]) -> &[u8]
 
 // Returns a text without the spaces at its end.
 fn without_spaces_behind(text: &[u8]) -> &[u8]
-    ensures { result.now ≡ without_spaces_behind text.now }
+    ensures { result.now ≡ without_trailing_spaces text.now }
 {
     let mut rest = text;
     while let Some((last, before)) = rest.split_last() {
@@ -43,7 +43,7 @@ fn without_spaces_behind(text: &[u8]) -> &[u8]
 // Returns what counts of a line: it has no newline at its end, no CR before that, and no spaces
 // around it.
 pub(crate) fn content_of(line: &[u8]) -> &[u8]
-    ensures { result.now ≡ content_of line.now }
+    ensures { result.now ≡ trimmed_line line.now }
 {
     let text = without_end(without_end(line, b'\n'), b'\r');
     without_spaces_before(without_spaces_behind(text))
@@ -51,7 +51,7 @@ pub(crate) fn content_of(line: &[u8]) -> &[u8]
 
 // Returns the words of a text, which stand between its spaces.
 pub(crate) fn words_of(alloc: Global, text: &[u8]) -> Result<Vec<&[u8]>, AllocError>
-    ensures words { IfOk result (λ words. texts words.items ≡ words_of text.now) }
+    ensures words { IfOk result (λ words. texts words.items ≡ words_between_spaces text.now) }
     ensures some { IfOk result (λ words. 0 < length words.items) }
 {
     text.split(|byte| *byte == b' ').collect(alloc)
@@ -59,7 +59,7 @@ pub(crate) fn words_of(alloc: Global, text: &[u8]) -> Result<Vec<&[u8]>, AllocEr
 
 // Returns whether a word is empty, so that two spaces stand side by side.
 pub(crate) fn has_gap(words: &[&[u8]]) -> bool
-    ensures { result ≡ has_gap (texts words.now) }
+    ensures { result ≡ has_empty_word (texts words.now) }
 {
     words.iter().any(|word| word.is_empty())
 }

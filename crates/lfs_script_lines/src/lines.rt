@@ -1,11 +1,11 @@
 // Lines that are commands.
 
 ghost use Rattle.std.specs.Prelude.{◌≡◌, ◌+◌, ◌<◌, ◌≤◌, IfErr, IfOk, IfSome, MatchOption, OnOk, drop, is_none, length, true};
-ghost use Rattle.lfs_script_lines.specs.Kinds.{kinds_of};
-ghost use Rattle.lfs_script_lines.specs.Lines.{IsCommandLine, IsNamed, IsRefused, IsWordFault, content_of, texts, words_of};
-ghost use Rattle.lfs_script_lines.specs.Names.{least_count, most_count, name_of_command};
+ghost use Rattle.lfs_script_lines.specs.Kinds.{word_kinds_of_command};
+ghost use Rattle.lfs_script_lines.specs.Lines.{IsCommandLine, IsNamedByFirstWord, IsErrorOfLineWords, IsErrorOfWordsByKinds, trimmed_line, texts, words_between_spaces};
+ghost use Rattle.lfs_script_lines.specs.Names.{least_word_count, most_word_count, name_of_command};
 ghost use Rattle.lfs_script_lines.specs.declared.names.CommandName.{CommandName};
-ghost use Rattle.lfs_script_lines.specs.Words.{is_silent};
+ghost use Rattle.lfs_script_lines.specs.Words.{is_line_without_command};
 
 use crate::arguments::{bytes, number, word_at};
 use crate::command::Command;
@@ -13,14 +13,14 @@ use crate::line_text::{content_of, has_gap, words_of};
 use crate::names::{CommandName, command_of_word, least_count, most_count};
 use crate::operations::operation_of;
 use crate::options::{erased, fault, order_and_erased, scope};
-use crate::refusal::Refusal;
+use crate::refusal::LineObjection;
 use std::alloc::{AllocError, AllocFailed, Global};
 
 /// The cause for which there is no command of a line.
 #[derive(Clone, Copy, Debug, PartialEq, Eq)]
 pub enum LineError {
     /// The line is no command, for this reason.
-    Refused(Refusal),
+    Refused(LineObjection),
     /// A growth was refused.
     NoMemory,
 }
@@ -51,7 +51,7 @@ impl<T: Drop> From<AllocFailed<T>> for LineError {
 fn fresh(words: &[&[u8]]) -> Result<Command, LineError>
     requires { 3 < length words.now }
     ensures name { IfOk result (λ command. name_of_command command ≡ CommandName.Fresh) }
-    ensures err { IfErr result (IsWordFault (texts words.now) 1 (kinds_of CommandName.Fresh (drop 1 (texts words.now)))) }
+    ensures err { IfErr result (IsErrorOfWordsByKinds (texts words.now) 1 (word_kinds_of_command CommandName.Fresh (drop 1 (texts words.now)))) }
 {
     let block_size = number(words, 1)?;
     let page = number(words, 2)?;
@@ -70,7 +70,7 @@ fn fresh(words: &[&[u8]]) -> Result<Command, LineError>
 fn image(alloc: Global, words: &[&[u8]]) -> Result<Command, LineError>
     requires { 3 < length words.now }
     ensures name { IfOk result (λ command. name_of_command command ≡ CommandName.Image) }
-    ensures err { IfErr result (IsWordFault (texts words.now) 1 (kinds_of CommandName.Image (drop 1 (texts words.now)))) }
+    ensures err { IfErr result (IsErrorOfWordsByKinds (texts words.now) 1 (word_kinds_of_command CommandName.Image (drop 1 (texts words.now)))) }
 {
     let block_size = number(words, 1)?;
     let page = number(words, 2)?;
@@ -86,8 +86,8 @@ fn image(alloc: Global, words: &[&[u8]]) -> Result<Command, LineError>
 
 // Returns the command of that name. The line has as many words as the command takes.
 fn command_named(alloc: Global, name: CommandName, words: &[&[u8]]) -> Result<Command, LineError>
-    requires { least_count name < length words.now }
-    ensures err { IfErr result (IsWordFault (texts words.now) 1 (kinds_of name (drop 1 (texts words.now)))) }
+    requires { least_word_count name < length words.now }
+    ensures err { IfErr result (IsErrorOfWordsByKinds (texts words.now) 1 (word_kinds_of_command name (drop 1 (texts words.now)))) }
     ensures name { IfOk result (λ command. name_of_command command ≡ name) }
 {
     let command = match name {
@@ -105,29 +105,29 @@ fn command_named(alloc: Global, name: CommandName, words: &[&[u8]]) -> Result<Co
 }
 
 // Returns the command that the first word names.
-fn name_in(words: &[&[u8]]) -> Option<CommandName>
+fn command_name_in_first_word(words: &[&[u8]]) -> Option<CommandName>
     requires { 0 < length words.now }
-    ensures { MatchOption result ((name : CommandName) → ¬ IsNamed (texts words.now) name) (IsNamed (texts words.now)) }
+    ensures { MatchOption result ((name : CommandName) → ¬ IsNamedByFirstWord (texts words.now) name) (IsNamedByFirstWord (texts words.now)) }
 {
     let word = word_at(words, 0);
     command_of_word(word)
 }
 
 // Refuses a line with too few or too many words behind its name.
-fn check_count(words: &[&[u8]], name: CommandName) -> Result<(), LineError>
-    requires { IsNamed (texts words.now) name }
-    ensures err { IfErr result (IsRefused (texts words.now)) }
-    ensures ok { OnOk result ((least_count name < length words.now) × (length words.now ≤ most_count name + 1)) }
+fn check_word_count(words: &[&[u8]], name: CommandName) -> Result<(), LineError>
+    requires { IsNamedByFirstWord (texts words.now) name }
+    ensures err { IfErr result (IsErrorOfLineWords (texts words.now)) }
+    ensures ok { OnOk result ((least_word_count name < length words.now) × (length words.now ≤ most_word_count name + 1)) }
 {
     let count = words.len();
     let least = least_count(name);
     if count <= least {
-        return Err(LineError::Refused(Refusal::TooFew(name)));
+        return Err(LineError::Refused(LineObjection::TooFew(name)));
     }
     let most = most_count(name);
     let behind = count - 1;
     if behind > most {
-        return Err(LineError::Refused(Refusal::TooMany(name)));
+        return Err(LineError::Refused(LineObjection::TooMany(name)));
     }
     Ok(())
 }
@@ -135,23 +135,23 @@ fn check_count(words: &[&[u8]], name: CommandName) -> Result<(), LineError>
 // Returns the name of a line's command, where it has as many words as the command takes.
 fn name_of(words: &[&[u8]]) -> Result<CommandName, LineError>
     requires { 0 < length words.now }
-    ensures err { IfErr result (IsRefused (texts words.now)) }
+    ensures err { IfErr result (IsErrorOfLineWords (texts words.now)) }
     ensures ok { IfOk result (IsCommandLine (texts words.now)) }
 {
     if has_gap(words) {
-        return Err(LineError::Refused(Refusal::Spaces));
+        return Err(LineError::Refused(LineObjection::Spaces));
     }
-    let Some(name) = name_in(words) else {
-        return Err(LineError::Refused(Refusal::Name));
+    let Some(name) = command_name_in_first_word(words) else {
+        return Err(LineError::Refused(LineObjection::Name));
     };
-    check_count(words, name)?;
+    check_word_count(words, name)?;
     Ok(name)
 }
 
 // Returns the command of a line's words.
-fn command_of(alloc: Global, words: &[&[u8]]) -> Result<Command, LineError>
+fn command_of_words(alloc: Global, words: &[&[u8]]) -> Result<Command, LineError>
     requires { 0 < length words.now }
-    ensures err { IfErr result (IsRefused (texts words.now)) }
+    ensures err { IfErr result (IsErrorOfLineWords (texts words.now)) }
     ensures ok { IfOk result (λ command. IsCommandLine (texts words.now) (name_of_command command)) }
 {
     let name = name_of(words)?;
@@ -161,7 +161,7 @@ fn command_of(alloc: Global, words: &[&[u8]]) -> Result<Command, LineError>
 
 // Returns whether a text is empty or a comment.
 fn is_silent(text: &[u8]) -> bool
-    ensures { result ≡ is_silent text.now }
+    ensures { result ≡ is_line_without_command text.now }
 {
     text.is_empty() || text[0] == b'#'
 }
@@ -175,19 +175,19 @@ fn is_silent(text: &[u8]) -> bool
 /// - `Refused` where the line is no command of a script, with the reason.
 /// - `NoMemory` where its words or their bytes find no memory.
 pub fn read_line(alloc: Global, line: &[u8]) -> Result<Option<Command>, LineError>
-    ensures found { IfOk result (λ found. is_none found ≡ is_silent (content_of line.now)) }
-    ensures silent { is_silent (content_of line.now) ≡ true → result ≡ Ok None }
+    ensures found { IfOk result (λ found. is_none found ≡ is_line_without_command (trimmed_line line.now)) }
+    ensures silent { is_line_without_command (trimmed_line line.now) ≡ true → result ≡ Ok None }
 
     // A command has one space between its words, its name first, and as many words as it takes.
-    ensures command { IfOk result (λ found. IfSome found (λ command. IsCommandLine (words_of (content_of line.now)) (name_of_command command))) }
+    ensures command { IfOk result (λ found. IfSome found (λ command. IsCommandLine (words_between_spaces (trimmed_line line.now)) (name_of_command command))) }
     // The reason says what the line lacks.
-    ensures refused { IfErr result (IsRefused (words_of (content_of line.now))) }
+    ensures refused { IfErr result (IsErrorOfLineWords (words_between_spaces (trimmed_line line.now))) }
 {
     let content = content_of(line);
     if is_silent(content) {
         return Ok(None);
     }
     let words = words_of(alloc, content)?;
-    let command = command_of(alloc, &words)?;
+    let command = command_of_words(alloc, &words)?;
     Ok(Some(command))
 }

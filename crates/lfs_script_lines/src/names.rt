@@ -1,7 +1,7 @@
 // The names of commands.
 
 ghost use Rattle.std.specs.Prelude.{◌≡◌, ◌≢◌, MatchOption};
-ghost use Rattle.lfs_script_lines.specs.Names.{IsNamedElsewhere, command_text, least_count, most_count, operation_count, operation_text};
+ghost use Rattle.lfs_script_lines.specs.Names.{IsCompareWithOrOperation, command_text, least_word_count, most_word_count, operation_word_count, operation_text};
 ghost use Rattle.lfs_script_lines.specs.declared.names.CommandName.{CommandName};
 ghost use Rattle.lfs_script_lines.specs.declared.names.OperationName.{OperationName};
 
@@ -76,7 +76,7 @@ fn operation_of_word(word: &[u8]) -> Option<OperationName>
 
 // Returns the command that a word names, unless that is `compare-with` or an operation.
 fn device_command_of_word(word: &[u8]) -> Option<CommandName>
-    ensures { MatchOption result ((name : CommandName) → word.now ≡ command_text name → IsNamedElsewhere name) (λ name. word.now ≡ command_text name) }
+    ensures { MatchOption result ((name : CommandName) → word.now ≡ command_text name → IsCompareWithOrOperation name) (λ name. word.now ≡ command_text name) }
 {
     match word {
         b"fresh" => Some(CommandName::Fresh),
@@ -108,7 +108,7 @@ pub(crate) fn command_of_word(word: &[u8]) -> Option<CommandName>
 
 // Returns how many words an operation takes behind its name.
 fn operation_count(name: OperationName) -> usize
-    ensures { result ≡ operation_count name }
+    ensures { result ≡ operation_word_count name }
 {
     match name {
         OperationName::Gstate
@@ -129,7 +129,7 @@ fn operation_count(name: OperationName) -> usize
 
 // Returns the fewest words that a command takes behind its name.
 pub(crate) fn least_count(name: CommandName) -> usize
-    ensures { result ≡ least_count name }
+    ensures { result ≡ least_word_count name }
 {
     match name {
         CommandName::Fresh | CommandName::Image => 3,
@@ -141,7 +141,7 @@ pub(crate) fn least_count(name: CommandName) -> usize
 
 // Returns the most words that a command takes behind its name.
 pub(crate) fn most_count(name: CommandName) -> usize
-    ensures { result ≡ most_count name }
+    ensures { result ≡ most_word_count name }
 {
     match name {
         CommandName::Fresh => 6,

@@ -1,9 +1,9 @@
 // The operations of lines.
 
 ghost use Rattle.std.specs.Prelude.{◌≡◌, ◌<◌, ◌∷◌, [], IfErr, IfOk, length};
-ghost use Rattle.lfs_script_lines.specs.Kinds.{Byte, Bytes, Flags, Number, operation_kinds};
-ghost use Rattle.lfs_script_lines.specs.Lines.{IsWordFault, texts};
-ghost use Rattle.lfs_script_lines.specs.Names.{name_of_operation, operation_count};
+ghost use Rattle.lfs_script_lines.specs.Kinds.{Byte, Bytes, Flags, Number, word_kinds_of_operation};
+ghost use Rattle.lfs_script_lines.specs.Lines.{IsErrorOfWordsByKinds, texts};
+ghost use Rattle.lfs_script_lines.specs.Names.{name_of_operation, operation_word_count};
 
 use crate::arguments::{byte, bytes, flags, number};
 use crate::command::Operation;
@@ -15,7 +15,7 @@ use std::alloc::Global;
 // Returns the two numbers behind a name.
 fn two_numbers(words: &[&[u8]]) -> Result<(u32, u32), LineError>
     requires { 2 < length words.now }
-    ensures { IfErr result (IsWordFault (texts words.now) 1 (Number ∷ Number ∷ [])) }
+    ensures { IfErr result (IsErrorOfWordsByKinds (texts words.now) 1 (Number ∷ Number ∷ [])) }
 {
     let first = number(words, 1)?;
     let second = number(words, 2)?;
@@ -25,7 +25,7 @@ fn two_numbers(words: &[&[u8]]) -> Result<(u32, u32), LineError>
 // Returns the number and the bytes behind a name.
 fn number_and_bytes(alloc: Global, words: &[&[u8]]) -> Result<(u32, Vec<u8>), LineError>
     requires { 2 < length words.now }
-    ensures { IfErr result (IsWordFault (texts words.now) 1 (Number ∷ Bytes ∷ [])) }
+    ensures { IfErr result (IsErrorOfWordsByKinds (texts words.now) 1 (Number ∷ Bytes ∷ [])) }
 {
     let first = number(words, 1)?;
     let second = bytes(alloc, words, 2)?;
@@ -35,7 +35,7 @@ fn number_and_bytes(alloc: Global, words: &[&[u8]]) -> Result<(u32, Vec<u8>), Li
 // Returns the path and the flags behind a name.
 fn path_and_flags(alloc: Global, words: &[&[u8]]) -> Result<(Vec<u8>, OpenFlags), LineError>
     requires { 2 < length words.now }
-    ensures { IfErr result (IsWordFault (texts words.now) 1 (Bytes ∷ Flags ∷ [])) }
+    ensures { IfErr result (IsErrorOfWordsByKinds (texts words.now) 1 (Bytes ∷ Flags ∷ [])) }
 {
     let path = bytes(alloc, words, 1)?;
     let flags = flags(words, 2)?;
@@ -45,7 +45,7 @@ fn path_and_flags(alloc: Global, words: &[&[u8]]) -> Result<(Vec<u8>, OpenFlags)
 // Returns the two paths behind a name.
 fn two_paths(alloc: Global, words: &[&[u8]]) -> Result<(Vec<u8>, Vec<u8>), LineError>
     requires { 2 < length words.now }
-    ensures { IfErr result (IsWordFault (texts words.now) 1 (Bytes ∷ Bytes ∷ [])) }
+    ensures { IfErr result (IsErrorOfWordsByKinds (texts words.now) 1 (Bytes ∷ Bytes ∷ [])) }
 {
     let old = bytes(alloc, words, 1)?;
     let new = bytes(alloc, words, 2)?;
@@ -55,7 +55,7 @@ fn two_paths(alloc: Global, words: &[&[u8]]) -> Result<(Vec<u8>, Vec<u8>), LineE
 // Returns the path and the type of an attribute behind a name.
 fn path_and_type(alloc: Global, words: &[&[u8]]) -> Result<(Vec<u8>, u8), LineError>
     requires { 2 < length words.now }
-    ensures { IfErr result (IsWordFault (texts words.now) 1 (Bytes ∷ Byte ∷ [])) }
+    ensures { IfErr result (IsErrorOfWordsByKinds (texts words.now) 1 (Bytes ∷ Byte ∷ [])) }
 {
     let path = bytes(alloc, words, 1)?;
     let kind = byte(words, 2)?;
@@ -66,7 +66,7 @@ fn path_and_type(alloc: Global, words: &[&[u8]]) -> Result<(Vec<u8>, u8), LineEr
 fn set_attr(alloc: Global, words: &[&[u8]]) -> Result<Operation, LineError>
     requires { 3 < length words.now }
     ensures name { IfOk result (λ operation. name_of_operation operation ≡ OperationName.SetAttr) }
-    ensures err { IfErr result (IsWordFault (texts words.now) 1 (Bytes ∷ Byte ∷ Bytes ∷ [])) }
+    ensures err { IfErr result (IsErrorOfWordsByKinds (texts words.now) 1 (Bytes ∷ Byte ∷ Bytes ∷ [])) }
 {
     let path = bytes(alloc, words, 1)?;
     let kind = byte(words, 2)?;
@@ -80,9 +80,9 @@ pub(crate) fn operation_of(
     name: OperationName,
     words: &[&[u8]],
 ) -> Result<Operation, LineError>
-    requires { operation_count name < length words.now }
+    requires { operation_word_count name < length words.now }
     ensures name { IfOk result (λ operation. name_of_operation operation ≡ name) }
-    ensures err { IfErr result (IsWordFault (texts words.now) 1 (operation_kinds name)) }
+    ensures err { IfErr result (IsErrorOfWordsByKinds (texts words.now) 1 (word_kinds_of_operation name)) }
 {
     let operation = match name {
         OperationName::Open => {

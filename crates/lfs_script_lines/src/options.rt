@@ -1,17 +1,17 @@
 // The options behind commands' names.
 
 ghost use Rattle.std.specs.Prelude.{◌≡◌, ◌+◌, ◌<◌, ◌≤◌, ◌∷◌, [], IfErr, IfNone, IsTrue, Ok, OnSome, drop, length};
-ghost use Rattle.lfs_script_lines.specs.Kinds.{Keyword, Kind, NoOption, choice_kinds, erased_kinds, extent_kinds, fault_kinds, order_kinds, scope_kinds, stop_kinds, which_kind};
-ghost use Rattle.lfs_script_lines.specs.Lines.{IsWordFault, texts};
+ghost use Rattle.lfs_script_lines.specs.Kinds.{Keyword, WordKind, NoOption, word_kinds_of_choice, word_kinds_of_erased_option, word_kinds_of_extent_option, word_kinds_of_fault_option, word_kinds_of_order_option, word_kinds_of_scope_option, word_kinds_of_stop_option, kind_of_call_word};
+ghost use Rattle.lfs_script_lines.specs.Lines.{IsErrorOfWordsByKinds, texts};
 
-use crate::arguments::{byte, is_keyword, no_options, number, word_at};
+use crate::arguments::{byte, is_keyword, number, objection_to_option_word, word_at};
 use crate::command::Scope;
 use crate::lines::LineError;
-use lfs_device::{Erased, Extent, Fault, NameOrder, Which};
+use lfs_device::{Erased, Extent, NameOrder, PlannedFault, Which};
 
 // Returns how much of two sessions is compared.
 pub(crate) fn scope(words: &[&[u8]]) -> Result<Scope, LineError>
-    ensures { IfErr result (IsWordFault (texts words.now) 1 (scope_kinds (drop 1 (texts words.now)))) }
+    ensures { IfErr result (IsErrorOfWordsByKinds (texts words.now) 1 (word_kinds_of_scope_option (drop 1 (texts words.now)))) }
 {
     if words.len() < 2 {
         return Ok(Scope::Whole);
@@ -25,7 +25,7 @@ pub(crate) fn scope(words: &[&[u8]]) -> Result<Scope, LineError>
 
 // Which of two options ends a line.
 #[derive(Clone, Copy)]
-enum Chosen {
+enum ChosenOption {
     Nothing,
     // The keyword that stands alone.
     Alone,
@@ -35,29 +35,34 @@ enum Chosen {
 
 // Returns which of two options the words from a place on are. One is a keyword alone, the other a
 // keyword with a word behind it.
-fn choice(words: &[&[u8]], place: usize, alone: &[u8], leading: &[u8]) -> Result<Chosen, LineError>
+fn choice_of_two_options(
+    words: &[&[u8]],
+    place: usize,
+    alone: &[u8],
+    leading: &[u8],
+) -> Result<ChosenOption, LineError>
     requires { place ≤ length words.now }
-    ensures err { (kind : Kind) → IfErr result (IsWordFault (texts words.now) place (choice_kinds alone.now leading.now kind (drop place (texts words.now)))) }
-    ensures leading { result ≡ Ok Chosen.Leading → (length words.now ≡ place + 2)
-        × ((kind : Kind) → choice_kinds alone.now leading.now kind (drop place (texts words.now)) ≡ Keyword ∷ kind ∷ []) }
+    ensures err { (kind : WordKind) → IfErr result (IsErrorOfWordsByKinds (texts words.now) place (word_kinds_of_choice alone.now leading.now kind (drop place (texts words.now)))) }
+    ensures leading { result ≡ Ok ChosenOption.Leading → (length words.now ≡ place + 2)
+        × ((kind : WordKind) → word_kinds_of_choice alone.now leading.now kind (drop place (texts words.now)) ≡ Keyword ∷ kind ∷ []) }
 {
     let behind = words.len() - place;
     if behind == 0 {
-        return Ok(Chosen::Nothing);
+        return Ok(ChosenOption::Nothing);
     }
     let word = word_at(words, place);
     if behind == 1 && is_keyword(word, alone) {
-        return Ok(Chosen::Alone);
+        return Ok(ChosenOption::Alone);
     }
     if behind == 2 && is_keyword(word, leading) {
-        return Ok(Chosen::Leading);
+        return Ok(ChosenOption::Leading);
     }
-    Err(no_options(words, place))
+    Err(objection_to_option_word(words, place))
 }
 
 // Returns the kind of calls that a word names, if it names one.
 fn which_of_word(word: &[u8]) -> Option<Which>
-    ensures { IfNone result (which_kind word.now ≡ NoOption) }
+    ensures { IfNone result (kind_of_call_word word.now ≡ NoOption) }
 {
     if is_keyword(word, b"any") {
         Some(Which::Any)
@@ -75,17 +80,17 @@ fn which_of_word(word: &[u8]) -> Option<Which>
 // Returns what a failing call leaves, by the words from a place on.
 fn extent(words: &[&[u8]], place: usize) -> Result<Extent, LineError>
     requires { place ≤ length words.now }
-    ensures { IfErr result (IsWordFault (texts words.now) place (extent_kinds (drop place (texts words.now)))) }
+    ensures { IfErr result (IsErrorOfWordsByKinds (texts words.now) place (word_kinds_of_extent_option (drop place (texts words.now)))) }
 {
-    match choice(words, place, b"whole", b"torn")? {
-        Chosen::Nothing => Ok(Extent::Nothing),
-        Chosen::Alone => Ok(Extent::Whole),
-        Chosen::Leading => Ok(Extent::FirstBytes(number(words, place + 1)?)),
+    match choice_of_two_options(words, place, b"whole", b"torn")? {
+        ChosenOption::Nothing => Ok(Extent::Nothing),
+        ChosenOption::Alone => Ok(Extent::Whole),
+        ChosenOption::Leading => Ok(Extent::FirstBytes(number(words, place + 1)?)),
     }
 }
 
 // A device none of whose calls fails.
-const NO_FAULT: Fault = Fault {
+const NO_FAULT: PlannedFault = PlannedFault {
     which: Which::Any,
     nth: 0,
     stops: false,
@@ -94,8 +99,8 @@ const NO_FAULT: Fault = Fault {
 
 // Returns whether a failing call stops the device, by the word at place 3.
 fn stops(words: &[&[u8]]) -> bool
-    ensures stops { IsTrue result → (3 < length words.now) × (stop_kinds (drop 3 (texts words.now)) ≡ Keyword ∷ extent_kinds (drop 4 (texts words.now))) }
-    ensures goes_on { ¬ IsTrue result → stop_kinds (drop 3 (texts words.now)) ≡ extent_kinds (drop 3 (texts words.now)) }
+    ensures stops { IsTrue result → (3 < length words.now) × (word_kinds_of_stop_option (drop 3 (texts words.now)) ≡ Keyword ∷ word_kinds_of_extent_option (drop 4 (texts words.now))) }
+    ensures goes_on { ¬ IsTrue result → word_kinds_of_stop_option (drop 3 (texts words.now)) ≡ word_kinds_of_extent_option (drop 3 (texts words.now)) }
 {
     words.len() > 3 && is_keyword(word_at(words, 3), b"stop")
 }
@@ -103,7 +108,7 @@ fn stops(words: &[&[u8]]) -> bool
 // Returns whether a failing call stops the device, and what it leaves, by the words from place 3 on.
 fn failing(words: &[&[u8]]) -> Result<(bool, Extent), LineError>
     requires { 2 < length words.now }
-    ensures { IfErr result (IsWordFault (texts words.now) 3 (stop_kinds (drop 3 (texts words.now)))) }
+    ensures { IfErr result (IsErrorOfWordsByKinds (texts words.now) 3 (word_kinds_of_stop_option (drop 3 (texts words.now)))) }
 {
     if stops(words) {
         let extent = extent(words, 4)?;
@@ -115,16 +120,16 @@ fn failing(words: &[&[u8]]) -> Result<(bool, Extent), LineError>
 }
 
 // Returns at which call a device fails, by at least two words behind the command's name.
-fn given_fault(words: &[&[u8]]) -> Result<Fault, LineError>
+fn fault_of_words(words: &[&[u8]]) -> Result<PlannedFault, LineError>
     requires { 2 < length words.now }
-    ensures { IfErr result (IsWordFault (texts words.now) 1 (fault_kinds (drop 1 (texts words.now)))) }
+    ensures { IfErr result (IsErrorOfWordsByKinds (texts words.now) 1 (word_kinds_of_fault_option (drop 1 (texts words.now)))) }
 {
     let Some(which) = which_of_word(word_at(words, 1)) else {
-        return Err(no_options(words, 1));
+        return Err(objection_to_option_word(words, 1));
     };
     let nth = number(words, 2)?;
     let (stops, extent) = failing(words)?;
-    Ok(Fault {
+    Ok(PlannedFault {
         which,
         nth: u64::from(nth),
         stops,
@@ -133,34 +138,34 @@ fn given_fault(words: &[&[u8]]) -> Result<Fault, LineError>
 }
 
 // Returns at which call a device fails.
-pub(crate) fn fault(words: &[&[u8]]) -> Result<Fault, LineError>
-    ensures { IfErr result (IsWordFault (texts words.now) 1 (fault_kinds (drop 1 (texts words.now)))) }
+pub(crate) fn fault(words: &[&[u8]]) -> Result<PlannedFault, LineError>
+    ensures { IfErr result (IsErrorOfWordsByKinds (texts words.now) 1 (word_kinds_of_fault_option (drop 1 (texts words.now)))) }
 {
     if words.len() < 2 {
         return Ok(NO_FAULT);
     }
     if words.len() < 3 {
-        return Err(no_options(words, 1));
+        return Err(objection_to_option_word(words, 1));
     }
-    given_fault(words)
+    fault_of_words(words)
 }
 
 // Returns what a device's erases leave, by the words from a place on.
 pub(crate) fn erased(words: &[&[u8]], place: usize) -> Result<Erased, LineError>
     requires { place ≤ length words.now }
-    ensures { IfErr result (IsWordFault (texts words.now) place (erased_kinds (drop place (texts words.now)))) }
+    ensures { IfErr result (IsErrorOfWordsByKinds (texts words.now) place (word_kinds_of_erased_option (drop place (texts words.now)))) }
 {
-    match choice(words, place, b"keep", b"fill")? {
-        Chosen::Nothing => Ok(Erased::Fill(0xff)),
-        Chosen::Alone => Ok(Erased::Keep),
-        Chosen::Leading => Ok(Erased::Fill(byte(words, place + 1)?)),
+    match choice_of_two_options(words, place, b"keep", b"fill")? {
+        ChosenOption::Nothing => Ok(Erased::Fill(0xff)),
+        ChosenOption::Alone => Ok(Erased::Keep),
+        ChosenOption::Leading => Ok(Erased::Fill(byte(words, place + 1)?)),
     }
 }
 
 // Returns the order of names that the word at place 4 gives, if it gives one.
 fn order(words: &[&[u8]]) -> Option<NameOrder>
-    ensures given { OnSome result ((4 < length words.now) × (order_kinds (drop 4 (texts words.now)) ≡ Keyword ∷ erased_kinds (drop 5 (texts words.now)))) }
-    ensures missing { IfNone result (order_kinds (drop 4 (texts words.now)) ≡ erased_kinds (drop 4 (texts words.now))) }
+    ensures given { OnSome result ((4 < length words.now) × (word_kinds_of_order_option (drop 4 (texts words.now)) ≡ Keyword ∷ word_kinds_of_erased_option (drop 5 (texts words.now)))) }
+    ensures missing { IfNone result (word_kinds_of_order_option (drop 4 (texts words.now)) ≡ word_kinds_of_erased_option (drop 4 (texts words.now))) }
 {
     if words.len() <= 4 {
         return None;
@@ -179,7 +184,7 @@ fn order(words: &[&[u8]]) -> Option<NameOrder>
 // a word for the order the longer names come first.
 pub(crate) fn order_and_erased(words: &[&[u8]]) -> Result<(NameOrder, Erased), LineError>
     requires { 3 < length words.now }
-    ensures { IfErr result (IsWordFault (texts words.now) 4 (order_kinds (drop 4 (texts words.now)))) }
+    ensures { IfErr result (IsErrorOfWordsByKinds (texts words.now) 4 (word_kinds_of_order_option (drop 4 (texts words.now)))) }
 {
     match order(words) {
         Some(order) => {

@@ -5,7 +5,7 @@ use std::fmt;
 
 /// The reason for which a line is no command. A place is that of a word: the command's name has 0.
 #[derive(Clone, Copy, Debug, PartialEq, Eq)]
-pub enum Refusal {
+pub enum LineObjection {
     /// Two spaces stand side by side.
     Spaces,
     /// The first word is no command's name.
@@ -32,28 +32,36 @@ fn number(place: usize) -> usize {
 }
 
 // Writes what the word at a place is instead of what is wanted.
-fn write_word<W: fmt::Write>(f: &mut fmt::Formatter<W>, place: usize, fault: &str) -> fmt::Result {
+fn write_misfit_word<W: fmt::Write>(
+    f: &mut fmt::Formatter<W>,
+    place: usize,
+    fault: &str,
+) -> fmt::Result {
     write!(f, "word {} is {}", number(place), fault)
 }
 
-impl fmt::Display for Refusal {
+impl fmt::Display for LineObjection {
     fn fmt<W: fmt::Write>(&self, f: &mut fmt::Formatter<W>) -> fmt::Result {
         match self {
-            Refusal::Spaces => write!(f, "two spaces stand side by side"),
-            Refusal::Name => write!(f, "no command has this name (--help lists them)"),
-            Refusal::TooFew(name) => write!(f, "too few words: {}", name.usage()),
-            Refusal::TooMany(name) => write!(f, "too many words: {}", name.usage()),
-            Refusal::Number(place) => {
-                write_word(f, *place, "no decimal number up to 4294967295")
+            LineObjection::Spaces => write!(f, "two spaces stand side by side"),
+            LineObjection::Name => write!(f, "no command has this name (--help lists them)"),
+            LineObjection::TooFew(name) => write!(f, "too few words: {}", name.usage()),
+            LineObjection::TooMany(name) => write!(f, "too many words: {}", name.usage()),
+            LineObjection::Number(place) => {
+                write_misfit_word(f, *place, "no decimal number up to 4294967295")
             }
-            Refusal::Flags(place) => {
-                write_word(f, *place, "no hexadecimal number up to ffffffff")
+            LineObjection::Flags(place) => {
+                write_misfit_word(f, *place, "no hexadecimal number up to ffffffff")
             }
-            Refusal::Byte(place) => write_word(f, *place, "no hexadecimal number up to ff"),
-            Refusal::Spelling(place) => {
-                write_word(f, *place, "not spelled as bytes are (--help says how)")
+            LineObjection::Byte(place) => write_misfit_word(
+                f,
+                *place,
+                "no hexadecimal number up to ff",
+            ),
+            LineObjection::Spelling(place) => {
+                write_misfit_word(f, *place, "not spelled as bytes are (--help says how)")
             }
-            Refusal::Options(place) => {
+            LineObjection::Options(place) => {
                 write!(
                     f,
                     "from word {} on there are no options of the command",

@@ -2,7 +2,7 @@
 
 ghost use Rattle.std.specs.Prelude.{◌≡◌, ◌++◌, ◌<◌, OnOk};
 ghost use Rattle.lfs_model.specs.Listing.{hex_digit};
-ghost use Rattle.lfs_script_lines.specs.Words.{escaped_byte, written};
+ghost use Rattle.lfs_script_lines.specs.Words.{escaped_byte, word_of_bytes};
 
 use crate::words::is_plain;
 use std::alloc::AllocError;
@@ -32,7 +32,7 @@ fn push_byte(text: &mut Vec<u8>, byte: u8) -> Result<(), AllocError>
 
 /// Adds the word for bytes, from which `read_word` reads them again.
 pub fn push_word(text: &mut Vec<u8>, bytes: &[u8]) -> Result<(), AllocError>
-    ensures { OnOk result (text.new.items ≡ text.old.items ++ written bytes.now) }
+    ensures { OnOk result (text.new.items ≡ text.old.items ++ word_of_bytes bytes.now) }
 {
     if bytes.is_empty() {
         text.extend_from_slice(b"\\e")?;

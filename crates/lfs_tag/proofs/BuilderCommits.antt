@@ -8,10 +8,10 @@ use Rattle.std.proofs.Math.Seq.{take-append_seam, drop-append_seam}
 use Rattle.byteorder.specs.Endian.{big_number, big_bytes, little_number, little_bytes}
 use Rattle.byteorder.specs.Numbers.{big_number-reads_back, little_number-reads_back}
 use Rattle.lfs_model.specs.Crc.{crc_of}
-use Rattle.lfs_model.specs.Tag.{IsValid, kind_of, len_of, class_of, data_size, is_forward_checksum, carried}
-use Rattle.lfs_model.specs.Log.{LogEntry, entry_at, end_of_entry, is_checksum, closes, IsCommit}
-use Rattle.lfs_model.specs.Commit.{bytes_of_entries, entries_size}
-use Rattle.lfs_tag.specs.BuilderKeeps.{last_tag, AreStorable}
+use Rattle.lfs_model.specs.Tag.{IsValidTag, kind_of, len_of, class_of, tag_data_size, is_forward_checksum, carried}
+use Rattle.lfs_model.specs.Log.{LogEntry, entry_at, end_of_entry, is_checksum_entry, closes, IsCommit}
+use Rattle.lfs_model.specs.Commit.{encoded_bytes_of_log_entries, encoded_size_of_log_entries}
+use Rattle.lfs_tag.specs.BuilderKeeps.{last_tag, AreStorableEntries}
 use Rattle.lfs_tag.proofs.Local.{from_lies}
 use Rattle.lfs_tag.proofs.BuilderEntries.{carried_other}
 
@@ -20,7 +20,7 @@ tag_back : (tag before : ℕ) → tag ≡ bit_xor (bit_xor tag before) before
 tag_back tag before = sym (xor_assoc tag before before ∙ ap (bit_xor tag) (xor_self before) ∙ xor_zero_r tag)
 
 -- an entry is read where its tag and its bytes lie
-entry_read : (block rest : List ℕ) (at before : ℕ) (e : LogEntry) → IsValid e.tag → length e.bytes ≡ data_size e.tag → bit_xor e.tag before < 2 ^ 32
+entry_read : (block rest : List ℕ) (at before : ℕ) (e : LogEntry) → IsValidTag e.tag → length e.bytes ≡ tag_data_size e.tag → bit_xor e.tag before < 2 ^ 32
     → drop at block ≡ big_bytes 4 (bit_xor e.tag before) ++ (e.bytes ++ rest) → entry_at block at before ≡ Some e
 entry_read block rest at before e valid size fits here =
     let long : length (drop at block) ≡ 4 + (length e.bytes + length rest) = ap length here ∙ omega (arith, length-append e.bytes rest) in
@@ -30,28 +30,28 @@ entry_read block rest at before e valid size fits here =
       valid = valid;
       size = size;
       within = omega (arith, long, length-drop at block);
-      bytes = sym (ap (take (data_size e.tag)) behind ∙ ap (λ (n : ℕ). take n (e.bytes ++ rest)) (sym size) ∙ take-append_seam e.bytes rest);
+      bytes = sym (ap (take (tag_data_size e.tag)) behind ∙ ap (λ (n : ℕ). take n (e.bytes ++ rest)) (sym size) ∙ take-append_seam e.bytes rest);
     })
 
 -- one entry before a commit
-commit_cons : (block : List ℕ) (start at before : ℕ) (e : LogEntry) (es : List LogEntry) (end last : ℕ) → entry_at block at before ≡ Some e → is_checksum e ≡ false
+commit_cons : (block : List ℕ) (start at before : ℕ) (e : LogEntry) (es : List LogEntry) (end last : ℕ) → entry_at block at before ≡ Some e → is_checksum_entry e ≡ false
     → IsCommit block start (end_of_entry at e) e.tag es end last → IsCommit block start at before (e ∷ es) end last
 commit_cons block start at before e [] end last is other rest = absurd rest
 commit_cons block start at before e (f ∷ es) end last is other rest = (is, other, rest)
 
 -- entries as they are stored, before a checksum's
-pub entries_read : (block rest : List ℕ) (start at before : ℕ) (es : List LogEntry) (ck : LogEntry) (end last : ℕ) → AreStorable before es → drop at block ≡ bytes_of_entries before es ++ rest
-    → IsCommit block start (at + entries_size es) (last_tag before es) (ck ∷ []) end last → IsCommit block start at before (es ++ ck ∷ []) end last
+pub entries_read : (block rest : List ℕ) (start at before : ℕ) (es : List LogEntry) (ck : LogEntry) (end last : ℕ) → AreStorableEntries before es → drop at block ≡ encoded_bytes_of_log_entries before es ++ rest
+    → IsCommit block start (at + encoded_size_of_log_entries es) (last_tag before es) (ck ∷ []) end last → IsCommit block start at before (es ++ ck ∷ []) end last
 entries_read block rest start at before [] ck end last all here base = rw add-zero at base
 entries_read block rest start at before (e ∷ es) ck end last all here base =
     let tag = big_bytes 4 (bit_xor e.tag before) in
-    let later = bytes_of_entries (carried e.tag) es in
+    let later = encoded_bytes_of_log_entries (carried e.tag) es in
     let more = later ++ rest in
     let here' : drop at block ≡ tag ++ (e.bytes ++ more) = here ∙ append_assoc (tag ++ e.bytes) later rest ∙ append_assoc tag e.bytes more in
     let read = entry_read block more at before e all.0.valid all.0.size all.0.fits here' in
     let behind : drop (end_of_entry at e) block ≡ more =
     sym (drop-drop (length e.bytes) (at + 4) block) ∙ ap (drop (length e.bytes)) (sym (drop-drop 4 at block) ∙ ap (drop 4) here') ∙ drop-append_seam e.bytes more in
-    let place : at + entries_size (e ∷ es) ≡ end_of_entry at e + entries_size es = omega (arith, sum_by-cons (λ (e : LogEntry). 4 + length e.bytes) e es) in
+    let place : at + encoded_size_of_log_entries (e ∷ es) ≡ end_of_entry at e + encoded_size_of_log_entries es = omega (arith, sum_by-cons (λ (e : LogEntry). 4 + length e.bytes) e es) in
     let ends = entries_read block rest start (end_of_entry at e) (carried e.tag) es ck end last all.1 behind (rw place at base) in
     commit_cons block start at before e (es ++ ck ∷ []) end last read all.0.other
     (subst (λ (n : ℕ). IsCommit block start (end_of_entry at e) n (es ++ ck ∷ []) end last) (carried_other e all.0.other) ends)
@@ -75,7 +75,7 @@ kind_passes tag (inl h) = rw h refl
 kind_passes tag (inr h) = rw h refl
 
 -- It closes the commit: all bytes from the start to the end of its tag have its checksum.
-pub closing : (block front rest pad : List ℕ) (start at tag before sum : ℕ) → IsChecksumKind tag → IsValid tag → bit_xor tag before < 2 ^ 32 → sum < 2 ^ 32
+pub closing : (block front rest pad : List ℕ) (start at tag before sum : ℕ) → IsChecksumKind tag → IsValidTag tag → bit_xor tag before < 2 ^ 32 → sum < 2 ^ 32
     → 4 + length pad ≡ len_of tag → len_of tag ≤ 1022 → at ≡ start + length front → sum ≡ crc_of 0xffffffff (front ++ big_bytes 4 (bit_xor tag before))
     → drop start block ≡ front ++ (big_bytes 4 (bit_xor tag before) ++ ((little_bytes 4 sum ++ pad) ++ rest))
     → IsCommit block start at before (record { tag = tag; bytes = little_bytes 4 sum ++ pad } ∷ []) (at + 4 + len_of tag) (carried tag)
@@ -84,9 +84,9 @@ closing block front rest pad start at tag before sum kind valid fits small size 
     let e : LogEntry = record { tag = tag; bytes = little_bytes 4 sum ++ pad } in
     let stored_tag = big_bytes 4 (bit_xor tag before) in
     let behind : drop at block ≡ stored_tag ++ (e.bytes ++ rest) = ap (λ (n : ℕ). drop n block) place ∙ sym (drop-drop (length front) start block) ∙ ap (drop (length front)) here ∙ drop-append_seam front (stored_tag ++ (e.bytes ++ rest)) in
-    let bytes_size : length e.bytes ≡ data_size tag = grind (arith, nat_tests, size, most) in
+    let bytes_size : length e.bytes ≡ tag_data_size tag = grind (arith, nat_tests, size, most) in
     let read : entry_at block at before ≡ Some e = entry_read block rest at before e valid bytes_size fits behind in
-    let sum_class : is_checksum e ≡ true = rw (class_of_kind tag kind, not_forward tag kind) refl in
+    let sum_class : is_checksum_entry e ≡ true = rw (class_of_kind tag kind, not_forward tag kind) refl in
     let low : leb 4 (len_of tag) ≡ true = grind (arith, nat_tests, size) in
     let high : leb (len_of tag) 1022 ≡ true = grind (arith, nat_tests, most) in
     let range : slice_range block start (at + 4) ≡ front ++ stored_tag =

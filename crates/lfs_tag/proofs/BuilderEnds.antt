@@ -3,25 +3,25 @@ use Rattle.std.proofs.Common.{◌≡◌, ℕ, ◌+◌, ◌-◌, ◌≤◌, ◌<�
 use Rattle.std.proofs.lemmas.List.{length-replicate}
 use Rattle.byteorder.specs.Endian.{big_bytes, little_bytes}
 use Rattle.lfs_model.specs.Crc.{crc_of}
-use Rattle.lfs_model.specs.Blocks.{overwritten}
-use Rattle.lfs_tag.specs.Builder.{Building, checksum_start, padded_end, checksum_tag}
-use Rattle.lfs_tag.specs.BuilderKeeps.{front_of, IsBuilderOf}
+use Rattle.lfs_model.specs.Blocks.{bytes_after_overwrite_at}
+use Rattle.lfs_tag.specs.Builder.{CommitBeingBuilt, checksum_start, padded_end, checksum_tag}
+use Rattle.lfs_tag.specs.BuilderKeeps.{bytes_before_checksum, IsBuilderOfCommit}
 use Rattle.lfs_tag.proofs.BuilderWrites.{take-overwritten}
 use Rattle.lfs_tag.proofs.BuilderChecksums.{AreBytes, padded}
 use Rattle.lfs_tag.proofs.BuilderPages.{ArePages}
 
 -- what is known when the checksum is written
-pub record Sealed (page len last stored end tag : ℕ) (buf now : List ℕ) (b : Building) : Type 0 where
-  pub kept : IsBuilderOf page len last buf b
+pub record Sealed (page len last stored end tag : ℕ) (buf now : List ℕ) (b : CommitBeingBuilt) : Type 0 where
+  pub kept : IsBuilderOfCommit page len last buf b
   pub end_is : end ≡ padded_end b
   pub within : end ≤ length buf
   pub room : length buf < 2 ^ 64 - 1
   pub stored_is : stored ≡ bit_xor tag last
   pub fits : stored < 2 ^ 32
   pub small : crc_of 0xffffffff (take len buf ++ big_bytes 4 stored) < 2 ^ 32
-  pub bytes : now ≡ overwritten buf len (big_bytes 4 stored ++ (little_bytes 4 (crc_of 0xffffffff (take len buf ++ big_bytes 4 stored)) ++ replicate (end - (len + 8)) 255))
+  pub bytes : now ≡ bytes_after_overwrite_at buf len (big_bytes 4 stored ++ (little_bytes 4 (crc_of 0xffffffff (take len buf ++ big_bytes 4 stored)) ++ replicate (end - (len + 8)) 255))
 
-module _ (page len last stored end tag : ℕ) (buf now : List ℕ) (b : Building) (s : Sealed page len last stored end tag buf now b) where
+module _ (page len last stored end tag : ℕ) (buf now : List ℕ) (b : CommitBeingBuilt) (s : Sealed page len last stored end tag buf now b) where
   abbrev sum : ℕ
   sum = crc_of 0xffffffff (take len buf ++ big_bytes 4 stored)
 
@@ -31,7 +31,7 @@ module _ (page len last stored end tag : ℕ) (buf now : List ℕ) (b : Building
   exact : len ≡ checksum_start b
   exact = let p = padded b s.kept.power in omega (arith, s.kept.len_is, s.end_is, s.within, s.room, p.low)
 
-  pages_are : take end now ≡ front_of b ++ (big_bytes 4 (bit_xor tag last) ++ (little_bytes 4 sum ++ pad))
+  pages_are : take end now ≡ bytes_before_checksum b ++ (big_bytes 4 (bit_xor tag last) ++ (little_bytes 4 sum ++ pad))
   pages_are =
       let p = padded b s.kept.power in
       let filled = big_bytes 4 stored ++ (little_bytes 4 sum ++ replicate (end - (len + 8)) 255) in

@@ -6,8 +6,8 @@ use Rattle.std.proofs.lemmas.Nat.{xor_shr}
 use Rattle.std.proofs.lemmas.List.{drop-append-le, take-append-le, length-drop}
 use Rattle.byteorder.specs.Endian.{big_number}
 use Rattle.byteorder.specs.Numbers.{big_from-append}
-use Rattle.lfs_model.specs.Tag.{data_size}
-use Rattle.lfs_model.specs.Log.{LogEntry, with_commit, tag_at, entry_at, end_of_entry, closes, IsCommit, IsChain, commit_at, chain_at, chain_of}
+use Rattle.lfs_model.specs.Tag.{tag_data_size}
+use Rattle.lfs_model.specs.Log.{LogEntry, commit_sequence_with_commit_first, tag_at, entry_at, end_of_entry, closes, IsCommit, IsCommitSequence, commit_at, longest_commit_sequence_at, chain_of}
 use Rattle.lfs_model.proofs.Chains.{Lies, lies, commit_none, commit_space, commit_complete, chain_on, chain_none, chain_sound}
 
 pub from_lies : (block : List ℕ) (at before : ℕ) (e : LogEntry) → Lies block at before e → entry_at block at before ≡ Some e
@@ -15,7 +15,7 @@ unfolding entry_at
 from_lies block at before e l =
     let inside : ltb (length block) (at + 4) ≡ false = le-ltb _ _ (omega (arith, l.within)) in
     let valid : leb (2 ^ 31) (tag_at block at before) ≡ false = grind (arith, nat_tests, l.tag, l.valid) in
-    let whole : ltb (length block) (at + 4 + data_size (tag_at block at before)) ≡ false = le-ltb _ _ (rw (← l.tag) (omega (arith, l.within, l.size))) in
+    let whole : ltb (length block) (at + 4 + tag_data_size (tag_at block at before)) ≡ false = le-ltb _ _ (rw (← l.tag) (omega (arith, l.within, l.size))) in
     rw (inside, valid, whole, ← l.tag, ← l.bytes) refl
 
 tag_of_front : (front x : List ℕ) (at before : ℕ) → at + 4 ≤ length front → tag_at (front ++ x) at before ≡ tag_at front at before
@@ -36,7 +36,7 @@ lies_on front x at before e l = record {
   valid = l.valid;
   size = l.size;
   within = omega (arith, l.within, length-append front x);
-  bytes = l.bytes ∙ sym (part_of_front front x (data_size e.tag) (at + 4) (omega (arith, l.within, l.size)));
+  bytes = l.bytes ∙ sym (part_of_front front x (tag_data_size e.tag) (at + 4) (omega (arith, l.within, l.size)));
 }
 
 pub lies_within : (front x : List ℕ) (at before : ℕ) (e : LogEntry) → end_of_entry at e ≤ length front → Lies (front ++ x) at before e → Lies front at before e
@@ -45,7 +45,7 @@ lies_within front x at before e le l = record {
   valid = l.valid;
   size = l.size;
   within = le;
-  bytes = l.bytes ∙ part_of_front front x (data_size e.tag) (at + 4) (omega (arith, le, l.size));
+  bytes = l.bytes ∙ part_of_front front x (tag_data_size e.tag) (at + 4) (omega (arith, le, l.size));
 }
 
 -- an entry within the front, whatever follows the front
@@ -67,13 +67,13 @@ commit_moves front x y start at before (e ∷ f ∷ es) end last le within h =
     let w = commit_space (front ++ x) start (end_of_entry at e) e.tag (f ∷ es) end last h.2 in
     (entry_moves front x y at before e (omega (arith, w.after, within)) h.0, h.1, commit_moves front x y start (end_of_entry at e) e.tag (f ∷ es) end last (omega arith) within h.2)
 
-chain_space : (block : List ℕ) (start at before : ℕ) (cs : List (List LogEntry)) (end last : ℕ) → IsChain block start at before cs end last → at ≤ end
+chain_space : (block : List ℕ) (start at before : ℕ) (cs : List (List LogEntry)) (end last : ℕ) → IsCommitSequence block start at before cs end last → at ≤ end
 chain_space block start at before [] end last h = omega (arith, h.0)
 chain_space block start at before (c ∷ cs) end last h =
     let w = commit_space block start at before c h.0 h.1 h.2 in
     omega (arith, w.after, chain_space block h.0 h.0 h.1 cs end last h.3)
 
-pub chain_moves : (front x y : List ℕ) (start at before : ℕ) (cs : List (List LogEntry)) (end last : ℕ) → start ≤ at → end ≤ length front → IsChain (front ++ x) start at before cs end last → IsChain (front ++ y) start at before cs end last
+pub chain_moves : (front x y : List ℕ) (start at before : ℕ) (cs : List (List LogEntry)) (end last : ℕ) → start ≤ at → end ≤ length front → IsCommitSequence (front ++ x) start at before cs end last → IsCommitSequence (front ++ y) start at before cs end last
 chain_moves front x y start at before [] end last le within h = h
 chain_moves front x y start at before (c ∷ cs) end last le within h =
     let after = chain_space (front ++ x) h.0 h.0 h.1 cs end last h.3 in
@@ -86,8 +86,8 @@ abbrev pub next_start : List (List LogEntry) → ℕ → ℕ → ℕ
 next_start [] start end = start
 next_start (c ∷ cs) start end = end
 
-chain_more : (block : List ℕ) (start at before : ℕ) (cs : List (List LogEntry)) (end last : ℕ) (es : List LogEntry) (end' last' : ℕ) → IsChain block start at before cs end last
-    → IsCommit block (next_start cs start end) end last es end' last' → IsChain block start at before (cs ++ es ∷ []) end' last'
+chain_more : (block : List ℕ) (start at before : ℕ) (cs : List (List LogEntry)) (end last : ℕ) (es : List LogEntry) (end' last' : ℕ) → IsCommitSequence block start at before cs end last
+    → IsCommit block (next_start cs start end) end last es end' last' → IsCommitSequence block start at before (cs ++ es ∷ []) end' last'
 chain_more block start at before [] end last es end' last' h k = (end', last', rw (← h.0, ← h.1) k, (refl, refl))
 chain_more block start at before (c ∷ []) end last es end' last' h k =
     (h.0, h.1, h.2, chain_more block h.0 h.0 h.1 [] end last es end' last' h.3 (rw (← h.3.0) k))
@@ -95,15 +95,15 @@ chain_more block start at before (c ∷ d ∷ cs) end last es end' last' h k =
     (h.0, h.1, h.2, chain_more block h.0 h.0 h.1 (d ∷ cs) end last es end' last' h.3 k)
 
 -- a chain that nothing follows is the computed one
-pub chain_is : (block : List ℕ) (start at before : ℕ) (cs : List (List LogEntry)) (end last : ℕ) → IsChain block start at before cs end last
-    → commit_at block (next_start cs start end) end last ≡ None → chain_at block start at before ≡ record { commits = cs; end = end; last = last }
+pub chain_is : (block : List ℕ) (start at before : ℕ) (cs : List (List LogEntry)) (end last : ℕ) → IsCommitSequence block start at before cs end last
+    → commit_at block (next_start cs start end) end last ≡ None → longest_commit_sequence_at block start at before ≡ record { commits = cs; end = end; last = last }
 chain_is block start at before [] end last h none = chain_none block start at before (rw (h.0, h.1) at none) ∙ rw (h.0, h.1) refl
 chain_is block start at before (c ∷ []) end last h none =
     chain_on block start at before (record { entries = c; end = h.0; last = h.1 }) (commit_complete block start at before c h.0 h.1 h.2)
-    ∙ ap (with_commit c) (chain_is block h.0 h.0 h.1 [] end last h.3 (subst (λ (s : ℕ). commit_at block s end last ≡ None) h.3.0 none))
+    ∙ ap (commit_sequence_with_commit_first c) (chain_is block h.0 h.0 h.1 [] end last h.3 (subst (λ (s : ℕ). commit_at block s end last ≡ None) h.3.0 none))
 chain_is block start at before (c ∷ d ∷ cs) end last h none =
     chain_on block start at before (record { entries = c; end = h.0; last = h.1 }) (commit_complete block start at before c h.0 h.1 h.2)
-    ∙ ap (with_commit c) (chain_is block h.0 h.0 h.1 (d ∷ cs) end last h.3 none)
+    ∙ ap (commit_sequence_with_commit_first c) (chain_is block h.0 h.0 h.1 (d ∷ cs) end last h.3 none)
 
 -- one commit more, after a chain that ends at the end of the front
 pub appended : (front x y : List ℕ) (es : List LogEntry) (end last : ℕ) → (chain_of (front ++ x)).end ≡ length front
@@ -113,7 +113,7 @@ pub appended : (front x y : List ℕ) (es : List LogEntry) (end last : ℕ) → 
 unfolding chain_of
 appended front x y es end last ends commit none =
     let old = chain_of (front ++ x) in
-    let was : IsChain (front ++ x) 0 4 0xffffffff old.commits old.end old.last = chain_sound (length (front ++ x) - 4) (front ++ x) 0 4 0xffffffff in
+    let was : IsCommitSequence (front ++ x) 0 4 0xffffffff old.commits old.end old.last = chain_sound (length (front ++ x) - 4) (front ++ x) 0 4 0xffffffff in
     let kept = chain_moves front x y 0 4 0xffffffff old.commits old.end old.last (omega arith) (omega (arith, ends)) was in
     let here : IsCommit (front ++ y) (next_start old.commits 0 old.end) old.end old.last es end last = rw ends commit in
     let whole = chain_more (front ++ y) 0 4 0xffffffff old.commits old.end old.last es end last kept here in
@@ -131,8 +131,8 @@ unfolding entry_at
 erased_none block start at before lt erased =
     let high : bit_xor 0xffffffff before / 2 ^ 31 ≡ 1 = xor_shr 0xffffffff before 31 ∙ (let e : before / 2 ^ 31 ≡ 0 = omega arith in rw e refl) in
     let invalid : leb (2 ^ 31) (tag_at block at before) ≡ true = rw erased (grind (arith, nat_tests, high)) in
-    commit_none block start at before (rw invalid (either (ltb (length block) (at + 4)) (Some (record { tag = tag_at block at before; bytes = take (data_size (tag_at block at before)) (drop (at + 4) block) }))))
+    commit_none block start at before (rw invalid (either (ltb (length block) (at + 4)) (Some (record { tag = tag_at block at before; bytes = take (tag_data_size (tag_at block at before)) (drop (at + 4) block) }))))
   where
-    either : (b : Bool) (o : Option LogEntry) → cond (b || (true || ltb (length block) (at + 4 + data_size (tag_at block at before)))) None o ≡ None
+    either : (b : Bool) (o : Option LogEntry) → cond (b || (true || ltb (length block) (at + 4 + tag_data_size (tag_at block at before)))) None o ≡ None
     either true o = refl
     either false o = refl

@@ -5,10 +5,10 @@ use Rattle.std.proofs.lemmas.Bool.{cases_order}
 use Rattle.std.proofs.lemmas.Bool.Decides.{nat_tests}
 use Rattle.std.proofs.lemmas.List.{map-append, map-set, get_or-map, replicate-append-replicate}
 use Rattle.lfs_model.specs.Slots.{Attributes}
-use Rattle.lfs_model.specs.Content.{RawSlot, empty_slot, put_attribute, without_attribute, with_slot_changed}
+use Rattle.lfs_model.specs.Content.{RawSlot, empty_slot, attributes_with_attribute, attributes_without_attribute, raw_slots_after_slot_change}
 use Rattle.lfs_tag.specs.declared.content.Slot.{Slot}
 use Rattle.lfs_tag.specs.declared.content.Attribute.{Attribute}
-use Rattle.lfs_tag.specs.ContentView.{slot_view, attribute_view, first_not_below}
+use Rattle.lfs_tag.specs.ContentView.{slot_view, attribute_view, index_for_attribute}
 
 pub map-remove : {X Y : Type 0} (f : X → Y) (xs : List X) (i : ℕ) → map f (remove xs i) ≡ remove (map f xs) i
 map-remove f xs i = map-append f (take i xs) (drop (suc i) xs) ∙ rw (take-map f i xs, drop-map f (suc i) xs) refl
@@ -19,8 +19,8 @@ map-insert f xs i x = map-append f (take i xs) (x ∷ drop i xs) ∙ rw (take-ma
 -- ---- attributes
 
 -- the attribute of that type stands where one of its type or a greater one first stands
-pub put_same : (type : ℕ) (bytes : List ℕ) (xs : Attributes) (x : ℕ × List ℕ) → first_not_below type xs < length xs → (get_or xs (first_not_below type xs) x).0 ≡ type
-    → put_attribute type bytes xs ≡ set xs (first_not_below type xs) (type, bytes)
+pub put_same : (type : ℕ) (bytes : List ℕ) (xs : Attributes) (x : ℕ × List ℕ) → index_for_attribute type xs < length xs → (get_or xs (index_for_attribute type xs) x).0 ≡ type
+    → attributes_with_attribute type bytes xs ≡ set xs (index_for_attribute type xs) (type, bytes)
 put_same type bytes [] x lt same = absurd (omega arith)
 put_same type bytes (a ∷ xs) x lt same = elim (cases_order type a.0) [
   | inl equal ↦
@@ -39,8 +39,8 @@ put_same type bytes (a ∷ xs) x lt same = elim (cases_order type a.0) [
 ]
 
 -- no attribute of that type is there
-pub put_other : (type : ℕ) (bytes : List ℕ) (xs : Attributes) (x : ℕ × List ℕ) → (first_not_below type xs < length xs → (get_or xs (first_not_below type xs) x).0 ≡ type → ⊥)
-    → put_attribute type bytes xs ≡ insert xs (first_not_below type xs) (type, bytes)
+pub put_other : (type : ℕ) (bytes : List ℕ) (xs : Attributes) (x : ℕ × List ℕ) → (index_for_attribute type xs < length xs → (get_or xs (index_for_attribute type xs) x).0 ≡ type → ⊥)
+    → attributes_with_attribute type bytes xs ≡ insert xs (index_for_attribute type xs) (type, bytes)
 put_other type bytes [] x other = refl
 put_other type bytes (a ∷ xs) x other = elim (cases_order type a.0) [
   | inl equal ↦
@@ -57,20 +57,20 @@ put_other type bytes (a ∷ xs) x other = elim (cases_order type a.0) [
       rw (l, t, e) (ap (λ (ys : Attributes). a ∷ ys) (put_other type bytes xs x (λ lt same. (rw l at other) (omega arith) same)))
 ]
 
-pub first_within : (type : ℕ) (xs : Attributes) → first_not_below type xs ≤ length xs
+pub first_within : (type : ℕ) (xs : Attributes) → index_for_attribute type xs ≤ length xs
 first_within type [] = omega arith
 first_within type (a ∷ xs) = by_test (leb type a.0) (first_within type xs)
   where
-    by_test : (b : Bool) → first_not_below type xs ≤ length xs → cond b 0 (suc (first_not_below type xs)) ≤ suc (length xs)
+    by_test : (b : Bool) → index_for_attribute type xs ≤ length xs → cond b 0 (suc (index_for_attribute type xs)) ≤ suc (length xs)
     by_test true within = omega arith
     by_test false within = omega arith
 
-pub without_is : (kind : ℕ) (xs : List Attribute) → map attribute_view (filter (λ a. not (eqb a.kind kind)) xs) ≡ without_attribute kind (map attribute_view xs)
+pub without_is : (kind : ℕ) (xs : List Attribute) → map attribute_view (filter (λ a. not (eqb a.kind kind)) xs) ≡ attributes_without_attribute kind (map attribute_view xs)
 without_is kind [] = refl
 without_is kind (a ∷ xs) = by_test (eqb a.kind kind) (without_is kind xs)
   where
-    by_test : (b : Bool) → map attribute_view (filter (λ a. not (eqb a.kind kind)) xs) ≡ without_attribute kind (map attribute_view xs) → map attribute_view (cond (not b) (a ∷ filter (λ a. not (eqb a.kind kind)) xs) (filter (λ a. not (eqb a.kind kind)) xs))
-        ≡ cond (not b) (attribute_view a ∷ without_attribute kind (map attribute_view xs)) (without_attribute kind (map attribute_view xs))
+    by_test : (b : Bool) → map attribute_view (filter (λ a. not (eqb a.kind kind)) xs) ≡ attributes_without_attribute kind (map attribute_view xs) → map attribute_view (cond (not b) (a ∷ filter (λ a. not (eqb a.kind kind)) xs) (filter (λ a. not (eqb a.kind kind)) xs))
+        ≡ cond (not b) (attribute_view a ∷ attributes_without_attribute kind (map attribute_view xs)) (attributes_without_attribute kind (map attribute_view xs))
     by_test true rest = rest
     by_test false rest = ap (λ (ys : Attributes). attribute_view a ∷ ys) rest
 
@@ -82,6 +82,6 @@ one_more xs ys n e = rw (e, append_assoc xs (replicate n empty_slot) (empty_slot
 
 -- a slot that is changed in the code is changed as it is seen
 pub changed_is : (f : RawSlot → RawSlot) (xs : List Slot) (i : ℕ) (x y : Slot) → i < length xs → x ≡ get_or xs i x → slot_view y ≡ f (slot_view x)
-    → map slot_view (set xs i y) ≡ with_slot_changed f (map slot_view xs) i
+    → map slot_view (set xs i y) ≡ raw_slots_after_slot_change f (map slot_view xs) i
 changed_is f xs i x y lt is new =
     map-set slot_view xs i y ∙ ap (set (map slot_view xs) i) (new ∙ ap f (ap slot_view is ∙ sym (get_or-map slot_view xs i x empty_slot lt)))

@@ -4,12 +4,12 @@ use Rattle.std.specs.Int.Bits.{bit_xor, xor_zero_r, xor_shifted, xor_assoc}
 use Rattle.std.proofs.lemmas.Bool.{eqb-true}
 use Rattle.std.proofs.lemmas.Nat.{xor_comm, xor_shr, xor_mod}
 use Rattle.std.proofs.Math.Nat.{pow-suc}
-use Rattle.lfs_model.specs.Crc.{next_bit, next_bits}
+use Rattle.lfs_model.specs.Crc.{crc_after_bit, next_bits}
 use Rattle.lfs_tag.specs.declared.crc_table.TheConstants.{AFTER}
 
 -- the lowest bit alone decides what is mixed in, and the others move down
-next_bit-xor : (x y : ℕ) → y % 2 ≡ 0 → next_bit (bit_xor x y) ≡ bit_xor (next_bit x) (y / 2)
-next_bit-xor x y even =
+crc_after_bit-xor : (x y : ℕ) → y % 2 ≡ 0 → crc_after_bit (bit_xor x y) ≡ bit_xor (crc_after_bit x) (y / 2)
+crc_after_bit-xor x y even =
     let low : bit_xor x y % 2 ≡ x % 2 = xor_mod x y 1 ∙ rw even (xor_zero_r (x % 2)) in
     rw (low, xor_shr x y 1) (by_test (eqb (x % 2) 1) (x / 2) (y / 2))
   where
@@ -24,7 +24,7 @@ next_bits-xor (suc n) x a =
     let e : a * 2 ^ suc n ≡ a * 2 ^ n * 2 = rw pow-suc (omega arith) in
     let even : a * 2 ^ suc n % 2 ≡ 0 = omega (arith, e) in
     let half : a * 2 ^ suc n / 2 ≡ a * 2 ^ n = omega (arith, e) in
-    rw (next_bit-xor x (a * 2 ^ suc n) even, half) (next_bits-xor n (next_bit x) a)
+    rw (crc_after_bit-xor x (a * 2 ^ suc n) even, half) (next_bits-xor n (crc_after_bit x) a)
 
 -- eight steps by the lowest byte
 pub by_low_byte : (x : ℕ) → next_bits 8 x ≡ bit_xor (x / 256) (next_bits 8 (x % 256))

@@ -4,14 +4,14 @@ use Rattle.std.specs.Int.Bits.{bit_xor, xor_zero_r, xor_shifted, xor_assoc}
 use Rattle.std.proofs.lemmas.Bool.{cases_lt}
 use Rattle.std.proofs.lemmas.Nat.{xor_comm, xor_shr, xor_mod}
 use Rattle.byteorder.specs.Endian.{little_from}
-use Rattle.lfs_model.specs.Crc.{next_bit, next_bits, crc_of}
+use Rattle.lfs_model.specs.Crc.{crc_after_bit, next_bits, crc_of}
 use Rattle.lfs_model.proofs.Checksums.{xor_swap, AreBytes}
 use Rattle.lfs_tag.proofs.Table.{by_low_byte, next_bits-xor}
 
 -- ---- the steps are linear
 
-next_bit-sum : (x y : ℕ) → next_bit (bit_xor x y) ≡ bit_xor (next_bit x) (next_bit y)
-next_bit-sum x y = by_low (low_cases x) (low_cases y)
+crc_after_bit-sum : (x y : ℕ) → crc_after_bit (bit_xor x y) ≡ bit_xor (crc_after_bit x) (crc_after_bit y)
+crc_after_bit-sum x y = by_low (low_cases x) (low_cases y)
   where
     low_cases : (n : ℕ) → (n % 2 ≡ 0) ⊎ (n % 2 ≡ 1)
     low_cases n = elim (cases_lt (n % 2) 1) [
@@ -19,7 +19,7 @@ next_bit-sum x y = by_low (low_cases x) (low_cases y)
       | inr le ↦ inr (omega arith)
     ]
 
-    by_low : ((x % 2 ≡ 0) ⊎ (x % 2 ≡ 1)) → ((y % 2 ≡ 0) ⊎ (y % 2 ≡ 1)) → next_bit (bit_xor x y) ≡ bit_xor (next_bit x) (next_bit y)
+    by_low : ((x % 2 ≡ 0) ⊎ (x % 2 ≡ 1)) → ((y % 2 ≡ 0) ⊎ (y % 2 ≡ 1)) → crc_after_bit (bit_xor x y) ≡ bit_xor (crc_after_bit x) (crc_after_bit y)
     by_low (inl a) (inl b) = let low : bit_xor x y % 2 ≡ 0 = xor_mod x y 1 ∙ rw (a, b) refl in rw (low, a, b, xor_shr x y 1) refl
     by_low (inl a) (inr b) = let low : bit_xor x y % 2 ≡ 1 = xor_mod x y 1 ∙ rw (a, b) refl in rw (low, a, b, xor_shr x y 1) (xor_assoc (x / 2) (y / 2) 0xedb88320)
     by_low (inr a) (inl b) = let low : bit_xor x y % 2 ≡ 1 = xor_mod x y 1 ∙ rw (a, b) refl in
@@ -30,12 +30,12 @@ next_bit-sum x y = by_low (low_cases x) (low_cases y)
 pub next_bits-sum : (n x y : ℕ) → next_bits n (bit_xor x y) ≡ bit_xor (next_bits n x) (next_bits n y)
 unfolding next_bits
 next_bits-sum zero x y = refl
-next_bits-sum (suc n) x y = rw (next_bit-sum x y) (next_bits-sum n (next_bit x) (next_bit y))
+next_bits-sum (suc n) x y = rw (crc_after_bit-sum x y) (next_bits-sum n (crc_after_bit x) (crc_after_bit y))
 
 pub next_bits-append : (m n x : ℕ) → next_bits (m + n) x ≡ next_bits n (next_bits m x)
 unfolding next_bits
 next_bits-append zero n x = rw (zero-add n) refl
-next_bits-append (suc m) n x = let e : suc m + n ≡ suc (m + n) = omega arith in rw e (next_bits-append m n (next_bit x))
+next_bits-append (suc m) n x = let e : suc m + n ≡ suc (m + n) = omega arith in rw e (next_bits-append m n (crc_after_bit x))
 
 -- ---- a word by its bytes
 

@@ -1,14 +1,14 @@
 -- A commit that is being built, and what its pages make of a block's log.
 use Rattle.std.specs.Prelude.{◌≡◌, ◌<◌, ◌≤◌, ℕ, ◌+◌, ◌-◌, List, [], ◌∷◌, ◌++◌, length, drop, replicate, Option, Some, None, unwrap_or}
-use Rattle.lfs_model.specs.Tag.{class_of, tag_with, carried}
-use Rattle.lfs_model.specs.Log.{LogEntry, chain_of, revision_of}
-use Rattle.lfs_model.specs.Commit.{entries_size, page_end, next_four_bytes, checksum_type}
+use Rattle.lfs_model.specs.Tag.{class_of, tag_of_type_id_and_length, carried}
+use Rattle.lfs_model.specs.Log.{LogEntry, chain_of, revision_of_block}
+use Rattle.lfs_model.specs.Commit.{encoded_size_of_log_entries, page_aligned_commit_end, four_bytes_from_offset, checksum_type_before_bytes}
 use Rattle.lfs_model.specs.EntryTypes.{no_id}
-use Rattle.lfs_model.specs.Blocks.{overwritten}
+use Rattle.lfs_model.specs.Blocks.{bytes_after_overwrite_at}
 
 -- The entries so far, for a buffer of `room` bytes. `previous` is what the commit's first tag is decoded with. A block's first
 -- commit has the block's revision.
-pub record Building : Type 0 where
+pub record CommitBeingBuilt : Type 0 where
   pub page : ℕ
   pub room : ℕ
   pub previous : ℕ
@@ -16,8 +16,8 @@ pub record Building : Type 0 where
   pub entries : List LogEntry
 
 -- the commit with an entry more
-abbrev pub with_entry : LogEntry → Building → Building
-with_entry e b = record b { entries = b.entries ++ e ∷ [] }
+abbrev pub commit_with_one_more_entry : LogEntry → CommitBeingBuilt → CommitBeingBuilt
+commit_with_one_more_entry e b = record b { entries = b.entries ++ e ∷ [] }
 
 -- the revision is before the first entry
 abbrev pub entries_start : Option ℕ → ℕ
@@ -25,19 +25,19 @@ entries_start None = 0
 entries_start (Some revision) = 4
 
 -- where the checksum's tag is
-abbrev pub checksum_start : Building → ℕ
-checksum_start b = entries_start b.revision + entries_size b.entries
+abbrev pub checksum_start : CommitBeingBuilt → ℕ
+checksum_start b = entries_start b.revision + encoded_size_of_log_entries b.entries
 
-abbrev pub padded_end : Building → ℕ
-padded_end b = page_end b.page (checksum_start b)
+abbrev pub padded_end : CommitBeingBuilt → ℕ
+padded_end b = page_aligned_commit_end b.page (checksum_start b)
 
 -- ---- the checksum's entry
 
-abbrev pub checksum_tag : Building → Option (List ℕ) → ℕ
-checksum_tag b next = tag_with (checksum_type next) no_id (padded_end b - checksum_start b - 4)
+abbrev pub checksum_tag : CommitBeingBuilt → Option (List ℕ) → ℕ
+checksum_tag b next = tag_of_type_id_and_length (checksum_type_before_bytes next) no_id (padded_end b - checksum_start b - 4)
 
 -- its bytes are the checksum and the padding
-abbrev pub checksum_entry : Building → Option (List ℕ) → List ℕ → LogEntry
+abbrev pub checksum_entry : CommitBeingBuilt → Option (List ℕ) → List ℕ → LogEntry
 checksum_entry b next pages = record { tag = checksum_tag b next; bytes = drop (checksum_start b + 4) pages }
 
 -- ---- the log
@@ -54,14 +54,14 @@ commits_before (Some revision) block = []
 
 -- Pages that are the commit. In the block they are before the bytes `next`. Then the log has the earlier commits and exactly this
 -- one.
-pub record AreCommitted (b : Building) (next : Option (List ℕ)) (pages : List ℕ) : Type 0 where
-  pub log : (block : List ℕ) (at : ℕ) → CommitIsAt b.revision b.previous block at → at + length pages ≤ length block → next_four_bytes block (at + length pages) ≡ next
-      → chain_of (overwritten block at pages) ≡ record {
+pub record ArePagesOfCommit (b : CommitBeingBuilt) (next : Option (List ℕ)) (pages : List ℕ) : Type 0 where
+  pub log : (block : List ℕ) (at : ℕ) → CommitIsAt b.revision b.previous block at → at + length pages ≤ length block → four_bytes_from_offset block (at + length pages) ≡ next
+      → chain_of (bytes_after_overwrite_at block at pages) ≡ record {
         commits = commits_before b.revision block ++ (b.entries ++ checksum_entry b next pages ∷ []) ∷ [];
         end = at + length pages;
         last = carried (checksum_tag b next);
       }
   pub revision : (block : List ℕ) (at : ℕ) → CommitIsAt b.revision b.previous block at → at + length pages ≤ length block
-      → revision_of (overwritten block at pages) ≡ unwrap_or b.revision (revision_of block)
+      → revision_of_block (bytes_after_overwrite_at block at pages) ≡ unwrap_or b.revision (revision_of_block block)
   pub class : class_of (checksum_tag b next) ≡ 5
   pub padding : drop (checksum_start b + 8) pages ≡ replicate (padded_end b - (checksum_start b + 8)) 0xff

@@ -6,16 +6,16 @@ use Rattle.lfs_device.specs.declared.error.Error.{Error}
 use Rattle.lfs_device.specs.declared.error.Error.TheVariants.{Corrupt, NoMemory}
 
 -- The error is that of a malformed log, or of memory that wasn't granted, which may come at any log.
-abbrev pub ContentFails : {S : Type 0} → ContentError → Option S → Type 0
-ContentFails errors.NoMemory o = Unit {0}
-ContentFails errors.Malformed o = o ≡ None
+abbrev pub IsErrorOfReadingContent : {S : Type 0} → ContentError → Option S → Type 0
+IsErrorOfReadingContent errors.NoMemory o = Unit {0}
+IsErrorOfReadingContent errors.Malformed o = o ≡ None
 
 -- the value that was computed is left, unless memory ran out
-abbrev pub GivesValue : {X S : Type 0} → (X → S) → Result X ContentError → Option S → Type 0
-GivesValue view (Ok x) o = o ≡ Some (view x)
-GivesValue view (Err e) o = ContentFails e o
+abbrev pub GivesValueUnlessNoMemory : {X S : Type 0} → (X → S) → Result X ContentError → Option S → Type 0
+GivesValueUnlessNoMemory view (Ok x) o = o ≡ Some (view x)
+GivesValueUnlessNoMemory view (Err e) o = IsErrorOfReadingContent e o
 
 -- the same as the file system's error
-abbrev pub error_of : ContentError → Error
-error_of errors.Malformed = Corrupt
-error_of errors.NoMemory = NoMemory
+abbrev pub error_of_content_error : ContentError → Error
+error_of_content_error errors.Malformed = Corrupt
+error_of_content_error errors.NoMemory = NoMemory

@@ -1,7 +1,7 @@
 -- The content of the code, as the definitions have it: without where its bytes are in memory.
 use Rattle.std.specs.Prelude.{ℕ, suc, if◌then◌else◌, nat_le, List, [], ◌∷◌, map}
 use Rattle.std.specs.Option.{option_map}
-use Rattle.lfs_model.specs.Slots.{Attributes, address_of}
+use Rattle.lfs_model.specs.Slots.{Attributes, pair_address_of_array}
 use Rattle.lfs_model.specs.Slots as slots
 use Rattle.lfs_model.specs.Content.{RawSlot, RawContent}
 use Rattle.lfs_tag.specs.declared.content.Part.{Part}
@@ -25,7 +25,7 @@ slot_view s = record {
 }
 
 abbrev pub tail_view : Tail → slots.Tail
-tail_view t = record { hard = t.hard; to = address_of t.pair }
+tail_view t = record { hard = t.hard; to = pair_address_of_array t.pair }
 
 abbrev pub content_view : Content → RawContent
 content_view c = record {
@@ -35,6 +35,6 @@ content_view c = record {
 }
 
 -- the place of the first attribute of a type or a greater one, or the length
-abbrev pub first_not_below : ℕ → Attributes → ℕ
-first_not_below type [] = 0
-first_not_below type (a ∷ others) = if nat_le type a.0 then 0 else suc (first_not_below type others)
+abbrev pub index_for_attribute : ℕ → Attributes → ℕ
+index_for_attribute type [] = 0
+index_for_attribute type (a ∷ others) = if nat_le type a.0 then 0 else suc (index_for_attribute type others)

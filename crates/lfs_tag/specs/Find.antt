@@ -10,51 +10,51 @@ use Rattle.lfs_model.specs.Log.{LogEntry}
 use Rattle.lfs_model.specs.Names.{Name, name_cmp}
 use Rattle.lfs_model.specs.Content.{RawSlot}
 use Rattle.lfs_model.specs.EntryTypes.{create_type, superblock_name_type}
-use Rattle.lfs_model.specs.Lookup.{entry_name}
+use Rattle.lfs_model.specs.Lookup.{name_of_slot_unless_superblock}
 
 -- the order of a wanted name and a slot's; none where the slot has no name that is looked up
-abbrev pub rank_of : NameOrder → Name → RawSlot → Option Ordering
-rank_of order name s = option_map (name_cmp order name) (entry_name s)
+abbrev pub name_ordering_of_slot : NameOrder → Name → RawSlot → Option Ordering
+name_ordering_of_slot order name s = option_map (name_cmp order name) (name_of_slot_unless_superblock s)
 
 -- the order of the wanted name and the name that an entry gives a slot
-abbrev pub entry_rank : NameOrder → Name → LogEntry → Option Ordering
-entry_rank order name e = if kind_of e.tag == superblock_name_type then None else Some (name_cmp order name e.bytes)
+abbrev pub name_ordering_of_entry : NameOrder → Name → LogEntry → Option Ordering
+name_ordering_of_entry order name e = if kind_of e.tag == superblock_name_type then None else Some (name_cmp order name e.bytes)
 
-abbrev pub ranks_up_to : List (Option Ordering) → ℕ → List (Option Ordering)
-ranks_up_to ranks id = ranks ++ replicate (id + 1 - length ranks) None
+abbrev pub name_orderings_up_to_id : List (Option Ordering) → ℕ → List (Option Ordering)
+name_orderings_up_to_id ranks id = ranks ++ replicate (id + 1 - length ranks) None
 
 -- the ranks after a create or a delete
-abbrev pub ranks_after_splice : List (Option Ordering) → LogEntry → List (Option Ordering)
-ranks_after_splice ranks e =
+abbrev pub name_orderings_after_splice : List (Option Ordering) → LogEntry → List (Option Ordering)
+name_orderings_after_splice ranks e =
     if kind_of e.tag == create_type
     then (if nat_le (id_of e.tag) (length ranks) then insert ranks (id_of e.tag) None else ranks)
     else (if nat_lt (id_of e.tag) (length ranks) then remove ranks (id_of e.tag) else ranks)
 
 -- the ranks after an entry, and after all of these
-abbrev pub ranks_after : NameOrder → Name → List (Option Ordering) → LogEntry → List (Option Ordering)
-ranks_after order name ranks e =
-    if class_of e.tag == 0 then slice_set (ranks_up_to ranks (id_of e.tag)) (id_of e.tag) (entry_rank order name e)
-    else (if class_of e.tag == 4 then ranks_after_splice ranks e else ranks)
+abbrev pub name_orderings_after_entry : NameOrder → Name → List (Option Ordering) → LogEntry → List (Option Ordering)
+name_orderings_after_entry order name ranks e =
+    if class_of e.tag == 0 then slice_set (name_orderings_up_to_id ranks (id_of e.tag)) (id_of e.tag) (name_ordering_of_entry order name e)
+    else (if class_of e.tag == 4 then name_orderings_after_splice ranks e else ranks)
 
-abbrev pub ranks_after_all : NameOrder → Name → List (Option Ordering) → List LogEntry → List (Option Ordering)
-ranks_after_all order name ranks [] = ranks
-ranks_after_all order name ranks (e ∷ es) = ranks_after_all order name (ranks_after order name ranks e) es
+abbrev pub name_orderings_after_entries : NameOrder → Name → List (Option Ordering) → List LogEntry → List (Option Ordering)
+name_orderings_after_entries order name ranks [] = ranks
+name_orderings_after_entries order name ranks (e ∷ es) = name_orderings_after_entries order name (name_orderings_after_entry order name ranks e) es
 
 -- ---- the first slot
 
 -- the wanted rank: of the name itself, or of a greater one
-abbrev pub is_wanted : Bool → Ordering → Bool
-is_wanted same Less = not same
-is_wanted same Equal = same
-is_wanted same Greater = false
+abbrev pub is_wanted_ordering : Bool → Ordering → Bool
+is_wanted_ordering same Less = not same
+is_wanted_ordering same Equal = same
+is_wanted_ordering same Greater = false
 
-abbrev pub is_skipped : Option ℕ → ℕ → Bool
-is_skipped skip id = option_map_or (λ k. k == id) skip false
+abbrev pub is_skipped_id : Option ℕ → ℕ → Bool
+is_skipped_id skip id = option_map_or (λ k. k == id) skip false
 
-abbrev pub is_first : Bool → Option ℕ → ℕ → Option Ordering → Bool
-is_first same skip id rank = option_map_or (is_wanted same) rank false && not (is_skipped skip id)
+abbrev pub is_wanted_slot : Bool → Option ℕ → ℕ → Option Ordering → Bool
+is_wanted_slot same skip id rank = option_map_or (is_wanted_ordering same) rank false && not (is_skipped_id skip id)
 
 -- the first wanted one of the slots from an id on, or the number of slots
-abbrev pub first_from : Bool → Option ℕ → ℕ → List (Option Ordering) → ℕ
-first_from same skip id [] = id
-first_from same skip id (rank ∷ ranks) = if is_first same skip id rank then id else first_from same skip (id + 1) ranks
+abbrev pub first_wanted_slot_from : Bool → Option ℕ → ℕ → List (Option Ordering) → ℕ
+first_wanted_slot_from same skip id [] = id
+first_wanted_slot_from same skip id (rank ∷ ranks) = if is_wanted_slot same skip id rank then id else first_wanted_slot_from same skip (id + 1) ranks

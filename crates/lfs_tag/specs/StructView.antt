@@ -1,8 +1,8 @@
 -- What the code makes of a slot's struct, in the words of the definitions.
 use Rattle.std.specs.Prelude.{ℕ, ◌==◌, ◌&&◌, ◌||◌, if◌then◌else◌, Bool, List, length, Option, Some, None}
-use Rattle.lfs_model.specs.Content.{struct_typed}
+use Rattle.lfs_model.specs.Content.{struct_of_type_and_bytes}
 use Rattle.lfs_model.specs.EntryTypes.{ctz_struct_type, directory_struct_type, inline_struct_type}
-use Rattle.lfs_model.specs.Slots.{address_of}
+use Rattle.lfs_model.specs.Slots.{pair_address_of_array}
 use Rattle.lfs_model.specs.Slots as slots
 use Rattle.lfs_tag.specs.declared.structure.Struct.{Struct}
 use Rattle.lfs_tag.specs.declared.structure.Struct.TheVariants as variant
@@ -10,7 +10,7 @@ use Rattle.lfs_tag.specs.declared.structure.Struct.TheVariants as variant
 abbrev pub struct_view : Struct → slots.Struct
 struct_view (variant.Inline bytes) = slots.Inline bytes.now
 struct_view (variant.Ctz head size) = slots.Ctz head size
-struct_view (variant.Branch to) = slots.Branch (address_of to)
+struct_view (variant.Branch to) = slots.Branch (pair_address_of_array to)
 
 -- whether a type and bytes are a struct's: bytes of a file, or 8 bytes that name a list or a pair
 abbrev pub is_struct : ℕ × List ℕ → Bool
@@ -18,4 +18,4 @@ is_struct part = part.0 == inline_struct_type || ((part.0 == ctz_struct_type || 
 
 -- what they say, where they are
 abbrev pub struct_in : ℕ × List ℕ → Option slots.Struct
-struct_in part = if is_struct part then Some (struct_typed part.0 part.1) else None
+struct_in part = if is_struct part then Some (struct_of_type_and_bytes part.0 part.1) else None

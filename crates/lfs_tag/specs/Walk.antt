@@ -1,10 +1,10 @@
 -- The entries that are left of a walk over a log.
 use Rattle.std.specs.Prelude.{List}
 use Rattle.lfs_tag.specs.declared.entries.Entries.TheInside.{Inside}
-use Rattle.lfs_model.specs.Log.{LogEntry, IsEntryRun, entries_between}
+use Rattle.lfs_model.specs.Log.{LogEntry, AreLogEntriesBetweenOffsets, log_entries_between_offsets}
 
-abbrev pub entries_to_walk : Inside → List LogEntry
-entries_to_walk s = entries_between s.block.now s.at s.before s.end
+abbrev pub entries_left_to_walk : Inside → List LogEntry
+entries_left_to_walk s = log_entries_between_offsets s.block.now s.at s.before s.end
 
-pub record IsLeftToWalk (s : Inside) : Type 0 where
-  pub run : IsEntryRun s.block.now s.at s.before (entries_to_walk s) s.end s.last
+pub record HasEntriesLeftToWalk (s : Inside) : Type 0 where
+  pub run : AreLogEntriesBetweenOffsets s.block.now s.at s.before (entries_left_to_walk s) s.end s.last

@@ -4,12 +4,12 @@ ghost use Rattle.std.specs.Prelude.{◌≡◌, ℕ, IfSome, slice_index, ◌≢�
 ghost use Rattle.byteorder.specs.Endian.{big_bytes, little_bytes};
 ghost use Rattle.lfs_model.specs.Crc.{crc_of};
 ghost use Rattle.lfs_model.specs.Log.{LogEntry};
-ghost use Rattle.lfs_model.specs.Tag.{IsValid, class_of, data_size, tag_with, carried};
-ghost use Rattle.lfs_model.specs.Geometry.{is_page};
+ghost use Rattle.lfs_model.specs.Tag.{IsValidTag, class_of, tag_data_size, tag_of_type_id_and_length, carried};
+ghost use Rattle.lfs_model.specs.Geometry.{is_valid_page_size};
 ghost use Rattle.lfs_model.specs.EntryTypes.{no_id};
-ghost use Rattle.lfs_model.specs.Blocks.{overwritten};
-ghost use Rattle.lfs_model.specs.Commit.{checksum_type};
-ghost use Rattle.lfs_tag.specs.Builder.{with_entry, padded_end, checksum_tag as checksum_entry_tag, AreCommitted};
+ghost use Rattle.lfs_model.specs.Blocks.{bytes_after_overwrite_at};
+ghost use Rattle.lfs_model.specs.Commit.{checksum_type_before_bytes};
+ghost use Rattle.lfs_tag.specs.Builder.{commit_with_one_more_entry, padded_end, checksum_tag as checksum_entry_tag, ArePagesOfCommit};
 
 use crate::crc;
 use crate::kinds::{CHECKSUM, TURNED_CHECKSUM};
@@ -35,15 +35,15 @@ pub struct CommitBuilder<'a> {
 }
 
 impl<'a> Model for CommitBuilder<'a> {
-    ghost use Rattle.lfs_tag.specs.Builder.{Building};
+    ghost use Rattle.lfs_tag.specs.Builder.{CommitBeingBuilt};
 
-    ghost Value = { Building };
+    ghost Value = { CommitBeingBuilt };
 
-    ghost use Rattle.lfs_tag.specs.BuilderView.{building_view, IsBuilt};
+    ghost use Rattle.lfs_tag.specs.BuilderView.{commit_being_built_view, IsConsistentBuilder};
 
-    ghost view = { building_view };
+    ghost view = { commit_being_built_view };
 
-    ghost invariant = { IsBuilt };
+    ghost invariant = { IsConsistentBuilder };
 }
 
 // Writes the revision of a block where there is room. Returns how many bytes it takes.
@@ -61,7 +61,7 @@ fn write_revision(buf: &mut [u8], revision: u32) -> usize
 // Writes a stored tag and the bytes after it.
 fn put_entry(buf: &mut [u8], at: usize, stored: u32, bytes: &[u8])
     requires { at + 4 + length bytes.now ≤ length buf.old }
-    ensures { buf.new ≡ overwritten buf.old at (big_bytes 4 stored ++ bytes.now) }
+    ensures { buf.new ≡ bytes_after_overwrite_at buf.old at (big_bytes 4 stored ++ bytes.now) }
 {
     BigEndian::write_u32(&mut buf[at..], stored);
     let start = at + 4;
@@ -74,7 +74,7 @@ fn write_entry(buf: &mut [u8], at: usize, stored: u32, bytes: &[u8]) -> usize
     ensures exact { result ≤ length buf.old → result ≡ at + 4 + length bytes.now }
     ensures len { length buf.new ≡ length buf.old }
     ensures bytes { result ≤ length buf.old
-        → buf.new ≡ overwritten buf.old at (big_bytes 4 stored ++ bytes.now) }
+        → buf.new ≡ bytes_after_overwrite_at buf.old at (big_bytes 4 stored ++ bytes.now) }
 {
     let end = at.saturating_add(4).saturating_add(bytes.len());
     if end <= buf.len() {
@@ -84,12 +84,12 @@ fn write_entry(buf: &mut [u8], at: usize, stored: u32, bytes: &[u8]) -> usize
 }
 
 // Writes the checksum's stored tag, the checksum of all bytes before it, and the padding.
-fn seal(buf: &mut [u8], at: usize, stored: u32, end: usize)
+fn write_checksum_and_padding(buf: &mut [u8], at: usize, stored: u32, end: usize)
     requires room { at + 8 ≤ end }
     requires within { end ≤ length buf.old }
     ensures fits { crc_of 0xffffffff (take at buf.old ++ big_bytes 4 stored) < 2 ^ 32 }
     ensures bytes { let sum = crc_of 0xffffffff (take at buf.old ++ big_bytes 4 stored) in
-        buf.new ≡ overwritten buf.old at (big_bytes 4 stored
+        buf.new ≡ bytes_after_overwrite_at buf.old at (big_bytes 4 stored
         ++ (little_bytes 4 sum ++ replicate (end - (at + 8)) 255)) }
 {
     BigEndian::write_u32(&mut buf[at..], stored);
@@ -101,7 +101,7 @@ fn seal(buf: &mut [u8], at: usize, stored: u32, end: usize)
 // Returns the checksum's tag for so many bytes.
 fn checksum_tag(next: Option<[u8; 4]>, size: usize) -> Tag
     requires { size < 2 ^ 10 }
-    ensures tag { result ≡ tag_with (checksum_type next) no_id size }
+    ensures tag { result ≡ tag_of_type_id_and_length (checksum_type_before_bytes next) no_id size }
     ensures bytes { IfSome next (λ next. (i : ℕ) → slice_index next i < 256) }
 {
     let turns = match next {
@@ -124,7 +124,7 @@ impl<'a> CommitBuilder<'a> {
         previous: Tag,
         revision: Option<u32>,
     ) -> CommitBuilder<'a>
-        requires { is_page page ≡ true }
+        requires { is_valid_page_size page ≡ true }
         ensures { result ≡ record {
           page = page;
           room = length buf.old;
@@ -150,11 +150,11 @@ impl<'a> CommitBuilder<'a> {
     /// says; the length 0x3ff says none. Bytes that don't fit the buffer are only counted, and then
     /// [`finish`](CommitBuilder::finish) fails.
     pub fn push(&mut self, tag: Tag, bytes: &[u8])
-        requires valid { IsValid tag }
+        requires valid { IsValidTag tag }
         requires other { class_of tag ≢ 5 }
-        requires bytes { length bytes.now ≡ data_size tag }
+        requires bytes { length bytes.now ≡ tag_data_size tag }
         ensures { let entry : LogEntry = record { tag = tag; bytes = bytes.now } in
-            self.new ≡ with_entry entry self.old }
+            self.new ≡ commit_with_one_more_entry entry self.old }
     {
         let stored = tag.encode(self.last);
         let buf = &mut *self.buf;
@@ -203,7 +203,7 @@ impl<'a> CommitBuilder<'a> {
         ensures fits { IsOk result ↔ (padded_end self.entry ≤ self.entry.room) }
         ensures error { IfErr result (λ e. e ≡ Error.TooBig) }
         ensures size { IfOk result (λ pages. length pages.now ≡ padded_end self.entry) }
-        ensures commit { IfOk result (λ pages. AreCommitted self.entry next pages.now) }
+        ensures commit { IfOk result (λ pages. ArePagesOfCommit self.entry next pages.now) }
     {
         let end = self.padded_end();
         let CommitBuilder {
@@ -217,7 +217,7 @@ impl<'a> CommitBuilder<'a> {
             return Err(Error::TooBig);
         }
         let tag = checksum_tag(next, end - (len + 4));
-        seal(buf, len, tag.encode(last), end);
+        write_checksum_and_padding(buf, len, tag.encode(last), end);
         Ok(&buf[..end])
     }
 }

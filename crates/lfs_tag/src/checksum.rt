@@ -1,9 +1,9 @@
 // The checksum of bytes.
 
 ghost use Rattle.std.specs.Prelude.{◌≡◌, ℕ, ◌^◌, ◌<◌};
-ghost use Rattle.lfs_model.specs.Crc.{crc_of, IsChecksum};
+ghost use Rattle.lfs_model.specs.Crc.{crc_of, IsCrcOfBytes};
 
-use crate::crc_table::{after_byte, after_eight};
+use crate::crc_table::{crc_after_eight_bits, crc_after_eight_bytes};
 
 /// Returns the CRC-32 of bytes that follow those with the checksum `start`: polynomial 0x04c11db7,
 /// lowest bit first. Nothing is inverted. So the checksum of a commit begins at 0xffff_ffff and
@@ -12,26 +12,26 @@ pub fn crc(start: u32, bytes: &[u8]) -> u32
     // The result is the computed form, for the checksum of parts.
     ensures value { result ≡ crc_of start bytes.now }
     // The result is the remainder of the polynomials.
-    ensures remainder { IsChecksum start bytes.now result }
+    ensures remainder { IsCrcOfBytes start bytes.now result }
     // No other number is.
-    ensures only { (other : ℕ) → other < 2 ^ 32 → IsChecksum start bytes.now other → other ≡ result }
+    ensures only { (other : ℕ) → other < 2 ^ 32 → IsCrcOfBytes start bytes.now other → other ≡ result }
 {
     let mut sum = start;
     let mut rest = bytes;
     while rest.len() >= 8 {
-        sum = after_eight(sum, rest);
+        sum = crc_after_eight_bytes(sum, rest);
         rest = &rest[8..];
     }
-    after_bytes(sum, rest)
+    crc_after_bytes(sum, rest)
 }
 
 // Computes the checksum byte by byte.
-fn after_bytes(start: u32, bytes: &[u8]) -> u32
+fn crc_after_bytes(start: u32, bytes: &[u8]) -> u32
     ensures { result ≡ crc_of start bytes.now }
 {
     let mut sum = start;
     for byte in bytes {
-        sum = after_byte(sum ^ u32::from(*byte));
+        sum = crc_after_eight_bits(sum ^ u32::from(*byte));
     }
     sum
 }

@@ -2,15 +2,15 @@
 
 ghost use Rattle.std.specs.Prelude.{◌≡◌, ℕ, ◌+◌, ◌≤◌, ◌<◌, ◌++◌, List, [], ◌∷◌, length, map, OnOk, IfOk, IsTrue, replicate, remove, insert, slice_set, vec_len, is_some, filter, not, ◌==◌, Some, None};
 ghost use Rattle.std.specs.Option.{option_map};
-ghost use Rattle.lfs_model.specs.Tag.{kind_of, data_size};
-ghost use Rattle.lfs_model.specs.Log.{LogEntry, log_entries};
-ghost use Rattle.lfs_model.specs.EntryTypes.{is_in_table, has_its_id, tail_of};
-ghost use Rattle.lfs_model.specs.Content.{put_attribute, without_attribute, with_attribute, empty_slot, slot_of_id, with_slot_changed, slots_up_to, part_of_entry, slots_after, content_after, content_after_all, no_content};
-ghost use Rattle.lfs_model.specs.Thread.{is_hard};
+ghost use Rattle.lfs_model.specs.Tag.{kind_of, tag_data_size};
+ghost use Rattle.lfs_model.specs.Log.{LogEntry, log_entries_of_block};
+ghost use Rattle.lfs_model.specs.EntryTypes.{is_known_type_and_length, has_id_if_needed, tail_of};
+ghost use Rattle.lfs_model.specs.Content.{attributes_with_attribute, attributes_without_attribute, attributes_after_entry, empty_slot, slot_of_id, raw_slots_after_slot_change, slots_padded_to_id, type_and_bytes_of_entry, slots_after_log_entry, content_after_log_entry, content_after_log_entries, empty_raw_content};
+ghost use Rattle.lfs_model.specs.Thread.{is_hard_tail};
 ghost use Rattle.lfs_tag.specs.LogEntryView.{log_entry_view};
 ghost use Rattle.lfs_tag.specs.FieldsView.{move_view};
-ghost use Rattle.lfs_tag.specs.ContentView.{part_view, attribute_view, slot_view, tail_view, content_view, first_not_below};
-ghost use Rattle.lfs_tag.specs.ContentGives.{GivesValue};
+ghost use Rattle.lfs_tag.specs.ContentView.{part_view, attribute_view, slot_view, tail_view, content_view, index_for_attribute};
+ghost use Rattle.lfs_tag.specs.ContentGives.{GivesValueUnlessNoMemory};
 
 use crate::entry::Entry;
 use crate::fields::{MoveState, NULL_ADDRESS, move_at, pair_at};
@@ -57,7 +57,7 @@ pub struct Tail {
 
 /// Returns whether the directory continues after this pair: there is a tail, and it is hard.
 pub fn is_hard(tail: Option<Tail>) -> bool
-    ensures { result ≡ is_hard (option_map tail_view tail) }
+    ensures { result ≡ is_hard_tail (option_map tail_view tail) }
 {
     match tail {
         None => false,
@@ -96,9 +96,9 @@ impl From<AllocError> for ContentError {
 
 /// Converts to the file system's error: a malformed log is `Corrupt`.
 impl From<ContentError> for Error {
-    ghost use Rattle.lfs_tag.specs.ContentGives.{error_of};
+    ghost use Rattle.lfs_tag.specs.ContentGives.{error_of_content_error};
 
-    ghost from_gives = { λ c e. e ≡ error_of c };
+    ghost from_gives = { λ c e. e ≡ error_of_content_error c };
 
     fn from(error: ContentError) -> Error {
         match error {
@@ -110,7 +110,7 @@ impl From<ContentError> for Error {
 
 // Returns whether the format has a tag's type, with its length.
 pub(crate) fn is_in_table(tag: Tag) -> bool
-    ensures { result ≡ is_in_table tag }
+    ensures { result ≡ is_known_type_and_length tag }
 {
     let kind = tag.kind();
     let len = tag.len();
@@ -129,7 +129,7 @@ pub(crate) fn is_in_table(tag: Tag) -> bool
 
 // Returns whether a tag that needs an id has one.
 pub(crate) fn has_its_id(tag: Tag) -> bool
-    ensures { result ≡ has_its_id tag }
+    ensures { result ≡ has_id_if_needed tag }
 {
     CHECKSUM_CLASS <= tag.class() || tag.id() != Tag::NO_ID
 }
@@ -145,8 +145,8 @@ fn empty_slot<'a>(alloc: Global) -> Slot<'a>
 }
 
 // Returns the place of the first attribute of a type or a greater one, or the length.
-fn place_of(attributes: &[Attribute<'_>], kind: u8) -> usize
-    ensures { result ≡ first_not_below kind (map attribute_view attributes.now) }
+fn index_of_attribute(attributes: &[Attribute<'_>], kind: u8) -> usize
+    ensures { result ≡ index_for_attribute kind (map attribute_view attributes.now) }
 {
     for (i, attribute) in attributes.iter().enumerate() {
         if kind <= attribute.kind {
@@ -161,9 +161,9 @@ fn set_attribute<'a>(
     attributes: &mut Vec<Attribute<'a>>,
     attribute: Attribute<'a>,
 ) -> Result<(), AllocError>
-    ensures { OnOk result (map attribute_view attributes.new.items ≡ put_attribute attribute.entry.kind attribute.entry.bytes.now (map attribute_view attributes.old.items)) }
+    ensures { OnOk result (map attribute_view attributes.new.items ≡ attributes_with_attribute attribute.entry.kind attribute.entry.bytes.now (map attribute_view attributes.old.items)) }
 {
-    let place = place_of(attributes, attribute.kind);
+    let place = index_of_attribute(attributes, attribute.kind);
     if place < attributes.len() && attributes[place].kind == attribute.kind {
         attributes[place] = attribute;
     } else {
@@ -182,7 +182,7 @@ fn remove_attribute(attributes: &mut Vec<Attribute<'_>>, kind: u8)
 // Adds empty slots up to an id.
 fn fill_up(alloc: Global, slots: &mut Vec<Slot<'_>>, id: usize) -> Result<(), AllocError>
     requires { id < 1024 }
-    ensures filled { OnOk result (map slot_view slots.new.items ≡ slots_up_to (map slot_view slots.old.items) id) }
+    ensures filled { OnOk result (map slot_view slots.new.items ≡ slots_padded_to_id (map slot_view slots.old.items) id) }
     ensures long { OnOk result (id < vec_len slots.new) }
 {
     while slots.len() <= id {
@@ -199,7 +199,7 @@ fn put_name<'a>(
     part: Part<'a>,
 ) -> Result<(), AllocError>
     requires { id < 1024 }
-    ensures { OnOk result (map slot_view slots.new.items ≡ with_slot_changed (λ s. record s { name = Some (part_view part.entry) }) (slots_up_to (map slot_view slots.old.items) id) id) }
+    ensures { OnOk result (map slot_view slots.new.items ≡ raw_slots_after_slot_change (λ s. record s { name = Some (part_view part.entry) }) (slots_padded_to_id (map slot_view slots.old.items) id) id) }
 {
     fill_up(alloc, slots, id)?;
     let slot = &mut slots[id];
@@ -208,9 +208,9 @@ fn put_name<'a>(
 }
 
 // Gives a slot its struct.
-fn put_structure<'a>(slots: &mut Vec<Slot<'a>>, id: usize, part: Part<'a>)
+fn put_struct<'a>(slots: &mut Vec<Slot<'a>>, id: usize, part: Part<'a>)
     requires { id < vec_len slots.old }
-    ensures { map slot_view slots.new.items ≡ with_slot_changed (λ s. record s { struct = Some (part_view part.entry) }) (map slot_view slots.old.items) id }
+    ensures { map slot_view slots.new.items ≡ raw_slots_after_slot_change (λ s. record s { struct = Some (part_view part.entry) }) (map slot_view slots.old.items) id }
 {
     let slot = &mut slots[id];
     slot.structure = Some(part);
@@ -223,7 +223,7 @@ fn change_attribute<'a>(
     entry: &Entry<'a>,
 ) -> Result<(), AllocError>
     requires { id < vec_len slots.old }
-    ensures { OnOk result (map slot_view slots.new.items ≡ with_slot_changed (λ s. record s { attributes = with_attribute (log_entry_view entry.now) s.attributes }) (map slot_view slots.old.items) id) }
+    ensures { OnOk result (map slot_view slots.new.items ≡ raw_slots_after_slot_change (λ s. record s { attributes = attributes_after_entry (log_entry_view entry.now) s.attributes }) (map slot_view slots.old.items) id) }
 {
     let slot = &mut slots[id];
     let kind = entry.tag.chunk();
@@ -249,7 +249,7 @@ fn is_named(slots: &[Slot<'_>], id: usize) -> bool
 }
 
 // Inserts an empty slot.
-fn insert_empty(alloc: Global, slots: &mut Vec<Slot<'_>>, id: usize) -> Result<(), AllocError>
+fn insert_empty_slot(alloc: Global, slots: &mut Vec<Slot<'_>>, id: usize) -> Result<(), AllocError>
     requires { id ≤ vec_len slots.old }
     ensures { OnOk result (map slot_view slots.new.items ≡ insert (map slot_view slots.old.items) id empty_slot) }
 {
@@ -271,7 +271,7 @@ fn apply_to_slots<'a>(
     slots: &mut Vec<Slot<'a>>,
     entry: &Entry<'a>,
 ) -> Result<(), ContentError>
-    ensures { GivesValue (λ _. map slot_view slots.new.items) result (slots_after (map slot_view slots.old.items) (log_entry_view entry.now)) }
+    ensures { GivesValueUnlessNoMemory (λ _. map slot_view slots.new.items) result (slots_after_log_entry (map slot_view slots.old.items) (log_entry_view entry.now)) }
 {
     let kind = entry.tag.kind();
     let class = entry.tag.class();
@@ -283,7 +283,7 @@ fn apply_to_slots<'a>(
         Ok(())
     } else if kind == CREATE {
         if id <= slots.len() {
-            insert_empty(alloc, slots, id)?;
+            insert_empty_slot(alloc, slots, id)?;
             Ok(())
         } else {
             Err(ContentError::Malformed)
@@ -298,7 +298,7 @@ fn apply_to_slots<'a>(
     } else if !is_named {
         Err(ContentError::Malformed)
     } else if class == STRUCT_CLASS {
-        put_structure(slots, id, Part { kind, bytes });
+        put_struct(slots, id, Part { kind, bytes });
         Ok(())
     } else {
         change_attribute(slots, id, entry)?;
@@ -323,12 +323,12 @@ pub(crate) fn tail_of(entry: &Entry<'_>) -> Option<Tail>
 }
 
 // Applies an entry to the content.
-fn apply<'a>(
+fn apply_entry<'a>(
     alloc: Global,
     content: &mut Content<'a>,
     entry: &Entry<'a>,
 ) -> Result<(), ContentError>
-    ensures { GivesValue (λ _. content_view content.new) result (content_after (content_view content.old) (log_entry_view entry.now)) }
+    ensures { GivesValueUnlessNoMemory (λ _. content_view content.new) result (content_after_log_entry (content_view content.old) (log_entry_view entry.now)) }
 {
     let tag = entry.tag;
     let class = tag.class();
@@ -357,8 +357,8 @@ impl<'a> Content<'a> {
     /// Errors: `Malformed` exactly where the log is malformed. `NoMemory` where memory for slots
     /// and attributes isn't granted.
     pub fn read(alloc: Global, log: &Log<'a>) -> Result<Content<'a>, ContentError>
-        ensures content { IfOk result (λ c. content_after_all no_content (log_entries log.now) ≡ Some (content_view c)) }
-        ensures malformed { result ≡ Err ContentError.Malformed → content_after_all no_content (log_entries log.now) ≡ None }
+        ensures content { IfOk result (λ c. content_after_log_entries empty_raw_content (log_entries_of_block log.now) ≡ Some (content_view c)) }
+        ensures malformed { result ≡ Err ContentError.Malformed → content_after_log_entries empty_raw_content (log_entries_of_block log.now) ≡ None }
     {
         let mut content = Content {
             slots: Vec::new(alloc),
@@ -366,7 +366,7 @@ impl<'a> Content<'a> {
             move_state: MoveState::none(),
         };
         for entry in log.entries() {
-            if let Err(error) = apply(alloc, &mut content, &entry) {
+            if let Err(error) = apply_entry(alloc, &mut content, &entry) {
                 return Err(error);
             }
         }
@@ -377,9 +377,9 @@ impl<'a> Content<'a> {
     ///
     /// Errors are those of [`read`](Content::read). After an error nothing is known of the content.
     pub fn take(&mut self, alloc: Global, entry: &Entry<'a>) -> Result<(), ContentError>
-        ensures { GivesValue (λ _. content_view self.new) result (content_after (content_view self.old) (log_entry_view entry.now)) }
+        ensures { GivesValueUnlessNoMemory (λ _. content_view self.new) result (content_after_log_entry (content_view self.old) (log_entry_view entry.now)) }
     {
-        apply(alloc, self, entry)?;
+        apply_entry(alloc, self, entry)?;
         Ok(())
     }
 }

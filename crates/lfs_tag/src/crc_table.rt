@@ -266,7 +266,7 @@ const AFTER: [u32; 2048] = [
 ];
 
 // Returns the number at a place of the table.
-fn number_at(place: usize) -> u32
+fn table_number_at(place: usize) -> u32
     requires { place < 2048 }
     ensures { result ≡ slice_index AFTER place }
 {
@@ -279,18 +279,18 @@ fn after(row: usize, byte: u32) -> u32
     requires byte { byte < 256 }
     ensures { result ≡ next_bits (8 * (row + 1)) byte }
 {
-    number_at(row * 256 + byte as usize)
+    table_number_at(row * 256 + byte as usize)
 }
 
 // Makes eight steps.
-pub(crate) fn after_byte(x: u32) -> u32
+pub(crate) fn crc_after_eight_bits(x: u32) -> u32
     ensures { result ≡ next_bits 8 x }
 {
     (x >> 8) ^ after(0, x & 0xff)
 }
 
 // Returns the result of 32 steps, and eight for each row before this one, of a word.
-fn after_word(row: usize, word: u32) -> u32
+fn crc_after_word_and_rows(row: usize, word: u32) -> u32
     requires { row ≤ 4 }
     ensures { result ≡ next_bits (8 * row + 32) word }
 {
@@ -301,10 +301,10 @@ fn after_word(row: usize, word: u32) -> u32
 }
 
 // Returns the checksum after the first eight of these bytes.
-pub(crate) fn after_eight(sum: u32, bytes: &[u8]) -> u32
+pub(crate) fn crc_after_eight_bytes(sum: u32, bytes: &[u8]) -> u32
     requires { 8 ≤ length bytes.now }
     ensures { result ≡ crc_of sum (take 8 bytes.now) }
 {
-    after_word(4, sum ^ LittleEndian::read_u32(bytes))
-        ^ after_word(0, LittleEndian::read_u32(&bytes[4..]))
+    crc_after_word_and_rows(4, sum ^ LittleEndian::read_u32(bytes))
+        ^ crc_after_word_and_rows(0, LittleEndian::read_u32(&bytes[4..]))
 }

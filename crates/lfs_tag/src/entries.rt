@@ -2,9 +2,9 @@
 
 ghost use Rattle.std.specs.Prelude.{◌≡◌, ◌+◌, ◌%◌, ◌^◌, ◌≤◌, ◌<◌, List, length, drop, slice_range, bit_xor};
 ghost use Rattle.byteorder.specs.Endian.{big_number};
-ghost use Rattle.lfs_model.specs.Tag.{data_size};
+ghost use Rattle.lfs_model.specs.Tag.{tag_data_size};
 ghost use Rattle.std.specs.Iterator.{YieldsFirstBy, YieldsLastBy, item_count};
-ghost use Rattle.lfs_model.specs.Log.{chain_of, log_entries};
+ghost use Rattle.lfs_model.specs.Log.{chain_of, log_entries_of_block};
 ghost use Rattle.lfs_tag.specs.LogEntryView.{log_entry_view};
 
 use crate::entry::Entry;
@@ -29,20 +29,20 @@ impl<'a> Model for Entries<'a> {
 
     ghost Value = { List LogEntry };
 
-    ghost use Rattle.lfs_tag.specs.Walk.{entries_to_walk, IsLeftToWalk};
+    ghost use Rattle.lfs_tag.specs.Walk.{entries_left_to_walk, HasEntriesLeftToWalk};
 
-    ghost view = { entries_to_walk };
+    ghost view = { entries_left_to_walk };
 
-    ghost invariant = { IsLeftToWalk };
+    ghost invariant = { HasEntriesLeftToWalk };
 }
 
 impl<'a> Entries<'a> {
     // Returns the entries of a block's chain that ends at this place, with this last tag.
-    pub(crate) fn of_chain(block: &'a [u8], end: usize, last: Tag) -> Entries<'a>
+    pub(crate) fn of_commit_sequence(block: &'a [u8], end: usize, last: Tag) -> Entries<'a>
         requires end { end ≡ (chain_of block.now).end }
         requires last { last ≡ (chain_of block.now).last }
-        ensures value { result ≡ log_entries block.now }
-        ensures small { length (log_entries block.now) < 2 ^ 62 }
+        ensures value { result ≡ log_entries_of_block block.now }
+        ensures small { length (log_entries_of_block block.now) < 2 ^ 62 }
     {
         Entries {
             block,
@@ -92,9 +92,9 @@ impl<'a> Iterator for Entries<'a> {
 // Returns where the entry begins that ends at `end` and whose tag is carried as `last`. Returns
 // also what the tag before it is carried as.
 fn entry_before(block: &[u8], end: usize, last: Tag) -> (usize, Tag, Entry<'_>)
-    requires room { 4 + data_size (last % 2 ^ 31) ≤ end }
+    requires room { 4 + tag_data_size (last % 2 ^ 31) ≤ end }
     requires within { end ≤ length block.now }
-    ensures start { result.0 + 4 + data_size (last % 2 ^ 31) ≡ end }
+    ensures start { result.0 + 4 + tag_data_size (last % 2 ^ 31) ≡ end }
     ensures before { result.1 ≡ bit_xor (big_number 4 (drop result.0 block.now)) (last % 2 ^ 31) }
     ensures tag { result.2.tag ≡ last % 2 ^ 31 }
     ensures bytes { result.2.bytes.now ≡ slice_range block.now (result.0 + 4) end }

@@ -1,7 +1,7 @@
 // One entry of a log.
 
 ghost use Rattle.std.specs.Prelude.{◌≡◌, length};
-ghost use Rattle.lfs_model.specs.Tag.{data_size};
+ghost use Rattle.lfs_model.specs.Tag.{tag_data_size};
 
 use crate::tag::Tag;
 
@@ -10,5 +10,5 @@ use crate::tag::Tag;
 pub struct Entry<'a> {
     pub tag: Tag,
     pub bytes: &'a [u8],
-    ghost sized: { length bytes.now ≡ data_size tag },
+    ghost sized: { length bytes.now ≡ tag_data_size tag },
 }

@@ -2,12 +2,12 @@
 
 ghost use Rattle.std.specs.Prelude.{◌≡◌, ◌+◌, ◌≤◌, length, drop};
 ghost use Rattle.byteorder.specs.Endian.{little_number};
-ghost use Rattle.lfs_model.specs.Disk.{file_limit};
-ghost use Rattle.lfs_model.specs.Fresh.{superblock_bytes};
-ghost use Rattle.lfs_model.specs.Slots.{Ctz, address_of, no_gstate};
-ghost use Rattle.lfs_model.specs.EntryTypes.{pair_at, gstate_at, superblock_at, ctz_struct_type};
-ghost use Rattle.lfs_model.specs.Content.{struct_typed};
-ghost use Rattle.lfs_model.specs.WrittenContent.{fields_bytes, is_no_gstate};
+ghost use Rattle.lfs_model.specs.Disk.{file_size_limit};
+ghost use Rattle.lfs_model.specs.Fresh.{superblock_struct_bytes};
+ghost use Rattle.lfs_model.specs.Slots.{Ctz, pair_address_of_array, zero_gstate};
+ghost use Rattle.lfs_model.specs.EntryTypes.{pair_address_of_bytes, gstate_of_bytes, superblock_fields_at, ctz_struct_type};
+ghost use Rattle.lfs_model.specs.Content.{struct_of_type_and_bytes};
+ghost use Rattle.lfs_model.specs.WrittenContent.{superblock_fields_bytes, is_zero_gstate};
 ghost use Rattle.lfs_tag.specs.FieldsView.{superblock_view, move_view};
 
 use byteorder::{ByteOrder, LittleEndian};
@@ -70,10 +70,10 @@ impl Superblock {
           block_size = geometry.now.block_size;
           block_count = geometry.now.block_count;
           name_max = 255;
-          file_max = file_limit;
+          file_max = file_size_limit;
           attr_max = 1022;
         } }
-        ensures bytes { fields_bytes (superblock_view result) ≡ superblock_bytes geometry.now.block_size geometry.now.block_count }
+        ensures bytes { superblock_fields_bytes (superblock_view result) ≡ superblock_struct_bytes geometry.now.block_size geometry.now.block_count }
     {
         Superblock {
             version: Superblock::VERSION,
@@ -89,7 +89,7 @@ impl Superblock {
 impl MoveState {
     /// Returns the delta that changes nothing of the global state.
     pub fn none() -> MoveState
-        ensures { move_view result ≡ no_gstate }
+        ensures { move_view result ≡ zero_gstate }
     {
         MoveState {
             sync: false,
@@ -101,7 +101,7 @@ impl MoveState {
 
     /// Returns whether the delta is zero. Then a pair that is written anew has no entry for it.
     pub fn is_none(&self) -> bool
-        ensures { result ≡ is_no_gstate (move_view self.now) }
+        ensures { result ≡ is_zero_gstate (move_view self.now) }
     {
         !self.sync && self.kind == 0 && self.id == 0 && self.pair[0] == 0 && self.pair[1] == 0
     }
@@ -110,7 +110,7 @@ impl MoveState {
 // Returns the two addresses with which these bytes begin.
 pub(crate) fn pair_at(bytes: &[u8]) -> [u32; 2]
     requires { 8 ≤ length bytes.now }
-    ensures { address_of result ≡ pair_at bytes.now }
+    ensures { pair_address_of_array result ≡ pair_address_of_bytes bytes.now }
 {
     let first = LittleEndian::read_u32(bytes);
     let second = LittleEndian::read_u32(&bytes[4..]);
@@ -120,7 +120,7 @@ pub(crate) fn pair_at(bytes: &[u8]) -> [u32; 2]
 // Returns the move state with which these bytes begin.
 pub(crate) fn move_at(bytes: &[u8]) -> MoveState
     requires { 12 ≤ length bytes.now }
-    ensures { move_view result ≡ gstate_at bytes.now }
+    ensures { move_view result ≡ gstate_of_bytes bytes.now }
 {
     let word = LittleEndian::read_u32(bytes);
     MoveState {
@@ -133,7 +133,7 @@ pub(crate) fn move_at(bytes: &[u8]) -> MoveState
 
 /// Returns the pair that a tail or a directory's struct names.
 pub fn pair_of(bytes: &[u8; 8]) -> [u32; 2]
-    ensures { address_of result ≡ pair_at bytes.now }
+    ensures { pair_address_of_array result ≡ pair_address_of_bytes bytes.now }
 {
     pair_at(bytes)
 }
@@ -141,7 +141,7 @@ pub fn pair_of(bytes: &[u8; 8]) -> [u32; 2]
 /// Returns the head and the size of a skip list, from a file's struct. The head is the address of
 /// its last block, and the size is in bytes (SPEC.md of littlefs, "0x202 LFS_TYPE_CTZSTRUCT").
 pub fn ctz_of(bytes: &[u8; 8]) -> (u32, u32)
-    ensures { struct_typed ctz_struct_type bytes.now ≡ Ctz result.0 result.1 }
+    ensures { struct_of_type_and_bytes ctz_struct_type bytes.now ≡ Ctz result.0 result.1 }
 {
     let words = pair_at(bytes);
     (words[0], words[1])
@@ -149,7 +149,7 @@ pub fn ctz_of(bytes: &[u8; 8]) -> (u32, u32)
 
 /// Returns the fields of a superblock's struct.
 pub fn superblock_of(bytes: &[u8; 24]) -> Superblock
-    ensures { superblock_view result ≡ superblock_at bytes.now }
+    ensures { superblock_view result ≡ superblock_fields_at bytes.now }
 {
     Superblock {
         version: LittleEndian::read_u32(bytes),
@@ -164,7 +164,7 @@ pub fn superblock_of(bytes: &[u8; 24]) -> Superblock
 /// Returns the move state in an entry's bytes. The lowest ten bits of the first word have no
 /// meaning.
 pub fn move_of(bytes: &[u8; 12]) -> MoveState
-    ensures { move_view result ≡ gstate_at bytes.now }
+    ensures { move_view result ≡ gstate_of_bytes bytes.now }
 {
     move_at(bytes)
 }

@@ -34,7 +34,7 @@ pub use lookup::{Lookup, find};
 pub use names::{is_component, is_name, name_cmp};
 pub use revision::is_later;
 pub use search::{get, name_of, struct_of};
-pub use slot_kind::Kind;
+pub use slot_kind::SlotNameKind;
 pub use steps::Steps;
 pub use structure::Struct;
 pub use summary::Summary;

@@ -2,8 +2,8 @@
 
 ghost use Rattle.std.specs.Prelude.{◌≡◌, ℕ, ◌+◌, ◌≤◌, ◌<◌, ◌^◌, ◌↔◌, List, length, IsTrue, IfSome};
 ghost use Rattle.std.specs.Option.{option_map};
-ghost use Rattle.lfs_model.specs.Tag.{data_size};
-ghost use Rattle.lfs_model.specs.Log.{entry_at, closes, commit_at, chain_of, revision_of, log_entries, end_of_entry, IsChainOf, LogEntry};
+ghost use Rattle.lfs_model.specs.Tag.{tag_data_size};
+ghost use Rattle.lfs_model.specs.Log.{entry_at, closes, commit_at, chain_of, revision_of_block, log_entries_of_block, end_of_entry, IsCommitSequenceOfBlock, LogEntry};
 ghost use Rattle.lfs_model.specs.Content.{has_commit};
 ghost use Rattle.lfs_tag.specs.LogEntryView.{log_entry_view};
 
@@ -75,7 +75,7 @@ fn commit_end(block: &[u8], start: usize, mut at: usize, mut before: Tag) -> Opt
 
 // Returns the revision, or 0 in a block that is too short for one.
 fn revision(block: &[u8]) -> u32
-    ensures { result ≡ revision_of block.now }
+    ensures { result ≡ revision_of_block block.now }
 {
     if block.len() < 4 {
         0
@@ -99,11 +99,11 @@ impl<'a> Model for Log<'a> {
 
     ghost Value = { List ℕ };
 
-    ghost use Rattle.lfs_tag.specs.Read.{IsReadLog};
+    ghost use Rattle.lfs_tag.specs.Read.{IsLogOfItsBlock};
 
     ghost view = { λ l. l.block.now };
 
-    ghost invariant = { IsReadLog };
+    ghost invariant = { IsLogOfItsBlock };
 }
 
 impl<'a> Log<'a> {
@@ -167,7 +167,7 @@ impl<'a> Log<'a> {
 
     /// Returns the block's revision count, or 0 in a block of less than 4 bytes.
     pub fn revision(&self) -> u32
-        ensures { result ≡ revision_of self.now }
+        ensures { result ≡ revision_of_block self.now }
     {
         self.revision
     }
@@ -182,9 +182,9 @@ impl<'a> Log<'a> {
     /// Returns the entries of all commits, oldest first. They can be taken from both ends, and
     /// nothing is copied.
     pub fn entries(&self) -> Entries<'a>
-        ensures value { result ≡ log_entries self.now }
-        ensures small { length (log_entries self.now) < 2 ^ 62 }
+        ensures value { result ≡ log_entries_of_block self.now }
+        ensures small { length (log_entries_of_block self.now) < 2 ^ 62 }
     {
-        Entries::of_chain(self.block, self.end, self.last)
+        Entries::of_commit_sequence(self.block, self.end, self.last)
     }
 }

@@ -2,10 +2,10 @@
 
 ghost use Rattle.std.specs.Prelude.{◌≡◌, ℕ, ◌+◌, ◌≤◌, ◌<◌, ◌^◌, [], length, max, slice_set, vec_len, IfOk, OnOk, Some, None};
 ghost use Rattle.std.specs.List.{insert, remove};
-ghost use Rattle.lfs_model.specs.Log.{log_entries};
-ghost use Rattle.lfs_model.specs.Content.{RawContent, content_after_all, no_content};
-ghost use Rattle.lfs_tag.specs.Find.{entry_rank, ranks_up_to, ranks_after_splice, ranks_after, ranks_after_all, is_wanted, is_skipped, is_first, first_from};
-ghost use Rattle.lfs_tag.specs.FindView.{FindAnswers};
+ghost use Rattle.lfs_model.specs.Log.{log_entries_of_block};
+ghost use Rattle.lfs_model.specs.Content.{RawContent, content_after_log_entries, empty_raw_content};
+ghost use Rattle.lfs_tag.specs.Find.{name_ordering_of_entry, name_orderings_up_to_id, name_orderings_after_splice, name_orderings_after_entry, name_orderings_after_entries, is_wanted_ordering, is_skipped_id, is_wanted_slot, first_wanted_slot_from};
+ghost use Rattle.lfs_tag.specs.FindView.{IsLookupOfName};
 ghost use Rattle.lfs_tag.specs.LogEntryView.{log_entry_view};
 
 use crate::entry::Entry;
@@ -47,13 +47,13 @@ pub fn find(
     name: &[u8],
     skip: Option<u16>,
 ) -> Result<Lookup, AllocError>
-    ensures { (c : RawContent) → content_after_all no_content (log_entries log.now) ≡ Some c → length log.now ≤ 2 ^ 16 → IfOk result (FindAnswers order name.now skip c.slots) }
+    ensures { (c : RawContent) → content_after_log_entries empty_raw_content (log_entries_of_block log.now) ≡ Some c → length log.now ≤ 2 ^ 16 → IfOk result (IsLookupOfName order name.now skip c.slots) }
 {
     if BLOCK_MAX < log.block().len() {
         return Ok(Lookup::Place(0));
     }
     let mut ranks = Vec::new(alloc);
-    rank_slots(&mut ranks, log, order, name)?;
+    name_orderings_of_slots(&mut ranks, log, order, name)?;
     let found = first(&ranks, true, skip);
     if found < ranks.len() {
         Ok(Lookup::Found(found as u16))
@@ -64,7 +64,7 @@ pub fn find(
 
 // Returns the ranks of a log's slots.
 #[tactic(auto, using(crate::proofs::Ranks::few_entries))]
-fn rank_slots(
+fn name_orderings_of_slots(
     ranks: &mut Ranks,
     log: &Log<'_>,
     order: NameOrder,
@@ -72,7 +72,7 @@ fn rank_slots(
 ) -> Result<(), AllocError>
     requires none { ranks.old.items ≡ [] }
     requires small { length log.now ≤ 2 ^ 16 }
-    ensures ranks { OnOk result (ranks.new.items ≡ ranks_after_all order name.now [] (log_entries log.now)) }
+    ensures ranks { OnOk result (ranks.new.items ≡ name_orderings_after_entries order name.now [] (log_entries_of_block log.now)) }
     ensures few { OnOk result (vec_len ranks.new < 17408) }
 {
     for entry in log.entries() {
@@ -88,13 +88,13 @@ fn take(
     name: &[u8],
     entry: &Entry<'_>,
 ) -> Result<(), AllocError>
-    ensures ranks { OnOk result (ranks.new.items ≡ ranks_after order name.now ranks.old.items (log_entry_view entry.now)) }
+    ensures ranks { OnOk result (ranks.new.items ≡ name_orderings_after_entry order name.now ranks.old.items (log_entry_view entry.now)) }
     ensures room { OnOk result (vec_len ranks.new ≤ max (vec_len ranks.old) 1024 + 1) }
 {
     let class = entry.tag.class();
     if class == NAME_CLASS {
         let rank = entry_rank(order, name, entry);
-        put_rank(ranks, usize::from(entry.tag.id()), rank)?;
+        put_name_ordering(ranks, usize::from(entry.tag.id()), rank)?;
     } else if class == SPLICE_CLASS {
         splice(ranks, entry)?;
     }
@@ -103,7 +103,7 @@ fn take(
 
 // Returns the order of the wanted name and the name that an entry gives a slot.
 fn entry_rank(order: NameOrder, name: &[u8], entry: &Entry<'_>) -> Option<Ordering>
-    ensures { result ≡ entry_rank order name.now (log_entry_view entry.now) }
+    ensures { result ≡ name_ordering_of_entry order name.now (log_entry_view entry.now) }
 {
     if entry.tag.kind() == SUPERBLOCK_NAME {
         None
@@ -113,9 +113,9 @@ fn entry_rank(order: NameOrder, name: &[u8], entry: &Entry<'_>) -> Option<Orderi
 }
 
 // Ranks a slot, which may be past the end.
-fn put_rank(ranks: &mut Ranks, id: usize, rank: Option<Ordering>) -> Result<(), AllocError>
+fn put_name_ordering(ranks: &mut Ranks, id: usize, rank: Option<Ordering>) -> Result<(), AllocError>
     requires { id < 1024 }
-    ensures ranks { OnOk result (ranks.new.items ≡ slice_set (ranks_up_to ranks.old.items id) id rank) }
+    ensures ranks { OnOk result (ranks.new.items ≡ slice_set (name_orderings_up_to_id ranks.old.items id) id rank) }
     ensures room { OnOk result (vec_len ranks.new ≤ max (vec_len ranks.old) 1024) }
 {
     fill_up(ranks, id)?;
@@ -126,7 +126,7 @@ fn put_rank(ranks: &mut Ranks, id: usize, rank: Option<Ordering>) -> Result<(), 
 // Adds slots without a name up to an id.
 fn fill_up(ranks: &mut Ranks, id: usize) -> Result<(), AllocError>
     requires { id < 1024 }
-    ensures ranks { OnOk result (ranks.new.items ≡ ranks_up_to ranks.old.items id) }
+    ensures ranks { OnOk result (ranks.new.items ≡ name_orderings_up_to_id ranks.old.items id) }
     ensures long { OnOk result (id < vec_len ranks.new) }
     ensures room { OnOk result (vec_len ranks.new ≤ max (vec_len ranks.old) 1024) }
 {
@@ -138,7 +138,7 @@ fn fill_up(ranks: &mut Ranks, id: usize) -> Result<(), AllocError>
 
 // Applies a create or a delete.
 fn splice(ranks: &mut Ranks, entry: &Entry<'_>) -> Result<(), AllocError>
-    ensures ranks { OnOk result (ranks.new.items ≡ ranks_after_splice ranks.old.items (log_entry_view entry.now)) }
+    ensures ranks { OnOk result (ranks.new.items ≡ name_orderings_after_splice ranks.old.items (log_entry_view entry.now)) }
     ensures room { OnOk result (vec_len ranks.new ≤ vec_len ranks.old + 1) }
 {
     let id = usize::from(entry.tag.id());
@@ -155,7 +155,7 @@ fn splice(ranks: &mut Ranks, entry: &Entry<'_>) -> Result<(), AllocError>
 // Returns the first slot whose name is the wanted one, or a greater one. Returns the number of
 // slots where there is none.
 fn first(ranks: &[Option<Ordering>], same: bool, skip: Option<u16>) -> usize
-    ensures first { result ≡ first_from same skip 0 ranks.now }
+    ensures first { result ≡ first_wanted_slot_from same skip 0 ranks.now }
     ensures within { result ≤ length ranks.now }
 {
     for (id, rank) in ranks.iter().enumerate() {
@@ -167,7 +167,7 @@ fn first(ranks: &[Option<Ordering>], same: bool, skip: Option<u16>) -> usize
 }
 
 fn is_first(same: bool, skip: Option<u16>, id: usize, rank: Option<Ordering>) -> bool
-    ensures { result ≡ is_first same skip id rank }
+    ensures { result ≡ is_wanted_slot same skip id rank }
 {
     match rank {
         Some(rank) => is_wanted(same, rank) && !is_skipped(skip, id),
@@ -176,7 +176,7 @@ fn is_first(same: bool, skip: Option<u16>, id: usize, rank: Option<Ordering>) ->
 }
 
 fn is_wanted(same: bool, rank: Ordering) -> bool
-    ensures { result ≡ is_wanted same rank }
+    ensures { result ≡ is_wanted_ordering same rank }
 {
     match rank {
         Ordering::Less => !same,
@@ -186,7 +186,7 @@ fn is_wanted(same: bool, rank: Ordering) -> bool
 }
 
 fn is_skipped(skip: Option<u16>, id: usize) -> bool
-    ensures { result ≡ is_skipped skip id }
+    ensures { result ≡ is_skipped_id skip id }
 {
     match skip {
         Some(skipped) => usize::from(skipped) == id,

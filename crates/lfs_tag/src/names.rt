@@ -2,7 +2,7 @@
 
 ghost use Rattle.std.specs.Prelude.{◌≡◌, ◌==◌, ◌||◌, not};
 ghost use Rattle.std.specs.List.{list_all};
-ghost use Rattle.lfs_model.specs.Names.{is_component, is_name, longer_first, name_cmp, same_name, slash};
+ghost use Rattle.lfs_model.specs.Names.{is_path_component, is_name, name_cmp_longer_first, name_cmp, same_name, slash};
 
 use lfs_device::NameOrder;
 use std::cmp::Ordering;
@@ -10,9 +10,9 @@ use std::cmp::Ordering;
 /// Returns whether a path may have such a component, of any length. It isn't empty, has neither a
 /// byte 0 nor a slash, and is neither `.` nor `..`.
 pub fn is_component(name: &[u8]) -> bool
-    ensures { result ≡ is_component name.now }
+    ensures { result ≡ is_path_component name.now }
 {
-    !name.is_empty() && are_plain(name) && !is_same(name, b".") && !is_same(name, b"..")
+    !name.is_empty() && has_no_zero_or_slash(name) && !is_same(name, b".") && !is_same(name, b"..")
 }
 
 /// Returns whether a directory may have such a name: a component of at most 255 bytes.
@@ -29,7 +29,7 @@ fn is_same(name: &[u8], other: &[u8]) -> bool
 }
 
 // Returns whether neither 0 nor '/' is among the bytes.
-fn are_plain(name: &[u8]) -> bool
+fn has_no_zero_or_slash(name: &[u8]) -> bool
     ensures { result ≡ list_all (λ b. not (b == 0 || b == slash)) name.now }
 {
     name.iter().all(|byte| !(*byte == 0 || *byte == b'/'))
@@ -47,7 +47,7 @@ pub fn name_cmp(order: NameOrder, name: &[u8], other: &[u8]) -> Ordering
 }
 
 fn longer_first(name: &[u8], other: &[u8]) -> Ordering
-    ensures { result ≡ longer_first name.now other.now }
+    ensures { result ≡ name_cmp_longer_first name.now other.now }
 {
     let shared = name.len().min(other.len());
     name[..shared]

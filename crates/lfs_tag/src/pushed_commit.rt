@@ -2,14 +2,14 @@
 
 ghost use Rattle.std.specs.Prelude.{◌≡◌};
 ghost use Rattle.std.specs.Borrow.{ftrue};
-ghost use Rattle.lfs_tag.specs.Builder.{Building};
+ghost use Rattle.lfs_tag.specs.Builder.{CommitBeingBuilt};
 
 use std::marker::Model;
 
 // It takes no memory, and its function does nothing at run time.
 #[derive(Drop)]
 pub(crate) struct Pushed {
-    pub(crate) ghost so_far: { Building },
+    pub(crate) ghost so_far: { CommitBeingBuilt },
 }
 
 impl Model for Pushed {
@@ -19,7 +19,7 @@ impl Model for Pushed {
 impl Pushed {
     // Makes any commit. The caller's proof picks the commit from what the references point to.
     pub(crate) fn from_proof<S, T>(_before: &S, _pushed: &T) -> Pushed
-        ghost so_far: { Building }
+        ghost so_far: { CommitBeingBuilt }
         ensures { result.so_far ≡ so_far }
     {
         Pushed {}

@@ -2,11 +2,11 @@
 
 ghost use Rattle.std.specs.Prelude.{◌≡◌, ℕ, ◌+◌, ◌-◌, ◌≤◌, ◌<◌, ◌^◌, ◌/◌, List, length, reverse, min, Some};
 ghost use Rattle.std.specs.Option.{option_copied, option_map};
-ghost use Rattle.lfs_model.specs.Log.{log_entries};
-ghost use Rattle.lfs_model.specs.Content.{RawContent, content_after_all, no_content, slot_of_id};
-ghost use Rattle.lfs_model.specs.Lookup.{typed_bytes_at, bytes_typed};
+ghost use Rattle.lfs_model.specs.Log.{log_entries_of_block};
+ghost use Rattle.lfs_model.specs.Content.{RawContent, content_after_log_entries, empty_raw_content, slot_of_id};
+ghost use Rattle.lfs_model.specs.Lookup.{slot_bytes_of_type_at_id, bytes_if_of_type};
 ghost use Rattle.lfs_tag.specs.ContentView.{part_view};
-ghost use Rattle.lfs_tag.specs.Search.{splice_verdict, verdict_of, found, looks};
+ghost use Rattle.lfs_tag.specs.Search.{splice_verdict, verdict_of_entry, found, looks};
 ghost use Rattle.lfs_tag.specs.VerdictView.{verdict_view};
 ghost use Rattle.lfs_tag.specs.LogEntryView.{log_entry_view};
 
@@ -45,7 +45,7 @@ fn splice_verdict<'a>(entry: &Entry<'a>, id: u64) -> Verdict<'a>
 // Returns what an entry means for a type and an id after it.
 fn verdict_of<'a>(entry: &Entry<'a>, kind: u16, id: u64) -> Verdict<'a>
     requires { id < 2 ^ 64 - 1 }
-    ensures { verdict_view result ≡ verdict_of (log_entry_view entry.now) kind id }
+    ensures { verdict_view result ≡ verdict_of_entry (log_entry_view entry.now) kind id }
 {
     let tag = entry.tag;
     let class = tag.class();
@@ -89,9 +89,9 @@ fn search<'a>(mut entries: Entries<'a>, kind: u16, mut id: u64) -> (Option<Part<
 // Returns what the log holds for an id, of a type or of another one in its place. Counts each entry
 // that it looks at.
 fn newest<'a>(log: &Log<'a>, kind: u16, id: u16, steps: &mut Steps) -> Option<Part<'a>>
-    ensures found { option_map part_view result ≡ found (reverse (log_entries log.now)) kind id }
-    ensures steps { steps.new ≡ min (steps.old + looks (reverse (log_entries log.now)) kind id) (2 ^ 64 - 1) }
-    ensures bound { steps.new ≤ steps.old + length (log_entries log.now) }
+    ensures found { option_map part_view result ≡ found (reverse (log_entries_of_block log.now)) kind id }
+    ensures steps { steps.new ≡ min (steps.old + looks (reverse (log_entries_of_block log.now)) kind id) (2 ^ 64 - 1) }
+    ensures bound { steps.new ≤ steps.old + length (log_entries_of_block log.now) }
 {
     let found = search(log.entries(), kind, u64::from(id));
     steps.add(found.1);
@@ -100,7 +100,7 @@ fn newest<'a>(log: &Log<'a>, kind: u16, id: u16, steps: &mut Steps) -> Option<Pa
 
 // Returns the bytes of a part, where the part has that type.
 fn bytes_typed<'a>(part: Option<Part<'a>>, kind: u16) -> Option<&'a [u8]>
-    ensures { option_copied result ≡ bytes_typed kind (option_map part_view part.entry) }
+    ensures { option_copied result ≡ bytes_if_of_type kind (option_map part_view part.entry) }
 {
     match part {
         Some(part) if part.kind == kind => Some(part.bytes),
@@ -113,9 +113,9 @@ fn bytes_typed<'a>(part: Option<Part<'a>>, kind: u16) -> Option<&'a [u8]>
 /// under their other types. The log isn't malformed. Each entry that the search looks at is counted
 /// in `steps`; these are at most the entries of the log.
 pub fn get<'a>(log: &Log<'a>, kind: u16, id: u16, steps: &mut Steps) -> Option<&'a [u8]>
-    ensures held { (c : RawContent) → content_after_all no_content (log_entries log.now) ≡ Some c → option_copied result ≡ typed_bytes_at c.slots kind id }
-    ensures steps { steps.new ≡ min (steps.old + looks (reverse (log_entries log.now)) kind id) (2 ^ 64 - 1) }
-    ensures bound { steps.new ≤ steps.old + length (log_entries log.now) }
+    ensures held { (c : RawContent) → content_after_log_entries empty_raw_content (log_entries_of_block log.now) ≡ Some c → option_copied result ≡ slot_bytes_of_type_at_id c.slots kind id }
+    ensures steps { steps.new ≡ min (steps.old + looks (reverse (log_entries_of_block log.now)) kind id) (2 ^ 64 - 1) }
+    ensures bound { steps.new ≤ steps.old + length (log_entries_of_block log.now) }
 {
     bytes_typed(newest(log, kind, id, steps), kind)
 }
@@ -123,9 +123,9 @@ pub fn get<'a>(log: &Log<'a>, kind: u16, id: u16, steps: &mut Steps) -> Option<&
 /// Returns the name of a slot, its type and bytes. Returns None where the slot has none or isn't
 /// there. The log isn't malformed. `steps` counts as in [`get`].
 pub fn name_of<'a>(log: &Log<'a>, id: u16, steps: &mut Steps) -> Option<Part<'a>>
-    ensures held { (c : RawContent) → content_after_all no_content (log_entries log.now) ≡ Some c → option_map part_view result ≡ (slot_of_id c.slots id).name }
-    ensures steps { steps.new ≡ min (steps.old + looks (reverse (log_entries log.now)) 0 id) (2 ^ 64 - 1) }
-    ensures bound { steps.new ≤ steps.old + length (log_entries log.now) }
+    ensures held { (c : RawContent) → content_after_log_entries empty_raw_content (log_entries_of_block log.now) ≡ Some c → option_map part_view result ≡ (slot_of_id c.slots id).name }
+    ensures steps { steps.new ≡ min (steps.old + looks (reverse (log_entries_of_block log.now)) 0 id) (2 ^ 64 - 1) }
+    ensures bound { steps.new ≤ steps.old + length (log_entries_of_block log.now) }
 {
     newest(log, NAME_CLASS << 8, id, steps)
 }
@@ -133,9 +133,9 @@ pub fn name_of<'a>(log: &Log<'a>, id: u16, steps: &mut Steps) -> Option<Part<'a>
 /// Returns the struct of a slot, its type and bytes. Returns None where the slot has none or isn't
 /// there. The log isn't malformed. `steps` counts as in [`get`].
 pub fn struct_of<'a>(log: &Log<'a>, id: u16, steps: &mut Steps) -> Option<Part<'a>>
-    ensures held { (c : RawContent) → content_after_all no_content (log_entries log.now) ≡ Some c → option_map part_view result ≡ (slot_of_id c.slots id).struct }
-    ensures steps { steps.new ≡ min (steps.old + looks (reverse (log_entries log.now)) 0x200 id) (2 ^ 64 - 1) }
-    ensures bound { steps.new ≤ steps.old + length (log_entries log.now) }
+    ensures held { (c : RawContent) → content_after_log_entries empty_raw_content (log_entries_of_block log.now) ≡ Some c → option_map part_view result ≡ (slot_of_id c.slots id).struct }
+    ensures steps { steps.new ≡ min (steps.old + looks (reverse (log_entries_of_block log.now)) 0x200 id) (2 ^ 64 - 1) }
+    ensures bound { steps.new ≤ steps.old + length (log_entries_of_block log.now) }
 {
     newest(log, STRUCT_CLASS << 8, id, steps)
 }

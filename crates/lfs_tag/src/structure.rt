@@ -2,8 +2,8 @@
 
 ghost use Rattle.std.specs.Prelude.{◌≡◌, Some};
 ghost use Rattle.std.specs.Option.{option_map};
-ghost use Rattle.lfs_model.specs.Content.{struct_typed};
-ghost use Rattle.lfs_model.specs.LoggedContent.{IsPart};
+ghost use Rattle.lfs_model.specs.Content.{struct_of_type_and_bytes};
+ghost use Rattle.lfs_model.specs.LoggedContent.{IsNameOrStructOfClass};
 ghost use Rattle.lfs_tag.specs.ContentView.{part_view};
 
 use crate::content::Part;
@@ -28,7 +28,7 @@ impl<'a> Struct<'a> {
     /// What a part says as a slot's struct. `None` exactly where its type is no struct's, or where
     /// a list or a pair isn't named in 8 bytes. No log that has a content holds such a struct.
     pub fn of(part: &Part<'a>) -> Option<Struct<'a>>
-        ensures says { IsPart 2 (part_view part.now) → option_map struct_view result ≡ Some (struct_typed part.now.kind part.now.bytes.now) }
+        ensures says { IsNameOrStructOfClass 2 (part_view part.now) → option_map struct_view result ≡ Some (struct_of_type_and_bytes part.now.kind part.now.bytes.now) }
         ensures only { option_map struct_view result ≡ struct_in (part_view part.now) }
     {
         match (part.kind, <&[u8; 8]>::try_from(part.bytes)) {

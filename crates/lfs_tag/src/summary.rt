@@ -2,11 +2,11 @@
 
 ghost use Rattle.std.specs.Prelude.{◌≡◌, ℕ, ◌<◌, ◌≤◌, OnOk, IfOk, IsTrue, length, true, vec_len, Some, None};
 ghost use Rattle.std.specs.List.{insert, remove, list_all};
-ghost use Rattle.lfs_model.specs.Log.{LogEntry, log_entries};
-ghost use Rattle.lfs_model.specs.Content.{RawContent, content_after_all, no_content};
+ghost use Rattle.lfs_model.specs.Log.{LogEntry, log_entries_of_block};
+ghost use Rattle.lfs_model.specs.Content.{RawContent, content_after_log_entries, empty_raw_content};
 ghost use Rattle.lfs_tag.specs.LogEntryView.{log_entry_view};
-ghost use Rattle.lfs_tag.specs.ContentGives.{GivesValue};
-ghost use Rattle.lfs_tag.specs.Summary.{IsSummaryOf, no_mark, mark_of_id, with_mark_changed, marks_up_to, is_whole, marks_after, outline_view, outline_after, outline_after_all, no_outline};
+ghost use Rattle.lfs_tag.specs.ContentGives.{GivesValueUnlessNoMemory};
+ghost use Rattle.lfs_tag.specs.Summary.{IsSummaryOfLogContent, mark_of_empty_slot, mark_of_id, slot_marks_with_one_changed, slot_marks_up_to_id, has_name_and_struct, slot_marks_after_entry, outline_view, outline_after_entry, outline_after_entries, outline_of_empty_log};
 
 use crate::content::{ContentError, Tail, has_its_id, is_in_table, tail_of};
 use crate::entry::Entry;
@@ -51,8 +51,8 @@ impl Summary {
     /// granted.
     #[tactic(auto, using(crate::proofs::Summaries::no_content_where_none))]
     pub fn read(alloc: Global, log: &Log<'_>) -> Result<Summary, ContentError>
-        ensures summary { IfOk result (λ s. (c : RawContent) × IsSummaryOf log.now c s) }
-        ensures malformed { result ≡ Err ContentError.Malformed → content_after_all no_content (log_entries log.now) ≡ None }
+        ensures summary { IfOk result (λ s. (c : RawContent) × IsSummaryOfLogContent log.now c s) }
+        ensures malformed { result ≡ Err ContentError.Malformed → content_after_log_entries empty_raw_content (log_entries_of_block log.now) ≡ None }
     {
         let outline = match outline_of(alloc, log) {
             Ok(outline) => outline,
@@ -68,8 +68,8 @@ impl Summary {
 }
 
 fn outline_of(alloc: Global, log: &Log<'_>) -> Result<Outline, ContentError>
-    ensures outline { IfOk result (λ o. outline_after_all no_outline (log_entries log.now) ≡ Some (outline_view o)) }
-    ensures malformed { result ≡ Err ContentError.Malformed → outline_after_all no_outline (log_entries log.now) ≡ None }
+    ensures outline { IfOk result (λ o. outline_after_entries outline_of_empty_log (log_entries_of_block log.now) ≡ Some (outline_view o)) }
+    ensures malformed { result ≡ Err ContentError.Malformed → outline_after_entries outline_of_empty_log (log_entries_of_block log.now) ≡ None }
 {
     let mut outline = Outline {
         marks: Vec::new(alloc),
@@ -85,14 +85,14 @@ fn outline_of(alloc: Global, log: &Log<'_>) -> Result<Outline, ContentError>
 }
 
 fn are_whole(marks: &[Mark]) -> bool
-    ensures { result ≡ list_all is_whole marks.now }
+    ensures { result ≡ list_all has_name_and_struct marks.now }
 {
     marks.iter().all(|mark| mark.has_name && mark.has_struct)
 }
 
 // Applies an entry to the outline.
 fn take(outline: &mut Outline, entry: &Entry<'_>) -> Result<(), ContentError>
-    ensures { GivesValue (λ _. outline_view outline.new) result (outline_after (outline_view outline.old) (log_entry_view entry.now)) }
+    ensures { GivesValueUnlessNoMemory (λ _. outline_view outline.new) result (outline_after_entry (outline_view outline.old) (log_entry_view entry.now)) }
 {
     let tag = entry.tag;
     let class = tag.class();
@@ -109,14 +109,14 @@ fn take(outline: &mut Outline, entry: &Entry<'_>) -> Result<(), ContentError>
         outline.move_state = move_at(entry.bytes);
         Ok(())
     } else {
-        take_mark(&mut outline.marks, entry)?;
+        apply_entry_to_marks(&mut outline.marks, entry)?;
         Ok(())
     }
 }
 
 // Applies to the slots' marks an entry that is no checksum, tail or move state.
-fn take_mark(marks: &mut Vec<Mark>, entry: &Entry<'_>) -> Result<(), ContentError>
-    ensures { GivesValue (λ _. marks.new.items) result (marks_after marks.old.items (log_entry_view entry.now)) }
+fn apply_entry_to_marks(marks: &mut Vec<Mark>, entry: &Entry<'_>) -> Result<(), ContentError>
+    ensures { GivesValueUnlessNoMemory (λ _. marks.new.items) result (slot_marks_after_entry marks.old.items (log_entry_view entry.now)) }
 {
     let kind = entry.tag.kind();
     let class = entry.tag.class();
@@ -164,7 +164,7 @@ fn is_named(marks: &[Mark], id: usize) -> bool
 // Marks the name of a slot, which may be past the end.
 fn mark_name(marks: &mut Vec<Mark>, id: usize) -> Result<(), AllocError>
     requires { id < 1024 }
-    ensures { OnOk result (marks.new.items ≡ with_mark_changed (λ m. record m { has_name = true }) (marks_up_to marks.old.items id) id) }
+    ensures { OnOk result (marks.new.items ≡ slot_marks_with_one_changed (λ m. record m { has_name = true }) (slot_marks_up_to_id marks.old.items id) id) }
 {
     fill_up(marks, id)?;
     marks[id].has_name = true;
@@ -174,7 +174,7 @@ fn mark_name(marks: &mut Vec<Mark>, id: usize) -> Result<(), AllocError>
 // Adds marks of empty slots up to an id.
 fn fill_up(marks: &mut Vec<Mark>, id: usize) -> Result<(), AllocError>
     requires { id < 1024 }
-    ensures filled { OnOk result (marks.new.items ≡ marks_up_to marks.old.items id) }
+    ensures filled { OnOk result (marks.new.items ≡ slot_marks_up_to_id marks.old.items id) }
     ensures long { OnOk result (id < vec_len marks.new) }
 {
     if marks.len() <= id {
@@ -190,14 +190,14 @@ const NO_MARK: Mark = Mark {
 
 fn mark_struct(marks: &mut Vec<Mark>, id: usize)
     requires { id < vec_len marks.old }
-    ensures { marks.new.items ≡ with_mark_changed (λ m. record m { has_struct = true }) marks.old.items id }
+    ensures { marks.new.items ≡ slot_marks_with_one_changed (λ m. record m { has_struct = true }) marks.old.items id }
 {
     marks[id].has_struct = true;
 }
 
 fn insert_mark(marks: &mut Vec<Mark>, id: usize) -> Result<(), AllocError>
     requires { id ≤ vec_len marks.old }
-    ensures { OnOk result (marks.new.items ≡ insert marks.old.items id no_mark) }
+    ensures { OnOk result (marks.new.items ≡ insert marks.old.items id mark_of_empty_slot) }
 {
     marks.insert(id, NO_MARK)?;
     Ok(())

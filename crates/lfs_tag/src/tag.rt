@@ -1,8 +1,8 @@
 // Tags.
 
 ghost use Rattle.std.specs.Prelude.{◌≡◌, ◌<◌, ◌^◌, ◌%◌, ◌↔◌, IsTrue, bit_xor};
-ghost use Rattle.lfs_model.specs.Tag.{IsValid, kind_of, id_of, len_of, class_of, chunk_of, data_size, ends_commit, tag_with, carried};
-ghost use Rattle.lfs_model.specs.EntryTypes.{removes};
+ghost use Rattle.lfs_model.specs.Tag.{IsValidTag, kind_of, id_of, len_of, class_of, chunk_of, tag_data_size, ends_commit, tag_of_type_id_and_length, carried};
+ghost use Rattle.lfs_model.specs.EntryTypes.{is_attribute_removal};
 
 use crate::kinds::{CHECKSUM_CLASS, FORWARD_CHECKSUM};
 use std::marker::Model;
@@ -50,11 +50,11 @@ impl Tag {
         requires kind { kind < 2 ^ 11 }
         requires id { id < 2 ^ 10 }
         requires len { len < 2 ^ 10 }
-        ensures bits { result ≡ tag_with kind id len }
+        ensures bits { result ≡ tag_of_type_id_and_length kind id len }
         ensures kind { kind_of result ≡ kind }
         ensures id { id_of result ≡ id }
         ensures len { len_of result ≡ len }
-        ensures valid { IsValid result }
+        ensures valid { IsValidTag result }
     {
         Tag {
             bits: u32::from(kind) * 0x10_0000 + u32::from(id) * 0x400 + u32::from(len),
@@ -81,7 +81,7 @@ impl Tag {
 
     /// Returns whether the top bit is 0, as in each entry of a log.
     pub fn is_valid(self) -> bool
-        ensures { IsTrue result ↔ IsValid self }
+        ensures { IsTrue result ↔ IsValidTag self }
     {
         self.bits >> 31 == 0
     }
@@ -125,14 +125,14 @@ impl Tag {
 
     /// Returns whether the length is the one that removes an attribute.
     pub fn removes(self) -> bool
-        ensures { result ≡ removes self }
+        ensures { result ≡ is_attribute_removal self }
     {
         self.len() == Tag::REMOVED
     }
 
     /// Returns how many bytes follow the tag.
     pub fn size(self) -> usize
-        ensures { result ≡ data_size self }
+        ensures { result ≡ tag_data_size self }
     {
         if self.removes() {
             0

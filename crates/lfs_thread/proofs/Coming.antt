@@ -4,26 +4,26 @@ use Rattle.std.specs.Prelude.{IfNone, IfSome}
 use Rattle.std.proofs.lemmas.Bool.{ne_eqb}
 use Rattle.std.proofs.lemmas.Option.{slice_get_within}
 use Rattle.std.proofs.lemmas.List.{length-set}
-use Rattle.lfs_model.specs.BlockSets.{BlockState, BlockSets, Free, InFlight, Used, IsFree, IsInFlight, IsUsed}
+use Rattle.lfs_model.specs.BlockSets.{BlockState, BlockStateList, Free, InFlight, Used, IsFree, IsInFlight, IsUsed}
 use Rattle.lfs_model.specs.Disk.{Disk}
-use Rattle.lfs_model.specs.History.{Event}
+use Rattle.lfs_model.specs.History.{CallEvent}
 use Rattle.lfs_model.proofs.BlockSets.{slice_get-set_same, slice_get-set_other}
 use Rattle.lfs_model.proofs.Counts.{count, count_here}
-use Rattle.lfs_pair.specs.Commit.{IsAddressOn}
-use Rattle.lfs_model.specs.Thread.{blocks_of}
-use Rattle.lfs_thread.specs.Kept.{Header, AllUsed, IsKept, pairs_on}
-use Rattle.lfs_thread.specs.Steps.{AreFreshInFlight, map_with_used_pair}
+use Rattle.lfs_pair.specs.Commit.{IsPairAddressOnDisk}
+use Rattle.lfs_model.specs.Thread.{blocks_of_pairs}
+use Rattle.lfs_thread.specs.Kept.{PairHeader, AreAllBlocksUsed, IsKeptThreadOnDisk, pairs_of_headers}
+use Rattle.lfs_thread.specs.Steps.{AreFreshBlocksInFlight, map_with_used_pair}
 
 -- ---- blocks that aren't used stand in no pair
 
 pub count_other : (x b : ℕ) (bs : List ℕ) → x ≢ b → count x (b ∷ bs) ≡ count x bs
 count_other x b bs apart = let e : 0 + count x bs ≡ count x bs = omega arith in ap (λ t. cond t 1 0 + count x bs) (ne_eqb x b apart) ∙ e
 
-pub unused_counts : (sets : BlockSets) (x : ℕ) (bs : List ℕ) → ¬ IsUsed sets x → AllUsed sets bs → count x bs ≡ 0
+pub unused_counts : (sets : BlockStateList) (x : ℕ) (bs : List ℕ) → ¬ IsUsed sets x → AreAllBlocksUsed sets bs → count x bs ≡ 0
 unused_counts sets x [] unused used = refl
 unused_counts sets x (b ∷ bs) unused used = count_other x b bs (λ e. unused (subst (IsUsed sets) (sym e) used.0)) ∙ unused_counts sets x bs unused used.1
 
-pub used_at : (sets : BlockSets) (b : ℕ) (bs : List ℕ) → AllUsed sets bs → 1 ≤ count b bs → IsUsed sets b
+pub used_at : (sets : BlockStateList) (b : ℕ) (bs : List ℕ) → AreAllBlocksUsed sets bs → 1 ≤ count b bs → IsUsed sets b
 used_at sets b [] used k = absurd (omega (arith, k))
 used_at sets b (x ∷ bs) used k = go (nat_eq b x) refl k (used_at sets b bs used.1)
   where
@@ -31,7 +31,7 @@ used_at sets b (x ∷ bs) used k = go (nat_eq b x) refl k (used_at sets b bs use
     go true e k next = subst (IsUsed sets) (sym (eqb-true b x e)) used.0
     go false e k next = next (omega (arith, k))
 
-pub two_unused : (sets : BlockSets) (f g : ℕ) (bs : List ℕ) → ¬ IsUsed sets f → ¬ IsUsed sets g → f ≢ g → AllUsed sets bs → ((b : ℕ) → count b bs ≤ 1) → (b : ℕ) → count b (f ∷ g ∷ []) + count b bs ≤ 1
+pub two_unused : (sets : BlockStateList) (f g : ℕ) (bs : List ℕ) → ¬ IsUsed sets f → ¬ IsUsed sets g → f ≢ g → AreAllBlocksUsed sets bs → ((b : ℕ) → count b bs ≤ 1) → (b : ℕ) → count b (f ∷ g ∷ []) + count b bs ≤ 1
 two_unused sets f g bs ff fg apart used once b = go (nat_eq b f) refl
   where
     second : (t : Bool) → nat_eq b g ≡ t → count b (g ∷ []) + count b bs ≤ 1
@@ -51,14 +51,14 @@ two_unused sets f g bs ff fg apart used once b = go (nat_eq b f) refl
         omega arith
     go false e = let s = second (nat_eq b g) refl in let z = ap (λ t. cond t 1 0 + count b (g ∷ [])) e in omega arith
 
-pub in_flight_unused : (sets : BlockSets) (b : ℕ) → IsInFlight sets b → ¬ IsUsed sets b
+pub in_flight_unused : (sets : BlockStateList) (b : ℕ) → IsInFlight sets b → ¬ IsUsed sets b
 in_flight_unused sets b f u = absurd (let e : Some InFlight ≡ Some Used = sym f ∙ u in cc)
 
-pub free_unused : (sets : BlockSets) (b : ℕ) → IsFree sets b → ¬ IsUsed sets b
+pub free_unused : (sets : BlockStateList) (b : ℕ) → IsFree sets b → ¬ IsUsed sets b
 free_unused sets b f u = absurd (let e : Some Free ≡ Some Used = sym f ∙ u in cc)
 
 -- two blocks that no pair has, which are in use now
-pub record SettlesTwo (old : BlockSets) (fresh : ℕ × ℕ) (new : BlockSets) : Type 0 where
+pub record SettlesTwo (old : BlockStateList) (fresh : ℕ × ℕ) (new : BlockStateList) : Type 0 where
   pub first_unused : ¬ IsUsed old fresh.0
   pub second_unused : ¬ IsUsed old fresh.1
   pub apart : fresh.0 ≢ fresh.1
@@ -67,7 +67,7 @@ pub record SettlesTwo (old : BlockSets) (fresh : ℕ × ℕ) (new : BlockSets) :
   pub others : (b : ℕ) → b ≢ fresh.0 → b ≢ fresh.1 → slice_get new b ≡ slice_get old b
   pub size : length new ≡ length old
 
-pub settles_two : (sets : BlockSets) (fresh : ℕ × ℕ) → AreFreshInFlight sets fresh → SettlesTwo sets fresh (map_with_used_pair sets fresh)
+pub settles_two : (sets : BlockStateList) (fresh : ℕ × ℕ) → AreFreshBlocksInFlight sets fresh → SettlesTwo sets fresh (map_with_used_pair sets fresh)
 settles_two sets fresh t = record {
   first_unused = in_flight_unused sets fresh.0 t.first;
   second_unused = in_flight_unused sets fresh.1 t.second;
@@ -79,10 +79,10 @@ settles_two sets fresh t = record {
 }
 
 -- the second is still in flight, where the first is settled
-pub second_held : (sets : BlockSets) (fresh : ℕ × ℕ) → AreFreshInFlight sets fresh → IsInFlight (set sets fresh.0 Used) fresh.1
+pub second_held : (sets : BlockStateList) (fresh : ℕ × ℕ) → AreFreshBlocksInFlight sets fresh → IsInFlight (set sets fresh.0 Used) fresh.1
 second_held sets fresh t = slice_get-set_other sets fresh.0 fresh.1 Used (λ e. t.apart (sym e)) ∙ t.second
 
-pub used_still : (sets now : BlockSets) (fresh : ℕ × ℕ) (bs : List ℕ) → SettlesTwo sets fresh now → AllUsed sets bs → AllUsed now bs
+pub used_still : (sets now : BlockStateList) (fresh : ℕ × ℕ) (bs : List ℕ) → SettlesTwo sets fresh now → AreAllBlocksUsed sets bs → AreAllBlocksUsed now bs
 used_still sets now fresh [] uses used = tt
 used_still sets now fresh (b ∷ bs) uses used = (
   uses.others b (λ e. uses.first_unused (subst (IsUsed sets) e used.0)) (λ e. uses.second_unused (subst (IsUsed sets) e used.0)) ∙ used.0,
@@ -90,7 +90,7 @@ used_still sets now fresh (b ∷ bs) uses used = (
 )
 
 -- two blocks in flight are an address of the disk
-pub held_address : (disk : Disk) (history : List Event) (hs : List Header) (sets : BlockSets) (fresh : ℕ × ℕ) → IsKept disk history hs sets → AreFreshInFlight sets fresh → IsAddressOn disk fresh
+pub held_address : (disk : Disk) (history : List CallEvent) (hs : List PairHeader) (sets : BlockStateList) (fresh : ℕ × ℕ) → IsKeptThreadOnDisk disk history hs sets → AreFreshBlocksInFlight sets fresh → IsPairAddressOnDisk disk fresh
 held_address disk history hs sets fresh kept held = record {
   apart = held.apart;
   first = let l = slice_get_within sets fresh.0 InFlight held.first in let s = kept.size in omega arith;
@@ -99,20 +99,20 @@ held_address disk history hs sets fresh kept held = record {
 
 -- ---- a block that isn't used comes into another state
 
-used_beside : (sets : BlockSets) (x : ℕ) (s : BlockState) (bs : List ℕ) → ¬ IsUsed sets x → AllUsed sets bs → AllUsed (set sets x s) bs
+used_beside : (sets : BlockStateList) (x : ℕ) (s : BlockState) (bs : List ℕ) → ¬ IsUsed sets x → AreAllBlocksUsed sets bs → AreAllBlocksUsed (set sets x s) bs
 used_beside sets x s [] unused used = tt
 used_beside sets x s (b ∷ bs) unused used = (slice_get-set_other sets x b s (λ e. unused (subst (IsUsed sets) e used.0)) ∙ used.0, used_beside sets x s bs unused used.1)
 
-pub kept_with : (disk : Disk) (history : List Event) (hs : List Header) (sets now : BlockSets) (x : ℕ) (s : BlockState) → now ≡ set sets x s → ¬ IsUsed sets x → IsKept disk history hs sets → IsKept disk history hs now
-kept_with disk history hs sets now x s is unused kept = subst (IsKept disk history hs) (sym is) (record {
+pub kept_with : (disk : Disk) (history : List CallEvent) (hs : List PairHeader) (sets now : BlockStateList) (x : ℕ) (s : BlockState) → now ≡ set sets x s → ¬ IsUsed sets x → IsKeptThreadOnDisk disk history hs sets → IsKeptThreadOnDisk disk history hs now
+kept_with disk history hs sets now x s is unused kept = subst (IsKeptThreadOnDisk disk history hs) (sym is) (record {
   each = kept.each;
   links = kept.links;
   distinct = kept.distinct;
   size = length-set sets x s ∙ kept.size;
-  used = used_beside sets x s (blocks_of (pairs_on disk hs)) unused kept.used;
+  used = used_beside sets x s (blocks_of_pairs (pairs_of_headers disk hs)) unused kept.used;
 })
 
-pub kept_taken : (disk : Disk) (history : List Event) (hs : List Header) (sets now : BlockSets) (o : Option ℕ) → IfSome o (IsFree sets) → IfSome o (λ b. now ≡ set sets b InFlight) → IfNone o (now ≡ sets)
-    → IsKept disk history hs sets → IsKept disk history hs now
-kept_taken disk history hs sets now None free taken same kept = subst (IsKept disk history hs) (sym same) kept
+pub kept_taken : (disk : Disk) (history : List CallEvent) (hs : List PairHeader) (sets now : BlockStateList) (o : Option ℕ) → IfSome o (IsFree sets) → IfSome o (λ b. now ≡ set sets b InFlight) → IfNone o (now ≡ sets)
+    → IsKeptThreadOnDisk disk history hs sets → IsKeptThreadOnDisk disk history hs now
+kept_taken disk history hs sets now None free taken same kept = subst (IsKeptThreadOnDisk disk history hs) (sym same) kept
 kept_taken disk history hs sets now (Some b) free taken same kept = kept_with disk history hs sets now b InFlight taken (free_unused sets b free) kept

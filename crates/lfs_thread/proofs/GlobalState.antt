@@ -5,36 +5,36 @@ use Rattle.std.proofs.Math.Seq.{take-suc}
 use Rattle.std.proofs.lemmas.List.{map-append}
 use Rattle.std.proofs.lemmas.List.Sums.{fold-append}
 use Rattle.lfs_model.specs.Disk.{Disk}
-use Rattle.lfs_model.specs.History.{Event}
-use Rattle.lfs_model.specs.Slots.{Gstate, gstate_xor, no_gstate}
+use Rattle.lfs_model.specs.History.{CallEvent}
+use Rattle.lfs_model.specs.Slots.{Gstate, gstate_xor, zero_gstate}
 use Rattle.lfs_model.specs.Thread.{Pair, gstate_of}
 use Rattle.lfs_model.proofs.Completed.{completed_parts}
 use Rattle.lfs_tag.specs.FieldsView.{move_view}
-use Rattle.lfs_pair.specs.Pair.{address_in}
-use Rattle.lfs_thread.specs.Kept.{Header, AreHeaders, IsHeader, pair_on, pairs_on}
+use Rattle.lfs_pair.specs.Pair.{address_of_header}
+use Rattle.lfs_thread.specs.Kept.{PairHeader, ArePairHeadersOnDisk, IsPairHeaderOnDisk, pair_on, pairs_of_headers}
 use Rattle.lfs_thread.proofs.Keeping.{header_content, pair_on_content}
 
-abbrev delta_of : Header → Gstate
+abbrev delta_of : PairHeader → Gstate
 delta_of h = move_view h.move_state
 
 -- one more
-pub joined_more : (hs : List Header) (k : ℕ) (h : Header) → k < length hs → h ≡ get_or hs k h
-    → fold gstate_xor no_gstate (map (λ (p : Header). move_view p.move_state) (take (k + 1) hs)) ≡ gstate_xor (fold gstate_xor no_gstate (map (λ (p : Header). move_view p.move_state) (take k hs))) (move_view h.move_state)
+pub joined_more : (hs : List PairHeader) (k : ℕ) (h : PairHeader) → k < length hs → h ≡ get_or hs k h
+    → fold gstate_xor zero_gstate (map (λ (p : PairHeader). move_view p.move_state) (take (k + 1) hs)) ≡ gstate_xor (fold gstate_xor zero_gstate (map (λ (p : PairHeader). move_view p.move_state) (take k hs))) (move_view h.move_state)
 joined_more hs k h below is =
-    ap (λ (n : ℕ). fold gstate_xor no_gstate (map delta_of (take n hs))) (add-one k)
-    ∙ ap (λ (xs : List Header). fold gstate_xor no_gstate (map delta_of xs)) (take-suc hs k h below ∙ ap (λ (x : Header). take k hs ++ x ∷ []) (sym is))
-    ∙ ap (fold gstate_xor no_gstate) (map-append delta_of (take k hs) (h ∷ []))
-    ∙ fold-append gstate_xor no_gstate (map delta_of (take k hs)) (delta_of h ∷ [])
+    ap (λ (n : ℕ). fold gstate_xor zero_gstate (map delta_of (take n hs))) (add-one k)
+    ∙ ap (λ (xs : List PairHeader). fold gstate_xor zero_gstate (map delta_of xs)) (take-suc hs k h below ∙ ap (λ (x : PairHeader). take k hs ++ x ∷ []) (sym is))
+    ∙ ap (fold gstate_xor zero_gstate) (map-append delta_of (take k hs) (h ∷ []))
+    ∙ fold-append gstate_xor zero_gstate (map delta_of (take k hs)) (delta_of h ∷ [])
 
-delta_is : (disk : Disk) (history : List Event) (h : Header) → IsHeader disk history h → delta_of h ≡ (pair_on disk (address_in h)).content.move
+delta_is : (disk : Disk) (history : List CallEvent) (h : PairHeader) → IsPairHeaderOnDisk disk history h → delta_of h ≡ (pair_on disk (address_of_header h)).content.move
 delta_is disk history h is =
     is.is_pair.describes.sums.move ∙ sym (completed_parts is.held is.content is.complete).move
-    ∙ sym (ap (λ (p : Pair). p.content.move) (pair_on_content disk (address_in h) is.content (header_content disk history h is)))
+    ∙ sym (ap (λ (p : Pair). p.content.move) (pair_on_content disk (address_of_header h) is.content (header_content disk history h is)))
 
-deltas_are : (disk : Disk) (history : List Event) (hs : List Header) → AreHeaders disk history hs → map delta_of hs ≡ map (λ (p : Pair). p.content.move) (pairs_on disk hs)
+deltas_are : (disk : Disk) (history : List CallEvent) (hs : List PairHeader) → ArePairHeadersOnDisk disk history hs → map delta_of hs ≡ map (λ (p : Pair). p.content.move) (pairs_of_headers disk hs)
 deltas_are disk history [] are = refl
 deltas_are disk history (h ∷ hs) are = ap₂ (λ (g : Gstate) (gs : List Gstate). g ∷ gs) (delta_is disk history h are.0) (deltas_are disk history hs are.1)
 
 -- the deltas in the headers come to the global state of the pairs
-pub state_is : (disk : Disk) (history : List Event) (hs : List Header) → AreHeaders disk history hs → fold gstate_xor no_gstate (map (λ (p : Header). move_view p.move_state) hs) ≡ gstate_of (pairs_on disk hs)
-state_is disk history hs are = ap (fold gstate_xor no_gstate) (deltas_are disk history hs are)
+pub state_is : (disk : Disk) (history : List CallEvent) (hs : List PairHeader) → ArePairHeadersOnDisk disk history hs → fold gstate_xor zero_gstate (map (λ (p : PairHeader). move_view p.move_state) hs) ≡ gstate_of (pairs_of_headers disk hs)
+state_is disk history hs are = ap (fold gstate_xor zero_gstate) (deltas_are disk history hs are)

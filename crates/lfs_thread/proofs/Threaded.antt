@@ -7,27 +7,27 @@ use Rattle.lfs_model.specs.Blocks.{Blocks}
 use Rattle.std.specs.Option.{option_and_then, option_map}
 use Rattle.lfs_tag.specs.ContentView.{tail_view}
 use Rattle.lfs_model.proofs.Completed.{fits_pair}
-use Rattle.lfs_model.specs.View.{BeginsWithEntry, superblock_entry}
-use Rattle.lfs_model.specs.BlockSets.{BlockSets, IsUsed}
+use Rattle.lfs_model.specs.View.{BeginsWithLogEntry, superblock_name_log_entry}
+use Rattle.lfs_model.specs.BlockSets.{BlockStateList, IsUsed}
 use Rattle.lfs_model.specs.Disk.{Disk}
 use Rattle.lfs_device.specs.declared.geometry.Geometry.{Geometry}
-use Rattle.lfs_device.specs.Shown.{disk_of}
-use Rattle.lfs_model.specs.History.{AtWorst, Event, LeavesOnly, OnlyReads}
-use Rattle.lfs_model.specs.Stops.{Stops}
-use Rattle.lfs_model.proofs.Histories.{EachSince-behind, LeavesOnly-weaker, LeavesOnly-worst, goes_on_by}
-use Rattle.lfs_model.specs.Slots.{Content, FitsPair, no_gstate}
-use Rattle.lfs_model.specs.Changes.{Change}
-use Rattle.lfs_model.specs.Content.{RawContent, holder_at, raw_at, content_at, completed}
-use Rattle.lfs_model.specs.Thread.{Pair, blocks_of}
-use Rattle.lfs_pair.specs.Pair.{address_in}
-use Rattle.lfs_pair.specs.Commit.{CanCommit, Commits, HasChangesMade, HasSameContent, LeftByChange, made_at, OutsideKeeps, OutsideStays}
+use Rattle.lfs_device.specs.Shown.{disk_of_geometry_and_blocks}
+use Rattle.lfs_model.specs.History.{IsWorstOutcomeOfStop, CallEvent, IsTrueAfterEachStopSince, AreCallsSinceOnlyReads}
+use Rattle.lfs_model.specs.Stops.{IsLeftByStopIn}
+use Rattle.lfs_model.proofs.Histories.{IsTrueOfEachCallSince-behind, IsTrueAfterEachStopSince-weaker, IsTrueAfterEachStopSince-worst, goes_on_by}
+use Rattle.lfs_model.specs.Slots.{Content, IsContentFittingPair, zero_gstate}
+use Rattle.lfs_model.specs.Changes.{ContentChange}
+use Rattle.lfs_model.specs.Content.{RawContent, current_block_of_pair_at, raw_content_of_pair_at, content_of_pair_at, content_if_slots_are_complete}
+use Rattle.lfs_model.specs.Thread.{Pair, blocks_of_pairs}
+use Rattle.lfs_pair.specs.Pair.{address_of_header}
+use Rattle.lfs_pair.specs.Commit.{CanCommit, Commits, HasContentMadeByChanges, HasPairContentAsBefore, LeavesOldOrChangedContent, pair_content_after_changes, KeepsBlocksOutsidePair, KeepsUnprogrammedOutsidePair}
 use Rattle.lfs_pair.specs.Fresh.{IsFreshPair}
-use Rattle.lfs_pair.specs.Split.{AreApart, OutsideBothKeeps}
+use Rattle.lfs_pair.specs.Split.{HaveNoCommonBlock, KeepsBlocksOutsideBothPairs}
 use Rattle.lfs_model.proofs.FirstEntries.{superblock_anew}
-use Rattle.lfs_model.proofs.Staying.{AreElsewhere, raw_at-stays}
-use Rattle.lfs_thread.specs.Kept.{Kept, Header, kept_view, pair_on, pairs_on, IsHeader, AllUsed, IsKept}
-use Rattle.lfs_thread.specs.Device.{StopsLeave}
-use Rattle.lfs_thread.specs.Steps.{pair_in, no_pair, IsJoinRefused, made_in_thread, CanJoin, HasSuperblockFirst, HasOldContent, IsThreadedIn, IsJoinedOn, IsLeftByJoin, KeepsSuperblockFirst, joined_pair, put_tail, map_with_used_pair, with_two}
+use Rattle.lfs_model.proofs.Staying.{AreElsewhere, raw_content_of_pair_at-stays}
+use Rattle.lfs_thread.specs.Kept.{Kept, PairHeader, kept_thread_view, pair_on, pairs_of_headers, IsPairHeaderOnDisk, AreAllBlocksUsed, IsKeptThreadOnDisk}
+use Rattle.lfs_thread.specs.Device.{StopsAfterCleanErasesLeave}
+use Rattle.lfs_thread.specs.Steps.{kept_pair_at_index, no_pair, IsThreadingInRefused, complete_content_after_changes, CanThreadInFreshPair, HasSuperblockFirst, HasPairOldContentOnDisk, IsFreshPairThreadedIn, IsFreshPairThreadedInOnDisk, LeavesPairOldOrThreadedIn, KeepsSuperblockFirst, fresh_pair_with_tail, change_that_sets_tail, map_with_used_pair, pairs_with_one_replaced_by_two}
 use Rattle.lfs_thread.proofs.Keeping.{kept_thread, header_content, pair_on_content, pair_on-stays, used_right, pair_elsewhere, fresh_elsewhere, first_stays}
 use Rattle.lfs_thread.proofs.Changing.{IsAt, Completes, can_commit, kept_read, header_at_index, pair_at_index, made_of_header}
 use Rattle.lfs_thread.proofs.Coming.{SettlesTwo, settles_two, held_address}
@@ -38,11 +38,11 @@ use Rattle.lfs_thread.proofs.Joined.{beside_pairs, beside_kept, beside_made, joi
 
 -- ---- beside the thread, and then in it
 
-module _ (disk : Disk) (history : List Event) (hs : List Header) (sets : BlockSets) (index : ℕ) (h : Header) (fresh : ℕ × ℕ) (changes : List Change)
-    (a : IsAt hs index h) (kept : IsKept disk history hs sets) (can : CanJoin (kept_view disk history hs sets) index fresh changes)
-    (mid : Blocks) (then : List Event) (others : OutsideKeeps fresh disk.blocks mid) (stay : OutsideStays fresh history then) where
+module _ (disk : Disk) (history : List CallEvent) (hs : List PairHeader) (sets : BlockStateList) (index : ℕ) (h : PairHeader) (fresh : ℕ × ℕ) (changes : List ContentChange)
+    (a : IsAt hs index h) (kept : IsKeptThreadOnDisk disk history hs sets) (can : CanThreadInFreshPair (kept_thread_view disk history hs sets) index fresh changes)
+    (mid : Blocks) (then : List CallEvent) (others : KeepsBlocksOutsidePair fresh disk.blocks mid) (stay : KeepsUnprogrammedOutsidePair fresh history then) where
   abbrev old : Kept
-  old = kept_view disk history hs sets
+  old = kept_thread_view disk history hs sets
 
   abbrev beside : Disk
   beside = record disk { blocks = mid }
@@ -50,37 +50,37 @@ module _ (disk : Disk) (history : List Event) (hs : List Header) (sets : BlockSe
   uses : SettlesTwo sets fresh (map_with_used_pair sets fresh)
   uses = settles_two sets fresh can.held
 
-  pub still_kept : IsKept beside then hs sets
+  pub still_kept : IsKeptThreadOnDisk beside then hs sets
   still_kept = beside_kept disk history mid then hs sets fresh kept uses.first_unused uses.second_unused others stay
 
-  pub still_pairs : pairs_on beside hs ≡ pairs_on disk hs
+  pub still_pairs : pairs_of_headers beside hs ≡ pairs_of_headers disk hs
   still_pairs = beside_pairs disk history mid then hs sets fresh kept uses.first_unused uses.second_unused others stay
 
-  still_made : made_in_thread (kept_view beside then hs sets) index changes ≡ Some can.content
+  still_made : complete_content_after_changes (kept_thread_view beside then hs sets) index changes ≡ Some can.content
   still_made = beside_made disk history mid then hs sets fresh index h changes a kept uses.first_unused uses.second_unused others ∙ can.made
 
   pub then_can : CanCommit beside then h changes
   then_can = can_commit beside then hs sets index h changes a still_kept can.content still_made
 
-  was_pair : pair_in old index ≡ pair_on disk (address_in h)
+  was_pair : kept_pair_at_index old index ≡ pair_on disk (address_of_header h)
   was_pair = pair_at_index disk history hs sets index h a
 
-  is_header : IsHeader disk history h
+  is_header : IsPairHeaderOnDisk disk history h
   is_header = header_at_index disk history hs index h a kept.each
 
-  was_content : content_at disk (address_in h) ≡ Some (pair_in old index).content
+  was_content : content_of_pair_at disk (address_of_header h) ≡ Some (kept_pair_at_index old index).content
   was_content = header_content disk history h is_header
-      ∙ ap (λ (p : Pair). Some p.content) (sym (was_pair ∙ pair_on_content disk (address_in h) is_header.content (header_content disk history h is_header)))
+      ∙ ap (λ (p : Pair). Some p.content) (sym (was_pair ∙ pair_on_content disk (address_of_header h) is_header.content (header_content disk history h is_header)))
 
-  blocks_used : AllUsed sets ((address_in h).0 ∷ (address_in h).1 ∷ [])
+  blocks_used : AreAllBlocksUsed sets ((address_of_header h).0 ∷ (address_of_header h).1 ∷ [])
   blocks_used =
-      let all = subst (λ z. AllUsed sets (blocks_of (pairs_on disk z))) a.parts kept.used in
-      let parts = subst (λ ps. AllUsed sets (blocks_of ps)) (map-append (λ x. pair_on disk (address_in x)) a.front (h ∷ a.back)) all in
-      let cut = subst (AllUsed sets) (flat_map-append (λ (s : Pair). s.at.0 ∷ s.at.1 ∷ []) (pairs_on disk a.front) (pairs_on disk (h ∷ a.back))) parts in
-      let right = used_right sets (blocks_of (pairs_on disk a.front)) (blocks_of (pairs_on disk (h ∷ a.back))) cut in
+      let all = subst (λ z. AreAllBlocksUsed sets (blocks_of_pairs (pairs_of_headers disk z))) a.parts kept.used in
+      let parts = subst (λ ps. AreAllBlocksUsed sets (blocks_of_pairs ps)) (map-append (λ x. pair_on disk (address_of_header x)) a.front (h ∷ a.back)) all in
+      let cut = subst (AreAllBlocksUsed sets) (flat_map-append (λ (s : Pair). s.at.0 ∷ s.at.1 ∷ []) (pairs_of_headers disk a.front) (pairs_of_headers disk (h ∷ a.back))) parts in
+      let right = used_right sets (blocks_of_pairs (pairs_of_headers disk a.front)) (blocks_of_pairs (pairs_of_headers disk (h ∷ a.back))) cut in
       (right.0, (right.1.0, tt))
 
-  pub apart : AreApart (address_in h) fresh
+  pub apart : HaveNoCommonBlock (address_of_header h) fresh
   apart = record {
     first_first = λ e. uses.first_unused (subst (IsUsed sets) e blocks_used.0);
     first_second = λ e. uses.second_unused (subst (IsUsed sets) e blocks_used.0);
@@ -88,170 +88,170 @@ module _ (disk : Disk) (history : List Event) (hs : List Header) (sets : BlockSe
     second_second = λ e. uses.second_unused (subst (IsUsed sets) e blocks_used.1.0);
   }
 
-  same_raw : raw_at beside (address_in h) ≡ raw_at disk (address_in h)
-  same_raw = raw_at-stays disk (pair_elsewhere apart) others
+  same_raw : raw_content_of_pair_at beside (address_of_header h) ≡ raw_content_of_pair_at disk (address_of_header h)
+  same_raw = raw_content_of_pair_at-stays disk (pair_elsewhere apart) others
 
   -- the log that holds begins as it did
-  still_first : (left : Disk) (c : Content) → (BeginsWithEntry (holder_at beside (address_in h)) superblock_entry → HasSuperblockFirst c → BeginsWithEntry (holder_at left (address_in h)) superblock_entry)
-      → KeepsSuperblockFirst disk (address_in h) c left
-  still_first left c f begins has = f (first_stays disk (pair_elsewhere apart) others superblock_entry begins) has
+  still_first : (left : Disk) (c : Content) → (BeginsWithLogEntry (current_block_of_pair_at beside (address_of_header h)) superblock_name_log_entry → HasSuperblockFirst c → BeginsWithLogEntry (current_block_of_pair_at left (address_of_header h)) superblock_name_log_entry)
+      → KeepsSuperblockFirst disk (address_of_header h) c left
+  still_first left c f begins has = f (first_stays disk (pair_elsewhere apart) others superblock_name_log_entry begins) has
 
   -- ---- a stop before the commit
 
-  pub left_beside : (left : Blocks) → OutsideKeeps fresh disk.blocks left → IsLeftByJoin old index fresh changes left
+  pub left_beside : (left : Blocks) → KeepsBlocksOutsidePair fresh disk.blocks left → LeavesPairOldOrThreadedIn old index fresh changes left
   left_beside left keeps = record {
-    others = keeps_by_fresh (pair_in old index).at fresh keeps;
+    others = keeps_by_fresh (kept_pair_at_index old index).at fresh keeps;
     content = inl (record {
-      holds = ap (λ (p : Pair). content_at (record disk { blocks = left }) p.at) was_pair
-          ∙ ap (λ r. option_and_then completed r) (raw_at-stays disk (pair_elsewhere apart) keeps) ∙ was_content;
-      first = subst (λ (p : Pair). BeginsWithEntry (holder_at disk p.at) superblock_entry → BeginsWithEntry (holder_at (record disk { blocks = left }) p.at) superblock_entry) (sym was_pair)
-          (first_stays disk (pair_elsewhere apart) keeps superblock_entry);
+      holds = ap (λ (p : Pair). content_of_pair_at (record disk { blocks = left }) p.at) was_pair
+          ∙ ap (λ r. option_and_then content_if_slots_are_complete r) (raw_content_of_pair_at-stays disk (pair_elsewhere apart) keeps) ∙ was_content;
+      first = subst (λ (p : Pair). BeginsWithLogEntry (current_block_of_pair_at disk p.at) superblock_name_log_entry → BeginsWithLogEntry (current_block_of_pair_at (record disk { blocks = left }) p.at) superblock_name_log_entry) (sym was_pair)
+          (first_stays disk (pair_elsewhere apart) keeps superblock_name_log_entry);
     });
   }
 
   -- ---- with the fresh pair
 
-  module _ (f : Header) (is : IsFreshHeader beside then f fresh (pair_on disk (address_in h)).content.tail) where
-    same_pair : pair_on beside (address_in h) ≡ pair_on disk (address_in h)
-    same_pair = pair_on-stays disk (address_in h) (pair_elsewhere apart) others
+  module _ (f : PairHeader) (is : IsFreshHeader beside then f fresh (pair_on disk (address_of_header h)).content.tail) where
+    same_pair : pair_on beside (address_of_header h) ≡ pair_on disk (address_of_header h)
+    same_pair = pair_on-stays disk (address_of_header h) (pair_elsewhere apart) others
 
     -- a stop in the commit
-    pub left_by_join : (left : Blocks) → LeftByChange beside (address_in h) changes left → IsLeftByJoin old index fresh changes left
+    pub left_by_join : (left : Blocks) → LeavesOldOrChangedContent beside (address_of_header h) changes left → LeavesPairOldOrThreadedIn old index fresh changes left
     left_by_join left l = record {
-      others = subst (λ (p : Pair). OutsideBothKeeps p.at fresh disk.blocks left) (sym was_pair) (keeps_by_both (address_in h) fresh others l.others);
+      others = subst (λ (p : Pair). KeepsBlocksOutsideBothPairs p.at fresh disk.blocks left) (sym was_pair) (keeps_by_both (address_of_header h) fresh others l.others);
       content = sides l.content;
     }
       where
-        made_here : Completes (made_at beside (address_in h) changes) can.content
+        made_here : Completes (pair_content_after_changes beside (address_of_header h) changes) can.content
         made_here = made_of_header beside then hs sets index h changes can.content a still_made
 
-        behind : content_at (record disk { blocks = left }) fresh ≡ Some (joined_pair old index fresh).content
-        behind = ap (content_at (record disk { blocks = left })) (sym is.at)
-            ∙ ap (λ r. option_and_then completed r) (raw_at-stays beside (subst (λ x. AreElsewhere x ((address_in h).0 ∷ (address_in h).1 ∷ [])) (sym is.at) (fresh_elsewhere apart)) l.others)
+        behind : content_of_pair_at (record disk { blocks = left }) fresh ≡ Some (fresh_pair_with_tail old index fresh).content
+        behind = ap (content_of_pair_at (record disk { blocks = left })) (sym is.at)
+            ∙ ap (λ r. option_and_then content_if_slots_are_complete r) (raw_content_of_pair_at-stays beside (subst (λ x. AreElsewhere x ((address_of_header h).0 ∷ (address_of_header h).1 ∷ [])) (sym is.at) (fresh_elsewhere apart)) l.others)
             ∙ header_content beside then f is.header ∙ ap Some is.empty
-            ∙ ap (λ (p : Pair). Some (record { slots = []; tail = p.content.tail; move = no_gstate })) (sym was_pair)
+            ∙ ap (λ (p : Pair). Some (record { slots = []; tail = p.content.tail; move = zero_gstate })) (sym was_pair)
 
-        sides : HasSameContent beside (address_in h) (record disk { blocks = left }) ⊎ HasChangesMade beside (address_in h) changes (record disk { blocks = left })
-            → HasOldContent old index (record disk { blocks = left }) ⊎ IsJoinedOn old index fresh changes (record disk { blocks = left })
+        sides : HasPairContentAsBefore beside (address_of_header h) (record disk { blocks = left }) ⊎ HasContentMadeByChanges beside (address_of_header h) changes (record disk { blocks = left })
+            → HasPairOldContentOnDisk old index (record disk { blocks = left }) ⊎ IsFreshPairThreadedInOnDisk old index fresh changes (record disk { blocks = left })
         sides (inl k) = inl (record {
-          holds = ap (λ (p : Pair). content_at (record disk { blocks = left }) p.at) was_pair ∙ ap (λ o. option_and_then completed o) (k.content ∙ same_raw) ∙ was_content;
-          first = subst (λ (p : Pair). BeginsWithEntry (holder_at disk p.at) superblock_entry → BeginsWithEntry (holder_at (record disk { blocks = left }) p.at) superblock_entry) (sym was_pair)
-              (λ begins. k.first superblock_entry (first_stays disk (pair_elsewhere apart) others superblock_entry begins));
+          holds = ap (λ (p : Pair). content_of_pair_at (record disk { blocks = left }) p.at) was_pair ∙ ap (λ o. option_and_then content_if_slots_are_complete o) (k.content ∙ same_raw) ∙ was_content;
+          first = subst (λ (p : Pair). BeginsWithLogEntry (current_block_of_pair_at disk p.at) superblock_name_log_entry → BeginsWithLogEntry (current_block_of_pair_at (record disk { blocks = left }) p.at) superblock_name_log_entry) (sym was_pair)
+              (λ begins. k.first superblock_name_log_entry (first_stays disk (pair_elsewhere apart) others superblock_name_log_entry begins));
         })
         sides (inr k) =
-            let whole : completed k.new ≡ Some can.content = ap completed (same_Some k.new made_here.raw (sym k.made ∙ made_here.is)) ∙ made_here.complete in
+            let whole : content_if_slots_are_complete k.new ≡ Some can.content = ap content_if_slots_are_complete (same_Some k.new made_here.raw (sym k.made ∙ made_here.is)) ∙ made_here.complete in
             inr (record {
               content = can.content;
               made = can.made;
               fits = fits_pair disk.block_size disk.page k.new can.content k.logged whole k.fits;
-              holds = ap (λ (p : Pair). content_at (record disk { blocks = left }) p.at) was_pair ∙ ap (λ o. option_and_then completed o) k.now.content ∙ whole;
+              holds = ap (λ (p : Pair). content_of_pair_at (record disk { blocks = left }) p.at) was_pair ∙ ap (λ o. option_and_then content_if_slots_are_complete o) k.now.content ∙ whole;
               behind = behind;
               first = subst (λ (p : Pair). KeepsSuperblockFirst disk p.at can.content (record disk { blocks = left })) (sym was_pair)
-                  (still_first (record disk { blocks = left }) can.content (λ begins has. k.now.first superblock_entry begins (superblock_anew k.new can.content k.logged.slots whole has.0 has.1)));
+                  (still_first (record disk { blocks = left }) can.content (λ begins has. k.now.first superblock_name_log_entry begins (superblock_anew k.new can.content k.logged.slots whole has.0 has.1)));
             })
 
     -- after the commit
-    module _ (blocks : Blocks) (after : List Event) (new : Header) (commits : Commits beside then changes h (record disk { blocks = blocks }) after new)
-        (keeps : OutsideKeeps (address_in h) mid blocks) (stays : OutsideStays (address_in h) then after) where
+    module _ (blocks : Blocks) (after : List CallEvent) (new : PairHeader) (commits : Commits beside then changes h (record disk { blocks = blocks }) after new)
+        (keeps : KeepsBlocksOutsidePair (address_of_header h) mid blocks) (stays : KeepsUnprogrammedOutsidePair (address_of_header h) then after) where
       abbrev left : Disk
       left = record disk { blocks = blocks }
 
-      empty : is.header.content ≡ record { slots = []; tail = (pair_on beside (address_in h)).content.tail; move = no_gstate }
-      empty = is.empty ∙ ap (λ (p : Pair). record { slots = []; tail = p.content.tail; move = no_gstate }) (sym same_pair)
+      empty : is.header.content ≡ record { slots = []; tail = (pair_on beside (address_of_header h)).content.tail; move = zero_gstate }
+      empty = is.empty ∙ ap (λ (p : Pair). record { slots = []; tail = p.content.tail; move = zero_gstate }) (sym same_pair)
 
-      pub is_kept : IsKept left after (insert (set hs index new) (index + 1) f) (map_with_used_pair sets fresh)
+      pub is_kept : IsKeptThreadOnDisk left after (insert (set hs index new) (index + 1) f) (map_with_used_pair sets fresh)
       is_kept = joined_kept beside then blocks after hs sets (map_with_used_pair sets fresh) index h new f fresh changes can.content a still_kept still_made can.next commits keeps stays is.header is.at empty uses
 
-      is_whole : completed commits.new ≡ Some can.content
+      is_whole : content_if_slots_are_complete commits.new ≡ Some can.content
       is_whole = let m = made_of_header beside then hs sets index h changes can.content a still_made in
-          ap completed (same_Some commits.new m.raw (sym commits.made ∙ m.is)) ∙ m.complete
+          ap content_if_slots_are_complete (same_Some commits.new m.raw (sym commits.made ∙ m.is)) ∙ m.complete
 
-      same_at : pair_in (kept_view beside then hs sets) index ≡ pair_in old index
+      same_at : kept_pair_at_index (kept_thread_view beside then hs sets) index ≡ kept_pair_at_index old index
       same_at = ap (λ ps. get_or ps index no_pair) still_pairs
 
-      pub is_joined : IsThreadedIn old index fresh changes (kept_view left after (insert (set hs index new) (index + 1) f) (map_with_used_pair sets fresh))
+      pub is_joined : IsFreshPairThreadedIn old index fresh changes (kept_thread_view left after (insert (set hs index new) (index + 1) f) (map_with_used_pair sets fresh))
       is_joined = record {
         content = can.content;
         made = can.made;
         fits = fits_pair disk.block_size disk.page commits.new can.content commits.logged is_whole commits.fits;
         first = subst (λ (p : Pair). KeepsSuperblockFirst disk p.at can.content left) (sym was_pair)
-            (still_first left can.content (λ begins has. commits.first superblock_entry begins (superblock_anew commits.new can.content commits.logged.slots is_whole has.0 has.1)));
+            (still_first left can.content (λ begins has. commits.first superblock_name_log_entry begins (superblock_anew commits.new can.content commits.logged.slots is_whole has.0 has.1)));
         pairs = joined_pairs beside then blocks after hs sets (map_with_used_pair sets fresh) index h new f fresh changes can.content a still_kept still_made can.next commits keeps stays is.header is.at empty uses
-            ∙ ap₂ (λ (ps : List Pair) (p : Pair). with_two ps index (record { at = p.at; content = can.content }) (record { at = fresh; content = record { slots = []; tail = p.content.tail; move = no_gstate } })) still_pairs same_at;
+            ∙ ap₂ (λ (ps : List Pair) (p : Pair). pairs_with_one_replaced_by_two ps index (record { at = p.at; content = can.content }) (record { at = fresh; content = record { slots = []; tail = p.content.tail; move = zero_gstate } })) still_pairs same_at;
         thread = kept_thread left after (insert (set hs index new) (index + 1) f) (map_with_used_pair sets fresh) is_kept;
         map = refl;
       }
 
 -- ---- in the code's words
 
-module _ (geometry later : Geometry) (old mid : Blocks) (before then : List Event) (hs : List Header) (sets : BlockSets) (index : ℕ) (h : Header) (fresh : ℕ × ℕ) (changes : List Change)
-    (same : later ≡ geometry) (a : IsAt hs index h) (kept : IsKept (disk_of geometry old) before hs sets) (can : CanJoin (kept_view (disk_of geometry old) before hs sets) index fresh changes)
-    (others : OutsideKeeps fresh old mid) (stay : OutsideStays fresh before then) where
+module _ (geometry later : Geometry) (old mid : Blocks) (before then : List CallEvent) (hs : List PairHeader) (sets : BlockStateList) (index : ℕ) (h : PairHeader) (fresh : ℕ × ℕ) (changes : List ContentChange)
+    (same : later ≡ geometry) (a : IsAt hs index h) (kept : IsKeptThreadOnDisk (disk_of_geometry_and_blocks geometry old) before hs sets) (can : CanThreadInFreshPair (kept_thread_view (disk_of_geometry_and_blocks geometry old) before hs sets) index fresh changes)
+    (others : KeepsBlocksOutsidePair fresh old mid) (stay : KeepsUnprogrammedOutsidePair fresh before then) where
   abbrev was : Kept
-  was = kept_view (disk_of geometry old) before hs sets
+  was = kept_thread_view (disk_of_geometry_and_blocks geometry old) before hs sets
 
-  pub device_can : CanCommit (disk_of later mid) then h changes
-  device_can = subst (λ k. CanCommit (disk_of k mid) then h changes) (sym same) (then_can (disk_of geometry old) before hs sets index h fresh changes a kept can mid then others stay)
+  pub device_can : CanCommit (disk_of_geometry_and_blocks later mid) then h changes
+  device_can = subst (λ k. CanCommit (disk_of_geometry_and_blocks k mid) then h changes) (sym same) (then_can (disk_of_geometry_and_blocks geometry old) before hs sets index h fresh changes a kept can mid then others stay)
 
-  pub device_left_beside : LeavesOnly AtWorst before then (OutsideKeeps fresh old) → LeavesOnly Stops before then (IsLeftByJoin was index fresh changes)
-  device_left_beside worst = LeavesOnly-weaker (λ left keeps. left_beside (disk_of geometry old) before hs sets index h fresh changes a kept can mid then others stay left keeps) (LeavesOnly-worst worst)
+  pub device_left_beside : IsTrueAfterEachStopSince IsWorstOutcomeOfStop before then (KeepsBlocksOutsidePair fresh old) → IsTrueAfterEachStopSince IsLeftByStopIn before then (LeavesPairOldOrThreadedIn was index fresh changes)
+  device_left_beside worst = IsTrueAfterEachStopSince-weaker (λ left keeps. left_beside (disk_of_geometry_and_blocks geometry old) before hs sets index h fresh changes a kept can mid then others stay left keeps) (IsTrueAfterEachStopSince-worst worst)
 
-  pub beside_read : (disk : Disk) (after : List Event) → disk ≡ disk_of later mid → OnlyReads mid then after → IsKept disk after hs sets
-  beside_read disk after e reads = subst (λ d. IsKept d after hs sets) (sym e) (subst (λ k. IsKept (disk_of k mid) after hs sets) (sym same)
-      (kept_read (disk_of geometry mid) mid then after hs sets reads (still_kept (disk_of geometry old) before hs sets index h fresh changes a kept can mid then others stay)))
+  pub beside_read : (disk : Disk) (after : List CallEvent) → disk ≡ disk_of_geometry_and_blocks later mid → AreCallsSinceOnlyReads mid then after → IsKeptThreadOnDisk disk after hs sets
+  beside_read disk after e reads = subst (λ d. IsKeptThreadOnDisk d after hs sets) (sym e) (subst (λ k. IsKeptThreadOnDisk (disk_of_geometry_and_blocks k mid) after hs sets) (sym same)
+      (kept_read (disk_of_geometry_and_blocks geometry mid) mid then after hs sets reads (still_kept (disk_of_geometry_and_blocks geometry old) before hs sets index h fresh changes a kept can mid then others stay)))
 
-  pub is_beside : (disk : Disk) (after : List Event) → disk ≡ disk_of later mid
-      → ((raw : RawContent) (d : Content) → made_at (disk_of later mid) (address_in h) changes ≡ Some raw → completed raw ≡ Some d → FitsPair later.block_size later.page d → ⊥)
-      → IsJoinRefused was index fresh changes (kept_view disk after hs sets)
-  is_beside disk after e too_large = subst (λ d. IsJoinRefused was index fresh changes (kept_view d after hs sets)) (sym e) (subst (λ k. IsJoinRefused was index fresh changes (kept_view (disk_of k mid) after hs sets)) (sym same) (record {
+  pub is_beside : (disk : Disk) (after : List CallEvent) → disk ≡ disk_of_geometry_and_blocks later mid
+      → ((raw : RawContent) (d : Content) → pair_content_after_changes (disk_of_geometry_and_blocks later mid) (address_of_header h) changes ≡ Some raw → content_if_slots_are_complete raw ≡ Some d → IsContentFittingPair later.block_size later.page d → ⊥)
+      → IsThreadingInRefused was index fresh changes (kept_thread_view disk after hs sets)
+  is_beside disk after e too_large = subst (λ d. IsThreadingInRefused was index fresh changes (kept_thread_view d after hs sets)) (sym e) (subst (λ k. IsThreadingInRefused was index fresh changes (kept_thread_view (disk_of_geometry_and_blocks k mid) after hs sets)) (sym same) (record {
     content = can.content;
     made = can.made;
     too_large = λ f.
-        let m = made_of_header (disk_of geometry mid) then hs sets index h changes can.content a (still_made (disk_of geometry old) before hs sets index h fresh changes a kept can mid then others stay) in
-        subst (λ k. (raw : RawContent) (d : Content) → made_at (disk_of k mid) (address_in h) changes ≡ Some raw → completed raw ≡ Some d → FitsPair k.block_size k.page d → ⊥) same too_large m.raw can.content m.is m.complete f;
-    pairs = still_pairs (disk_of geometry old) before hs sets index h fresh changes a kept can mid then others stay;
+        let m = made_of_header (disk_of_geometry_and_blocks geometry mid) then hs sets index h changes can.content a (still_made (disk_of_geometry_and_blocks geometry old) before hs sets index h fresh changes a kept can mid then others stay) in
+        subst (λ k. (raw : RawContent) (d : Content) → pair_content_after_changes (disk_of_geometry_and_blocks k mid) (address_of_header h) changes ≡ Some raw → content_if_slots_are_complete raw ≡ Some d → IsContentFittingPair k.block_size k.page d → ⊥) same too_large m.raw can.content m.is m.complete f;
+    pairs = still_pairs (disk_of_geometry_and_blocks geometry old) before hs sets index h fresh changes a kept can mid then others stay;
     map = refl;
     others = others;
   }))
 
-  module _ (f : Header) (tail : Change) (is : IsFreshPair before (tail ∷ []) (disk_of later mid) then fresh f) (tail_is : tail ≡ put_tail (option_map tail_view h.tail)) (few : length old ≤ 65536) where
-    fresh_there : IsFreshHeader (disk_of geometry mid) then f fresh (pair_on (disk_of geometry old) (address_in h)).content.tail
+  module _ (f : PairHeader) (tail : ContentChange) (is : IsFreshPair before (tail ∷ []) (disk_of_geometry_and_blocks later mid) then fresh f) (tail_is : tail ≡ change_that_sets_tail (option_map tail_view h.tail)) (few : length old ≤ 65536) where
+    fresh_there : IsFreshHeader (disk_of_geometry_and_blocks geometry mid) then f fresh (pair_on (disk_of_geometry_and_blocks geometry old) (address_of_header h)).content.tail
     fresh_there =
-        let on = held_address (disk_of geometry old) before hs sets fresh kept can.held in
-        let named = subst (λ t. tail ≡ put_tail t) (sym (header_tail (disk_of geometry old) before h (header_at_index (disk_of geometry old) before hs index h a kept.each))) tail_is in
-        fresh_header (disk_of geometry mid) before then f fresh (pair_on (disk_of geometry old) (address_in h)).content.tail
+        let on = held_address (disk_of_geometry_and_blocks geometry old) before hs sets fresh kept can.held in
+        let named = subst (λ t. tail ≡ change_that_sets_tail t) (sym (header_tail (disk_of_geometry_and_blocks geometry old) before h (header_at_index (disk_of_geometry_and_blocks geometry old) before hs index h a kept.each))) tail_is in
+        fresh_header (disk_of_geometry_and_blocks geometry mid) before then f fresh (pair_on (disk_of_geometry_and_blocks geometry old) (address_of_header h)).content.tail
         (record { apart = on.apart; first = subst (λ n. fresh.0 < n) (sym others.count) on.first; second = subst (λ n. fresh.1 < n) (sym others.count) on.second })
-        (tail_named (disk_of geometry old) before hs sets index h a kept few)
-        (subst (λ t. IsFreshPair before (t ∷ []) (disk_of geometry mid) then fresh f) named (subst (λ k. IsFreshPair before (tail ∷ []) (disk_of k mid) then fresh f) same is))
+        (tail_named (disk_of_geometry_and_blocks geometry old) before hs sets index h a kept few)
+        (subst (λ t. IsFreshPair before (t ∷ []) (disk_of_geometry_and_blocks geometry mid) then fresh f) named (subst (λ k. IsFreshPair before (tail ∷ []) (disk_of_geometry_and_blocks k mid) then fresh f) same is))
 
-    pub device_stops : (after : List Event) → LeavesOnly AtWorst before then (OutsideKeeps fresh old) → LeavesOnly AtWorst then after (OutsideKeeps (address_in h) mid)
-        → StopsLeave then after (LeftByChange (disk_of later mid) (address_in h) changes) → StopsLeave before after (IsLeftByJoin was index fresh changes)
+    pub device_stops : (after : List CallEvent) → IsTrueAfterEachStopSince IsWorstOutcomeOfStop before then (KeepsBlocksOutsidePair fresh old) → IsTrueAfterEachStopSince IsWorstOutcomeOfStop then after (KeepsBlocksOutsidePair (address_of_header h) mid)
+        → StopsAfterCleanErasesLeave then after (LeavesOldOrChangedContent (disk_of_geometry_and_blocks later mid) (address_of_header h) changes) → StopsAfterCleanErasesLeave before after (LeavesPairOldOrThreadedIn was index fresh changes)
     device_stops after first second stops cleanly = goes_on_by (device_left_beside first)
-        (LeavesOnly-weaker (λ left l. left_by_join (disk_of geometry old) before hs sets index h fresh changes a kept can mid then others stay f fresh_there left
-        (subst (λ k. LeftByChange (disk_of k mid) (address_in h) changes left) same l)) (stops (EachSince-behind cleanly first second)))
+        (IsTrueAfterEachStopSince-weaker (λ left l. left_by_join (disk_of_geometry_and_blocks geometry old) before hs sets index h fresh changes a kept can mid then others stay f fresh_there left
+        (subst (λ k. LeavesOldOrChangedContent (disk_of_geometry_and_blocks k mid) (address_of_header h) changes left) same l)) (stops (IsTrueOfEachCallSince-behind cleanly first second)))
 
-    module _ (now_geometry : Geometry) (blocks : Blocks) (after : List Event) (new : Header) (still : now_geometry ≡ later) (commits : Commits (disk_of later mid) then changes h (disk_of now_geometry blocks) after new)
-        (keeps : OutsideKeeps (address_in h) mid blocks) (stays : OutsideStays (address_in h) then after) (items : List Header) (are : items ≡ insert (set hs index new) (index + 1) f)
-        (now : BlockSets) (is_now : now ≡ map_with_used_pair sets fresh) where
-      commits_there : Commits (disk_of geometry mid) then changes h (disk_of geometry blocks) after new
-      commits_there = subst (λ k. Commits (disk_of k mid) then changes h (disk_of k blocks) after new) same (subst (λ k. Commits (disk_of later mid) then changes h (disk_of k blocks) after new) still commits)
+    module _ (now_geometry : Geometry) (blocks : Blocks) (after : List CallEvent) (new : PairHeader) (still : now_geometry ≡ later) (commits : Commits (disk_of_geometry_and_blocks later mid) then changes h (disk_of_geometry_and_blocks now_geometry blocks) after new)
+        (keeps : KeepsBlocksOutsidePair (address_of_header h) mid blocks) (stays : KeepsUnprogrammedOutsidePair (address_of_header h) then after) (items : List PairHeader) (are : items ≡ insert (set hs index new) (index + 1) f)
+        (now : BlockStateList) (is_now : now ≡ map_with_used_pair sets fresh) where
+      commits_there : Commits (disk_of_geometry_and_blocks geometry mid) then changes h (disk_of_geometry_and_blocks geometry blocks) after new
+      commits_there = subst (λ k. Commits (disk_of_geometry_and_blocks k mid) then changes h (disk_of_geometry_and_blocks k blocks) after new) same (subst (λ k. Commits (disk_of_geometry_and_blocks later mid) then changes h (disk_of_geometry_and_blocks k blocks) after new) still commits)
 
       there : now_geometry ≡ geometry
       there = still ∙ same
 
-      pub device_joined : IsKept (disk_of now_geometry blocks) after items now
-      device_joined = subst (λ k. IsKept (disk_of k blocks) after items now) (sym there) (subst (λ z. IsKept (disk_of geometry blocks) after z now) (sym are)
-          (subst (λ m. IsKept (disk_of geometry blocks) after (insert (set hs index new) (index + 1) f) m) (sym is_now)
-          (is_kept (disk_of geometry old) before hs sets index h fresh changes a kept can mid then others stay f fresh_there blocks after new commits_there keeps stays)))
+      pub device_joined : IsKeptThreadOnDisk (disk_of_geometry_and_blocks now_geometry blocks) after items now
+      device_joined = subst (λ k. IsKeptThreadOnDisk (disk_of_geometry_and_blocks k blocks) after items now) (sym there) (subst (λ z. IsKeptThreadOnDisk (disk_of_geometry_and_blocks geometry blocks) after z now) (sym are)
+          (subst (λ m. IsKeptThreadOnDisk (disk_of_geometry_and_blocks geometry blocks) after (insert (set hs index new) (index + 1) f) m) (sym is_now)
+          (is_kept (disk_of_geometry_and_blocks geometry old) before hs sets index h fresh changes a kept can mid then others stay f fresh_there blocks after new commits_there keeps stays)))
 
-      pub device_is_joined : IsThreadedIn was index fresh changes (kept_view (disk_of now_geometry blocks) after items now)
-      device_is_joined = subst (λ k. IsThreadedIn was index fresh changes (kept_view (disk_of k blocks) after items now)) (sym there)
-          (subst (λ z. IsThreadedIn was index fresh changes (kept_view (disk_of geometry blocks) after z now)) (sym are)
-          (subst (λ m. IsThreadedIn was index fresh changes (kept_view (disk_of geometry blocks) after (insert (set hs index new) (index + 1) f) m)) (sym is_now)
-          (is_joined (disk_of geometry old) before hs sets index h fresh changes a kept can mid then others stay f fresh_there blocks after new commits_there keeps stays)))
+      pub device_is_joined : IsFreshPairThreadedIn was index fresh changes (kept_thread_view (disk_of_geometry_and_blocks now_geometry blocks) after items now)
+      device_is_joined = subst (λ k. IsFreshPairThreadedIn was index fresh changes (kept_thread_view (disk_of_geometry_and_blocks k blocks) after items now)) (sym there)
+          (subst (λ z. IsFreshPairThreadedIn was index fresh changes (kept_thread_view (disk_of_geometry_and_blocks geometry blocks) after z now)) (sym are)
+          (subst (λ m. IsFreshPairThreadedIn was index fresh changes (kept_thread_view (disk_of_geometry_and_blocks geometry blocks) after (insert (set hs index new) (index + 1) f) m)) (sym is_now)
+          (is_joined (disk_of_geometry_and_blocks geometry old) before hs sets index h fresh changes a kept can mid then others stay f fresh_there blocks after new commits_there keeps stays)))
 
 -- a header put behind another one is taken out again
-pub unplaced : (hs : List Header) (index : ℕ) (h x : Header) → IsAt hs index h → remove (insert hs (index + 1) x) (index + 1) ≡ hs
+pub unplaced : (hs : List PairHeader) (index : ℕ) (h x : PairHeader) → IsAt hs index h → remove (insert hs (index + 1) x) (index + 1) ≡ hs
 unplaced hs index h x a =
-    ap₂ (λ (z : List Header) (i : ℕ). remove (insert z (i + 1) x) (i + 1)) a.parts a.place
+    ap₂ (λ (z : List PairHeader) (i : ℕ). remove (insert z (i + 1) x) (i + 1)) a.parts a.place
     ∙ ap (λ z. remove z (length a.front + 1)) (insert_behind a.front h a.back x) ∙ remove_behind a.front h x a.back ∙ sym a.parts

@@ -2,95 +2,95 @@
 use Rattle.std.specs.Prelude.{ℕ, ◌≡◌, Bool, nat_eq, unwrap_or, map, length, List, [], ◌∷◌, Option, Some}
 use Rattle.std.specs.List.{IsDistinct}
 use Rattle.lfs_device.specs.declared.device.BlockDevice.{Ghosts}
-use Rattle.lfs_device.specs.Shown.{disk_of}
-use Rattle.lfs_model.specs.Blocks.{Blocks, block_in}
-use Rattle.lfs_model.specs.BlockSets.{BlockSets, IsUsed}
-use Rattle.lfs_model.specs.Cache.{CachedBlocks, cached}
+use Rattle.lfs_device.specs.Shown.{disk_of_geometry_and_blocks}
+use Rattle.lfs_model.specs.Blocks.{Blocks, block_bytes_in}
+use Rattle.lfs_model.specs.BlockSets.{BlockStateList, IsUsed}
+use Rattle.lfs_model.specs.Cache.{CachedBlocks, cached_bytes_of_block}
 use Rattle.lfs_model.specs.Disk.{Disk, block_count}
-use Rattle.lfs_model.specs.History.{Event, OnlyReads}
-use Rattle.lfs_model.specs.Slots.{Content, no_gstate}
-use Rattle.lfs_model.specs.Content.{RawContent, raw_at, content_at, completed}
-use Rattle.lfs_model.specs.Thread.{Pair, anchor, LinkByTails, blocks_of}
+use Rattle.lfs_model.specs.History.{CallEvent, AreCallsSinceOnlyReads}
+use Rattle.lfs_model.specs.Slots.{Content, zero_gstate}
+use Rattle.lfs_model.specs.Content.{RawContent, raw_content_of_pair_at, content_of_pair_at, content_if_slots_are_complete}
+use Rattle.lfs_model.specs.Thread.{Pair, anchor_pair_address, AreLinkedByTails, blocks_of_pairs}
 use Rattle.lfs_pair.specs.declared.pair.Pair as header
-use Rattle.lfs_pair.specs.Pair.{IsPair, address_in}
-use Rattle.lfs_pair.specs.Commit.{IsAddressOn}
+use Rattle.lfs_pair.specs.Pair.{IsPairOnDisk, address_of_header}
+use Rattle.lfs_pair.specs.Commit.{IsPairAddressOnDisk}
 
 -- The header that is kept of a pair.
-abbrev pub Header : Type 0
-Header = header.Pair
+abbrev pub PairHeader : Type 0
+PairHeader = header.Pair
 
 -- What is kept of a thread: the disk and its calls so far, the pairs in the thread's order, and the map of the blocks.
 pub record Kept : Type 0 where
   pub disk : Disk
-  pub history : List Event
+  pub history : List CallEvent
   pub pairs : List Pair
-  pub map : BlockSets
+  pub map : BlockStateList
 
 -- What contracts see of a thread: what is kept, which blocks are cached, and whether a call failed.
-pub record State : Type 0 where
+pub record ThreadView : Type 0 where
   pub kept : Kept
   pub cache : CachedBlocks
   pub failed : Bool
 
 -- the pair that the disk has at an address
 abbrev pub pair_on : Disk → ℕ × ℕ → Pair
-pair_on disk at = record { at = at; content = unwrap_or (content_at disk at) (record { slots = []; tail = Option.None; move = no_gstate }) }
+pair_on disk at = record { at = at; content = unwrap_or (content_of_pair_at disk at) (record { slots = []; tail = Option.None; move = zero_gstate }) }
 
-abbrev pub pairs_on : Disk → List Header → List Pair
-pairs_on disk headers = map (λ h. pair_on disk (address_in h)) headers
+abbrev pub pairs_of_headers : Disk → List PairHeader → List Pair
+pairs_of_headers disk headers = map (λ h. pair_on disk (address_of_header h)) headers
 
-abbrev pub kept_view : Disk → List Event → List Header → BlockSets → Kept
-kept_view disk history headers sets = record { disk = disk; history = history; pairs = pairs_on disk headers; map = sets }
+abbrev pub kept_thread_view : Disk → List CallEvent → List PairHeader → BlockStateList → Kept
+kept_thread_view disk history headers sets = record { disk = disk; history = history; pairs = pairs_of_headers disk headers; map = sets }
 
 -- The disk has the pair as its header says, and each of its slots has a name and a struct.
-pub record IsHeader (disk : Disk) (history : List Event) (h : Header) : Type 0 where
-  pub address : IsAddressOn disk (address_in h)
+pub record IsPairHeaderOnDisk (disk : Disk) (history : List CallEvent) (h : PairHeader) : Type 0 where
+  pub address : IsPairAddressOnDisk disk (address_of_header h)
   pub held : RawContent
-  pub is_pair : IsPair disk history h held
-  pub raw : raw_at disk (address_in h) ≡ Some held
+  pub is_pair : IsPairOnDisk disk history h held
+  pub raw : raw_content_of_pair_at disk (address_of_header h) ≡ Some held
   pub content : Content
-  pub complete : completed held ≡ Some content
+  pub complete : content_if_slots_are_complete held ≡ Some content
 
-abbrev pub AreHeaders : Disk → List Event → List Header → Type 0
-AreHeaders disk history [] = Unit {0}
-AreHeaders disk history (h ∷ hs) = IsHeader disk history h × AreHeaders disk history hs
+abbrev pub ArePairHeadersOnDisk : Disk → List CallEvent → List PairHeader → Type 0
+ArePairHeadersOnDisk disk history [] = Unit {0}
+ArePairHeadersOnDisk disk history (h ∷ hs) = IsPairHeaderOnDisk disk history h × ArePairHeadersOnDisk disk history hs
 
-abbrev pub AllUsed : BlockSets → List ℕ → Type 0
-AllUsed sets [] = Unit {0}
-AllUsed sets (b ∷ bs) = IsUsed sets b × AllUsed sets bs
+abbrev pub AreAllBlocksUsed : BlockStateList → List ℕ → Type 0
+AreAllBlocksUsed sets [] = Unit {0}
+AreAllBlocksUsed sets (b ∷ bs) = IsUsed sets b × AreAllBlocksUsed sets bs
 
 -- What is kept is what the disk has: the headers are those of its thread, and the map has their blocks as used.
-pub record IsKept (disk : Disk) (history : List Event) (headers : List Header) (sets : BlockSets) : Type 0 where
-  pub each : AreHeaders disk history headers
-  pub links : LinkByTails (Some anchor) (pairs_on disk headers)
-  pub distinct : IsDistinct nat_eq (blocks_of (pairs_on disk headers))
+pub record IsKeptThreadOnDisk (disk : Disk) (history : List CallEvent) (headers : List PairHeader) (sets : BlockStateList) : Type 0 where
+  pub each : ArePairHeadersOnDisk disk history headers
+  pub links : AreLinkedByTails (Some anchor_pair_address) (pairs_of_headers disk headers)
+  pub distinct : IsDistinct nat_eq (blocks_of_pairs (pairs_of_headers disk headers))
   pub size : length sets ≡ block_count disk
-  pub used : AllUsed sets (blocks_of (pairs_on disk headers))
+  pub used : AreAllBlocksUsed sets (blocks_of_pairs (pairs_of_headers disk headers))
 
 -- Headers that were kept at some time of a disk that was only read since then. The map has their blocks as used.
-pub record WasKept (disk : Disk) (history : List Event) (headers : List Header) (sets : BlockSets) : Type 0 where
-  pub before : List Event
-  pub since : OnlyReads disk.blocks before history
-  pub each : AreHeaders disk before headers
-  pub links : LinkByTails (Some anchor) (pairs_on disk headers)
-  pub distinct : IsDistinct nat_eq (blocks_of (pairs_on disk headers))
+pub record WasKeptThreadOnDisk (disk : Disk) (history : List CallEvent) (headers : List PairHeader) (sets : BlockStateList) : Type 0 where
+  pub before : List CallEvent
+  pub since : AreCallsSinceOnlyReads disk.blocks before history
+  pub each : ArePairHeadersOnDisk disk before headers
+  pub links : AreLinkedByTails (Some anchor_pair_address) (pairs_of_headers disk headers)
+  pub distinct : IsDistinct nat_eq (blocks_of_pairs (pairs_of_headers disk headers))
   pub size : length sets ≡ block_count disk
-  pub used : AllUsed sets (blocks_of (pairs_on disk headers))
+  pub used : AreAllBlocksUsed sets (blocks_of_pairs (pairs_of_headers disk headers))
 
 -- each cached block has the bytes that the device has
-abbrev pub IsCurrent : Blocks → CachedBlocks → Type 0
-IsCurrent blocks cache = (b : ℕ) (bytes : List ℕ) → cached cache b ≡ Some bytes → bytes ≡ block_in blocks b
+abbrev pub IsCacheCurrent : Blocks → CachedBlocks → Type 0
+IsCacheCurrent blocks cache = (b : ℕ) (bytes : List ℕ) → cached_bytes_of_block cache b ≡ Some bytes → bytes ≡ block_bytes_in blocks b
 
 -- ---- the same of a device
 
-abbrev pub disk_on : {D : Type 0} → Ghosts D → D → Disk
-disk_on g device = disk_of (g.geometry device) (g.blocks device)
+abbrev pub disk_of_device : {D : Type 0} → Ghosts D → D → Disk
+disk_of_device g device = disk_of_geometry_and_blocks (g.geometry device) (g.blocks device)
 
-abbrev pub kept_view_on : {D : Type 0} → Ghosts D → D → List Header → BlockSets → Kept
-kept_view_on g device headers sets = kept_view (disk_on g device) (g.history device) headers sets
+abbrev pub kept_thread_of_device : {D : Type 0} → Ghosts D → D → List PairHeader → BlockStateList → Kept
+kept_thread_of_device g device headers sets = kept_thread_view (disk_of_device g device) (g.history device) headers sets
 
-abbrev pub IsKeptOn : {D : Type 0} → Ghosts D → D → List Header → BlockSets → Type 0
-IsKeptOn g device headers sets = IsKept (disk_on g device) (g.history device) headers sets
+abbrev pub IsKeptThreadOnDevice : {D : Type 0} → Ghosts D → D → List PairHeader → BlockStateList → Type 0
+IsKeptThreadOnDevice g device headers sets = IsKeptThreadOnDisk (disk_of_device g device) (g.history device) headers sets
 
-abbrev pub WasKeptOn : {D : Type 0} → Ghosts D → D → List Header → BlockSets → Type 0
-WasKeptOn g device headers sets = WasKept (disk_on g device) (g.history device) headers sets
+abbrev pub WasKeptThreadOnDevice : {D : Type 0} → Ghosts D → D → List PairHeader → BlockStateList → Type 0
+WasKeptThreadOnDevice g device headers sets = WasKeptThreadOnDisk (disk_of_device g device) (g.history device) headers sets

@@ -2,7 +2,7 @@
 
 ghost use Rattle.std.specs.Prelude.{◌≡◌, bit_xor, map};
 ghost use Rattle.std.specs.List.{fold};
-ghost use Rattle.lfs_model.specs.Slots.{bool_xor, gstate_xor, no_gstate};
+ghost use Rattle.lfs_model.specs.Slots.{bool_xor, gstate_xor, zero_gstate};
 ghost use Rattle.lfs_tag.specs.FieldsView.{move_view};
 
 use lfs_pair::Pair;
@@ -10,8 +10,8 @@ use lfs_tag::MoveState;
 
 // Returns the exclusive or of the pairs' deltas, which is the global state (DESIGN.md of littlefs,
 // "The move problem").
-pub(crate) fn joined_state(pairs: &[Pair]) -> MoveState
-    ensures { move_view result ≡ fold gstate_xor no_gstate (map (λ p. move_view p.move_state) pairs.now) }
+pub(crate) fn global_state_of_pairs(pairs: &[Pair]) -> MoveState
+    ensures { move_view result ≡ fold gstate_xor zero_gstate (map (λ p. move_view p.move_state) pairs.now) }
 {
     let mut state = MoveState::none();
     for pair in pairs {
@@ -26,14 +26,14 @@ pub fn with_delta(state: &MoveState, delta: &MoveState) -> MoveState
     ensures { move_view result ≡ gstate_xor (move_view state.now) (move_view delta.now) }
 {
     MoveState {
-        sync: is_one_of(state.sync, delta.sync),
+        sync: is_exactly_one_true(state.sync, delta.sync),
         kind: state.kind ^ delta.kind,
         id: state.id ^ delta.id,
         pair: [state.pair[0] ^ delta.pair[0], state.pair[1] ^ delta.pair[1]],
     }
 }
 
-fn is_one_of(one: bool, other: bool) -> bool
+fn is_exactly_one_true(one: bool, other: bool) -> bool
     ensures { result ≡ bool_xor one other }
 {
     one != other

@@ -2,16 +2,16 @@
 
 ghost use Rattle.std.specs.Prelude.{◌≡◌, ◌+◌, ◌*◌, ℕ, [], length, replicate, IfOk, List, OnOk};
 ghost use Rattle.std.specs.Option.{option_map};
-ghost use Rattle.lfs_model.specs.Slots.{address_of};
+ghost use Rattle.lfs_model.specs.Slots.{pair_address_of_array};
 ghost use Rattle.lfs_tag.specs.ContentView.{tail_view};
-ghost use Rattle.lfs_model.specs.BlockSets.{AreInFlight, AreUsed};
+ghost use Rattle.lfs_model.specs.BlockSets.{AreExactlyTheInFlightBlocks, AreExactlyTheUsedBlocks};
 ghost use Rattle.lfs_model.specs.BlockSets.BlockState.{Free};
-ghost use Rattle.lfs_model.specs.Content.{content_at};
+ghost use Rattle.lfs_model.specs.Content.{content_of_pair_at};
 ghost use Rattle.lfs_model.specs.History.{reads};
-ghost use Rattle.lfs_model.specs.Thread.{IsThread, Pair as ThreadPair, blocks_of, next_of};
-ghost use Rattle.lfs_thread.specs.Begun.{CanBePair};
-ghost use Rattle.lfs_thread.specs.Kept.{IsKeptOn, disk_on, pairs_on};
-ghost use Rattle.lfs_thread.specs.Reading.{IsReadAt, ReportsReading};
+ghost use Rattle.lfs_model.specs.Thread.{IsThread, Pair as ThreadPair, blocks_of_pairs, pair_named_by_tail};
+ghost use Rattle.lfs_thread.specs.Begun.{IsPairOnFreeBlocks};
+ghost use Rattle.lfs_thread.specs.Kept.{IsKeptThreadOnDevice, disk_of_device, pairs_of_headers};
+ghost use Rattle.lfs_thread.specs.Reading.{IsHeaderReadAt, OnlyReadsAndReportsErrors};
 
 use lfs_alloc::BlockMap;
 use lfs_device::{BlockDevice, Error};
@@ -20,7 +20,7 @@ use std::alloc::Global;
 
 // Reads the headers of the thread's pairs, and marks their blocks as used. After an error nothing
 // is known of the headers and the map.
-pub(crate) fn read_pairs<D: BlockDevice>(
+pub(crate) fn read_thread_headers<D: BlockDevice>(
     alloc: Global,
     device: &mut D,
     pairs: &mut Vec<Pair>,
@@ -28,11 +28,11 @@ pub(crate) fn read_pairs<D: BlockDevice>(
 ) -> Result<(), Error>
     requires none { pairs.old.items ≡ [] }
     requires free { map.old ≡ replicate (D.geometry device.old).block_count Free }
-    ensures kept { OnOk result (IsKeptOn D.BlockDevice device.new pairs.new.items map.new) }
-    ensures marked { OnOk result (AreUsed map.new (blocks_of (pairs_on (disk_on D.BlockDevice device.new) pairs.new.items)) × AreInFlight map.new []) }
+    ensures kept { OnOk result (IsKeptThreadOnDevice D.BlockDevice device.new pairs.new.items map.new) }
+    ensures marked { OnOk result (AreExactlyTheUsedBlocks map.new (blocks_of_pairs (pairs_of_headers (disk_of_device D.BlockDevice device.new) pairs.new.items)) × AreExactlyTheInFlightBlocks map.new []) }
     ensures corrupt { result ≡ Err Error.Corrupt → (ps : List ThreadPair)
-        → ¬ IsThread (content_at (disk_on D.BlockDevice device.old)) (D.geometry device.old).block_count ps }
-    ensures reported { ReportsReading D.BlockDevice device.old device.new result }
+        → ¬ IsThread (content_of_pair_at (disk_of_device D.BlockDevice device.old)) (D.geometry device.old).block_count ps }
+    ensures reported { OnlyReadsAndReportsErrors D.BlockDevice device.old device.new result }
     ensures few { OnOk result (reads (D.history device.new) ≡ reads (D.history device.old) + 2 * length pairs.new.items) }
 {
     let block_count = device.geometry().block_count;
@@ -42,8 +42,8 @@ pub(crate) fn read_pairs<D: BlockDevice>(
         match next {
             None => return Ok(()),
             Some(at) => {
-                let pair = read_pair(alloc, device, map, at)?;
-                next = tail_of(&pair);
+                let pair = read_and_mark_pair(alloc, device, map, at)?;
+                next = address_named_by_header_tail(&pair);
                 pairs.push(pair)?;
             }
         }
@@ -52,8 +52,8 @@ pub(crate) fn read_pairs<D: BlockDevice>(
 }
 
 // Returns the address that a pair's tail names.
-fn tail_of(pair: &Pair) -> Option<[u32; 2]>
-    ensures { option_map address_of result ≡ next_of (option_map tail_view pair.now.tail) }
+fn address_named_by_header_tail(pair: &Pair) -> Option<[u32; 2]>
+    ensures { option_map pair_address_of_array result ≡ pair_named_by_tail (option_map tail_view pair.now.tail) }
 {
     match pair.tail {
         None => None,
@@ -63,16 +63,16 @@ fn tail_of(pair: &Pair) -> Option<[u32; 2]>
 
 // Reads the header of the pair at an address, and marks its blocks as used. `Corrupt` where a block
 // is out of range or marked already, or where the pair holds no content.
-fn read_pair<D: BlockDevice>(
+fn read_and_mark_pair<D: BlockDevice>(
     alloc: Global,
     device: &mut D,
     map: &mut BlockMap,
     at: [u32; 2],
 ) -> Result<Pair, Error>
     requires { length map.old ≡ (D.geometry device.old).block_count }
-    ensures read { IfOk result (IsReadAt (disk_on D.BlockDevice device.old) (D.history device.new) (address_of at) map.old map.new) }
-    ensures corrupt { result ≡ Err Error.Corrupt → ¬ CanBePair (disk_on D.BlockDevice device.old) map.old (address_of at) }
-    ensures reported { ReportsReading D.BlockDevice device.old device.new result }
+    ensures read { IfOk result (IsHeaderReadAt (disk_of_device D.BlockDevice device.old) (D.history device.new) (pair_address_of_array at) map.old map.new) }
+    ensures corrupt { result ≡ Err Error.Corrupt → ¬ IsPairOnFreeBlocks (disk_of_device D.BlockDevice device.old) map.old (pair_address_of_array at) }
+    ensures reported { OnlyReadsAndReportsErrors D.BlockDevice device.old device.new result }
     ensures few { OnOk result (reads (D.history device.new) ≡ reads (D.history device.old) + 2) }
 {
     let [first, second] = at;

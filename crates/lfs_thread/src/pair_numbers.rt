@@ -2,8 +2,8 @@
 
 ghost use Rattle.std.specs.Prelude.{◌≡◌, IfNone, IfSome, false};
 ghost use Rattle.std.specs.List.{AllByRecursion};
-ghost use Rattle.lfs_model.specs.InDirectory.{BeginsAt};
-ghost use Rattle.lfs_model.specs.Slots.{address_of, same_pair};
+ghost use Rattle.lfs_model.specs.InDirectory.{IsPairAtAddress};
+ghost use Rattle.lfs_model.specs.Slots.{pair_address_of_array, same_pair};
 
 use crate::thread::Thread;
 use lfs_device::BlockDevice;
@@ -13,8 +13,8 @@ use lfs_pair::is_same_pair;
 /// have its two blocks in either order. Returns None where no pair of the thread has these two
 /// blocks.
 pub fn number_of<D: BlockDevice>(thread: &Thread<D>, at: [u32; 2]) -> Option<usize>
-    ensures there { IfSome result (BeginsAt thread.now.kept.pairs (address_of at)) }
-    ensures nowhere { IfNone result (AllByRecursion (λ p. same_pair p.at (address_of at) ≡ false) thread.now.kept.pairs) }
+    ensures there { IfSome result (IsPairAtAddress thread.now.kept.pairs (pair_address_of_array at)) }
+    ensures nowhere { IfNone result (AllByRecursion (λ p. same_pair p.at (pair_address_of_array at) ≡ false) thread.now.kept.pairs) }
 {
     for index in 0..thread.len() {
         if is_same_pair(thread.address(index), at) {

@@ -2,8 +2,8 @@
 
 ghost use Rattle.std.specs.Prelude.{IfSome, IfNone, ◌≡◌, ◌++◌, ◌∷◌, [], ◌<◌, false, nat_eq, OnOk, OnErr, IfErr, length};
 ghost use Rattle.std.specs.List.{AllByRecursion, IsDistinct};
-ghost use Rattle.lfs_model.specs.Slots.{address_of, same_pair};
-ghost use Rattle.lfs_thread.specs.Places.{IsAddressAt, blocks_at, greater_of, lesser_of, place_of};
+ghost use Rattle.lfs_model.specs.Slots.{pair_address_of_array, same_pair};
+ghost use Rattle.lfs_thread.specs.Places.{IsSamePairAtPlace, blocks_of_addresses, greater_block_of, lesser_block_of, place_of_pair_address};
 
 use lfs_device::Error;
 use std::alloc::Global;
@@ -11,13 +11,13 @@ use std::collections::BTreeMap;
 use std::marker::Model;
 
 fn lesser(pair: [u32; 2]) -> u32
-    ensures { result ≡ lesser_of (address_of pair) }
+    ensures { result ≡ lesser_block_of (pair_address_of_array pair) }
 {
     pair[0].min(pair[1])
 }
 
-fn greater(pair: [u32; 2]) -> u32
-    ensures { result ≡ greater_of (address_of pair) }
+fn greater_block(pair: [u32; 2]) -> u32
+    ensures { result ≡ greater_block_of (pair_address_of_array pair) }
 {
     pair[0].max(pair[1])
 }
@@ -26,31 +26,31 @@ fn greater(pair: [u32; 2]) -> u32
 ///
 /// A contract sees the list of the addresses.
 #[derive(Drop)]
-pub struct Places {
+pub struct PairAddressList {
     addresses: Vec<[u32; 2]>,
     by_block: BTreeMap<u32, u32>,
 }
 
-impl Model for Places {
+impl Model for PairAddressList {
     ghost use Rattle.std.specs.Prelude.{List, ℕ, map};
     ghost use Rattle.std.specs.Ordering.{nat_cmp};
     ghost use Rattle.std.specs.BTreeMap.{get};
-    ghost use Rattle.lfs_model.specs.Slots.{address_of};
-    ghost use Rattle.lfs_thread.specs.Places.{IsByBlock};
+    ghost use Rattle.lfs_model.specs.Slots.{pair_address_of_array};
+    ghost use Rattle.lfs_thread.specs.Places.{IsIndexByLesserBlock};
 
     ghost Value = { List (ℕ × ℕ) };
 
-    ghost view = { λ p. map address_of p.addresses.items };
+    ghost view = { λ p. map pair_address_of_array p.addresses.items };
 
-    ghost invariant = { λ p. IsByBlock (map address_of p.addresses.items) (get nat_cmp p.by_block) };
+    ghost invariant = { λ p. IsIndexByLesserBlock (map pair_address_of_array p.addresses.items) (get nat_cmp p.by_block) };
 }
 
-impl Places {
+impl PairAddressList {
     /// Makes an empty list.
-    pub fn new(alloc: Global) -> Places
+    pub fn new(alloc: Global) -> PairAddressList
         ensures { result ≡ [] }
     {
-        Places {
+        PairAddressList {
             addresses: Vec::new(alloc),
             by_block: BTreeMap::new(alloc),
         }
@@ -60,8 +60,8 @@ impl Places {
     ///
     /// Errors: `NoMemory` where memory isn't granted; nothing has changed then.
     pub fn add(&mut self, pair: [u32; 2]) -> Result<(), Error>
-        requires { IsDistinct nat_eq (blocks_at (self.old ++ address_of pair ∷ [])) }
-        ensures added { OnOk result (self.new ≡ self.old ++ address_of pair ∷ []) }
+        requires { IsDistinct nat_eq (blocks_of_addresses (self.old ++ pair_address_of_array pair ∷ [])) }
+        ensures added { OnOk result (self.new ≡ self.old ++ pair_address_of_array pair ∷ []) }
         ensures same { OnErr result (self.new ≡ self.old) }
         ensures error { IfErr result (λ e. e ≡ Error.NoMemory) }
     {
@@ -78,16 +78,16 @@ impl Places {
     /// Returns the place of the pair that has these two blocks, in either order. Returns None where
     /// no pair of the list has them.
     pub fn find(&self, pair: [u32; 2]) -> Option<u32>
-        ensures value { result ≡ place_of self.now (address_of pair) }
+        ensures value { result ≡ place_of_pair_address self.now (pair_address_of_array pair) }
         ensures within { IfSome result (λ place. place < length self.now) }
-        ensures there { IfSome result (IsAddressAt self.now (address_of pair)) }
-        ensures nowhere { IfNone result (AllByRecursion (λ a. same_pair a (address_of pair) ≡ false) self.now) }
+        ensures there { IfSome result (IsSamePairAtPlace self.now (pair_address_of_array pair)) }
+        ensures nowhere { IfNone result (AllByRecursion (λ a. same_pair a (pair_address_of_array pair) ≡ false) self.now) }
     {
         let Some(place) = self.by_block.get(&lesser(pair)) else {
             return None;
         };
         let place = *place;
-        if greater(self.addresses[place as usize]) == greater(pair) {
+        if greater_block(self.addresses[place as usize]) == greater_block(pair) {
             Some(place)
         } else {
             None

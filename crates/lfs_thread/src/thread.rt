@@ -1,27 +1,27 @@
 ghost use Rattle.std.specs.Prelude.{ℕ, ◌+◌, ◌*◌, ◌≤◌, if◌then◌else◌, None, Some, List, Contains, ◌↔◌, IfOk, ◌≡◌, IsTrue, true, OnErr, ◌⊎◌, ◌<◌, length, false, is_err, [], replicate, slice_set, IfErr, IfNone, IfSome, IsSome, OnOk, option_copied, ◌-◌, min, take, drop, slice_range};
 ghost use Rattle.std.specs.Option.{option_map};
-ghost use Rattle.lfs_model.specs.Content.{content_at, holder_at};
-ghost use Rattle.lfs_model.specs.BlockSets.{AreInFlight, AreUsed, IsFree, IsInFlight, IsUsed, used_count};
+ghost use Rattle.lfs_model.specs.Content.{content_of_pair_at, current_block_of_pair_at};
+ghost use Rattle.lfs_model.specs.BlockSets.{AreExactlyTheInFlightBlocks, AreExactlyTheUsedBlocks, IsFree, IsInFlight, IsUsed, used_count};
 ghost use Rattle.lfs_model.specs.BlockSets.BlockState.{Free, InFlight};
-ghost use Rattle.lfs_model.specs.SkipLists.{IsList, bytes_of};
-ghost use Rattle.lfs_model.specs.History.{OnlyReads, faults, reads};
-ghost use Rattle.lfs_model.specs.Slots.{address_of};
-ghost use Rattle.lfs_model.specs.Thread.{IsThread, Pair as ThreadPair, blocks_of, gstate_of, is_hard};
+ghost use Rattle.lfs_model.specs.SkipLists.{IsSkipList, bytes_of};
+ghost use Rattle.lfs_model.specs.History.{AreCallsSinceOnlyReads, faults, reads};
+ghost use Rattle.lfs_model.specs.Slots.{pair_address_of_array};
+ghost use Rattle.lfs_model.specs.Thread.{IsThread, Pair as ThreadPair, blocks_of_pairs, gstate_of, is_hard_tail};
 ghost use Rattle.lfs_tag.specs.ContentView.{tail_view};
 ghost use Rattle.lfs_tag.specs.FieldsView.{move_view};
 ghost use Rattle.lfs_pair.specs.ChangeView.{changes_view};
-ghost use Rattle.lfs_thread.specs.Beside.{CanRun, HasDoneWork, IsDividedAs, LeavesPairs, MayReturn, IsOnDevice};
-ghost use Rattle.lfs_thread.specs.Device.{GivesBack, StopsLeave, four_of, two_of};
-ghost use Rattle.lfs_thread.specs.Kept.{IsCurrent, IsKeptOn, WasKeptOn, disk_on, kept_view_on};
-ghost use Rattle.lfs_thread.specs.CachedLog.{IsBlockOf, cached_log, cache_after_load, read_if_missing};
-ghost use Rattle.lfs_thread.specs.Reading.{IsThreadOf};
-ghost use Rattle.lfs_thread.specs.Steps.{CanBeSplit, CanChange, CanDrop, CanJoin, HasReported, HasReportedBeside, IsJoinRefused, IsThreadedIn, IsLeftByJoin, IsChanged, IsDropped, IsLeftByChange, IsLeftBySplit, IsOnlyRead, IsCommitRefused, IsSplit, WritesReading, pair_in};
+ghost use Rattle.lfs_thread.specs.Beside.{CanRunWork, HasRunWorkOnDeviceAndMap, DiskHasGeometry, KeepsUsedBlocksOfPairs, WorkMayReturn, HasDeviceAndMap};
+ghost use Rattle.lfs_thread.specs.Device.{GivesDeviceBackWithError, StopsAfterCleanErasesLeave, blocks_of_two_addresses, blocks_of_address};
+ghost use Rattle.lfs_thread.specs.Kept.{IsCacheCurrent, IsKeptThreadOnDevice, WasKeptThreadOnDevice, disk_of_device, kept_thread_of_device};
+ghost use Rattle.lfs_thread.specs.CachedLog.{IsLogBlockOfContent, cached_log, cache_after_load, read_count_unless_cached};
+ghost use Rattle.lfs_thread.specs.Reading.{IsThreadReadFrom};
+ghost use Rattle.lfs_thread.specs.Steps.{CanSplitPairAtIndex, CanChangePair, CanDropNextPair, CanThreadInFreshPair, HasReportedIoOrUnwrittenNoMemory, HasReportedIoOrNoMemoryBesideBlocks, IsThreadingInRefused, IsFreshPairThreadedIn, LeavesPairOldOrThreadedIn, IsPairChanged, IsPairAfterIndexDropped, LeavesPairOldOrChanged, LeavesPairOldOrSplit, IsThreadOnlyRead, IsCommitRefused, IsSplitInTwo, ThreadChangesWithFewReads, kept_pair_at_index};
 
-use crate::commits::commit_to;
-use crate::deltas::joined_state;
-use crate::drops::drop_pair;
-use crate::headers::read_pairs;
-use crate::joins::join_pair;
+use crate::commits::commit_with_cache;
+use crate::deltas::global_state_of_pairs;
+use crate::drops::drop_next_pair;
+use crate::headers::read_thread_headers;
+use crate::joins::thread_in_fresh_pair;
 use crate::parts::Parts;
 use crate::splits::split_pair;
 use lfs_alloc::BlockMap;
@@ -50,18 +50,18 @@ pub struct Thread<D: BlockDevice> {
 
 impl<D: BlockDevice> Model for Thread<D> {
     ghost use Rattle.std.specs.Prelude.{◌≡◌, false};
-    ghost use Rattle.lfs_thread.specs.Kept.{IsCurrent, IsKeptOn, State, kept_view_on};
+    ghost use Rattle.lfs_thread.specs.Kept.{IsCacheCurrent, IsKeptThreadOnDevice, ThreadView, kept_thread_of_device};
 
-    ghost Value = { State };
+    ghost Value = { ThreadView };
 
     ghost view = { λ t. record {
-      kept = kept_view_on D.BlockDevice t.device t.pairs.items t.map;
+      kept = kept_thread_of_device D.BlockDevice t.device t.pairs.items t.map;
       cache = t.cache;
       failed = t.has_failed;
     } };
 
     ghost invariant = { λ t. t.has_failed ≡ false
-        → IsKeptOn D.BlockDevice t.device t.pairs.items t.map × IsCurrent (D.blocks t.device) t.cache };
+        → IsKeptThreadOnDevice D.BlockDevice t.device t.pairs.items t.map × IsCacheCurrent (D.blocks t.device) t.cache };
 }
 
 impl<D: BlockDevice> Thread<D> {
@@ -75,18 +75,18 @@ impl<D: BlockDevice> Thread<D> {
     /// `Io` where a read failed. `NoMemory` where memory for the headers, the map or a block and
     /// its slots isn't granted. The device comes back with an error.
     pub fn read(alloc: Global, mut device: D) -> Result<Thread<D>, (D, Error)>
-        ensures read { IfOk result (IsThreadOf D.BlockDevice device) }
-        ensures corrupt { IfErr result (λ e. e.1 ≡ Error.Corrupt → (ps : List ThreadPair) → ¬ IsThread (content_at (disk_on D.BlockDevice device)) (D.geometry device).block_count ps) }
+        ensures read { IfOk result (IsThreadReadFrom D.BlockDevice device) }
+        ensures corrupt { IfErr result (λ e. e.1 ≡ Error.Corrupt → (ps : List ThreadPair) → ¬ IsThread (content_of_pair_at (disk_of_device D.BlockDevice device)) (D.geometry device).block_count ps) }
         ensures errors { IfErr result (λ e. (e.1 ≡ Error.Corrupt) ⊎ ((e.1 ≡ Error.Io) ⊎ (e.1 ≡ Error.NoMemory))) }
-        ensures back { IfErr result (λ e. GivesBack D.BlockDevice device e.0 e.1) }
+        ensures back { IfErr result (λ e. GivesDeviceBackWithError D.BlockDevice device e.0 e.1) }
     {
         let block_count = device.geometry().block_count;
         let mut pairs = Vec::new(alloc);
-        let (cache, mut map) = match in_memory(alloc, block_count) {
+        let (cache, mut map) = match make_empty_cache_and_map(alloc, block_count) {
             Ok(parts) => parts,
             Err(error) => return Err((device, error)),
         };
-        match read_pairs(alloc, &mut device, &mut pairs, &mut map) {
+        match read_thread_headers(alloc, &mut device, &mut pairs, &mut map) {
             Ok(()) => Ok(Thread {
                 device,
                 cache,
@@ -102,9 +102,9 @@ impl<D: BlockDevice> Thread<D> {
     /// them a thread again.
     pub fn into_parts(self) -> Parts<D>
         requires works { self.failed ≡ false }
-        ensures kept { IsKeptOn D.BlockDevice result.device result.pairs.items result.map }
-        ensures same { kept_view_on D.BlockDevice result.device result.pairs.items result.map ≡ self.kept }
-        ensures current { IsCurrent (D.blocks result.device) result.cache }
+        ensures kept { IsKeptThreadOnDevice D.BlockDevice result.device result.pairs.items result.map }
+        ensures same { kept_thread_of_device D.BlockDevice result.device result.pairs.items result.map ≡ self.kept }
+        ensures current { IsCacheCurrent (D.blocks result.device) result.cache }
         ensures cache { result.cache ≡ self.cache }
     {
         Parts {
@@ -119,10 +119,10 @@ impl<D: BlockDevice> Thread<D> {
     /// at some time, and the device was only read since then. The map has the blocks of the pairs
     /// as used. Each block of the cache has the bytes that the device has.
     pub fn from_parts(parts: Parts<D>) -> Thread<D>
-        requires kept { WasKeptOn D.BlockDevice parts.device parts.pairs.items parts.map }
-        requires current { IsCurrent (D.blocks parts.device) parts.cache }
+        requires kept { WasKeptThreadOnDevice D.BlockDevice parts.device parts.pairs.items parts.map }
+        requires current { IsCacheCurrent (D.blocks parts.device) parts.cache }
         ensures works { result.failed ≡ false }
-        ensures kept { result.kept ≡ kept_view_on D.BlockDevice parts.device parts.pairs.items parts.map }
+        ensures kept { result.kept ≡ kept_thread_of_device D.BlockDevice parts.device parts.pairs.items parts.map }
         ensures cache { result.cache ≡ parts.cache }
     {
         Thread {
@@ -136,7 +136,7 @@ impl<D: BlockDevice> Thread<D> {
 
     /// Returns the device, as the last call left it. A failed thread returns it, too.
     pub fn device(&self) -> &D
-        ensures disk { disk_on D.BlockDevice result.now ≡ self.now.kept.disk }
+        ensures disk { disk_of_device D.BlockDevice result.now ≡ self.now.kept.disk }
         ensures history { D.history result.now ≡ self.now.kept.history }
     {
         &self.device
@@ -145,7 +145,7 @@ impl<D: BlockDevice> Thread<D> {
     /// Ends the thread, and returns the device as the last call left it. A failed thread returns
     /// it, too.
     pub fn into_device(self) -> D
-        ensures disk { disk_on D.BlockDevice result ≡ self.kept.disk }
+        ensures disk { disk_of_device D.BlockDevice result ≡ self.kept.disk }
         ensures history { D.history result ≡ self.kept.history }
     {
         self.device
@@ -157,7 +157,7 @@ impl<D: BlockDevice> Thread<D> {
         requires works { self.now.failed ≡ false }
         ensures { move_view result ≡ gstate_of self.now.kept.pairs }
     {
-        joined_state(&self.pairs)
+        global_state_of_pairs(&self.pairs)
     }
 
     /// Returns how many pairs there are.
@@ -171,7 +171,7 @@ impl<D: BlockDevice> Thread<D> {
     /// the pair's number in the thread, from 0 on.
     pub fn address(&self, index: usize) -> [u32; 2]
         requires { index < length self.now.kept.pairs }
-        ensures { address_of result ≡ (pair_in self.now.kept index).at }
+        ensures { pair_address_of_array result ≡ (kept_pair_at_index self.now.kept index).at }
     {
         self.pairs[index].blocks
     }
@@ -180,7 +180,7 @@ impl<D: BlockDevice> Thread<D> {
     pub fn slot_count(&self, index: usize) -> usize
         requires works { self.now.failed ≡ false }
         requires below { index < length self.now.kept.pairs }
-        ensures { result ≡ length (pair_in self.now.kept index).content.slots }
+        ensures { result ≡ length (kept_pair_at_index self.now.kept index).content.slots }
     {
         self.pairs[index].slot_count
     }
@@ -191,7 +191,7 @@ impl<D: BlockDevice> Thread<D> {
     pub fn next(&self, index: usize) -> Option<usize>
         requires works { self.now.failed ≡ false }
         requires below { index < length self.now.kept.pairs }
-        ensures next { result ≡ (if is_hard (pair_in self.now.kept index).content.tail then Some (index + 1) else None) }
+        ensures next { result ≡ (if is_hard_tail (kept_pair_at_index self.now.kept index).content.tail then Some (index + 1) else None) }
         ensures below { IfSome result (λ next. next < length self.now.kept.pairs) }
     {
         if is_hard(self.pairs[index].tail) {
@@ -206,7 +206,7 @@ impl<D: BlockDevice> Thread<D> {
     pub fn tail(&self, index: usize) -> Option<Tail>
         requires works { self.now.failed ≡ false }
         requires below { index < length self.now.kept.pairs }
-        ensures { option_map tail_view result ≡ (pair_in self.now.kept index).content.tail }
+        ensures { option_map tail_view result ≡ (kept_pair_at_index self.now.kept index).content.tail }
     {
         self.pairs[index].tail
     }
@@ -215,7 +215,7 @@ impl<D: BlockDevice> Thread<D> {
     pub fn delta(&self, index: usize) -> MoveState
         requires works { self.now.failed ≡ false }
         requires below { index < length self.now.kept.pairs }
-        ensures { move_view result ≡ (pair_in self.now.kept index).content.move }
+        ensures { move_view result ≡ (kept_pair_at_index self.now.kept index).content.move }
     {
         self.pairs[index].move_state
     }
@@ -230,10 +230,10 @@ impl<D: BlockDevice> Thread<D> {
         requires below { index < length self.old.kept.pairs }
         ensures cached_log { OnOk result (IsSome (cached_log self.new index)) }
         ensures no_call { IsSome (cached_log self.old index) → self.new.kept ≡ self.old.kept }
-        ensures only { IsOnlyRead self.old.kept self.new.kept }
+        ensures only { IsThreadOnlyRead self.old.kept self.new.kept }
         ensures few { reads self.new.kept.history ≤ reads self.old.kept.history + 1 }
         ensures works { self.new.failed ≡ false }
-        ensures errors { HasReported self.old.kept self.new.kept result }
+        ensures errors { HasReportedIoOrUnwrittenNoMemory self.old.kept self.new.kept result }
         // The eight blocks that were loaded last stay cached.
         ensures recent { OnOk result (self.new.cache ≡ cache_after_load self.old index) }
     {
@@ -247,8 +247,8 @@ impl<D: BlockDevice> Thread<D> {
         requires works { self.now.failed ≡ false }
         requires below { index < length self.now.kept.pairs }
         ensures lent { result ≡ cached_log self.now index }
-        ensures holds { IfSome result (λ log. IsBlockOf log (pair_in self.now.kept index).content) }
-        ensures holder { IfSome result (λ log. holder_at self.now.kept.disk (pair_in self.now.kept index).at ≡ Some log) }
+        ensures holds { IfSome result (λ log. IsLogBlockOfContent log (kept_pair_at_index self.now.kept index).content) }
+        ensures holder { IfSome result (λ log. current_block_of_pair_at self.now.kept.disk (kept_pair_at_index self.now.kept index).at ≡ Some log) }
     {
         let pair = &self.pairs[index];
         match self.cache.lend(pair.active) {
@@ -271,12 +271,12 @@ impl<D: BlockDevice> Thread<D> {
         buf: &mut [u8],
     ) -> Result<usize, Error>
         requires works { self.old.failed ≡ false }
-        requires list { IsList self.old.kept.disk.blocks self.old.kept.disk.block_size head size }
+        requires list { IsSkipList self.old.kept.disk.blocks self.old.kept.disk.block_size head size }
         ensures count { IfOk result (λ n. (n ≡ min (length buf.old) (size - pos)) × (drop n buf.new ≡ drop n buf.old)) }
         ensures bytes { IfOk result (λ n. take n buf.new ≡ slice_range (bytes_of self.old.kept.disk.blocks self.old.kept.disk.block_size head size) pos (pos + n)) }
-        ensures only { IsOnlyRead self.old.kept self.new.kept }
+        ensures only { IsThreadOnlyRead self.old.kept self.new.kept }
         ensures same { (self.new.failed ≡ false) × (self.new.cache ≡ self.old.cache) }
-        ensures errors { HasReported self.old.kept self.new.kept result }
+        ensures errors { HasReportedIoOrUnwrittenNoMemory self.old.kept self.new.kept result }
     {
         read_at(&mut self.device, head, size, pos, buf)
     }
@@ -319,15 +319,15 @@ impl<D: BlockDevice> Thread<D> {
         changes: &[Change<'_>],
     ) -> Result<Outcome, Error>
         requires works { self.old.failed ≡ false }
-        requires can { CanChange self.old.kept index (changes_view changes.now) }
-        ensures done { result ≡ Ok Outcome.Done → IsChanged self.old.kept index (changes_view changes.now) self.new.kept }
+        requires can { CanChangePair self.old.kept index (changes_view changes.now) }
+        ensures done { result ≡ Ok Outcome.Done → IsPairChanged self.old.kept index (changes_view changes.now) self.new.kept }
         ensures full { result ≡ Ok Outcome.Full → IsCommitRefused self.old.kept index (changes_view changes.now) self.new.kept }
         ensures failed { self.new.failed ≡ is_err result }
-        ensures errors { HasReported self.old.kept self.new.kept result }
-        ensures device { WritesReading (1 + read_if_missing (cached_log self.old index)) (two_of (pair_in self.old.kept index).at) self.old.kept self.new.kept }
-        ensures stops { StopsLeave self.old.kept.history self.new.kept.history (IsLeftByChange self.old.kept index (changes_view changes.now)) }
+        ensures errors { HasReportedIoOrUnwrittenNoMemory self.old.kept self.new.kept result }
+        ensures device { ThreadChangesWithFewReads (1 + read_count_unless_cached (cached_log self.old index)) (blocks_of_address (kept_pair_at_index self.old.kept index).at) self.old.kept self.new.kept }
+        ensures stops { StopsAfterCleanErasesLeave self.old.kept.history self.new.kept.history (LeavesPairOldOrChanged self.old.kept index (changes_view changes.now)) }
     {
-        let outcome = commit_to(
+        let outcome = commit_with_cache(
             alloc,
             &mut self.device,
             &mut self.cache,
@@ -352,12 +352,12 @@ impl<D: BlockDevice> Thread<D> {
         changes: &[Change<'_>],
     ) -> Result<(), Error>
         requires works { self.old.failed ≡ false }
-        requires can { CanBeSplit self.old.kept index (address_of fresh) (changes_view changes.now) }
-        ensures done { OnOk result (IsSplit self.old.kept index (address_of fresh) (changes_view changes.now) self.new.kept) }
+        requires can { CanSplitPairAtIndex self.old.kept index (pair_address_of_array fresh) (changes_view changes.now) }
+        ensures done { OnOk result (IsSplitInTwo self.old.kept index (pair_address_of_array fresh) (changes_view changes.now) self.new.kept) }
         ensures failed { self.new.failed ≡ is_err result }
-        ensures errors { HasReported self.old.kept self.new.kept result }
-        ensures device { WritesReading (3 + read_if_missing (cached_log self.old index)) (four_of (pair_in self.old.kept index).at (address_of fresh)) self.old.kept self.new.kept }
-        ensures stops { StopsLeave self.old.kept.history self.new.kept.history (IsLeftBySplit self.old.kept index (address_of fresh) (changes_view changes.now)) }
+        ensures errors { HasReportedIoOrUnwrittenNoMemory self.old.kept self.new.kept result }
+        ensures device { ThreadChangesWithFewReads (3 + read_count_unless_cached (cached_log self.old index)) (blocks_of_two_addresses (kept_pair_at_index self.old.kept index).at (pair_address_of_array fresh)) self.old.kept self.new.kept }
+        ensures stops { StopsAfterCleanErasesLeave self.old.kept.history self.new.kept.history (LeavesPairOldOrSplit self.old.kept index (pair_address_of_array fresh) (changes_view changes.now)) }
     {
         let result = split_pair(
             alloc,
@@ -390,15 +390,15 @@ impl<D: BlockDevice> Thread<D> {
         changes: &[Change<'_>],
     ) -> Result<Outcome, Error>
         requires works { self.old.failed ≡ false }
-        requires can { CanJoin self.old.kept index (address_of fresh) (changes_view changes.now) }
-        ensures done { result ≡ Ok Outcome.Done → IsThreadedIn self.old.kept index (address_of fresh) (changes_view changes.now) self.new.kept }
-        ensures full { result ≡ Ok Outcome.Full → IsJoinRefused self.old.kept index (address_of fresh) (changes_view changes.now) self.new.kept }
+        requires can { CanThreadInFreshPair self.old.kept index (pair_address_of_array fresh) (changes_view changes.now) }
+        ensures done { result ≡ Ok Outcome.Done → IsFreshPairThreadedIn self.old.kept index (pair_address_of_array fresh) (changes_view changes.now) self.new.kept }
+        ensures full { result ≡ Ok Outcome.Full → IsThreadingInRefused self.old.kept index (pair_address_of_array fresh) (changes_view changes.now) self.new.kept }
         ensures failed { self.new.failed ≡ is_err result }
-        ensures errors { HasReportedBeside (two_of (address_of fresh)) self.old.kept self.new.kept result }
-        ensures device { WritesReading (3 + read_if_missing (cached_log self.old index)) (four_of (pair_in self.old.kept index).at (address_of fresh)) self.old.kept self.new.kept }
-        ensures stops { StopsLeave self.old.kept.history self.new.kept.history (IsLeftByJoin self.old.kept index (address_of fresh) (changes_view changes.now)) }
+        ensures errors { HasReportedIoOrNoMemoryBesideBlocks (blocks_of_address (pair_address_of_array fresh)) self.old.kept self.new.kept result }
+        ensures device { ThreadChangesWithFewReads (3 + read_count_unless_cached (cached_log self.old index)) (blocks_of_two_addresses (kept_pair_at_index self.old.kept index).at (pair_address_of_array fresh)) self.old.kept self.new.kept }
+        ensures stops { StopsAfterCleanErasesLeave self.old.kept.history self.new.kept.history (LeavesPairOldOrThreadedIn self.old.kept index (pair_address_of_array fresh) (changes_view changes.now)) }
     {
-        let outcome = join_pair(
+        let outcome = thread_in_fresh_pair(
             alloc,
             &mut self.device,
             &mut self.cache,
@@ -424,15 +424,15 @@ impl<D: BlockDevice> Thread<D> {
         changes: &[Change<'_>],
     ) -> Result<Outcome, Error>
         requires works { self.old.failed ≡ false }
-        requires can { CanDrop self.old.kept index (changes_view changes.now) }
-        ensures done { result ≡ Ok Outcome.Done → IsDropped self.old.kept index (changes_view changes.now) self.new.kept }
+        requires can { CanDropNextPair self.old.kept index (changes_view changes.now) }
+        ensures done { result ≡ Ok Outcome.Done → IsPairAfterIndexDropped self.old.kept index (changes_view changes.now) self.new.kept }
         ensures full { result ≡ Ok Outcome.Full → IsCommitRefused self.old.kept index (changes_view changes.now) self.new.kept }
         ensures failed { self.new.failed ≡ is_err result }
-        ensures errors { HasReported self.old.kept self.new.kept result }
-        ensures device { WritesReading (1 + read_if_missing (cached_log self.old index)) (two_of (pair_in self.old.kept index).at) self.old.kept self.new.kept }
-        ensures stops { StopsLeave self.old.kept.history self.new.kept.history (IsLeftByChange self.old.kept index (changes_view changes.now)) }
+        ensures errors { HasReportedIoOrUnwrittenNoMemory self.old.kept self.new.kept result }
+        ensures device { ThreadChangesWithFewReads (1 + read_count_unless_cached (cached_log self.old index)) (blocks_of_address (kept_pair_at_index self.old.kept index).at) self.old.kept self.new.kept }
+        ensures stops { StopsAfterCleanErasesLeave self.old.kept.history self.new.kept.history (LeavesPairOldOrChanged self.old.kept index (changes_view changes.now)) }
     {
-        let outcome = drop_pair(
+        let outcome = drop_next_pair(
             alloc,
             &mut self.device,
             &mut self.cache,
@@ -450,10 +450,10 @@ impl<D: BlockDevice> Thread<D> {
     /// in the map. The cache is empty afterwards.
     pub fn beside<X, F: FnOnce(&mut D, &mut BlockMap) -> X>(&mut self, work: F) -> X
         requires works { self.old.failed ≡ false }
-        requires can { (device : D) (map : BlockMap) → IsOnDevice D.BlockDevice self.old.kept device map → CanRun F.FnOnce work device map }
-        requires leaves { (device : D) (map : BlockMap) (x : X) (later : D) (later_map : BlockMap) → IsOnDevice D.BlockDevice self.old.kept device map
-            → MayReturn F.FnOnce work device map x later later_map → LeavesPairs D.BlockDevice self.old.kept device map later later_map }
-        ensures ran { HasDoneWork D.BlockDevice F.FnOnce work self.old.kept result self.new.kept }
+        requires can { (device : D) (map : BlockMap) → HasDeviceAndMap D.BlockDevice self.old.kept device map → CanRunWork F.FnOnce work device map }
+        requires leaves { (device : D) (map : BlockMap) (x : X) (later : D) (later_map : BlockMap) → HasDeviceAndMap D.BlockDevice self.old.kept device map
+            → WorkMayReturn F.FnOnce work device map x later later_map → KeepsUsedBlocksOfPairs D.BlockDevice self.old.kept device map later later_map }
+        ensures ran { HasRunWorkOnDeviceAndMap D.BlockDevice F.FnOnce work self.old.kept result self.new.kept }
         ensures pairs { self.new.kept.pairs ≡ self.old.kept.pairs }
         ensures works { self.new.failed ≡ false }
         ensures cache { self.new.cache ≡ [] }
@@ -479,7 +479,7 @@ impl<D: BlockDevice> Thread<D> {
     /// Makes a failed thread of its parts. Nothing is known of what its device holds.
     pub fn unread(parts: Parts<D>) -> Thread<D>
         ensures failed { result.failed ≡ true }
-        ensures kept { result.kept ≡ kept_view_on D.BlockDevice parts.device parts.pairs.items parts.map }
+        ensures kept { result.kept ≡ kept_thread_of_device D.BlockDevice parts.device parts.pairs.items parts.map }
     {
         Thread {
             device: parts.device,
@@ -492,7 +492,7 @@ impl<D: BlockDevice> Thread<D> {
 
     /// Returns the geometry of the device.
     pub fn geometry(&self) -> Geometry
-        ensures { IsDividedAs result self.now.kept.disk }
+        ensures { DiskHasGeometry result self.now.kept.disk }
     {
         self.device.geometry()
     }
@@ -514,7 +514,7 @@ impl<D: BlockDevice> Thread<D> {
 }
 
 // Makes an empty cache, and a map of so many free blocks.
-fn in_memory(alloc: Global, block_count: u32) -> Result<(Cache, BlockMap), Error>
+fn make_empty_cache_and_map(alloc: Global, block_count: u32) -> Result<(Cache, BlockMap), Error>
     ensures empty { IfOk result (λ parts. parts.0 ≡ []) }
     ensures free { IfOk result (λ parts. parts.1 ≡ replicate block_count Free) }
     ensures error { IfErr result (λ e. e ≡ Error.NoMemory) }

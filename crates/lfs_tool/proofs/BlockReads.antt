@@ -8,12 +8,12 @@ use Rattle.std.proofs.lemmas.Bool.{cases_lt}
 use Rattle.std.proofs.lemmas.List.{append-nil, drop-append-le, length-take-le, take-append-le, take_all}
 use Rattle.std.proofs.lemmas.List.Elements.{All-push}
 use Rattle.lfs_tool.specs.declared.block_excerpt.BlockExcerpt.{BlockExcerpt}
-use Rattle.lfs_tool.specs.ExcerptBlocks.{HaveSize, block_shown, blocks_shown}
-use Rattle.lfs_tool.specs.Excerpt.{AreExcerpts, IsBlockExcerpt}
+use Rattle.lfs_tool.specs.ExcerptBlocks.{AreExcerptsOfBlockSize, block_of_excerpt, blocks_of_excerpts}
+use Rattle.lfs_tool.specs.Excerpt.{AreExcerptsOfBlocks, IsBlockExcerpt}
 use Rattle.lfs_model.specs.Blocks.{Blocks, cut}
-use Rattle.lfs_model.specs.Disk.{IsImage}
-use Rattle.lfs_tool.specs.Blocks.{AreExcerptsOfBytes, Fills, IsExcerptPushed}
-use Rattle.lfs_tool.specs.Reports.{IsReadToEnd}
+use Rattle.lfs_model.specs.Disk.{IsImageOfWholeBlocks}
+use Rattle.lfs_tool.specs.Blocks.{AreExcerptsOfBytes, FillsBufferWithNextBytes, IsExcerptPushed}
+use Rattle.lfs_tool.specs.Reports.{IsReadToEndOrPastImageLimit}
 use Rattle.lfs_tool.proofs.Images.{image_fits}
 use Rattle.lfs_tool.proofs.KnownBytes.{ended_behind, past_the_most, reads_on}
 
@@ -45,18 +45,18 @@ cut_more size (suc k) items block len one =
     ∙ ap₂ (λ a b. a ∷ cut size (k + 1) b) (take-append-le size items block room) (drop-append-le size items block room)
     ∙ ap (λ l. take size items ∷ l) (cut_more size k (drop size items) block rest one)
 
-excerpts_more : (blocks excerpts : Blocks) (block excerpt : List ℕ) → AreExcerpts blocks excerpts → IsBlockExcerpt block excerpt → AreExcerpts (blocks ++ block ∷ []) (excerpts ++ excerpt ∷ [])
+excerpts_more : (blocks excerpts : Blocks) (block excerpt : List ℕ) → AreExcerptsOfBlocks blocks excerpts → IsBlockExcerpt block excerpt → AreExcerptsOfBlocks (blocks ++ block ∷ []) (excerpts ++ excerpt ∷ [])
 excerpts_more [] [] block excerpt are is = (is, tt)
 excerpts_more [] (e ∷ es) block excerpt are is = absurd are
 excerpts_more (b ∷ bs) [] block excerpt are is = absurd are
 excerpts_more (b ∷ bs) (e ∷ es) block excerpt are is = (are.0, excerpts_more bs es block excerpt are.1 is)
 
-shown_more : (blocks : List BlockExcerpt) (kept : BlockExcerpt) → blocks_shown (blocks ++ kept ∷ []) ≡ blocks_shown blocks ++ block_shown kept ∷ []
+shown_more : (blocks : List BlockExcerpt) (kept : BlockExcerpt) → blocks_of_excerpts (blocks ++ kept ∷ []) ≡ blocks_of_excerpts blocks ++ block_of_excerpt kept ∷ []
 shown_more [] kept = refl
-shown_more (b ∷ blocks) kept = ap (λ l. block_shown b ∷ l) (shown_more blocks kept)
+shown_more (b ∷ blocks) kept = ap (λ l. block_of_excerpt b ∷ l) (shown_more blocks kept)
 
-pub sizes_more : (size : ℕ) (block : List ℕ) (old new : List BlockExcerpt) → HaveSize size old → length block ≡ size → IsExcerptPushed block old new → HaveSize size new
-sizes_more size block old new have one pushed = subst (HaveSize size) (sym pushed.is) (All-push (λ b. b.size ≡ size) old pushed.kept have (pushed.size ∙ one))
+pub sizes_more : (size : ℕ) (block : List ℕ) (old new : List BlockExcerpt) → AreExcerptsOfBlockSize size old → length block ≡ size → IsExcerptPushed block old new → AreExcerptsOfBlockSize size new
+sizes_more size block old new have one pushed = subst (AreExcerptsOfBlockSize size) (sym pushed.is) (All-push (λ b. b.size ≡ size) old pushed.kept have (pushed.size ∙ one))
 
 pub pushed_count : (block : List ℕ) (old new : List BlockExcerpt) → IsExcerptPushed block old new → length new ≡ length old + 1
 pushed_count block old new pushed = ap length pushed.is ∙ length-append old (pushed.kept ∷ [])
@@ -66,8 +66,8 @@ read_more size items block old new are one pushed =
     let count = pushed_count block old new pushed in
     record {
       whole = length-append items block ∙ omega (arith, are.whole, one, ap (λ n. size * n) count);
-      excerpts = rw (ap (λ n. cut size n (items ++ block)) count ∙ cut_more size (length old) items block are.whole one, ap blocks_shown pushed.is ∙ shown_more old pushed.kept)
-          (excerpts_more (cut size (length old) items) (blocks_shown old) block (block_shown pushed.kept) are.excerpts pushed.excerpt);
+      excerpts = rw (ap (λ n. cut size n (items ++ block)) count ∙ cut_more size (length old) items block are.whole one, ap blocks_of_excerpts pushed.is ∙ shown_more old pushed.kept)
+          (excerpts_more (cut size (length old) items) (blocks_of_excerpts old) block (block_of_excerpt pushed.kept) are.excerpts pushed.excerpt);
     }
 
 -- one block more than fits is the most
@@ -98,7 +98,7 @@ pub has_read_none : (size : ℕ) (known : Option (List ℕ)) → HasRead size kn
 has_read_none size None = ([], (tt, none_read size))
 has_read_none size (Some bytes) = ([], (refl, none_read size))
 
-pub has_read_more : (size : ℕ) (first old new : Option (List ℕ)) (n : ℕ) (buffer : List ℕ) (blocks more : List BlockExcerpt) → HasRead size first old blocks → Fills old new n buffer
+pub has_read_more : (size : ℕ) (first old new : Option (List ℕ)) (n : ℕ) (buffer : List ℕ) (blocks more : List BlockExcerpt) → HasRead size first old blocks → FillsBufferWithNextBytes old new n buffer
     → length buffer ≡ size → size ≤ n → IsExcerptPushed buffer blocks more → HasRead size first new more
 has_read_more size first old new n buffer blocks more (items, (read, are)) fills one full pushed =
     (items ++ buffer, (reads_on first old new items buffer read (subst (Consumes old new) (take_all n buffer (omega (arith, one))) fills.read), read_more size items buffer blocks more are one pushed))
@@ -114,7 +114,7 @@ if_same : {P Q : List ℕ → Type 0} (first : Option (List ℕ)) → ((bytes : 
 if_same None f h = tt
 if_same (Some bytes) f h = f bytes h
 
-pub read_to_end : (size : ℕ) (first old new : Option (List ℕ)) (buffer : List ℕ) (blocks : List BlockExcerpt) → HasRead size first old blocks → Fills old new 0 buffer → 0 < length buffer
+pub read_to_end : (size : ℕ) (first old new : Option (List ℕ)) (buffer : List ℕ) (blocks : List BlockExcerpt) → HasRead size first old blocks → FillsBufferWithNextBytes old new 0 buffer → 0 < length buffer
     → IfSome first (λ bytes. AreExcerptsOfBytes size bytes blocks)
 read_to_end size first old new buffer blocks (items, (read, are)) fills some =
     if_same first (λ bytes is. subst (λ b. AreExcerptsOfBytes size b blocks) (sym (is ∙ append-nil items)) are) (all_bytes first old new items [] read fills.read (fills.last some))
@@ -126,8 +126,8 @@ not_whole size k n len q some few is other = elim (cases_lt k q) [
   | inr less ↦ let a = mul-le-mul_left size less in omega (arith, a, is, other)
 ]
 
-pub read_in_part : (size : ℕ) (first old new : Option (List ℕ)) (n : ℕ) (buffer : List ℕ) (blocks : List BlockExcerpt) → HasRead size first old blocks → Fills old new n buffer
-    → length buffer ≡ size → 0 < n → n < size → IfSome first (λ bytes. (page : ℕ) → ¬ IsImage size page bytes)
+pub read_in_part : (size : ℕ) (first old new : Option (List ℕ)) (n : ℕ) (buffer : List ℕ) (blocks : List BlockExcerpt) → HasRead size first old blocks → FillsBufferWithNextBytes old new n buffer
+    → length buffer ≡ size → 0 < n → n < size → IfSome first (λ bytes. (page : ℕ) → ¬ IsImageOfWholeBlocks size page bytes)
 read_in_part size first old new n buffer blocks (items, (read, are)) fills one some few =
     if_same first (λ bytes is page image.
     let len : length bytes ≡ size * length blocks + n = ap length is ∙ length-append items (take n buffer) ∙ omega (arith, are.whole, length-take-le n buffer fills.within) in
@@ -141,15 +141,15 @@ too_many (Some xs) None items read = absurd read
 too_many (Some xs) (Some ys) items read = omega (arith, ap length read, length-append items ys)
 
 pub read_too_many : (size : ℕ) (first old : Option (List ℕ)) (blocks : List BlockExcerpt) → HasRead size first old blocks → (len : ℕ) → 268435456 < size * len → len ≡ length blocks
-    → IfSome first (λ bytes. (page : ℕ) → ¬ IsImage size page bytes)
+    → IfSome first (λ bytes. (page : ℕ) → ¬ IsImageOfWholeBlocks size page bytes)
 read_too_many size first old blocks (items, (read, are)) len many is =
     if_same first (λ bytes long page image. let short = image_fits size page bytes image in omega (arith, are.whole, short, many, ap (λ n. size * n) is)) (too_many first old items read)
 
 -- ---- all was read, or more than an image may have
 
-pub read_ended_in : (size : ℕ) (first old new : Option (List ℕ)) (n : ℕ) (buffer : List ℕ) (blocks : List BlockExcerpt) → HasRead size first old blocks → Fills old new n buffer → n < length buffer
-    → IsReadToEnd first new
+pub read_ended_in : (size : ℕ) (first old new : Option (List ℕ)) (n : ℕ) (buffer : List ℕ) (blocks : List BlockExcerpt) → HasRead size first old blocks → FillsBufferWithNextBytes old new n buffer → n < length buffer
+    → IsReadToEndOrPastImageLimit first new
 read_ended_in size first old new n buffer blocks (items, (read, are)) fills few = ended_behind first old new items (take n buffer) read fills.read (fills.last few)
 
-pub read_past : (size : ℕ) (first old : Option (List ℕ)) (blocks : List BlockExcerpt) → HasRead size first old blocks → (len : ℕ) → 268435456 < size * len → len ≡ length blocks → IsReadToEnd first old
+pub read_past : (size : ℕ) (first old : Option (List ℕ)) (blocks : List BlockExcerpt) → HasRead size first old blocks → (len : ℕ) → 268435456 < size * len → len ≡ length blocks → IsReadToEndOrPastImageLimit first old
 read_past size first old blocks (items, (read, are)) len many is = past_the_most first old items read (omega (arith, are.whole, many, ap (λ n. size * n) is))

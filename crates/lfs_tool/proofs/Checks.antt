@@ -2,8 +2,8 @@
 use Rattle.std.proofs.Common.{◌≡◌, ◌∙◌, ◌++◌, ◌<◌, ◌≤◌, ℕ, List, Option, Some, None, ap, append_assoc, arith, length, refl, subst, take}
 use Rattle.std.specs.Prelude.{IfSome}
 use Rattle.std.proofs.lemmas.List.{length-take, take_all}
-use Rattle.lfs_model.specs.Disk.{IsImage}
-use Rattle.lfs_tool.specs.CheckResults.{IsCheckedAs, AreGivenSizes}
+use Rattle.lfs_model.specs.Disk.{IsImageOfWholeBlocks}
+use Rattle.lfs_tool.specs.CheckResults.{IsCheckResultOfBytes, AreSizesGivenToCheck}
 use Rattle.lfs_tool.specs.declared.check_result.Checked.{Checked}
 use Rattle.lfs_tool.specs.declared.check_result.Checked.TheVariants as checked
 use Rattle.lfs_tool.specs.declared.check_result.Given.{Given}
@@ -18,21 +18,21 @@ all_there : (bytes items : List ℕ) → items ≡ take most bytes → length it
 all_there bytes items read short = read ∙ take_all most bytes (omega (arith, ap length read, length-take most bytes))
 
 pub checked_read : (known : Option (List ℕ)) (block_size page : ℕ) (items : List ℕ) (c : Checked) → IfSome known (λ bytes. items ≡ take most bytes) → length items ≤ 268435456
-    → IsCheckedAs block_size page items c → IfSome known (λ bytes. IsCheckedAs block_size page bytes c)
+    → IsCheckResultOfBytes block_size page items c → IfSome known (λ bytes. IsCheckResultOfBytes block_size page bytes c)
 checked_read None block_size page items c read short h = tt
-checked_read (Some bytes) block_size page items c read short h = subst (λ (i : List ℕ). IsCheckedAs block_size page i c) (all_there bytes items read short) h
+checked_read (Some bytes) block_size page items c read short h = subst (λ (i : List ℕ). IsCheckResultOfBytes block_size page i c) (all_there bytes items read short) h
 
 too_long : (bytes items : List ℕ) → items ≡ take most bytes → 268435456 < length items → 268435456 < length bytes
 too_long bytes items read long = omega (arith, ap length read, length-take most bytes)
 
-no_image : (block_size page : ℕ) (bytes : List ℕ) → 268435456 < length bytes → IsImage block_size page bytes → ⊥
+no_image : (block_size page : ℕ) (bytes : List ℕ) → 268435456 < length bytes → IsImageOfWholeBlocks block_size page bytes → ⊥
 no_image block_size page bytes long is = let short = image_fits block_size page bytes is in omega arith
 
 -- where there are more bytes than an image may have
 pub refused_read : (known : Option (List ℕ)) (block_size page : ℕ) (items : List ℕ) (given : Given) (c : Checked) → IfSome known (λ bytes. items ≡ take most bytes) → 268435456 < length items
-    → AreGivenSizes block_size page items given
-    → ((bytes : List ℕ) → 268435456 < length bytes → (IsImage block_size page bytes → ⊥) → AreGivenSizes block_size page bytes given → IsCheckedAs block_size page bytes c)
-    → IfSome known (λ bytes. IsCheckedAs block_size page bytes c)
+    → AreSizesGivenToCheck block_size page items given
+    → ((bytes : List ℕ) → 268435456 < length bytes → (IsImageOfWholeBlocks block_size page bytes → ⊥) → AreSizesGivenToCheck block_size page bytes given → IsCheckResultOfBytes block_size page bytes c)
+    → IfSome known (λ bytes. IsCheckResultOfBytes block_size page bytes c)
 refused_read None block_size page items given c read long is refused = tt
 refused_read (Some bytes) block_size page items given c read long is refused =
     let more = too_long bytes items read long in

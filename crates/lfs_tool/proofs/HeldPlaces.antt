@@ -3,12 +3,12 @@ use Rattle.std.proofs.Common.{ℕ, zero, suc, ◌≡◌, ◌==◌, ◌<◌, ◌�
 use Rattle.std.specs.Prelude.{IfSome, slice_get}
 use Rattle.lfs_model.specs.Slots.{Slot}
 use Rattle.lfs_model.specs.Thread.{Pair}
-use Rattle.lfs_tool.specs.BrokenRules.{HoldsAtPlace, IsEntrySlot}
-use Rattle.lfs_tool.specs.OwnedSlotView.{owned_slot_view, pair_view, pairs_view}
-use Rattle.lfs_tool.specs.declared.findings.Place.{Place}
+use Rattle.lfs_tool.specs.BrokenRules.{IsTrueOfEntryAtPlace, IsSlotRequiredToBeEntry}
+use Rattle.lfs_tool.specs.OwnedSlotView.{owned_slot_view, owned_pair_view, owned_pairs_view}
+use Rattle.lfs_tool.specs.declared.findings.NamedSlot.{NamedSlot}
 use Rattle.lfs_tool.specs.declared.owned_parts.OwnedPair.{OwnedPair}
 use Rattle.lfs_tool.specs.declared.owned_parts.OwnedSlot.{OwnedSlot}
-use Rattle.lfs_model.specs.Slots.{address_of}
+use Rattle.lfs_model.specs.Slots.{pair_address_of_array}
 
 there : {X Y : Type 0} (f : X → Y) (xs : List X) (i : ℕ) (x : X) → i < length xs → x ≡ get_or xs i x → slice_get (map f xs) i ≡ Some (f x)
 there f [] i x l at = absurd (omega arith)
@@ -18,8 +18,8 @@ there f (y ∷ xs) (suc i) x l at = there f xs i x (omega arith) at
 pub slot_there : (slots : List OwnedSlot) (i : ℕ) (s : OwnedSlot) → i < length slots → s ≡ get_or slots i s → slice_get (map owned_slot_view slots) i ≡ Some (owned_slot_view s)
 slot_there = there owned_slot_view
 
-pub pair_there : (pairs : List OwnedPair) (i : ℕ) (p : OwnedPair) → i < length pairs → p ≡ get_or pairs i p → slice_get (pairs_view pairs) i ≡ Some (pair_view p)
-pair_there = there pair_view
+pub pair_there : (pairs : List OwnedPair) (i : ℕ) (p : OwnedPair) → i < length pairs → p ≡ get_or pairs i p → slice_get (owned_pairs_view pairs) i ≡ Some (owned_pair_view p)
+pair_there = there owned_pair_view
 
 pub further_on : {A : Type 0} (from id : ℕ) → from ≤ id → A ⊎ (0 < from) → A ⊎ (0 < id)
 further_on from id l (inl a) = inl a
@@ -30,10 +30,10 @@ some_weaker None P Q f h = tt
 some_weaker (Some x) P Q f h = f x h
 
 -- a place of a slot that has to be an entry
-pub at_place : (P : Slot → Type 0) (ps : List Pair) (place : Place) (pair : List ℕ) (id : ℕ) (s : Slot) → place.pair ≡ pair → place.slot ≡ id → place.name.items ≡ s.name
-    → IsEntrySlot ps (address_of pair) id s → P s → HoldsAtPlace P ps place
+pub at_place : (P : Slot → Type 0) (ps : List Pair) (place : NamedSlot) (pair : List ℕ) (id : ℕ) (s : Slot) → place.pair ≡ pair → place.slot ≡ id → place.name.items ≡ s.name
+    → IsSlotRequiredToBeEntry ps (pair_address_of_array pair) id s → P s → IsTrueOfEntryAtPlace P ps place
 at_place P ps place pair id s same_pair same_slot named is holds =
-    (s, (subst (λ p. IsEntrySlot ps (address_of p) place.slot s) (sym same_pair) (subst (λ i. IsEntrySlot ps (address_of pair) i s) (sym same_slot) is), (named, holds)))
+    (s, (subst (λ p. IsSlotRequiredToBeEntry ps (pair_address_of_array p) place.slot s) (sym same_pair) (subst (λ i. IsSlotRequiredToBeEntry ps (pair_address_of_array pair) i s) (sym same_slot) is), (named, holds)))
 
 pub not_none : (n : ℕ) → (n == 0) ≡ false → 0 < n
 not_none zero e = absurd (cc)

@@ -2,36 +2,36 @@
 use Rattle.std.proofs.Common.{◌≡◌, ◌∙◌, ◌<◌, ℕ, List, Option, Some, None, ap, arith, length, subst, sym, take}
 use Rattle.std.specs.Prelude.{IfSome}
 use Rattle.std.proofs.lemmas.List.{length-take, take_all}
-use Rattle.lfs_model.specs.Disk.{IsImage}
+use Rattle.lfs_model.specs.Disk.{IsImageOfWholeBlocks}
 use Rattle.lfs_device.specs.declared.error.Error.{Error}
 use Rattle.lfs_device.specs.declared.error.Error.TheVariants.{Corrupt, Invalid, NoMemory}
-use Rattle.lfs_tool.specs.Listings.{IsNotAccepted, Lists, RefusesToList}
+use Rattle.lfs_tool.specs.Listings.{IsImageAcceptedInNoOrder, ListsImage, RefusesToList}
 
 abbrev pub most : ℕ
 most = 268435457
 
-pub image_fits : (block_size page : ℕ) (image : List ℕ) → IsImage block_size page image → length image < most
+pub image_fits : (block_size page : ℕ) (image : List ℕ) → IsImageOfWholeBlocks block_size page image → length image < most
 image_fits block_size page image is =
     let g = is.geometry in
     let some : 0 < block_size = omega (arith, g.no_smaller) in
     omega (arith, g.bytes, is.whole)
 
 -- where what was read is an image, it is all there is
-pub all_read : (block_size page : ℕ) (bytes items : List ℕ) → items ≡ take most bytes → IsImage block_size page items → items ≡ bytes
+pub all_read : (block_size page : ℕ) (bytes items : List ℕ) → items ≡ take most bytes → IsImageOfWholeBlocks block_size page items → items ≡ bytes
 all_read block_size page bytes items read is =
     let short = image_fits block_size page items is in
     read ∙ take_all most bytes (omega (arith, ap length read, length-take most bytes))
 
 -- and where all there is is one, it was read whole
-image_read : (block_size page : ℕ) (bytes items : List ℕ) → items ≡ take most bytes → IsImage block_size page bytes → IsImage block_size page items
+image_read : (block_size page : ℕ) (bytes items : List ℕ) → items ≡ take most bytes → IsImageOfWholeBlocks block_size page bytes → IsImageOfWholeBlocks block_size page items
 image_read block_size page bytes items read is =
     let short = image_fits block_size page bytes is in
-    subst (IsImage block_size page) (sym (read ∙ take_all most bytes (omega arith))) is
+    subst (IsImageOfWholeBlocks block_size page) (sym (read ∙ take_all most bytes (omega arith))) is
 
 refuses_bytes : (block_size page : ℕ) (bytes items : List ℕ) (e : Error) → items ≡ take most bytes → RefusesToList block_size page items e → RefusesToList block_size page bytes e
 refuses_bytes block_size page bytes items Invalid read h = λ is. h (image_read block_size page bytes items read is)
 refuses_bytes block_size page bytes items NoMemory read h = tt
-refuses_bytes block_size page bytes items Corrupt read h = subst (λ (i : List ℕ). IsNotAccepted block_size page i) (all_read block_size page bytes items read h.0) h
+refuses_bytes block_size page bytes items Corrupt read h = subst (λ (i : List ℕ). IsImageAcceptedInNoOrder block_size page i) (all_read block_size page bytes items read h.0) h
 refuses_bytes block_size page bytes items e read h = absurd h
 
 pub refuses_read : (known : Option (List ℕ)) (block_size page : ℕ) (items : List ℕ) (e : Error) → IfSome known (λ bytes. items ≡ take most bytes) → RefusesToList block_size page items e
@@ -40,7 +40,7 @@ refuses_read None block_size page items e read h = tt
 refuses_read (Some bytes) block_size page items e read h = refuses_bytes block_size page bytes items e read h
 
 -- what was written of the lines
-pub with_lines : (known : Option (List ℕ)) (block_size page : ℕ) (text : List ℕ) (P : List ℕ → Type 0) → IfSome known (λ bytes. Lists block_size page bytes text) → P text
-    → IfSome known (λ bytes. (t : List ℕ) × (Lists block_size page bytes t × P t))
+pub with_lines : (known : Option (List ℕ)) (block_size page : ℕ) (text : List ℕ) (P : List ℕ → Type 0) → IfSome known (λ bytes. ListsImage block_size page bytes text) → P text
+    → IfSome known (λ bytes. (t : List ℕ) × (ListsImage block_size page bytes t × P t))
 with_lines None block_size page text P lists written = tt
 with_lines (Some bytes) block_size page text P lists written = (text, (lists, written))

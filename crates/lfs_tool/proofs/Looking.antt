@@ -6,7 +6,7 @@ use Rattle.lfs_device.specs.declared.error.Error.{Error}
 use Rattle.lfs_device.specs.declared.error.Error.TheVariants.{Io, NoMemory}
 use Rattle.lfs_device.specs.Calls.{ReadsOnly, ReportsFaults}
 use Rattle.lfs_model.specs.History.{faults}
-use Rattle.lfs_model.proofs.Histories.{OnlyReads-trans, began}
+use Rattle.lfs_model.proofs.Histories.{AreCallsSinceOnlyReads-trans, began}
 use Rattle.lfs_tool.specs.Device.{OnlyReadsDevice}
 
 -- looks that answered
@@ -22,7 +22,7 @@ looked g old new r x e device reported = record { device = device; no_fault = re
 
 pub on : {D : Type 0} (g : Ghosts D) (old mid new : D) → HasLooked g old mid → HasLooked g mid new → HasLooked g old new
 on g old mid new a b = record {
-  device = record { same = b.device.same ∙ a.device.same; geometry = b.device.geometry ∙ a.device.geometry; reads = OnlyReads-trans a.device.reads b.device.reads a.device.same };
+  device = record { same = b.device.same ∙ a.device.same; geometry = b.device.geometry ∙ a.device.geometry; reads = AreCallsSinceOnlyReads-trans a.device.reads b.device.reads a.device.same };
   no_fault = b.no_fault ∙ a.no_fault;
 }
 
@@ -43,7 +43,7 @@ lacks_memory {X = X} g old new r e h = record {
 -- a look behind others
 pub further : {D X : Type 0} (g : Ghosts D) (old mid new : D) (r : Result X Error) → HasLooked g old mid → OnlyReadsDevice g mid new r → OnlyReadsDevice g old new r
 further g old mid new r a b = let same = a.no_fault in record {
-  device = record { same = b.device.same ∙ a.device.same; geometry = b.device.geometry ∙ a.device.geometry; reads = OnlyReads-trans a.device.reads b.device.reads a.device.same };
+  device = record { same = b.device.same ∙ a.device.same; geometry = b.device.geometry ∙ a.device.geometry; reads = AreCallsSinceOnlyReads-trans a.device.reads b.device.reads a.device.same };
   errors = b.errors;
   faults = record { fault = λ e. let k = b.faults.fault e in omega (arith, k, same); no_fault = λ e. b.faults.no_fault e ∙ same };
 }

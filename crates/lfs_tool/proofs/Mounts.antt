@@ -4,15 +4,15 @@ use Rattle.lfs_device.specs.declared.error.Error.{Error}
 use Rattle.lfs_device.specs.declared.error.Error.TheVariants.{Corrupt, Io}
 use Rattle.lfs_device.specs.Shown.{ordered}
 use Rattle.lfs_model.specs.Disk.{Disk}
-use Rattle.lfs_model.specs.History.{Event, faults}
+use Rattle.lfs_model.specs.History.{CallEvent, faults}
 use Rattle.lfs_model.specs.Thread.{Pair}
-use Rattle.lfs_model.specs.View.{IsAccepted}
+use Rattle.lfs_model.specs.View.{IsAcceptedImage}
 use Rattle.lfs_model.specs.declared.order.NameOrder.{NameOrder}
-use Rattle.lfs_mount.specs.Device.{IsMountError}
-use Rattle.lfs_tool.specs.Listings.{IsNotMounted}
+use Rattle.lfs_mount.specs.Device.{IsIoCorruptOrNoMemory}
+use Rattle.lfs_tool.specs.Listings.{IsMountErrorOfDisk}
 
 -- without a fault it isn't for a fault
-pub not_mounted : (disk : Disk) (e : Error) (old new : List Event) → IsMountError e → (e ≡ Corrupt → (order : NameOrder) (ps : List Pair) → IsAccepted (ordered order disk) ps → ⊥) → (e ≡ Io → faults old < faults new) → faults new ≡ faults old → IsNotMounted disk e
+pub not_mounted : (disk : Disk) (e : Error) (old new : List CallEvent) → IsIoCorruptOrNoMemory e → (e ≡ Corrupt → (order : NameOrder) (ps : List Pair) → IsAcceptedImage (ordered order disk) ps → ⊥) → (e ≡ Io → faults old < faults new) → faults new ≡ faults old → IsMountErrorOfDisk disk e
 not_mounted disk e old new (inl io) corrupt fault none = let more = fault io in absurd (omega (arith, more, none))
-not_mounted disk e old new (inr (inl is)) corrupt fault none = subst (IsNotMounted disk) (sym is) (corrupt is)
-not_mounted disk e old new (inr (inr is)) corrupt fault none = subst (IsNotMounted disk) (sym is) tt
+not_mounted disk e old new (inr (inl is)) corrupt fault none = subst (IsMountErrorOfDisk disk) (sym is) (corrupt is)
+not_mounted disk e old new (inr (inr is)) corrupt fault none = subst (IsMountErrorOfDisk disk) (sym is) tt

@@ -5,7 +5,7 @@ use Rattle.std.proofs.lemmas.List.{take-replicate, take_all, take-append-le, tak
 use Rattle.std.proofs.Math.Seq.{drop-append_seam}
 use Rattle.std.proofs.lemmas.Bool.{cases_lt, or_parts}
 use Rattle.lfs_model.specs.Content.{has_commit}
-use Rattle.lfs_tool.specs.Excerpt.{IsBlockExcerpt, is_kept_whole, kept_bytes, padded}
+use Rattle.lfs_tool.specs.Excerpt.{IsBlockExcerpt, is_block_kept_whole, kept_byte_count, padded}
 use Rattle.lfs_tool.specs.ExcerptShape.{length-padded}
 
 -- ---- a part
@@ -70,7 +70,7 @@ whole_excerpt block items is = rw (is) (record {
   log = inl (none_behind block);
 })
 
-pub cut_excerpt : (block items : List ℕ) → items ≡ take 132 block → 132 ≤ length block → is_kept_whole block ≡ false → IsBlockExcerpt block (padded (length block) items)
+pub cut_excerpt : (block items : List ℕ) → items ≡ take 132 block → 132 ≤ length block → is_block_kept_whole block ≡ false → IsBlockExcerpt block (padded (length block) items)
 cut_excerpt block items is room none =
     let len = length-take-le 132 block room in
     rw (is) (record {
@@ -80,10 +80,10 @@ cut_excerpt block items is room none =
     })
 
 -- how much that is
-pub kept_whole : (block items : List ℕ) → items ≡ block → is_kept_whole block ≡ true → length items ≡ kept_bytes block
+pub kept_whole : (block items : List ℕ) → items ≡ block → is_block_kept_whole block ≡ true → length items ≡ kept_byte_count block
 kept_whole block items is whole = ap length is ∙ sym (ap (λ (b : Bool). if b then length block else 132) whole)
 
-pub kept_cut : (block items : List ℕ) → items ≡ take 132 block → 132 ≤ length block → is_kept_whole block ≡ false → length items ≡ kept_bytes block
+pub kept_cut : (block items : List ℕ) → items ≡ take 132 block → 132 ≤ length block → is_block_kept_whole block ≡ false → length items ≡ kept_byte_count block
 kept_cut block items is room none = ap length is ∙ length-take-le 132 block room ∙ sym (ap (λ (b : Bool). if b then length block else 132) none)
 
 -- ---- a block's beginning in front of erased bytes

@@ -4,16 +4,16 @@ use Rattle.std.specs.Prelude.{OnOk}
 use Rattle.lfs_device.specs.declared.error.Error.TheVariants as fs
 use Rattle.lfs_model.specs.Source.{Source}
 use Rattle.lfs_tool_line.specs.declared.line.Line.{Line}
-use Rattle.lfs_tool.specs.Explained.{FailsToCount, FailsToReadImage}
-use Rattle.lfs_tool.specs.KnownBytes.{FailsToRead}
-use Rattle.lfs_tool.specs.MadeImages.{ReportsSource}
-use Rattle.lfs_tool.specs.Reports.{ReportsWriter}
+use Rattle.lfs_tool.specs.Explained.{FailsToCountNeededBlocks, FailsToReadImage}
+use Rattle.lfs_tool.specs.KnownBytes.{IsErrorOfFailedRead}
+use Rattle.lfs_tool.specs.MadeImages.{ReportsSourceFaults}
+use Rattle.lfs_tool.specs.Reports.{ReportsWriterFaults}
 use Rattle.lfs_tool.specs.declared.errors.ToolError.{ToolError}
 use Rattle.lfs_tool.specs.declared.errors.ToolError.TheVariants.{Fs, Input, Output}
-use Rattle.lfs_tool.specs.declared.writer.Writer.{Ghosts}
+use Rattle.lfs_tool.specs.declared.writer.ToolOutput.{Ghosts}
 
 -- what was written is flushed
-pub and_flushed : {W X : Type 0} (g : Ghosts W) (old new : W) (r : Result X ToolError) (P : Type 0) → OnOk r P → ReportsWriter g old new r → OnOk r (P × (g.pending new ≡ 0))
+pub and_flushed : {W X : Type 0} (g : Ghosts W) (old new : W) (r : Result X ToolError) (P : Type 0) → OnOk r P → ReportsWriterFaults g old new r → OnOk r (P × (g.pending new ≡ 0))
 and_flushed g old new (Ok x) P h reports = (h, reports.1)
 and_flushed g old new (Err e) P h reports = tt
 
@@ -23,15 +23,15 @@ or_so f (inr q) = inr (f q)
 
 -- the image at the line's path fails, or memory isn't granted
 pub image_fails : {I : Type 0} (path_of : I → List ℕ) (faults : I → ℕ) (line : Line) (old new : I) (error : ToolError) → path_of old ≡ line.image.now
-    → FailsToRead error (faults old) (faults new) → FailsToReadImage path_of faults line error
+    → IsErrorOfFailedRead error (faults old) (faults new) → FailsToReadImage path_of faults line error
 image_fails path_of faults line old new Input at fails = (old, (at, (new, fails)))
 image_fails path_of faults line old new Output at fails = absurd fails
 image_fails path_of faults line old new (Fs e) at fails = fails.0
 
 -- the folder at a path fails, or memory isn't granted
 pub folder_fails : {F : Type 0} (X : Type 0) (folder_of : F → List ℕ) (faults : F → ℕ) (shown : F → Option Source) (line : Line) (folder : List ℕ) (old new : F) (error : ToolError)
-    → folder_of old ≡ folder → ReportsSource {X = X} (faults old) (faults new) (shown old) (Err error) → (error ≢ Input → error ≡ Fs fs.NoMemory)
-    → FailsToCount folder_of faults shown line folder error
+    → folder_of old ≡ folder → ReportsSourceFaults {X = X} (faults old) (faults new) (shown old) (Err error) → (error ≢ Input → error ≡ Fs fs.NoMemory)
+    → FailsToCountNeededBlocks folder_of faults shown line folder error
 folder_fails X folder_of faults shown line folder old new Input at reports other = (old, (at, (new, reports)))
 folder_fails X folder_of faults shown line folder old new Output at reports other = let no : Output ≡ Fs fs.NoMemory = other (λ is. (cc)) in (cc)
 folder_fails X folder_of faults shown line folder old new (Fs e) at reports other = let is : Fs e ≡ Fs fs.NoMemory = other (λ is. (cc)) in inl (cc)

@@ -5,26 +5,26 @@ use Rattle.lfs_device.specs.Shown.{ordered}
 use Rattle.lfs_model.specs.Disk.{Disk}
 use Rattle.lfs_model.specs.Thread.{Pair}
 use Rattle.lfs_model.specs.declared.order.NameOrder.{NameOrder}
-use Rattle.lfs_tool.specs.BrokenRules.{BreaksRule}
+use Rattle.lfs_tool.specs.BrokenRules.{BreaksRuleOfFinding}
 use Rattle.lfs_tool.specs.OwnedSlots.{pairs_without_attributes}
-use Rattle.lfs_tool.specs.Findings.{IsFindingOf, IsInTwo, IsThreadFault, LacksName, LacksStruct}
-use Rattle.lfs_tool.specs.ThreadBeginnings.{BeginsThread, IsNamedByThread}
+use Rattle.lfs_tool.specs.Findings.{IsFindingOfDisk, IsBlockInTwoPairs, IsThreadFinding, IsSlotWithoutName, IsNamedSlotWithoutStruct}
+use Rattle.lfs_tool.specs.ThreadBeginnings.{IsThreadBeginningUpTo, IsNamedByThread}
 use Rattle.lfs_tool.specs.declared.findings.Finding.{Finding}
 use Rattle.lfs_tool.specs.declared.findings.Finding.TheVariants as finding
 
-begins : (d : Disk) (o : NameOrder) (ps : List Pair) (next : Option (ℕ × ℕ)) → BeginsThread d ps next → BeginsThread (ordered o d) ps next
+begins : (d : Disk) (o : NameOrder) (ps : List Pair) (next : Option (ℕ × ℕ)) → IsThreadBeginningUpTo d ps next → IsThreadBeginningUpTo (ordered o d) ps next
 begins d o ps next h = record { links = h.links; contents = h.contents }
 
 named : (d : Disk) (o : NameOrder) (at : ℕ × ℕ) → IsNamedByThread d at → IsNamedByThread (ordered o d) at
 named d o at (ps, h) = (ps, begins d o ps (Some at) h)
 
-lacks_name : (d : Disk) (o : NameOrder) (at : ℕ × ℕ) (id : ℕ) → LacksName d at id → LacksName (ordered o d) at id
+lacks_name : (d : Disk) (o : NameOrder) (at : ℕ × ℕ) (id : ℕ) → IsSlotWithoutName d at id → IsSlotWithoutName (ordered o d) at id
 lacks_name d o at id h = record { content = h.content; holds = h.holds; below = h.below; name = h.name }
 
-lacks_struct : (d : Disk) (o : NameOrder) (at : ℕ × ℕ) (id : ℕ) (name : List ℕ) → LacksStruct d at id name → LacksStruct (ordered o d) at id name
+lacks_struct : (d : Disk) (o : NameOrder) (at : ℕ × ℕ) (id : ℕ) (name : List ℕ) → IsNamedSlotWithoutStruct d at id name → IsNamedSlotWithoutStruct (ordered o d) at id name
 lacks_struct d o at id name h = record { content = h.content; holds = h.holds; below = h.below; named = h.named; struct = h.struct }
 
-in_two : (d : Disk) (o : NameOrder) (block : ℕ) (at other : ℕ × ℕ) → IsInTwo d block at other → IsInTwo (ordered o d) block at other
+in_two : (d : Disk) (o : NameOrder) (block : ℕ) (at other : ℕ × ℕ) → IsBlockInTwoPairs d block at other → IsBlockInTwoPairs (ordered o d) block at other
 in_two d o block at other h = record {
   pairs = h.pairs;
   begins = begins d o h.pairs (Some at) h.begins;
@@ -36,7 +36,7 @@ in_two d o block at other h = record {
   in_pair = h.in_pair;
 }
 
-unread : (d : Disk) (o : NameOrder) (f : Finding) → IsThreadFault d f → IsThreadFault (ordered o d) f
+unread : (d : Disk) (o : NameOrder) (f : Finding) → IsThreadFinding d f → IsThreadFinding (ordered o d) f
 unread d o (finding.OutOfRange pair block) h = (named d o _ h.0, h.1, h.2)
 unread d o (finding.OneBlock pair) h = (named d o _ h.0, h.1)
 unread d o (finding.InTwoPairs block pair other) h = in_two d o _ _ _ h
@@ -47,14 +47,14 @@ unread d o (finding.NoStruct place) h = (named d o _ h.0, lacks_struct d o _ _ _
 unread d o _ h = absurd h
 
 -- with its names in any order
-found : (d : Disk) (o : NameOrder) (f : Finding) → IsFindingOf d f → IsFindingOf (ordered o d) f
+found : (d : Disk) (o : NameOrder) (f : Finding) → IsFindingOfDisk d f → IsFindingOfDisk (ordered o d) f
 found d o f (inl h) = inl (unread d o f h)
 found d o f (inr (ps, (h, broken))) =
-    let same : BreaksRule (ordered o d) (pairs_without_attributes ps) f = broken in
+    let same : BreaksRuleOfFinding (ordered o d) (pairs_without_attributes ps) f = broken in
     inr (ps, (begins d o ps None h, same))
 
-pub found_alike : (d e : Disk) (o : NameOrder) (some : Option Finding) → ordered o d ≡ ordered o e → IfSome some (IsFindingOf d) → IfSome some (IsFindingOf e)
+pub found_alike : (d e : Disk) (o : NameOrder) (some : Option Finding) → ordered o d ≡ ordered o e → IfSome some (IsFindingOfDisk d) → IfSome some (IsFindingOfDisk e)
 found_alike d e o None is h = tt
 found_alike d e o (Some f) is h =
-    let there = subst (λ x. IsFindingOf x f) is (found d o f h) in
+    let there = subst (λ x. IsFindingOfDisk x f) is (found d o f h) in
     found (ordered o e) e.order f there

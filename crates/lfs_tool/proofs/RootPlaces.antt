@@ -1,15 +1,15 @@
 -- How many pairs stand in front of the root, pair by pair from the last one back.
 use Rattle.std.proofs.Common.{ℕ, zero, suc, ◌≡◌, ◌+◌, ◌-◌, ◌<◌, ◌≤◌, ◌&&◌, ◌∙◌, Bool, true, false, cond, List, [], ◌∷◌, drop, get_or, length, refl, sym, ap, subst, arith, length-drop}
-use Rattle.lfs_model.specs.Thread.{directory_pairs, meets_superblock, superblocks_before}
-use Rattle.lfs_model.specs.View.{first_slots}
-use Rattle.lfs_tool.specs.OwnedSlotView.{pair_view, pairs_view}
+use Rattle.lfs_model.specs.Thread.{pairs_of_all_directories, has_superblock_as_first_slot, pair_count_before_root}
+use Rattle.lfs_model.specs.View.{first_pair_slots}
+use Rattle.lfs_tool.specs.OwnedSlotView.{owned_pair_view, owned_pairs_view}
 use Rattle.lfs_tool.specs.declared.owned_parts.OwnedPair.{OwnedPair}
 
 -- the pairs from an index on
-pub seen_from : (pairs : List OwnedPair) (i j : ℕ) (h : OwnedPair) → j ≡ suc i → i < length pairs → h ≡ get_or pairs i h → pairs_view (drop i pairs) ≡ pair_view h ∷ pairs_view (drop j pairs)
+pub seen_from : (pairs : List OwnedPair) (i j : ℕ) (h : OwnedPair) → j ≡ suc i → i < length pairs → h ≡ get_or pairs i h → owned_pairs_view (drop i pairs) ≡ owned_pair_view h ∷ owned_pairs_view (drop j pairs)
 seen_from [] i j h e l at = absurd (omega arith)
-seen_from (x ∷ pairs) zero j h e l at = subst (λ k. pairs_view (x ∷ pairs) ≡ pair_view h ∷ pairs_view (drop k (x ∷ pairs))) (sym e) (ap (λ y. pair_view y ∷ pairs_view pairs) (sym at))
-seen_from (x ∷ pairs) (suc i) j h e l at = subst (λ k. pairs_view (drop i pairs) ≡ pair_view h ∷ pairs_view (drop k (x ∷ pairs))) (sym e) (seen_from pairs i (suc i) h refl (omega arith) at)
+seen_from (x ∷ pairs) zero j h e l at = subst (λ k. owned_pairs_view (x ∷ pairs) ≡ owned_pair_view h ∷ owned_pairs_view (drop k (x ∷ pairs))) (sym e) (ap (λ y. owned_pair_view y ∷ owned_pairs_view pairs) (sym at))
+seen_from (x ∷ pairs) (suc i) j h e l at = subst (λ k. owned_pairs_view (drop i pairs) ≡ owned_pair_view h ∷ owned_pairs_view (drop k (x ∷ pairs))) (sym e) (seen_from pairs i (suc i) h refl (omega arith) at)
 
 -- at most one more than those behind
 pub one_more : (b : Bool) (r : ℕ) → cond b (1 + r) 0 ≤ 1 + r
@@ -17,7 +17,7 @@ one_more true r = omega arith
 one_more false r = omega arith
 
 -- the root stays among the pairs
-pub stays_inside : (pairs : List OwnedPair) (index root : ℕ) (m b : Bool) → m ≡ meets_superblock (pairs_view (drop index pairs)) → index ≤ length pairs → (index < length pairs → index + root < length pairs) → 0 < index
+pub stays_inside : (pairs : List OwnedPair) (index root : ℕ) (m b : Bool) → m ≡ has_superblock_as_first_slot (owned_pairs_view (drop index pairs)) → index ≤ length pairs → (index < length pairs → index + root < length pairs) → 0 < index
     → (index - 1) + cond (m && b) (1 + root) 0 < length pairs
 stays_inside pairs index root false b e l h some = omega arith
 stays_inside pairs index root true false e l h some = omega arith
@@ -25,7 +25,7 @@ stays_inside pairs index root true true e l h some = go (drop index pairs) refl
   where
     go : (rest : List OwnedPair) → drop index pairs ≡ rest → (index - 1) + (1 + root) < length pairs
     go [] is =
-        let bad : true ≡ false = e ∙ ap (λ r. meets_superblock (pairs_view r)) is in
+        let bad : true ≡ false = e ∙ ap (λ r. has_superblock_as_first_slot (owned_pairs_view r)) is in
         cc
     go (x ∷ rest) is =
         let n : length (drop index pairs) ≡ suc (length rest) = ap length is in
@@ -34,12 +34,12 @@ stays_inside pairs index root true true e l h some = go (drop index pairs) refl
         let more = h below in
         omega arith
 
-first_from : (pairs : List OwnedPair) (i : ℕ) (h : OwnedPair) → i < length pairs → h ≡ get_or pairs i h → first_slots (drop i (pairs_view pairs)) ≡ (pair_view h).content.slots
+first_from : (pairs : List OwnedPair) (i : ℕ) (h : OwnedPair) → i < length pairs → h ≡ get_or pairs i h → first_pair_slots (drop i (owned_pairs_view pairs)) ≡ (owned_pair_view h).content.slots
 first_from [] i h l at = absurd (omega arith)
-first_from (x ∷ pairs) zero h l at = ap (λ y. (pair_view y).content.slots) (sym at)
+first_from (x ∷ pairs) zero h l at = ap (λ y. (owned_pair_view y).content.slots) (sym at)
 first_from (x ∷ pairs) (suc i) h l at = first_from pairs i h (omega arith) at
 
 -- the slots of the root directory's first pair
-pub first_of_root : (pairs : List OwnedPair) (root : ℕ) (h : OwnedPair) → root ≡ superblocks_before (pairs_view pairs) → root < length pairs → h ≡ get_or pairs root h
-    → first_slots (directory_pairs (pairs_view pairs)) ≡ (pair_view h).content.slots
-first_of_root pairs root h e l at = ap (λ r. first_slots (drop r (pairs_view pairs))) (sym e) ∙ first_from pairs root h l at
+pub first_of_root : (pairs : List OwnedPair) (root : ℕ) (h : OwnedPair) → root ≡ pair_count_before_root (owned_pairs_view pairs) → root < length pairs → h ≡ get_or pairs root h
+    → first_pair_slots (pairs_of_all_directories (owned_pairs_view pairs)) ≡ (owned_pair_view h).content.slots
+first_of_root pairs root h e l at = ap (λ r. first_pair_slots (drop r (owned_pairs_view pairs))) (sym e) ∙ first_from pairs root h l at

@@ -1,66 +1,66 @@
 -- What is done of an image that is unpacked.
 use Rattle.std.proofs.Common.{ℕ, ◌≡◌, ◌⊎◌, ◌∙◌, inl, inr, List, [], ◌∷◌, Option, Some, None, Result, Ok, Err, ap, ap₂, map, refl, subst, sym, take}
 use Rattle.std.specs.Prelude.{IfErr, IfSome, IsErrOf, OnErr}
-use Rattle.lfs_model.specs.Disk.{Disk, IsImage, disk_of}
-use Rattle.lfs_model.specs.Listing.{Action, Entry, action_for, action_of}
+use Rattle.lfs_model.specs.Disk.{Disk, IsImageOfWholeBlocks, disk_of_image}
+use Rattle.lfs_model.specs.Listing.{UnpackingAction, PathAndNode, unpacking_action_of_node, unpacking_action_of_entry}
 use Rattle.lfs_model.specs.Slots.{Branch, Ctz, Inline, Struct}
 use Rattle.lfs_model.specs.Thread.{Pair}
 use Rattle.lfs_model.specs.Tree.{Node}
-use Rattle.lfs_model.specs.View.{HasView, IsAccepted, IsListIfCtz, view_in}
+use Rattle.lfs_model.specs.View.{HasDiskView, IsAcceptedImage, IsListIfCtz, view_of_disk}
 use Rattle.lfs_model.specs.declared.order.NameOrder.{NameOrder}
 use Rattle.lfs_device.specs.declared.error.Error.TheVariants.{Corrupt, Invalid, NoMemory}
 use Rattle.lfs_device.specs.declared.error.Error.{Error}
 use Rattle.lfs_device.specs.Shown.{ordered}
-use Rattle.lfs_lookup.specs.Walk.{AllShow, IsWalked, Place, PlaceShows, ShowsNode}
+use Rattle.lfs_lookup.specs.Walk.{AreWalkedEntriesOf, ArePathsAndStructsOfWalk, PathAndStruct, IsWalkedEntryOf, IsNodeOfStruct}
 use Rattle.lfs_tool.specs.declared.errors.ToolError.{ToolError}
 use Rattle.lfs_tool.specs.declared.errors.ToolError.TheVariants.{Fs, Output}
 use Rattle.lfs_tool.specs.Listings.{RefusesToList}
-use Rattle.lfs_tool.specs.Unpackings.{AreLists, FailsToUnpack, FailsToUnpackImage, HasBegunActions, HasDoneActions, IsBegunOf, IsBegunOfImage, IsDoneOf, IsDoneOfImage, IsUnpacked, ReportsTarget, Unpacks, action_at, action_below, actions_at}
+use Rattle.lfs_tool.specs.Unpackings.{HaveWellFormedSkipLists, FailsToUnpackDisk, FailsToUnpackImage, HasDoneBeginningOfActions, HasDoneMoreActions, HasBegunUnpackingDisk, HasBegunUnpackingImage, HasUnpackedDisk, HasUnpackedImage, AreActionsUnpackingDisk, ReportsTargetFaults, AreActionsUnpackingImage, action_for_place, action_for_struct, actions_for_places}
 use Rattle.lfs_tool.proofs.Images.{all_read, most}
 
 -- ---- what was found of a tree unpacks it
 
-list_node : (disk : Disk) (struct : Struct) (node : Node) → ShowsNode disk struct node → IsListIfCtz disk struct
+list_node : (disk : Disk) (struct : Struct) (node : Node) → IsNodeOfStruct disk struct node → IsListIfCtz disk struct
 list_node disk (Inline bytes) node h = tt
 list_node disk (Ctz head size) node (attributes, (is, list)) = list
 list_node disk (Branch to) node h = tt
 
-lists_shown : (disk : Disk) (ps : List Place) (es : List Entry) → AllShow disk ps es → AreLists disk ps
+lists_shown : (disk : Disk) (ps : List PathAndStruct) (es : List PathAndNode) → AreWalkedEntriesOf disk ps es → HaveWellFormedSkipLists disk ps
 lists_shown disk [] es s = tt
 lists_shown disk (p ∷ ps) [] s = absurd s
 lists_shown disk (p ∷ ps) (e ∷ es) s = (list_node disk p.struct e.node s.0.node, lists_shown disk ps es s.1)
 
-pub lists_walked : (disk now : Disk) (ps : List Pair) (places : List Place) → now ≡ disk → IsWalked disk ps places → AreLists now places
-lists_walked disk now ps places same (entries, (walk, shows)) = subst (λ d. AreLists d places) (sym same) (lists_shown disk places entries shows)
+pub lists_walked : (disk now : Disk) (ps : List Pair) (places : List PathAndStruct) → now ≡ disk → ArePathsAndStructsOfWalk disk ps places → HaveWellFormedSkipLists now places
+lists_walked disk now ps places same (entries, (walk, shows)) = subst (λ d. HaveWellFormedSkipLists d places) (sym same) (lists_shown disk places entries shows)
 
-action_node : (disk : Disk) (path : List ℕ) (struct : Struct) (node : Node) → ShowsNode disk struct node → action_below disk path struct ≡ action_for path node
-action_node disk path (Inline bytes) node (attributes, is) = ap (action_for path) (sym is)
-action_node disk path (Ctz head size) node (attributes, (is, list)) = ap (action_for path) (sym is)
-action_node disk path (Branch to) node (attributes, (names, is)) = ap (action_for path) (sym is)
+action_node : (disk : Disk) (path : List ℕ) (struct : Struct) (node : Node) → IsNodeOfStruct disk struct node → action_for_struct disk path struct ≡ unpacking_action_of_node path node
+action_node disk path (Inline bytes) node (attributes, is) = ap (unpacking_action_of_node path) (sym is)
+action_node disk path (Ctz head size) node (attributes, (is, list)) = ap (unpacking_action_of_node path) (sym is)
+action_node disk path (Branch to) node (attributes, (names, is)) = ap (unpacking_action_of_node path) (sym is)
 
-action_shown : (disk : Disk) (p : Place) (e : Entry) → PlaceShows disk p e → action_at disk p ≡ action_of e
-action_shown disk p e s = action_node disk p.path p.struct e.node s.node ∙ ap (λ path. action_for path e.node) s.path
+action_shown : (disk : Disk) (p : PathAndStruct) (e : PathAndNode) → IsWalkedEntryOf disk p e → action_for_place disk p ≡ unpacking_action_of_entry e
+action_shown disk p e s = action_node disk p.path p.struct e.node s.node ∙ ap (λ path. unpacking_action_of_node path e.node) s.path
 
-actions_shown : (disk : Disk) (ps : List Place) (es : List Entry) → AllShow disk ps es → actions_at disk ps ≡ map action_of es
+actions_shown : (disk : Disk) (ps : List PathAndStruct) (es : List PathAndNode) → AreWalkedEntriesOf disk ps es → actions_for_places disk ps ≡ map unpacking_action_of_entry es
 actions_shown disk [] [] s = refl
 actions_shown disk [] (e ∷ es) s = absurd s
 actions_shown disk (p ∷ ps) [] s = absurd s
 actions_shown disk (p ∷ ps) (e ∷ es) s = ap₂ (λ a more. a ∷ more) (action_shown disk p e s.0) (actions_shown disk ps es s.1)
 
-module _ (disk now : Disk) (order : NameOrder) (ps : List Pair) (places : List Place) (same : now ≡ ordered order disk) (accepted : IsAccepted (ordered order disk) ps) (walked : IsWalked (ordered order disk) ps places) where
-  unpacks : IsUnpacked disk (actions_at (ordered order disk) places)
+module _ (disk now : Disk) (order : NameOrder) (ps : List Pair) (places : List PathAndStruct) (same : now ≡ ordered order disk) (accepted : IsAcceptedImage (ordered order disk) ps) (walked : ArePathsAndStructsOfWalk (ordered order disk) ps places) where
+  unpacks : AreActionsUnpackingDisk disk (actions_for_places (ordered order disk) places)
   unpacks =
       let (entries, (walk, shows)) = walked in
-      (view_in (ordered order disk) ps, ((order, (ps, (accepted, refl))), (entries, (walk, actions_shown (ordered order disk) places entries shows))))
+      (view_of_disk (ordered order disk) ps, ((order, (ps, (accepted, refl))), (entries, (walk, actions_shown (ordered order disk) places entries shows))))
 
-  pub done_of : (old new : Option (List Action)) → HasDoneActions old new (actions_at now places) → IsDoneOf disk old new
-  done_of old new h = (actions_at (ordered order disk) places, (unpacks, subst (λ d. HasDoneActions old new (actions_at d places)) same h))
+  pub done_of : (old new : Option (List UnpackingAction)) → HasDoneMoreActions old new (actions_for_places now places) → HasUnpackedDisk disk old new
+  done_of old new h = (actions_for_places (ordered order disk) places, (unpacks, subst (λ d. HasDoneMoreActions old new (actions_for_places d places)) same h))
 
-  pub begun_of : (old new : Option (List Action)) → HasBegunActions old new (actions_at now places) → IsBegunOf disk old new
-  begun_of old new h = (actions_at (ordered order disk) places, (unpacks, subst (λ d. HasBegunActions old new (actions_at d places)) same h))
+  pub begun_of : (old new : Option (List UnpackingAction)) → HasDoneBeginningOfActions old new (actions_for_places now places) → HasBegunUnpackingDisk disk old new
+  begun_of old new h = (actions_for_places (ordered order disk) places, (unpacks, subst (λ d. HasDoneBeginningOfActions old new (actions_for_places d places)) same h))
 
-pub fails_begun : {X : Type 0} (disk : Disk) (old new : Option (List Action)) (was now : ℕ) (r : Result X ToolError) (begun : Type 0) → OnErr r begun → (begun → IsBegunOf disk old new)
-    → ReportsTarget was now r → IfErr r (FailsToUnpack disk old new)
+pub fails_begun : {X : Type 0} (disk : Disk) (old new : Option (List UnpackingAction)) (was now : ℕ) (r : Result X ToolError) (begun : Type 0) → OnErr r begun → (begun → HasBegunUnpackingDisk disk old new)
+    → ReportsTargetFaults was now r → IfErr r (FailsToUnpackDisk disk old new)
 fails_begun disk old new was now (Ok x) begun h to reports = tt
 fails_begun disk old new was now (Err Output) begun h to reports = to h
 fails_begun disk old new was now (Err (Fs NoMemory)) begun h to reports = inr (to h)
@@ -70,23 +70,23 @@ fails_begun disk old new was now (Err e) begun h to reports = absurd reports
 
 -- the disk is that of the bytes, in each order of names
 abbrev IsDiskOf : ℕ → ℕ → List ℕ → Disk → Type 0
-IsDiskOf block_size page image disk = (order : NameOrder) → ordered order disk ≡ disk_of block_size page order image
+IsDiskOf block_size page image disk = (order : NameOrder) → ordered order disk ≡ disk_of_image block_size page order image
 
-unpacks_image : (block_size page : ℕ) (image : List ℕ) (disk : Disk) (actions : List Action) → IsImage block_size page image → IsDiskOf block_size page image disk → IsUnpacked disk actions → Unpacks block_size page image actions
-unpacks_image block_size page image disk actions is same (view, ((order, shows), unpacking)) = (is, (view, ((order, subst (λ d. HasView d view) (same order) shows), unpacking)))
+unpacks_image : (block_size page : ℕ) (image : List ℕ) (disk : Disk) (actions : List UnpackingAction) → IsImageOfWholeBlocks block_size page image → IsDiskOf block_size page image disk → AreActionsUnpackingDisk disk actions → AreActionsUnpackingImage block_size page image actions
+unpacks_image block_size page image disk actions is same (view, ((order, shows), unpacking)) = (is, (view, ((order, subst (λ d. HasDiskView d view) (same order) shows), unpacking)))
 
-pub done_image : (block_size page : ℕ) (image : List ℕ) (disk : Disk) (old new : Option (List Action)) → IsImage block_size page image → IsDiskOf block_size page image disk
-    → IsDoneOf disk old new → IsDoneOfImage block_size page image old new
+pub done_image : (block_size page : ℕ) (image : List ℕ) (disk : Disk) (old new : Option (List UnpackingAction)) → IsImageOfWholeBlocks block_size page image → IsDiskOf block_size page image disk
+    → HasUnpackedDisk disk old new → HasUnpackedImage block_size page image old new
 done_image block_size page image disk old new is same (actions, (unpacked, h)) = (actions, (unpacks_image block_size page image disk actions is same unpacked, h))
 
-begun_image : (block_size page : ℕ) (image : List ℕ) (disk : Disk) (old new : Option (List Action)) → IsImage block_size page image → IsDiskOf block_size page image disk
-    → IsBegunOf disk old new → IsBegunOfImage block_size page image old new
+begun_image : (block_size page : ℕ) (image : List ℕ) (disk : Disk) (old new : Option (List UnpackingAction)) → IsImageOfWholeBlocks block_size page image → IsDiskOf block_size page image disk
+    → HasBegunUnpackingDisk disk old new → HasBegunUnpackingImage block_size page image old new
 begun_image block_size page image disk old new is same (actions, (unpacked, h)) = (actions, (unpacks_image block_size page image disk actions is same unpacked, h))
 
-pub fails_image : (block_size page : ℕ) (image : List ℕ) (disk : Disk) (old new : Option (List Action)) (e : ToolError) → IsImage block_size page image → IsDiskOf block_size page image disk
-    → FailsToUnpack disk old new e → FailsToUnpackImage block_size page image old new e
+pub fails_image : (block_size page : ℕ) (image : List ℕ) (disk : Disk) (old new : Option (List UnpackingAction)) (e : ToolError) → IsImageOfWholeBlocks block_size page image → IsDiskOf block_size page image disk
+    → FailsToUnpackDisk disk old new e → FailsToUnpackImage block_size page image old new e
 fails_image block_size page image disk old new (Fs Corrupt) is same (wrong, undone) =
-    ((is, λ view (order, (ps, (accepted, shows))). wrong order ps (subst (λ d. IsAccepted d ps) (sym (same order)) accepted)), undone)
+    ((is, λ view (order, (ps, (accepted, shows))). wrong order ps (subst (λ d. IsAcceptedImage d ps) (sym (same order)) accepted)), undone)
 fails_image block_size page image disk old new (Fs NoMemory) is same (inl undone) = inl undone
 fails_image block_size page image disk old new (Fs NoMemory) is same (inr begun) = inr (begun_image block_size page image disk old new is same begun)
 fails_image block_size page image disk old new Output is same begun = begun_image block_size page image disk old new is same begun
@@ -94,18 +94,18 @@ fails_image block_size page image disk old new e is same h = absurd h
 
 -- ---- of what was read
 
-pub done_read : (known : Option (List ℕ)) (block_size page : ℕ) (items : List ℕ) (old new : Option (List Action)) → IfSome known (λ bytes. items ≡ take most bytes)
-    → IsDoneOfImage block_size page items old new → IfSome known (λ bytes. IsDoneOfImage block_size page bytes old new)
+pub done_read : (known : Option (List ℕ)) (block_size page : ℕ) (items : List ℕ) (old new : Option (List UnpackingAction)) → IfSome known (λ bytes. items ≡ take most bytes)
+    → HasUnpackedImage block_size page items old new → IfSome known (λ bytes. HasUnpackedImage block_size page bytes old new)
 done_read None block_size page items old new read h = tt
-done_read (Some bytes) block_size page items old new read h = subst (λ (i : List ℕ). IsDoneOfImage block_size page i old new) (all_read block_size page bytes items read h.1.0.0) h
+done_read (Some bytes) block_size page items old new read h = subst (λ (i : List ℕ). HasUnpackedImage block_size page i old new) (all_read block_size page bytes items read h.1.0.0) h
 
-begun_read : (known : Option (List ℕ)) (block_size page : ℕ) (items : List ℕ) (old new : Option (List Action)) → IfSome known (λ bytes. items ≡ take most bytes)
-    → IsBegunOfImage block_size page items old new → IfSome known (λ bytes. IsBegunOfImage block_size page bytes old new)
+begun_read : (known : Option (List ℕ)) (block_size page : ℕ) (items : List ℕ) (old new : Option (List UnpackingAction)) → IfSome known (λ bytes. items ≡ take most bytes)
+    → HasBegunUnpackingImage block_size page items old new → IfSome known (λ bytes. HasBegunUnpackingImage block_size page bytes old new)
 begun_read None block_size page items old new read h = tt
-begun_read (Some bytes) block_size page items old new read h = subst (λ (i : List ℕ). IsBegunOfImage block_size page i old new) (all_read block_size page bytes items read h.1.0.0) h
+begun_read (Some bytes) block_size page items old new read h = subst (λ (i : List ℕ). HasBegunUnpackingImage block_size page i old new) (all_read block_size page bytes items read h.1.0.0) h
 
-pub begun_at_error : (known : Option (List ℕ)) (block_size page : ℕ) (items : List ℕ) (old new : Option (List Action)) (e : ToolError) → IfSome known (λ bytes. items ≡ take most bytes)
-    → FailsToUnpackImage block_size page items old new e → (new ≡ old) ⊎ IfSome known (λ bytes. IsBegunOfImage block_size page bytes old new)
+pub begun_at_error : (known : Option (List ℕ)) (block_size page : ℕ) (items : List ℕ) (old new : Option (List UnpackingAction)) (e : ToolError) → IfSome known (λ bytes. items ≡ take most bytes)
+    → FailsToUnpackImage block_size page items old new e → (new ≡ old) ⊎ IfSome known (λ bytes. HasBegunUnpackingImage block_size page bytes old new)
 begun_at_error known block_size page items old new (Fs Corrupt) read h = inl h.1
 begun_at_error known block_size page items old new (Fs Invalid) read h = inl h.1
 begun_at_error known block_size page items old new (Fs NoMemory) read (inl undone) = inl undone
@@ -113,7 +113,7 @@ begun_at_error known block_size page items old new (Fs NoMemory) read (inr begun
 begun_at_error known block_size page items old new Output read h = inr (begun_read known block_size page items old new read h)
 begun_at_error known block_size page items old new e read h = absurd h
 
-pub refused_at : (block_size page : ℕ) (items : List ℕ) (old new : Option (List Action)) (e : Error) → FailsToUnpackImage block_size page items old new (Fs e) → RefusesToList block_size page items e
+pub refused_at : (block_size page : ℕ) (items : List ℕ) (old new : Option (List UnpackingAction)) (e : Error) → FailsToUnpackImage block_size page items old new (Fs e) → RefusesToList block_size page items e
 refused_at block_size page items old new Corrupt h = h.0
 refused_at block_size page items old new Invalid h = h.0
 refused_at block_size page items old new NoMemory h = tt

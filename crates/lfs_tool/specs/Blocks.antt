@@ -2,16 +2,16 @@
 use Rattle.std.specs.Prelude.{ℕ, ◌≡◌, ◌≤◌, ◌<◌, ◌*◌, List, [], ◌∷◌, ◌++◌, Option, length, take}
 use Rattle.std.specs.Io.KnownBytes.{Consumes, IsAtEnd}
 use Rattle.lfs_tool.specs.declared.block_excerpt.BlockExcerpt.{BlockExcerpt}
-use Rattle.lfs_tool.specs.ExcerptBlocks.{block_shown, blocks_shown}
-use Rattle.lfs_device.specs.Shown.{disk_of, ordered}
+use Rattle.lfs_tool.specs.ExcerptBlocks.{block_of_excerpt, blocks_of_excerpts}
+use Rattle.lfs_device.specs.Shown.{disk_of_geometry_and_blocks, ordered}
 use Rattle.lfs_tool.specs.declared.excerpt.Excerpt.{Excerpt}
 use Rattle.lfs_tool.specs.ExcerptView.{excerpt_blocks, geometry_of}
-use Rattle.lfs_tool.specs.Excerpt.{AreExcerpts, IsBlockExcerpt}
+use Rattle.lfs_tool.specs.Excerpt.{AreExcerptsOfBlocks, IsBlockExcerpt}
 use Rattle.lfs_model.specs.Blocks.{cut}
 use Rattle.lfs_model.specs.declared.order.NameOrder.{NameOrder}
 
 -- the first n bytes of the buffer are the next known ones; where they don't fill it there are no more
-pub record Fills (old new : Option (List ℕ)) (n : ℕ) (buffer : List ℕ) : Type 0 where
+pub record FillsBufferWithNextBytes (old new : Option (List ℕ)) (n : ℕ) (buffer : List ℕ) : Type 0 where
   pub within : n ≤ length buffer
   pub read : Consumes old new (take n buffer)
   pub last : n < length buffer → IsAtEnd new
@@ -19,15 +19,15 @@ pub record Fills (old new : Option (List ℕ)) (n : ℕ) (buffer : List ℕ) : T
 -- the bytes are whole blocks, and these are excerpts of them
 pub record AreExcerptsOfBytes (size : ℕ) (bytes : List ℕ) (blocks : List BlockExcerpt) : Type 0 where
   pub whole : length bytes ≡ size * length blocks
-  pub excerpts : AreExcerpts (cut size (length blocks) bytes) (blocks_shown blocks)
+  pub excerpts : AreExcerptsOfBlocks (cut size (length blocks) bytes) (blocks_of_excerpts blocks)
 
 -- an excerpt of this block follows the old blocks
 pub record IsExcerptPushed (block : List ℕ) (old new : List BlockExcerpt) : Type 0 where
   pub kept : BlockExcerpt
   pub is : new ≡ old ++ kept ∷ []
-  pub excerpt : IsBlockExcerpt block (block_shown kept)
+  pub excerpt : IsBlockExcerpt block (block_of_excerpt kept)
   pub size : kept.size ≡ length block
 
 -- the device shows these blocks, of that size and in such pages, with the names in any order
-pub record IsShownAs (block_size page : ℕ) (blocks : List BlockExcerpt) (e : Excerpt) : Type 0 where
-  pub disk : (order : NameOrder) → ordered order (disk_of (geometry_of e) (excerpt_blocks e)) ≡ record { block_size = block_size; page = page; order = order; blocks = blocks_shown blocks }
+pub record ExcerptShowsBlocks (block_size page : ℕ) (blocks : List BlockExcerpt) (e : Excerpt) : Type 0 where
+  pub disk : (order : NameOrder) → ordered order (disk_of_geometry_and_blocks (geometry_of e) (excerpt_blocks e)) ≡ record { block_size = block_size; page = page; order = order; blocks = blocks_of_excerpts blocks }

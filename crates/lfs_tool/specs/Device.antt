@@ -14,6 +14,6 @@ pub record OnlyReadsDevice {D X : Type 0} (g : Ghosts D) (old new : D) (result :
   pub faults : ReportsFaults g old new result
 
 -- the disk has blocks of that size, so many
-pub record HasSizes (disk : Disk) (geometry : Geometry) : Type 0 where
+pub record HasSizesOfGeometry (disk : Disk) (geometry : Geometry) : Type 0 where
   pub block_size : disk.block_size ≡ geometry.block_size
   pub count : block_count disk ≡ geometry.block_count

@@ -11,12 +11,12 @@ use Rattle.lfs_tool.specs.declared.errors.ToolError.TheVariants.{Fs, Input, Outp
 abbrev pub error_line : Error → List ℕ
 error_line e = codes "error: " ++ name_of e ++ codes " (" ++ decimal (number_of e) ++ codes ")" ++ newline
 
-abbrev pub tool_line : ToolError → List ℕ
-tool_line (Fs e) = error_line e
-tool_line Input = codes "error: input" ++ newline
-tool_line Output = codes "error: output" ++ newline
+abbrev pub tool_error_line : ToolError → List ℕ
+tool_error_line (Fs e) = error_line e
+tool_error_line Input = codes "error: input" ++ newline
+tool_error_line Output = codes "error: output" ++ newline
 
-abbrev pub tool_status : ToolError → ℕ
-tool_status (Fs e) = 1
-tool_status Input = 3
-tool_status Output = 3
+abbrev pub tool_error_status : ToolError → ℕ
+tool_error_status (Fs e) = 1
+tool_error_status Input = 3
+tool_error_status Output = 3

@@ -1,21 +1,21 @@
 -- What blocks that are kept in part show, and which calls of an excerpt don't fail.
 use Rattle.std.specs.Prelude.{ℕ, ◌≡◌, false, All, List, map}
 use Rattle.lfs_model.specs.Blocks.{Blocks}
-use Rattle.lfs_model.specs.History.{Event, reads_in}
+use Rattle.lfs_model.specs.History.{CallEvent, read_count_of_call}
 use Rattle.lfs_tool.specs.declared.block_excerpt.BlockExcerpt.{BlockExcerpt}
 use Rattle.lfs_tool.specs.Excerpt.{padded}
 
 -- all its bytes
-abbrev pub block_shown : BlockExcerpt → List ℕ
-block_shown b = padded b.size b.bytes.items
+abbrev pub block_of_excerpt : BlockExcerpt → List ℕ
+block_of_excerpt b = padded b.size b.bytes.items
 
-abbrev pub blocks_shown : List BlockExcerpt → Blocks
-blocks_shown blocks = map block_shown blocks
+abbrev pub blocks_of_excerpts : List BlockExcerpt → Blocks
+blocks_of_excerpts blocks = map block_of_excerpt blocks
 
 -- the blocks have this size
-abbrev pub HaveSize : ℕ → List BlockExcerpt → Type 0
-HaveSize size blocks = All (λ b. b.size ≡ size) blocks
+abbrev pub AreExcerptsOfBlockSize : ℕ → List BlockExcerpt → Type 0
+AreExcerptsOfBlockSize size blocks = All (λ b. b.size ≡ size) blocks
 
 -- if the call is a read, it didn't fail
-abbrev pub HasRead : Event → Type 0
-HasRead e = reads_in e.call ≡ 1 → e.failed ≡ false
+abbrev pub IsNoFailedRead : CallEvent → Type 0
+IsNoFailedRead e = read_count_of_call e.call ≡ 1 → e.failed ≡ false

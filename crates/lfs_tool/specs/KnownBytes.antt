@@ -7,21 +7,21 @@ use Rattle.lfs_tool.specs.declared.errors.ToolError.{ToolError}
 use Rattle.lfs_tool.specs.declared.errors.ToolError.TheVariants.{Fs, Input, Output}
 
 -- known bytes grow by a beginning of these
-abbrev pub AppendsBeginning : Option (List ℕ) → Option (List ℕ) → List ℕ → Type 0
-AppendsBeginning old new bytes = (n : ℕ) × (n ≤ length bytes) × Appends old new (take n bytes)
+abbrev pub AppendsBeginningOfBytes : Option (List ℕ) → Option (List ℕ) → List ℕ → Type 0
+AppendsBeginningOfBytes old new bytes = (n : ℕ) × (n ≤ length bytes) × Appends old new (take n bytes)
 
 -- either the reader failed, or a growth was refused and the reader did not fail
-abbrev pub FailsToRead : ToolError → ℕ → ℕ → Type 0
-FailsToRead Input old new = new ≡ suc old
-FailsToRead Output old new = ⊥
-FailsToRead (Fs e) old new = (e ≡ NoMemory) × (new ≡ old)
+abbrev pub IsErrorOfFailedRead : ToolError → ℕ → ℕ → Type 0
+IsErrorOfFailedRead Input old new = new ≡ suc old
+IsErrorOfFailedRead Output old new = ⊥
+IsErrorOfFailedRead (Fs e) old new = (e ≡ NoMemory) × (new ≡ old)
 
 -- why an image isn't listed
-abbrev pub IsListError : Error → Type 0
-IsListError e = (e ≡ NoMemory) ⊎ (e ≡ Invalid) ⊎ (e ≡ Corrupt)
+abbrev pub IsListingRefusal : Error → Type 0
+IsListingRefusal e = (e ≡ NoMemory) ⊎ (e ≡ Invalid) ⊎ (e ≡ Corrupt)
 
 -- either the reader failed, or it did not and an image is refused
-abbrev pub FailsToList : ToolError → ℕ → ℕ → Type 0
-FailsToList Input old new = new ≡ suc old
-FailsToList Output old new = ⊥
-FailsToList (Fs e) old new = IsListError e × (new ≡ old)
+abbrev pub IsErrorOfFailedListing : ToolError → ℕ → ℕ → Type 0
+IsErrorOfFailedListing Input old new = new ≡ suc old
+IsErrorOfFailedListing Output old new = ⊥
+IsErrorOfFailedListing (Fs e) old new = IsListingRefusal e × (new ≡ old)

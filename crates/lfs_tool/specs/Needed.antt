@@ -4,29 +4,29 @@ use Rattle.lfs_device.specs.declared.error.Error.TheVariants.{NoSpace}
 use Rattle.lfs_device.specs.declared.geometry.Geometry.{Geometry}
 use Rattle.lfs_tool_folders.specs.declared.entries.SourceEntry.{SourceEntry}
 use Rattle.lfs_tool_line.specs.declared.line.Line.{Line}
-use Rattle.lfs_tool.specs.MadeImages.{AreBytesLeftBy, RefusesEntries}
+use Rattle.lfs_tool.specs.MadeImages.{AreImageBytesOfEntries, RefusesCopyOfEntries}
 
 -- the geometry has the line's blocks, pages and order, and so many blocks
-pub record HasCount (line : Line) (count : ℕ) (g : Geometry) : Type 0 where
+pub record IsGeometryOfLineWithBlockCount (line : Line) (count : ℕ) (g : Geometry) : Type 0 where
   pub block_size : g.block_size ≡ line.block_size
   pub page : g.page ≡ line.page
   pub order : g.order ≡ line.order
   pub block_count : g.block_count ≡ count
 
 -- an image of so many blocks holds the entries
-pub record HasRoom (line : Line) (entries : List SourceEntry) (count : ℕ) : Type 0 where
+pub record IsEnoughBlocksForEntries (line : Line) (entries : List SourceEntry) (count : ℕ) : Type 0 where
   pub geometry : Geometry
-  pub sizes : HasCount line count geometry
+  pub sizes : IsGeometryOfLineWithBlockCount line count geometry
   pub image : List ℕ
-  pub left : AreBytesLeftBy geometry entries image
+  pub left : AreImageBytesOfEntries geometry entries image
 
 -- one of so many is refused: too few blocks are free
-pub record IsTooSmall (line : Line) (entries : List SourceEntry) (count : ℕ) : Type 0 where
+pub record IsTooFewBlocksForEntries (line : Line) (entries : List SourceEntry) (count : ℕ) : Type 0 where
   pub geometry : Geometry
-  pub sizes : HasCount line count geometry
-  pub refused : RefusesEntries geometry entries NoSpace
+  pub sizes : IsGeometryOfLineWithBlockCount line count geometry
+  pub refused : RefusesCopyOfEntries geometry entries NoSpace
 
 -- so many blocks hold the entries, and one less doesn't
-pub record TakesBlocks (line : Line) (entries : List SourceEntry) (count : ℕ) : Type 0 where
-  pub enough : HasRoom line entries count
-  pub few : IsTooSmall line entries (count - 1)
+pub record IsJustEnoughBlocksForEntries (line : Line) (entries : List SourceEntry) (count : ℕ) : Type 0 where
+  pub enough : IsEnoughBlocksForEntries line entries count
+  pub few : IsTooFewBlocksForEntries line entries (count - 1)

@@ -1,7 +1,7 @@
 -- Pairs and slots of the code, as the definitions have them.
 use Rattle.std.specs.Prelude.{List, [], map}
 use Rattle.std.specs.Option.{option_map}
-use Rattle.lfs_model.specs.Slots.{Slot, address_of}
+use Rattle.lfs_model.specs.Slots.{Slot, pair_address_of_array}
 use Rattle.lfs_model.specs.Thread.{Pair}
 use Rattle.lfs_tag.specs.ContentView.{tail_view}
 use Rattle.lfs_tag.specs.FieldsView.{move_view}
@@ -13,9 +13,9 @@ use Rattle.lfs_tool.specs.declared.owned_parts.OwnedPair.{OwnedPair}
 abbrev pub owned_slot_view : OwnedSlot → Slot
 owned_slot_view s = record { kind = kind_view s.kind; name = s.name.items; struct = structure_view s.structure; attributes = [] }
 
-abbrev pub pair_view : OwnedPair → Pair
-pair_view p = record {
-  at = address_of p.at;
+abbrev pub owned_pair_view : OwnedPair → Pair
+owned_pair_view p = record {
+  at = pair_address_of_array p.at;
   content = record {
     slots = map owned_slot_view p.slots.items;
     tail = option_map tail_view p.tail;
@@ -23,5 +23,5 @@ pair_view p = record {
   };
 }
 
-abbrev pub pairs_view : List OwnedPair → List Pair
-pairs_view ps = map pair_view ps
+abbrev pub owned_pairs_view : List OwnedPair → List Pair
+owned_pairs_view ps = map owned_pair_view ps

@@ -6,11 +6,11 @@ use Rattle.lfs_model.specs.Content.{RawSlot, complete}
 use Rattle.lfs_model.specs.Slots.{Content, Slot}
 use Rattle.lfs_model.specs.Thread.{Pair}
 
-abbrev pub without_attributes : Slot → Slot
-without_attributes s = record s { attributes = [] }
+abbrev pub slot_without_attributes : Slot → Slot
+slot_without_attributes s = record s { attributes = [] }
 
 abbrev pub content_without_attributes : Content → Content
-content_without_attributes c = record c { slots = map without_attributes c.slots }
+content_without_attributes c = record c { slots = map slot_without_attributes c.slots }
 
 abbrev pub pair_without_attributes : Pair → Pair
 pair_without_attributes p = record p { content = content_without_attributes p.content }
@@ -18,13 +18,13 @@ pair_without_attributes p = record p { content = content_without_attributes p.co
 abbrev pub pairs_without_attributes : List Pair → List Pair
 pairs_without_attributes ps = map pair_without_attributes ps
 
-abbrev pub slot_list : Option Slot → List Slot
-slot_list None = []
-slot_list (Some s) = s ∷ []
+abbrev pub slots_of_option : Option Slot → List Slot
+slots_of_option None = []
+slots_of_option (Some s) = s ∷ []
 
 -- a log's slot, where it has a name and a struct
 abbrev pub complete_slot_in : RawSlot → List Slot
-complete_slot_in s = slot_list (option_map without_attributes (complete s))
+complete_slot_in s = slots_of_option (option_map slot_without_attributes (complete s))
 
 abbrev pub complete_slots_among : List RawSlot → List Slot
 complete_slots_among slots = flat_map complete_slot_in slots

@@ -4,8 +4,8 @@ use Rattle.std.specs.Global.{Global}
 use Rattle.std.specs.String.{string_bytes}
 use Rattle.std.specs.Io.Buffered.{reader_inner}
 use Rattle.std.specs.declared.io.buffered.BufReader.{BufReader}
-use Rattle.lfs_tool.specs.StandardStreams.{path_by}
-use Rattle.lfs_tool.specs.WatchedStreams.{inner_of}
+use Rattle.lfs_tool.specs.StandardStreams.{path_of_file_or_standard}
+use Rattle.lfs_tool.specs.WatchedStreams.{watched_inner_stream}
 use Rattle.lfs_tool.specs.declared.file_or_standard.FileOrStandard.{FileOrStandard}
 use Rattle.lfs_tool.specs.declared.watched_stream.Watched.{Watched}
 use Rattle.lfs_tool.specs.declared.noted_files.Noted.{Noted}
@@ -18,9 +18,9 @@ abbrev pub old_path : {R F D : Type 0} → OldImage R F D → List ℕ
 old_path i = string_bytes i.path
 
 -- that of an image that is read
-abbrev pub old_image_at : {R F D I : Type 0} → Watched (BufReader (Noted (FileOrStandard (OldImage R F D) I)) Global) → List ℕ
-old_image_at w = path_by old_path (reader_inner (inner_of w)).inner
+abbrev pub path_of_old_image : {R F D I : Type 0} → Watched (BufReader (Noted (FileOrStandard (OldImage R F D) I)) Global) → List ℕ
+path_of_old_image w = path_of_file_or_standard old_path (reader_inner (watched_inner_stream w)).inner
 
 -- that of one that is made
-abbrev pub new_image_at : {R F D O : Type 0} → Watched (Noted (FileOrStandard (NewImage R F D) O)) → List ℕ
-new_image_at w = path_by image_path (inner_of w).inner
+abbrev pub path_of_new_image : {R F D O : Type 0} → Watched (Noted (FileOrStandard (NewImage R F D) O)) → List ℕ
+path_of_new_image w = path_of_file_or_standard image_path (watched_inner_stream w).inner

@@ -3,23 +3,23 @@ use Rattle.std.specs.Prelude.{◌≡◌, ◌<◌, ◌⊎◌, ℕ, suc, List, Opt
 use Rattle.std.specs.Io.KnownBytes.{Consumes, IsAtEnd}
 use Rattle.lfs_tool.specs.declared.errors.ToolError.{ToolError}
 use Rattle.lfs_tool.specs.declared.errors.ToolError.TheVariants.{Output}
-use Rattle.lfs_tool.specs.declared.writer.Writer.{Ghosts}
+use Rattle.lfs_tool.specs.declared.writer.ToolOutput.{Ghosts}
 
 -- this error comes exactly where a call failed, and then only one did
-abbrev pub ReportsOnce : {X : Type 0} → ToolError → ℕ → ℕ → Result X ToolError → Type 0
-ReportsOnce e old new r = (IsErrOf r e → new ≡ suc old) × (¬ IsErrOf r e → new ≡ old)
+abbrev pub IsErrorExactlyWithOneFault : {X : Type 0} → ToolError → ℕ → ℕ → Result X ToolError → Type 0
+IsErrorExactlyWithOneFault e old new r = (IsErrOf r e → new ≡ suc old) × (¬ IsErrOf r e → new ≡ old)
 
 -- `Output` comes exactly where the writer fails, which it does once. After any other error the writer is as it was, and else its
 -- bytes were flushed.
-abbrev pub ReportsWriter : {W X : Type 0} → Ghosts W → W → W → Result X ToolError → Type 0
-ReportsWriter g old new (Ok x) = (g.faults new ≡ g.faults old) × (g.pending new ≡ 0)
-ReportsWriter g old new (Err Output) = g.faults new ≡ suc (g.faults old)
-ReportsWriter g old new (Err e) = new ≡ old
+abbrev pub ReportsWriterFaults : {W X : Type 0} → Ghosts W → W → W → Result X ToolError → Type 0
+ReportsWriterFaults g old new (Ok x) = (g.faults new ≡ g.faults old) × (g.pending new ≡ 0)
+ReportsWriterFaults g old new (Err Output) = g.faults new ≡ suc (g.faults old)
+ReportsWriterFaults g old new (Err e) = new ≡ old
 
 -- unless it failed, it has shown one value more, which was flushed
-abbrev pub HasShown : {W : Type 0} → Ghosts W → W → W → Type 0
-HasShown g old new = g.faults new ≡ g.faults old → (g.shown new ≡ suc (g.shown old)) × (g.pending new ≡ 0)
+abbrev pub HasShownOneValue : {W : Type 0} → Ghosts W → W → W → Type 0
+HasShownOneValue g old new = g.faults new ≡ g.faults old → (g.shown new ≡ suc (g.shown old)) × (g.pending new ≡ 0)
 
 -- known bytes were read to their end, or more of them than an image may have
-abbrev pub IsReadToEnd : Option (List ℕ) → Option (List ℕ) → Type 0
-IsReadToEnd old new = (bytes : List ℕ) × (Consumes old new bytes × (IsAtEnd new ⊎ (268435456 < length bytes)))
+abbrev pub IsReadToEndOrPastImageLimit : Option (List ℕ) → Option (List ℕ) → Type 0
+IsReadToEndOrPastImageLimit old new = (bytes : List ℕ) × (Consumes old new bytes × (IsAtEnd new ⊎ (268435456 < length bytes)))

@@ -1,6 +1,6 @@
 -- What a command line requests of an image that is made.
 use Rattle.std.specs.Prelude.{◌≡◌, ◌/◌, ◌%◌}
-use Rattle.lfs_model.specs.Geometry.{IsGeometry}
+use Rattle.lfs_model.specs.Geometry.{IsValidGeometry}
 use Rattle.lfs_device.specs.declared.error.Error.{Error}
 use Rattle.lfs_device.specs.declared.error.Error.TheVariants.{Invalid}
 use Rattle.lfs_device.specs.declared.geometry.Geometry.{Geometry}
@@ -15,6 +15,6 @@ pub record HasSizesOfLine (line : Line) (g : Geometry) : Type 0 where
   pub whole : line.size % line.block_size ≡ 0
 
 -- why no geometry has them
-pub record HasNoGeometry (line : Line) (e : Error) : Type 0 where
+pub record IsErrorOfLineWithoutGeometry (line : Line) (e : Error) : Type 0 where
   pub error : e ≡ Invalid
-  pub none : line.size % line.block_size ≡ 0 → ¬ IsGeometry line.block_size line.page (line.size / line.block_size)
+  pub none : line.size % line.block_size ≡ 0 → ¬ IsValidGeometry line.block_size line.page (line.size / line.block_size)

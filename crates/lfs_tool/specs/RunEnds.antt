@@ -1,37 +1,37 @@
 -- How a run of the program ends, and what it shows then.
 use Rattle.std.specs.Prelude.{ℕ, ◌≡◌, ◌⊎◌, Bool, true, false, List, None, IfSome}
 use Rattle.std.specs.Io.KnownBytes.{Appends}
-use Rattle.lfs_tool_line.specs.Matches.{HasOneMode, HasOrder, IsFaultOf, Parses, rows}
-use Rattle.lfs_tool.specs.ExitStatus.{own_line, shows_help, status_of}
+use Rattle.lfs_tool_line.specs.Matches.{HasOneMode, HasValidNameOrder, IsLineErrorOfWords, ParserTakesWords, rows}
+use Rattle.lfs_tool.specs.ExitStatus.{standard_error_line_of_failure, is_failure_for_help, exit_status_of_failure}
 use Rattle.lfs_tool.specs.declared.errors.Fault.{Fault}
 use Rattle.lfs_tool.specs.declared.errors.Fault.TheVariants.{Line, Tool}
-use Rattle.lfs_tool.specs.Reports.{HasShown}
-use Rattle.lfs_tool.specs.declared.writer.Writer.{Ghosts}
+use Rattle.lfs_tool.specs.Reports.{HasShownOneValue}
+use Rattle.lfs_tool.specs.declared.writer.ToolOutput.{Ghosts}
 
 -- the words are a command line
-abbrev pub HasLine : List (List ℕ) → Type 0
-HasLine words = Parses words × HasOneMode (rows words) × HasOrder (rows words)
+abbrev pub AreWordsOfCommandLine : List (List ℕ) → Type 0
+AreWordsOfCommandLine words = ParserTakesWords words × HasOneMode (rows words) × HasValidNameOrder (rows words)
 
 -- a fault that a run of these words may end in: of the line as the parser decides, and of the tool only where there is a line
-abbrev pub IsFaultIn : List (List ℕ) → Fault → Type 0
-IsFaultIn words (Line e) = IsFaultOf words e
-IsFaultIn words (Tool e) = HasLine words
+abbrev pub IsFailureOfWords : List (List ℕ) → Fault → Type 0
+IsFailureOfWords words (Line e) = IsLineErrorOfWords words e
+IsFailureOfWords words (Tool e) = AreWordsOfCommandLine words
 
 -- The fault is shown: the run has its status. Unless the writer failed, the fault's own line or the parser's text was written and
 -- flushed. Help is no fault.
-pub record IsFaultShown {W : Type 0} (g : Ghosts W) (f : Fault) (code : ℕ) (old new : W) : Type 0 where
-  pub status : code ≡ status_of f
-  pub line : g.faults new ≡ g.faults old → IfSome (own_line f) (λ line. Appends (g.contents old) (g.contents new) line × (g.pending new ≡ 0))
-  pub text : own_line f ≡ None → shows_help f ≡ false → HasShown g old new
-  pub help : shows_help f ≡ true → new ≡ old
+pub record IsFailureShown {W : Type 0} (g : Ghosts W) (f : Fault) (code : ℕ) (old new : W) : Type 0 where
+  pub status : code ≡ exit_status_of_failure f
+  pub line : g.faults new ≡ g.faults old → IfSome (standard_error_line_of_failure f) (λ line. Appends (g.contents old) (g.contents new) line × (g.pending new ≡ 0))
+  pub text : standard_error_line_of_failure f ≡ None → is_failure_for_help f ≡ false → HasShownOneValue g old new
+  pub help : is_failure_for_help f ≡ true → new ≡ old
 
 -- the status of a run that met no fault: 1 where an image was checked that isn't accepted
-abbrev pub status_for : Bool → ℕ
-status_for true = 0
-status_for false = 1
+abbrev pub status_without_failure : Bool → ℕ
+status_without_failure true = 0
+status_without_failure false = 1
 
 -- the request is done, as it ends then, and no error is written; or a fault is shown, and `follows` says what comes after it
 abbrev pub IsRequestAnswered : {W : Type 0} → Ghosts W → List (List ℕ) → (Bool → Type 0) → (Fault → W → W → Type 0) → ℕ → W → W → Type 0
 IsRequestAnswered g words ends follows code old new =
-    (HasLine words × ((accepted : Bool) × ((code ≡ status_for accepted) × ends accepted)) × (new ≡ old))
-    ⊎ ((f : Fault) × (shown : _) × (IsFaultIn words f × IsFaultShown g f code old shown × follows f shown new))
+    (AreWordsOfCommandLine words × ((accepted : Bool) × ((code ≡ status_without_failure accepted) × ends accepted)) × (new ≡ old))
+    ⊎ ((f : Fault) × (shown : _) × (IsFailureOfWords words f × IsFailureShown g f code old shown × follows f shown new))

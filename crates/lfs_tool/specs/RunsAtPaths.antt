@@ -2,81 +2,81 @@
 use Rattle.std.specs.Prelude.{ℕ, suc, ◌≡◌, ◌⊎◌, Bool, true, false, List, Option, IfSome}
 use Rattle.std.specs.Io.KnownBytes.{Appends}
 use Rattle.lfs_device.specs.declared.error.Error.{Error}
-use Rattle.lfs_model.specs.Listing.{Action}
+use Rattle.lfs_model.specs.Listing.{UnpackingAction}
 use Rattle.lfs_model.specs.Source.{Source}
-use Rattle.lfs_tool.specs.Listings.{Lists, RefusesToList}
-use Rattle.lfs_tool.specs.MadeImages.{HasRefusal, HasWrittenImageOf}
-use Rattle.lfs_tool.specs.Unpackings.{IsDoneOfImage}
-use Rattle.lfs_tool.specs.CheckResults.{IsCheckedAs, is_accepted}
-use Rattle.lfs_tool.specs.CheckedLines.{checked_text}
+use Rattle.lfs_tool.specs.Listings.{ListsImage, RefusesToList}
+use Rattle.lfs_tool.specs.MadeImages.{RefusesCopyOfSource, HasWrittenImageOfSource}
+use Rattle.lfs_tool.specs.Unpackings.{HasUnpackedImage}
+use Rattle.lfs_tool.specs.CheckResults.{IsCheckResultOfBytes, is_accepted}
+use Rattle.lfs_tool.specs.CheckedLines.{check_result_text}
 use Rattle.lfs_tool.specs.declared.check_result.Checked.{Checked}
 use Rattle.lfs_tool_line.specs.declared.line.Line.{Line}
 use Rattle.lfs_tool_line.specs.declared.line.Mode.{Mode}
 use Rattle.lfs_tool_line.specs.declared.line.Mode.TheVariants as mode
-use Rattle.lfs_tool_folders.specs.Entries.{FailsOr, HasBadNames}
-use Rattle.lfs_tool.specs.RequestedSizes.{HasNoGeometry, HasSizesOfLine}
+use Rattle.lfs_tool_folders.specs.Entries.{HasOneFaultMoreOr, HasFolderWithBadNames}
+use Rattle.lfs_tool.specs.RequestedSizes.{IsErrorOfLineWithoutGeometry, HasSizesOfLine}
 
 -- this holds of something at the path
-abbrev pub HoldsAtPath : {X : Type 0} → (X → List ℕ) → List ℕ → (X → Type 0) → Type 0
-HoldsAtPath path_of path P = (x : _) × ((path_of x ≡ path) × P x)
+abbrev pub IsTrueAtPath : {X : Type 0} → (X → List ℕ) → List ℕ → (X → Type 0) → Type 0
+IsTrueAtPath path_of path P = (x : _) × ((path_of x ≡ path) × P x)
 
 -- which of the four is requested; two of them, with a folder
-abbrev pub HoldsForMode : Mode → Type 0 → Type 0 → (List ℕ → Type 0) → (List ℕ → Type 0) → Type 0
-HoldsForMode mode.List listed checked made unpacked = listed
-HoldsForMode mode.Check listed checked made unpacked = checked
-HoldsForMode (mode.Create folder) listed checked made unpacked = made folder.now
-HoldsForMode (mode.Unpack folder) listed checked made unpacked = unpacked folder.now
+abbrev pub IsTrueForMode : Mode → Type 0 → Type 0 → (List ℕ → Type 0) → (List ℕ → Type 0) → Type 0
+IsTrueForMode mode.List listed checked made unpacked = listed
+IsTrueForMode mode.Check listed checked made unpacked = checked
+IsTrueForMode (mode.Create folder) listed checked made unpacked = made folder.now
+IsTrueForMode (mode.Unpack folder) listed checked made unpacked = unpacked folder.now
 
 -- lines are written of an image
-abbrev pub writes_lines : Mode → Bool
-writes_lines mode.List = true
-writes_lines mode.Check = true
-writes_lines (mode.Create folder) = false
-writes_lines (mode.Unpack folder) = false
+abbrev pub is_mode_that_writes_lines : Mode → Bool
+is_mode_that_writes_lines mode.List = true
+is_mode_that_writes_lines mode.Check = true
+is_mode_that_writes_lines (mode.Create folder) = false
+is_mode_that_writes_lines (mode.Unpack folder) = false
 
 -- only a check may end with an image that isn't accepted
-abbrev pub MayEndWith : Mode → Bool → Type 0
-MayEndWith mode.Check accepted = Unit {0}
-MayEndWith mode.List accepted = accepted ≡ true
-MayEndWith (mode.Create folder) accepted = accepted ≡ true
-MayEndWith (mode.Unpack folder) accepted = accepted ≡ true
+abbrev pub IsAcceptedUnlessCheck : Mode → Bool → Type 0
+IsAcceptedUnlessCheck mode.Check accepted = Unit {0}
+IsAcceptedUnlessCheck mode.List accepted = accepted ≡ true
+IsAcceptedUnlessCheck (mode.Create folder) accepted = accepted ≡ true
+IsAcceptedUnlessCheck (mode.Unpack folder) accepted = accepted ≡ true
 
 -- the image at the line's path is listed: what is known to be written grew by its lines
-abbrev pub ListsAt : {I : Type 0} → (I → List ℕ) → (I → Option (List ℕ)) → Line → Option (List ℕ) → Option (List ℕ) → Type 0
-ListsAt path_of bytes line old new =
-    HoldsAtPath path_of line.image.now (λ i. IfSome (bytes i) (λ image. (text : List ℕ) × (Lists line.block_size line.page image text × Appends old new text)))
+abbrev pub ListsImageAtPath : {I : Type 0} → (I → List ℕ) → (I → Option (List ℕ)) → Line → Option (List ℕ) → Option (List ℕ) → Type 0
+ListsImageAtPath path_of bytes line old new =
+    IsTrueAtPath path_of line.image.now (λ i. IfSome (bytes i) (λ image. (text : List ℕ) × (ListsImage line.block_size line.page image text × Appends old new text)))
 
 -- the image at the line's path is accepted, or isn't: what is known to be written grew by the lines of a verdict on it
-abbrev pub ChecksAt : {I : Type 0} → (I → List ℕ) → (I → Option (List ℕ)) → Line → Bool → Option (List ℕ) → Option (List ℕ) → Type 0
-ChecksAt path_of bytes line accepted old new =
-    HoldsAtPath path_of line.image.now (λ i. IfSome (bytes i) (λ image.
-    (checked : Checked) × (IsCheckedAs line.block_size line.page image checked × (accepted ≡ is_accepted checked) × Appends old new (checked_text checked))))
+abbrev pub ChecksImageAtPath : {I : Type 0} → (I → List ℕ) → (I → Option (List ℕ)) → Line → Bool → Option (List ℕ) → Option (List ℕ) → Type 0
+ChecksImageAtPath path_of bytes line accepted old new =
+    IsTrueAtPath path_of line.image.now (λ i. IfSome (bytes i) (λ image.
+    (checked : Checked) × (IsCheckResultOfBytes line.block_size line.page image checked × (accepted ≡ is_accepted checked) × Appends old new (check_result_text checked))))
 
 -- the image at the line's path is made of the folder, and flushed: what it is known to hold grew by an image of what the
 -- folder shows; no file of it is left unread that the image might hold
-abbrev pub MakesAt : {F N : Type 0} → (F → List ℕ) → (F → ℕ) → (F → Option Source) → (N → List ℕ) → (N → Option (List ℕ)) → (N → ℕ) → Line → List ℕ → Type 0
-MakesAt folder_of limit_of shown path_of contents pending line folder =
-    HoldsAtPath folder_of folder (λ f. (limit_of f ≡ line.size) × HoldsAtPath path_of line.image.now (λ i. (after : _)
-    × (((g : _) × (HasSizesOfLine line g × HasWrittenImageOf g (shown f) (contents i) (contents after))) × (pending after ≡ 0))))
+abbrev pub MakesImageAtPath : {F N : Type 0} → (F → List ℕ) → (F → ℕ) → (F → Option Source) → (N → List ℕ) → (N → Option (List ℕ)) → (N → ℕ) → Line → List ℕ → Type 0
+MakesImageAtPath folder_of limit_of shown path_of contents pending line folder =
+    IsTrueAtPath folder_of folder (λ f. (limit_of f ≡ line.size) × IsTrueAtPath path_of line.image.now (λ i. (after : _)
+    × (((g : _) × (HasSizesOfLine line g × HasWrittenImageOfSource g (shown f) (contents i) (contents after))) × (pending after ≡ 0))))
 
 -- the image at the line's path is unpacked into the folder: what was done there grew by what unpacks the image
-abbrev pub UnpacksAt : {I F : Type 0} → (I → List ℕ) → (I → Option (List ℕ)) → (F → List ℕ) → (F → Option (List Action)) → Line → List ℕ → Type 0
-UnpacksAt path_of bytes folder_of done line folder =
-    HoldsAtPath path_of line.image.now (λ i. HoldsAtPath folder_of folder (λ f. (after : _) × IfSome (bytes i) (λ image. IsDoneOfImage line.block_size line.page image (done f) (done after))))
+abbrev pub UnpacksImageAtPath : {I F : Type 0} → (I → List ℕ) → (I → Option (List ℕ)) → (F → List ℕ) → (F → Option (List UnpackingAction)) → Line → List ℕ → Type 0
+UnpacksImageAtPath path_of bytes folder_of done line folder =
+    IsTrueAtPath path_of line.image.now (λ i. IsTrueAtPath folder_of folder (λ f. (after : _) × IfSome (bytes i) (λ image. HasUnpackedImage line.block_size line.page image (done f) (done after))))
 
 -- the image at the line's path is refused so
-abbrev pub RefusesAt : {I : Type 0} → (I → List ℕ) → (I → Option (List ℕ)) → Line → Error → Type 0
-RefusesAt path_of bytes line e = HoldsAtPath path_of line.image.now (λ i. IfSome (bytes i) (λ image. RefusesToList line.block_size line.page image e))
+abbrev pub RefusesToListAtPath : {I : Type 0} → (I → List ℕ) → (I → Option (List ℕ)) → Line → Error → Type 0
+RefusesToListAtPath path_of bytes line e = IsTrueAtPath path_of line.image.now (λ i. IfSome (bytes i) (λ image. RefusesToList line.block_size line.page image e))
 
 -- no image has the line's sizes, or what the folder shows is refused so
-abbrev pub RefusesToMake : {F : Type 0} → (F → List ℕ) → (F → ℕ) → (F → Option Source) → Line → Error → List ℕ → Type 0
-RefusesToMake folder_of limit_of shown line e folder =
-    HasNoGeometry line e ⊎ HoldsAtPath folder_of folder (λ f. (limit_of f ≡ line.size) × ((g : _) × (HasSizesOfLine line g × HasRefusal g (shown f) e)))
+abbrev pub RefusesToMakeImage : {F : Type 0} → (F → List ℕ) → (F → ℕ) → (F → Option Source) → Line → Error → List ℕ → Type 0
+RefusesToMakeImage folder_of limit_of shown line e folder =
+    IsErrorOfLineWithoutGeometry line e ⊎ IsTrueAtPath folder_of folder (λ f. (limit_of f ≡ line.size) × ((g : _) × (HasSizesOfLine line g × RefusesCopyOfSource g (shown f) e)))
 
 -- the file or folder at the path fails
-abbrev pub FailsAt : {X : Type 0} → (X → List ℕ) → (X → ℕ) → List ℕ → Type 0
-FailsAt path_of faults path = HoldsAtPath path_of path (λ x. (after : _) × (faults after ≡ suc (faults x)))
+abbrev pub HasFaultAtPath : {X : Type 0} → (X → List ℕ) → (X → ℕ) → List ℕ → Type 0
+HasFaultAtPath path_of faults path = IsTrueAtPath path_of path (λ x. (after : _) × (faults after ≡ suc (faults x)))
 
 -- the folder fails, or one in it has bad names
 abbrev pub FailsToReadFolder : {F : Type 0} → (F → List ℕ) → (F → ℕ) → (F → Option Source) → List ℕ → Type 0
-FailsToReadFolder folder_of faults shown folder = HoldsAtPath folder_of folder (λ f. (after : _) × FailsOr (faults f) (faults after) (IfSome (shown f) HasBadNames))
+FailsToReadFolder folder_of faults shown folder = IsTrueAtPath folder_of folder (λ f. (after : _) × HasOneFaultMoreOr (faults f) (faults after) (IfSome (shown f) HasFolderWithBadNames))

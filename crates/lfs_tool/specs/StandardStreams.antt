@@ -5,19 +5,19 @@ use Rattle.lfs_tool.specs.declared.file_or_standard.FileOrStandard.{FileOrStanda
 use Rattle.lfs_tool.specs.declared.file_or_standard.FileOrStandard.TheVariants.{File, Standard}
 
 -- the path is `-`
-abbrev pub names_standard : List ℕ → Bool
-names_standard path = bytes_eq path (codes "-")
+abbrev pub is_path_of_standard_stream : List ℕ → Bool
+is_path_of_standard_stream path = bytes_eq path (codes "-")
 
-abbrev pub is_standard : {F S : Type 0} → FileOrStandard F S → Bool
-is_standard (File f) = false
-is_standard (Standard s) = true
+abbrev pub is_standard_stream : {F S : Type 0} → FileOrStandard F S → Bool
+is_standard_stream (File f) = false
+is_standard_stream (Standard s) = true
 
 -- the path of the file, or `-`
-abbrev pub path_by : {F S : Type 0} → (F → List ℕ) → FileOrStandard F S → List ℕ
-path_by of_file (File f) = of_file f
-path_by of_file (Standard s) = codes "-"
+abbrev pub path_of_file_or_standard : {F S : Type 0} → (F → List ℕ) → FileOrStandard F S → List ℕ
+path_of_file_or_standard of_file (File f) = of_file f
+path_of_file_or_standard of_file (Standard s) = codes "-"
 
 -- the bytes of the file or the stream, where they are known
-abbrev pub bytes_by : {F S : Type 0} → (F → Option (List ℕ)) → (S → Option (List ℕ)) → FileOrStandard F S → Option (List ℕ)
-bytes_by of_file of_stream (File f) = of_file f
-bytes_by of_file of_stream (Standard s) = option_and_then of_stream s
+abbrev pub bytes_of_file_or_standard : {F S : Type 0} → (F → Option (List ℕ)) → (S → Option (List ℕ)) → FileOrStandard F S → Option (List ℕ)
+bytes_of_file_or_standard of_file of_stream (File f) = of_file f
+bytes_of_file_or_standard of_file of_stream (Standard s) = option_and_then of_stream s

@@ -1,91 +1,91 @@
 -- What an unpacking returns.
 use Rattle.std.specs.Prelude.{ℕ, ◌≡◌, ◌⊎◌, ◌++◌, suc, List, Option, Some, None, Result, Ok, Err, map, take}
 use Rattle.std.specs.List.{AllByRecursion}
-use Rattle.lfs_model.specs.Disk.{Disk, IsImage}
-use Rattle.lfs_model.specs.View.{IsListIfCtz, View}
+use Rattle.lfs_model.specs.Disk.{Disk, IsImageOfWholeBlocks}
+use Rattle.lfs_model.specs.View.{IsListIfCtz, DiskView}
 use Rattle.lfs_model.specs.Slots.{Struct, Inline, Ctz, Branch}
-use Rattle.lfs_model.specs.Listing.{Action, IsUnpacking, MakeDirectory, PutFile}
+use Rattle.lfs_model.specs.Listing.{UnpackingAction, AreActionsUnpackingTree, MakeDirectory, PutFile}
 use Rattle.lfs_device.specs.declared.error.Error.TheVariants.{Corrupt, Invalid, NoMemory}
 use Rattle.lfs_tool.specs.declared.errors.ToolError.{ToolError}
 use Rattle.lfs_tool.specs.declared.errors.ToolError.TheVariants.{Fs, Output}
-use Rattle.lfs_tool.specs.Listings.{IsNotAccepted, IsNotMounted}
-use Rattle.lfs_tool.specs.EitherOrder.{IsShownBy, IsShownOn}
-use Rattle.lfs_lookup.specs.FileBytes.{bytes_shown}
-use Rattle.lfs_lookup.specs.Walk.{Place}
+use Rattle.lfs_tool.specs.Listings.{IsImageAcceptedInNoOrder, IsMountErrorOfDisk}
+use Rattle.lfs_tool.specs.EitherOrder.{IsViewOfImageInSomeOrder, IsViewOfDiskInSomeOrder}
+use Rattle.lfs_lookup.specs.FileBytes.{file_bytes_of_struct}
+use Rattle.lfs_lookup.specs.Walk.{PathAndStruct}
 
 -- the disk is accepted, and these actions unpack what it shows
-abbrev pub IsUnpacked : Disk → List Action → Type 0
-IsUnpacked disk actions = (view : View) × (IsShownOn disk view × IsUnpacking view.tree actions)
+abbrev pub AreActionsUnpackingDisk : Disk → List UnpackingAction → Type 0
+AreActionsUnpackingDisk disk actions = (view : DiskView) × (IsViewOfDiskInSomeOrder disk view × AreActionsUnpackingTree view.tree actions)
 
 -- the bytes are an image that these actions unpack
-abbrev pub Unpacks : ℕ → ℕ → List ℕ → List Action → Type 0
-Unpacks block_size page image actions = IsImage block_size page image × ((view : View) × (IsShownBy block_size page image view × IsUnpacking view.tree actions))
+abbrev pub AreActionsUnpackingImage : ℕ → ℕ → List ℕ → List UnpackingAction → Type 0
+AreActionsUnpackingImage block_size page image actions = IsImageOfWholeBlocks block_size page image × ((view : DiskView) × (IsViewOfImageInSomeOrder block_size page image view × AreActionsUnpackingTree view.tree actions))
 
 -- these actions more were done, where what was done is known
-abbrev pub HasDoneActions : Option (List Action) → Option (List Action) → List Action → Type 0
-HasDoneActions None new actions = Unit {0}
-HasDoneActions (Some old) None actions = ⊥
-HasDoneActions (Some old) (Some new) actions = new ≡ old ++ actions
+abbrev pub HasDoneMoreActions : Option (List UnpackingAction) → Option (List UnpackingAction) → List UnpackingAction → Type 0
+HasDoneMoreActions None new actions = Unit {0}
+HasDoneMoreActions (Some old) None actions = ⊥
+HasDoneMoreActions (Some old) (Some new) actions = new ≡ old ++ actions
 
 -- a beginning of them was done
-abbrev pub HasBegunActions : Option (List Action) → Option (List Action) → List Action → Type 0
-HasBegunActions old new actions = (n : ℕ) × HasDoneActions old new (take n actions)
+abbrev pub HasDoneBeginningOfActions : Option (List UnpackingAction) → Option (List UnpackingAction) → List UnpackingAction → Type 0
+HasDoneBeginningOfActions old new actions = (n : ℕ) × HasDoneMoreActions old new (take n actions)
 
 -- ---- the actions of what was found
 
-abbrev pub action_below : Disk → List ℕ → Struct → Action
-action_below disk path (Inline bytes) = PutFile path (bytes_shown disk (Inline bytes))
-action_below disk path (Ctz head size) = PutFile path (bytes_shown disk (Ctz head size))
-action_below disk path (Branch to) = MakeDirectory path
+abbrev pub action_for_struct : Disk → List ℕ → Struct → UnpackingAction
+action_for_struct disk path (Inline bytes) = PutFile path (file_bytes_of_struct disk (Inline bytes))
+action_for_struct disk path (Ctz head size) = PutFile path (file_bytes_of_struct disk (Ctz head size))
+action_for_struct disk path (Branch to) = MakeDirectory path
 
-abbrev pub action_at : Disk → Place → Action
-action_at disk p = action_below disk p.path p.struct
+abbrev pub action_for_place : Disk → PathAndStruct → UnpackingAction
+action_for_place disk p = action_for_struct disk p.path p.struct
 
-abbrev pub actions_at : Disk → List Place → List Action
-actions_at disk places = map (action_at disk) places
+abbrev pub actions_for_places : Disk → List PathAndStruct → List UnpackingAction
+actions_for_places disk places = map (action_for_place disk) places
 
 -- the lists among them are well formed
-abbrev pub AreLists : Disk → List Place → Type 0
-AreLists disk places = AllByRecursion (λ p. IsListIfCtz disk p.struct) places
+abbrev pub HaveWellFormedSkipLists : Disk → List PathAndStruct → Type 0
+HaveWellFormedSkipLists disk places = AllByRecursion (λ p. IsListIfCtz disk p.struct) places
 
 -- `Output` comes where the target has failed, and any other result where it hasn't: then memory ran out, if the result is an
 -- error
-abbrev pub ReportsFault : ℕ → ℕ → ToolError → Type 0
-ReportsFault old new Output = new ≡ suc old
-ReportsFault old new (Fs NoMemory) = new ≡ old
-ReportsFault old new other = ⊥
+abbrev pub IsErrorByTargetFaults : ℕ → ℕ → ToolError → Type 0
+IsErrorByTargetFaults old new Output = new ≡ suc old
+IsErrorByTargetFaults old new (Fs NoMemory) = new ≡ old
+IsErrorByTargetFaults old new other = ⊥
 
-abbrev pub ReportsTarget : {X : Type 0} → ℕ → ℕ → Result X ToolError → Type 0
-ReportsTarget old new (Ok x) = new ≡ old
-ReportsTarget old new (Err e) = ReportsFault old new e
+abbrev pub ReportsTargetFaults : {X : Type 0} → ℕ → ℕ → Result X ToolError → Type 0
+ReportsTargetFaults old new (Ok x) = new ≡ old
+ReportsTargetFaults old new (Err e) = IsErrorByTargetFaults old new e
 
 -- ---- a device in memory, and an image
 
 -- the disk is accepted, and all that it shows was done
-abbrev pub IsDoneOf : Disk → Option (List Action) → Option (List Action) → Type 0
-IsDoneOf disk old new = (actions : List Action) × (IsUnpacked disk actions × HasDoneActions old new actions)
+abbrev pub HasUnpackedDisk : Disk → Option (List UnpackingAction) → Option (List UnpackingAction) → Type 0
+HasUnpackedDisk disk old new = (actions : List UnpackingAction) × (AreActionsUnpackingDisk disk actions × HasDoneMoreActions old new actions)
 
 -- the same of a beginning of it
-abbrev pub IsBegunOf : Disk → Option (List Action) → Option (List Action) → Type 0
-IsBegunOf disk old new = (actions : List Action) × (IsUnpacked disk actions × HasBegunActions old new actions)
+abbrev pub HasBegunUnpackingDisk : Disk → Option (List UnpackingAction) → Option (List UnpackingAction) → Type 0
+HasBegunUnpackingDisk disk old new = (actions : List UnpackingAction) × (AreActionsUnpackingDisk disk actions × HasDoneBeginningOfActions old new actions)
 
 -- why a disk in memory isn't unpacked, and what was done then
-abbrev pub FailsToUnpack : Disk → Option (List Action) → Option (List Action) → ToolError → Type 0
-FailsToUnpack disk old new (Fs Corrupt) = IsNotMounted disk Corrupt × (new ≡ old)
-FailsToUnpack disk old new (Fs NoMemory) = (new ≡ old) ⊎ IsBegunOf disk old new
-FailsToUnpack disk old new Output = IsBegunOf disk old new
-FailsToUnpack disk old new other = ⊥
+abbrev pub FailsToUnpackDisk : Disk → Option (List UnpackingAction) → Option (List UnpackingAction) → ToolError → Type 0
+FailsToUnpackDisk disk old new (Fs Corrupt) = IsMountErrorOfDisk disk Corrupt × (new ≡ old)
+FailsToUnpackDisk disk old new (Fs NoMemory) = (new ≡ old) ⊎ HasBegunUnpackingDisk disk old new
+FailsToUnpackDisk disk old new Output = HasBegunUnpackingDisk disk old new
+FailsToUnpackDisk disk old new other = ⊥
 
-abbrev pub IsDoneOfImage : ℕ → ℕ → List ℕ → Option (List Action) → Option (List Action) → Type 0
-IsDoneOfImage block_size page image old new = (actions : List Action) × (Unpacks block_size page image actions × HasDoneActions old new actions)
+abbrev pub HasUnpackedImage : ℕ → ℕ → List ℕ → Option (List UnpackingAction) → Option (List UnpackingAction) → Type 0
+HasUnpackedImage block_size page image old new = (actions : List UnpackingAction) × (AreActionsUnpackingImage block_size page image actions × HasDoneMoreActions old new actions)
 
-abbrev pub IsBegunOfImage : ℕ → ℕ → List ℕ → Option (List Action) → Option (List Action) → Type 0
-IsBegunOfImage block_size page image old new = (actions : List Action) × (Unpacks block_size page image actions × HasBegunActions old new actions)
+abbrev pub HasBegunUnpackingImage : ℕ → ℕ → List ℕ → Option (List UnpackingAction) → Option (List UnpackingAction) → Type 0
+HasBegunUnpackingImage block_size page image old new = (actions : List UnpackingAction) × (AreActionsUnpackingImage block_size page image actions × HasDoneBeginningOfActions old new actions)
 
 -- the same of an image
-abbrev pub FailsToUnpackImage : ℕ → ℕ → List ℕ → Option (List Action) → Option (List Action) → ToolError → Type 0
-FailsToUnpackImage block_size page image old new (Fs Corrupt) = IsNotAccepted block_size page image × (new ≡ old)
-FailsToUnpackImage block_size page image old new (Fs Invalid) = (¬ IsImage block_size page image) × (new ≡ old)
-FailsToUnpackImage block_size page image old new (Fs NoMemory) = (new ≡ old) ⊎ IsBegunOfImage block_size page image old new
-FailsToUnpackImage block_size page image old new Output = IsBegunOfImage block_size page image old new
+abbrev pub FailsToUnpackImage : ℕ → ℕ → List ℕ → Option (List UnpackingAction) → Option (List UnpackingAction) → ToolError → Type 0
+FailsToUnpackImage block_size page image old new (Fs Corrupt) = IsImageAcceptedInNoOrder block_size page image × (new ≡ old)
+FailsToUnpackImage block_size page image old new (Fs Invalid) = (¬ IsImageOfWholeBlocks block_size page image) × (new ≡ old)
+FailsToUnpackImage block_size page image old new (Fs NoMemory) = (new ≡ old) ⊎ HasBegunUnpackingImage block_size page image old new
+FailsToUnpackImage block_size page image old new Output = HasBegunUnpackingImage block_size page image old new
 FailsToUnpackImage block_size page image old new other = ⊥

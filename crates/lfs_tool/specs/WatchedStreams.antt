@@ -3,16 +3,16 @@ use Rattle.std.specs.Prelude.{ℕ}
 use Rattle.lfs_tool.specs.declared.watched_stream.Watched.{Watched}
 
 -- the reader or the writer itself
-abbrev pub inner_of : {T : Type 0} → Watched T → T
-inner_of w = w.inner
+abbrev pub watched_inner_stream : {T : Type 0} → Watched T → T
+watched_inner_stream w = w.inner
 
 -- how many of its calls have failed
-abbrev pub faults_of : {T : Type 0} → Watched T → ℕ
-faults_of w = w.faults.count
+abbrev pub watched_fault_count : {T : Type 0} → Watched T → ℕ
+watched_fault_count w = w.faults.count
 
 -- how many writes there were since the last flush
-abbrev pub unflushed_of : {T : Type 0} → Watched T → ℕ
-unflushed_of w = w.pending.count
+abbrev pub unflushed_write_count : {T : Type 0} → Watched T → ℕ
+unflushed_write_count w = w.pending.count
 
 -- how many values it has shown
 abbrev pub shown_of : {T : Type 0} → Watched T → ℕ

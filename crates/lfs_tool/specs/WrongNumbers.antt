@@ -1,25 +1,25 @@
 -- The numbers of a superblock by its place in an image's bytes, whatever the image's blocks hold.
 use Rattle.std.specs.Prelude.{ℕ, ◌≡◌, ◌≢◌, ◌⊎◌, ◌+◌, ◌/◌, ◌≤◌, List, length, slice_range, codes}
-use Rattle.lfs_model.specs.EntryTypes.{SuperblockFields, superblock_at}
-use Rattle.lfs_tool.specs.declared.findings.Stated.{Stated}
-use Rattle.lfs_tool.specs.declared.findings.Stated.TheVariants as stated
+use Rattle.lfs_model.specs.EntryTypes.{SuperblockFields, superblock_fields_at}
+use Rattle.lfs_tool.specs.declared.findings.WrongNumber.{WrongNumber}
+use Rattle.lfs_tool.specs.declared.findings.WrongNumber.TheVariants as stated
 
 -- the fields give something else than blocks of that size, so many of them, and version 2.0
-abbrev pub IsWrongField : ℕ → ℕ → SuperblockFields → Stated → Type 0
-IsWrongField block_size count fields (stated.BlockSize n) = (fields.block_size ≡ n) × (n ≢ block_size)
-IsWrongField block_size count fields (stated.BlockCount n) = (fields.block_count ≡ n) × (n ≢ count)
-IsWrongField block_size count fields (stated.Version n) = (fields.version ≡ n) × (n ≢ 0x00020000)
+abbrev pub IsWrongSuperblockField : ℕ → ℕ → SuperblockFields → WrongNumber → Type 0
+IsWrongSuperblockField block_size count fields (stated.BlockSize n) = (fields.block_size ≡ n) × (n ≢ block_size)
+IsWrongSuperblockField block_size count fields (stated.BlockCount n) = (fields.block_count ≡ n) × (n ≢ count)
+IsWrongSuperblockField block_size count fields (stated.Version n) = (fields.version ≡ n) × (n ≢ 0x00020000)
 
 -- A block that begins there begins with a superblock: its name from byte 8 on, and its struct from byte 20 on.
-pub record IsSuperblockAt (bytes : List ℕ) (from : ℕ) (fields : SuperblockFields) : Type 0 where
+pub record IsSuperblockAtOffset (bytes : List ℕ) (from : ℕ) (fields : SuperblockFields) : Type 0 where
   pub inside : from + 44 ≤ length bytes
   pub name : slice_range bytes (from + 8) (from + 16) ≡ codes "littlefs"
-  pub struct : superblock_at (slice_range bytes (from + 20) (from + 44)) ≡ fields
+  pub struct : superblock_fields_at (slice_range bytes (from + 20) (from + 44)) ≡ fields
 
 -- a number in the superblock of block 0 or 1 is wrong for these bytes
-pub record IsWrongNumberIn (bytes : List ℕ) (block_size : ℕ) (stated : Stated) : Type 0 where
+pub record IsWrongNumberInImageBytes (bytes : List ℕ) (block_size : ℕ) (stated : WrongNumber) : Type 0 where
   pub from : ℕ
   pub block : (from ≡ 0) ⊎ (from ≡ block_size)
   pub fields : SuperblockFields
-  pub stands : IsSuperblockAt bytes from fields
-  pub unlike : IsWrongField block_size (length bytes / block_size) fields stated
+  pub stands : IsSuperblockAtOffset bytes from fields
+  pub unlike : IsWrongSuperblockField block_size (length bytes / block_size) fields stated

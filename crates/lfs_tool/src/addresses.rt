@@ -2,19 +2,19 @@
 
 ghost use Rattle.std.specs.Prelude.{◌≡◌, ◌↔◌, ◌<◌, IfNone, IfSome, IsTrue, Some};
 ghost use Rattle.lfs_model.specs.Disk.{Disk, block_count};
-ghost use Rattle.lfs_model.specs.Slots.{address_of};
-ghost use Rattle.lfs_tool.specs.Findings.{NamesBlock, IsThreadFault};
+ghost use Rattle.lfs_model.specs.Slots.{pair_address_of_array};
+ghost use Rattle.lfs_tool.specs.Findings.{HasAddressOfBlock, IsThreadFinding};
 ghost use Rattle.lfs_tool.specs.ThreadBeginnings.{IsNamedByThread};
-ghost use Rattle.lfs_tool.specs.PairReads.{AreFirstPairs};
+ghost use Rattle.lfs_tool.specs.PairReads.{AreOwnedFirstPairsOfThread};
 
 use crate::findings::Finding;
 use crate::owned_parts::OwnedPair;
 
 // Returns what is wrong with the two addresses of a pair by themselves.
-pub(crate) fn range_fault(count: u32, pair: [u32; 2]) -> Option<Finding>
-    ensures fault { IfSome result (λ f. (disk : Disk) → block_count disk ≡ count → IsNamedByThread disk (address_of pair) → IsThreadFault disk f) }
-    ensures first { IfNone result ((address_of pair).0 < count) }
-    ensures second { IfNone result ((address_of pair).1 < count) }
+pub(crate) fn finding_on_pair_addresses(count: u32, pair: [u32; 2]) -> Option<Finding>
+    ensures fault { IfSome result (λ f. (disk : Disk) → block_count disk ≡ count → IsNamedByThread disk (pair_address_of_array pair) → IsThreadFinding disk f) }
+    ensures first { IfNone result ((pair_address_of_array pair).0 < count) }
+    ensures second { IfNone result ((pair_address_of_array pair).1 < count) }
 {
     let [first, second] = pair;
     if first >= count {
@@ -34,15 +34,15 @@ pub(crate) fn range_fault(count: u32, pair: [u32; 2]) -> Option<Finding>
 
 // Returns whether one of the two addresses is that block's.
 fn has(pair: [u32; 2], block: u32) -> bool
-    ensures { IsTrue result ↔ NamesBlock (address_of pair) block }
+    ensures { IsTrue result ↔ HasAddressOfBlock (pair_address_of_array pair) block }
 {
     pair[0] == block || pair[1] == block
 }
 
 // Returns the block, if it is in one of these pairs, which come before the pair.
-fn block_fault(pairs: &[OwnedPair], pair: [u32; 2], block: u32) -> Option<Finding>
-    requires { NamesBlock (address_of pair) block }
-    ensures { IfSome result (λ f. (disk : Disk) → AreFirstPairs disk (Some (address_of pair)) pairs.now → IsThreadFault disk f) }
+fn finding_on_block_in_pairs(pairs: &[OwnedPair], pair: [u32; 2], block: u32) -> Option<Finding>
+    requires { HasAddressOfBlock (pair_address_of_array pair) block }
+    ensures { IfSome result (λ f. (disk : Disk) → AreOwnedFirstPairsOfThread disk (Some (pair_address_of_array pair)) pairs.now → IsThreadFinding disk f) }
 {
     for held in pairs {
         if has(held.at, block) {
@@ -58,18 +58,18 @@ fn block_fault(pairs: &[OwnedPair], pair: [u32; 2], block: u32) -> Option<Findin
 
 // Returns what is wrong with the blocks of a pair after these pairs. `marks` has the blocks of
 // these pairs, so the others aren't searched. The pair's blocks are marked then.
-pub(crate) fn twice_fault(
+pub(crate) fn finding_on_repeated_blocks(
     marks: &mut Vec<bool>,
     pairs: &[OwnedPair],
     pair: [u32; 2],
 ) -> Option<Finding>
-    ensures { IfSome result (λ f. (disk : Disk) → AreFirstPairs disk (Some (address_of pair)) pairs.now → IsThreadFault disk f) }
+    ensures { IfSome result (λ f. (disk : Disk) → AreOwnedFirstPairsOfThread disk (Some (pair_address_of_array pair)) pairs.now → IsThreadFinding disk f) }
 {
     for block in pair {
         let place = block as usize;
         if place < marks.len() {
             if marks[place] {
-                return block_fault(pairs, pair, block);
+                return finding_on_block_in_pairs(pairs, pair, block);
             }
             marks[place] = true;
         }

@@ -12,7 +12,7 @@ pub struct BlockExcerpt {
 
 impl BlockExcerpt {
     ghost use Rattle.std.specs.Prelude.{◌≡◌, ◌+◌, slice_range};
-    ghost use Rattle.lfs_tool.specs.ExcerptBlocks.{block_shown};
+    ghost use Rattle.lfs_tool.specs.ExcerptBlocks.{block_of_excerpt};
 
     // Makes a block of this size that begins with these bytes.
     pub(crate) fn new(size: usize, bytes: Vec<u8>) -> BlockExcerpt
@@ -26,7 +26,7 @@ impl BlockExcerpt {
     // Fills the buffer with the block's bytes from an offset on.
     pub(crate) fn read(&self, off: usize, buf: &mut [u8])
         requires { off + length buf.old ≤ self.now.size }
-        ensures { buf.new ≡ slice_range (block_shown self.now) off (off + length buf.old) }
+        ensures { buf.new ≡ slice_range (block_of_excerpt self.now) off (off + length buf.old) }
     {
         let end = (off + buf.len()).min(self.bytes.len());
         let start = off.min(end);

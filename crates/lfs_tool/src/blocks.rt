@@ -1,21 +1,21 @@
 // Images that are read block by block. What a listing needs is kept.
 
 ghost use Rattle.std.specs.Prelude.{◌≡◌, ◌≤◌, ◌*◌, IfErr, IfOk, IfSome, OnOk, None, length, suc};
-ghost use Rattle.lfs_tool.specs.ExcerptBlocks.{HaveSize};
-ghost use Rattle.lfs_model.specs.Disk.{IsImage};
+ghost use Rattle.lfs_tool.specs.ExcerptBlocks.{AreExcerptsOfBlockSize};
+ghost use Rattle.lfs_model.specs.Disk.{IsImageOfWholeBlocks};
 ghost use Rattle.lfs_tool.specs.ExcerptView.{cutter_block_size};
-ghost use Rattle.lfs_tool.specs.Blocks.{AreExcerptsOfBytes, Fills, IsExcerptPushed};
-ghost use Rattle.lfs_tool.specs.KnownBytes.{FailsToRead};
-ghost use Rattle.lfs_tool.specs.Reports.{IsReadToEnd};
+ghost use Rattle.lfs_tool.specs.Blocks.{AreExcerptsOfBytes, FillsBufferWithNextBytes, IsExcerptPushed};
+ghost use Rattle.lfs_tool.specs.KnownBytes.{IsErrorOfFailedRead};
+ghost use Rattle.lfs_tool.specs.Reports.{IsReadToEndOrPastImageLimit};
 
 use crate::input::IMAGE_MAX;
-use crate::{BlockExcerpt, Cutter, Reader, ToolError};
+use crate::{BlockExcerpt, Cutter, ImageInput, ToolError};
 use lfs_device::Error;
 use std::alloc::Global;
 
 // Fills the buffer, or its beginning where the image ends in it. Returns how many bytes were read.
-fn fill<R: Reader>(image: &mut R, buffer: &mut [u8]) -> Result<usize, ToolError>
-    ensures bytes { IfOk result (λ n. Fills (R.remaining image.old) (R.remaining image.new) n buffer.new) }
+fn fill<R: ImageInput>(image: &mut R, buffer: &mut [u8]) -> Result<usize, ToolError>
+    ensures bytes { IfOk result (λ n. FillsBufferWithNextBytes (R.remaining image.old) (R.remaining image.new) n buffer.new) }
     ensures len { length buffer.new ≡ length buffer.old }
     ensures kept { OnOk result (R.faults image.new ≡ R.faults image.old) }
     ensures err { IfErr result (λ e. (e ≡ ToolError.Input) × (R.faults image.new ≡ suc (R.faults image.old))) }
@@ -33,18 +33,18 @@ fn fill<R: Reader>(image: &mut R, buffer: &mut [u8]) -> Result<usize, ToolError>
 
 // Reads to the end. Returns no blocks where the bytes aren't whole blocks, or are more than an
 // image may have.
-pub(crate) fn read_blocks<R: Reader>(
+pub(crate) fn read_block_excerpts<R: ImageInput>(
     alloc: Global,
     image: &mut R,
     block_size: u32,
 ) -> Result<Option<Vec<BlockExcerpt>>, ToolError>
     requires { 1024 ≤ block_size }
     ensures blocks { IfOk result (λ found. IfSome found (λ blocks. IfSome (R.remaining image.old) (λ bytes. AreExcerptsOfBytes block_size bytes blocks.items))) }
-    ensures sizes { IfOk result (λ found. IfSome found (λ blocks. HaveSize block_size blocks.items × (block_size * length blocks.items ≤ IMAGE_MAX))) }
-    ensures none { IfOk result (λ found. found ≡ None → IfSome (R.remaining image.old) (λ bytes. (page : _) → ¬ IsImage block_size page bytes)) }
-    ensures read { OnOk result (IsReadToEnd (R.remaining image.old) (R.remaining image.new)) }
+    ensures sizes { IfOk result (λ found. IfSome found (λ blocks. AreExcerptsOfBlockSize block_size blocks.items × (block_size * length blocks.items ≤ IMAGE_MAX))) }
+    ensures none { IfOk result (λ found. found ≡ None → IfSome (R.remaining image.old) (λ bytes. (page : _) → ¬ IsImageOfWholeBlocks block_size page bytes)) }
+    ensures read { OnOk result (IsReadToEndOrPastImageLimit (R.remaining image.old) (R.remaining image.new)) }
     ensures kept { OnOk result (R.faults image.new ≡ R.faults image.old) }
-    ensures err { IfErr result (λ e. FailsToRead e (R.faults image.old) (R.faults image.new)) }
+    ensures err { IfErr result (λ e. IsErrorOfFailedRead e (R.faults image.old) (R.faults image.new)) }
 {
     let size = block_size as usize;
     let (mut cutter, mut block) = room_for(alloc, size)?;
@@ -57,7 +57,7 @@ pub(crate) fn read_blocks<R: Reader>(
         if n < size {
             return Ok(None);
         }
-        push_block(alloc, &mut cutter, &block, &mut blocks)?;
+        push_block_excerpt(alloc, &mut cutter, &block, &mut blocks)?;
     }
     Ok(None)
 }
@@ -74,7 +74,7 @@ fn room_for(alloc: Global, size: usize) -> Result<(Cutter, Vec<u8>), Error>
 }
 
 // Keeps an excerpt of one more block.
-fn push_block(
+fn push_block_excerpt(
     alloc: Global,
     cutter: &mut Cutter,
     block: &[u8],

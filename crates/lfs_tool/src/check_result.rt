@@ -1,6 +1,6 @@
 // The result of a check of an image.
 
-use crate::findings::{Finding, Stated};
+use crate::findings::{Finding, WrongNumber};
 use crate::verdict::{AcceptedOrders, ImageSummary};
 
 /// The sizes with which an image is checked: of a block and a page in bytes, and the number of
@@ -16,7 +16,7 @@ pub struct Given {
 #[derive(Drop)]
 pub enum Reason {
     /// The superblock in block 0 or 1 gives another size, number of blocks or version.
-    Stated(Stated),
+    WrongNumber(WrongNumber),
     /// No image of blocks and pages of these sizes has so many bytes.
     NoImage,
     /// The image breaks this rule.

@@ -2,13 +2,13 @@
 
 ghost use Rattle.std.specs.Prelude.{◌≡◌, ◌++◌, IfOk, OnOk, codes};
 ghost use Rattle.lfs_model.specs.Listing.{newline};
-ghost use Rattle.lfs_model.specs.Slots.{address_of};
+ghost use Rattle.lfs_model.specs.Slots.{pair_address_of_array};
 ghost use Rattle.std.specs.Fmt.{decimal};
-ghost use Rattle.lfs_tool.specs.CheckedLines.{address_text, blocks_text, count_line, finding_text, no_image_text, order_line, pair_text, place_text, range_text, reason_text, recover_line, slot_text, stated_text, summary_text, twice_text, used_line, checked_text, writable_line};
+ghost use Rattle.lfs_tool.specs.CheckedLines.{pair_addresses_text, used_and_free_blocks_text, labelled_number_line, finding_text, no_image_text, accepted_orders_line, pair_text, named_slot_text, block_out_of_range_text, unaccepted_reason_text, needs_recovery_line, slot_text, wrong_number_text, summary_text, block_in_two_pairs_text, used_blocks_line, check_result_text, writable_line};
 
 use crate::check_result::{Checked, Given, Reason};
-use crate::escape::escape_path;
-use crate::findings::{Finding, Place, Stated};
+use crate::escape::push_escaped_path;
+use crate::findings::{Finding, NamedSlot, WrongNumber};
 use crate::verdict::{AcceptedOrders, ImageSummary};
 use std::alloc::{AllocError, Global};
 use std::io::Write;
@@ -44,8 +44,8 @@ pub(crate) fn push_number(text: &mut Vec<u8>, before: &str, number: usize) -> Re
 }
 
 // Adds a line with a number after a text.
-fn push_count(text: &mut Vec<u8>, label: &str, count: usize) -> Result<(), AllocError>
-    ensures { OnOk result (text.new.items ≡ text.old.items ++ count_line label.now count) }
+fn push_number_line(text: &mut Vec<u8>, label: &str, count: usize) -> Result<(), AllocError>
+    ensures { OnOk result (text.new.items ≡ text.old.items ++ labelled_number_line label.now count) }
 {
     push_number(text, label, count)?;
     text.push(b'\n')?;
@@ -54,25 +54,25 @@ fn push_count(text: &mut Vec<u8>, label: &str, count: usize) -> Result<(), Alloc
 
 // ---- an accepted image
 
-fn push_usage(text: &mut Vec<u8>, used: u32, blocks: u32) -> Result<(), AllocError>
-    ensures { OnOk result (text.new.items ≡ text.old.items ++ used_line used blocks) }
+fn push_used_blocks_line(text: &mut Vec<u8>, used: u32, blocks: u32) -> Result<(), AllocError>
+    ensures { OnOk result (text.new.items ≡ text.old.items ++ used_blocks_line used blocks) }
 {
     push_two(text, "used ", used as usize, " of ", blocks as usize)?;
     push_line(text, " blocks")?;
     Ok(())
 }
 
-fn push_blocks(text: &mut Vec<u8>, summary: &ImageSummary) -> Result<(), AllocError>
-    ensures { OnOk result (text.new.items ≡ text.old.items ++ blocks_text summary.now) }
+fn push_used_and_free_blocks(text: &mut Vec<u8>, summary: &ImageSummary) -> Result<(), AllocError>
+    ensures { OnOk result (text.new.items ≡ text.old.items ++ used_and_free_blocks_text summary.now) }
 {
     let free = summary.blocks.saturating_sub(summary.used);
-    push_usage(text, summary.used, summary.blocks)?;
-    push_count(text, "free ", free as usize)?;
+    push_used_blocks_line(text, summary.used, summary.blocks)?;
+    push_number_line(text, "free ", free as usize)?;
     Ok(())
 }
 
-fn push_order(text: &mut Vec<u8>, orders: AcceptedOrders) -> Result<(), AllocError>
-    ensures { OnOk result (text.new.items ≡ text.old.items ++ order_line orders) }
+fn push_accepted_orders(text: &mut Vec<u8>, orders: AcceptedOrders) -> Result<(), AllocError>
+    ensures { OnOk result (text.new.items ≡ text.old.items ++ accepted_orders_line orders) }
 {
     match orders {
         AcceptedOrders::LongerFirst => push_line(text, "order longer-first"),
@@ -81,8 +81,8 @@ fn push_order(text: &mut Vec<u8>, orders: AcceptedOrders) -> Result<(), AllocErr
     }
 }
 
-fn push_recover(text: &mut Vec<u8>, recover: bool) -> Result<(), AllocError>
-    ensures { OnOk result (text.new.items ≡ text.old.items ++ recover_line recover) }
+fn push_needs_recovery(text: &mut Vec<u8>, recover: bool) -> Result<(), AllocError>
+    ensures { OnOk result (text.new.items ≡ text.old.items ++ needs_recovery_line recover) }
 {
     if recover {
         push_line(text, "recover yes")
@@ -110,11 +110,11 @@ fn push_summary(
     ensures { OnOk result (text.new.items ≡ text.old.items ++ summary_text summary.now orders) }
 {
     push_line(text, "ok")?;
-    push_count(text, "files ", summary.files)?;
-    push_count(text, "directories ", summary.directories)?;
-    push_blocks(text, summary)?;
-    push_order(text, orders)?;
-    push_recover(text, summary.recover)?;
+    push_number_line(text, "files ", summary.files)?;
+    push_number_line(text, "directories ", summary.directories)?;
+    push_used_and_free_blocks(text, summary)?;
+    push_accepted_orders(text, orders)?;
+    push_needs_recovery(text, summary.recover)?;
     push_writable(text, summary.writable)?;
     Ok(())
 }
@@ -136,19 +136,23 @@ fn push_two(
     Ok(())
 }
 
-fn push_wrong_number(text: &mut Vec<u8>, given: &Given, stated: Stated) -> Result<(), AllocError>
-    ensures { OnOk result (text.new.items ≡ text.old.items ++ stated_text given.now stated) }
+fn push_wrong_number(
+    text: &mut Vec<u8>,
+    given: &Given,
+    stated: WrongNumber,
+) -> Result<(), AllocError>
+    ensures { OnOk result (text.new.items ≡ text.old.items ++ wrong_number_text given.now stated) }
 {
     match stated {
-        Stated::BlockSize(size) => {
+        WrongNumber::BlockSize(size) => {
             let (size, given) = (size as usize, given.block_size as usize);
             push_two(text, "superblock: block size ", size, ", given ", given)
         }
-        Stated::BlockCount(count) => {
+        WrongNumber::BlockCount(count) => {
             let (count, given) = (count as usize, given.blocks);
             push_two(text, "superblock: block count ", count, ", given ", given)
         }
-        Stated::Version(version) => {
+        WrongNumber::Version(version) => {
             let (major, minor) = (version as usize / 65536, version as usize % 65536);
             push_two(text, "superblock: version ", major, ".", minor)
         }
@@ -156,32 +160,32 @@ fn push_wrong_number(text: &mut Vec<u8>, given: &Given, stated: Stated) -> Resul
 }
 
 fn push_pair(text: &mut Vec<u8>, pair: [u32; 2]) -> Result<(), AllocError>
-    ensures { OnOk result (text.new.items ≡ text.old.items ++ pair_text (address_of pair)) }
+    ensures { OnOk result (text.new.items ≡ text.old.items ++ pair_text (pair_address_of_array pair)) }
 {
     push_two(text, "pair ", pair[0] as usize, " ", pair[1] as usize)
 }
 
 fn push_slot(text: &mut Vec<u8>, pair: [u32; 2], slot: usize) -> Result<(), AllocError>
-    ensures { OnOk result (text.new.items ≡ text.old.items ++ slot_text (address_of pair) slot) }
+    ensures { OnOk result (text.new.items ≡ text.old.items ++ slot_text (pair_address_of_array pair) slot) }
 {
     push_pair(text, pair)?;
     push_number(text, ", slot ", slot)?;
     Ok(())
 }
 
-fn push_place(text: &mut Vec<u8>, place: &Place) -> Result<(), AllocError>
-    ensures { OnOk result (text.new.items ≡ text.old.items ++ place_text place.now) }
+fn push_named_slot(text: &mut Vec<u8>, place: &NamedSlot) -> Result<(), AllocError>
+    ensures { OnOk result (text.new.items ≡ text.old.items ++ named_slot_text place.now) }
 {
     push_slot(text, place.pair, place.slot)?;
     push_text(text, ": \"")?;
-    escape_path(text, &place.name)?;
+    push_escaped_path(text, &place.name)?;
     text.push(b'"')?;
     Ok(())
 }
 
 // Adds the words for a pair.
-fn push_at_pair(text: &mut Vec<u8>, pair: [u32; 2], says: &str) -> Result<(), AllocError>
-    ensures { OnOk result (text.new.items ≡ text.old.items ++ (pair_text (address_of pair) ++ says.now)) }
+fn push_pair_message(text: &mut Vec<u8>, pair: [u32; 2], says: &str) -> Result<(), AllocError>
+    ensures { OnOk result (text.new.items ≡ text.old.items ++ (pair_text (pair_address_of_array pair) ++ says.now)) }
 {
     push_pair(text, pair)?;
     push_text(text, says)?;
@@ -189,13 +193,13 @@ fn push_at_pair(text: &mut Vec<u8>, pair: [u32; 2], says: &str) -> Result<(), Al
 }
 
 // Adds the words for a slot.
-fn push_at_slot(
+fn push_slot_message(
     text: &mut Vec<u8>,
     pair: [u32; 2],
     slot: usize,
     says: &str,
 ) -> Result<(), AllocError>
-    ensures { OnOk result (text.new.items ≡ text.old.items ++ (slot_text (address_of pair) slot ++ says.now)) }
+    ensures { OnOk result (text.new.items ≡ text.old.items ++ (slot_text (pair_address_of_array pair) slot ++ says.now)) }
 {
     push_slot(text, pair, slot)?;
     push_text(text, says)?;
@@ -203,16 +207,16 @@ fn push_at_slot(
 }
 
 // Adds the words for a slot with a name.
-fn push_at_place(text: &mut Vec<u8>, place: &Place, says: &str) -> Result<(), AllocError>
-    ensures { OnOk result (text.new.items ≡ text.old.items ++ (place_text place.now ++ says.now)) }
+fn push_named_slot_message(text: &mut Vec<u8>, place: &Place, says: &str) -> Result<(), AllocError>
+    ensures { OnOk result (text.new.items ≡ text.old.items ++ (named_slot_text place.now ++ says.now)) }
 {
-    push_place(text, place)?;
+    push_named_slot(text, place)?;
     push_text(text, says)?;
     Ok(())
 }
 
-fn push_out_of_range(text: &mut Vec<u8>, pair: [u32; 2], block: u32) -> Result<(), AllocError>
-    ensures { OnOk result (text.new.items ≡ text.old.items ++ range_text (address_of pair) block) }
+fn push_block_out_of_range(text: &mut Vec<u8>, pair: [u32; 2], block: u32) -> Result<(), AllocError>
+    ensures { OnOk result (text.new.items ≡ text.old.items ++ block_out_of_range_text (pair_address_of_array pair) block) }
 {
     push_pair(text, pair)?;
     push_number(text, ": block ", block as usize)?;
@@ -220,37 +224,37 @@ fn push_out_of_range(text: &mut Vec<u8>, pair: [u32; 2], block: u32) -> Result<(
     Ok(())
 }
 
-fn push_twice(
+fn push_block_in_two_pairs(
     text: &mut Vec<u8>,
     block: u32,
     other: [u32; 2],
     pair: [u32; 2],
 ) -> Result<(), AllocError>
-    ensures { OnOk result (text.new.items ≡ text.old.items ++ twice_text block (address_of other) (address_of pair)) }
+    ensures { OnOk result (text.new.items ≡ text.old.items ++ block_in_two_pairs_text block (pair_address_of_array other) (pair_address_of_array pair)) }
 {
     push_number(text, "block ", block as usize)?;
     push_text(text, ": in two pairs, ")?;
-    push_address(text, other)?;
+    push_pair_addresses(text, other)?;
     push_text(text, " and ")?;
-    push_address(text, pair)?;
+    push_pair_addresses(text, pair)?;
     Ok(())
 }
 
-fn push_address(text: &mut Vec<u8>, pair: [u32; 2]) -> Result<(), AllocError>
-    ensures { OnOk result (text.new.items ≡ text.old.items ++ address_text (address_of pair)) }
+fn push_pair_addresses(text: &mut Vec<u8>, pair: [u32; 2]) -> Result<(), AllocError>
+    ensures { OnOk result (text.new.items ≡ text.old.items ++ pair_addresses_text (pair_address_of_array pair)) }
 {
     push_two(text, "", pair[0] as usize, " ", pair[1] as usize)
 }
 
-fn push_other_fields(
+fn push_pair_with_wrong_number(
     text: &mut Vec<u8>,
     given: &Given,
     pair: [u32; 2],
-    stated: Stated,
+    stated: WrongNumber,
 ) -> Result<(), AllocError>
-    ensures { OnOk result (text.new.items ≡ text.old.items ++ (pair_text (address_of pair) ++ codes ", " ++ stated_text given.now stated)) }
+    ensures { OnOk result (text.new.items ≡ text.old.items ++ (pair_text (pair_address_of_array pair) ++ codes ", " ++ wrong_number_text given.now stated)) }
 {
-    push_at_pair(text, pair, ", ")?;
+    push_pair_message(text, pair, ", ")?;
     push_wrong_number(text, given, stated)?;
     Ok(())
 }
@@ -259,28 +263,40 @@ fn push_finding(text: &mut Vec<u8>, given: &Given, finding: &Finding) -> Result<
     ensures { OnOk result (text.new.items ≡ text.old.items ++ finding_text given.now finding.now) }
 {
     match finding {
-        Finding::OutOfRange { pair, block } => push_out_of_range(text, *pair, *block),
-        Finding::OneBlock { pair } => push_at_pair(text, *pair, ": one block twice"),
-        Finding::InTwoPairs { block, pair, other } => push_twice(text, *block, *other, *pair),
+        Finding::OutOfRange { pair, block } => push_block_out_of_range(text, *pair, *block),
+        Finding::OneBlock { pair } => push_pair_message(text, *pair, ": one block twice"),
+        Finding::InTwoPairs { block, pair, other } => push_block_in_two_pairs(
+            text, *block, *other, *pair,
+        ),
         Finding::NoCommit { pair } => {
-            push_at_pair(text, *pair, ": no commit with a right checksum")
+            push_pair_message(text, *pair, ": no commit with a right checksum")
         }
-        Finding::Malformed { pair } => push_at_pair(
+        Finding::Malformed { pair } => push_pair_message(
             text,
             *pair,
             ": its log has an entry that may not stand there",
         ),
-        Finding::NoName { pair, slot } => push_at_slot(text, *pair, *slot, ": no name"),
-        Finding::NoStruct(place) => push_at_place(text, place, " has no struct"),
+        Finding::NoName { pair, slot } => push_slot_message(text, *pair, *slot, ": no name"),
+        Finding::NoStruct(place) => push_named_slot_message(text, place, " has no struct"),
         Finding::NoSuperblock => push_text(
             text,
             "superblock: the root directory doesn't begin with one",
         ),
-        Finding::NoFields { pair } => push_at_slot(text, *pair, 0, ": no superblock's struct"),
-        Finding::OtherFields { pair, stated } => push_other_fields(text, given, *pair, *stated),
-        Finding::SecondSuperblock(place) => push_at_place(text, place, " is a second superblock"),
-        Finding::OtherStruct(place) => push_at_place(text, place, " has another kind's struct"),
-        Finding::BadName(place) => push_at_place(text, place, " is no name"),
+        Finding::NoFields { pair } => push_slot_message(text, *pair, 0, ": no superblock's struct"),
+        Finding::OtherFields { pair, stated } => push_pair_with_wrong_number(
+            text, given, *pair, *stated,
+        ),
+        Finding::SecondSuperblock(place) => push_named_slot_message(
+            text,
+            place,
+            " is a second superblock",
+        ),
+        Finding::OtherStruct(place) => push_named_slot_message(
+            text,
+            place,
+            " has another kind's struct",
+        ),
+        Finding::BadName(place) => push_named_slot_message(text, place, " is no name"),
     }
 }
 
@@ -297,11 +313,15 @@ fn push_no_image(text: &mut Vec<u8>, given: &Given) -> Result<(), AllocError>
     )
 }
 
-fn push_reason(text: &mut Vec<u8>, given: &Given, reason: &Reason) -> Result<(), AllocError>
-    ensures { OnOk result (text.new.items ≡ text.old.items ++ reason_text given.now reason.now) }
+fn push_unaccepted_reason(
+    text: &mut Vec<u8>,
+    given: &Given,
+    reason: &Reason,
+) -> Result<(), AllocError>
+    ensures { OnOk result (text.new.items ≡ text.old.items ++ unaccepted_reason_text given.now reason.now) }
 {
     match reason {
-        Reason::Stated(stated) => push_wrong_number(text, given, *stated),
+        Reason::WrongNumber(stated) => push_wrong_number(text, given, *stated),
         Reason::NoImage => push_no_image(text, given),
         Reason::Broken(finding) => push_finding(text, given, finding),
         Reason::Other => push_text(text, "no single rule was found"),
@@ -309,23 +329,27 @@ fn push_reason(text: &mut Vec<u8>, given: &Given, reason: &Reason) -> Result<(),
 }
 
 // Adds the lines of an image that isn't accepted.
-fn push_refusal(text: &mut Vec<u8>, given: &Given, reason: &Reason) -> Result<(), AllocError>
-    ensures { OnOk result (text.new.items ≡ text.old.items ++ ((codes "corrupt" ++ newline) ++ reason_text given.now reason.now ++ newline)) }
+fn push_unaccepted_lines(
+    text: &mut Vec<u8>,
+    given: &Given,
+    reason: &Reason,
+) -> Result<(), AllocError>
+    ensures { OnOk result (text.new.items ≡ text.old.items ++ ((codes "corrupt" ++ newline) ++ unaccepted_reason_text given.now reason.now ++ newline)) }
 {
     push_line(text, "corrupt")?;
-    push_reason(text, given, reason)?;
+    push_unaccepted_reason(text, given, reason)?;
     text.push(b'\n')?;
     Ok(())
 }
 
 // Adds the lines of a check's result.
 pub(crate) fn checked_lines(alloc: Global, checked: &Checked) -> Result<Vec<u8>, AllocError>
-    ensures { IfOk result (λ text. text.items ≡ checked_text checked.now) }
+    ensures { IfOk result (λ text. text.items ≡ check_result_text checked.now) }
 {
     let mut text = Vec::new(alloc);
     match checked {
         Checked::Accepted { summary, orders } => push_summary(&mut text, summary, *orders)?,
-        Checked::Refused { reason, given } => push_refusal(&mut text, given, reason)?,
+        Checked::Refused { reason, given } => push_unaccepted_lines(&mut text, given, reason)?,
     }
     Ok(text)
 }

@@ -1,23 +1,23 @@
 ghost use Rattle.std.specs.Prelude.{◌≡◌, ◌≢◌, IfErr, IfOk, IsErrOf, OnOk};
 ghost use Rattle.lfs_fs.specs.SessionView.{system_state_of};
-ghost use Rattle.lfs_tool.specs.Reports.{ReportsWriter};
-ghost use Rattle.lfs_tool.specs.MadeImages.{AreBytesLeftBy, BeginsOnFresh, HasRefusal, IsBeginningOfImage, HasWrittenImageOf, RefusesEntries, ReportsSource};
-ghost use Rattle.lfs_tool_folders.specs.Entries.{AreAllEntries};
+ghost use Rattle.lfs_tool.specs.Reports.{ReportsWriterFaults};
+ghost use Rattle.lfs_tool.specs.MadeImages.{AreImageBytesOfEntries, BeginsOnFreshDisk, RefusesCopyOfSource, HasWrittenBeginningOfImage, HasWrittenImageOfSource, RefusesCopyOfEntries, ReportsSourceFaults};
+ghost use Rattle.lfs_tool_folders.specs.Entries.{AreAllEntriesOfSource};
 
 use crate::source_entries::carry_over;
-use crate::{ToolError, Writer, write_bytes};
+use crate::{ToolError, ToolOutput, write_bytes_and_flush};
 use lfs_device::{Error, Geometry, RamDevice};
 use lfs_fs::{Session, format_ordered};
 use lfs_tool_folders::{Source, SourceEntry, SourceError, read_tree};
 use std::alloc::Global;
 
 // Reads all that the source has.
-pub(crate) fn read_source<S: Source>(
+pub(crate) fn read_source_entries<S: Source>(
     alloc: Global,
     source: &mut S,
 ) -> Result<Vec<SourceEntry>, ToolError>
-    ensures entries { IfOk result (λ v. AreAllEntries (S.shown source.old) v.items) }
-    ensures source { ReportsSource (S.faults source.old) (S.faults source.new) (S.shown source.old) result }
+    ensures entries { IfOk result (λ v. AreAllEntriesOfSource (S.shown source.old) v.items) }
+    ensures source { ReportsSourceFaults (S.faults source.old) (S.faults source.new) (S.shown source.old) result }
     ensures other { IfErr result (λ e. e ≢ ToolError.Input → e ≡ ToolError.Fs Error.NoMemory) }
 {
     match read_tree(alloc, source) {
@@ -29,7 +29,7 @@ pub(crate) fn read_source<S: Source>(
 
 // Begins a session over an empty image in memory.
 fn begin(alloc: Global, geometry: Geometry) -> Result<Session<RamDevice>, Error>
-    ensures begins { IfOk result (λ s. BeginsOnFresh geometry (system_state_of s)) }
+    ensures begins { IfOk result (λ s. BeginsOnFreshDisk geometry (system_state_of s)) }
     ensures err { IfErr result (λ e. e ≡ Error.NoMemory) }
 {
     let device = RamDevice::blank(alloc, geometry)?;
@@ -41,13 +41,13 @@ fn begin(alloc: Global, geometry: Geometry) -> Result<Session<RamDevice>, Error>
 }
 
 // Makes the image that holds these entries.
-pub(crate) fn make(
+pub(crate) fn image_bytes_of_entries(
     alloc: Global,
     geometry: Geometry,
     entries: &[SourceEntry],
 ) -> Result<Vec<u8>, Error>
-    ensures ok { IfOk result (λ v. AreBytesLeftBy geometry entries.now v.items) }
-    ensures err { IfErr result (λ e. e ≢ Error.NoMemory → RefusesEntries geometry entries.now e) }
+    ensures ok { IfOk result (λ v. AreImageBytesOfEntries geometry entries.now v.items) }
+    ensures err { IfErr result (λ e. e ≢ Error.NoMemory → RefusesCopyOfEntries geometry entries.now e) }
 {
     let mut session = begin(alloc, geometry)?;
     carry_over(alloc, &mut session, entries)?;
@@ -68,26 +68,26 @@ pub(crate) fn make(
 ///   more than 2147483647.
 /// - `Fs(NoMemory)` where memory isn't granted.
 /// - `Output` where the writer failed. What was written is then a beginning of the image.
-pub fn create<S: Source, W: Writer>(
+pub fn create<S: Source, W: ToolOutput>(
     alloc: Global,
     source: &mut S,
     geometry: Geometry,
     out: &mut W,
 ) -> Result<(), ToolError>
-    ensures ok { OnOk result (HasWrittenImageOf geometry (S.shown source.old) (W.contents out.old) (W.contents out.new)) }
+    ensures ok { OnOk result (HasWrittenImageOfSource geometry (S.shown source.old) (W.contents out.old) (W.contents out.new)) }
 
     // The writer isn't called, unless it fails: then a beginning of the image may be written.
-    ensures writer { ReportsWriter W.Writer out.old out.new result }
+    ensures writer { ReportsWriterFaults W.Writer out.old out.new result }
     ensures beginning { IsErrOf result ToolError.Output
-        → IsBeginningOfImage geometry (S.shown source.old) (W.contents out.old) (W.contents out.new) }
+        → HasWrittenBeginningOfImage geometry (S.shown source.old) (W.contents out.old) (W.contents out.new) }
 
     // When each other error comes.
-    ensures refused { (e : _) → IsErrOf result (ToolError.Fs e) → e ≢ Error.NoMemory → HasRefusal geometry (S.shown source.old) e }
-    ensures source { ReportsSource (S.faults source.old) (S.faults source.new) (S.shown source.old) result }
+    ensures refused { (e : _) → IsErrOf result (ToolError.Fs e) → e ≢ Error.NoMemory → RefusesCopyOfSource geometry (S.shown source.old) e }
+    ensures source { ReportsSourceFaults (S.faults source.old) (S.faults source.new) (S.shown source.old) result }
 {
-    let entries = read_source(alloc, source)?;
-    match make(alloc, geometry, entries.as_slice()) {
-        Ok(image) => write_bytes(out, image.as_slice()),
+    let entries = read_source_entries(alloc, source)?;
+    match image_bytes_of_entries(alloc, geometry, entries.as_slice()) {
+        Ok(image) => write_bytes_and_flush(out, image.as_slice()),
         Err(error) => Err(ToolError::Fs(error)),
     }
 }

@@ -20,9 +20,9 @@ pub struct Cutter {
 
 impl Cutter {
     ghost use Rattle.std.specs.Prelude.{◌≡◌, IfOk};
-    ghost use Rattle.lfs_tool.specs.ExcerptBlocks.{block_shown};
+    ghost use Rattle.lfs_tool.specs.ExcerptBlocks.{block_of_excerpt};
     ghost use Rattle.lfs_tool.specs.ExcerptView.{cutter_block_size};
-    ghost use Rattle.lfs_tool.specs.Excerpt.{IsBlockExcerpt, is_kept_whole, kept_bytes};
+    ghost use Rattle.lfs_tool.specs.Excerpt.{IsBlockExcerpt, is_block_kept_whole, kept_byte_count};
 
     /// Makes a cutter for blocks of so many bytes, at least 132.
     ///
@@ -43,12 +43,12 @@ impl Cutter {
     /// Errors: `NoMemory` where memory for the excerpt isn't granted.
     pub fn cut(&mut self, alloc: Global, block: &[u8]) -> Result<BlockExcerpt, Error>
         requires { length block.now ≡ cutter_block_size self.old }
-        ensures excerpt { IfOk result (λ b. IsBlockExcerpt block.now (block_shown b)) }
-        ensures sizes { IfOk result (λ b. (b.size ≡ length block.now) × (length b.bytes.items ≡ kept_bytes block.now)) }
+        ensures excerpt { IfOk result (λ b. IsBlockExcerpt block.now (block_of_excerpt b)) }
+        ensures sizes { IfOk result (λ b. (b.size ≡ length block.now) × (length b.bytes.items ≡ kept_byte_count block.now)) }
         ensures same { cutter_block_size self.new ≡ cutter_block_size self.old }
         ensures err { IfErr result (λ e. e ≡ Error.NoMemory) }
     {
-        let len = if self.keeps_whole(block) {
+        let len = if self.must_keep_whole_block(block) {
             block.len()
         } else {
             POINTER_BYTES
@@ -58,22 +58,22 @@ impl Cutter {
     }
 
     // Returns whether the block has a commit, or would have one with 0xff after its first bytes.
-    fn keeps_whole(&mut self, block: &[u8]) -> bool
+    fn must_keep_whole_block(&mut self, block: &[u8]) -> bool
         requires size { length block.now ≡ cutter_block_size self.old }
         requires room { 132 ≤ length block.now }
-        ensures is { result ≡ is_kept_whole block.now }
+        ensures is { result ≡ is_block_kept_whole block.now }
         ensures same { cutter_block_size self.new ≡ cutter_block_size self.old }
     {
         if Log::read(block).has_commit() {
             return true;
         }
-        put_front(&mut self.padded, &block[..POINTER_BYTES]);
+        overwrite_first_bytes(&mut self.padded, &block[..POINTER_BYTES]);
         Log::read(&self.padded).has_commit()
     }
 }
 
 // Writes bytes over the first ones.
-fn put_front(all: &mut Vec<u8>, bytes: &[u8])
+fn overwrite_first_bytes(all: &mut Vec<u8>, bytes: &[u8])
     requires { length bytes.now ≤ length all.old.items }
     ensures { all.new.items ≡ bytes.now ++ drop (length bytes.now) all.old.items }
 {

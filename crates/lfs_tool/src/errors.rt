@@ -1,7 +1,7 @@
 ghost use Rattle.std.specs.Prelude.{◌≡◌};
-ghost use Rattle.lfs_tool.specs.Errors.{tool_line, tool_status};
+ghost use Rattle.lfs_tool.specs.Errors.{tool_error_line, tool_error_status};
 
-use crate::line_text::{LineText, error_text, text_of};
+use crate::line_text::{LineText, error_text, line_text_of_str};
 use lfs_device::Error;
 use lfs_tool_line::LineError;
 
@@ -44,18 +44,18 @@ impl From<Error> for ToolError {
 impl ToolError {
     // Returns the line for the error.
     pub(crate) fn line(self) -> LineText
-        ensures { result.bytes ≡ tool_line self }
+        ensures { result.bytes ≡ tool_error_line self }
     {
         match self {
             ToolError::Fs(error) => error_text(error),
-            ToolError::Input => text_of("error: input\n"),
-            ToolError::Output => text_of("error: output\n"),
+            ToolError::Input => line_text_of_str("error: input\n"),
+            ToolError::Output => line_text_of_str("error: output\n"),
         }
     }
 
     // Returns the status with which the program ends.
     pub(crate) fn status(self) -> u8
-        ensures { result ≡ tool_status self }
+        ensures { result ≡ tool_error_status self }
     {
         match self {
             ToolError::Fs(_) => 1,

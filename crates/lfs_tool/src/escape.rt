@@ -16,7 +16,7 @@ fn digit(value: u8) -> u8
     }
 }
 
-fn push_byte(text: &mut Vec<u8>, byte: u8) -> Result<(), AllocError>
+fn push_escaped_byte(text: &mut Vec<u8>, byte: u8) -> Result<(), AllocError>
     ensures { OnOk result (text.new.items ≡ text.old.items ++ escaped byte) }
 {
     if (0x20..=0x7e).contains(&byte) && byte != b'\\' {
@@ -29,11 +29,11 @@ fn push_byte(text: &mut Vec<u8>, byte: u8) -> Result<(), AllocError>
 }
 
 // Adds the path as a list shows it.
-pub(crate) fn escape_path(text: &mut Vec<u8>, path: &[u8]) -> Result<(), AllocError>
+pub(crate) fn push_escaped_path(text: &mut Vec<u8>, path: &[u8]) -> Result<(), AllocError>
     ensures { OnOk result (text.new.items ≡ text.old.items ++ escaped_text path.now) }
 {
     for byte in path {
-        push_byte(text, *byte)?;
+        push_escaped_byte(text, *byte)?;
     }
     Ok(())
 }

@@ -1,9 +1,9 @@
 ghost use Rattle.std.specs.Prelude.{◌≡◌, ◌≤◌, ◌<◌, ◌+◌, ◌%◌, [], ◌∷◌, true, false, length, slice_range, All, IsOk, IsErrOf};
-ghost use Rattle.lfs_model.specs.Blocks.{block_in};
-ghost use Rattle.lfs_model.specs.History.{event, AllUnprogrammed, IsNewest};
+ghost use Rattle.lfs_model.specs.Blocks.{block_bytes_in};
+ghost use Rattle.lfs_model.specs.History.{call_event_with, AreBytesUnprogrammed, IsLeftByNewestCall};
 ghost use Rattle.lfs_model.specs.History.Call.{Read, Program, Erase};
-ghost use Rattle.lfs_model.specs.Conformance.{AllConform};
-ghost use Rattle.lfs_tool.specs.ExcerptBlocks.{HasRead, HaveSize, blocks_shown};
+ghost use Rattle.lfs_model.specs.Conformance.{AreConformingCalls};
+ghost use Rattle.lfs_tool.specs.ExcerptBlocks.{IsNoFailedRead, AreExcerptsOfBlockSize, blocks_of_excerpts};
 
 use crate::BlockExcerpt;
 use lfs_device::{BlockDevice, Error, Geometry, Trace};
@@ -17,10 +17,10 @@ pub struct Excerpt {
     blocks: Vec<BlockExcerpt>,
     trace: Trace,
     ghost count: { length blocks.items ≡ geometry.block_count },
-    ghost sizes: { HaveSize geometry.block_size blocks.items },
-    pub ghost has_read: { All HasRead trace.events },
-    ghost newest: { IsNewest trace.events (blocks_shown blocks.items) },
-    ghost conforms: { AllConform trace.events },
+    ghost sizes: { AreExcerptsOfBlockSize geometry.block_size blocks.items },
+    pub ghost has_read: { All IsNoFailedRead trace.events },
+    ghost newest: { IsLeftByNewestCall trace.events (blocks_of_excerpts blocks.items) },
+    ghost conforms: { AreConformingCalls trace.events },
 }
 
 impl Excerpt {
@@ -29,9 +29,9 @@ impl Excerpt {
     /// Makes the device of these blocks. There are as many as the geometry has, of its size.
     pub fn new(geometry: Geometry, blocks: Vec<BlockExcerpt>) -> Excerpt
         requires count { length blocks.items ≡ geometry.block_count }
-        requires sizes { HaveSize geometry.block_size blocks.items }
+        requires sizes { AreExcerptsOfBlockSize geometry.block_size blocks.items }
         ensures geometry { geometry_of result ≡ geometry }
-        ensures blocks { excerpt_blocks result ≡ blocks_shown blocks.items }
+        ensures blocks { excerpt_blocks result ≡ blocks_of_excerpts blocks.items }
         ensures no_call { history_of result ≡ [] }
     {
         Excerpt {
@@ -44,7 +44,7 @@ impl Excerpt {
 
 impl BlockDevice for Excerpt {
     ghost use Rattle.lfs_tool.specs.ExcerptView.{excerpt_blocks, geometry_of, history_of};
-    ghost use Rattle.lfs_tool.specs.ExcerptShape.{bytes_shown, divided_shown};
+    ghost use Rattle.lfs_tool.specs.ExcerptShape.{bytes_shown, excerpts_show_blocks_of_size};
 
     ghost geometry = { geometry_of };
 
@@ -52,7 +52,7 @@ impl BlockDevice for Excerpt {
 
     ghost history = { history_of };
 
-    ghost shape = { λ e. divided_shown e.geometry.block_size e.geometry.block_count e.blocks.items e.count e.sizes };
+    ghost shape = { λ e. excerpts_show_blocks_of_size e.geometry.block_size e.geometry.block_count e.blocks.items e.count e.sizes };
 
     ghost bytes = { λ e. bytes_shown e.blocks.items };
 
@@ -68,10 +68,10 @@ impl BlockDevice for Excerpt {
         requires in_device { block < (geometry_of self.old).block_count }
         requires in_block { off + length buf.old ≤ (geometry_of self.old).block_size }
         ensures ok { IsOk result }
-        ensures bytes { buf.new ≡ slice_range (block_in (excerpt_blocks self.old) block) off (off + length buf.old) }
+        ensures bytes { buf.new ≡ slice_range (block_bytes_in (excerpt_blocks self.old) block) off (off + length buf.old) }
         ensures same { excerpt_blocks self.new ≡ excerpt_blocks self.old }
         ensures geometry { geometry_of self.new ≡ geometry_of self.old }
-        ensures history { history_of self.new ≡ event (Read block off (length buf.old)) (excerpt_blocks self.old) (excerpt_blocks self.new) false ∷ history_of self.old }
+        ensures history { history_of self.new ≡ call_event_with (Read block off (length buf.old)) (excerpt_blocks self.old) (excerpt_blocks self.new) false ∷ history_of self.old }
     {
         self.blocks[block as usize].read(off as usize, buf);
         self.trace = Trace::from_proof(self, &(block, off, buf.len()));
@@ -83,11 +83,11 @@ impl BlockDevice for Excerpt {
         requires in_block { off + length bytes.now ≤ (geometry_of self.old).block_size }
         requires begins { off % (geometry_of self.old).page ≡ 0 }
         requires ends { (off + length bytes.now) % (geometry_of self.old).page ≡ 0 }
-        requires unprogrammed { AllUnprogrammed (history_of self.old) block off (off + length bytes.now) }
+        requires unprogrammed { AreBytesUnprogrammed (history_of self.old) block off (off + length bytes.now) }
         ensures err { IsErrOf result Error.Io }
         ensures same { excerpt_blocks self.new ≡ excerpt_blocks self.old }
         ensures geometry { geometry_of self.new ≡ geometry_of self.old }
-        ensures history { history_of self.new ≡ event (Program block off bytes.now) (excerpt_blocks self.old) (excerpt_blocks self.new) true ∷ history_of self.old }
+        ensures history { history_of self.new ≡ call_event_with (Program block off bytes.now) (excerpt_blocks self.old) (excerpt_blocks self.new) true ∷ history_of self.old }
     {
         self.trace = Trace::from_proof(self, &(block, off, bytes));
         Err(Error::Io)
@@ -98,7 +98,7 @@ impl BlockDevice for Excerpt {
         ensures err { IsErrOf result Error.Io }
         ensures same { excerpt_blocks self.new ≡ excerpt_blocks self.old }
         ensures geometry { geometry_of self.new ≡ geometry_of self.old }
-        ensures history { history_of self.new ≡ event (Erase block) (excerpt_blocks self.old) (excerpt_blocks self.new) true ∷ history_of self.old }
+        ensures history { history_of self.new ≡ call_event_with (Erase block) (excerpt_blocks self.old) (excerpt_blocks self.new) true ∷ history_of self.old }
     {
         self.trace = Trace::from_proof(self, &block);
         Err(Error::Io)

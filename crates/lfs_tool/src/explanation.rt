@@ -1,13 +1,13 @@
 // The cause for which a call failed, and its lines.
 
 ghost use Rattle.std.specs.Prelude.{◌≡◌, ◌++◌, IfOk, OnOk};
-ghost use Rattle.lfs_tool.specs.Explained.{enough_text, explanation_text, fault_text, needed_text, rule_text};
+ghost use Rattle.lfs_tool.specs.Explained.{enough_blocks_text, explanation_text, path_fault_text, needed_blocks_text, broken_size_rule_text};
 
 use crate::check_result::Checked;
 use crate::checked_lines::{checked_lines, push_number, push_text};
-use crate::escape::escape_path;
+use crate::escape::push_escaped_path;
 use crate::needed_blocks::NeededBlocks;
-use lfs_tool_folders::PlaceFault;
+use lfs_tool_folders::PathFault;
 use lfs_tool_line::{SizeRule, Sizes};
 use std::alloc::{AllocError, Global};
 
@@ -15,7 +15,7 @@ use std::alloc::{AllocError, Global};
 #[derive(Drop)]
 pub enum Explanation {
     /// A file or a folder met this fault.
-    Place(PlaceFault),
+    Place(PathFault),
     /// What a check says of the image.
     Checked(Checked),
     /// The sizes, and a rule that they break.
@@ -27,19 +27,23 @@ pub enum Explanation {
 }
 
 // Adds the line of a fault: its path, and what is wrong there.
-fn push_fault(text: &mut Vec<u8>, fault: &PlaceFault) -> Result<(), AllocError>
-    ensures { OnOk result (text.new.items ≡ text.old.items ++ fault_text fault.now) }
+fn push_path_fault(text: &mut Vec<u8>, fault: &PathFault) -> Result<(), AllocError>
+    ensures { OnOk result (text.new.items ≡ text.old.items ++ path_fault_text fault.now) }
 {
-    escape_path(text, &fault.path)?;
+    push_escaped_path(text, &fault.path)?;
     text.extend_from_slice(b": ")?;
-    escape_path(text, &fault.words)?;
+    push_escaped_path(text, &fault.words)?;
     text.push(b'\n')?;
     Ok(())
 }
 
 // Adds the line of a rule that is broken.
-fn push_rule(text: &mut Vec<u8>, sizes: Sizes, rule: Option<SizeRule>) -> Result<(), AllocError>
-    ensures { OnOk result (text.new.items ≡ text.old.items ++ rule_text sizes rule) }
+fn push_broken_size_rule(
+    text: &mut Vec<u8>,
+    sizes: Sizes,
+    rule: Option<SizeRule>,
+) -> Result<(), AllocError>
+    ensures { OnOk result (text.new.items ≡ text.old.items ++ broken_size_rule_text sizes rule) }
 {
     match rule {
         Some(rule) => sizes.push_line(text, rule),
@@ -48,8 +52,8 @@ fn push_rule(text: &mut Vec<u8>, sizes: Sizes, rule: Option<SizeRule>) -> Result
 }
 
 // Adds how many blocks are enough.
-fn push_enough(text: &mut Vec<u8>, enough: Option<u32>) -> Result<(), AllocError>
-    ensures { OnOk result (text.new.items ≡ text.old.items ++ enough_text enough) }
+fn push_enough_blocks(text: &mut Vec<u8>, enough: Option<u32>) -> Result<(), AllocError>
+    ensures { OnOk result (text.new.items ≡ text.old.items ++ enough_blocks_text enough) }
 {
     match enough {
         Some(enough) => push_number(text, ", it takes ", enough as usize),
@@ -58,12 +62,12 @@ fn push_enough(text: &mut Vec<u8>, enough: Option<u32>) -> Result<(), AllocError
 }
 
 // Adds the line of blocks that are too few.
-fn push_needed(text: &mut Vec<u8>, needed: NeededBlocks) -> Result<(), AllocError>
-    ensures { OnOk result (text.new.items ≡ text.old.items ++ needed_text needed) }
+fn push_needed_blocks(text: &mut Vec<u8>, needed: NeededBlocks) -> Result<(), AllocError>
+    ensures { OnOk result (text.new.items ≡ text.old.items ++ needed_blocks_text needed) }
 {
     push_number(text, "", needed.blocks as usize)?;
     push_text(text, " blocks are too few")?;
-    push_enough(text, needed.enough)?;
+    push_enough_blocks(text, needed.enough)?;
     text.push(b'\n')?;
     Ok(())
 }
@@ -77,10 +81,10 @@ pub(crate) fn explanation_lines(
 {
     let mut text = Vec::new(alloc);
     match explanation {
-        Explanation::Place(fault) => push_fault(&mut text, fault)?,
+        Explanation::Place(fault) => push_path_fault(&mut text, fault)?,
         Explanation::Checked(checked) => return checked_lines(alloc, checked),
-        Explanation::Sizes(sizes, rule) => push_rule(&mut text, *sizes, *rule)?,
-        Explanation::Blocks(needed) => push_needed(&mut text, *needed)?,
+        Explanation::Sizes(sizes, rule) => push_broken_size_rule(&mut text, *sizes, *rule)?,
+        Explanation::Blocks(needed) => push_needed_blocks(&mut text, *needed)?,
         Explanation::Nothing => {}
     }
     Ok(text)

@@ -3,16 +3,17 @@
 ghost use Rattle.std.specs.Prelude.{◌≡◌, ◌⊎◌, IfErr, IfOk, IfSome, length, map, take};
 ghost use Rattle.std.specs.Io.KnownBytes.{Appends};
 ghost use Rattle.std.specs.String.{string_bytes};
-ghost use Rattle.lfs_tool.specs.Explained.{FailsToCount, FailsToReadImage, HasBlocks, HasBroken, HasChecked, HasSize, IsExplained, IsExplanation, IsFaultOrNothing, IsFollowed, IsUnexplained, NeedsBlocks};
-ghost use Rattle.lfs_tool.specs.KnownBytes.{AppendsBeginning};
-ghost use Rattle.lfs_tool.specs.RunsAtPaths.{HoldsAtPath, HoldsForMode};
+ghost use Rattle.lfs_tool.specs.Explained.{FailsToCountNeededBlocks, FailsToReadImage, ExplainsTooFewBlocks, ExplainsBrokenSizeRule, ExplainsByCheck, IsImageSizeOfLine, WritesExplanation, ExplainsError, IsPathFaultOrNothing, IsFollowed, IsErrorInsteadOfExplanation, ExplainsNeededBlocksOfFolder};
+ghost use Rattle.lfs_tool.specs.KnownBytes.{AppendsBeginningOfBytes};
+ghost use Rattle.lfs_tool.specs.RunsAtPaths.{IsTrueAtPath, IsTrueForMode};
 
-use crate::creation::read_source;
+use crate::creation::read_source_entries;
 use crate::explanation::{Explanation, explanation_lines};
 use crate::input::{IMAGE_MAX, read_image};
-use crate::needed_blocks::{NeededBlocks, enough_blocks};
+use crate::needed_blocks::{NeededBlocks, enough_block_count_for_entries};
 use crate::{
-    Fault, Line, Mode, Places, ToolError, Writer, examine, geometry_for, read_line, write_bytes,
+    Fault, Line, Mode, Places, ToolError, ToolOutput, check_result_of_image,
+    geometry_of_image_sizes, read_line, write_bytes_and_flush,
 };
 use lfs_device::Error;
 use lfs_tool_line::Sizes;
@@ -20,8 +21,12 @@ use std::alloc::Global;
 
 // Returns the size in bytes of the image at a line's path.
 #[tactic(auto, using(crate::proofs::Placing::image_fails))]
-fn image_size<P: Places>(alloc: Global, places: &P, line: &Line<'_>) -> Result<usize, ToolError>
-    ensures size { IfOk result (λ size. HoldsAtPath P.image_path line.now.image.now (λ i. IfSome (P.Image.remaining i) (λ image. size ≡ length (take 268435457 image)))) }
+fn image_size_at_path<P: Places>(
+    alloc: Global,
+    places: &P,
+    line: &Line<'_>,
+) -> Result<usize, ToolError>
+    ensures size { IfOk result (λ size. IsTrueAtPath P.image_path line.now.image.now (λ i. IfSome (P.Image.remaining i) (λ image. size ≡ length (take 268435457 image)))) }
     ensures err { IfErr result (FailsToReadImage P.image_path P.Image.faults line.now) }
 {
     let mut image = places.image(line.image)?;
@@ -30,22 +35,30 @@ fn image_size<P: Places>(alloc: Global, places: &P, line: &Line<'_>) -> Result<u
 }
 
 // Returns the size in bytes of a line's image: of the one to be made, or of the one that is there.
-fn size_at<P: Places>(alloc: Global, places: &P, line: &Line<'_>) -> Result<usize, ToolError>
-    ensures size { IfOk result (HasSize P.image_path P.Image.remaining line.now) }
-    ensures err { IfErr result (λ e. HoldsForMode line.now.mode (FailsToReadImage P.image_path P.Image.faults line.now e) (FailsToReadImage P.image_path P.Image.faults line.now e) (λ _. ⊥) (λ _. FailsToReadImage P.image_path P.Image.faults line.now e)) }
+fn image_size_of_line<P: Places>(
+    alloc: Global,
+    places: &P,
+    line: &Line<'_>,
+) -> Result<usize, ToolError>
+    ensures size { IfOk result (IsImageSizeOfLine P.image_path P.Image.remaining line.now) }
+    ensures err { IfErr result (λ e. IsTrueForMode line.now.mode (FailsToReadImage P.image_path P.Image.faults line.now e) (FailsToReadImage P.image_path P.Image.faults line.now e) (λ _. ⊥) (λ _. FailsToReadImage P.image_path P.Image.faults line.now e)) }
 {
     match line.mode {
         Mode::Create(_) => Ok(line.size as usize),
-        Mode::Unpack(_) | Mode::List | Mode::Check => image_size(alloc, places, line),
+        Mode::Unpack(_) | Mode::List | Mode::Check => image_size_at_path(alloc, places, line),
     }
 }
 
 // Returns the sizes of that image, and the rule that they break.
-fn sizes_at<P: Places>(alloc: Global, places: &P, line: &Line<'_>) -> Result<Explanation, ToolError>
-    ensures sizes { IfOk result (HasBroken P.image_path P.Image.remaining line.now) }
-    ensures err { IfErr result (λ e. HoldsForMode line.now.mode (FailsToReadImage P.image_path P.Image.faults line.now e) (FailsToReadImage P.image_path P.Image.faults line.now e) (λ _. ⊥) (λ _. FailsToReadImage P.image_path P.Image.faults line.now e)) }
+fn explanation_by_sizes<P: Places>(
+    alloc: Global,
+    places: &P,
+    line: &Line<'_>,
+) -> Result<Explanation, ToolError>
+    ensures sizes { IfOk result (ExplainsBrokenSizeRule P.image_path P.Image.remaining line.now) }
+    ensures err { IfErr result (λ e. IsTrueForMode line.now.mode (FailsToReadImage P.image_path P.Image.faults line.now e) (FailsToReadImage P.image_path P.Image.faults line.now e) (λ _. ⊥) (λ _. FailsToReadImage P.image_path P.Image.faults line.now e)) }
 {
-    let size = size_at(alloc, places, line)?;
+    let size = image_size_of_line(alloc, places, line)?;
     let sizes = Sizes {
         size,
         block_size: line.block_size,
@@ -56,22 +69,22 @@ fn sizes_at<P: Places>(alloc: Global, places: &P, line: &Line<'_>) -> Result<Exp
 
 // Returns what a check says of the image.
 #[tactic(auto, using(crate::proofs::Placing::image_fails))]
-fn checked_at<P: Places>(
+fn explanation_by_check<P: Places>(
     alloc: Global,
     places: &P,
     line: &Line<'_>,
 ) -> Result<Explanation, ToolError>
-    ensures checked { IfOk result (HasChecked P.image_path P.Image.remaining line.now) }
+    ensures checked { IfOk result (ExplainsByCheck P.image_path P.Image.remaining line.now) }
     ensures err { IfErr result (FailsToReadImage P.image_path P.Image.faults line.now) }
 {
     let mut image = places.image(line.image)?;
-    let checked = examine(alloc, &mut image, line.block_size, line.page)?;
+    let checked = check_result_of_image(alloc, &mut image, line.block_size, line.page)?;
     Ok(Explanation::Checked(checked))
 }
 
 // Returns the fault that a file or a folder met.
-fn fault_at<P: Places>(places: &P) -> Explanation
-    ensures { IsFaultOrNothing result }
+fn explanation_by_fault<P: Places>(places: &P) -> Explanation
+    ensures { IsPathFaultOrNothing result }
 {
     match places.fault() {
         Some(fault) => Explanation::Place(fault),
@@ -81,20 +94,20 @@ fn fault_at<P: Places>(places: &P) -> Explanation
 
 // Returns how many blocks the image of a folder takes.
 #[tactic(auto, using(crate::proofs::Placing::folder_fails))]
-fn needed_at<P: Places>(
+fn explanation_by_needed_blocks<P: Places>(
     alloc: Global,
     places: &P,
     line: &Line<'_>,
     folder: &str,
 ) -> Result<Explanation, ToolError>
-    ensures blocks { IfOk result (NeedsBlocks P.folder_path P.folder_limit P.Folder.shown line.now folder.now) }
-    ensures err { IfErr result (FailsToCount P.folder_path P.Folder.faults P.Folder.shown line.now folder.now) }
+    ensures blocks { IfOk result (ExplainsNeededBlocksOfFolder P.folder_path P.folder_limit P.Folder.shown line.now folder.now) }
+    ensures err { IfErr result (FailsToCountNeededBlocks P.folder_path P.Folder.faults P.Folder.shown line.now folder.now) }
 {
-    let geometry = geometry_for(line.size, line.block_size, line.page)?;
+    let geometry = geometry_of_image_sizes(line.size, line.block_size, line.page)?;
     let mut source = places.folder(folder, IMAGE_MAX as u32)?;
-    let entries = read_source(alloc, &mut source)?;
+    let entries = read_source_entries(alloc, &mut source)?;
     let blocks = geometry.block_count;
-    let enough = enough_blocks(alloc, line, entries.as_slice(), blocks);
+    let enough = enough_block_count_for_entries(alloc, line, entries.as_slice(), blocks);
     Ok(Explanation::Blocks(NeededBlocks { blocks, enough }))
 }
 
@@ -104,11 +117,11 @@ fn blocks_at<P: Places>(
     places: &P,
     line: &Line<'_>,
 ) -> Result<Explanation, ToolError>
-    ensures blocks { IfOk result (HasBlocks P.folder_path P.folder_limit P.Folder.shown line.now) }
-    ensures err { IfErr result (λ e. HoldsForMode line.now.mode ⊥ ⊥ (λ folder. FailsToCount P.folder_path P.Folder.faults P.Folder.shown line.now folder e) (λ _. ⊥)) }
+    ensures blocks { IfOk result (ExplainsTooFewBlocks P.folder_path P.folder_limit P.Folder.shown line.now) }
+    ensures err { IfErr result (λ e. IsTrueForMode line.now.mode ⊥ ⊥ (λ folder. FailsToCountNeededBlocks P.folder_path P.Folder.faults P.Folder.shown line.now folder e) (λ _. ⊥)) }
 {
     match line.mode {
-        Mode::Create(folder) => needed_at(alloc, places, line, folder),
+        Mode::Create(folder) => explanation_by_needed_blocks(alloc, places, line, folder),
         Mode::Unpack(_) | Mode::List | Mode::Check => Ok(Explanation::Nothing),
     }
 }
@@ -120,53 +133,53 @@ fn blocks_at<P: Places>(
 /// `Fs(NoMemory)` where memory isn't granted. `Fs(Invalid)` where the error is `NoSpace` and no image has
 /// the line's sizes. None of them comes where the error is another one than `Invalid`, `Corrupt` and
 /// `NoSpace`.
-pub fn explanation_of<P: Places>(
+pub fn explanation_of_error<P: Places>(
     alloc: Global,
     places: &P,
     line: &Line<'_>,
     error: ToolError,
 ) -> Result<Explanation, ToolError>
-    ensures ok { IfOk result (IsExplanation P.image_path P.Image.remaining P.folder_path P.folder_limit P.Folder.shown line.now error) }
-    ensures err { IfErr result (IsUnexplained P.image_path P.Image.faults P.folder_path P.Folder.faults P.Folder.shown line.now error) }
+    ensures ok { IfOk result (ExplainsError P.image_path P.Image.remaining P.folder_path P.folder_limit P.Folder.shown line.now error) }
+    ensures err { IfErr result (IsErrorInsteadOfExplanation P.image_path P.Image.faults P.folder_path P.Folder.faults P.Folder.shown line.now error) }
 {
     match error {
-        ToolError::Input | ToolError::Output => Ok(fault_at(places)),
-        ToolError::Fs(Error::Invalid) => sizes_at(alloc, places, line),
-        ToolError::Fs(Error::Corrupt) => checked_at(alloc, places, line),
+        ToolError::Input | ToolError::Output => Ok(explanation_by_fault(places)),
+        ToolError::Fs(Error::Invalid) => explanation_by_sizes(alloc, places, line),
+        ToolError::Fs(Error::Corrupt) => explanation_by_check(alloc, places, line),
         ToolError::Fs(Error::NoSpace) => blocks_at(alloc, places, line),
         ToolError::Fs(_) => Ok(Explanation::Nothing),
     }
 }
 
 // Writes lines. A failed write is ignored.
-fn say_lines<E: Writer>(err: &mut E, lines: &[u8])
-    ensures beginning { AppendsBeginning (E.contents err.old) (E.contents err.new) lines.now }
+fn write_explanation_lines<E: ToolOutput>(err: &mut E, lines: &[u8])
+    ensures beginning { AppendsBeginningOfBytes (E.contents err.old) (E.contents err.new) lines.now }
     ensures whole { E.faults err.new ≡ E.faults err.old → Appends (E.contents err.old) (E.contents err.new) lines.now × (E.pending err.new ≡ 0) }
 {
-    let _ = write_bytes(err, lines);
+    let _ = write_bytes_and_flush(err, lines);
 }
 
 // Writes the cause for which a line ended in this error. Nothing is written where it isn't found out.
-fn explain_error<P: Places, E: Writer>(
+fn explain_error<P: Places, E: ToolOutput>(
     alloc: Global,
     places: &P,
     line: &Line<'_>,
     error: ToolError,
     err: &mut E,
 )
-    ensures { (err.new ≡ err.old) ⊎ IsExplained P.image_path P.Image.remaining P.folder_path P.folder_limit P.Folder.shown E.Writer line.now error err.old err.new }
+    ensures { (err.new ≡ err.old) ⊎ WritesExplanation P.image_path P.Image.remaining P.folder_path P.folder_limit P.Folder.shown E.Writer line.now error err.old err.new }
 {
-    let Ok(explanation) = explanation_of(alloc, places, line, error) else {
+    let Ok(explanation) = explanation_of_error(alloc, places, line, error) else {
         return;
     };
     let Ok(text) = explanation_lines(alloc, &explanation) else {
         return;
     };
-    say_lines(err, text.as_slice());
+    write_explanation_lines(err, text.as_slice());
 }
 
 // Writes the cause after the line of a fault, where the words request it.
-pub(crate) fn explain<P: Places, E: Writer>(
+pub(crate) fn explain<P: Places, E: ToolOutput>(
     alloc: Global,
     places: &P,
     words: &[String],

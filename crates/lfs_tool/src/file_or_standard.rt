@@ -1,7 +1,7 @@
 ghost use Rattle.std.specs.Prelude.{◌≡◌, IfOk};
 ghost use Rattle.std.specs.Io.{ReadsAtMost, WritesAtMost};
 ghost use Rattle.std.specs.Io.KnownBytes.{Keeps, ReadConsumes, WriteAppends};
-ghost use Rattle.lfs_tool.specs.StandardStreams.{bytes_by, is_standard, names_standard};
+ghost use Rattle.lfs_tool.specs.StandardStreams.{bytes_of_file_or_standard, is_standard_stream, is_path_of_standard_stream};
 
 use std::io;
 use std::io::{ErrorKind, Read, Write};
@@ -17,7 +17,7 @@ pub enum FileOrStandard<F, S> {
 
 // Returns whether a path names a standard stream.
 pub(crate) fn names_standard(path: &str) -> bool
-    ensures { result ≡ names_standard path.now }
+    ensures { result ≡ is_path_of_standard_stream path.now }
 {
     path == "-"
 }
@@ -31,12 +31,12 @@ fn was_taken() -> io::Error {
 }
 
 impl<F: Read, S: Read> Read for FileOrStandard<F, S> {
-    ghost remaining = { bytes_by F.remaining S.remaining };
+    ghost remaining = { bytes_of_file_or_standard F.remaining S.remaining };
 
     fn read(&mut self, buf: &mut [u8]) -> io::Result<usize>
         ensures bound { ReadsAtMost result buf.new }
-        ensures bytes { ReadConsumes (bytes_by F.remaining S.remaining self.old) (bytes_by F.remaining S.remaining self.new) result buf.new }
-        ensures kind { is_standard self.new ≡ is_standard self.old }
+        ensures bytes { ReadConsumes (bytes_of_file_or_standard F.remaining S.remaining self.old) (bytes_of_file_or_standard F.remaining S.remaining self.new) result buf.new }
+        ensures kind { is_standard_stream self.new ≡ is_standard_stream self.old }
     {
         match self {
             FileOrStandard::File(file) => file.read(buf),
@@ -47,12 +47,12 @@ impl<F: Read, S: Read> Read for FileOrStandard<F, S> {
 }
 
 impl<F: Write, S: Write> Write for FileOrStandard<F, S> {
-    ghost contents = { bytes_by F.contents S.contents };
+    ghost contents = { bytes_of_file_or_standard F.contents S.contents };
 
     fn write(&mut self, buf: &[u8]) -> io::Result<usize>
         ensures bound { WritesAtMost result buf.now }
-        ensures bytes { WriteAppends (bytes_by F.contents S.contents self.old) (bytes_by F.contents S.contents self.new) result buf.now }
-        ensures kind { is_standard self.new ≡ is_standard self.old }
+        ensures bytes { WriteAppends (bytes_of_file_or_standard F.contents S.contents self.old) (bytes_of_file_or_standard F.contents S.contents self.new) result buf.now }
+        ensures kind { is_standard_stream self.new ≡ is_standard_stream self.old }
     {
         match self {
             FileOrStandard::File(file) => file.write(buf),
@@ -62,8 +62,8 @@ impl<F: Write, S: Write> Write for FileOrStandard<F, S> {
     }
 
     fn flush(&mut self) -> io::Result<()>
-        ensures bytes { Keeps (bytes_by F.contents S.contents self.old) (bytes_by F.contents S.contents self.new) }
-        ensures kind { is_standard self.new ≡ is_standard self.old }
+        ensures bytes { Keeps (bytes_of_file_or_standard F.contents S.contents self.old) (bytes_of_file_or_standard F.contents S.contents self.new) }
+        ensures kind { is_standard_stream self.new ≡ is_standard_stream self.old }
     {
         match self {
             FileOrStandard::File(file) => file.flush(),

@@ -2,7 +2,7 @@
 
 /// A slot of a pair of the thread.
 #[derive(Drop)]
-pub struct Place {
+pub struct NamedSlot {
     /// The pair's address, as the thread names it.
     pub pair: [u32; 2],
     /// The number of the slot in its pair.
@@ -14,7 +14,7 @@ pub struct Place {
 /// A number in a superblock's struct that is wrong for its image (SPEC.md of littlefs, "0x0ff
 /// LFS_TYPE_SUPERBLOCK").
 #[derive(Clone, Copy, Debug, PartialEq, Eq, Drop)]
-pub enum Stated {
+pub enum WrongNumber {
     /// Another size of a block, in bytes.
     BlockSize(u32),
     /// Another number of blocks.
@@ -57,7 +57,7 @@ pub enum Finding {
         slot: usize,
     },
     /// A slot has a name and no struct.
-    NoStruct(Place),
+    NoStruct(NamedSlot),
 
     // ---- the superblock's chain
     /// The root directory doesn't begin with a superblock.
@@ -69,15 +69,15 @@ pub enum Finding {
     /// A superblock of the chain has a wrong number.
     OtherFields {
         pair: [u32; 2],
-        stated: Stated,
+        stated: WrongNumber,
     },
 
     // ---- entries
     /// A superblock is elsewhere than in slot 0 of the chain.
-    SecondSuperblock(Place),
+    SecondSuperblock(NamedSlot),
     /// The kind of an entry doesn't match its struct.
-    OtherStruct(Place),
+    OtherStruct(NamedSlot),
     /// An entry has a name that isn't allowed: an empty one, or one of more than 255 bytes, with a
     /// byte 0 or a slash, or `.` or `..`.
-    BadName(Place),
+    BadName(NamedSlot),
 }

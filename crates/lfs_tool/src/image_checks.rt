@@ -2,16 +2,16 @@
 
 ghost use Rattle.std.specs.Prelude.{◌≡◌, IfOk, IfSome, IsErrOf};
 ghost use Rattle.std.specs.Io.KnownBytes.{Appends};
-ghost use Rattle.lfs_tool.specs.KnownBytes.{AppendsBeginning};
-ghost use Rattle.lfs_tool.specs.Reports.{IsReadToEnd, ReportsOnce, ReportsWriter};
-ghost use Rattle.lfs_tool.specs.CheckResults.{IsCheckedAs, is_accepted};
-ghost use Rattle.lfs_tool.specs.CheckedLines.{checked_text};
+ghost use Rattle.lfs_tool.specs.KnownBytes.{AppendsBeginningOfBytes};
+ghost use Rattle.lfs_tool.specs.Reports.{IsReadToEndOrPastImageLimit, IsErrorExactlyWithOneFault, ReportsWriterFaults};
+ghost use Rattle.lfs_tool.specs.CheckResults.{IsCheckResultOfBytes, is_accepted};
+ghost use Rattle.lfs_tool.specs.CheckedLines.{check_result_text};
 
 use crate::check_result::Checked;
 use crate::checked_lines::checked_lines;
-use crate::examination::examine;
-use crate::output::write_bytes;
-use crate::{Reader, ToolError, Writer};
+use crate::examination::check_result_of_image;
+use crate::output::write_bytes_and_flush;
+use crate::{ImageInput, ToolError, ToolOutput};
 use lfs_device::Error;
 use std::alloc::Global;
 
@@ -25,7 +25,7 @@ fn is_accepted(checked: &Checked) -> bool
     }
 }
 
-/// Writes what is wrong with an image, or what is in it, as `examine` finds it. Returns whether the
+/// Writes what is wrong with an image, or what is in it, as `check_result_of_image` finds it. Returns whether the
 /// image is accepted. Nothing is written before that is known. The writer is flushed at the end.
 ///
 /// Of an accepted image the lines are `ok`, `files <n>`, `directories <n>`, `used <n> of <m> blocks`,
@@ -36,7 +36,7 @@ fn is_accepted(checked: &Checked) -> bool
 /// - `Input` where the reader failed.
 /// - `Fs(NoMemory)` where memory isn't granted.
 /// - `Output` where the writer failed. What was written is then a beginning of the lines.
-pub fn check<R: Reader, W: Writer>(
+pub fn check<R: ImageInput, W: ToolOutput>(
     alloc: Global,
     image: &mut R,
     block_size: u32,
@@ -44,23 +44,23 @@ pub fn check<R: Reader, W: Writer>(
     out: &mut W,
 ) -> Result<bool, ToolError>
     ensures ok { IfOk result (λ accepted. IfSome (R.remaining image.old) (λ bytes.
-        (checked : _) × (IsCheckedAs block_size page bytes checked × (accepted ≡ is_accepted checked) × Appends (W.contents out.old) (W.contents out.new) (checked_text checked)))) }
+        (checked : _) × (IsCheckResultOfBytes block_size page bytes checked × (accepted ≡ is_accepted checked) × Appends (W.contents out.old) (W.contents out.new) (check_result_text checked)))) }
 
     // The writer isn't called, unless it fails: then a beginning of the lines may be written.
-    ensures writer { ReportsWriter W.Writer out.old out.new result }
+    ensures writer { ReportsWriterFaults W.Writer out.old out.new result }
     ensures beginning { IsErrOf result ToolError.Output → IfSome (R.remaining image.old) (λ bytes.
-        (checked : _) × (IsCheckedAs block_size page bytes checked × AppendsBeginning (W.contents out.old) (W.contents out.new) (checked_text checked))) }
+        (checked : _) × (IsCheckResultOfBytes block_size page bytes checked × AppendsBeginningOfBytes (W.contents out.old) (W.contents out.new) (check_result_text checked))) }
 
     // When each other error comes.
     ensures refused { (e : _) → IsErrOf result (ToolError.Fs e) → e ≡ Error.NoMemory }
-    ensures input { ReportsOnce ToolError.Input (R.faults image.old) (R.faults image.new) result }
-    ensures read { ¬ IsErrOf result ToolError.Input → ¬ IsErrOf result (ToolError.Fs Error.NoMemory) → IsReadToEnd (R.remaining image.old) (R.remaining image.new) }
+    ensures input { IsErrorExactlyWithOneFault ToolError.Input (R.faults image.old) (R.faults image.new) result }
+    ensures read { ¬ IsErrOf result ToolError.Input → ¬ IsErrOf result (ToolError.Fs Error.NoMemory) → IsReadToEndOrPastImageLimit (R.remaining image.old) (R.remaining image.new) }
 {
-    let checked = examine(alloc, image, block_size, page)?;
+    let checked = check_result_of_image(alloc, image, block_size, page)?;
     let text = match checked_lines(alloc, &checked) {
         Ok(text) => text,
         Err(_) => return Err(ToolError::Fs(Error::NoMemory)),
     };
-    write_bytes(out, text.as_slice())?;
+    write_bytes_and_flush(out, text.as_slice())?;
     Ok(is_accepted(&checked))
 }

@@ -2,19 +2,19 @@
 
 ghost use Rattle.std.specs.Prelude.{◌≡◌, ◌<◌, ◌/◌, ◌%◌, ◌^◌, [], List, IfErr, IfOk, OnOk, length};
 ghost use Rattle.lfs_device.specs.RamDevice.{ram_blocks, geometry_of, history_of};
-ghost use Rattle.lfs_device.specs.Shown.{disk_of as shown, ordered};
-ghost use Rattle.lfs_model.specs.Disk.{IsImage, disk_of};
-ghost use Rattle.lfs_model.specs.Geometry.{IsGeometry};
+ghost use Rattle.lfs_device.specs.Shown.{disk_of_geometry_and_blocks as shown, ordered};
+ghost use Rattle.lfs_model.specs.Disk.{IsImageOfWholeBlocks, disk_of_image};
+ghost use Rattle.lfs_model.specs.Geometry.{IsValidGeometry};
 ghost use Rattle.lfs_model.specs.Thread.{Pair};
-ghost use Rattle.lfs_model.specs.View.{IsAccepted};
+ghost use Rattle.lfs_model.specs.View.{IsAcceptedImage};
 ghost use Rattle.lfs_model.specs.declared.order.NameOrder.{NameOrder};
-ghost use Rattle.lfs_tool.specs.ExcerptBlocks.{HaveSize};
+ghost use Rattle.lfs_tool.specs.ExcerptBlocks.{AreExcerptsOfBlockSize};
 ghost use Rattle.lfs_tool.specs.ExcerptView as excerpt;
-ghost use Rattle.lfs_mount.specs.Device.{IsMountError};
-ghost use Rattle.lfs_mount.specs.Either.{GivesDeviceBack};
-ghost use Rattle.lfs_thread.specs.Kept.{disk_on};
-ghost use Rattle.lfs_tool.specs.Blocks.{IsShownAs};
-ghost use Rattle.lfs_tool.specs.Listings.{HasItems, IsNotMounted};
+ghost use Rattle.lfs_mount.specs.Device.{IsIoCorruptOrNoMemory};
+ghost use Rattle.lfs_mount.specs.Either.{ReturnsUnchangedDeviceWithError};
+ghost use Rattle.lfs_thread.specs.Kept.{disk_of_device};
+ghost use Rattle.lfs_tool.specs.Blocks.{ExcerptShowsBlocks};
+ghost use Rattle.lfs_tool.specs.Listings.{IsThreadWithWalkedPlaces, IsMountErrorOfDisk};
 ghost use Rattle.lfs_lookup.specs.Walk.{tree_items_view};
 
 use crate::{BlockExcerpt, Excerpt, excerpt_is_read_without_fault};
@@ -29,7 +29,7 @@ fn geometry_of(len: usize, block_size: u32, page: u32) -> Result<Geometry, Error
     requires { len < 2 ^ 32 }
     ensures sizes { IfOk result (λ g. (g.block_size ≡ block_size) × (g.page ≡ page)) }
     ensures count { IfOk result (λ g. (g.block_count ≡ len / block_size) × (len % block_size ≡ 0)) }
-    ensures err { IfErr result (λ e. (e ≡ Error.Invalid) × (len % block_size ≡ 0 → ¬ IsGeometry block_size page (len / block_size))) }
+    ensures err { IfErr result (λ e. (e ≡ Error.Invalid) × (len % block_size ≡ 0 → ¬ IsValidGeometry block_size page (len / block_size))) }
 {
     let size = block_size as usize;
     if size == 0 || len % size != 0 {
@@ -39,12 +39,16 @@ fn geometry_of(len: usize, block_size: u32, page: u32) -> Result<Geometry, Error
 }
 
 // Makes a device that holds an image. Returns `Invalid` exactly where no image has so many bytes.
-pub(crate) fn device_of(image: Vec<u8>, block_size: u32, page: u32) -> Result<RamDevice, Error>
+pub(crate) fn ram_device_of_image(
+    image: Vec<u8>,
+    block_size: u32,
+    page: u32,
+) -> Result<RamDevice, Error>
     requires { length image.items < 2 ^ 32 }
-    ensures image { OnOk result (IsImage block_size page image.items) }
-    ensures disk { IfOk result (λ d. (order : NameOrder) → ordered order (shown (geometry_of d) (ram_blocks d)) ≡ disk_of block_size page order image.items) }
+    ensures image { OnOk result (IsImageOfWholeBlocks block_size page image.items) }
+    ensures disk { IfOk result (λ d. (order : NameOrder) → ordered order (shown (geometry_of d) (ram_blocks d)) ≡ disk_of_image block_size page order image.items) }
     ensures no_call { IfOk result (λ d. history_of d ≡ []) }
-    ensures err { IfErr result (λ e. (e ≡ Error.Invalid) × (¬ IsImage block_size page image.items)) }
+    ensures err { IfErr result (λ e. (e ≡ Error.Invalid) × (¬ IsImageOfWholeBlocks block_size page image.items)) }
 {
     let geometry = geometry_of(image.len(), block_size, page)?;
     RamDevice::from_bytes(geometry, image)
@@ -52,16 +56,16 @@ pub(crate) fn device_of(image: Vec<u8>, block_size: u32, page: u32) -> Result<Ra
 
 // Makes the device of an excerpt of an image. Returns `Invalid` exactly where there are no images
 // of such blocks.
-pub(crate) fn excerpt_of(
+pub(crate) fn excerpt_device_of_blocks(
     blocks: Vec<BlockExcerpt>,
     block_size: u32,
     page: u32,
 ) -> Result<Excerpt, Error>
     requires many { length blocks.items < 2 ^ 32 }
-    requires sizes { HaveSize block_size blocks.items }
-    ensures geometry { OnOk result (IsGeometry block_size page (length blocks.items)) }
-    ensures shown { IfOk result (λ e. IsShownAs block_size page blocks.items e) }
-    ensures err { IfErr result (λ e. (e ≡ Error.Invalid) × (¬ IsGeometry block_size page (length blocks.items))) }
+    requires sizes { AreExcerptsOfBlockSize block_size blocks.items }
+    ensures geometry { OnOk result (IsValidGeometry block_size page (length blocks.items)) }
+    ensures shown { IfOk result (λ e. ExcerptShowsBlocks block_size page blocks.items e) }
+    ensures err { IfErr result (λ e. (e ≡ Error.Invalid) × (¬ IsValidGeometry block_size page (length blocks.items))) }
 {
     let geometry = Geometry::new(block_size, page, blocks.len() as u32)?;
     Ok(Excerpt::new(geometry, blocks))
@@ -69,14 +73,14 @@ pub(crate) fn excerpt_of(
 
 // Returns the thread of an image that is accepted in one of the orders of names, and all entries of
 // the image.
-pub(crate) fn items_on<D: BlockDevice>(
+pub(crate) fn tree_items_of_device<D: BlockDevice>(
     alloc: Global,
     device: D,
 ) -> Result<(Thread<Ordered<D>>, Vec<TreeItem>), (D, Error)>
-    ensures items { IfOk result (λ found. HasItems (disk_on D.BlockDevice device) found.0 (tree_items_view found.1.items)) }
-    ensures corrupt { IfErr result (λ e. e.1 ≡ Error.Corrupt → (order : NameOrder) (ps : List Pair) → ¬ IsAccepted (ordered order (disk_on D.BlockDevice device)) ps) }
-    ensures errors { IfErr result (λ e. IsMountError e.1) }
-    ensures back { IfErr result (λ e. GivesDeviceBack D.BlockDevice device e.0 e.1) }
+    ensures items { IfOk result (λ found. IsThreadWithWalkedPlaces (disk_of_device D.BlockDevice device) found.0 (tree_items_view found.1.items)) }
+    ensures corrupt { IfErr result (λ e. e.1 ≡ Error.Corrupt → (order : NameOrder) (ps : List Pair) → ¬ IsAcceptedImage (ordered order (disk_of_device D.BlockDevice device)) ps) }
+    ensures errors { IfErr result (λ e. IsIoCorruptOrNoMemory e.1) }
+    ensures back { IfErr result (λ e. ReturnsUnchangedDeviceWithError D.BlockDevice device e.0 e.1) }
 {
     let mut thread = mount_either(alloc, device)?;
     match walk(alloc, &mut thread) {
@@ -90,10 +94,10 @@ pub(crate) fn items_of_excerpt(
     alloc: Global,
     device: Excerpt,
 ) -> Result<(Thread<Ordered<Excerpt>>, Vec<TreeItem>), Error>
-    ensures items { IfOk result (λ found. HasItems (shown (excerpt.geometry_of device) (excerpt.excerpt_blocks device)) found.0 (tree_items_view found.1.items)) }
-    ensures err { IfErr result (IsNotMounted (shown (excerpt.geometry_of device) (excerpt.excerpt_blocks device))) }
+    ensures items { IfOk result (λ found. IsThreadWithWalkedPlaces (shown (excerpt.geometry_of device) (excerpt.excerpt_blocks device)) found.0 (tree_items_view found.1.items)) }
+    ensures err { IfErr result (IsMountErrorOfDisk (shown (excerpt.geometry_of device) (excerpt.excerpt_blocks device))) }
 {
-    match items_on(alloc, device) {
+    match tree_items_of_device(alloc, device) {
         Ok(found) => Ok(found),
         Err((_device, error)) => {
             excerpt_is_read_without_fault();
@@ -107,10 +111,10 @@ pub(crate) fn items_in_memory(
     alloc: Global,
     device: RamDevice,
 ) -> Result<(Thread<Ordered<RamDevice>>, Vec<TreeItem>), Error>
-    ensures items { IfOk result (λ found. HasItems (shown (geometry_of device) (ram_blocks device)) found.0 (tree_items_view found.1.items)) }
-    ensures err { IfErr result (IsNotMounted (shown (geometry_of device) (ram_blocks device))) }
+    ensures items { IfOk result (λ found. IsThreadWithWalkedPlaces (shown (geometry_of device) (ram_blocks device)) found.0 (tree_items_view found.1.items)) }
+    ensures err { IfErr result (IsMountErrorOfDisk (shown (geometry_of device) (ram_blocks device))) }
 {
-    match items_on(alloc, device) {
+    match tree_items_of_device(alloc, device) {
         Ok(found) => Ok(found),
         Err((_device, error)) => Err(error),
     }

@@ -1,10 +1,10 @@
 // Whole images from readers.
 
 ghost use Rattle.std.specs.Prelude.{◌≡◌, ◌+◌, ◌≤◌, IfErr, IfOk, IfSome, OnOk, length, suc, take};
-ghost use Rattle.lfs_tool.specs.KnownBytes.{FailsToRead};
-ghost use Rattle.lfs_tool.specs.Reports.{IsReadToEnd};
+ghost use Rattle.lfs_tool.specs.KnownBytes.{IsErrorOfFailedRead};
+ghost use Rattle.lfs_tool.specs.Reports.{IsReadToEndOrPastImageLimit};
 
-use crate::{Reader, ToolError};
+use crate::{ImageInput, ToolError};
 use lfs_device::Error;
 use std::alloc::Global;
 
@@ -12,12 +12,12 @@ use std::alloc::Global;
 pub(crate) const IMAGE_MAX: usize = 268_435_456;
 
 // Reads to the end, or one byte more than an image may have.
-pub(crate) fn read_image<R: Reader>(alloc: Global, image: &mut R) -> Result<Vec<u8>, ToolError>
+pub(crate) fn read_image<R: ImageInput>(alloc: Global, image: &mut R) -> Result<Vec<u8>, ToolError>
     ensures bytes { IfOk result (λ v. IfSome (R.remaining image.old) (λ bytes. v.items ≡ take (IMAGE_MAX + 1) bytes)) }
     ensures bound { IfOk result (λ v. length v.items ≤ IMAGE_MAX + 1) }
-    ensures read { OnOk result (IsReadToEnd (R.remaining image.old) (R.remaining image.new)) }
+    ensures read { OnOk result (IsReadToEndOrPastImageLimit (R.remaining image.old) (R.remaining image.new)) }
     ensures kept { OnOk result (R.faults image.new ≡ R.faults image.old) }
-    ensures err { IfErr result (λ e. FailsToRead e (R.faults image.old) (R.faults image.new)) }
+    ensures err { IfErr result (λ e. IsErrorOfFailedRead e (R.faults image.old) (R.faults image.new)) }
 {
     let mut bytes = Vec::new(alloc);
     let mut buffer = [0u8; 65536];
@@ -37,8 +37,8 @@ pub(crate) fn read_image<R: Reader>(alloc: Global, image: &mut R) -> Result<Vec<
 }
 
 // Reads as far, but keeps nothing.
-pub(crate) fn read_past_image<R: Reader>(image: &mut R) -> Result<(), ToolError>
-    ensures read { OnOk result (IsReadToEnd (R.remaining image.old) (R.remaining image.new)) }
+pub(crate) fn read_image_without_keeping<R: ImageInput>(image: &mut R) -> Result<(), ToolError>
+    ensures read { OnOk result (IsReadToEndOrPastImageLimit (R.remaining image.old) (R.remaining image.new)) }
     ensures kept { OnOk result (R.faults image.new ≡ R.faults image.old) }
     ensures err { IfErr result (λ e. (e ≡ ToolError.Input) × (R.faults image.new ≡ suc (R.faults image.old))) }
 {

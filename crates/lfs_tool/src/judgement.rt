@@ -2,19 +2,19 @@
 
 ghost use Rattle.std.specs.Prelude.{◌≡◌, ◌↔◌, IfErr, IfOk, IfSome, IsTrue, false};
 ghost use Rattle.lfs_device.specs.RamDevice.{ram_blocks, geometry_of};
-ghost use Rattle.lfs_device.specs.Shown.{disk_of, ordered};
-ghost use Rattle.lfs_tool.specs.Findings.{IsFindingOf};
-ghost use Rattle.lfs_tool.specs.ImageSummaries.{HasOrders, IsAcceptedIn};
-ghost use Rattle.lfs_tool.specs.Verdict.{IsVerdict};
-ghost use Rattle.lfs_model.specs.BlockSets.{AreUsed};
+ghost use Rattle.lfs_device.specs.Shown.{disk_of_geometry_and_blocks, ordered};
+ghost use Rattle.lfs_tool.specs.Findings.{IsFindingOfDisk};
+ghost use Rattle.lfs_tool.specs.ImageSummaries.{HasAcceptedNameOrders, IsAcceptedInNameOrder};
+ghost use Rattle.lfs_tool.specs.Verdict.{IsVerdictOnDisk};
+ghost use Rattle.lfs_model.specs.BlockSets.{AreExactlyTheUsedBlocks};
 ghost use Rattle.lfs_model.specs.Shown.{used_blocks};
-ghost use Rattle.lfs_model.specs.View.{IsAccepted};
+ghost use Rattle.lfs_model.specs.View.{IsAcceptedImage};
 ghost use Rattle.lfs_model.specs.declared.order.NameOrder.{NameOrder};
 ghost use Rattle.lfs_model.specs.declared.order.NameOrder.TheVariants.{LongerFirst, ShorterFirst};
 
 use crate::findings::Finding;
 use crate::searches::find;
-use crate::summaries::summary_of;
+use crate::summaries::image_summary_of_thread;
 use crate::verdict::{AcceptedOrders, Verdict};
 use lfs_device::{Error, NameOrder, Ordered, RamDevice};
 use lfs_mount::{mount, mount_either};
@@ -22,8 +22,12 @@ use lfs_thread::Thread;
 use std::alloc::Global;
 
 // Returns whether the image of a device is accepted with its names in that order.
-fn is_accepted_in(alloc: Global, device: RamDevice, order: NameOrder) -> Result<bool, Error>
-    ensures is { IfOk result (λ b. IsTrue b ↔ IsAcceptedIn order (disk_of (geometry_of device) (ram_blocks device))) }
+fn is_accepted_in_name_order(
+    alloc: Global,
+    device: RamDevice,
+    order: NameOrder,
+) -> Result<bool, Error>
+    ensures is { IfOk result (λ b. IsTrue b ↔ IsAcceptedInNameOrder order (disk_of_geometry_and_blocks (geometry_of device) (ram_blocks device))) }
     ensures err { IfErr result (λ e. e ≡ Error.NoMemory) }
 {
     match mount(alloc, Ordered::new(device, order)) {
@@ -35,16 +39,20 @@ fn is_accepted_in(alloc: Global, device: RamDevice, order: NameOrder) -> Result<
 
 // Returns in which orders of names the image of a device is accepted. The order `first` is one of
 // these.
-fn orders_of(alloc: Global, device: RamDevice, first: NameOrder) -> Result<AcceptedOrders, Error>
-    requires first { IsAcceptedIn first (disk_of (geometry_of device) (ram_blocks device)) }
-    requires longer { first ≡ ShorterFirst → ¬ IsAcceptedIn LongerFirst (disk_of (geometry_of device) (ram_blocks device)) }
-    ensures orders { IfOk result (HasOrders (disk_of (geometry_of device) (ram_blocks device))) }
+fn accepted_name_orders(
+    alloc: Global,
+    device: RamDevice,
+    first: NameOrder,
+) -> Result<AcceptedOrders, Error>
+    requires first { IsAcceptedInNameOrder first (disk_of_geometry_and_blocks (geometry_of device) (ram_blocks device)) }
+    requires longer { first ≡ ShorterFirst → ¬ IsAcceptedInNameOrder LongerFirst (disk_of_geometry_and_blocks (geometry_of device) (ram_blocks device)) }
+    ensures orders { IfOk result (HasAcceptedNameOrders (disk_of_geometry_and_blocks (geometry_of device) (ram_blocks device))) }
     ensures err { IfErr result (λ e. e ≡ Error.NoMemory) }
 {
     match first {
         NameOrder::ShorterFirst => Ok(AcceptedOrders::ShorterFirst),
         NameOrder::LongerFirst => {
-            if is_accepted_in(alloc, device, NameOrder::ShorterFirst)? {
+            if is_accepted_in_name_order(alloc, device, NameOrder::ShorterFirst)? {
                 Ok(AcceptedOrders::Either)
             } else {
                 Ok(AcceptedOrders::LongerFirst)
@@ -54,8 +62,8 @@ fn orders_of(alloc: Global, device: RamDevice, first: NameOrder) -> Result<Accep
 }
 
 // Returns a rule that the image of a device breaks.
-fn finding_on(alloc: Global, device: &mut RamDevice) -> Result<Option<Finding>, Error>
-    ensures found { IfOk result (λ found. IfSome found (IsFindingOf (disk_of (geometry_of device.old) (ram_blocks device.old)))) }
+fn finding_on_device(alloc: Global, device: &mut RamDevice) -> Result<Option<Finding>, Error>
+    ensures found { IfOk result (λ found. IfSome found (IsFindingOfDisk (disk_of_geometry_and_blocks (geometry_of device.old) (ram_blocks device.old)))) }
     ensures err { IfErr result (λ e. e ≡ Error.NoMemory) }
 {
     match find(alloc, device) {
@@ -68,16 +76,16 @@ fn finding_on(alloc: Global, device: &mut RamDevice) -> Result<Option<Finding>, 
 // Returns what a mounted image has.
 fn judge_thread(alloc: Global, mut thread: Thread<Ordered<RamDevice>>) -> Result<Verdict, Error>
     requires works { thread.failed ≡ false }
-    requires accepted { IsAccepted thread.kept.disk thread.kept.pairs }
-    requires used { AreUsed thread.kept.map (used_blocks thread.kept.disk thread.kept.pairs) }
-    requires longer { thread.kept.disk.order ≡ ShorterFirst → ¬ IsAcceptedIn LongerFirst thread.kept.disk }
-    ensures verdict { IfOk result (IsVerdict thread.kept.disk) }
+    requires accepted { IsAcceptedImage thread.kept.disk thread.kept.pairs }
+    requires used { AreExactlyTheUsedBlocks thread.kept.map (used_blocks thread.kept.disk thread.kept.pairs) }
+    requires longer { thread.kept.disk.order ≡ ShorterFirst → ¬ IsAcceptedInNameOrder LongerFirst thread.kept.disk }
+    ensures verdict { IfOk result (IsVerdictOnDisk thread.kept.disk) }
     ensures err { IfErr result (λ e. e ≡ Error.NoMemory) }
 {
-    let summary = summary_of(alloc, &mut thread)?;
+    let summary = image_summary_of_thread(alloc, &mut thread)?;
     let device = thread.into_device();
     let order = device.order();
-    let orders = orders_of(alloc, device.into_inner(), order)?;
+    let orders = accepted_name_orders(alloc, device.into_inner(), order)?;
     Ok(Verdict::Accepted { summary, orders })
 }
 
@@ -87,13 +95,13 @@ fn judge_thread(alloc: Global, mut thread: Thread<Ordered<RamDevice>>) -> Result
 ///
 /// Errors: `NoMemory` where memory isn't granted.
 pub fn judge(alloc: Global, device: RamDevice) -> Result<Verdict, Error>
-    ensures verdict { IfOk result (λ verdict. (order : NameOrder) → IsVerdict (ordered order (disk_of (geometry_of device) (ram_blocks device))) verdict) }
+    ensures verdict { IfOk result (λ verdict. (order : NameOrder) → IsVerdictOnDisk (ordered order (disk_of_geometry_and_blocks (geometry_of device) (ram_blocks device))) verdict) }
     ensures err { IfErr result (λ e. e ≡ Error.NoMemory) }
 {
     match mount_either(alloc, device) {
         Ok(thread) => judge_thread(alloc, thread),
         Err((mut device, Error::Corrupt)) => {
-            let found = finding_on(alloc, &mut device)?;
+            let found = finding_on_device(alloc, &mut device)?;
             Ok(Verdict::Refused(found))
         }
         Err((_device, error)) => Err(error),

@@ -12,7 +12,7 @@ use lfs_device::Error;
 pub(crate) type LineText = ArrayString<32>;
 
 // Makes a line with this text.
-pub(crate) fn text_of(text: &str) -> LineText
+pub(crate) fn line_text_of_str(text: &str) -> LineText
     requires { length text.now ≤ 32 }
     ensures { result.bytes ≡ text.now }
 {
@@ -66,7 +66,7 @@ fn push_number(line: &mut LineText, number: u32)
 pub(crate) fn error_text(error: Error) -> LineText
     ensures { result.bytes ≡ error_line error }
 {
-    let mut line = text_of("error: ");
+    let mut line = line_text_of_str("error: ");
     line.push_str(error.name());
     line.push_str(" (");
     push_number(&mut line, error.number());

@@ -1,29 +1,29 @@
 ghost use Rattle.std.specs.Prelude.{◌≡◌, ◌<◌, ◌^◌, List, ℕ, IfErr, IfOk, IfSome, IsErrOf, OnOk, length};
 ghost use Rattle.std.specs.Io.KnownBytes.{Appends};
-ghost use Rattle.lfs_tool.specs.ExcerptBlocks.{HaveSize};
+ghost use Rattle.lfs_tool.specs.ExcerptBlocks.{AreExcerptsOfBlockSize};
 ghost use Rattle.lfs_tool.specs.ExcerptView.{excerpt_blocks, geometry_of};
-ghost use Rattle.lfs_device.specs.Shown.{disk_of as shown, ordered};
-ghost use Rattle.lfs_model.specs.Disk.{IsImage};
-ghost use Rattle.lfs_model.specs.Geometry.{IsGeometry};
+ghost use Rattle.lfs_device.specs.Shown.{disk_of_geometry_and_blocks as shown, ordered};
+ghost use Rattle.lfs_model.specs.Disk.{IsImageOfWholeBlocks};
+ghost use Rattle.lfs_model.specs.Geometry.{IsValidGeometry};
 ghost use Rattle.lfs_model.specs.declared.order.NameOrder.{NameOrder};
 ghost use Rattle.lfs_tool.specs.Blocks.{AreExcerptsOfBytes};
-ghost use Rattle.lfs_tool.specs.KnownBytes.{AppendsBeginning, FailsToList, IsListError};
-ghost use Rattle.lfs_tool.specs.Reports.{IsReadToEnd, ReportsOnce, ReportsWriter};
-ghost use Rattle.lfs_tool.specs.Listings.{HasLines, IsNotMounted, Lists, RefusesToList};
+ghost use Rattle.lfs_tool.specs.KnownBytes.{AppendsBeginningOfBytes, IsErrorOfFailedListing, IsListingRefusal};
+ghost use Rattle.lfs_tool.specs.Reports.{IsReadToEndOrPastImageLimit, IsErrorExactlyWithOneFault, ReportsWriterFaults};
+ghost use Rattle.lfs_tool.specs.Listings.{HasListingLines, IsMountErrorOfDisk, ListsImage, RefusesToList};
 
-use crate::blocks::read_blocks;
-use crate::image_devices::{excerpt_of, items_of_excerpt};
-use crate::input::read_past_image;
+use crate::blocks::read_block_excerpts;
+use crate::image_devices::{excerpt_device_of_blocks, items_of_excerpt};
+use crate::input::read_image_without_keeping;
 use crate::lines::lines_of;
-use crate::output::write_bytes;
-use crate::{BlockExcerpt, Excerpt, Reader, ToolError, Writer, excerpt_is_listed_alike};
+use crate::output::write_bytes_and_flush;
+use crate::{BlockExcerpt, Excerpt, ImageInput, ToolError, ToolOutput, excerpt_is_listed_alike};
 use lfs_device::{Error, Geometry};
 use std::alloc::Global;
 
 // Returns the lines of an excerpt.
-fn lines_on(alloc: Global, device: Excerpt) -> Result<Vec<u8>, Error>
-    ensures lines { IfOk result (λ text. (order : NameOrder) × HasLines (ordered order (shown (geometry_of device) (excerpt_blocks device))) text.items) }
-    ensures err { IfErr result (IsNotMounted (shown (geometry_of device) (excerpt_blocks device))) }
+fn listing_lines_of_excerpt(alloc: Global, device: Excerpt) -> Result<Vec<u8>, Error>
+    ensures lines { IfOk result (λ text. (order : NameOrder) × HasListingLines (ordered order (shown (geometry_of device) (excerpt_blocks device))) text.items) }
+    ensures err { IfErr result (IsMountErrorOfDisk (shown (geometry_of device) (excerpt_blocks device))) }
 {
     let (_thread, items) = items_of_excerpt(alloc, device)?;
     let text = lines_of(alloc, &items)?;
@@ -31,56 +31,56 @@ fn lines_on(alloc: Global, device: Excerpt) -> Result<Vec<u8>, Error>
 }
 
 // Returns the lines of an image whose blocks were read.
-fn lines_of_blocks(
+fn listing_lines_of_blocks(
     alloc: Global,
     blocks: Vec<BlockExcerpt>,
     block_size: u32,
     page: u32,
 ) -> Result<Vec<u8>, Error>
     requires many { length blocks.items < 2 ^ 32 }
-    requires sizes { HaveSize block_size blocks.items }
-    ensures ok { IfOk result (λ text. (bytes : List ℕ) → AreExcerptsOfBytes block_size bytes blocks.items → Lists block_size page bytes text.items) }
+    requires sizes { AreExcerptsOfBlockSize block_size blocks.items }
+    ensures ok { IfOk result (λ text. (bytes : List ℕ) → AreExcerptsOfBytes block_size bytes blocks.items → ListsImage block_size page bytes text.items) }
     ensures err { IfErr result (λ e. (bytes : List ℕ) → AreExcerptsOfBytes block_size bytes blocks.items → RefusesToList block_size page bytes e) }
-    ensures kinds { IfErr result IsListError }
+    ensures kinds { IfErr result IsListingRefusal }
 {
     excerpt_is_listed_alike();
-    match excerpt_of(blocks, block_size, page) {
-        Ok(excerpt) => lines_on(alloc, excerpt),
+    match excerpt_device_of_blocks(blocks, block_size, page) {
+        Ok(excerpt) => listing_lines_of_excerpt(alloc, excerpt),
         Err(error) => Err(error),
     }
 }
 
 // Returns `Invalid` where no image has blocks and pages of these sizes: the least image has two
 // blocks.
-fn check_sizes(block_size: u32, page: u32) -> Result<(), Error>
-    ensures ok { OnOk result (IsGeometry block_size page 2) }
-    ensures err { IfErr result (λ e. (e ≡ Error.Invalid) × ((bytes : List ℕ) → ¬ IsImage block_size page bytes)) }
+fn check_block_and_page_size(block_size: u32, page: u32) -> Result<(), Error>
+    ensures ok { OnOk result (IsValidGeometry block_size page 2) }
+    ensures err { IfErr result (λ e. (e ≡ Error.Invalid) × ((bytes : List ℕ) → ¬ IsImageOfWholeBlocks block_size page bytes)) }
 {
     Geometry::new(block_size, page, 2)?;
     Ok(())
 }
 
 // Returns the lines of an image.
-fn read_lines<R: Reader>(
+fn read_image_as_listing_lines<R: ImageInput>(
     alloc: Global,
     image: &mut R,
     block_size: u32,
     page: u32,
 ) -> Result<Vec<u8>, ToolError>
-    ensures ok { IfOk result (λ text. IfSome (R.remaining image.old) (λ bytes. Lists block_size page bytes text.items)) }
+    ensures ok { IfOk result (λ text. IfSome (R.remaining image.old) (λ bytes. ListsImage block_size page bytes text.items)) }
     ensures refused { (e : _) → IsErrOf result (ToolError.Fs e) → IfSome (R.remaining image.old) (λ bytes. RefusesToList block_size page bytes e) }
     ensures kept { OnOk result (R.faults image.new ≡ R.faults image.old) }
-    ensures failed { IfErr result (λ e. FailsToList e (R.faults image.old) (R.faults image.new)) }
-    ensures read { ¬ IsErrOf result ToolError.Input → ¬ IsErrOf result (ToolError.Fs Error.NoMemory) → IsReadToEnd (R.remaining image.old) (R.remaining image.new) }
+    ensures failed { IfErr result (λ e. IsErrorOfFailedListing e (R.faults image.old) (R.faults image.new)) }
+    ensures read { ¬ IsErrOf result ToolError.Input → ¬ IsErrOf result (ToolError.Fs Error.NoMemory) → IsReadToEndOrPastImageLimit (R.remaining image.old) (R.remaining image.new) }
 {
-    if let Err(error) = check_sizes(block_size, page) {
-        read_past_image(image)?;
+    if let Err(error) = check_block_and_page_size(block_size, page) {
+        read_image_without_keeping(image)?;
         return Err(ToolError::Fs(error));
     }
-    let Some(blocks) = read_blocks(alloc, image, block_size)? else {
+    let Some(blocks) = read_block_excerpts(alloc, image, block_size)? else {
         return Err(ToolError::Fs(Error::Invalid));
     };
-    let text = lines_of_blocks(alloc, blocks, block_size, page)?;
+    let text = listing_lines_of_blocks(alloc, blocks, block_size, page)?;
     Ok(text)
 }
 
@@ -103,7 +103,7 @@ fn read_lines<R: Reader>(
 /// - `Fs(Invalid)` where the image isn't a whole number of blocks, or its geometry is out of range.
 /// - `Fs(Corrupt)` where the image is accepted in neither order of names.
 /// - `Output` where the writer failed. What was written is then a beginning of the lines.
-pub fn list<R: Reader, W: Writer>(
+pub fn list<R: ImageInput, W: ToolOutput>(
     alloc: Global,
     image: &mut R,
     block_size: u32,
@@ -111,18 +111,18 @@ pub fn list<R: Reader, W: Writer>(
     out: &mut W,
 ) -> Result<(), ToolError>
     ensures ok { OnOk result (IfSome (R.remaining image.old) (λ bytes.
-        (text : _) × (Lists block_size page bytes text × Appends (W.contents out.old) (W.contents out.new) text))) }
+        (text : _) × (ListsImage block_size page bytes text × Appends (W.contents out.old) (W.contents out.new) text))) }
 
     // The writer isn't called, unless it fails: then a beginning of the lines may be written.
-    ensures writer { ReportsWriter W.Writer out.old out.new result }
+    ensures writer { ReportsWriterFaults W.Writer out.old out.new result }
     ensures beginning { IsErrOf result ToolError.Output → IfSome (R.remaining image.old) (λ bytes.
-        (text : _) × (Lists block_size page bytes text × AppendsBeginning (W.contents out.old) (W.contents out.new) text)) }
+        (text : _) × (ListsImage block_size page bytes text × AppendsBeginningOfBytes (W.contents out.old) (W.contents out.new) text)) }
 
     // When each other error comes.
-    ensures refused { (e : _) → IsErrOf result (ToolError.Fs e) → IsListError e × IfSome (R.remaining image.old) (λ bytes. RefusesToList block_size page bytes e) }
-    ensures input { ReportsOnce ToolError.Input (R.faults image.old) (R.faults image.new) result }
-    ensures read { ¬ IsErrOf result ToolError.Input → ¬ IsErrOf result (ToolError.Fs Error.NoMemory) → IsReadToEnd (R.remaining image.old) (R.remaining image.new) }
+    ensures refused { (e : _) → IsErrOf result (ToolError.Fs e) → IsListingRefusal e × IfSome (R.remaining image.old) (λ bytes. RefusesToList block_size page bytes e) }
+    ensures input { IsErrorExactlyWithOneFault ToolError.Input (R.faults image.old) (R.faults image.new) result }
+    ensures read { ¬ IsErrOf result ToolError.Input → ¬ IsErrOf result (ToolError.Fs Error.NoMemory) → IsReadToEndOrPastImageLimit (R.remaining image.old) (R.remaining image.new) }
 {
-    let text = read_lines(alloc, image, block_size, page)?;
-    write_bytes(out, text.as_slice())
+    let text = read_image_as_listing_lines(alloc, image, block_size, page)?;
+    write_bytes_and_flush(out, text.as_slice())
 }

@@ -1,10 +1,10 @@
 // How many blocks the image of a source takes.
 
 ghost use Rattle.std.specs.Prelude.{◌≡◌, ◌<◌, ◌≤◌, IfOk, IfSome, false, true};
-ghost use Rattle.lfs_tool.specs.Needed.{HasRoom, IsTooSmall, TakesBlocks};
+ghost use Rattle.lfs_tool.specs.Needed.{IsEnoughBlocksForEntries, IsTooFewBlocksForEntries, IsJustEnoughBlocksForEntries};
 
 use crate::Line;
-use crate::creation::make;
+use crate::creation::image_bytes_of_entries;
 use crate::input::IMAGE_MAX;
 use lfs_device::{Error, Geometry};
 use lfs_tool_folders::SourceEntry;
@@ -18,17 +18,17 @@ pub struct NeededBlocks {
 }
 
 // Returns whether an image of so many blocks holds the entries.
-fn has_room(
+fn has_room_for_entries(
     alloc: Global,
     line: &Line<'_>,
     entries: &[SourceEntry],
     count: u32,
 ) -> Result<bool, Error>
-    ensures room { IfOk result (λ has_room. has_room ≡ true → HasRoom line.now entries.now count) }
-    ensures small { IfOk result (λ has_room. has_room ≡ false → IsTooSmall line.now entries.now count) }
+    ensures room { IfOk result (λ has_room_for_entries. has_room_for_entries ≡ true → IsEnoughBlocksForEntries line.now entries.now count) }
+    ensures small { IfOk result (λ has_room_for_entries. has_room_for_entries ≡ false → IsTooFewBlocksForEntries line.now entries.now count) }
 {
     let geometry = Geometry::new(line.block_size, line.page, count)?;
-    match make(alloc, geometry.ordered(line.order), entries) {
+    match image_bytes_of_entries(alloc, geometry.ordered(line.order), entries) {
         Ok(_image) => Ok(true),
         Err(Error::NoSpace) => Ok(false),
         Err(error) => Err(error),
@@ -36,22 +36,22 @@ fn has_room(
 }
 
 // Returns how many blocks it takes, where so few are too few and so many are enough.
-fn least_count(
+fn least_enough_block_count(
     alloc: Global,
     line: &Line<'_>,
     entries: &[SourceEntry],
     few: u32,
     enough: u32,
 ) -> Result<u32, Error>
-    requires few { IsTooSmall line.now entries.now few }
-    requires enough { HasRoom line.now entries.now enough }
+    requires few { IsTooFewBlocksForEntries line.now entries.now few }
+    requires enough { IsEnoughBlocksForEntries line.now entries.now enough }
     requires between { few < enough }
-    ensures { IfOk result (TakesBlocks line.now entries.now) }
+    ensures { IfOk result (IsJustEnoughBlocksForEntries line.now entries.now) }
 {
     let (mut few, mut enough) = (few, enough);
     while enough - few > 1 {
         let half = few + (enough - few) / 2;
-        if has_room(alloc, line, entries, half)? {
+        if has_room_for_entries(alloc, line, entries, half)? {
             enough = half;
         } else {
             few = half;
@@ -61,21 +61,21 @@ fn least_count(
 }
 
 // Returns how many blocks it takes, where so few are too few and an image may have that many.
-fn count_needed(
+fn needed_block_count(
     alloc: Global,
     line: &Line<'_>,
     entries: &[SourceEntry],
     few: u32,
 ) -> Result<Option<u32>, Error>
-    requires { IsTooSmall line.now entries.now few }
-    ensures { IfOk result (λ count. IfSome count (TakesBlocks line.now entries.now)) }
+    requires { IsTooFewBlocksForEntries line.now entries.now few }
+    ensures { IfOk result (λ count. IfSome count (IsJustEnoughBlocksForEntries line.now entries.now)) }
 {
     let mut few = few;
-    let most = most_blocks(line.block_size);
+    let most = largest_block_count(line.block_size);
     while few < most {
         let more = (few + few.max(1)).min(most);
-        if has_room(alloc, line, entries, more)? {
-            let count = least_count(alloc, line, entries, few, more)?;
+        if has_room_for_entries(alloc, line, entries, more)? {
+            let count = least_enough_block_count(alloc, line, entries, few, more)?;
             return Ok(Some(count));
         }
         few = more;
@@ -84,7 +84,7 @@ fn count_needed(
 }
 
 // Returns how many blocks of a size an image has at most.
-fn most_blocks(block_size: u32) -> u32
+fn largest_block_count(block_size: u32) -> u32
     ensures { result ≤ 65536 }
 {
     match (IMAGE_MAX as u32).checked_div(block_size) {
@@ -95,16 +95,16 @@ fn most_blocks(block_size: u32) -> u32
 
 // Returns how many blocks it takes, where it is known that an image of so many is too small. Nothing is
 // returned where no image is large enough, another refusal comes first, or memory isn't granted.
-pub(crate) fn enough_blocks(
+pub(crate) fn enough_block_count_for_entries(
     alloc: Global,
     line: &Line<'_>,
     entries: &[SourceEntry],
     blocks: u32,
 ) -> Option<u32>
-    ensures { IfSome result (TakesBlocks line.now entries.now) }
+    ensures { IfSome result (IsJustEnoughBlocksForEntries line.now entries.now) }
 {
-    match has_room(alloc, line, entries, blocks) {
-        Ok(false) => match count_needed(alloc, line, entries, blocks) {
+    match has_room_for_entries(alloc, line, entries, blocks) {
+        Ok(false) => match needed_block_count(alloc, line, entries, blocks) {
             Ok(count) => count,
             Err(_) => None,
         },

@@ -2,17 +2,17 @@
 
 ghost use Rattle.std.specs.Prelude.{◌≡◌, OnErr, OnOk, suc};
 ghost use Rattle.std.specs.Io.KnownBytes.{Appends};
-ghost use Rattle.lfs_tool.specs.KnownBytes.{AppendsBeginning};
+ghost use Rattle.lfs_tool.specs.KnownBytes.{AppendsBeginningOfBytes};
 
-use crate::{ToolError, Writer};
+use crate::{ToolError, ToolOutput};
 
 /// Writes the bytes, and flushes them. After an error a beginning of them was written.
 ///
 /// # Errors
 /// `Output` where the writer failed.
-pub fn write_bytes<W: Writer>(out: &mut W, bytes: &[u8]) -> Result<(), ToolError>
+pub fn write_bytes_and_flush<W: ToolOutput>(out: &mut W, bytes: &[u8]) -> Result<(), ToolError>
     ensures ok { OnOk result (Appends (W.contents out.old) (W.contents out.new) bytes.now) }
-    ensures beginning { AppendsBeginning (W.contents out.old) (W.contents out.new) bytes.now }
+    ensures beginning { AppendsBeginningOfBytes (W.contents out.old) (W.contents out.new) bytes.now }
     ensures flushed { OnOk result (W.pending out.new ≡ 0) }
     ensures kept { OnOk result (W.faults out.new ≡ W.faults out.old) }
     ensures failed { OnErr result ((result ≡ Err ToolError.Output) × (W.faults out.new ≡ suc (W.faults out.old))) }

@@ -1,13 +1,13 @@
 // The parts of a thread's pairs that the rules are about, without attributes.
 
-use lfs_lookup::Structure;
-use lfs_tag::{Kind, MoveState, Tail};
+use lfs_lookup::OwnedStruct;
+use lfs_tag::{MoveState, SlotNameKind, Tail};
 
 #[derive(Drop)]
 pub(crate) struct OwnedSlot {
-    pub kind: Kind,
+    pub kind: SlotNameKind,
     pub name: Vec<u8>,
-    pub structure: Structure,
+    pub structure: OwnedStruct,
 }
 
 #[derive(Drop)]

@@ -2,27 +2,27 @@
 
 ghost use Rattle.std.specs.Prelude.{◌≡◌, ◌<◌, ◌++◌, IfNone, IfOk, IfSome, None, OnOk, is_some, length, map, true};
 ghost use Rattle.std.specs.Option.{option_map};
-ghost use Rattle.lfs_model.specs.Content.{complete, complete_all, slot_of_id};
-ghost use Rattle.lfs_model.specs.LoggedContent.{HasParts, HaveParts};
+ghost use Rattle.lfs_model.specs.Content.{complete, slots_if_all_complete, slot_of_id};
+ghost use Rattle.lfs_model.specs.LoggedContent.{IsWellFormedRawSlot, AreWellFormedRawSlots};
 ghost use Rattle.lfs_tag.specs.ContentView.{slot_view};
-ghost use Rattle.lfs_tool.specs.OwnedSlots.{without_attributes, complete_slots_among, complete_slot_in};
+ghost use Rattle.lfs_tool.specs.OwnedSlots.{slot_without_attributes, complete_slots_among, complete_slot_in};
 ghost use Rattle.lfs_tool.specs.OwnedSlotView.{owned_slot_view};
 
 use crate::owned_parts::OwnedSlot;
 use lfs_lookup::structure_of;
-use lfs_tag::{Kind, Slot};
+use lfs_tag::{Slot, SlotNameKind};
 use std::alloc::{AllocError, Global};
 
 // Returns a slot, where it has a name and a struct.
-fn own_slot(alloc: Global, slot: &Slot<'_>) -> Result<Option<OwnedSlot>, AllocError>
-    requires { HasParts (slot_view slot.now) }
-    ensures { IfOk result (λ held. option_map owned_slot_view held ≡ option_map without_attributes (complete (slot_view slot.now))) }
+fn owned_slot_if_complete(alloc: Global, slot: &Slot<'_>) -> Result<Option<OwnedSlot>, AllocError>
+    requires { IsWellFormedRawSlot (slot_view slot.now) }
+    ensures { IfOk result (λ held. option_map owned_slot_view held ≡ option_map slot_without_attributes (complete (slot_view slot.now))) }
 {
     let (Some(name), Some(part)) = (slot.name, slot.structure) else {
         return Ok(None);
     };
     let structure = structure_of(alloc, &part)?;
-    let kind = Kind::of(&name);
+    let kind = SlotNameKind::of(&name);
     let name = Vec::from_slice(alloc, name.bytes)?;
     Ok(Some(OwnedSlot {
         kind,
@@ -37,18 +37,21 @@ fn push_complete_slot(
     all: &mut Vec<OwnedSlot>,
     slot: &Slot<'_>,
 ) -> Result<(), AllocError>
-    requires { HasParts (slot_view slot.now) }
+    requires { IsWellFormedRawSlot (slot_view slot.now) }
     ensures { OnOk result (map owned_slot_view all.new.items ≡ map owned_slot_view all.old.items ++ complete_slot_in (slot_view slot.now)) }
 {
-    if let Some(held) = own_slot(alloc, slot)? {
+    if let Some(held) = owned_slot_if_complete(alloc, slot)? {
         all.push(held)?;
     }
     Ok(())
 }
 
 // Returns the slots that have a name and a struct.
-pub(crate) fn own_slots(alloc: Global, slots: &[Slot<'_>]) -> Result<Vec<OwnedSlot>, AllocError>
-    requires { HaveParts (map slot_view slots.now) }
+pub(crate) fn owned_complete_slots(
+    alloc: Global,
+    slots: &[Slot<'_>],
+) -> Result<Vec<OwnedSlot>, AllocError>
+    requires { AreWellFormedRawSlots (map slot_view slots.now) }
     ensures { IfOk result (λ held. map owned_slot_view held.items ≡ complete_slots_among (map slot_view slots.now)) }
 {
     let mut all = Vec::new(alloc);
@@ -59,9 +62,9 @@ pub(crate) fn own_slots(alloc: Global, slots: &[Slot<'_>]) -> Result<Vec<OwnedSl
 }
 
 // Returns the number of the first slot that lacks its name or its struct.
-pub(crate) fn first_incomplete(slots: &[Slot<'_>]) -> Option<usize>
+pub(crate) fn first_incomplete_slot_id(slots: &[Slot<'_>]) -> Option<usize>
     ensures there { IfSome result (λ id. (id < length slots.now) × (complete (slot_of_id (map slot_view slots.now) id) ≡ None)) }
-    ensures none { IfNone result (is_some (complete_all (map slot_view slots.now)) ≡ true) }
+    ensures none { IfNone result (is_some (slots_if_all_complete (map slot_view slots.now)) ≡ true) }
 {
     for (id, slot) in slots.iter().enumerate() {
         if slot.name.is_none() || slot.structure.is_none() {

@@ -2,20 +2,20 @@
 
 ghost use Rattle.std.specs.Prelude.{◌≡◌, ◌<◌, IfErr, IfOk, None, Some, length, map};
 ghost use Rattle.std.specs.Option.{option_map};
-ghost use Rattle.lfs_device.specs.Shown.{disk_of};
-ghost use Rattle.lfs_model.specs.Content.{RawContent, complete, holder, holder_at, raw_at, slot_of_id};
+ghost use Rattle.lfs_device.specs.Shown.{disk_of_geometry_and_blocks};
+ghost use Rattle.lfs_model.specs.Content.{RawContent, complete, current_block_of_two, current_block_of_pair_at, raw_content_of_pair_at, slot_of_id};
 ghost use Rattle.lfs_model.specs.Disk.{Disk};
-ghost use Rattle.lfs_model.specs.LoggedContent.{HaveParts};
-ghost use Rattle.lfs_model.specs.Slots.{address_of};
+ghost use Rattle.lfs_model.specs.LoggedContent.{AreWellFormedRawSlots};
+ghost use Rattle.lfs_model.specs.Slots.{pair_address_of_array};
 ghost use Rattle.lfs_tag.specs.ContentView.{content_view, slot_view};
 ghost use Rattle.lfs_tool.specs.Device.{OnlyReadsDevice};
-ghost use Rattle.lfs_tool.specs.Findings.{IsThreadFault};
+ghost use Rattle.lfs_tool.specs.Findings.{IsThreadFinding};
 ghost use Rattle.lfs_tool.specs.ThreadBeginnings.{IsNamedByThread};
-ghost use Rattle.lfs_tool.specs.PairReads.{IsPairOrFault};
+ghost use Rattle.lfs_tool.specs.PairReads.{IsPairOrFindingAtAddress};
 
-use crate::findings::{Finding, Place};
+use crate::findings::{Finding, NamedSlot};
 use crate::owned_parts::OwnedPair;
-use crate::owned_slots::{first_incomplete, own_slots};
+use crate::owned_slots::{first_incomplete_slot_id, owned_complete_slots};
 use lfs_device::{BlockDevice, Error, read_block};
 use lfs_tag::{Content, ContentError, Log, Slot, is_later};
 use std::alloc::{AllocError, Global};
@@ -28,8 +28,8 @@ pub(crate) enum Read {
 }
 
 // Returns the block of a pair that holds.
-fn holding_block<'a>(first: &'a [u8], second: &'a [u8]) -> Option<&'a [u8]>
-    ensures { option_map (λ b. b.now) result ≡ holder first.now second.now }
+fn current_block_of_pair<'a>(first: &'a [u8], second: &'a [u8]) -> Option<&'a [u8]>
+    ensures { option_map (λ b. b.now) result ≡ current_block_of_two first.now second.now }
 {
     let log = Log::read(first);
     let other = Log::read(second);
@@ -47,7 +47,7 @@ fn holding_block<'a>(first: &'a [u8], second: &'a [u8]) -> Option<&'a [u8]>
 }
 
 // Returns what the slot of that number lacks, which has no name or no struct.
-fn missing_part(
+fn finding_on_incomplete_slot(
     alloc: Global,
     pair: [u32; 2],
     slots: &[Slot<'_>],
@@ -55,28 +55,32 @@ fn missing_part(
 ) -> Result<Finding, AllocError>
     requires below { slot < length slots.now }
     requires incomplete { complete (slot_of_id (map slot_view slots.now) slot) ≡ None }
-    ensures { IfOk result (λ f. (disk : Disk) (c : RawContent) → raw_at disk (address_of pair) ≡ Some c → c.slots ≡ map slot_view slots.now
-        → IsNamedByThread disk (address_of pair) → IsThreadFault disk f) }
+    ensures { IfOk result (λ f. (disk : Disk) (c : RawContent) → raw_content_of_pair_at disk (pair_address_of_array pair) ≡ Some c → c.slots ≡ map slot_view slots.now
+        → IsNamedByThread disk (pair_address_of_array pair) → IsThreadFinding disk f) }
 {
     match slots[slot].name {
         None => Ok(Finding::NoName { pair, slot }),
         Some(name) => {
             let name = Vec::from_slice(alloc, name.bytes)?;
-            Ok(Finding::NoStruct(Place { pair, slot, name }))
+            Ok(Finding::NoStruct(NamedSlot { pair, slot, name }))
         }
     }
 }
 
 // Returns the pair at an address that has that content.
-fn pair_with_content(alloc: Global, at: [u32; 2], content: &Content<'_>) -> Result<Read, AllocError>
-    requires { HaveParts (content_view content.now).slots }
-    ensures { IfOk result (λ read. (disk : Disk) → raw_at disk (address_of at) ≡ Some (content_view content.now) → IsPairOrFault disk (address_of at) read) }
+fn owned_pair_with_content(
+    alloc: Global,
+    at: [u32; 2],
+    content: &Content<'_>,
+) -> Result<Read, AllocError>
+    requires { AreWellFormedRawSlots (content_view content.now).slots }
+    ensures { IfOk result (λ read. (disk : Disk) → raw_content_of_pair_at disk (pair_address_of_array at) ≡ Some (content_view content.now) → IsPairOrFindingAtAddress disk (pair_address_of_array at) read) }
 {
-    if let Some(slot) = first_incomplete(&content.slots) {
-        let finding = missing_part(alloc, at, &content.slots, slot)?;
+    if let Some(slot) = first_incomplete_slot_id(&content.slots) {
+        let finding = finding_on_incomplete_slot(alloc, at, &content.slots, slot)?;
         return Ok(Read::Broken(finding));
     }
-    let slots = own_slots(alloc, &content.slots)?;
+    let slots = owned_complete_slots(alloc, &content.slots)?;
     Ok(Read::Pair(OwnedPair {
         at,
         slots,
@@ -86,13 +90,13 @@ fn pair_with_content(alloc: Global, at: [u32; 2], content: &Content<'_>) -> Resu
 }
 
 // Returns the pair at an address of which that block holds.
-fn pair_of_block(alloc: Global, at: [u32; 2], block: &[u8]) -> Result<Read, Error>
-    ensures read { IfOk result (λ read. (disk : Disk) → holder_at disk (address_of at) ≡ Some block.now → IsPairOrFault disk (address_of at) read) }
+fn owned_pair_of_block(alloc: Global, at: [u32; 2], block: &[u8]) -> Result<Read, Error>
+    ensures read { IfOk result (λ read. (disk : Disk) → current_block_of_pair_at disk (pair_address_of_array at) ≡ Some block.now → IsPairOrFindingAtAddress disk (pair_address_of_array at) read) }
     ensures errors { IfErr result (λ e. e ≡ Error.NoMemory) }
 {
     match Content::read(alloc, &Log::read(block)) {
         Ok(content) => {
-            let read = pair_with_content(alloc, at, &content)?;
+            let read = owned_pair_with_content(alloc, at, &content)?;
             Ok(read)
         }
         Err(ContentError::Malformed) => Ok(Read::Broken(Finding::Malformed { pair: at })),
@@ -106,15 +110,15 @@ pub(crate) fn read_pair<D: BlockDevice>(
     device: &mut D,
     at: [u32; 2],
 ) -> Result<Read, Error>
-    requires first { (address_of at).0 < (D.geometry device.old).block_count }
-    requires second { (address_of at).1 < (D.geometry device.old).block_count }
-    ensures read { IfOk result (IsPairOrFault (disk_of (D.geometry device.old) (D.blocks device.old)) (address_of at)) }
+    requires first { (pair_address_of_array at).0 < (D.geometry device.old).block_count }
+    requires second { (pair_address_of_array at).1 < (D.geometry device.old).block_count }
+    ensures read { IfOk result (IsPairOrFindingAtAddress (disk_of_geometry_and_blocks (D.geometry device.old) (D.blocks device.old)) (pair_address_of_array at)) }
     ensures looks { OnlyReadsDevice D.BlockDevice device.old device.new result }
 {
     let first = read_block(alloc, device, at[0])?;
     let second = read_block(alloc, device, at[1])?;
-    match holding_block(&first, &second) {
-        Some(block) => pair_of_block(alloc, at, block),
+    match current_block_of_pair(&first, &second) {
+        Some(block) => owned_pair_of_block(alloc, at, block),
         None => Ok(Read::Broken(Finding::NoCommit { pair: at })),
     }
 }

@@ -1,18 +1,18 @@
 ghost use Rattle.std.specs.Prelude.{◌≡◌, ℕ, IfErr, IfOk, List};
 
-use crate::{Reader, Writer};
+use crate::{ImageInput, ToolOutput};
 use lfs_device::Error;
-use lfs_tool_folders::{PlaceFault, Source, Target};
+use lfs_tool_folders::{PathFault, Source, Target};
 
 /// The files and folders of a command line's paths. Only their own calls touch what is there.
 ///
 /// Each call for a file or a folder returns `NoMemory` where memory isn't granted, and no other error.
 pub trait Places {
     /// An image that is read.
-    type Image: Reader + Drop;
+    type Image: ImageInput + Drop;
 
     /// An image that is made.
-    type NewImage: Writer + Drop;
+    type NewImage: ToolOutput + Drop;
 
     /// A folder of which an image is made.
     type Folder: Source + Drop;
@@ -55,5 +55,5 @@ pub trait Places {
 
     /// Returns the first fault that one of these met since the last call, where one is known, and forgets
     /// it. No contract says which it is.
-    fn fault(&self) -> Option<PlaceFault>;
+    fn fault(&self) -> Option<PathFault>;
 }

@@ -6,7 +6,7 @@ use std::io;
 
 /// A source of the bytes of an image, one after another. A contract sees how many of its calls have
 /// failed.
-pub trait Reader {
+pub trait ImageInput {
     // The bytes that are still to be read, where they are known.
     ghost remaining: { Self → Option (List ℕ) } = { λ _. None };
 

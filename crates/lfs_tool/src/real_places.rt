@@ -1,12 +1,12 @@
 ghost use Rattle.std.specs.Prelude.{◌≡◌, IfOk};
 ghost use Rattle.lfs_tool_folders.specs.Paths.{image_path};
 ghost use Rattle.lfs_tool.specs.Paths.{old_path};
-ghost use Rattle.lfs_tool.specs.StandardStreams.{is_standard, names_standard, path_by};
+ghost use Rattle.lfs_tool.specs.StandardStreams.{is_standard_stream, is_path_of_standard_stream, path_of_file_or_standard};
 
 use crate::file_or_standard::names_standard;
 use crate::{FileOrStandard, NewImage, Noted, OldImage, Places, Watched};
 use lfs_device::Error;
-use lfs_tool_folders::{FaultLog, Folder, PlaceFault, TargetFolder};
+use lfs_tool_folders::{FaultLog, Folder, PathFault, TargetFolder};
 use std::alloc::AllocError;
 use std::cell::Cell;
 use std::io::{BufReader, Read, Write};
@@ -45,8 +45,8 @@ impl<'a, R: Files + AllocGlobal + Clone + Drop, I: Read + Drop, O: Write + Drop>
 
     // Returns what is read at a path.
     fn old_image(&self, path: &str) -> Result<FileOrStandard<OldImage<'a, R>, I>, AllocError>
-        ensures path { IfOk result (λ i. path_by old_path i ≡ path.now) }
-        ensures kind { IfOk result (λ i. is_standard i ≡ names_standard path.now) }
+        ensures path { IfOk result (λ i. path_of_file_or_standard old_path i ≡ path.now) }
+        ensures kind { IfOk result (λ i. is_standard_stream i ≡ is_path_of_standard_stream path.now) }
     {
         if names_standard(path) {
             return Ok(FileOrStandard::Standard(self.input.replace(None)));
@@ -56,9 +56,12 @@ impl<'a, R: Files + AllocGlobal + Clone + Drop, I: Read + Drop, O: Write + Drop>
     }
 
     // Returns what is written at a path.
-    fn made_image(&self, path: &str) -> Result<FileOrStandard<NewImage<'a, R>, O>, AllocError>
-        ensures path { IfOk result (λ i. path_by image_path i ≡ path.now) }
-        ensures kind { IfOk result (λ i. is_standard i ≡ names_standard path.now) }
+    fn image_output_at_path(
+        &self,
+        path: &str,
+    ) -> Result<FileOrStandard<NewImage<'a, R>, O>, AllocError>
+        ensures path { IfOk result (λ i. path_of_file_or_standard image_path i ≡ path.now) }
+        ensures kind { IfOk result (λ i. is_standard_stream i ≡ is_path_of_standard_stream path.now) }
     {
         if names_standard(path) {
             return Ok(FileOrStandard::Standard(self.output.replace(None)));
@@ -70,8 +73,8 @@ impl<'a, R: Files + AllocGlobal + Clone + Drop, I: Read + Drop, O: Write + Drop>
 
 impl<'a, R: Files + AllocGlobal + Clone + Drop, I: Read + Drop, O: Write + Drop> Places
     for RealPlaces<'a, R, I, O> {
-    ghost use Rattle.lfs_tool_folders.specs.Roots.{folder_root, read_limit, target_root};
-    ghost use Rattle.lfs_tool.specs.Paths.{new_image_at, old_image_at};
+    ghost use Rattle.lfs_tool_folders.specs.Roots.{folder_root, file_size_read_limit, target_root};
+    ghost use Rattle.lfs_tool.specs.Paths.{path_of_new_image, path_of_old_image};
 
     type Image = Watched<BufReader<Noted<'a, FileOrStandard<OldImage<'a, R>, I>>>>;
 
@@ -81,13 +84,13 @@ impl<'a, R: Files + AllocGlobal + Clone + Drop, I: Read + Drop, O: Write + Drop>
 
     type NewFolder = TargetFolder<'a, R>;
 
-    ghost image_path = { old_image_at };
+    ghost image_path = { path_of_old_image };
 
-    ghost new_image_path = { new_image_at };
+    ghost new_image_path = { path_of_new_image };
 
     ghost folder_path = { folder_root };
 
-    ghost folder_limit = { read_limit };
+    ghost folder_limit = { file_size_read_limit };
 
     ghost new_folder_path = { target_root };
 
@@ -107,13 +110,13 @@ impl<'a, R: Files + AllocGlobal + Clone + Drop, I: Read + Drop, O: Write + Drop>
         &self,
         path: &str,
     ) -> Result<Watched<Noted<'a, FileOrStandard<NewImage<'a, R>, O>>>, Error> {
-        let image = self.made_image(path)?;
+        let image = self.image_output_at_path(path)?;
         let image = Noted::new(self.rt.alloc(), image, path, self.log)?;
         Ok(Watched::new(image))
     }
 
     fn folder(&self, path: &str, size: u32) -> Result<Folder<'a, R>, Error> {
-        let folder = Folder::for_image(self.rt, self.log, path, size)?;
+        let folder = Folder::for_image_of_size(self.rt, self.log, path, size)?;
         Ok(folder)
     }
 
@@ -122,7 +125,7 @@ impl<'a, R: Files + AllocGlobal + Clone + Drop, I: Read + Drop, O: Write + Drop>
         Ok(folder)
     }
 
-    fn fault(&self) -> Option<PlaceFault> {
+    fn fault(&self) -> Option<PathFault> {
         self.log.take()
     }
 }

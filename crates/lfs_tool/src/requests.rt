@@ -2,14 +2,14 @@
 
 ghost use Rattle.std.specs.Prelude.{◌≡◌, ◌≢◌, ◌⊎◌, IfErr, IfOk, IfSome, IsErrOf, OnErr, OnOk};
 ghost use Rattle.std.specs.Io.KnownBytes.{Appends};
-ghost use Rattle.lfs_tool.specs.KnownBytes.{AppendsBeginning, IsListError};
-ghost use Rattle.lfs_tool.specs.Listings.{Lists, RefusesToList};
-ghost use Rattle.lfs_tool.specs.Unpackings.{IsBegunOfImage, IsDoneOfImage};
-ghost use Rattle.lfs_tool.specs.CheckResults.{IsCheckedAs, is_accepted};
-ghost use Rattle.lfs_tool.specs.CheckedLines.{checked_text};
-ghost use Rattle.lfs_tool.specs.Reports.{IsReadToEnd, ReportsOnce, ReportsWriter};
+ghost use Rattle.lfs_tool.specs.KnownBytes.{AppendsBeginningOfBytes, IsListingRefusal};
+ghost use Rattle.lfs_tool.specs.Listings.{ListsImage, RefusesToList};
+ghost use Rattle.lfs_tool.specs.Unpackings.{HasBegunUnpackingImage, HasUnpackedImage};
+ghost use Rattle.lfs_tool.specs.CheckResults.{IsCheckResultOfBytes, is_accepted};
+ghost use Rattle.lfs_tool.specs.CheckedLines.{check_result_text};
+ghost use Rattle.lfs_tool.specs.Reports.{IsReadToEndOrPastImageLimit, IsErrorExactlyWithOneFault, ReportsWriterFaults};
 
-use crate::{Line, Reader, ToolError, Writer, check, list, unpack};
+use crate::{ImageInput, Line, ToolError, ToolOutput, check, list, unpack};
 use lfs_device::Error;
 use lfs_tool_folders::Target;
 use std::alloc::Global;
@@ -18,25 +18,25 @@ use std::alloc::Global;
 ///
 /// # Errors
 /// Those of `lfs_tool::list`, at the same times.
-pub fn list_by_line<R: Reader, W: Writer>(
+pub fn list_for_command_line<R: ImageInput, W: ToolOutput>(
     alloc: Global,
     line: &Line<'_>,
     image: &mut R,
     out: &mut W,
 ) -> Result<(), ToolError>
     ensures ok { OnOk result (IfSome (R.remaining image.old) (λ bytes.
-        (text : _) × (Lists line.now.block_size line.now.page bytes text × Appends (W.contents out.old) (W.contents out.new) text))) }
+        (text : _) × (ListsImage line.now.block_size line.now.page bytes text × Appends (W.contents out.old) (W.contents out.new) text))) }
 
     // The writer isn't called, unless it fails: then a beginning of the lines may be written.
-    ensures writer { ReportsWriter W.Writer out.old out.new result }
+    ensures writer { ReportsWriterFaults W.Writer out.old out.new result }
     ensures beginning { IsErrOf result ToolError.Output → IfSome (R.remaining image.old) (λ bytes.
-        (text : _) × (Lists line.now.block_size line.now.page bytes text × AppendsBeginning (W.contents out.old) (W.contents out.new) text)) }
+        (text : _) × (ListsImage line.now.block_size line.now.page bytes text × AppendsBeginningOfBytes (W.contents out.old) (W.contents out.new) text)) }
 
     // When each other error comes.
     ensures refused { (e : _) → IsErrOf result (ToolError.Fs e)
-        → IsListError e × IfSome (R.remaining image.old) (λ bytes. RefusesToList line.now.block_size line.now.page bytes e) }
-    ensures input { ReportsOnce ToolError.Input (R.faults image.old) (R.faults image.new) result }
-    ensures read { ¬ IsErrOf result ToolError.Input → ¬ IsErrOf result (ToolError.Fs Error.NoMemory) → IsReadToEnd (R.remaining image.old) (R.remaining image.new) }
+        → IsListingRefusal e × IfSome (R.remaining image.old) (λ bytes. RefusesToList line.now.block_size line.now.page bytes e) }
+    ensures input { IsErrorExactlyWithOneFault ToolError.Input (R.faults image.old) (R.faults image.new) result }
+    ensures read { ¬ IsErrOf result ToolError.Input → ¬ IsErrOf result (ToolError.Fs Error.NoMemory) → IsReadToEndOrPastImageLimit (R.remaining image.old) (R.remaining image.new) }
 {
     list(alloc, image, line.block_size, line.page, out)
 }
@@ -46,24 +46,24 @@ pub fn list_by_line<R: Reader, W: Writer>(
 ///
 /// # Errors
 /// Those of `lfs_tool::check`, at the same times.
-pub fn check_by_line<R: Reader, W: Writer>(
+pub fn check_for_command_line<R: ImageInput, W: ToolOutput>(
     alloc: Global,
     line: &Line<'_>,
     image: &mut R,
     out: &mut W,
 ) -> Result<bool, ToolError>
     ensures ok { IfOk result (λ accepted. IfSome (R.remaining image.old) (λ bytes.
-        (checked : _) × (IsCheckedAs line.now.block_size line.now.page bytes checked × (accepted ≡ is_accepted checked) × Appends (W.contents out.old) (W.contents out.new) (checked_text checked)))) }
+        (checked : _) × (IsCheckResultOfBytes line.now.block_size line.now.page bytes checked × (accepted ≡ is_accepted checked) × Appends (W.contents out.old) (W.contents out.new) (check_result_text checked)))) }
 
     // The writer isn't called, unless it fails: then a beginning of the lines may be written.
-    ensures writer { ReportsWriter W.Writer out.old out.new result }
+    ensures writer { ReportsWriterFaults W.Writer out.old out.new result }
     ensures beginning { IsErrOf result ToolError.Output → IfSome (R.remaining image.old) (λ bytes.
-        (checked : _) × (IsCheckedAs line.now.block_size line.now.page bytes checked × AppendsBeginning (W.contents out.old) (W.contents out.new) (checked_text checked))) }
+        (checked : _) × (IsCheckResultOfBytes line.now.block_size line.now.page bytes checked × AppendsBeginningOfBytes (W.contents out.old) (W.contents out.new) (check_result_text checked))) }
 
     // When each other error comes.
     ensures refused { (e : _) → IsErrOf result (ToolError.Fs e) → e ≡ Error.NoMemory }
-    ensures input { ReportsOnce ToolError.Input (R.faults image.old) (R.faults image.new) result }
-    ensures read { ¬ IsErrOf result ToolError.Input → ¬ IsErrOf result (ToolError.Fs Error.NoMemory) → IsReadToEnd (R.remaining image.old) (R.remaining image.new) }
+    ensures input { IsErrorExactlyWithOneFault ToolError.Input (R.faults image.old) (R.faults image.new) result }
+    ensures read { ¬ IsErrOf result ToolError.Input → ¬ IsErrOf result (ToolError.Fs Error.NoMemory) → IsReadToEndOrPastImageLimit (R.remaining image.old) (R.remaining image.new) }
 {
     check(alloc, image, line.block_size, line.page, out)
 }
@@ -72,25 +72,25 @@ pub fn check_by_line<R: Reader, W: Writer>(
 ///
 /// # Errors
 /// Those of `lfs_tool::unpack`, at the same times.
-pub fn unpack_by_line<R: Reader, T: Target>(
+pub fn unpack_for_command_line<R: ImageInput, T: Target>(
     alloc: Global,
     line: &Line<'_>,
     image: &mut R,
     target: &mut T,
 ) -> Result<(), ToolError>
     ensures done { OnOk result (IfSome (R.remaining image.old) (λ bytes.
-        IsDoneOfImage line.now.block_size line.now.page bytes (T.done target.old) (T.done target.new))) }
+        HasUnpackedImage line.now.block_size line.now.page bytes (T.done target.old) (T.done target.new))) }
 
     // Nothing is done, or a beginning of the actions, where the target failed or memory ran out.
     ensures undone { IfErr result (λ e. e ≢ ToolError.Output → e ≢ ToolError.Fs Error.NoMemory → T.done target.new ≡ T.done target.old) }
     ensures begun { OnErr result ((T.done target.new ≡ T.done target.old) ⊎ IfSome (R.remaining image.old) (λ bytes.
-        IsBegunOfImage line.now.block_size line.now.page bytes (T.done target.old) (T.done target.new))) }
+        HasBegunUnpackingImage line.now.block_size line.now.page bytes (T.done target.old) (T.done target.new))) }
 
     // When each error comes.
     ensures refused { (e : _) → IsErrOf result (ToolError.Fs e) → IfSome (R.remaining image.old) (λ bytes. RefusesToList line.now.block_size line.now.page bytes e) }
-    ensures input { ReportsOnce ToolError.Input (R.faults image.old) (R.faults image.new) result }
-    ensures read { ¬ IsErrOf result ToolError.Input → ¬ IsErrOf result (ToolError.Fs Error.NoMemory) → IsReadToEnd (R.remaining image.old) (R.remaining image.new) }
-    ensures output { ReportsOnce ToolError.Output (T.faults target.old) (T.faults target.new) result }
+    ensures input { IsErrorExactlyWithOneFault ToolError.Input (R.faults image.old) (R.faults image.new) result }
+    ensures read { ¬ IsErrOf result ToolError.Input → ¬ IsErrOf result (ToolError.Fs Error.NoMemory) → IsReadToEndOrPastImageLimit (R.remaining image.old) (R.remaining image.new) }
+    ensures output { IsErrorExactlyWithOneFault ToolError.Output (T.faults target.old) (T.faults target.new) result }
 {
     unpack(alloc, image, line.block_size, line.page, target)
 }

@@ -1,13 +1,13 @@
 // Entries of a source, copied into an image.
 
 ghost use Rattle.std.specs.Prelude.{[], ◌≡◌, ◌≢◌, IfErr, OnOk};
-ghost use Rattle.lfs_model.specs.Fresh.{IsFresh, empty_tree};
-ghost use Rattle.lfs_model.specs.Listing.{new_file_flags, operations_for};
+ghost use Rattle.lfs_model.specs.Fresh.{IsFreshDisk, empty_tree};
+ghost use Rattle.lfs_model.specs.Listing.{new_file_flags, copy_operations_of_node};
 ghost use Rattle.lfs_model.specs.State.{Healthy, mounted};
 ghost use Rattle.lfs_model.specs.Tree.{FileNode};
 ghost use Rattle.lfs_fs.specs.FlagsView.{flags_view};
 ghost use Rattle.lfs_fs.specs.SessionView.{system_state_of};
-ghost use Rattle.lfs_tool.specs.AppliedOperations.{AreAllAccepted, AppliesAll, HasNoFile, IsFirstRefusal, operations_of, operations_of_all};
+ghost use Rattle.lfs_tool.specs.AppliedOperations.{AreOperationsApplied, AppliesOperationsUntilError, IsHealthyWithoutOpenFile, IsFirstRefusalAmongOperations, copying_operations_of_entry, copying_operations_of_entries};
 
 use bitflags::Flags;
 use lfs_device::{Error, RamDevice};
@@ -16,7 +16,7 @@ use lfs_tool_folders::SourceEntry;
 use std::alloc::Global;
 
 // Returns the flags of a file that is to be made.
-fn for_new() -> OpenFlags
+fn flags_for_new_file() -> OpenFlags
     ensures { flags_view result ≡ new_file_flags }
 {
     let mut flags = OpenFlags::WRITE;
@@ -31,22 +31,22 @@ fn put_file(
     path: &[u8],
     bytes: &[u8],
 ) -> Result<(), Error>
-    requires { HasNoFile (system_state_of session.old) }
-    ensures { AppliesAll (system_state_of session.old) (operations_for path.now (FileNode [] bytes.now)) result (system_state_of session.new) }
+    requires { IsHealthyWithoutOpenFile (system_state_of session.old) }
+    ensures { AppliesOperationsUntilError (system_state_of session.old) (copy_operations_of_node path.now (FileNode [] bytes.now)) result (system_state_of session.new) }
 {
-    let fd = session.open(alloc, path, for_new())?;
+    let fd = session.open(alloc, path, flags_for_new_file())?;
     session.write(alloc, fd, bytes)?;
     session.close(alloc, fd)
 }
 
 // Makes a file with its bytes, or a folder without names.
-fn carry_entry(
+fn copy_entry_into_session(
     alloc: Global,
     session: &mut Session<RamDevice>,
     entry: &SourceEntry,
 ) -> Result<(), Error>
-    requires { HasNoFile (system_state_of session.old) }
-    ensures { AppliesAll (system_state_of session.old) (operations_of entry.now) result (system_state_of session.new) }
+    requires { IsHealthyWithoutOpenFile (system_state_of session.old) }
+    ensures { AppliesOperationsUntilError (system_state_of session.old) (copying_operations_of_entry entry.now) result (system_state_of session.new) }
 {
     match &entry.bytes {
         Some(bytes) => put_file(alloc, session, &entry.path, bytes),
@@ -60,13 +60,13 @@ pub(crate) fn carry_over(
     session: &mut Session<RamDevice>,
     entries: &[SourceEntry],
 ) -> Result<(), Error>
-    requires fresh { IsFresh (system_state_of session.old).disk }
+    requires fresh { IsFreshDisk (system_state_of session.old).disk }
     requires mounts { (system_state_of session.old).state ≡ Healthy (mounted empty_tree) }
-    ensures carried { OnOk result (AreAllAccepted (system_state_of session.old) (operations_of_all entries.now) (system_state_of session.new)) }
-    ensures refused { IfErr result (λ e. e ≢ Error.NoMemory → IsFirstRefusal (system_state_of session.old) (operations_of_all entries.now) e) }
+    ensures carried { OnOk result (AreOperationsApplied (system_state_of session.old) (copying_operations_of_entries entries.now) (system_state_of session.new)) }
+    ensures refused { IfErr result (λ e. e ≢ Error.NoMemory → IsFirstRefusalAmongOperations (system_state_of session.old) (copying_operations_of_entries entries.now) e) }
 {
     for entry in entries {
-        if let Err(error) = carry_entry(alloc, session, entry) {
+        if let Err(error) = copy_entry_into_session(alloc, session, entry) {
             // The device had no fault, so memory ran out where nothing was refused.
             let _device = session.device();
             return Err(error);

@@ -1,31 +1,31 @@
 // What an accepted image in memory has.
 
 ghost use Rattle.std.specs.Prelude.{◌≡◌, ◌↔◌, ◌≤◌, IfErr, IfOk, IsTrue, count_by, false, length};
-ghost use Rattle.lfs_model.specs.BlockSets.{AreUsed};
+ghost use Rattle.lfs_model.specs.BlockSets.{AreExactlyTheUsedBlocks};
 ghost use Rattle.lfs_model.specs.Profile.{IsWritable};
 ghost use Rattle.lfs_model.specs.Shown.{used_blocks};
-ghost use Rattle.lfs_model.specs.Thread.{superblocks_before};
-ghost use Rattle.lfs_model.specs.View.{IsAccepted};
+ghost use Rattle.lfs_model.specs.Thread.{pair_count_before_root};
+ghost use Rattle.lfs_model.specs.View.{IsAcceptedImage};
 ghost use Rattle.lfs_tag.specs.FieldsView.{move_view};
-ghost use Rattle.lfs_thread.specs.Steps.{IsOnlyRead};
+ghost use Rattle.lfs_thread.specs.Steps.{IsThreadOnlyRead};
 ghost use Rattle.lfs_lookup.specs.Items.{structure_view};
-ghost use Rattle.lfs_lookup.specs.Walk.{IsWalked, tree_items_view};
-ghost use Rattle.lfs_tool.specs.ImageSummaries.{HasSummary, is_file_item, is_file_struct, is_half_done};
+ghost use Rattle.lfs_lookup.specs.Walk.{ArePathsAndStructsOfWalk, tree_items_view};
+ghost use Rattle.lfs_tool.specs.ImageSummaries.{HasImageSummary, is_file_item, is_file_struct, has_half_done_operation};
 
 use crate::verdict::ImageSummary;
 use lfs_device::{Error, Ordered, RamDevice};
-use lfs_lookup::{Structure, TreeItem, find_root, is_writable, walk};
+use lfs_lookup::{OwnedStruct, TreeItem, find_root, is_writable, walk};
 use lfs_tag::MoveState;
 use lfs_thread::Thread;
 use std::alloc::Global;
 
-fn is_file(structure: &Structure) -> bool
+fn is_file(structure: &OwnedStruct) -> bool
     ensures { result ≡ is_file_struct (structure_view structure.now) }
 {
     match structure {
-        Structure::Inline(_) => true,
-        Structure::Ctz { .. } => true,
-        Structure::Branch(_) => false,
+        OwnedStruct::Inline(_) => true,
+        OwnedStruct::Ctz { .. } => true,
+        OwnedStruct::Branch(_) => false,
     }
 }
 
@@ -45,17 +45,20 @@ fn count_files(items: &[TreeItem]) -> usize
 
 // Returns whether a global state has an operation to end.
 fn is_half_done(state: &MoveState) -> bool
-    ensures { result ≡ is_half_done (move_view state.now) }
+    ensures { result ≡ has_half_done_operation (move_view state.now) }
 {
     state.sync || state.kind != 0
 }
 
 // Returns all entries of the image.
-fn items_in(alloc: Global, thread: &mut Thread<Ordered<RamDevice>>) -> Result<Vec<TreeItem>, Error>
+fn tree_items_of_thread(
+    alloc: Global,
+    thread: &mut Thread<Ordered<RamDevice>>,
+) -> Result<Vec<TreeItem>, Error>
     requires works { thread.old.failed ≡ false }
-    requires accepted { IsAccepted thread.old.kept.disk thread.old.kept.pairs }
-    ensures walked { IfOk result (λ items. IsWalked thread.old.kept.disk thread.old.kept.pairs (tree_items_view items.items)) }
-    ensures only { (IsOnlyRead thread.old.kept thread.new.kept) × (thread.new.failed ≡ false) }
+    requires accepted { IsAcceptedImage thread.old.kept.disk thread.old.kept.pairs }
+    ensures walked { IfOk result (λ items. ArePathsAndStructsOfWalk thread.old.kept.disk thread.old.kept.pairs (tree_items_view items.items)) }
+    ensures only { (IsThreadOnlyRead thread.old.kept thread.new.kept) × (thread.new.failed ≡ false) }
     ensures err { IfErr result (λ e. e ≡ Error.NoMemory) }
 {
     match walk(alloc, thread) {
@@ -69,11 +72,14 @@ fn items_in(alloc: Global, thread: &mut Thread<Ordered<RamDevice>>) -> Result<Ve
 }
 
 // Returns the number of the root directory's first pair.
-fn root_in(alloc: Global, thread: &mut Thread<Ordered<RamDevice>>) -> Result<usize, Error>
+fn root_index_of_thread(
+    alloc: Global,
+    thread: &mut Thread<Ordered<RamDevice>>,
+) -> Result<usize, Error>
     requires works { thread.old.failed ≡ false }
-    requires accepted { IsAccepted thread.old.kept.disk thread.old.kept.pairs }
-    ensures root { IfOk result (λ root. root ≡ superblocks_before thread.old.kept.pairs) }
-    ensures only { (IsOnlyRead thread.old.kept thread.new.kept) × (thread.new.failed ≡ false) }
+    requires accepted { IsAcceptedImage thread.old.kept.disk thread.old.kept.pairs }
+    ensures root { IfOk result (λ root. root ≡ pair_count_before_root thread.old.kept.pairs) }
+    ensures only { (IsThreadOnlyRead thread.old.kept thread.new.kept) × (thread.new.failed ≡ false) }
     ensures err { IfErr result (λ e. e ≡ Error.NoMemory) }
 {
     match find_root(alloc, thread) {
@@ -87,16 +93,16 @@ fn root_in(alloc: Global, thread: &mut Thread<Ordered<RamDevice>>) -> Result<usi
 }
 
 // Returns whether the image may be changed.
-fn writable_in(
+fn is_thread_writable(
     alloc: Global,
     thread: &mut Thread<Ordered<RamDevice>>,
     root: usize,
 ) -> Result<bool, Error>
     requires works { thread.old.failed ≡ false }
-    requires accepted { IsAccepted thread.old.kept.disk thread.old.kept.pairs }
-    requires root { root ≡ superblocks_before thread.old.kept.pairs }
+    requires accepted { IsAcceptedImage thread.old.kept.disk thread.old.kept.pairs }
+    requires root { root ≡ pair_count_before_root thread.old.kept.pairs }
     ensures is { IfOk result (λ b. IsTrue b ↔ IsWritable thread.old.kept.disk thread.old.kept.pairs) }
-    ensures only { (IsOnlyRead thread.old.kept thread.new.kept) × (thread.new.failed ≡ false) }
+    ensures only { (IsThreadOnlyRead thread.old.kept thread.new.kept) × (thread.new.failed ≡ false) }
     ensures err { IfErr result (λ e. e ≡ Error.NoMemory) }
 {
     match is_writable(alloc, thread, root) {
@@ -110,20 +116,20 @@ fn writable_in(
 }
 
 // Returns what the image has.
-pub(crate) fn summary_of(
+pub(crate) fn image_summary_of_thread(
     alloc: Global,
     thread: &mut Thread<Ordered<RamDevice>>,
 ) -> Result<ImageSummary, Error>
     requires works { thread.old.failed ≡ false }
-    requires accepted { IsAccepted thread.old.kept.disk thread.old.kept.pairs }
-    requires used { AreUsed thread.old.kept.map (used_blocks thread.old.kept.disk thread.old.kept.pairs) }
-    ensures summary { IfOk result (HasSummary thread.old.kept.disk thread.old.kept.pairs) }
-    ensures only { (IsOnlyRead thread.old.kept thread.new.kept) × (thread.new.failed ≡ false) }
+    requires accepted { IsAcceptedImage thread.old.kept.disk thread.old.kept.pairs }
+    requires used { AreExactlyTheUsedBlocks thread.old.kept.map (used_blocks thread.old.kept.disk thread.old.kept.pairs) }
+    ensures summary { IfOk result (HasImageSummary thread.old.kept.disk thread.old.kept.pairs) }
+    ensures only { (IsThreadOnlyRead thread.old.kept thread.new.kept) × (thread.new.failed ≡ false) }
     ensures err { IfErr result (λ e. e ≡ Error.NoMemory) }
 {
-    let items = items_in(alloc, thread)?;
-    let root = root_in(alloc, thread)?;
-    let writable = writable_in(alloc, thread, root)?;
+    let items = tree_items_of_thread(alloc, thread)?;
+    let root = root_index_of_thread(alloc, thread)?;
+    let writable = is_thread_writable(alloc, thread, root)?;
     let files = count_files(&items);
     let state = thread.state();
     Ok(ImageSummary {

@@ -2,31 +2,31 @@
 
 ghost use Rattle.std.specs.Prelude.{◌≡◌, ◌⊎◌, ◌<◌, ◌/◌, ◌^◌, IfSome, length};
 ghost use Rattle.lfs_tag.specs.FieldsView.{superblock_view};
-ghost use Rattle.lfs_tool.specs.WrongNumbers.{IsWrongNumberIn, IsWrongField, IsSuperblockAt};
+ghost use Rattle.lfs_tool.specs.WrongNumbers.{IsWrongNumberInImageBytes, IsWrongSuperblockField, IsSuperblockAtOffset};
 
-use crate::findings::Stated;
+use crate::findings::WrongNumber;
 use lfs_tag::{Superblock, superblock_of};
 
 // Returns which of these fields is wrong for so many blocks of that size.
-pub(crate) fn unlike(block_size: u32, count: usize, fields: &Superblock) -> Option<Stated>
-    ensures { IfSome result (IsWrongField block_size count (superblock_view fields.now)) }
+pub(crate) fn unlike(block_size: u32, count: usize, fields: &Superblock) -> Option<WrongNumber>
+    ensures { IfSome result (IsWrongSuperblockField block_size count (superblock_view fields.now)) }
 {
     if fields.block_size != block_size {
-        return Some(Stated::BlockSize(fields.block_size));
+        return Some(WrongNumber::BlockSize(fields.block_size));
     }
     if fields.block_count as usize != count {
-        return Some(Stated::BlockCount(fields.block_count));
+        return Some(WrongNumber::BlockCount(fields.block_count));
     }
     if fields.version != Superblock::VERSION {
-        return Some(Stated::Version(fields.version));
+        return Some(WrongNumber::Version(fields.version));
     }
     None
 }
 
 // Returns the fields of the superblock at the beginning of a block at that offset.
-fn fields_at(bytes: &[u8], from: usize) -> Option<Superblock>
+fn superblock_fields_at_offset(bytes: &[u8], from: usize) -> Option<Superblock>
     requires { from < 2 ^ 32 }
-    ensures { IfSome result (λ fields. IsSuperblockAt bytes.now from (superblock_view fields)) }
+    ensures { IfSome result (λ fields. IsSuperblockAtOffset bytes.now from (superblock_view fields)) }
 {
     if bytes.len() < from + 44 || &bytes[from + 8..from + 16] != Superblock::NAME {
         return None;
@@ -38,13 +38,13 @@ fn fields_at(bytes: &[u8], from: usize) -> Option<Superblock>
 }
 
 // Returns which field of that superblock is wrong for the bytes.
-fn wrong_number_at(bytes: &[u8], block_size: u32, from: usize) -> Option<Stated>
+fn wrong_number_at_offset(bytes: &[u8], block_size: u32, from: usize) -> Option<WrongNumber>
     requires size { 0 < block_size }
     requires from { (from ≡ 0) ⊎ (from ≡ block_size) }
-    ensures { IfSome result (IsWrongNumberIn bytes.now block_size) }
+    ensures { IfSome result (IsWrongNumberInImageBytes bytes.now block_size) }
 {
     let count = bytes.len() / block_size as usize;
-    match fields_at(bytes, from) {
+    match superblock_fields_at_offset(bytes, from) {
         Some(fields) => unlike(block_size, count, &fields),
         None => None,
     }
@@ -55,14 +55,14 @@ fn wrong_number_at(bytes: &[u8], block_size: u32, from: usize) -> Option<Stated>
 /// place, without a checksum. So blocks of another size needn't be known.
 ///
 /// Returns None where neither block begins with a superblock, or each has right numbers.
-pub fn wrong_number_in(bytes: &[u8], block_size: u32) -> Option<Stated>
-    ensures { IfSome result (IsWrongNumberIn bytes.now block_size) }
+pub fn wrong_superblock_number_in_image(bytes: &[u8], block_size: u32) -> Option<WrongNumber>
+    ensures { IfSome result (IsWrongNumberInImageBytes bytes.now block_size) }
 {
     if block_size == 0 {
         return None;
     }
-    match wrong_number_at(bytes, block_size, 0) {
+    match wrong_number_at_offset(bytes, block_size, 0) {
         Some(stated) => Some(stated),
-        None => wrong_number_at(bytes, block_size, block_size as usize),
+        None => wrong_number_at_offset(bytes, block_size, block_size as usize),
     }
 }

@@ -1,12 +1,12 @@
 // The thread, followed from its beginning.
 
 ghost use Rattle.std.specs.Prelude.{IfOk, IfSome, Some};
-ghost use Rattle.lfs_model.specs.Slots.{address_of};
-ghost use Rattle.lfs_device.specs.Shown.{disk_of};
+ghost use Rattle.lfs_model.specs.Slots.{pair_address_of_array};
+ghost use Rattle.lfs_device.specs.Shown.{disk_of_geometry_and_blocks};
 ghost use Rattle.lfs_tool.specs.Device.{OnlyReadsDevice};
-ghost use Rattle.lfs_tool.specs.PairReads.{AreFirstPairs, IsFollowed, IsNextPair};
+ghost use Rattle.lfs_tool.specs.PairReads.{AreOwnedFirstPairsOfThread, IsFollowed, IsNextPairOrFinding};
 
-use crate::addresses::{range_fault, twice_fault};
+use crate::addresses::{finding_on_pair_addresses, finding_on_repeated_blocks};
 use crate::findings::Finding;
 use crate::owned_parts::OwnedPair;
 use crate::pairs::{Read, read_pair};
@@ -15,7 +15,7 @@ use std::alloc::Global;
 
 // All pairs of the thread, or what is wrong with it.
 #[derive(Drop)]
-pub(crate) enum Followed {
+pub(crate) enum FollowedThread {
     Whole(Vec<OwnedPair>),
     Broken(Finding),
 }
@@ -29,15 +29,15 @@ fn next_pair<D: BlockDevice>(
     pairs: &[OwnedPair],
     at: [u32; 2],
 ) -> Result<Read, Error>
-    requires { AreFirstPairs (disk_of (D.geometry device.old) (D.blocks device.old)) (Some (address_of at)) pairs.now }
-    ensures read { IfOk result (IsNextPair (disk_of (D.geometry device.old) (D.blocks device.old)) (address_of at)) }
+    requires { AreOwnedFirstPairsOfThread (disk_of_geometry_and_blocks (D.geometry device.old) (D.blocks device.old)) (Some (pair_address_of_array at)) pairs.now }
+    ensures read { IfOk result (IsNextPairOrFinding (disk_of_geometry_and_blocks (D.geometry device.old) (D.blocks device.old)) (pair_address_of_array at)) }
     ensures looks { OnlyReadsDevice D.BlockDevice device.old device.new result }
 {
     let count = device.geometry().block_count;
-    if let Some(finding) = range_fault(count, at) {
+    if let Some(finding) = finding_on_pair_addresses(count, at) {
         return Ok(Read::Broken(finding));
     }
-    if let Some(finding) = twice_fault(marks, pairs, at) {
+    if let Some(finding) = finding_on_repeated_blocks(marks, pairs, at) {
         return Ok(Read::Broken(finding));
     }
     read_pair(alloc, device, at)
@@ -49,8 +49,8 @@ fn next_pair<D: BlockDevice>(
 pub(crate) fn follow<D: BlockDevice>(
     alloc: Global,
     device: &mut D,
-) -> Result<Option<Followed>, Error>
-    ensures followed { IfOk result (λ found. IfSome found (IsFollowed (disk_of (D.geometry device.old) (D.blocks device.old)))) }
+) -> Result<Option<FollowedThread>, Error>
+    ensures followed { IfOk result (λ found. IfSome found (IsFollowed (disk_of_geometry_and_blocks (D.geometry device.old) (D.blocks device.old)))) }
     ensures looks { OnlyReadsDevice D.BlockDevice device.old device.new result }
 {
     let count = device.geometry().block_count;
@@ -60,13 +60,13 @@ pub(crate) fn follow<D: BlockDevice>(
     for _ in 0..count {
         let pair = match next_pair(alloc, device, &mut marks, &pairs, at)? {
             Read::Pair(pair) => pair,
-            Read::Broken(finding) => return Ok(Some(Followed::Broken(finding))),
+            Read::Broken(finding) => return Ok(Some(FollowedThread::Broken(finding))),
         };
         let tail = pair.tail;
         pairs.push(pair)?;
         match tail {
             Some(tail) => at = tail.pair,
-            None => return Ok(Some(Followed::Whole(pairs))),
+            None => return Ok(Some(FollowedThread::Whole(pairs))),
         }
     }
     Ok(None)

@@ -1,14 +1,14 @@
 ghost use Rattle.std.specs.Prelude.{◌≡◌, ◌≢◌, IfErr, IfOk, IsErrOf, MatchResult, OnErr, OnOk, map, false, suc, true};
 ghost use Rattle.std.specs.IoError.{error_kind};
 ghost use Rattle.std.specs.String.{string_bytes};
-ghost use Rattle.lfs_tool_line.specs.Matches.{IsLineOf, is_checked, is_listed, rows};
-ghost use Rattle.lfs_tool.specs.RunEnds.{HasLine, IsRequestAnswered, IsFaultIn, IsFaultShown};
+ghost use Rattle.lfs_tool_line.specs.Matches.{IsLineGivenByRows, requests_check, requests_list, rows};
+ghost use Rattle.lfs_tool.specs.RunEnds.{AreWordsOfCommandLine, IsRequestAnswered, IsFailureOfWords, IsFailureShown};
 ghost use Rattle.lfs_tool.specs.Explained.{IsFollowed};
-ghost use Rattle.lfs_tool.specs.RunsAtPaths.{HoldsForMode, ChecksAt, MayEndWith, FailsAt, FailsToReadFolder, ListsAt, MakesAt, RefusesAt, RefusesToMake, UnpacksAt};
+ghost use Rattle.lfs_tool.specs.RunsAtPaths.{IsTrueForMode, ChecksImageAtPath, IsAcceptedUnlessCheck, HasFaultAtPath, FailsToReadFolder, ListsImageAtPath, MakesImageAtPath, RefusesToListAtPath, RefusesToMakeImage, UnpacksImageAtPath};
 
 use crate::explanations::explain;
 use crate::modes::carry_out;
-use crate::{Fault, LineError, Places, ToolError, Writer, read_line, report};
+use crate::{Fault, LineError, Places, ToolError, ToolOutput, read_line, report};
 use lfs_device::Error;
 use std::alloc::Global;
 use std::io;
@@ -21,41 +21,41 @@ use std::io::ErrorKind;
 /// # Errors
 /// - `Line` where there is no command line, or memory ran out while it was read.
 /// - `Tool` where the image isn't listed, checked, unpacked or made: the errors of `lfs_tool::list`,
-///   `lfs_tool::check`, `lfs_tool::unpack` and `create_by_line`.
-pub fn run<P: Places, W: Writer>(
+///   `lfs_tool::check`, `lfs_tool::unpack` and `create_for_command_line`.
+pub fn run<P: Places, W: ToolOutput>(
     alloc: Global,
     places: &P,
     words: &[String],
     out: &mut W,
 ) -> Result<bool, Fault>
-    ensures line { MatchResult result (λ _. HasLine (map string_bytes words.now)) (IsFaultIn (map string_bytes words.now)) }
+    ensures line { MatchResult result (λ _. AreWordsOfCommandLine (map string_bytes words.now)) (IsFailureOfWords (map string_bytes words.now)) }
 
     // `out` isn't called, but by a listing or a check, unless it fails.
-    ensures unlisted { is_listed (rows (map string_bytes words.now)) ≡ false → is_checked (rows (map string_bytes words.now)) ≡ false → out.new ≡ out.old }
+    ensures unlisted { requests_list (rows (map string_bytes words.now)) ≡ false → requests_check (rows (map string_bytes words.now)) ≡ false → out.new ≡ out.old }
     ensures kept { IfErr result (λ e. e ≢ Fault.Tool ToolError.Output → out.new ≡ out.old) }
 
     // What is done at the paths of the line, and when each error of the tool comes.
-    ensures done { IfOk result (λ accepted. (line : _) × (IsLineOf (rows (map string_bytes words.now)) line × MayEndWith line.mode accepted × HoldsForMode line.mode
-        (ListsAt P.image_path P.Image.remaining line (W.contents out.old) (W.contents out.new) × (W.pending out.new ≡ 0))
-        (ChecksAt P.image_path P.Image.remaining line accepted (W.contents out.old) (W.contents out.new) × (W.pending out.new ≡ 0))
-        (MakesAt P.folder_path P.folder_limit P.Folder.shown P.new_image_path P.NewImage.contents P.NewImage.pending line)
-        (UnpacksAt P.image_path P.Image.remaining P.new_folder_path P.NewFolder.done line))) }
+    ensures done { IfOk result (λ accepted. (line : _) × (IsLineGivenByRows (rows (map string_bytes words.now)) line × IsAcceptedUnlessCheck line.mode accepted × IsTrueForMode line.mode
+        (ListsImageAtPath P.image_path P.Image.remaining line (W.contents out.old) (W.contents out.new) × (W.pending out.new ≡ 0))
+        (ChecksImageAtPath P.image_path P.Image.remaining line accepted (W.contents out.old) (W.contents out.new) × (W.pending out.new ≡ 0))
+        (MakesImageAtPath P.folder_path P.folder_limit P.Folder.shown P.new_image_path P.NewImage.contents P.NewImage.pending line)
+        (UnpacksImageAtPath P.image_path P.Image.remaining P.new_folder_path P.NewFolder.done line))) }
     ensures refused { (e : _) → IsErrOf result (Fault.Tool (ToolError.Fs e)) → e ≢ Error.NoMemory
-        → (line : _) × (IsLineOf (rows (map string_bytes words.now)) line × HoldsForMode line.mode
-        (RefusesAt P.image_path P.Image.remaining line e)
+        → (line : _) × (IsLineGivenByRows (rows (map string_bytes words.now)) line × IsTrueForMode line.mode
+        (RefusesToListAtPath P.image_path P.Image.remaining line e)
         ⊥
-        (RefusesToMake P.folder_path P.folder_limit P.Folder.shown line e)
-        (λ _. RefusesAt P.image_path P.Image.remaining line e)) }
-    ensures input { IsErrOf result (Fault.Tool ToolError.Input) → (line : _) × (IsLineOf (rows (map string_bytes words.now)) line × HoldsForMode line.mode
-        (FailsAt P.image_path P.Image.faults line.image.now)
-        (FailsAt P.image_path P.Image.faults line.image.now)
+        (RefusesToMakeImage P.folder_path P.folder_limit P.Folder.shown line e)
+        (λ _. RefusesToListAtPath P.image_path P.Image.remaining line e)) }
+    ensures input { IsErrOf result (Fault.Tool ToolError.Input) → (line : _) × (IsLineGivenByRows (rows (map string_bytes words.now)) line × IsTrueForMode line.mode
+        (HasFaultAtPath P.image_path P.Image.faults line.image.now)
+        (HasFaultAtPath P.image_path P.Image.faults line.image.now)
         (FailsToReadFolder P.folder_path P.Folder.faults P.Folder.shown)
-        (λ _. FailsAt P.image_path P.Image.faults line.image.now)) }
-    ensures output { IsErrOf result (Fault.Tool ToolError.Output) → (line : _) × (IsLineOf (rows (map string_bytes words.now)) line × HoldsForMode line.mode
+        (λ _. HasFaultAtPath P.image_path P.Image.faults line.image.now)) }
+    ensures output { IsErrOf result (Fault.Tool ToolError.Output) → (line : _) × (IsLineGivenByRows (rows (map string_bytes words.now)) line × IsTrueForMode line.mode
         (W.faults out.new ≡ suc (W.faults out.old))
         (W.faults out.new ≡ suc (W.faults out.old))
-        (λ _. FailsAt P.new_image_path P.NewImage.faults line.image.now)
-        (FailsAt P.new_folder_path P.NewFolder.faults)) }
+        (λ _. HasFaultAtPath P.new_image_path P.NewImage.faults line.image.now)
+        (HasFaultAtPath P.new_folder_path P.NewFolder.faults)) }
     ensures no_output { ¬ IsErrOf result (Fault.Tool ToolError.Output) → W.faults out.new ≡ W.faults out.old }
 {
     let line = match read_line(alloc, words) {
@@ -84,31 +84,31 @@ fn fault_of(error: &io::Error) -> Fault
 /// Returns the status with which the program ends: 0, or 1 where an image was checked that isn't
 /// accepted, or that of `lfs_tool::report`, which shows the error. With `--explain` further lines
 /// follow. Without words nothing is written to `out`.
-pub fn answer<P: Places, O: Writer, E: Writer>(
+pub fn answer<P: Places, O: ToolOutput, E: ToolOutput>(
     alloc: Global,
     places: &P,
     words: io::Result<Vec<String>>,
     out: &mut O,
     err: &mut E,
 ) -> u8
-    ensures answered { IfOk words (λ all. IsRequestAnswered E.Writer (map string_bytes all.items) (λ accepted. (line : _) × (IsLineOf (rows (map string_bytes all.items)) line × MayEndWith line.mode accepted × HoldsForMode line.mode
-        (ListsAt P.image_path P.Image.remaining line (O.contents out.old) (O.contents out.new) × (O.pending out.new ≡ 0))
-        (ChecksAt P.image_path P.Image.remaining line accepted (O.contents out.old) (O.contents out.new) × (O.pending out.new ≡ 0))
-        (MakesAt P.folder_path P.folder_limit P.Folder.shown P.new_image_path P.NewImage.contents P.NewImage.pending line)
-        (UnpacksAt P.image_path P.Image.remaining P.new_folder_path P.NewFolder.done line)))
+    ensures answered { IfOk words (λ all. IsRequestAnswered E.Writer (map string_bytes all.items) (λ accepted. (line : _) × (IsLineGivenByRows (rows (map string_bytes all.items)) line × IsAcceptedUnlessCheck line.mode accepted × IsTrueForMode line.mode
+        (ListsImageAtPath P.image_path P.Image.remaining line (O.contents out.old) (O.contents out.new) × (O.pending out.new ≡ 0))
+        (ChecksImageAtPath P.image_path P.Image.remaining line accepted (O.contents out.old) (O.contents out.new) × (O.pending out.new ≡ 0))
+        (MakesImageAtPath P.folder_path P.folder_limit P.Folder.shown P.new_image_path P.NewImage.contents P.NewImage.pending line)
+        (UnpacksImageAtPath P.image_path P.Image.remaining P.new_folder_path P.NewFolder.done line)))
         (IsFollowed P.image_path P.Image.remaining P.folder_path P.folder_limit P.Folder.shown E.Writer (map string_bytes all.items)) result err.old err.new) }
-    ensures unlisted { IfOk words (λ all. HasLine (map string_bytes all.items) → is_listed (rows (map string_bytes all.items)) ≡ false → is_checked (rows (map string_bytes all.items)) ≡ false → out.new ≡ out.old) }
+    ensures unlisted { IfOk words (λ all. AreWordsOfCommandLine (map string_bytes all.items) → requests_list (rows (map string_bytes all.items)) ≡ false → requests_check (rows (map string_bytes all.items)) ≡ false → out.new ≡ out.old) }
 
     // With words that are a command line, the status 0 comes where its request is done.
-    ensures done { IfOk words (λ all. HasLine (map string_bytes all.items) → result ≡ 0 → (line : _) × (IsLineOf (rows (map string_bytes all.items)) line × HoldsForMode line.mode
-        (ListsAt P.image_path P.Image.remaining line (O.contents out.old) (O.contents out.new) × (O.pending out.new ≡ 0))
-        (ChecksAt P.image_path P.Image.remaining line true (O.contents out.old) (O.contents out.new) × (O.pending out.new ≡ 0))
-        (MakesAt P.folder_path P.folder_limit P.Folder.shown P.new_image_path P.NewImage.contents P.NewImage.pending line)
-        (UnpacksAt P.image_path P.Image.remaining P.new_folder_path P.NewFolder.done line))) }
+    ensures done { IfOk words (λ all. AreWordsOfCommandLine (map string_bytes all.items) → result ≡ 0 → (line : _) × (IsLineGivenByRows (rows (map string_bytes all.items)) line × IsTrueForMode line.mode
+        (ListsImageAtPath P.image_path P.Image.remaining line (O.contents out.old) (O.contents out.new) × (O.pending out.new ≡ 0))
+        (ChecksImageAtPath P.image_path P.Image.remaining line true (O.contents out.old) (O.contents out.new) × (O.pending out.new ≡ 0))
+        (MakesImageAtPath P.folder_path P.folder_limit P.Folder.shown P.new_image_path P.NewImage.contents P.NewImage.pending line)
+        (UnpacksImageAtPath P.image_path P.Image.remaining P.new_folder_path P.NewFolder.done line))) }
 
     // Without words.
-    ensures no_memory { IfErr words (λ e. error_kind e ≡ ErrorKind.OutOfMemory → IsFaultShown E.Writer (Fault.Tool (ToolError.Fs Error.NoMemory)) result err.old err.new) }
-    ensures not_utf8 { IfErr words (λ e. error_kind e ≢ ErrorKind.OutOfMemory → IsFaultShown E.Writer (Fault.Line LineError.NotUtf8) result err.old err.new) }
+    ensures no_memory { IfErr words (λ e. error_kind e ≡ ErrorKind.OutOfMemory → IsFailureShown E.Writer (Fault.Tool (ToolError.Fs Error.NoMemory)) result err.old err.new) }
+    ensures not_utf8 { IfErr words (λ e. error_kind e ≢ ErrorKind.OutOfMemory → IsFailureShown E.Writer (Fault.Line LineError.NotUtf8) result err.old err.new) }
     ensures kept { OnErr words (out.new ≡ out.old) }
 {
     let words = match words {

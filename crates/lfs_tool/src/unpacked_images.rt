@@ -2,22 +2,22 @@
 
 ghost use Rattle.std.specs.Prelude.{◌≡◌, ◌≢◌, ◌⊎◌, ◌<◌, ◌^◌, IfErr, IfOk, IfSome, IsErrOf, OnErr, OnOk, false, length};
 ghost use Rattle.lfs_device.specs.RamDevice.{ram_blocks, geometry_of};
-ghost use Rattle.lfs_device.specs.Shown.{disk_of as shown};
+ghost use Rattle.lfs_device.specs.Shown.{disk_of_geometry_and_blocks as shown};
 ghost use Rattle.lfs_model.specs.View.{IsListIfCtz};
 ghost use Rattle.lfs_tool_folders.specs.Actions.{AddsAction};
 ghost use Rattle.lfs_tool.specs.Listings.{RefusesToList};
-ghost use Rattle.lfs_tool.specs.Unpackings.{AreLists, FailsToUnpack, FailsToUnpackImage, HasBegunActions, HasDoneActions, IsBegunOfImage, IsDoneOf, IsDoneOfImage, ReportsTarget, action_at, actions_at};
-ghost use Rattle.lfs_thread.specs.Steps.{IsOnlyRead};
-ghost use Rattle.lfs_lookup.specs.FileBytes.{bytes_shown};
+ghost use Rattle.lfs_tool.specs.Unpackings.{HaveWellFormedSkipLists, FailsToUnpackDisk, FailsToUnpackImage, HasDoneBeginningOfActions, HasDoneMoreActions, HasBegunUnpackingImage, HasUnpackedDisk, HasUnpackedImage, ReportsTargetFaults, action_for_place, actions_for_places};
+ghost use Rattle.lfs_thread.specs.Steps.{IsThreadOnlyRead};
+ghost use Rattle.lfs_lookup.specs.FileBytes.{file_bytes_of_struct};
 ghost use Rattle.lfs_lookup.specs.Items.{structure_view};
 ghost use Rattle.lfs_lookup.specs.Walk.{tree_item_view, tree_items_view};
-ghost use Rattle.lfs_tool.specs.Reports.{IsReadToEnd, ReportsOnce};
+ghost use Rattle.lfs_tool.specs.Reports.{IsReadToEndOrPastImageLimit, IsErrorExactlyWithOneFault};
 
-use crate::image_devices::{device_of, items_in_memory};
+use crate::image_devices::{items_in_memory, ram_device_of_image};
 use crate::input::read_image;
-use crate::{Reader, ToolError};
+use crate::{ImageInput, ToolError};
 use lfs_device::{Error, Ordered, RamDevice};
-use lfs_lookup::{Structure, TreeItem, contents_of};
+use lfs_lookup::{OwnedStruct, TreeItem, contents_of};
 use lfs_thread::Thread;
 use lfs_tool_folders::{Target, TargetError};
 use std::alloc::Global;
@@ -26,12 +26,12 @@ use std::alloc::Global;
 fn file_bytes(
     alloc: Global,
     thread: &mut Thread<Ordered<RamDevice>>,
-    structure: &Structure,
+    structure: &OwnedStruct,
 ) -> Result<Vec<u8>, ToolError>
     requires works { thread.old.failed ≡ false }
     requires list { IsListIfCtz thread.old.kept.disk (structure_view structure.now) }
-    ensures bytes { IfOk result (λ bytes. bytes.items ≡ bytes_shown thread.old.kept.disk (structure_view structure.now)) }
-    ensures only { IsOnlyRead thread.old.kept thread.new.kept }
+    ensures bytes { IfOk result (λ bytes. bytes.items ≡ file_bytes_of_struct thread.old.kept.disk (structure_view structure.now)) }
+    ensures only { IsThreadOnlyRead thread.old.kept thread.new.kept }
     ensures works { thread.new.failed ≡ false }
     ensures err { IfErr result (λ e. e ≡ ToolError.Fs Error.NoMemory) }
 {
@@ -56,7 +56,7 @@ fn fault_of(error: TargetError) -> ToolError
 }
 
 // Does the action of one item.
-fn put_item<T: Target>(
+fn put_tree_item<T: Target>(
     alloc: Global,
     thread: &mut Thread<Ordered<RamDevice>>,
     item: &TreeItem,
@@ -64,13 +64,13 @@ fn put_item<T: Target>(
 ) -> Result<(), ToolError>
     requires works { thread.old.failed ≡ false }
     requires list { IsListIfCtz thread.old.kept.disk (structure_view item.now.structure) }
-    ensures done { OnOk result (AddsAction (T.done target.old) (T.done target.new) (action_at thread.old.kept.disk (tree_item_view item.now))) }
+    ensures done { OnOk result (AddsAction (T.done target.old) (T.done target.new) (action_for_place thread.old.kept.disk (tree_item_view item.now))) }
     ensures undone { OnErr result (T.done target.new ≡ T.done target.old) }
-    ensures only { (IsOnlyRead thread.old.kept thread.new.kept) × (thread.new.failed ≡ false) }
-    ensures reports { ReportsTarget (T.faults target.old) (T.faults target.new) result }
+    ensures only { (IsThreadOnlyRead thread.old.kept thread.new.kept) × (thread.new.failed ≡ false) }
+    ensures reports { ReportsTargetFaults (T.faults target.old) (T.faults target.new) result }
 {
     let result = match &item.structure {
-        Structure::Branch(_) => target.make_folder(alloc, &item.path),
+        OwnedStruct::Branch(_) => target.make_folder(alloc, &item.path),
         structure => {
             let bytes = file_bytes(alloc, thread, structure)?;
             target.put_file(alloc, &item.path, &bytes)
@@ -83,32 +83,36 @@ fn put_item<T: Target>(
 }
 
 // Does the actions of the items, in order.
-fn put_items<T: Target>(
+fn put_tree_items<T: Target>(
     alloc: Global,
     thread: &mut Thread<Ordered<RamDevice>>,
     items: &[TreeItem],
     target: &mut T,
 ) -> Result<(), ToolError>
     requires works { thread.old.failed ≡ false }
-    requires lists { AreLists thread.old.kept.disk (tree_items_view items.now) }
-    ensures done { OnOk result (HasDoneActions (T.done target.old) (T.done target.new) (actions_at thread.old.kept.disk (tree_items_view items.now))) }
-    ensures begun { OnErr result (HasBegunActions (T.done target.old) (T.done target.new) (actions_at thread.old.kept.disk (tree_items_view items.now))) }
-    ensures reports { ReportsTarget (T.faults target.old) (T.faults target.new) result }
+    requires lists { HaveWellFormedSkipLists thread.old.kept.disk (tree_items_view items.now) }
+    ensures done { OnOk result (HasDoneMoreActions (T.done target.old) (T.done target.new) (actions_for_places thread.old.kept.disk (tree_items_view items.now))) }
+    ensures begun { OnErr result (HasDoneBeginningOfActions (T.done target.old) (T.done target.new) (actions_for_places thread.old.kept.disk (tree_items_view items.now))) }
+    ensures reports { ReportsTargetFaults (T.faults target.old) (T.faults target.new) result }
 {
     for item in items {
-        put_item(alloc, thread, item, target)?;
+        put_tree_item(alloc, thread, item, target)?;
     }
     Ok(())
 }
 
 // Unpacks a device in memory.
-fn unpack_on<T: Target>(alloc: Global, device: RamDevice, target: &mut T) -> Result<(), ToolError>
-    ensures done { OnOk result (IsDoneOf (shown (geometry_of device) (ram_blocks device)) (T.done target.old) (T.done target.new)) }
-    ensures failed { IfErr result (FailsToUnpack (shown (geometry_of device) (ram_blocks device)) (T.done target.old) (T.done target.new)) }
-    ensures output { ReportsOnce ToolError.Output (T.faults target.old) (T.faults target.new) result }
+fn unpack_ram_device<T: Target>(
+    alloc: Global,
+    device: RamDevice,
+    target: &mut T,
+) -> Result<(), ToolError>
+    ensures done { OnOk result (HasUnpackedDisk (shown (geometry_of device) (ram_blocks device)) (T.done target.old) (T.done target.new)) }
+    ensures failed { IfErr result (FailsToUnpackDisk (shown (geometry_of device) (ram_blocks device)) (T.done target.old) (T.done target.new)) }
+    ensures output { IsErrorExactlyWithOneFault ToolError.Output (T.faults target.old) (T.faults target.new) result }
 {
     match items_in_memory(alloc, device) {
-        Ok((mut thread, items)) => put_items(alloc, &mut thread, &items, target),
+        Ok((mut thread, items)) => put_tree_items(alloc, &mut thread, &items, target),
         Err(error) => Err(ToolError::Fs(error)),
     }
 }
@@ -122,12 +126,12 @@ fn unpack_image<T: Target>(
     target: &mut T,
 ) -> Result<(), ToolError>
     requires { length image.items < 2 ^ 32 }
-    ensures done { OnOk result (IsDoneOfImage block_size page image.items (T.done target.old) (T.done target.new)) }
+    ensures done { OnOk result (HasUnpackedImage block_size page image.items (T.done target.old) (T.done target.new)) }
     ensures failed { IfErr result (FailsToUnpackImage block_size page image.items (T.done target.old) (T.done target.new)) }
-    ensures output { ReportsOnce ToolError.Output (T.faults target.old) (T.faults target.new) result }
+    ensures output { IsErrorExactlyWithOneFault ToolError.Output (T.faults target.old) (T.faults target.new) result }
 {
-    match device_of(image, block_size, page) {
-        Ok(device) => unpack_on(alloc, device, target),
+    match ram_device_of_image(image, block_size, page) {
+        Ok(device) => unpack_ram_device(alloc, device, target),
         Err(error) => Err(ToolError::Fs(error)),
     }
 }
@@ -148,24 +152,24 @@ fn unpack_image<T: Target>(
 /// - `Fs(Invalid)` where the image isn't a whole number of blocks, or its geometry is out of range.
 /// - `Fs(Corrupt)` where the image is accepted in neither order of names.
 /// - `Output` where the target failed.
-pub fn unpack<R: Reader, T: Target>(
+pub fn unpack<R: ImageInput, T: Target>(
     alloc: Global,
     image: &mut R,
     block_size: u32,
     page: u32,
     target: &mut T,
 ) -> Result<(), ToolError>
-    ensures done { OnOk result (IfSome (R.remaining image.old) (λ bytes. IsDoneOfImage block_size page bytes (T.done target.old) (T.done target.new))) }
+    ensures done { OnOk result (IfSome (R.remaining image.old) (λ bytes. HasUnpackedImage block_size page bytes (T.done target.old) (T.done target.new))) }
 
     // Nothing is done, or a beginning of the actions, where the target failed or memory ran out.
     ensures undone { IfErr result (λ e. e ≢ ToolError.Output → e ≢ ToolError.Fs Error.NoMemory → T.done target.new ≡ T.done target.old) }
-    ensures begun { OnErr result ((T.done target.new ≡ T.done target.old) ⊎ IfSome (R.remaining image.old) (λ bytes. IsBegunOfImage block_size page bytes (T.done target.old) (T.done target.new))) }
+    ensures begun { OnErr result ((T.done target.new ≡ T.done target.old) ⊎ IfSome (R.remaining image.old) (λ bytes. HasBegunUnpackingImage block_size page bytes (T.done target.old) (T.done target.new))) }
 
     // When each error comes.
     ensures refused { (e : _) → IsErrOf result (ToolError.Fs e) → IfSome (R.remaining image.old) (λ bytes. RefusesToList block_size page bytes e) }
-    ensures input { ReportsOnce ToolError.Input (R.faults image.old) (R.faults image.new) result }
-    ensures read { ¬ IsErrOf result ToolError.Input → ¬ IsErrOf result (ToolError.Fs Error.NoMemory) → IsReadToEnd (R.remaining image.old) (R.remaining image.new) }
-    ensures output { ReportsOnce ToolError.Output (T.faults target.old) (T.faults target.new) result }
+    ensures input { IsErrorExactlyWithOneFault ToolError.Input (R.faults image.old) (R.faults image.new) result }
+    ensures read { ¬ IsErrOf result ToolError.Input → ¬ IsErrOf result (ToolError.Fs Error.NoMemory) → IsReadToEndOrPastImageLimit (R.remaining image.old) (R.remaining image.new) }
+    ensures output { IsErrorExactlyWithOneFault ToolError.Output (T.faults target.old) (T.faults target.new) result }
 {
     let bytes = read_image(alloc, image)?;
     unpack_image(alloc, bytes, block_size, page, target)

@@ -1,6 +1,6 @@
 ghost use Rattle.std.specs.Prelude.{◌≡◌};
 
-use crate::{Reader, Writer};
+use crate::{ImageInput, ToolOutput};
 use lfs_tool_folders::Tally;
 use std::fmt::Display;
 use std::io;
@@ -11,7 +11,7 @@ use std::io::{ErrorKind, Read, Write};
 ///
 /// std's traits have no word for a call that failed, nor for a flush. So three facts are read in
 /// the code here, and not proved: that std's call is made, that a failure is counted only where the
-/// call failed, and that a flush is one. Callers know a `Watched` by `Reader` and `Writer`, and
+/// call failed, and that a flush is one. Callers know a `Watched` by `ImageInput` and `ToolOutput`, and
 /// can't count anything without a call.
 #[derive(Drop)]
 pub struct Watched<T> {
@@ -23,12 +23,12 @@ pub struct Watched<T> {
 }
 
 impl<T> Watched<T> {
-    ghost use Rattle.lfs_tool.specs.WatchedStreams.{faults_of, inner_of};
+    ghost use Rattle.lfs_tool.specs.WatchedStreams.{watched_fault_count, watched_inner_stream};
 
     /// Makes a reader or a writer of which no call was made yet.
     pub fn new(inner: T) -> Watched<T>
-        ensures inner { inner_of result ≡ inner }
-        ensures faults { faults_of result ≡ 0 }
+        ensures inner { watched_inner_stream result ≡ inner }
+        ensures faults { watched_fault_count result ≡ 0 }
     {
         Watched {
             inner,
@@ -40,25 +40,25 @@ impl<T> Watched<T> {
 
     /// Borrows the reader or the writer.
     pub fn inner(&self) -> &T
-        ensures { result.now ≡ inner_of self.now }
+        ensures { result.now ≡ watched_inner_stream self.now }
     {
         &self.inner
     }
 
     /// Returns the reader or the writer.
     pub fn into_inner(self) -> T
-        ensures { result ≡ inner_of self }
+        ensures { result ≡ watched_inner_stream self }
     {
         self.inner
     }
 }
 
-impl<R: Read> Reader for Watched<R> {
-    ghost use Rattle.lfs_tool.specs.WatchedStreams.{faults_of, inner_of};
+impl<R: Read> ImageInput for Watched<R> {
+    ghost use Rattle.lfs_tool.specs.WatchedStreams.{watched_fault_count, watched_inner_stream};
 
-    ghost remaining = { λ w. R.remaining (inner_of w) };
+    ghost remaining = { λ w. R.remaining (watched_inner_stream w) };
 
-    ghost faults = { faults_of };
+    ghost faults = { watched_fault_count };
 
     fn read(&mut self, buf: &mut [u8]) -> io::Result<usize> {
         for _ in 0..u64::MAX {
@@ -77,14 +77,14 @@ impl<R: Read> Reader for Watched<R> {
     }
 }
 
-impl<W: Write> Writer for Watched<W> {
-    ghost use Rattle.lfs_tool.specs.WatchedStreams.{faults_of, inner_of, unflushed_of, shown_of};
+impl<W: Write> ToolOutput for Watched<W> {
+    ghost use Rattle.lfs_tool.specs.WatchedStreams.{watched_fault_count, watched_inner_stream, unflushed_write_count, shown_of};
 
-    ghost contents = { λ w. W.contents (inner_of w) };
+    ghost contents = { λ w. W.contents (watched_inner_stream w) };
 
-    ghost faults = { faults_of };
+    ghost faults = { watched_fault_count };
 
-    ghost pending = { unflushed_of };
+    ghost pending = { unflushed_write_count };
 
     ghost shown = { shown_of };
 

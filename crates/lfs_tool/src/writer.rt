@@ -7,7 +7,7 @@ use std::io;
 
 /// A sink for the bytes of an image, or lines. A contract sees how many of its calls have failed,
 /// and whether its bytes were flushed.
-pub trait Writer {
+pub trait ToolOutput {
     // The bytes that it has, where they are known.
     ghost contents: { Self → Option (List ℕ) } = { λ _. None };
 

@@ -10,31 +10,31 @@ use Rattle.std.proofs.lemmas.List.Kept.{AllPairs-cons}
 use Rattle.std.proofs.lemmas.List.Sums.{sum_by-cons}
 use Rattle.std.proofs.lemmas.List.Sorted.{IsPermutation-map, sum_by-IsPermutation}
 use Rattle.lfs_model.specs.declared.order.NameOrder.TheVariants.{ShorterFirst}
-use Rattle.lfs_model.specs.Names.{Name, name_cmp, same_name, is_component, is_less}
-use Rattle.lfs_model.specs.Source.{AreBadNames, Source, given_names, times_given}
-use Rattle.lfs_tool_folders.specs.SourceTrees.{name_view}
+use Rattle.lfs_model.specs.Names.{Name, name_cmp, same_name, is_path_component, is_less_ordering}
+use Rattle.lfs_model.specs.Source.{HaveBadOrRepeatedName, Source, names_of_given_entries, occurrence_count_of_name}
+use Rattle.lfs_tool_folders.specs.SourceTrees.{listed_name_and_kind_view}
 use Rattle.lfs_model.proofs.Counts.{Each, each_weaker}
 use Rattle.lfs_model.proofs.Paths.{name_from_equal, same_itself}
-use Rattle.lfs_tool_folders.specs.Entries.{AreInOrder, comes_before, name_in, rise_behind}
+use Rattle.lfs_tool_folders.specs.Entries.{AreNamesInOrder, is_listed_name_before, name_of_listed, are_names_increasing_after}
 use Rattle.lfs_tool_folders.specs.declared.source.Listed.{Listed}
 
 -- ---- in order
 
-less_from : (o : Ordering) → is_less o ≡ true → o ≡ Less
+less_from : (o : Ordering) → is_less_ordering o ≡ true → o ≡ Less
 less_from Less e = refl
 less_from Equal e = absurd (cc)
 less_from Greater e = absurd (cc)
 
 record Rises (last : Name) (ns : List Name) : Type 0 where
-  components : Each (λ n. is_component n ≡ true) ns
+  components : Each (λ n. is_path_component n ≡ true) ns
   above : Each (λ n. name_cmp ShorterFirst last n ≡ Less) ns
   pairs : AllPairs (λ a b. name_cmp ShorterFirst a b ≡ Less) ns
 
-rises_from : (last : Name) (ns : List Name) → rise_behind last ns ≡ true → Rises last ns
+rises_from : (last : Name) (ns : List Name) → are_names_increasing_after last ns ≡ true → Rises last ns
 rises_from last [] e = record { components = tt; above = tt; pairs = λ i j d l m. absurd (omega arith) }
 rises_from last (n ∷ ns) e =
-    let one = and_parts (is_component n && is_less (name_cmp ShorterFirst last n)) (rise_behind n ns) e in
-    let two = and_parts (is_component n) (is_less (name_cmp ShorterFirst last n)) one.0 in
+    let one = and_parts (is_path_component n && is_less_ordering (name_cmp ShorterFirst last n)) (are_names_increasing_after n ns) e in
+    let two = and_parts (is_path_component n) (is_less_ordering (name_cmp ShorterFirst last n)) one.0 in
     let less = less_from (name_cmp ShorterFirst last n) two.1 in
     let rest = rises_from n ns one.1 in
     record {
@@ -43,88 +43,88 @@ rises_from last (n ∷ ns) e =
       pairs = AllPairs-cons (λ a b. name_cmp ShorterFirst a b ≡ Less) n ns (All-from_recursion (λ m. name_cmp ShorterFirst n m ≡ Less) ns rest.above) rest.pairs;
     }
 
-pub in_order : (ns : List Name) → rise_behind [] ns ≡ true → AreInOrder ns
+pub in_order : (ns : List Name) → are_names_increasing_after [] ns ≡ true → AreNamesInOrder ns
 in_order ns e =
     let r = rises_from [] ns e in
-    record { components = All-from_recursion (λ n. is_component n ≡ true) ns r.components; rise = r.pairs }
+    record { components = All-from_recursion (λ n. is_path_component n ≡ true) ns r.components; rise = r.pairs }
 
 -- ---- not in order
 
 abbrev NeverFall : List Name → Type 0
 NeverFall [] = Unit {0}
 NeverFall (n ∷ []) = Unit {0}
-NeverFall (n ∷ m ∷ ns) = (is_less (name_cmp ShorterFirst m n) ≡ false) × NeverFall (m ∷ ns)
+NeverFall (n ∷ m ∷ ns) = (is_less_ordering (name_cmp ShorterFirst m n) ≡ false) × NeverFall (m ∷ ns)
 
-never_fall : (xs : List Listed) → IsSortedBy comes_before xs → NeverFall (map name_in xs)
+never_fall : (xs : List Listed) → IsSortedBy is_listed_name_before xs → NeverFall (map name_of_listed xs)
 never_fall [] h = tt
 never_fall (x ∷ []) h = tt
 never_fall (x ∷ y ∷ xs) h = (
   h 0 x (omega arith) (omega arith),
   never_fall (y ∷ xs) (λ k d l m.
       let next : suc k + 1 ≡ suc (k + 1) = omega arith in
-      subst (λ i. comes_before (get_or (x ∷ y ∷ xs) i d) (get_or (y ∷ xs) k d) ≡ false) next (h (suc k) d (omega arith) (omega arith))),
+      subst (λ i. is_listed_name_before (get_or (x ∷ y ∷ xs) i d) (get_or (y ∷ xs) k d) ≡ false) next (h (suc k) d (omega arith) (omega arith))),
 )
 
-times_more : (name n : Name) (ns : List Name) → times_given name (n ∷ ns) ≡ cond (same_name name n) 1 0 + times_given name ns
+times_more : (name n : Name) (ns : List Name) → occurrence_count_of_name name (n ∷ ns) ≡ cond (same_name name n) 1 0 + occurrence_count_of_name name ns
 times_more name n ns = sum_by-cons (λ m. cond (same_name name m) 1 0) n ns
 
-here_too : (n : Name) (ns : List Name) → times_given n (n ∷ ns) ≡ 1 + times_given n ns
-here_too n ns = times_more n n ns ∙ ap (λ b. cond b 1 0 + times_given n ns) (same_itself n)
+here_too : (n : Name) (ns : List Name) → occurrence_count_of_name n (n ∷ ns) ≡ 1 + occurrence_count_of_name n ns
+here_too n ns = times_more n n ns ∙ ap (λ b. cond b 1 0 + occurrence_count_of_name n ns) (same_itself n)
 
-bad_later : (n : Name) (ns : List Name) → AreBadNames ns → AreBadNames (n ∷ ns)
+bad_later : (n : Name) (ns : List Name) → HaveBadOrRepeatedName ns → HaveBadOrRepeatedName (n ∷ ns)
 bad_later n ns (inl h) = inl (h.0, h.1, omega (arith, h.2, times_more h.0 n ns))
 bad_later n ns (inr h) = inr (h.0, omega (arith, h.1, times_more h.0 n ns))
 
-odd_here : (n : Name) (ns : List Name) → is_component n ≡ false → AreBadNames (n ∷ ns)
+odd_here : (n : Name) (ns : List Name) → is_path_component n ≡ false → HaveBadOrRepeatedName (n ∷ ns)
 odd_here n ns e = inl (n, e, omega (arith, here_too n ns))
 
-twice : (n : Name) (ns : List Name) → AreBadNames (n ∷ n ∷ ns)
+twice : (n : Name) (ns : List Name) → HaveBadOrRepeatedName (n ∷ n ∷ ns)
 twice n ns = inr (n, omega (arith, here_too n (n ∷ ns), here_too n ns))
 
-bad_behind : (last : Name) (ns : List Name) → NeverFall (last ∷ ns) → rise_behind last ns ≡ false → AreBadNames (last ∷ ns)
+bad_behind : (last : Name) (ns : List Name) → NeverFall (last ∷ ns) → are_names_increasing_after last ns ≡ false → HaveBadOrRepeatedName (last ∷ ns)
 bad_behind last [] h e = absurd (cc)
-bad_behind last (n ∷ ns) h e = go (is_component n) (name_cmp ShorterFirst last n) refl refl e (bad_behind n ns h.1)
+bad_behind last (n ∷ ns) h e = go (is_path_component n) (name_cmp ShorterFirst last n) refl refl e (bad_behind n ns h.1)
   where
-    go : (c : Bool) (o : Ordering) → is_component n ≡ c → name_cmp ShorterFirst last n ≡ o → (c && is_less o && rise_behind n ns) ≡ false → (rise_behind n ns ≡ false → AreBadNames (n ∷ ns)) → AreBadNames (last ∷ n ∷ ns)
+    go : (c : Bool) (o : Ordering) → is_path_component n ≡ c → name_cmp ShorterFirst last n ≡ o → (c && is_less_ordering o && are_names_increasing_after n ns) ≡ false → (are_names_increasing_after n ns ≡ false → HaveBadOrRepeatedName (n ∷ ns)) → HaveBadOrRepeatedName (last ∷ n ∷ ns)
     go false o is cmp f next = bad_later last (n ∷ ns) (odd_here n ns is)
     go true Less is cmp f next = bad_later last (n ∷ ns) (next f)
-    go true Equal is cmp f next = subst (λ m. AreBadNames (last ∷ m ∷ ns)) (name_from_equal last n cmp) (twice last ns)
+    go true Equal is cmp f next = subst (λ m. HaveBadOrRepeatedName (last ∷ m ∷ ns)) (name_from_equal last n cmp) (twice last ns)
     go true Greater is cmp f next =
         let back : name_cmp ShorterFirst n last ≡ Less = nat_list_cmp_total.antisymm n last ∙ ap ordering_reverse cmp in
-        let wrong : true ≡ false = sym (ap is_less back) ∙ h.0 in
+        let wrong : true ≡ false = sym (ap is_less_ordering back) ∙ h.0 in
         absurd (cc)
 
-above_nothing : (n : Name) → is_component n ≡ true → is_less (name_cmp ShorterFirst [] n) ≡ true
+above_nothing : (n : Name) → is_path_component n ≡ true → is_less_ordering (name_cmp ShorterFirst [] n) ≡ true
 above_nothing [] e = absurd (cc)
 above_nothing (b ∷ n) e = refl
 
-bad_from : (ns : List Name) → NeverFall ns → rise_behind [] ns ≡ false → AreBadNames ns
+bad_from : (ns : List Name) → NeverFall ns → are_names_increasing_after [] ns ≡ false → HaveBadOrRepeatedName ns
 bad_from [] h e = absurd (cc)
-bad_from (n ∷ ns) h e = go (is_component n) refl e
+bad_from (n ∷ ns) h e = go (is_path_component n) refl e
   where
-    go : (c : Bool) → is_component n ≡ c → (c && is_less (name_cmp ShorterFirst [] n) && rise_behind n ns) ≡ false → AreBadNames (n ∷ ns)
+    go : (c : Bool) → is_path_component n ≡ c → (c && is_less_ordering (name_cmp ShorterFirst [] n) && are_names_increasing_after n ns) ≡ false → HaveBadOrRepeatedName (n ∷ ns)
     go false is f = odd_here n ns is
-    go true is f = bad_behind n ns h (sym (ap (λ b. b && rise_behind n ns) (above_nothing n is)) ∙ f)
+    go true is f = bad_behind n ns h (sym (ap (λ b. b && are_names_increasing_after n ns) (above_nothing n is)) ∙ f)
 
-pub bad_names : (xs : List Listed) → IsSortedBy comes_before xs → rise_behind [] (map name_in xs) ≡ false → AreBadNames (map name_in xs)
-bad_names xs h e = bad_from (map name_in xs) (never_fall xs h) e
+pub bad_names : (xs : List Listed) → IsSortedBy is_listed_name_before xs → are_names_increasing_after [] (map name_of_listed xs) ≡ false → HaveBadOrRepeatedName (map name_of_listed xs)
+bad_names xs h e = bad_from (map name_of_listed xs) (never_fall xs h) e
 
 -- ---- in another order
 
-same_times : (xs ys : List Listed) (name : Name) → IsPermutation xs ys → times_given name (map name_in ys) ≡ times_given name (map name_in xs)
-same_times xs ys name h = sum_by-IsPermutation (λ n. cond (same_name name n) 1 0) (map name_in xs) (map name_in ys) (IsPermutation-map name_in xs ys h)
+same_times : (xs ys : List Listed) (name : Name) → IsPermutation xs ys → occurrence_count_of_name name (map name_of_listed ys) ≡ occurrence_count_of_name name (map name_of_listed xs)
+same_times xs ys name h = sum_by-IsPermutation (λ n. cond (same_name name n) 1 0) (map name_of_listed xs) (map name_of_listed ys) (IsPermutation-map name_of_listed xs ys h)
 
-bad_before : (xs ys : List Listed) → IsPermutation xs ys → AreBadNames (map name_in ys) → AreBadNames (map name_in xs)
+bad_before : (xs ys : List Listed) → IsPermutation xs ys → HaveBadOrRepeatedName (map name_of_listed ys) → HaveBadOrRepeatedName (map name_of_listed xs)
 bad_before xs ys h (inl b) = inl (b.0, b.1, omega (arith, b.2, same_times xs ys b.0 h))
 bad_before xs ys h (inr b) = inr (b.0, omega (arith, b.1, same_times xs ys b.0 h))
 
-pub names_given : (xs : List Listed) → given_names (map name_view xs) ≡ map name_in xs
+pub names_given : (xs : List Listed) → names_of_given_entries (map listed_name_and_kind_view xs) ≡ map name_of_listed xs
 names_given [] = refl
 names_given (x ∷ xs) = ap (λ ns. x.name.items ∷ ns) (names_given xs)
 
 -- what is bad once it is sorted was bad as it was given
-pub bad_given : (known : Option Source) (folder : List ℕ) (xs ys zs : List Listed) → IfSome known (λ s. map name_view xs ≡ s.names folder) → IsPermutation xs ys → zs ≡ ys → AreBadNames (map name_in zs)
-    → IfSome known (λ s. AreBadNames (given_names (s.names folder)))
+pub bad_given : (known : Option Source) (folder : List ℕ) (xs ys zs : List Listed) → IfSome known (λ s. map listed_name_and_kind_view xs ≡ s.names folder) → IsPermutation xs ys → zs ≡ ys → HaveBadOrRepeatedName (map name_of_listed zs)
+    → IfSome known (λ s. HaveBadOrRepeatedName (names_of_given_entries (s.names folder)))
 bad_given None folder xs ys zs e h same b = tt
 bad_given (Some s) folder xs ys zs e h same b =
-    subst (λ g. AreBadNames (given_names g)) e (subst AreBadNames (sym (names_given xs)) (bad_before xs ys h (subst (λ v. AreBadNames (map name_in v)) same b)))
+    subst (λ g. HaveBadOrRepeatedName (names_of_given_entries g)) e (subst HaveBadOrRepeatedName (sym (names_given xs)) (bad_before xs ys h (subst (λ v. HaveBadOrRepeatedName (map name_of_listed v)) same b)))

@@ -9,8 +9,8 @@ abbrev pub folder_root : {R : Type 0} → Folder R → List ℕ
 folder_root f = string_bytes f.root
 
 -- how many bytes a file may have that is read
-abbrev pub read_limit : {R : Type 0} → Folder R → ℕ
-read_limit f = f.size
+abbrev pub file_size_read_limit : {R : Type 0} → Folder R → ℕ
+file_size_read_limit f = f.size
 
 -- the path at which one is written
 abbrev pub target_root : {R : Type 0} → TargetFolder R → List ℕ

@@ -6,14 +6,14 @@ use Rattle.lfs_tool_folders.specs.declared.source.SourceKind.TheVariants.{File, 
 use Rattle.lfs_tool_folders.specs.declared.source.Listed.{Listed}
 
 -- a known tree stays
-abbrev pub TreeStays : {X : Type 0} → Option X → Option X → Type 0
-TreeStays None new = Unit {0}
-TreeStays (Some x) None = ⊥
-TreeStays (Some x) (Some y) = y ≡ x
+abbrev pub IsKnownTreeUnchanged : {X : Type 0} → Option X → Option X → Type 0
+IsKnownTreeUnchanged None new = Unit {0}
+IsKnownTreeUnchanged (Some x) None = ⊥
+IsKnownTreeUnchanged (Some x) (Some y) = y ≡ x
 
 abbrev pub is_folder : SourceKind → Bool
 is_folder File = false
 is_folder Folder = true
 
-abbrev pub name_view : Listed → Name × Bool
-name_view l = (l.name.items, is_folder l.kind)
+abbrev pub listed_name_and_kind_view : Listed → Name × Bool
+listed_name_and_kind_view l = (l.name.items, is_folder l.kind)

@@ -1,10 +1,10 @@
 ghost use Rattle.std.specs.Prelude.{◌≡◌, ◌++◌, ◌∷◌, [], IfOk, IfSome, IsErrOf, OnOk, map, reverse, true};
-ghost use Rattle.lfs_model.specs.Source.{AreBadNames, given_names, path_in};
-ghost use Rattle.lfs_tool_folders.specs.SourceTrees.{TreeStays, is_folder, name_view};
-ghost use Rattle.lfs_tool_folders.specs.MemorySources.{items_by};
-ghost use Rattle.lfs_tool_folders.specs.Entries.{AreAllEntries, AreWithin, FailsOr, HasBadNames, HoldsSource, place_of, places_in};
+ghost use Rattle.lfs_model.specs.Source.{HaveBadOrRepeatedName, names_of_given_entries, source_path_in};
+ghost use Rattle.lfs_tool_folders.specs.SourceTrees.{IsKnownTreeUnchanged, is_folder, listed_name_and_kind_view};
+ghost use Rattle.lfs_tool_folders.specs.MemorySources.{optional_bytes_view};
+ghost use Rattle.lfs_tool_folders.specs.Entries.{AreAllEntriesOfSource, AreNamesInFolder, HasOneFaultMoreOr, HasFolderWithBadNames, HasContentsInSource, path_and_is_folder_of_waiting, paths_of_names_in_folder};
 
-use crate::names::{are_good, sort_names};
+use crate::names::{are_listed_in_order, sort_names};
 use crate::{Listed, Source, SourceError, SourceKind};
 use std::alloc::Global;
 
@@ -19,14 +19,14 @@ pub struct SourceEntry {
 
 // A file or a folder that is known to be there, and is still to be read.
 #[derive(Debug, Drop)]
-struct Waiting {
+struct WaitingEntry {
     path: Vec<u8>,
     kind: SourceKind,
 }
 
 // Returns the path of a name in a folder.
 fn join_path(alloc: Global, folder: &[u8], name: &[u8]) -> Result<Vec<u8>, SourceError>
-    ensures path { IfOk result (λ v. v.items ≡ path_in folder.now name.now) }
+    ensures path { IfOk result (λ v. v.items ≡ source_path_in folder.now name.now) }
     ensures memory { (e : _) → result ≡ Err e → e ≡ SourceError.NoMemory }
 {
     let mut path = folder.to_vec(alloc).map_err(|_| SourceError::NoMemory)?;
@@ -37,90 +37,90 @@ fn join_path(alloc: Global, folder: &[u8], name: &[u8]) -> Result<Vec<u8>, Sourc
 }
 
 // Returns the names in a folder, in order.
-fn names_within<S: Source>(
+fn sorted_names_in_folder<S: Source>(
     alloc: Global,
     source: &mut S,
     folder: &[u8],
 ) -> Result<Vec<Listed>, SourceError>
-    ensures names { IfOk result (λ v. AreWithin (S.shown source.old) folder.now (map name_view v.items)) }
-    ensures shown { TreeStays (S.shown source.old) (S.shown source.new) }
+    ensures names { IfOk result (λ v. AreNamesInFolder (S.shown source.old) folder.now (map listed_name_and_kind_view v.items)) }
+    ensures shown { IsKnownTreeUnchanged (S.shown source.old) (S.shown source.new) }
     ensures kept { OnOk result (S.faults source.new ≡ S.faults source.old) }
     ensures fault { IsErrOf result SourceError.Fault
-        → FailsOr (S.faults source.old) (S.faults source.new) (IfSome (S.shown source.old) (λ s. AreBadNames (given_names (s.names folder.now)))) }
+        → HasOneFaultMoreOr (S.faults source.old) (S.faults source.new) (IfSome (S.shown source.old) (λ s. HaveBadOrRepeatedName (names_of_given_entries (s.names folder.now)))) }
     ensures no_memory { IsErrOf result SourceError.NoMemory → S.faults source.new ≡ S.faults source.old }
 {
     let mut names = source.list(alloc, folder)?;
     sort_names(&mut names);
-    if !are_good(names.as_slice()) {
+    if !are_listed_in_order(names.as_slice()) {
         return Err(SourceError::Fault);
     }
     Ok(names)
 }
 
-fn wait(waiting: &mut Vec<Waiting>, one: Waiting) -> Result<(), SourceError>
+fn wait(waiting: &mut Vec<WaitingEntry>, one: WaitingEntry) -> Result<(), SourceError>
     ensures waiting { OnOk result (waiting.new.items ≡ waiting.old.items ++ one ∷ []) }
     ensures memory { (e : _) → result ≡ Err e → e ≡ SourceError.NoMemory }
 {
     waiting.push(one).map_err(|_| SourceError::NoMemory)
 }
 
-fn wait_for(
+fn push_names_as_waiting(
     alloc: Global,
     folder: &[u8],
     names: &[Listed],
-    waiting: &mut Vec<Waiting>,
+    waiting: &mut Vec<WaitingEntry>,
 ) -> Result<(), SourceError>
-    ensures places { OnOk result (map place_of waiting.new.items ≡ map place_of waiting.old.items ++ places_in folder.now (map name_view names.now)) }
+    ensures places { OnOk result (map path_and_is_folder_of_waiting waiting.new.items ≡ map path_and_is_folder_of_waiting waiting.old.items ++ paths_of_names_in_folder folder.now (map listed_name_and_kind_view names.now)) }
     ensures memory { (e : _) → result ≡ Err e → e ≡ SourceError.NoMemory }
 {
     for one in names {
         let path = join_path(alloc, folder, one.name.as_slice())?;
         let kind = one.kind;
-        wait(waiting, Waiting { path, kind })?;
+        wait(waiting, WaitingEntry { path, kind })?;
     }
     Ok(())
 }
 
 // Adds the names in a folder to the pending ones, the first name last.
-fn look_into<S: Source>(
+fn push_folder_names_as_waiting<S: Source>(
     alloc: Global,
     source: &mut S,
     folder: &[u8],
-    waiting: &mut Vec<Waiting>,
+    waiting: &mut Vec<WaitingEntry>,
 ) -> Result<(), SourceError>
-    ensures within { OnOk result ((within : _) × (AreWithin (S.shown source.old) folder.now within
-        × (map place_of waiting.new.items ≡ map place_of waiting.old.items ++ reverse (places_in folder.now within)))) }
-    ensures shown { TreeStays (S.shown source.old) (S.shown source.new) }
+    ensures within { OnOk result ((within : _) × (AreNamesInFolder (S.shown source.old) folder.now within
+        × (map path_and_is_folder_of_waiting waiting.new.items ≡ map path_and_is_folder_of_waiting waiting.old.items ++ reverse (paths_of_names_in_folder folder.now within)))) }
+    ensures shown { IsKnownTreeUnchanged (S.shown source.old) (S.shown source.new) }
     ensures kept { OnOk result (S.faults source.new ≡ S.faults source.old) }
     ensures fault { IsErrOf result SourceError.Fault
-        → FailsOr (S.faults source.old) (S.faults source.new) (IfSome (S.shown source.old) (λ s. AreBadNames (given_names (s.names folder.now)))) }
+        → HasOneFaultMoreOr (S.faults source.old) (S.faults source.new) (IfSome (S.shown source.old) (λ s. HaveBadOrRepeatedName (names_of_given_entries (s.names folder.now)))) }
     ensures no_memory { IsErrOf result SourceError.NoMemory → S.faults source.new ≡ S.faults source.old }
 {
-    let mut names = names_within(alloc, source, folder)?;
+    let mut names = sorted_names_in_folder(alloc, source, folder)?;
     names.reverse();
-    wait_for(alloc, folder, names.as_slice(), waiting)?;
+    push_names_as_waiting(alloc, folder, names.as_slice(), waiting)?;
     Ok(())
 }
 
 // Returns a file's bytes. The names in a folder become pending.
-fn read_one<S: Source>(
+fn read_waiting_entry<S: Source>(
     alloc: Global,
     source: &mut S,
-    one: &Waiting,
-    waiting: &mut Vec<Waiting>,
+    one: &WaitingEntry,
+    waiting: &mut Vec<WaitingEntry>,
 ) -> Result<Option<Vec<u8>>, SourceError>
-    ensures holds { IfOk result (λ bytes. (within : _) × (HoldsSource (S.shown source.old) one.now.path.items (is_folder one.now.kind) (items_by bytes) within
-        × (map place_of waiting.new.items ≡ map place_of waiting.old.items ++ reverse (places_in one.now.path.items within)))) }
-    ensures shown { TreeStays (S.shown source.old) (S.shown source.new) }
+    ensures holds { IfOk result (λ bytes. (within : _) × (HasContentsInSource (S.shown source.old) one.now.path.items (is_folder one.now.kind) (optional_bytes_view bytes) within
+        × (map path_and_is_folder_of_waiting waiting.new.items ≡ map path_and_is_folder_of_waiting waiting.old.items ++ reverse (paths_of_names_in_folder one.now.path.items within)))) }
+    ensures shown { IsKnownTreeUnchanged (S.shown source.old) (S.shown source.new) }
     ensures kept { OnOk result (S.faults source.new ≡ S.faults source.old) }
     ensures fault { IsErrOf result SourceError.Fault
-        → FailsOr (S.faults source.old) (S.faults source.new)
-        ((is_folder one.now.kind ≡ true) × IfSome (S.shown source.old) (λ s. AreBadNames (given_names (s.names one.now.path.items)))) }
+        → HasOneFaultMoreOr (S.faults source.old) (S.faults source.new)
+        ((is_folder one.now.kind ≡ true) × IfSome (S.shown source.old) (λ s. HaveBadOrRepeatedName (names_of_given_entries (s.names one.now.path.items)))) }
     ensures no_memory { IsErrOf result SourceError.NoMemory → S.faults source.new ≡ S.faults source.old }
 {
     match one.kind {
         SourceKind::Folder => {
-            look_into(alloc, source, one.path.as_slice(), waiting)?;
+            push_folder_names_as_waiting(alloc, source, one.path.as_slice(), waiting)?;
             Ok(None)
         }
         SourceKind::File => {
@@ -130,7 +130,7 @@ fn read_one<S: Source>(
     }
 }
 
-fn hold(entries: &mut Vec<SourceEntry>, entry: SourceEntry) -> Result<(), SourceError>
+fn push_source_entry(entries: &mut Vec<SourceEntry>, entry: SourceEntry) -> Result<(), SourceError>
     ensures entries { OnOk result (entries.new.items ≡ entries.old.items ++ entry ∷ []) }
     ensures memory { (e : _) → result ≡ Err e → e ≡ SourceError.NoMemory }
 {
@@ -144,23 +144,23 @@ fn hold(entries: &mut Vec<SourceEntry>, entry: SourceEntry) -> Result<(), Source
 ///   `..`, or has a byte 0x00 or `/`.
 /// - `NoMemory` where memory isn't granted.
 pub fn read_tree<S: Source>(alloc: Global, source: &mut S) -> Result<Vec<SourceEntry>, SourceError>
-    ensures entries { IfOk result (λ v. AreAllEntries (S.shown source.old) v.items) }
-    ensures shown { TreeStays (S.shown source.old) (S.shown source.new) }
+    ensures entries { IfOk result (λ v. AreAllEntriesOfSource (S.shown source.old) v.items) }
+    ensures shown { IsKnownTreeUnchanged (S.shown source.old) (S.shown source.new) }
     ensures kept { OnOk result (S.faults source.new ≡ S.faults source.old) }
-    ensures fault { IsErrOf result SourceError.Fault → FailsOr (S.faults source.old) (S.faults source.new) (IfSome (S.shown source.old) HasBadNames) }
+    ensures fault { IsErrOf result SourceError.Fault → HasOneFaultMoreOr (S.faults source.old) (S.faults source.new) (IfSome (S.shown source.old) HasFolderWithBadNames) }
     ensures no_memory { IsErrOf result SourceError.NoMemory → S.faults source.new ≡ S.faults source.old }
 {
     let mut entries = Vec::new(alloc);
     let mut waiting = Vec::new(alloc);
-    look_into(alloc, source, b"", &mut waiting)?;
+    push_folder_names_as_waiting(alloc, source, b"", &mut waiting)?;
     // Each round holds an entry, so memory ends before the rounds do.
     for _ in 0..u64::MAX {
         let Some(one) = waiting.pop() else {
             return Ok(entries);
         };
-        let bytes = read_one(alloc, source, &one, &mut waiting)?;
+        let bytes = read_waiting_entry(alloc, source, &one, &mut waiting)?;
         let path = one.path;
-        hold(&mut entries, SourceEntry { path, bytes })?;
+        push_source_entry(&mut entries, SourceEntry { path, bytes })?;
     }
     Err(SourceError::NoMemory)
 }

@@ -7,7 +7,7 @@ use std::io::Write;
 
 /// A fault that a file or a folder met.
 #[derive(Debug, PartialEq, Eq, Drop)]
-pub struct PlaceFault {
+pub struct PathFault {
     /// The path of the file or the folder.
     pub path: Vec<u8>,
     /// What is wrong there, in the system's words or the tool's.
@@ -17,10 +17,14 @@ pub struct PlaceFault {
 /// Keeps the first fault that is noted. No contract says which that is.
 #[derive(Drop)]
 pub struct FaultLog {
-    first: RefCell<Option<PlaceFault>>,
+    first: RefCell<Option<PathFault>>,
 }
 
-fn fault_of(alloc: Global, path: &[u8], error: &io::Error) -> Result<PlaceFault, AllocError>
+fn path_fault_of_error(
+    alloc: Global,
+    path: &[u8],
+    error: &io::Error,
+) -> Result<PathFault, AllocError>
     ensures { IfOk result (λ fault. fault.path.items ≡ path.now) }
 {
     let path = path.to_vec(alloc)?;
@@ -28,7 +32,7 @@ fn fault_of(alloc: Global, path: &[u8], error: &io::Error) -> Result<PlaceFault,
     if write!(words, "{}", error).is_err() {
         return Err(AllocError);
     }
-    Ok(PlaceFault { path, words })
+    Ok(PathFault { path, words })
 }
 
 impl FaultLog {
@@ -52,13 +56,13 @@ impl FaultLog {
         if self.has_fault() {
             return;
         }
-        if let Ok(fault) = fault_of(alloc, path, error) {
+        if let Ok(fault) = path_fault_of_error(alloc, path, error) {
             let _ = self.first.try_replace(Some(fault));
         }
     }
 
     /// Returns the fault that is noted, and forgets it.
-    pub fn take(&self) -> Option<PlaceFault> {
+    pub fn take(&self) -> Option<PathFault> {
         match self.first.try_replace(None) {
             Ok(fault) => fault,
             Err(_) => None,

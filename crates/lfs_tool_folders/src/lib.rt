@@ -19,11 +19,11 @@ mod temporary_files;
 mod zeros;
 
 pub use entries::{SourceEntry, read_tree};
-pub use fault_log::{FaultLog, PlaceFault};
+pub use fault_log::{FaultLog, PathFault};
 pub use new_image::NewImage;
 pub use source::{Listed, Source, SourceError, SourceKind};
 pub use source_folder::Folder;
-pub use source_memory::{Held, MemorySource};
+pub use source_memory::{MemorySource, MemorySourceEntry};
 pub use tally::Tally;
 pub use target::{Target, TargetError};
 pub use target_folder::TargetFolder;

@@ -2,10 +2,10 @@ ghost use Rattle.std.specs.Prelude.{◌≡◌, IfErr, IfOk, None, OnOk, false, o
 ghost use Rattle.std.specs.Io.{WritesAtMost};
 ghost use Rattle.std.specs.Io.KnownBytes.{Keeps, WriteAppends};
 ghost use Rattle.std.specs.String.{string_bytes};
-ghost use Rattle.lfs_tool_folders.specs.TemporaryNames.{IsTemporaryName};
+ghost use Rattle.lfs_tool_folders.specs.TemporaryNames.{IsNumberedTemporaryPath};
 ghost use Rattle.lfs_tool_folders.specs.Paths.{image_path};
 
-use crate::temporary_files::{ImagePaths, make_for, put_in_place};
+use crate::temporary_files::{ImagePaths, create_image_file, move_temporary_to_path};
 use std::alloc::{AllocError, Global};
 use std::fs::OpenFile;
 use std::io::{ErrorKind, Write};
@@ -59,10 +59,10 @@ impl<'a, R: Files> NewImage<'a, R> {
     // Makes the file.
     fn make(&mut self) -> io::Result<()>
         ensures path { self.new.paths.path ≡ self.old.paths.path }
-        ensures beside { OnOk result (self.new.is_beside ≡ true → IsTemporaryName (string_bytes self.old.paths.path) (string_bytes self.new.paths.beside)) }
+        ensures beside { OnOk result (self.new.is_beside ≡ true → IsNumberedTemporaryPath (string_bytes self.old.paths.path) (string_bytes self.new.paths.beside)) }
         ensures err { IfErr result (λ _. (self.new.file ≡ self.old.file) × (self.new.is_beside ≡ self.old.is_beside)) }
     {
-        let (file, is_beside) = make_for(self.files, &mut self.paths)?;
+        let (file, is_beside) = create_image_file(self.files, &mut self.paths)?;
         self.file = Some(file);
         self.is_beside = is_beside;
         Ok(())
@@ -76,7 +76,7 @@ impl<'a, R: Files> NewImage<'a, R> {
     {
         if let (Some(file), true) = (&self.file, self.is_beside) {
             file.sync_all()?;
-            put_in_place(self.files, &self.paths)?;
+            move_temporary_to_path(self.files, &self.paths)?;
         }
         self.is_beside = false;
         Ok(())

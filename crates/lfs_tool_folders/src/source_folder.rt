@@ -1,9 +1,9 @@
 ghost use Rattle.std.specs.Prelude.{◌≡◌, ◌↔◌, IfOk, suc};
 ghost use Rattle.std.specs.IoError.{error_kind};
-ghost use Rattle.lfs_tool_folders.specs.Roots.{folder_root, read_limit};
+ghost use Rattle.lfs_tool_folders.specs.Roots.{folder_root, file_size_read_limit};
 
 use crate::full_path::{full_path, joined_path};
-use crate::zeros::{zeros, zeros_for};
+use crate::zeros::{zero_count_for_long_file, zeros};
 use crate::{FaultLog, Listed, Source, SourceError, SourceKind, Tally};
 use std::alloc::{AllocError, Global};
 use std::fs::{File, FileType, OpenFile};
@@ -26,7 +26,7 @@ pub struct Folder<'a, R> {
     faults: Tally,
 }
 
-fn kind_of(kind: FileType) -> io::Result<SourceKind> {
+fn source_kind_of_file_type(kind: FileType) -> io::Result<SourceKind> {
     if kind.is_dir() {
         Ok(SourceKind::Folder)
     } else if kind.is_file() {
@@ -47,7 +47,7 @@ fn name_of(alloc: Global, name: &[u8]) -> io::Result<Vec<u8>> {
 
 // Returns an entry of a folder: its name, and what it is.
 fn listed_as(alloc: Global, name: &[u8], kind: io::Result<FileType>) -> io::Result<Listed> {
-    let kind = kind_of(kind?)?;
+    let kind = source_kind_of_file_type(kind?)?;
     let name = name_of(alloc, name)?;
     Ok(Listed { name, kind })
 }
@@ -57,31 +57,31 @@ impl<'a, R: Files + AllocGlobal + Clone + Drop> Folder<'a, R> {
     pub fn new(rt: &'a R, log: &'a FaultLog, root: &str) -> Result<Folder<'a, R>, AllocError>
         ensures root { IfOk result (λ f. folder_root f ≡ root.now) }
     {
-        Folder::with_limit(rt, log, root, u64::MAX)
+        Folder::with_file_size_limit(rt, log, root, u64::MAX)
     }
 
     /// Makes the same source for an image of so many bytes.
-    pub fn for_image(
+    pub fn for_image_of_size(
         rt: &'a R,
         log: &'a FaultLog,
         root: &str,
         size: u32,
     ) -> Result<Folder<'a, R>, AllocError>
         ensures root { IfOk result (λ f. folder_root f ≡ root.now) }
-        ensures limit { IfOk result (λ f. read_limit f ≡ size) }
+        ensures limit { IfOk result (λ f. file_size_read_limit f ≡ size) }
     {
-        Folder::with_limit(rt, log, root, size as u64)
+        Folder::with_file_size_limit(rt, log, root, size as u64)
     }
 
     // Makes a source of which files of at most so many bytes are read.
-    fn with_limit(
+    fn with_file_size_limit(
         rt: &'a R,
         log: &'a FaultLog,
         root: &str,
         size: u64,
     ) -> Result<Folder<'a, R>, AllocError>
         ensures root { IfOk result (λ f. folder_root f ≡ root.now) }
-        ensures limit { IfOk result (λ f. read_limit f ≡ size) }
+        ensures limit { IfOk result (λ f. file_size_read_limit f ≡ size) }
     {
         Ok(Folder {
             rt,
@@ -117,7 +117,7 @@ impl<'a, R: Files + AllocGlobal + Clone + Drop> Folder<'a, R> {
     fn bytes(&self, path: &[u8]) -> io::Result<Vec<u8>> {
         let full = full_path(self.rt.alloc(), self.root.as_str(), path)?;
         let mut file = File::open(self.rt, full.as_str())?;
-        if let Some(len) = zeros_for(file.metadata()?.len(), self.size) {
+        if let Some(len) = zero_count_for_long_file(file.metadata()?.len(), self.size) {
             return Ok(zeros(self.rt.alloc(), len)?);
         }
         let mut bytes = Vec::new(self.rt.alloc());

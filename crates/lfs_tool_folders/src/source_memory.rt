@@ -1,15 +1,15 @@
 ghost use Rattle.std.specs.Prelude.{◌≡◌, ◌+◌, ◌++◌, ◌∷◌, [], IfOk, IfSome, IsErrOf, MatchOption, None, OnOk, Some, drop, false, length, map, suc, true, ◌==◌};
 ghost use Rattle.std.specs.List.{list_any};
 ghost use Rattle.lfs_model.specs.Names.{slash};
-ghost use Rattle.lfs_tool_folders.specs.SourceTrees.{is_folder, name_view};
-ghost use Rattle.lfs_tool_folders.specs.MemorySources.{bytes_at, has_no_bytes, is_within, item_of, items_by, name_of, names_in, source_of};
+ghost use Rattle.lfs_tool_folders.specs.SourceTrees.{is_folder, listed_name_and_kind_view};
+ghost use Rattle.lfs_tool_folders.specs.MemorySources.{bytes_at, has_no_bytes, is_directly_in_folder, item_of, optional_bytes_view, name_of, names_in, source_of_items};
 
 use crate::{Listed, Source, SourceError, SourceKind, Tally};
 use std::alloc::Global;
 
 /// A file or a folder of a source in memory.
 #[derive(Debug, Drop)]
-pub struct Held {
+pub struct MemorySourceEntry {
     /// The path, `/` before each name.
     pub path: Vec<u8>,
     /// A file's bytes, and none for a folder.
@@ -22,7 +22,7 @@ pub struct Held {
 #[derive(Drop)]
 pub struct MemorySource {
     /// The entry at each path, in any order.
-    pub held: Vec<Held>,
+    pub held: Vec<MemorySourceEntry>,
     // How often a file was read that isn't there.
     faults: Tally,
 }
@@ -30,7 +30,7 @@ pub struct MemorySource {
 impl MemorySource {
     /// Makes a source of these entries, in any order. Where two entries have one path, the first is
     /// read.
-    pub fn new(held: Vec<Held>) -> MemorySource
+    pub fn new(held: Vec<MemorySourceEntry>) -> MemorySource
         ensures held { result.held ≡ held }
         ensures faults { result.faults.count ≡ 0 }
     {
@@ -49,8 +49,8 @@ fn has_slash(name: &[u8]) -> bool
 
 // Returns the name of the path, where it is directly in the folder.
 fn name_in<'a>(folder: &[u8], path: &'a [u8]) -> Option<&'a [u8]>
-    ensures { MatchOption result (is_within folder.now path.now ≡ false)
-        (λ name. (is_within folder.now path.now ≡ true) × (name.now ≡ drop (length folder.now + 1) path.now)) }
+    ensures { MatchOption result (is_directly_in_folder folder.now path.now ≡ false)
+        (λ name. (is_directly_in_folder folder.now path.now ≡ true) × (name.now ≡ drop (length folder.now + 1) path.now)) }
 {
     let at = folder.len();
     if at >= path.len() || &path[..at] != folder || path[at] != b'/' {
@@ -67,7 +67,7 @@ fn copy_bytes(alloc: Global, bytes: &[u8]) -> Result<Vec<u8>, SourceError>
     bytes.to_vec(alloc).map_err(|_| SourceError::NoMemory)
 }
 
-fn kind(held: &Held) -> SourceKind
+fn kind(held: &MemorySourceEntry) -> SourceKind
     ensures { is_folder result ≡ has_no_bytes (item_of held.now).1 }
 {
     match &held.bytes {
@@ -77,13 +77,13 @@ fn kind(held: &Held) -> SourceKind
 }
 
 // Adds the name of an entry, where it is directly in the folder.
-fn push_name(
+fn push_name_if_in_folder(
     alloc: Global,
     names: &mut Vec<Listed>,
     folder: &[u8],
-    held: &Held,
+    held: &MemorySourceEntry,
 ) -> Result<(), SourceError>
-    ensures names { OnOk result (map name_view names.new.items ≡ map name_view names.old.items ++ name_of folder.now (item_of held.now)) }
+    ensures names { OnOk result (map listed_name_and_kind_view names.new.items ≡ map listed_name_and_kind_view names.old.items ++ name_of folder.now (item_of held.now)) }
     ensures memory { (e : _) → result ≡ Err e → e ≡ SourceError.NoMemory }
 {
     let Some(name) = name_in(folder, held.path.as_slice()) else {
@@ -97,24 +97,28 @@ fn push_name(
 }
 
 // Returns the names of the entries that are directly in the folder.
-fn names_in(alloc: Global, held: &[Held], folder: &[u8]) -> Result<Vec<Listed>, SourceError>
-    ensures names { IfOk result (λ v. map name_view v.items ≡ names_in (map item_of held.now) folder.now) }
+fn names_in(
+    alloc: Global,
+    held: &[MemorySourceEntry],
+    folder: &[u8],
+) -> Result<Vec<Listed>, SourceError>
+    ensures names { IfOk result (λ v. map listed_name_and_kind_view v.items ≡ names_in (map item_of held.now) folder.now) }
     ensures memory { (e : _) → result ≡ Err e → e ≡ SourceError.NoMemory }
 {
     let mut names = Vec::new(alloc);
     for one in held {
-        push_name(alloc, &mut names, folder, one)?;
+        push_name_if_in_folder(alloc, &mut names, folder, one)?;
     }
     Ok(names)
 }
 
 impl Source for MemorySource {
-    ghost shown = { λ s. Some (source_of (map item_of s.held.items)) };
+    ghost shown = { λ s. Some (source_of_items (map item_of s.held.items)) };
 
     ghost faults = { λ s. s.faults.count };
 
     fn list(&mut self, alloc: Global, folder: &[u8]) -> Result<Vec<Listed>, SourceError>
-        ensures names { IfOk result (λ v. map name_view v.items ≡ names_in (map item_of self.old.held.items) folder.now) }
+        ensures names { IfOk result (λ v. map listed_name_and_kind_view v.items ≡ names_in (map item_of self.old.held.items) folder.now) }
         ensures held { self.new.held ≡ self.old.held }
         ensures kept { self.new.faults.count ≡ self.old.faults.count }
         ensures never { ¬ IsErrOf result SourceError.Fault }

@@ -1,5 +1,5 @@
 ghost use Rattle.std.specs.Prelude.{◌≡◌, ℕ, IsErrOf, List, None, OnErr, OnOk, Option, suc};
-ghost use Rattle.lfs_model.specs.Listing.{Action, MakeDirectory, PutFile};
+ghost use Rattle.lfs_model.specs.Listing.{UnpackingAction, MakeDirectory, PutFile};
 ghost use Rattle.lfs_tool_folders.specs.Actions.{AddsAction};
 
 use std::alloc::Global;
@@ -16,7 +16,7 @@ pub enum TargetError {
 /// A folder into which files and folders are put. A path has `/` before each name.
 pub trait Target {
     // The actions that were done, where they are known.
-    ghost done: { Self → Option (List Action) } = { λ _. None };
+    ghost done: { Self → Option (List UnpackingAction) } = { λ _. None };
 
     // How many calls have met a fault.
     ghost faults: { Self → ℕ };

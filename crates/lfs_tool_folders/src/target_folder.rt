@@ -33,7 +33,7 @@ fn make<R: Files>(rt: &R, path: &str) -> io::Result<()> {
 }
 
 // Makes a folder and those above it, unless there is one.
-fn make_with_those_above<R: Files>(rt: &R, path: &str) -> io::Result<()> {
+fn make_folder_and_parents<R: Files>(rt: &R, path: &str) -> io::Result<()> {
     match make(rt, path) {
         Err(error) if error.kind() == ErrorKind::NotFound => fs::create_dir_all(rt, path),
         other => other,
@@ -41,7 +41,7 @@ fn make_with_those_above<R: Files>(rt: &R, path: &str) -> io::Result<()> {
 }
 
 // Refuses a path that has something else than a file.
-fn check_place<R: Files>(rt: &R, path: &str) -> io::Result<()> {
+fn check_path_is_file_or_free<R: Files>(rt: &R, path: &str) -> io::Result<()> {
     match fs::symlink_metadata(rt, path) {
         Ok(there) if !there.is_file() => Err(io::Error::new(
             ErrorKind::InvalidInput,
@@ -67,7 +67,7 @@ impl<'a, R: Files + AllocGlobal + Clone + Drop> TargetFolder<'a, R> {
     // Returns the path in the file system, where it is text. The folder itself is there then.
     fn full(&self, path: &[u8]) -> io::Result<String> {
         let full = full_path(self.rt.alloc(), self.root.as_str(), path)?;
-        if let Err(error) = make_with_those_above(self.rt, self.root.as_str()) {
+        if let Err(error) = make_folder_and_parents(self.rt, self.root.as_str()) {
             self.note(b"", &error);
             return Err(error);
         }
@@ -88,7 +88,7 @@ impl<'a, R: Files + AllocGlobal + Clone + Drop> TargetFolder<'a, R> {
 
     fn file(&self, path: &[u8], bytes: &[u8]) -> io::Result<()> {
         let full = self.full(path)?;
-        check_place(self.rt, full.as_str())?;
+        check_path_is_file_or_free(self.rt, full.as_str())?;
         let mut file = File::create(self.rt, full.as_str())?;
         file.write_all(bytes)
     }

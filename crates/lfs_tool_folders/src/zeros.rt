@@ -1,7 +1,7 @@
 // Zeros for a file that is too long for an image.
 
 ghost use Rattle.std.specs.Prelude.{◌≡◌, ◌↔◌, ◌≤◌, ◌<◌, ◌^◌, IfOk, IfSome, None, replicate};
-ghost use Rattle.lfs_model.specs.Disk.{file_limit};
+ghost use Rattle.lfs_model.specs.Disk.{file_size_limit};
 
 use std::alloc::{AllocError, Global};
 
@@ -11,9 +11,9 @@ const FILE_MAX: u64 = 2_147_483_647;
 // Returns how many zeros stand for a file of `len` bytes, where an image of `size` bytes is too short for
 // it. They are too many for the image, too, and more than a file may have exactly where the file's bytes
 // are.
-pub(crate) fn zeros_for(len: u64, size: u64) -> Option<usize>
+pub(crate) fn zero_count_for_long_file(len: u64, size: u64) -> Option<usize>
     ensures short { (result ≡ None) ↔ (len ≤ size) }
-    ensures long { IfSome result (λ n. (size < n) × (n ≤ len) × ((file_limit < n) ↔ (file_limit < len))) }
+    ensures long { IfSome result (λ n. (size < n) × (n ≤ len) × ((file_size_limit < n) ↔ (file_size_limit < len))) }
 {
     if len <= size {
         return None;

@@ -22,8 +22,8 @@ rows words = matches_of mklittlefs words
 unfoldable pub faults : List Text → Kinds
 faults words = fault_of mklittlefs words
 
-abbrev pub Parses : List Text → Type 0
-Parses words = faults words ≡ []
+abbrev pub ParserTakesWords : List Text → Type 0
+ParserTakesWords words = faults words ≡ []
 
 -- the value of an option that takes a number
 abbrev pub number_of : Text → ℕ
@@ -33,83 +33,83 @@ abbrev pub number_at : Text → List Row → Option ℕ
 number_at id rows = option_map number_of (one_of id rows)
 
 -- the flag's text, which clap gives as true or false
-abbrev pub is_flag : Option Text → Bool
-is_flag None = false
-is_flag (Some text) = bytes_eq text (codes "true")
+abbrev pub is_flag_set : Option Text → Bool
+is_flag_set None = false
+is_flag_set (Some text) = bytes_eq text (codes "true")
 
 -- the value of a flag
 abbrev pub flag_at : Text → List Row → Bool
-flag_at id rows = is_flag (one_of id rows)
+flag_at id rows = is_flag_set (one_of id rows)
 
-abbrev pub is_listed : List Row → Bool
-is_listed rows = flag_at (codes "list") rows
+abbrev pub requests_list : List Row → Bool
+requests_list rows = flag_at (codes "list") rows
 
-abbrev pub is_checked : List Row → Bool
-is_checked rows = flag_at (codes "check") rows
+abbrev pub requests_check : List Row → Bool
+requests_check rows = flag_at (codes "check") rows
 
-abbrev pub is_explained : List Row → Bool
-is_explained rows = flag_at (codes "explain") rows
+abbrev pub requests_explanation : List Row → Bool
+requests_explanation rows = flag_at (codes "explain") rows
 
-abbrev pub modes_given : List Row → List Bool
-modes_given rows = is_some (first_of (codes "create") rows)
-    ∷ is_some (first_of (codes "unpack") rows) ∷ is_listed rows ∷ is_checked rows ∷ []
+abbrev pub given_mode_flags : List Row → List Bool
+given_mode_flags rows = is_some (first_of (codes "create") rows)
+    ∷ is_some (first_of (codes "unpack") rows) ∷ requests_list rows ∷ requests_check rows ∷ []
 
 -- how many of -c, -u, -l and --check are given
-abbrev pub mode_count : List Row → ℕ
-mode_count rows = count_by (λ b. b) (modes_given rows)
+abbrev pub given_mode_count : List Row → ℕ
+given_mode_count rows = count_by (λ b. b) (given_mode_flags rows)
 
 abbrev pub HasOneMode : List Row → Type 0
-HasOneMode rows = mode_count rows ≡ 1
+HasOneMode rows = given_mode_count rows ≡ 1
 
 -- the mode is the one that is given
-abbrev pub IsModeOf : List Row → Mode → Type 0
-IsModeOf rows (mode.Create dir) = first_of (codes "create") rows ≡ Some dir.now
-IsModeOf rows (mode.Unpack dir) = first_of (codes "unpack") rows ≡ Some dir.now
-IsModeOf rows mode.List = is_listed rows ≡ true
-IsModeOf rows mode.Check = is_checked rows ≡ true
+abbrev pub IsModeGivenByRows : List Row → Mode → Type 0
+IsModeGivenByRows rows (mode.Create dir) = first_of (codes "create") rows ≡ Some dir.now
+IsModeGivenByRows rows (mode.Unpack dir) = first_of (codes "unpack") rows ≡ Some dir.now
+IsModeGivenByRows rows mode.List = requests_list rows ≡ true
+IsModeGivenByRows rows mode.Check = requests_check rows ≡ true
 
 -- the order of names that a text names
-abbrev pub order_named : Text → Option NameOrder
-order_named text = if bytes_eq text (codes "longer-first") then Some LongerFirst else (if bytes_eq text (codes "shorter-first") then Some ShorterFirst else None)
+abbrev pub name_order_of_text : Text → Option NameOrder
+name_order_of_text text = if bytes_eq text (codes "longer-first") then Some LongerFirst else (if bytes_eq text (codes "shorter-first") then Some ShorterFirst else None)
 
-abbrev pub order_in : Option Text → Option NameOrder
-order_in None = None
-order_in (Some text) = order_named text
+abbrev pub name_order_of_optional_text : Option Text → Option NameOrder
+name_order_of_optional_text None = None
+name_order_of_optional_text (Some text) = name_order_of_text text
 
-abbrev pub order_given : List Row → Option NameOrder
-order_given rows = order_in (first_of (codes "order") rows)
+abbrev pub given_name_order : List Row → Option NameOrder
+given_name_order rows = name_order_of_optional_text (first_of (codes "order") rows)
 
 -- the order that is given is one
-abbrev pub HasOrder : List Row → Type 0
-HasOrder rows = is_some (order_given rows) ≡ true
+abbrev pub HasValidNameOrder : List Row → Type 0
+HasValidNameOrder rows = is_some (given_name_order rows) ≡ true
 
 -- each part of the line is the value that the words give it, or its default
-pub record IsLineOf (rows : List Row) (line : Line) : Type 0 where
+pub record IsLineGivenByRows (rows : List Row) (line : Line) : Type 0 where
   pub one_mode : HasOneMode rows
-  pub mode : IsModeOf rows line.mode
+  pub mode : IsModeGivenByRows rows line.mode
   pub block_size : number_at (codes "block_size") rows ≡ Some line.block_size
   pub page : number_at (codes "page") rows ≡ Some line.page
   pub size : number_at (codes "size") rows ≡ Some line.size
-  pub order : order_given rows ≡ Some line.order
-  pub explain : is_explained rows ≡ line.explain
+  pub order : given_name_order rows ≡ Some line.order
+  pub explain : requests_explanation rows ≡ line.explain
   pub image : first_of (codes "image") rows ≡ Some line.image.now
 
 -- the option has a text that reads as a number of 32 bits
-abbrev pub HasNumber : Found → Text → Type 0
-HasNumber f id = (t : Text) × (one_text f id ≡ Some (without_minus t))
+abbrev pub HasOptionNumberOf32Bits : Found → Text → Type 0
+HasOptionNumberOf32Bits f id = (t : Text) × (one_text f id ≡ Some (without_minus t))
     × IsSignedIn (pos 0) (pos 4294967295) t
 
 -- each value that is required, or has a default, is there
-pub record IsComplete (f : Found) : Type 0 where
-  pub block_size : HasNumber f (codes "block_size")
-  pub page : HasNumber f (codes "page")
-  pub size : HasNumber f (codes "size")
+pub record HasAllNeededValues (f : Found) : Type 0 where
+  pub block_size : HasOptionNumberOf32Bits f (codes "block_size")
+  pub page : HasOptionNumberOf32Bits f (codes "page")
+  pub size : HasOptionNumberOf32Bits f (codes "size")
   pub image : is_some (first_value f (codes "image")) ≡ true
 
 -- The cause for which there is no line: the parser refuses the words; or it takes them and not exactly one mode is given; or an
 -- order is none of the two. Text is UTF-8.
-abbrev pub IsFaultOf : List Text → LineError → Type 0
-IsFaultOf words (Parser e) = HasKind (faults words) e
-IsFaultOf words Modes = Parses words × ¬ HasOneMode (rows words)
-IsFaultOf words Order = Parses words × HasOneMode (rows words) × ¬ HasOrder (rows words)
-IsFaultOf words NotUtf8 = ⊥
+abbrev pub IsLineErrorOfWords : List Text → LineError → Type 0
+IsLineErrorOfWords words (Parser e) = HasKind (faults words) e
+IsLineErrorOfWords words Modes = ParserTakesWords words × ¬ HasOneMode (rows words)
+IsLineErrorOfWords words Order = ParserTakesWords words × HasOneMode (rows words) × ¬ HasValidNameOrder (rows words)
+IsLineErrorOfWords words NotUtf8 = ⊥

@@ -2,8 +2,8 @@
 
 ghost use Rattle.std.specs.Prelude.{◌≡◌, IfOk, codes, map, false};
 ghost use Rattle.clap.specs.Words.{FailsBy, app_of, found_of, new_app, rows_of, rule_of, with_rule};
-ghost use Rattle.lfs_tool_line.specs.Command.{check_rule, explain_rule, folder, image_rule, list_rule, mklittlefs, number, order_rule, with_modes, with_sizes, with_version};
-ghost use Rattle.lfs_tool_line.specs.Matches.{IsComplete, faults, rows};
+ghost use Rattle.lfs_tool_line.specs.Command.{check_option_rule, explain_option_rule, folder, image_argument_rule, list_option_rule, mklittlefs, number, order_option_rule, with_mode_options, with_size_options, with_version};
+ghost use Rattle.lfs_tool_line.specs.Matches.{HasAllNeededValues, faults, rows};
 
 use clap::{Arg, ArgAction, ArgMatches, Command, Error, value_parser};
 use std::alloc::{AllocError, Global};
@@ -101,7 +101,7 @@ fn with_number<'a>(
 }
 
 fn list_arg<'a>(alloc: Global) -> Arg<'a>
-    ensures rule { rule_of result ≡ list_rule }
+    ensures rule { rule_of result ≡ list_option_rule }
     ensures local { result.global ≡ false }
 {
     Arg::new(alloc, "list")
@@ -112,13 +112,13 @@ fn list_arg<'a>(alloc: Global) -> Arg<'a>
 }
 
 fn with_list<'a>(alloc: Global, command: Command<'a>) -> Result<Command<'a>, AllocError>
-    ensures { IfOk result (λ c. app_of c ≡ with_rule (app_of command.entry) list_rule) }
+    ensures { IfOk result (λ c. app_of c ≡ with_rule (app_of command.entry) list_option_rule) }
 {
     command.arg(list_arg(alloc))
 }
 
 fn check_arg<'a>(alloc: Global) -> Arg<'a>
-    ensures rule { rule_of result ≡ check_rule }
+    ensures rule { rule_of result ≡ check_option_rule }
     ensures local { result.global ≡ false }
 {
     Arg::new(alloc, "check")
@@ -128,13 +128,13 @@ fn check_arg<'a>(alloc: Global) -> Arg<'a>
 }
 
 fn with_check<'a>(alloc: Global, command: Command<'a>) -> Result<Command<'a>, AllocError>
-    ensures { IfOk result (λ c. app_of c ≡ with_rule (app_of command.entry) check_rule) }
+    ensures { IfOk result (λ c. app_of c ≡ with_rule (app_of command.entry) check_option_rule) }
 {
     command.arg(check_arg(alloc))
 }
 
 fn order_arg<'a>(alloc: Global) -> Arg<'a>
-    ensures rule { rule_of result ≡ order_rule }
+    ensures rule { rule_of result ≡ order_option_rule }
     ensures local { result.global ≡ false }
 {
     Arg::new(alloc, "order")
@@ -146,13 +146,13 @@ fn order_arg<'a>(alloc: Global) -> Arg<'a>
 }
 
 fn with_order<'a>(alloc: Global, command: Command<'a>) -> Result<Command<'a>, AllocError>
-    ensures { IfOk result (λ c. app_of c ≡ with_rule (app_of command.entry) order_rule) }
+    ensures { IfOk result (λ c. app_of c ≡ with_rule (app_of command.entry) order_option_rule) }
 {
     command.arg(order_arg(alloc))
 }
 
 fn explain_arg<'a>(alloc: Global) -> Arg<'a>
-    ensures rule { rule_of result ≡ explain_rule }
+    ensures rule { rule_of result ≡ explain_option_rule }
     ensures local { result.global ≡ false }
 {
     Arg::new(alloc, "explain")
@@ -162,13 +162,13 @@ fn explain_arg<'a>(alloc: Global) -> Arg<'a>
 }
 
 fn with_explain<'a>(alloc: Global, command: Command<'a>) -> Result<Command<'a>, AllocError>
-    ensures { IfOk result (λ c. app_of c ≡ with_rule (app_of command.entry) explain_rule) }
+    ensures { IfOk result (λ c. app_of c ≡ with_rule (app_of command.entry) explain_option_rule) }
 {
     command.arg(explain_arg(alloc))
 }
 
 fn image_arg<'a>(alloc: Global) -> Arg<'a>
-    ensures rule { rule_of result ≡ image_rule }
+    ensures rule { rule_of result ≡ image_argument_rule }
     ensures local { result.global ≡ false }
 {
     Arg::new(alloc, "image")
@@ -179,13 +179,13 @@ fn image_arg<'a>(alloc: Global) -> Arg<'a>
 }
 
 fn with_image<'a>(alloc: Global, command: Command<'a>) -> Result<Command<'a>, AllocError>
-    ensures { IfOk result (λ c. app_of c ≡ with_rule (app_of command.entry) image_rule) }
+    ensures { IfOk result (λ c. app_of c ≡ with_rule (app_of command.entry) image_argument_rule) }
 {
     command.arg(image_arg(alloc))
 }
 
 // Makes the command without its arguments, with the texts of its help.
-fn bare_command<'a>(alloc: Global) -> Command<'a>
+fn command_without_arguments<'a>(alloc: Global) -> Command<'a>
     ensures { app_of result ≡ with_version (new_app (codes "mklittlefs")) }
 {
     Command::new(alloc, "mklittlefs")
@@ -198,8 +198,8 @@ fn bare_command<'a>(alloc: Global) -> Command<'a>
 }
 
 // Adds the options of which exactly one has to be given.
-fn with_modes<'a>(alloc: Global, command: Command<'a>) -> Result<Command<'a>, AllocError>
-    ensures { IfOk result (λ c. app_of c ≡ with_modes (app_of command.entry)) }
+fn with_mode_options<'a>(alloc: Global, command: Command<'a>) -> Result<Command<'a>, AllocError>
+    ensures { IfOk result (λ c. app_of c ≡ with_mode_options (app_of command.entry)) }
 {
     let create = "Create IMAGE from the folder DIR";
     let unpack = "Unpack IMAGE into the folder DIR";
@@ -211,8 +211,8 @@ fn with_modes<'a>(alloc: Global, command: Command<'a>) -> Result<Command<'a>, Al
 }
 
 // Adds the options for sizes.
-fn with_sizes<'a>(alloc: Global, command: Command<'a>) -> Result<Command<'a>, AllocError>
-    ensures { IfOk result (λ c. app_of c ≡ with_sizes (app_of command.entry)) }
+fn with_size_options<'a>(alloc: Global, command: Command<'a>) -> Result<Command<'a>, AllocError>
+    ensures { IfOk result (λ c. app_of c ≡ with_size_options (app_of command.entry)) }
 {
     let block_size = "Size of a block in bytes";
     let page = "Size of a page in bytes";
@@ -235,8 +235,8 @@ fn with_sizes<'a>(alloc: Global, command: Command<'a>) -> Result<Command<'a>, Al
 fn command<'a>(alloc: Global) -> Result<Command<'a>, AllocError>
     ensures { IfOk result (λ c. app_of c ≡ mklittlefs) }
 {
-    let command = with_modes(alloc, bare_command(alloc))?;
-    let command = with_sizes(alloc, command)?;
+    let command = with_mode_options(alloc, command_without_arguments(alloc))?;
+    let command = with_size_options(alloc, command)?;
     let command = with_order(alloc, command)?;
     let command = with_explain(alloc, command)?;
     let command = with_image(alloc, command)?;
@@ -247,7 +247,7 @@ fn command<'a>(alloc: Global) -> Result<Command<'a>, AllocError>
 pub(crate) fn parse<'a, S: AsStr>(alloc: Global, words: &'a [S]) -> Result<ArgMatches<'a>, Error>
     ensures kinds { FailsBy (faults (map S.text words.entry.now)) result }
     ensures matches { IfOk result (λ m. rows_of (found_of m) ≡ rows (map S.text words.entry.now)) }
-    ensures complete { IfOk result (λ m. IsComplete (found_of m)) }
+    ensures complete { IfOk result (λ m. HasAllNeededValues (found_of m)) }
 {
     command(alloc)?.try_get_matches_from(words)
 }

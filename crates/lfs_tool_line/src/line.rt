@@ -1,6 +1,6 @@
 ghost use Rattle.std.specs.Prelude.{◌≡◌, IfErr, IfOk, MatchOption, Some, map, option_map};
 ghost use Rattle.clap.specs.Words.{first_of, found_of, rows_of};
-ghost use Rattle.lfs_tool_line.specs.Matches.{HasNumber, HasOneMode, IsComplete, IsFaultOf, IsLineOf, IsModeOf, Parses, flag_at, number_at, order_given, order_named, rows};
+ghost use Rattle.lfs_tool_line.specs.Matches.{HasOptionNumberOf32Bits, HasOneMode, HasAllNeededValues, IsLineErrorOfWords, IsLineGivenByRows, IsModeGivenByRows, ParserTakesWords, flag_at, number_at, given_name_order, name_order_of_text, rows};
 
 use crate::command::parse;
 use clap::ArgMatches;
@@ -59,14 +59,14 @@ pub enum LineError {
 }
 
 // Returns the text of an argument.
-fn text_in<'a>(matches: &ArgMatches<'a>, id: &str) -> Option<&'a str>
+fn argument_text<'a>(matches: &ArgMatches<'a>, id: &str) -> Option<&'a str>
     ensures { option_map (λ s. s.now) result ≡ first_of id.now (rows_of (found_of matches.now)) }
 {
     matches.get_str(id)
 }
 
 // Returns the value of a flag.
-fn flag_in(matches: &ArgMatches<'_>, id: &str) -> bool
+fn flag_value_in_matches(matches: &ArgMatches<'_>, id: &str) -> bool
     ensures { result ≡ flag_at id.now (rows_of (found_of matches.now)) }
 {
     matches.get_one::<bool>(id).unwrap_or(false)
@@ -74,21 +74,21 @@ fn flag_in(matches: &ArgMatches<'_>, id: &str) -> bool
 
 // Returns the number of an option that has one.
 fn number_in(matches: &ArgMatches<'_>, id: &str) -> u32
-    requires { HasNumber (found_of matches.now) id.now }
+    requires { HasOptionNumberOf32Bits (found_of matches.now) id.now }
     ensures { number_at id.now (rows_of (found_of matches.now)) ≡ Some result }
 {
     matches.get_one::<u32>(id).unwrap()
 }
 
 // Returns the mode, where exactly one is given.
-fn mode_of<'a>(matches: &ArgMatches<'a>) -> Option<Mode<'a>>
+fn mode_of_matches<'a>(matches: &ArgMatches<'a>) -> Option<Mode<'a>>
     ensures { MatchOption result (¬ HasOneMode (rows_of (found_of matches.now)))
-        (λ mode. HasOneMode (rows_of (found_of matches.now)) × IsModeOf (rows_of (found_of matches.now)) mode) }
+        (λ mode. HasOneMode (rows_of (found_of matches.now)) × IsModeGivenByRows (rows_of (found_of matches.now)) mode) }
 {
-    let create = text_in(matches, "create");
-    let unpack = text_in(matches, "unpack");
-    let list = flag_in(matches, "list");
-    let check = flag_in(matches, "check");
+    let create = argument_text(matches, "create");
+    let unpack = argument_text(matches, "unpack");
+    let list = flag_value_in_matches(matches, "list");
+    let check = flag_value_in_matches(matches, "check");
     match (create, unpack, list, check) {
         (Some(dir), None, false, false) => Some(Mode::Create(dir)),
         (None, Some(dir), false, false) => Some(Mode::Unpack(dir)),
@@ -100,7 +100,7 @@ fn mode_of<'a>(matches: &ArgMatches<'a>) -> Option<Mode<'a>>
 
 // Returns the order that a text names.
 fn order_of_text(text: &str) -> Option<NameOrder>
-    ensures { result ≡ order_named text.now }
+    ensures { result ≡ name_order_of_text text.now }
 {
     if text == "longer-first" {
         Some(NameOrder::LongerFirst)
@@ -113,21 +113,25 @@ fn order_of_text(text: &str) -> Option<NameOrder>
 
 // Returns the order that is given, or the default.
 fn order_of(matches: &ArgMatches<'_>) -> Option<NameOrder>
-    ensures { result ≡ order_given (rows_of (found_of matches.now)) }
+    ensures { result ≡ given_name_order (rows_of (found_of matches.now)) }
 {
-    match text_in(matches, "order") {
+    match argument_text(matches, "order") {
         Some(text) => order_of_text(text),
         None => None,
     }
 }
 
 // Returns the line of the matches.
-fn line_of<'a>(matches: &ArgMatches<'a>, mode: Mode<'a>, order: NameOrder) -> Line<'a>
-    requires complete { IsComplete (found_of matches.now) }
+fn command_line_of_matches<'a>(
+    matches: &ArgMatches<'a>,
+    mode: Mode<'a>,
+    order: NameOrder,
+) -> Line<'a>
+    requires complete { HasAllNeededValues (found_of matches.now) }
     requires one { HasOneMode (rows_of (found_of matches.now)) }
-    requires mode { IsModeOf (rows_of (found_of matches.now)) mode }
-    requires order { order_given (rows_of (found_of matches.now)) ≡ Some order }
-    ensures { IsLineOf (rows_of (found_of matches.now)) result }
+    requires mode { IsModeGivenByRows (rows_of (found_of matches.now)) mode }
+    requires order { given_name_order (rows_of (found_of matches.now)) ≡ Some order }
+    ensures { IsLineGivenByRows (rows_of (found_of matches.now)) result }
 {
     Line {
         mode,
@@ -135,8 +139,8 @@ fn line_of<'a>(matches: &ArgMatches<'a>, mode: Mode<'a>, order: NameOrder) -> Li
         page: number_in(matches, "page"),
         size: number_in(matches, "size"),
         order,
-        explain: flag_in(matches, "explain"),
-        image: text_in(matches, "image").unwrap(),
+        explain: flag_value_in_matches(matches, "explain"),
+        image: argument_text(matches, "image").unwrap(),
     }
 }
 
@@ -153,17 +157,17 @@ fn line_of<'a>(matches: &ArgMatches<'a>, mode: Mode<'a>, order: NameOrder) -> Li
 /// or where memory isn't granted. `LineError::Modes` where it takes them and not exactly one of `-c`, `-u`, `-l` and
 /// `--check` is given, and `LineError::Order` where ORDER is neither.
 pub fn read_line<'a, S: AsStr>(alloc: Global, words: &'a [S]) -> Result<Line<'a>, LineError>
-    ensures ok { IfOk result (λ line. Parses (map S.text words.entry.now)
-        × IsLineOf (rows (map S.text words.entry.now)) line) }
-    ensures err { IfErr result (IsFaultOf (map S.text words.entry.now)) }
+    ensures ok { IfOk result (λ line. ParserTakesWords (map S.text words.entry.now)
+        × IsLineGivenByRows (rows (map S.text words.entry.now)) line) }
+    ensures err { IfErr result (IsLineErrorOfWords (map S.text words.entry.now)) }
 {
     let matches = match parse(alloc, words) {
         Ok(matches) => matches,
         Err(error) => return Err(LineError::Parser(error)),
     };
-    match mode_of(&matches) {
+    match mode_of_matches(&matches) {
         Some(mode) => match order_of(&matches) {
-            Some(order) => Ok(line_of(&matches, mode, order)),
+            Some(order) => Ok(command_line_of_matches(&matches, mode, order)),
             None => Err(LineError::Order),
         },
         None => Err(LineError::Modes),

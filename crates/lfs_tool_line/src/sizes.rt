@@ -2,8 +2,8 @@
 
 ghost use Rattle.std.specs.Prelude.{◌≡◌, ◌≤◌, ◌*◌, ◌++◌, ◌/◌, ◌%◌, IfSome, None, OnOk};
 ghost use Rattle.std.specs.Fmt.{decimal};
-ghost use Rattle.lfs_model.specs.Geometry.{is_page};
-ghost use Rattle.lfs_tool_line.specs.Sizes.{Fits, IsFirstBroken, IsUnbrokenBefore, number_text, place_of, rule_words, sizes_text, subject_text};
+ghost use Rattle.lfs_model.specs.Geometry.{is_valid_page_size};
+ghost use Rattle.lfs_tool_line.specs.Sizes.{Fits, IsFirstBrokenSizeRule, BreaksNoSizeRuleBefore, labelled_number_text, place_of_size_rule, size_rule_words, broken_size_rule_line, sizes_in_rule_text};
 
 use std::alloc::AllocError;
 use std::io::Write;
@@ -36,14 +36,14 @@ pub enum SizeRule {
 }
 
 fn is_page(page: u32) -> bool
-    ensures { result ≡ is_page page }
+    ensures { result ≡ is_valid_page_size page }
 {
     page == 8 || page == 16 || page == 32 || page == 64 || page == 128 || page == 256 || page == 512
 }
 
 // Adds a text and a number behind it.
 fn push_number(text: &mut Vec<u8>, before: &str, number: usize) -> Result<(), AllocError>
-    ensures { OnOk result (text.new.items ≡ text.old.items ++ number_text before.now number) }
+    ensures { OnOk result (text.new.items ≡ text.old.items ++ labelled_number_text before.now number) }
 {
     text.extend_from_slice(before.as_bytes())?;
     if write!(text, "{}", number).is_err() {
@@ -53,8 +53,8 @@ fn push_number(text: &mut Vec<u8>, before: &str, number: usize) -> Result<(), Al
 }
 
 // Returns what the rule says.
-fn words_of(rule: SizeRule) -> &'static str
-    ensures { result.now ≡ rule_words rule }
+fn words_of_size_rule(rule: SizeRule) -> &'static str
+    ensures { result.now ≡ size_rule_words rule }
 {
     match rule {
         SizeRule::PageSize => ": a page has 8, 16, 32, 64, 128, 256 or 512 bytes\n",
@@ -69,8 +69,8 @@ fn words_of(rule: SizeRule) -> &'static str
 
 impl Sizes {
     // Adds the sizes that the rule is about.
-    fn push_subject(self, text: &mut Vec<u8>, rule: SizeRule) -> Result<(), AllocError>
-        ensures { OnOk result (text.new.items ≡ text.old.items ++ subject_text self rule) }
+    fn push_sizes_in_rule(self, text: &mut Vec<u8>, rule: SizeRule) -> Result<(), AllocError>
+        ensures { OnOk result (text.new.items ≡ text.old.items ++ sizes_in_rule_text self rule) }
     {
         let (block_size, page) = (self.block_size as usize, self.page as usize);
         match rule {
@@ -90,17 +90,17 @@ impl Sizes {
 
     /// Adds the line that says that the sizes break the rule.
     pub fn push_line(self, text: &mut Vec<u8>, rule: SizeRule) -> Result<(), AllocError>
-        ensures { OnOk result (text.new.items ≡ text.old.items ++ sizes_text self rule) }
+        ensures { OnOk result (text.new.items ≡ text.old.items ++ broken_size_rule_line self rule) }
     {
-        self.push_subject(text, rule)?;
-        text.extend_from_slice(words_of(rule).as_bytes())?;
+        self.push_sizes_in_rule(text, rule)?;
+        text.extend_from_slice(words_of_size_rule(rule).as_bytes())?;
         Ok(())
     }
 
     // Returns the first rule that the image's size breaks, where those of blocks and pages break none.
-    fn broken_count(self) -> Option<SizeRule>
-        requires { IsUnbrokenBefore self (place_of SizeRule.ImageSize) }
-        ensures broken { IfSome result (IsFirstBroken self) }
+    fn broken_image_size_rule(self) -> Option<SizeRule>
+        requires { BreaksNoSizeRuleBefore self (place_of_size_rule SizeRule.ImageSize) }
+        ensures broken { IfSome result (IsFirstBrokenSizeRule self) }
         ensures fits { result ≡ None → Fits self }
     {
         let block_size = self.block_size as usize;
@@ -120,7 +120,7 @@ impl Sizes {
     /// Returns the first rule that the sizes break, in the order of `SizeRule`. None comes exactly
     /// where there are images of these sizes.
     pub fn broken_rule(self) -> Option<SizeRule>
-        ensures broken { IfSome result (IsFirstBroken self) }
+        ensures broken { IfSome result (IsFirstBrokenSizeRule self) }
         ensures fits { result ≡ None → Fits self }
     {
         let (block_size, page) = (self.block_size as usize, self.page as usize);
@@ -136,6 +136,6 @@ impl Sizes {
         if block_size % page != 0 {
             return Some(SizeRule::WholePages);
         }
-        self.broken_count()
+        self.broken_image_size_rule()
     }
 }

@@ -2,7 +2,7 @@
 
 use crate::images::{BELOW, ENTRIES};
 use crate::texts::check_text;
-use lfs_fixtures::{Entries, Held, image_with};
+use lfs_fixtures::{BlockFilling, FixtureEntries, image_with_second_commit};
 use lfs_tool::Watched;
 use std::alloc::{AllocError, Global};
 use std::test::Fail;
@@ -41,7 +41,7 @@ const SHORT_NAMES: &[u8] = &[
 ];
 
 // An image: a second commit of its first block, its other blocks, and the lines of its check.
-type Row<'a> = (Entries<'a>, &'a [(usize, Held<'a>)], &'a str);
+type Row<'a> = (FixtureEntries<'a>, &'a [(usize, BlockFilling<'a>)], &'a str);
 
 const FRESH: &str =
     "ok\nfiles 0\ndirectories 0\nused 2 of 16 blocks\nfree 14\norder either\nrecover no\nwritable yes\n";
@@ -80,7 +80,7 @@ const ACCEPTED: [Row<'static>; 6] = [
             (SOFT_TAIL, PAIR),
             (MOVE_STATE, &[0, 0, 0, 0x80, 0, 0, 0, 0, 0, 0, 0, 0]),
         ],
-        &[(2, Held::Commit(&[]))],
+        &[(2, BlockFilling::Commit(&[]))],
         "ok\nfiles 0\ndirectories 0\nused 4 of 16 blocks\nfree 12\norder either\nrecover yes\nwritable yes\n",
     ),
     // a limit that isn't written here
@@ -134,7 +134,7 @@ const REFUSED: [Row<'static>; 16] = [
         &[(HARD_TAIL, PAIR)],
         &[(
             2,
-            Held::Commit(&[(0x0ff0_0008, b"littlefs"), (0x2010_0018, LARGER)]),
+            BlockFilling::Commit(&[(0x0ff0_0008, b"littlefs"), (0x2010_0018, LARGER)]),
         )],
         "corrupt\npair 2 3, superblock: block count 17, given 16\n",
     ),
@@ -195,7 +195,7 @@ const REFUSED: [Row<'static>; 16] = [
 // Whether an image has these lines.
 fn is_checked(alloc: Global, row: Row<'_>) -> Result<bool, AllocError> {
     let (entries, others, wanted) = row;
-    let image = image_with(alloc, entries, others)?;
+    let image = image_with_second_commit(alloc, entries, others)?;
     let mut image = Watched::new(image.as_slice());
     let text = check_text(alloc, &mut image, 4096, 256)?;
     Ok(text.as_slice() == wanted.as_bytes())
@@ -268,7 +268,7 @@ const SIZES: [(usize, u32, u32, &str); 9] = [
 // Whether so many bytes of a fresh image have these lines.
 fn is_sized(alloc: Global, row: (usize, u32, u32, &str)) -> Result<bool, AllocError> {
     let (len, block_size, page, wanted) = row;
-    let mut image = image_with(alloc, &[], &[])?;
+    let mut image = image_with_second_commit(alloc, &[], &[])?;
     image.resize(len, 0xff)?;
     let mut image = Watched::new(image.as_slice());
     let text = check_text(alloc, &mut image, block_size, page)?;

@@ -11,7 +11,7 @@ use std::os::unix::fs::PermissionsExt;
 
 // What stands under a name. A link is written through, and has no end.
 #[derive(Clone, Copy, PartialEq, Eq, Debug, Drop)]
-pub(crate) enum Kind {
+pub(crate) enum PathKind {
     File,
     ReadOnly,
     Link,
@@ -21,7 +21,7 @@ pub(crate) enum Kind {
 #[derive(Drop)]
 pub(crate) struct Node {
     pub(crate) name: Vec<u8>,
-    pub(crate) kind: Kind,
+    pub(crate) kind: PathKind,
     pub(crate) bytes: Vec<u8>,
     // The permissions that it was given.
     pub(crate) mode: u32,
@@ -69,7 +69,7 @@ impl Disk {
         &self,
         alloc: Global,
         name: &str,
-        kind: Kind,
+        kind: PathKind,
         bytes: &[u8],
     ) -> io::Result<usize> {
         let node = Node {
@@ -120,10 +120,10 @@ impl Disk {
         }
     }
 
-    fn kind(&self, number: usize) -> Kind {
+    fn kind(&self, number: usize) -> PathKind {
         match self.nodes.try_borrow() {
             Ok(nodes) if number < nodes.len() => nodes[number].kind,
-            _ => Kind::Link,
+            _ => PathKind::Link,
         }
     }
 
@@ -279,7 +279,7 @@ impl<'a> Mounted<'a> {
         if how.asks_create_new() {
             return error(ErrorKind::AlreadyExists);
         }
-        if how.asks_write() && self.disk.kind(number) == Kind::ReadOnly {
+        if how.asks_write() && self.disk.kind(number) == PathKind::ReadOnly {
             return error(ErrorKind::PermissionDenied);
         }
         if how.asks_truncate() {
@@ -295,7 +295,7 @@ impl<'a> Mounted<'a> {
         if self.disk.habit == Habit::NoNewNames {
             return error(ErrorKind::PermissionDenied);
         }
-        let number = self.disk.put(self.alloc, path, Kind::File, b"")?;
+        let number = self.disk.put(self.alloc, path, PathKind::File, b"")?;
         Ok(self.open_number(number))
     }
 }
@@ -326,7 +326,7 @@ impl<'a> Files for Mounted<'a> {
 
     fn symlink_metadata(&self, path: &str) -> io::Result<Metadata> {
         match self.disk.find(path) {
-            Some(number) if self.disk.kind(number) == Kind::Link => Ok(Metadata::of_symlink(1)),
+            Some(number) if self.disk.kind(number) == PathKind::Link => Ok(Metadata::of_symlink(1)),
             Some(number) => Ok(Metadata::of_file(self.disk.len(number) as u64)),
             None => error(ErrorKind::NotFound),
         }

@@ -4,7 +4,7 @@ use crate::images::shifting_block;
 use crate::sources::source_of;
 use crate::texts::{list_text, unpack_text, with_error_line};
 use lfs_device::{Error, Geometry};
-use lfs_fixtures::image_of;
+use lfs_fixtures::image_of_two_blocks;
 use lfs_tool::{Watched, create, list};
 use std::alloc::{AllocError, Global};
 use std::io;
@@ -112,7 +112,7 @@ fn read_badly(
 #[test]
 fn failing_readers_are_reported(rt: HostRuntime) -> Result<(), Fail> {
     let block = shifting_block(rt.alloc())?;
-    let image = image_of(rt.alloc(), block.as_slice(), &[])?;
+    let image = image_of_two_blocks(rt.alloc(), block.as_slice(), &[])?;
     for (kind, is_failure) in KINDS {
         for (is_unpacked, block_size, most, calls, text) in READERS {
             for fails_at in 0..calls + 3 {
@@ -188,7 +188,7 @@ fn is_broken_off(text: &[u8], whole: &[u8], len: usize) -> bool {
 #[test]
 fn failing_writers_are_reported(rt: HostRuntime) -> Result<(), Fail> {
     let block = shifting_block(rt.alloc())?;
-    let image = image_of(rt.alloc(), block.as_slice(), &[])?;
+    let image = image_of_two_blocks(rt.alloc(), block.as_slice(), &[])?;
     for (is_made, most, fails_at, taken) in WRITERS {
         let plain = failing_at(rt.alloc(), &[], most, 0, ErrorKind::Other);
         let whole = write_badly(rt.alloc(), image.as_slice(), is_made, plain)?;

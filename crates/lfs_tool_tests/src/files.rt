@@ -2,7 +2,7 @@
 
 use crate::images::{BELOW, ENTRIES};
 use crate::sources::{Items, is_read};
-use lfs_fixtures::{Entries, Held, image_with};
+use lfs_fixtures::{BlockFilling, FixtureEntries, image_with_second_commit};
 use lfs_tool::{RealPlaces, Watched, answer};
 use lfs_tool_folders::{FaultLog, Folder};
 use std::alloc::{AllocError, Global};
@@ -21,7 +21,7 @@ enum Before {
     // A symbolic link that leads there.
     Link(&'static str),
     // An image: a second commit of its first block, and its third block.
-    Image(Entries<'static>, Held<'static>),
+    Image(FixtureEntries<'static>, BlockFilling<'static>),
 }
 
 // What stands at a path behind a run.
@@ -369,7 +369,10 @@ const UNPACKED: [Run; 8] = [
     },
     Run {
         before: &[
-            ("runs/image", Before::Image(ENTRIES, Held::Commit(&[]))),
+            (
+                "runs/image",
+                Before::Image(ENTRIES, BlockFilling::Commit(&[])),
+            ),
             ("runs/other", Before::Folder),
             ("runs/other/d", Before::File("older")),
         ],
@@ -616,7 +619,7 @@ fn make<R: Files + AllocGlobal>(rt: &R, path: &str, before: Before) -> io::Resul
         Before::Folder => fs::create_dir(rt, path),
         Before::Link(original) => symlink(rt, original, path),
         Before::Image(entries, below) => {
-            let image = image_with(rt.alloc(), entries, &[(2, below)])?;
+            let image = image_with_second_commit(rt.alloc(), entries, &[(2, below)])?;
             fs::write(rt, path, image.as_slice())
         }
     }

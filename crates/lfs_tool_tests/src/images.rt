@@ -1,7 +1,10 @@
 // Images, what is listed of them, and what unpacking them does.
 
 use crate::texts::{list_text, unpack_text};
-use lfs_fixtures::{Entries, Held, block_with, first_block, image_of, image_with};
+use lfs_fixtures::{
+    BlockFilling, FixtureEntries, block_with_superblock_and_commits,
+    block_with_superblock_and_entries, image_of_two_blocks, image_with_second_commit,
+};
 use lfs_tool::Watched;
 use std::alloc::{AllocError, Global};
 use std::test::Fail;
@@ -43,17 +46,23 @@ const SHORT_NAMES: &[u8] = &[
 ];
 
 // Blocks of a pair: without slots, with a file `f`, with a file `a`.
-const EMPTY: Held<'static> = Held::Commit(&[]);
+const EMPTY: BlockFilling<'static> = BlockFilling::Commit(&[]);
 
-const WITH_F: Held<'static> = Held::Commit(&[(0x0010_0001, b"f"), (0x2010_0002, b"hi")]);
+const WITH_F: BlockFilling<'static> = BlockFilling::Commit(&[
+    (0x0010_0001, b"f"),
+    (0x2010_0002, b"hi"),
+]);
 
-const WITH_A: Held<'static> = Held::Commit(&[(0x0010_0001, b"a"), (0x2010_0002, b"hi")]);
+const WITH_A: BlockFilling<'static> = BlockFilling::Commit(&[
+    (0x0010_0001, b"a"),
+    (0x2010_0002, b"hi"),
+]);
 
 // An image: a second commit of its first block, its other blocks, and what is shown of it.
-type Row<'a> = (Entries<'a>, &'a [(usize, Held<'a>)], &'a str);
+type Row<'a> = (FixtureEntries<'a>, &'a [(usize, BlockFilling<'a>)], &'a str);
 
 // A second commit of these entries, and what is listed.
-const COMMITS: [(Entries<'static>, &str); 19] = [
+const COMMITS: [(FixtureEntries<'static>, &str); 19] = [
     // bytes that are shown as numbers, of an empty file and of one of five bytes
     (
         &[(0x0010_0405, b"a\n\\\xc3\xa9"), (0x2010_0400, b"")],
@@ -211,7 +220,7 @@ const SUPERBLOCKS: [Row<'static>; 4] = [
         &[(HARD_TAIL, PAIR)],
         &[(
             2,
-            Held::Commit(&[
+            BlockFilling::Commit(&[
                 (0x0ff0_0008, b"littlefs"),
                 (0x2010_0018, FIELDS),
                 (0x0010_0401, b"a"),
@@ -224,7 +233,7 @@ const SUPERBLOCKS: [Row<'static>; 4] = [
         &[(HARD_TAIL, PAIR)],
         &[(
             2,
-            Held::Commit(&[
+            BlockFilling::Commit(&[
                 (0x0ff0_0008, b"littlefs"),
                 (0x2010_0018, LARGER),
                 (0x0010_0401, b"a"),
@@ -237,7 +246,7 @@ const SUPERBLOCKS: [Row<'static>; 4] = [
         &[(0x0010_0401, b"z"), (0x2010_0400, b""), (HARD_TAIL, PAIR)],
         &[(
             2,
-            Held::Commit(&[(0x0ff0_0008, b"littlefs"), (0x2010_0018, FIELDS)]),
+            BlockFilling::Commit(&[(0x0ff0_0008, b"littlefs"), (0x2010_0018, FIELDS)]),
         )],
         CORRUPT,
     ),
@@ -252,21 +261,21 @@ const LATER_VERSION: &[u8] = &[
 const FORWARD_CHECKSUM: (u32, &[u8]) = (0x5fff_fc08, &[0x10, 0, 0, 0, 0x12, 0x34, 0x56, 0x78]);
 
 // Files of which one name begins the other, in this order: the longer first, or the shorter.
-const LONGER: Held<'static> = Held::Commit(&[
+const LONGER: BlockFilling<'static> = BlockFilling::Commit(&[
     (0x0010_0002, b"xy"),
     (0x2010_0000, b""),
     (0x0010_0401, b"x"),
     (0x2010_0400, b""),
 ]);
 
-const SHORTER: Held<'static> = Held::Commit(&[
+const SHORTER: BlockFilling<'static> = BlockFilling::Commit(&[
     (0x0010_0001, b"x"),
     (0x2010_0000, b""),
     (0x0010_0402, b"xy"),
     (0x2010_0400, b""),
 ]);
 
-const LONGER_FIRST: Entries<'static> = &[
+const LONGER_FIRST: FixtureEntries<'static> = &[
     (0x0010_0402, b"ab"),
     (0x2010_0400, b""),
     (0x0010_0801, b"a"),
@@ -276,7 +285,7 @@ const LONGER_FIRST: Entries<'static> = &[
     (SOFT_TAIL, PAIR),
 ];
 
-const SHORTER_FIRST: Entries<'static> = &[
+const SHORTER_FIRST: FixtureEntries<'static> = &[
     (0x0010_0401, b"a"),
     (0x2010_0400, b""),
     (0x0010_0802, b"ab"),
@@ -328,7 +337,7 @@ const MOVES: [Row<'static>; 2] = [
 ];
 
 // A list of three blocks, and one whose last block has a wrong pointer.
-const SECOND: Held<'static> = Held::Bytes(&[4, 0, 0, 0]);
+const SECOND: BlockFilling<'static> = BlockFilling::Bytes(&[4, 0, 0, 0]);
 
 const LISTS: [Row<'static>; 8] = [
     // a block of two files, the superblock's, one that isn't there
@@ -381,7 +390,10 @@ const LISTS: [Row<'static>; 8] = [
             (0x0010_0401, b"a"),
             (0x2020_0408, &[6, 0, 0, 0, 0x08, 0x20, 0, 0]),
         ],
-        &[(5, SECOND), (6, Held::Bytes(&[5, 0, 0, 0, 4, 0, 0, 0]))],
+        &[
+            (5, SECOND),
+            (6, BlockFilling::Bytes(&[5, 0, 0, 0, 4, 0, 0, 0])),
+        ],
         "f 8200 /a\n",
     ),
     (
@@ -389,7 +401,10 @@ const LISTS: [Row<'static>; 8] = [
             (0x0010_0401, b"a"),
             (0x2020_0408, &[6, 0, 0, 0, 0x08, 0x20, 0, 0]),
         ],
-        &[(5, SECOND), (6, Held::Bytes(&[5, 0, 0, 0, 5, 0, 0, 0]))],
+        &[
+            (5, SECOND),
+            (6, BlockFilling::Bytes(&[5, 0, 0, 0, 5, 0, 0, 0])),
+        ],
         CORRUPT,
     ),
     // two files with a block each
@@ -406,7 +421,7 @@ const LISTS: [Row<'static>; 8] = [
 ];
 
 // A file with bytes, a directory, and an empty file in it.
-pub(crate) const ENTRIES: Entries<'static> = &[
+pub(crate) const ENTRIES: FixtureEntries<'static> = &[
     (0x0010_0401, b"a"),
     (0x2010_0405, b"hello"),
     (0x0020_0801, b"d"),
@@ -414,7 +429,10 @@ pub(crate) const ENTRIES: Entries<'static> = &[
     (SOFT_TAIL, PAIR),
 ];
 
-pub(crate) const BELOW: Held<'static> = Held::Commit(&[(0x0010_0001, b"x"), (0x2010_0000, b"")]);
+pub(crate) const BELOW: BlockFilling<'static> = BlockFilling::Commit(&[
+    (0x0010_0001, b"x"),
+    (0x2010_0000, b""),
+]);
 
 // Images, and what unpacking them does.
 const UNPACKED: [Row<'static>; 4] = [
@@ -426,7 +444,7 @@ const UNPACKED: [Row<'static>; 4] = [
             (0x0010_0401, b"a"),
             (0x2020_0408, &[2, 0, 0, 0, 3, 0, 0, 0]),
         ],
-        &[(2, Held::Bytes(b"abcd"))],
+        &[(2, BlockFilling::Bytes(b"abcd"))],
         "f /a abc\n",
     ),
     // a directory that isn't in the thread
@@ -440,7 +458,7 @@ const UNPACKED: [Row<'static>; 4] = [
 // Whether an image is listed so, or does this where it is unpacked.
 fn is_shown(alloc: Global, row: Row<'_>, is_unpacked: bool) -> Result<bool, AllocError> {
     let (entries, others, wanted) = row;
-    let image = image_with(alloc, entries, others)?;
+    let image = image_with_second_commit(alloc, entries, others)?;
     let mut image = Watched::new(image.as_slice());
     let text = if is_unpacked {
         unpack_text(alloc, &mut image, 4096, 256)?
@@ -473,7 +491,7 @@ fn images_are_shown(rt: HostRuntime) -> Result<(), Fail> {
 }
 
 // The commits of a block in which a file moves from slot to slot.
-const SHIFTING: [Entries<'static>; 4] = [
+const SHIFTING: [FixtureEntries<'static>; 4] = [
     &[(0x4010_0400, b""), (0x0010_0401, b"b"), (0x2010_0400, b"")],
     &[(0x4010_0400, b""), (0x0010_0401, b"a"), (0x2010_0400, b"")],
     &[(0x4ff0_0400, b"")],
@@ -481,7 +499,7 @@ const SHIFTING: [Entries<'static>; 4] = [
 ];
 
 pub(crate) fn shifting_block(alloc: Global) -> Result<Vec<u8>, AllocError> {
-    first_block(alloc, 1, &SHIFTING)
+    block_with_superblock_and_commits(alloc, 1, &SHIFTING)
 }
 
 // A log of a file `x` up to the middle of its checksum's entry: its first bytes, 67 zeros, and its last
@@ -495,9 +513,9 @@ const NEARLY_END: &[u8] = b"\x70\x1f\xf8\x3b";
 #[derive(Clone, Copy)]
 enum Odd {
     // The block in which a file moves, and a second block: its revision and its second commit.
-    Second(u32, Entries<'static>),
+    Second(u32, FixtureEntries<'static>),
     // A first block without a commit, and such a second block.
-    Uncommitted(u32, Entries<'static>),
+    Uncommitted(u32, FixtureEntries<'static>),
     // The block in which a file moves, and one that is nearly a log, with this byte behind the first 132.
     Nearly(u8),
     // The block in which a file moves, and flipped bits of a byte.
@@ -548,10 +566,12 @@ fn odd_image(alloc: Global, odd: Odd) -> Result<Vec<u8>, AllocError> {
     let mut second = Vec::new(alloc);
     let mut len = 65536;
     match odd {
-        Odd::Second(revision, entries) => second = block_with(alloc, revision, entries)?,
+        Odd::Second(revision, entries) => second = block_with_superblock_and_entries(
+            alloc, revision, entries,
+        )?,
         Odd::Uncommitted(revision, entries) => {
             first = Vec::from_slice(alloc, &[0; 4])?;
-            second = block_with(alloc, revision, entries)?;
+            second = block_with_superblock_and_entries(alloc, revision, entries)?;
         }
         Odd::Nearly(byte) => second = nearly(alloc, byte)?,
         Odd::Flipped(at, bits) => {
@@ -560,7 +580,7 @@ fn odd_image(alloc: Global, odd: Odd) -> Result<Vec<u8>, AllocError> {
             }
         }
         Odd::Fresh(bytes) => {
-            first = block_with(alloc, 1, &[])?;
+            first = block_with_superblock_and_entries(alloc, 1, &[])?;
             len = bytes;
         }
         Odd::Blank(bytes) => {
@@ -568,7 +588,7 @@ fn odd_image(alloc: Global, odd: Odd) -> Result<Vec<u8>, AllocError> {
             len = bytes;
         }
     }
-    let mut image = image_of(alloc, first.as_slice(), second.as_slice())?;
+    let mut image = image_of_two_blocks(alloc, first.as_slice(), second.as_slice())?;
     image.resize(len, 0xff)?;
     Ok(image)
 }

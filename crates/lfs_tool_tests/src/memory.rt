@@ -2,7 +2,7 @@
 
 use crate::files::words_of;
 use crate::images::shifting_block;
-use lfs_fixtures::image_of;
+use lfs_fixtures::image_of_two_blocks;
 use lfs_tool::{RealPlaces, Watched, answer};
 use lfs_tool_folders::FaultLog;
 use std::alloc::{AllocError, Global};
@@ -53,7 +53,7 @@ const NO_MEMORY: &[u8] = b"error: NoMemory (12)\n";
 // An image in which a file moves from slot to slot.
 fn image(alloc: Global) -> Result<Vec<u8>, AllocError> {
     let block = shifting_block(alloc)?;
-    image_of(alloc, block.as_slice(), &[])
+    image_of_two_blocks(alloc, block.as_slice(), &[])
 }
 
 // Words behind the program's name, and what goes to `out`: a listing, an unpacking, and a making.

@@ -1,6 +1,8 @@
 // Sources, and what is read of them.
 
-use lfs_tool_folders::{FaultLog, Folder, Held, MemorySource, Source, SourceError, read_tree};
+use lfs_tool_folders::{
+    FaultLog, Folder, MemorySource, MemorySourceEntry, Source, SourceError, read_tree,
+};
 use std::alloc::{AllocError, Global};
 use std::fs;
 use std::test::Fail;
@@ -17,7 +19,7 @@ pub(crate) fn source_of(alloc: Global, items: Items<'_>) -> Result<MemorySource,
             Some(bytes) => Some(bytes.to_vec(alloc)?),
             None => None,
         };
-        held.push(Held { path, bytes })?;
+        held.push(MemorySourceEntry { path, bytes })?;
     }
     Ok(MemorySource::new(held))
 }

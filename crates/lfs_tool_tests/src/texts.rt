@@ -1,6 +1,6 @@
 // What the tool shows, as text.
 
-use lfs_tool::{Fault, Reader, ToolError, Watched, check, list, report, unpack};
+use lfs_tool::{Fault, ImageInput, ToolError, Watched, check, list, report, unpack};
 use lfs_tool_folders::{Done, MemoryTarget};
 use std::alloc::{AllocError, Global};
 
@@ -38,7 +38,7 @@ pub(crate) fn with_error_line(
 }
 
 // What listing an image prints.
-pub(crate) fn list_text<R: Reader>(
+pub(crate) fn list_text<R: ImageInput>(
     alloc: Global,
     image: &mut R,
     block_size: u32,
@@ -50,7 +50,7 @@ pub(crate) fn list_text<R: Reader>(
 }
 
 // What checking an image prints.
-pub(crate) fn check_text<R: Reader>(
+pub(crate) fn check_text<R: ImageInput>(
     alloc: Global,
     image: &mut R,
     block_size: u32,
@@ -82,7 +82,7 @@ fn push_done(text: &mut Vec<u8>, done: &Done) -> Result<(), AllocError> {
 }
 
 // What is done where an image is unpacked, a line for each action.
-pub(crate) fn unpack_text<R: Reader>(
+pub(crate) fn unpack_text<R: ImageInput>(
     alloc: Global,
     image: &mut R,
     block_size: u32,

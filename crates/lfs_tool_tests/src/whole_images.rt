@@ -1,6 +1,6 @@
 // Images that are written whole or not at all.
 
-use crate::disk::{Disk, Habit, Kind, Mounted};
+use crate::disk::{Disk, Habit, Mounted, PathKind};
 use lfs_tool_folders::NewImage;
 use std::alloc::Global;
 use std::io;
@@ -15,16 +15,23 @@ const OLD: &[u8] = b"an old image";
 
 // What stands at the path, how many bytes are free, what the file system does, whether the image is made, what stands
 // at the path then, and how many names there are.
-const ROWS: [(Option<Kind>, usize, Habit, bool, Option<&[u8]>, usize); 12] = [
+const ROWS: [(Option<PathKind>, usize, Habit, bool, Option<&[u8]>, usize); 12] = [
     (None, 24, Habit::Plain, true, Some(IMAGE), 1),
     (None, 23, Habit::Plain, false, None, 0),
-    (Some(Kind::File), 24, Habit::Plain, true, Some(IMAGE), 1),
-    (Some(Kind::File), 23, Habit::Plain, false, Some(OLD), 1),
-    (Some(Kind::File), 0, Habit::Plain, false, Some(OLD), 1),
-    (Some(Kind::ReadOnly), 99, Habit::Plain, false, Some(OLD), 1),
-    (Some(Kind::Link), 99, Habit::Plain, true, Some(IMAGE), 1),
+    (Some(PathKind::File), 24, Habit::Plain, true, Some(IMAGE), 1),
+    (Some(PathKind::File), 23, Habit::Plain, false, Some(OLD), 1),
+    (Some(PathKind::File), 0, Habit::Plain, false, Some(OLD), 1),
     (
-        Some(Kind::Link),
+        Some(PathKind::ReadOnly),
+        99,
+        Habit::Plain,
+        false,
+        Some(OLD),
+        1,
+    ),
+    (Some(PathKind::Link), 99, Habit::Plain, true, Some(IMAGE), 1),
+    (
+        Some(PathKind::Link),
         8,
         Habit::Plain,
         false,
@@ -33,7 +40,7 @@ const ROWS: [(Option<Kind>, usize, Habit, bool, Option<&[u8]>, usize); 12] = [
     ),
     (None, 99, Habit::NoNewNames, false, None, 0),
     (
-        Some(Kind::File),
+        Some(PathKind::File),
         99,
         Habit::NoNewNames,
         true,
@@ -41,7 +48,7 @@ const ROWS: [(Option<Kind>, usize, Habit, bool, Option<&[u8]>, usize); 12] = [
         1,
     ),
     (
-        Some(Kind::File),
+        Some(PathKind::File),
         99,
         Habit::NoNewPlaces,
         true,
@@ -49,7 +56,7 @@ const ROWS: [(Option<Kind>, usize, Habit, bool, Option<&[u8]>, usize); 12] = [
         1,
     ),
     (
-        Some(Kind::File),
+        Some(PathKind::File),
         23,
         Habit::NoNewPlaces,
         false,
@@ -59,7 +66,7 @@ const ROWS: [(Option<Kind>, usize, Habit, bool, Option<&[u8]>, usize); 12] = [
 ];
 
 // A disk on which that stands at the path.
-fn disk_with(alloc: Global, kind: Option<Kind>, room: usize, habit: Habit) -> io::Result<Disk> {
+fn disk_with(alloc: Global, kind: Option<PathKind>, room: usize, habit: Habit) -> io::Result<Disk> {
     let disk = Disk::new(alloc, room, habit);
     if let Some(kind) = kind {
         disk.put(alloc, PATH, kind, OLD)?;
@@ -96,8 +103,8 @@ fn images_are_whole_or_not_there(rt: HostRuntime) -> Result<(), Fail> {
 // Names that are taken are left alone, and the permissions of the old file are kept.
 #[test]
 fn other_names_are_left_alone(rt: HostRuntime) -> Result<(), Fail> {
-    let disk = disk_with(rt.alloc(), Some(Kind::File), 99, Habit::Plain)?;
-    disk.put(rt.alloc(), "out/.mklittlefs-0", Kind::File, b"another")?;
+    let disk = disk_with(rt.alloc(), Some(PathKind::File), 99, Habit::Plain)?;
+    disk.put(rt.alloc(), "out/.mklittlefs-0", PathKind::File, b"another")?;
     let files = Mounted {
         alloc: rt.alloc(),
         disk: &disk,

@@ -3,32 +3,32 @@ use Rattle.std.proofs.Common.{ℕ, ◌≡◌, ◌∙◌, ◌||◌, Bool, false, 
 use Rattle.std.specs.Prelude.{IfErr, OnErr, OnOk, is_err}
 use Rattle.lfs_device.specs.declared.error.Error.{Error}
 use Rattle.lfs_device.specs.declared.error.Error.TheVariants.{Io}
-use Rattle.lfs_model.specs.BlockSets.{BlockSets}
+use Rattle.lfs_model.specs.BlockSets.{BlockStateList}
 use Rattle.lfs_model.specs.Cache.{CachedBlocks}
 use Rattle.lfs_model.specs.Disk.{Disk}
-use Rattle.lfs_model.specs.History.{Event}
-use Rattle.lfs_model.specs.Thread.{Pair, superblocks_before}
+use Rattle.lfs_model.specs.History.{CallEvent}
+use Rattle.lfs_model.specs.Thread.{Pair, pair_count_before_root}
 use Rattle.lfs_model.specs.Operations.{Operation}
-use Rattle.lfs_model.specs.PowerLoss.{Survives}
+use Rattle.lfs_model.specs.PowerLoss.{SurvivesStopsSince}
 use Rattle.lfs_model.specs.Tree.{Tree}
-use Rattle.lfs_model.specs.Shown.{tree_in}
-use Rattle.lfs_thread.specs.Kept.{State}
-use Rattle.lfs_tree.specs.TreeChanges.{AppliesOn, SparesOthers}
-use Rattle.lfs_tree.specs.RootedThreads.{IsRootedUnlessFailed, IsRooted, tree_state_of, tree_state_of_thread}
-use Rattle.lfs_lookup.specs.Reading.{IsReading}
-use Rattle.lfs_tree.specs.TreeState.{TreeState, without_cache, WasOnlyRead, IsReadOnlyCall, FailsInRead, IsAppliedOn, IsError, tree_view, LeavesRest}
+use Rattle.lfs_model.specs.Shown.{tree_on_disk}
+use Rattle.lfs_thread.specs.Kept.{ThreadView}
+use Rattle.lfs_tree.specs.TreeChanges.{AppliesOperationOnThread, SparesBlocksOutsideOperation}
+use Rattle.lfs_tree.specs.RootedThreads.{IsSoundThreadUnlessFailed, IsSoundThreadWithRoot, tree_state_of_kept_thread, tree_state_of_thread}
+use Rattle.lfs_lookup.specs.Reading.{OnlyReadsThreadAndReportsErrors}
+use Rattle.lfs_tree.specs.TreeState.{TreeState, tree_state_without_cache, WasTreeOnlyRead, IsReadOnlyCall, IsTreeFailedByRead, IsOperationAppliedToTree, IsErrorWithCause, tree_view, LeavesUnconcernedBlocksAlone}
 use Rattle.lfs_tree.proofs.Mounting.{sound_read}
 use Rattle.lfs_lookup.proofs.Reading.{same_error}
 
-abbrev see : Disk → List Event → List Pair → BlockSets → Bool → Bool → CachedBlocks → TreeState
+abbrev see : Disk → List CallEvent → List Pair → BlockStateList → Bool → Bool → CachedBlocks → TreeState
 see disk history pairs map writable failed cache = record { disk = disk; history = history; pairs = pairs; map = map; writable = writable; failed = failed; cache = cache }
 
 -- a thread that was read, as it is behind the answer
-abbrev pub behind : {X : Type 0} → State → Result X Error → State
+abbrev pub behind : {X : Type 0} → ThreadView → Result X Error → ThreadView
 behind b r = record b { failed = is_err r || b.failed }
 
-module _ {X : Type 0} (a b : State) (root : ℕ) (writable : Bool) (h : IsRooted a root writable) where
-  asked : (r : Result X Error) → IsReading a b r → OnOk r (WasOnlyRead (tree_state_of_thread a writable) (tree_state_of_thread (behind b r) writable))
+module _ {X : Type 0} (a b : ThreadView) (root : ℕ) (writable : Bool) (h : IsSoundThreadWithRoot a root writable) where
+  asked : (r : Result X Error) → OnlyReadsThreadAndReportsErrors a b r → OnOk r (WasTreeOnlyRead (tree_state_of_thread a writable) (tree_state_of_thread (behind b r) writable))
   asked (Err e) k = tt
   asked (Ok x) k = record {
     same = ap (λ z. see z b.kept.history b.kept.pairs b.kept.map writable b.failed b.cache) k.only.disk
@@ -40,11 +40,11 @@ module _ {X : Type 0} (a b : State) (root : ℕ) (writable : Bool) (h : IsRooted
     no_fault = k.reported.no_fault (λ e. absurd (cc));
   }
 
-  broken : (r : Result X Error) → IsReading a b r → OnErr r (FailsInRead (tree_state_of_thread a writable) (tree_state_of_thread (behind b r) writable))
+  broken : (r : Result X Error) → OnlyReadsThreadAndReportsErrors a b r → OnErr r (IsTreeFailedByRead (tree_state_of_thread a writable) (tree_state_of_thread (behind b r) writable))
   broken (Ok x) k = tt
   broken (Err e) k = record { failed = refl; disk = k.only.disk; reads = k.only.reads }
 
-  reported : (r : Result X Error) → IsReading a b r → IfErr r (IsError (tree_state_of_thread a writable) (tree_state_of_thread (behind b r) writable))
+  reported : (r : Result X Error) → OnlyReadsThreadAndReportsErrors a b r → IfErr r (IsErrorWithCause (tree_state_of_thread a writable) (tree_state_of_thread (behind b r) writable))
   reported (Ok x) k = tt
   reported (Err e) k = record {
     errors = k.reported.errors;
@@ -52,32 +52,32 @@ module _ {X : Type 0} (a b : State) (root : ℕ) (writable : Bool) (h : IsRooted
     no_fault = λ other. k.reported.no_fault (λ z. other (same_error X e Io z));
   }
 
-  pub asking : (now : TreeState) (r : Result X Error) (c : State) → tree_state_of_thread a writable ≡ now → c ≡ behind b r → IsReading a b r → IsReadOnlyCall now r (tree_state_of_thread c writable)
+  pub asking : (now : TreeState) (r : Result X Error) (c : ThreadView) → tree_state_of_thread a writable ≡ now → c ≡ behind b r → OnlyReadsThreadAndReportsErrors a b r → IsReadOnlyCall now r (tree_state_of_thread c writable)
   asking now r c view is k =
       subst (λ (s : TreeState). IsReadOnlyCall s r (tree_state_of_thread c writable)) view
-      (subst (λ (t : State). IsReadOnlyCall (tree_state_of_thread a writable) r (tree_state_of_thread t writable)) (sym is) (record { asked = asked r k; broken = broken r k; errors = reported r k }))
+      (subst (λ (t : ThreadView). IsReadOnlyCall (tree_state_of_thread a writable) r (tree_state_of_thread t writable)) (sym is) (record { asked = asked r k; broken = broken r k; errors = reported r k }))
 
   -- it stays what it is
-  pub rooted : (r : Result X Error) → IsReading a b r → IsRooted b root writable
-  rooted r k = record { works = k.works; sound = sound_read a.kept b.kept writable false false k.only h.sound; root_is = h.root_is ∙ ap superblocks_before (sym k.only.pairs) }
+  pub rooted : (r : Result X Error) → OnlyReadsThreadAndReportsErrors a b r → IsSoundThreadWithRoot b root writable
+  rooted r k = record { works = k.works; sound = sound_read a.kept b.kept writable false false k.only h.sound; root_is = h.root_is ∙ ap pair_count_before_root (sym k.only.pairs) }
 
   -- where it doesn't fail
-  pub held : (r : Result X Error) (c : State) → c ≡ behind b r → IsReading a b r → IsRootedUnlessFailed c root writable
-  held r c is k = subst (λ (t : State). IsRootedUnlessFailed t root writable) (sym is) (go r k)
+  pub held : (r : Result X Error) (c : ThreadView) → c ≡ behind b r → OnlyReadsThreadAndReportsErrors a b r → IsSoundThreadUnlessFailed c root writable
+  held r c is k = subst (λ (t : ThreadView). IsSoundThreadUnlessFailed t root writable) (sym is) (go r k)
     where
-      go : (r : Result X Error) → IsReading a b r → IsRootedUnlessFailed (behind b r) root writable
+      go : (r : Result X Error) → OnlyReadsThreadAndReportsErrors a b r → IsSoundThreadUnlessFailed (behind b r) root writable
       go (Err e) k f = absurd (cc)
       go (Ok x) k f = rooted (Ok x) k
 
 -- ---- what is seen of a thread
 
-module _ (thread : State) (root : ℕ) (writable : Bool) (now : TreeState) (kept : IsRootedUnlessFailed thread root writable) (view : tree_state_of_thread thread writable ≡ now) where
+module _ (thread : ThreadView) (root : ℕ) (writable : Bool) (now : TreeState) (kept : IsSoundThreadUnlessFailed thread root writable) (view : tree_state_of_thread thread writable ≡ now) where
   pub works_held : now.failed ≡ false → thread.failed ≡ false
   works_held e = ap (λ (s : TreeState). s.failed) view ∙ e
 
-  pub rooted_held : now.failed ≡ false → IsRooted thread root writable
+  pub rooted_held : now.failed ≡ false → IsSoundThreadWithRoot thread root writable
   rooted_held e = kept (works_held e)
 
   -- what works and may be written, is seen so
-  pub seen_working : now.failed ≡ false → now.writable ≡ true → without_cache now ≡ tree_state_of thread.kept true false
-  seen_working e w = ap without_cache (sym view) ∙ ap₂ (λ a b. tree_state_of thread.kept a b) (ap (λ (s : TreeState). s.writable) view ∙ w) (works_held e)
+  pub seen_working : now.failed ≡ false → now.writable ≡ true → tree_state_without_cache now ≡ tree_state_of_kept_thread thread.kept true false
+  seen_working e w = ap tree_state_without_cache (sym view) ∙ ap₂ (λ a b. tree_state_of_kept_thread thread.kept a b) (ap (λ (s : TreeState). s.writable) view ∙ w) (works_held e)

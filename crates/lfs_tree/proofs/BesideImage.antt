@@ -3,13 +3,13 @@ use Rattle.std.proofs.Common.{ℕ, ◌≡◌, ◌≤◌, ◌+◌, ◌∙◌, Lis
 use Rattle.std.specs.Prelude.{All, Contains}
 use Rattle.std.specs.List.{flat_map}
 use Rattle.std.proofs.lemmas.List.Elements.{All-from_recursion, recursion_from_All}
-use Rattle.lfs_model.specs.Content.{content_at, holder_at}
-use Rattle.lfs_model.specs.Disk.{Disk, SameGeometry, block_at}
-use Rattle.lfs_model.specs.Slots.{FitsPair, Slot}
-use Rattle.lfs_model.specs.Thread.{Pair, blocks_of, directory_pairs, first_at, from_slots, superblocks_before}
-use Rattle.lfs_model.specs.View.{BeginsWithEntry, IsAccepted, superblock_entry}
-use Rattle.lfs_model.specs.Profile.{FitsSlot, IsWritable}
-use Rattle.lfs_model.specs.Shown.{all_slots, file_blocks, used_blocks}
+use Rattle.lfs_model.specs.Content.{content_of_pair_at, current_block_of_pair_at}
+use Rattle.lfs_model.specs.Disk.{Disk, SameGeometry, block_bytes_on_disk}
+use Rattle.lfs_model.specs.Slots.{IsContentFittingPair, Slot}
+use Rattle.lfs_model.specs.Thread.{Pair, blocks_of_pairs, pairs_of_all_directories, first_pair_address, pairs_from_first_slot, pair_count_before_root}
+use Rattle.lfs_model.specs.View.{BeginsWithLogEntry, IsAcceptedImage, superblock_name_log_entry}
+use Rattle.lfs_model.specs.Profile.{FitsSlotLimits, IsWritable}
+use Rattle.lfs_model.specs.Shown.{all_slots_not_moved, skip_list_blocks_of_struct, used_blocks}
 use Rattle.lfs_model.proofs.BlockSets.{Contains-count}
 use Rattle.lfs_model.proofs.Changes.{Follows, slots_files}
 use Rattle.lfs_model.proofs.Counts.{Each, count, count_append, count_here, each_from_counted, each_pieces}
@@ -21,12 +21,12 @@ use Rattle.lfs_model.proofs.Superblocks.{IsChain, first_counted}
 use Rattle.lfs_model.proofs.Unchanged.{accepted_filled, same_follows}
 use Rattle.lfs_lookup.proofs.Directories.{within}
 use Rattle.lfs_lookup.proofs.Roots.{root_begins}
-use Rattle.lfs_model.specs.Thread.{root_of}
+use Rattle.lfs_model.specs.Thread.{root_directory_of_pairs}
 
 pub writable_on : (disk new : Disk) (ps : List Pair) → SameGeometry disk new → IsWritable disk ps → IsWritable new ps
 writable_on disk new ps g h = record {
-  pairs = subst (λ (n : ℕ). All (λ p. FitsPair n new.page p.content) ps) (sym g.block_size) (subst (λ (n : ℕ). All (λ p. FitsPair disk.block_size n p.content) ps) (sym g.page) h.pairs);
-  slots = subst (λ (n : ℕ). All (λ p. All (FitsSlot n new.page) p.content.slots) ps) (sym g.block_size) (subst (λ (n : ℕ). All (λ p. All (FitsSlot disk.block_size n) p.content.slots) ps) (sym g.page) h.slots);
+  pairs = subst (λ (n : ℕ). All (λ p. IsContentFittingPair n new.page p.content) ps) (sym g.block_size) (subst (λ (n : ℕ). All (λ p. IsContentFittingPair disk.block_size n p.content) ps) (sym g.page) h.pairs);
+  slots = subst (λ (n : ℕ). All (λ p. All (FitsSlotLimits n new.page) p.content.slots) ps) (sym g.block_size) (subst (λ (n : ℕ). All (λ p. All (FitsSlotLimits disk.block_size n) p.content.slots) ps) (sym g.page) h.slots);
   no_empty_pair = h.no_empty_pair;
 }
 
@@ -34,66 +34,66 @@ pub geometry_back : (disk new : Disk) → SameGeometry disk new → SameGeometry
 geometry_back disk new g = record { block_size = sym g.block_size; page = sym g.page; order = sym g.order; count = sym g.count }
 
 -- pairs of which no block changed
-contents_still : (disk new : Disk) (ps : List Pair) → ((b : ℕ) → 1 ≤ count b (blocks_of ps) → block_at new b ≡ block_at disk b) → Each (λ (p : Pair). content_at disk p.at ≡ Some p.content) ps
-    → Each (λ (p : Pair). content_at new p.at ≡ Some p.content) ps
+contents_still : (disk new : Disk) (ps : List Pair) → ((b : ℕ) → 1 ≤ count b (blocks_of_pairs ps) → block_bytes_on_disk new b ≡ block_bytes_on_disk disk b) → Each (λ (p : Pair). content_of_pair_at disk p.at ≡ Some p.content) ps
+    → Each (λ (p : Pair). content_of_pair_at new p.at ≡ Some p.content) ps
 contents_still disk new [] same was = tt
 contents_still disk new (p ∷ ps) same was = (
   content_same disk new p.at
-      (same p.at.0 (let e = count_here p.at.0 (p.at.1 ∷ blocks_of ps) in omega arith))
-      (same p.at.1 (let e = count_here p.at.1 (blocks_of ps) in omega arith)) ∙ was.0,
+      (same p.at.0 (let e = count_here p.at.0 (p.at.1 ∷ blocks_of_pairs ps) in omega arith))
+      (same p.at.1 (let e = count_here p.at.1 (blocks_of_pairs ps) in omega arith)) ∙ was.0,
   contents_still disk new ps (λ b some. same b (omega arith)) was.1,
 )
 
-first_still : (disk new : Disk) (ps : List Pair) → IsAccepted disk ps → ((b : ℕ) → 1 ≤ count b (blocks_of ps) → block_at new b ≡ block_at disk b)
-    → BeginsWithEntry (holder_at new (first_at (from_slots ps))) superblock_entry
+first_still : (disk new : Disk) (ps : List Pair) → IsAcceptedImage disk ps → ((b : ℕ) → 1 ≤ count b (blocks_of_pairs ps) → block_bytes_on_disk new b ≡ block_bytes_on_disk disk b)
+    → BeginsWithLogEntry (current_block_of_pair_at new (first_pair_address (pairs_from_first_slot ps))) superblock_name_log_entry
 first_still disk new ps ok same =
     let f = accepted_filled disk ps ok in
     let n = first_counted ps f.pair f.rest f.is in
-    let e = ap first_at f.is in
-    subst (λ at. BeginsWithEntry (holder_at new at) superblock_entry) (sym e)
-    (first_same disk new f.pair.at (same f.pair.at.0 n.0) (same f.pair.at.1 n.1) (subst (λ at. BeginsWithEntry (holder_at disk at) superblock_entry) e ok.first))
+    let e = ap first_pair_address f.is in
+    subst (λ at. BeginsWithLogEntry (current_block_of_pair_at new at) superblock_name_log_entry) (sym e)
+    (first_same disk new f.pair.at (same f.pair.at.0 n.0) (same f.pair.at.1 n.1) (subst (λ at. BeginsWithLogEntry (current_block_of_pair_at disk at) superblock_name_log_entry) e ok.first))
 
-module _ (disk new : Disk) (ps : List Pair) (ok : IsAccepted disk ps) (geometry : SameGeometry disk new) (same : (b : ℕ) → Contains (used_blocks disk ps) b → block_at new b ≡ block_at disk b) where
-  counted : (b : ℕ) → count b (used_blocks disk ps) ≡ count b (blocks_of ps) + count b (flat_map (λ (s : Slot). file_blocks disk s.struct) (all_slots ps))
-  counted b = count_append b (blocks_of ps) (flat_map (λ (s : Slot). file_blocks disk s.struct) (all_slots ps))
+module _ (disk new : Disk) (ps : List Pair) (ok : IsAcceptedImage disk ps) (geometry : SameGeometry disk new) (same : (b : ℕ) → Contains (used_blocks disk ps) b → block_bytes_on_disk new b ≡ block_bytes_on_disk disk b) where
+  counted : (b : ℕ) → count b (used_blocks disk ps) ≡ count b (blocks_of_pairs ps) + count b (flat_map (λ (s : Slot). skip_list_blocks_of_struct disk s.struct) (all_slots_not_moved ps))
+  counted b = count_append b (blocks_of_pairs ps) (flat_map (λ (s : Slot). skip_list_blocks_of_struct disk s.struct) (all_slots_not_moved ps))
 
-  pair_still : (b : ℕ) → 1 ≤ count b (blocks_of ps) → block_at new b ≡ block_at disk b
+  pair_still : (b : ℕ) → 1 ≤ count b (blocks_of_pairs ps) → block_bytes_on_disk new b ≡ block_bytes_on_disk disk b
   pair_still b some = same b (Contains-count (used_blocks disk ps) b (let e = counted b in omega arith))
 
-  pub files_still : Each (λ (s : Slot). HasSameFile disk new s.struct) (all_slots ps)
-  files_still = each_pieces (λ b. block_at new b ≡ block_at disk b) (λ (s : Slot). file_blocks disk s.struct) (all_slots ps)
-      (each_from_counted (λ b. block_at new b ≡ block_at disk b) (flat_map (λ (s : Slot). file_blocks disk s.struct) (all_slots ps))
+  pub files_still : Each (λ (s : Slot). HasSameFile disk new s.struct) (all_slots_not_moved ps)
+  files_still = each_pieces (λ b. block_bytes_on_disk new b ≡ block_bytes_on_disk disk b) (λ (s : Slot). skip_list_blocks_of_struct disk s.struct) (all_slots_not_moved ps)
+      (each_from_counted (λ b. block_bytes_on_disk new b ≡ block_bytes_on_disk disk b) (flat_map (λ (s : Slot). skip_list_blocks_of_struct disk s.struct) (all_slots_not_moved ps))
       (λ b some. same b (Contains-count (used_blocks disk ps) b (let e = counted b in omega arith))))
 
   device_still : IsDevice disk new ps ps
   device_still = record {
     geometry = geometry;
-    contents = All-from_recursion (λ (p : Pair). content_at new p.at ≡ Some p.content) ps
-        (contents_still disk new ps pair_still (recursion_from_All (λ (p : Pair). content_at disk p.at ≡ Some p.content) ps ok.thread.contents));
+    contents = All-from_recursion (λ (p : Pair). content_of_pair_at new p.at ≡ Some p.content) ps
+        (contents_still disk new ps pair_still (recursion_from_All (λ (p : Pair). content_of_pair_at disk p.at ≡ Some p.content) ps ok.thread.contents));
     first = first_still disk new ps ok pair_still;
-    files = All-from_recursion (λ (s : Slot). HasSameFile disk new s.struct) (all_slots ps) files_still;
+    files = All-from_recursion (λ (s : Slot). HasSameFile disk new s.struct) (all_slots_not_moved ps) files_still;
   }
 
   -- it is accepted as before, and shows the same tree
   pub still_follows : Follows disk ps new ps (λ t. t) (λ d. d)
-  still_follows = go (directory_pairs ps) refl
+  still_follows = go (pairs_of_all_directories ps) refl
     where
       chain : List Pair
-      chain = take (superblocks_before ps) ps
+      chain = take (pair_count_before_root ps) ps
 
-      go : (behind : List Pair) → directory_pairs ps ≡ behind → Follows disk ps new ps (λ t. t) (λ d. d)
+      go : (behind : List Pair) → pairs_of_all_directories ps ≡ behind → Follows disk ps new ps (λ t. t) (λ d. d)
       go [] e = absurd (
           let c = chain_of_thread ps in
-          let w = within ps (root_of ps) (superblocks_before ps) (root_begins disk ps ok) in
-          let l = ap length (c.0 ∙ ap (λ z. take (superblocks_before ps) ps ++ z) e) in
-          let k : superblocks_before ps ≡ length (take (superblocks_before ps) ps) = ap superblocks_before c.0 ∙ c.1 in
-          let n = length-append (take (superblocks_before ps) ps) [] in
+          let w = within ps (root_directory_of_pairs ps) (pair_count_before_root ps) (root_begins disk ps ok) in
+          let l = ap length (c.0 ∙ ap (λ z. take (pair_count_before_root ps) ps ++ z) e) in
+          let k : pair_count_before_root ps ≡ length (take (pair_count_before_root ps) ps) = ap pair_count_before_root c.0 ∙ c.1 in
+          let n = length-append (take (pair_count_before_root ps) ps) [] in
           omega arith)
       go (x ∷ rest) e =
           let c = chain_of_thread ps in
-          let are : ps ≡ take (superblocks_before ps) ps ++ (x ∷ rest) = c.0 ∙ ap (λ z. take (superblocks_before ps) ps ++ z) e in
+          let are : ps ≡ take (pair_count_before_root ps) ps ++ (x ∷ rest) = c.0 ∙ ap (λ z. take (pair_count_before_root ps) ps ++ z) e in
           subst (λ z. Follows disk z new z (λ t. t) (λ d. d)) (sym are)
-          (same_follows disk new (take (superblocks_before ps) ps) x rest (subst (IsChain (take (superblocks_before ps) ps)) e c.1) (subst (IsAccepted disk) are ok) (subst (λ z. IsDevice disk new z z) are device_still))
+          (same_follows disk new (take (pair_count_before_root ps) ps) x rest (subst (IsChain (take (pair_count_before_root ps) ps)) e c.1) (subst (IsAcceptedImage disk) are ok) (subst (λ z. IsDevice disk new z z) are device_still))
 
   pub used_still : used_blocks new ps ≡ used_blocks disk ps
-  used_still = ap (λ z. blocks_of ps ++ z) (slots_files disk new (all_slots ps) geometry files_still)
+  used_still = ap (λ z. blocks_of_pairs ps ++ z) (slots_files disk new (all_slots_not_moved ps) geometry files_still)

@@ -5,64 +5,64 @@ use Rattle.std.specs.Prelude.{Contains, IfErr, IfOk, OnErr, OnOk}
 use Rattle.lfs_device.specs.declared.error.Error.{Error}
 use Rattle.lfs_device.specs.declared.error.Error.TheVariants.{Io}
 use Rattle.lfs_model.specs.TreeEdits.{is_file}
-use Rattle.lfs_model.specs.BlockSets.{AreUsed, used_count}
-use Rattle.lfs_model.specs.Disk.{SameGeometry, block_at, block_count, inline_limit}
-use Rattle.lfs_model.specs.Session.{Surroundings}
+use Rattle.lfs_model.specs.BlockSets.{AreExactlyTheUsedBlocks, used_count}
+use Rattle.lfs_model.specs.Disk.{SameGeometry, block_bytes_on_disk, block_count, inline_limit}
+use Rattle.lfs_model.specs.Session.{DiskSummary}
 use Rattle.lfs_model.specs.SlotEdits.{slot_of_path}
 use Rattle.lfs_model.specs.Slots.{Slot}
-use Rattle.lfs_model.specs.Thread.{Pair, gstate_of, superblocks_before}
+use Rattle.lfs_model.specs.Thread.{Pair, gstate_of, pair_count_before_root}
 use Rattle.lfs_model.specs.Tree.{Path, Tree}
-use Rattle.lfs_model.specs.View.{IsAccepted}
+use Rattle.lfs_model.specs.View.{IsAcceptedImage}
 use Rattle.lfs_model.specs.Profile.{IsWritable}
-use Rattle.lfs_model.specs.Shown.{tree_in, used_blocks}
+use Rattle.lfs_model.specs.Shown.{tree_on_disk, used_blocks}
 use Rattle.lfs_model.specs.Blocks.{Blocks}
 use Rattle.lfs_model.specs.Cache.{CachedBlocks}
-use Rattle.lfs_model.specs.PowerLoss.{IsLeftByStop, Survives, with_blocks}
+use Rattle.lfs_model.specs.PowerLoss.{ShowsTreeBeforeOrAfter, SurvivesStopsSince, with_blocks}
 use Rattle.lfs_model.proofs.Changes.{Follows}
-use Rattle.lfs_model.proofs.Histories.{LeavesOnly-weaker, LeavesOnly-worst}
-use Rattle.lfs_writer.specs.Hand.{SparesUsed}
+use Rattle.lfs_model.proofs.Histories.{IsTrueAfterEachStopSince-weaker, IsTrueAfterEachStopSince-worst}
+use Rattle.lfs_writer.specs.Hand.{KeepsBytesOfUsedBlocks}
 use Rattle.lfs_model.proofs.Files.{HasSameFile, file_blocks_same}
-use Rattle.lfs_writer.specs.ThreadContents.{CanTruncate, CanWrite, HoldsContents, LeavesPairsAndUsed, ReportsWork, list_blocks_of}
-use Rattle.lfs_thread.specs.Kept.{Kept, State}
-use Rattle.lfs_tree.specs.RootedThreads.{IsRootedUnlessFailed, IsRooted, tree_state_of, tree_state_of_thread}
-use Rattle.lfs_tree.specs.OpenContents.{CanTruncateOpenFile, CanWriteOpenFile, IsOverFile, IsWriting, WritesUnusedBlocks, blocks_named, bytes_held, list_at}
-use Rattle.lfs_tree.specs.TreeState.{IsFailedTree, IsError, IsSound, TreeState}
+use Rattle.lfs_writer.specs.ThreadContents.{CanTruncateContentsOnThread, CanWriteContentsOnThread, HasContentsInFormOnThread, LeavesPairsAndUsedBlocks, ReportsFaultOrNoMemory, list_blocks_of_contents}
+use Rattle.lfs_thread.specs.Kept.{Kept, ThreadView}
+use Rattle.lfs_tree.specs.RootedThreads.{IsSoundThreadUnlessFailed, IsSoundThreadWithRoot, tree_state_of_kept_thread, tree_state_of_thread}
+use Rattle.lfs_tree.specs.OpenContents.{CanTruncateWriterContents, CanWriteWriterContents, AreWriterContentsOverKeptFile, WritesUnusedBlocksOrFails, WritesUnusedBlocks, blocks_named, bytes_of_writer_contents, list_at}
+use Rattle.lfs_tree.specs.TreeState.{IsFailedTree, IsErrorWithCause, IsSoundTreeState, TreeState}
 use Rattle.lfs_tree.proofs.BesideImage.{files_still, geometry_back, still_follows, used_still, writable_on}
 use Rattle.lfs_lookup.proofs.Reading.{same_error}
 use Rattle.lfs_tree.proofs.Asking.{behind}
 use Rattle.lfs_tree.proofs.SlotsHave.{slot_has}
 use Rattle.lfs_tree.proofs.UsedBlocks.{count_is}
-use Rattle.lfs_writer.specs.Contents.{IsLarge, NeedsRoom, bytes_in, form_of, truncate_room, write_room}
-use Rattle.lfs_writer.specs.Form.{Form, form_size}
-use Rattle.lfs_writer.specs.BlockOwners.{AreOwned}
-use Rattle.lfs_writer.specs.declared.contents.Contents.{Contents}
+use Rattle.lfs_writer.specs.Contents.{ExceedsInlineLimitIfInFlight, NeedsRoomToTruncate, contents_bytes_in_blocks, form_of_contents, block_room_for_truncation, block_room_for_write}
+use Rattle.lfs_writer.specs.Form.{ContentsForm, size_of_contents_form}
+use Rattle.lfs_writer.specs.BlockOwners.{AreUsedBlocksAmong}
+use Rattle.lfs_writer.specs.declared.contents.WriterContents.{WriterContents}
 use Rattle.lfs_writer.proofs.Used.{used_back}
 
 -- the bytes and the form of contents that stand on a thread's device
-pub bytes_of_held : (t : Kept) (c : Contents) (bytes : List ℕ) (shape : Form) → HoldsContents t c bytes shape → bytes_held t c ≡ bytes
-bytes_of_held t c bytes shape h = ap (λ (n : ℕ). bytes_in t.disk.blocks n c) (sym h.divided.block_size) ∙ h.has.has
+pub bytes_of_held : (t : Kept) (c : WriterContents) (bytes : List ℕ) (shape : ContentsForm) → HasContentsInFormOnThread t c bytes shape → bytes_of_writer_contents t c ≡ bytes
+bytes_of_held t c bytes shape h = ap (λ (n : ℕ). contents_bytes_in_blocks t.disk.blocks n c) (sym h.divided.block_size) ∙ h.has.has
 
-pub geometry_beside : (a b : Kept) → LeavesPairsAndUsed a b → SameGeometry a.disk b.disk
+pub geometry_beside : (a b : Kept) → LeavesPairsAndUsedBlocks a b → SameGeometry a.disk b.disk
 geometry_beside a b l = record { block_size = l.shape.block_size; page = l.shape.page; order = l.shape.order; count = l.shape.count }
 
-module _ (a b : Kept) (leaves : LeavesPairsAndUsed a b) (accepted : IsAccepted a.disk a.pairs) (used : AreUsed a.map (used_blocks a.disk a.pairs)) where
-  used_same : (x : ℕ) → Contains (used_blocks a.disk a.pairs) x → block_at b.disk x ≡ block_at a.disk x
+module _ (a b : Kept) (leaves : LeavesPairsAndUsedBlocks a b) (accepted : IsAcceptedImage a.disk a.pairs) (used : AreExactlyTheUsedBlocks a.map (used_blocks a.disk a.pairs)) where
+  used_same : (x : ℕ) → Contains (used_blocks a.disk a.pairs) x → block_bytes_on_disk b.disk x ≡ block_bytes_on_disk a.disk x
   used_same x has = leaves.spared.same x ((used x).1 has)
 
   follows : Follows a.disk a.pairs b.disk a.pairs (λ t. t) (λ d. d)
   follows = still_follows a.disk b.disk a.pairs accepted (geometry_beside a b leaves) used_same
 
-  pub accepted_beside : IsAccepted b.disk b.pairs
-  accepted_beside = subst (IsAccepted b.disk) (sym leaves.pairs) follows.accepted
+  pub accepted_beside : IsAcceptedImage b.disk b.pairs
+  accepted_beside = subst (IsAcceptedImage b.disk) (sym leaves.pairs) follows.accepted
 
-  pub tree_beside : tree_in b.disk b.pairs ≡ tree_in a.disk a.pairs
-  tree_beside = ap (tree_in b.disk) leaves.pairs ∙ follows.shows
+  pub tree_beside : tree_on_disk b.disk b.pairs ≡ tree_on_disk a.disk a.pairs
+  tree_beside = ap (tree_on_disk b.disk) leaves.pairs ∙ follows.shows
 
   pub used_blocks_beside : used_blocks b.disk b.pairs ≡ used_blocks a.disk a.pairs
   used_blocks_beside = ap (used_blocks b.disk) leaves.pairs ∙ used_still a.disk b.disk a.pairs accepted (geometry_beside a b leaves) used_same
 
-  pub are_used_beside : AreUsed b.map (used_blocks b.disk b.pairs)
-  are_used_beside = subst (AreUsed b.map) (sym used_blocks_beside) (λ x. ((λ u. (used x).0 (used_back leaves.map x u)), (λ has. leaves.map.stays x ((used x).1 has))))
+  pub are_used_beside : AreExactlyTheUsedBlocks b.map (used_blocks b.disk b.pairs)
+  are_used_beside = subst (AreExactlyTheUsedBlocks b.map) (sym used_blocks_beside) (λ x. ((λ u. (used x).0 (used_back leaves.map x u)), (λ has. leaves.map.stays x ((used x).1 has))))
 
   -- the file at a path has its list in the same blocks
   pub list_beside : (path : Path) → list_at b path ≡ list_at a path
@@ -74,7 +74,7 @@ module _ (a b : Kept) (leaves : LeavesPairsAndUsed a b) (accepted : IsAccepted a
           (slot_has (λ (x : Slot). HasSameFile a.disk b.disk x.struct) a.disk a.pairs accepted (files_still a.disk b.disk a.pairs accepted (geometry_beside a b leaves) used_same) tt path s e)
 
   -- what a call makes of contents is over the same file
-  pub over_beside : (path : Path) (contents c : Contents) (bytes : List ℕ) (shape : Form) → IsOverFile a path contents → HoldsContents b c bytes shape → AreOwned b.map (list_blocks_of a contents) (list_blocks_of b c) → IsOverFile b path c
+  pub over_beside : (path : Path) (contents c : WriterContents) (bytes : List ℕ) (shape : ContentsForm) → AreWriterContentsOverKeptFile a path contents → HasContentsInFormOnThread b c bytes shape → AreUsedBlocksAmong b.map (list_blocks_of_contents a contents) (list_blocks_of_contents b c) → AreWriterContentsOverKeptFile b path c
   over_beside path contents c bytes shape over holds owned = record {
     file = ap (λ (t : Tree). is_file (t path)) tree_beside ∙ over.file;
     stands = record { geometry = holds.geometry; divided = holds.divided; stands = holds.has.stands };
@@ -83,7 +83,7 @@ module _ (a b : Kept) (leaves : LeavesPairsAndUsed a b) (accepted : IsAccepted a
     };
   }
 
-sound_beside : (a b : Kept) (writable : Bool) → LeavesPairsAndUsed a b → IsSound (tree_state_of a writable false) → IsSound (tree_state_of b writable false)
+sound_beside : (a b : Kept) (writable : Bool) → LeavesPairsAndUsedBlocks a b → IsSoundTreeState (tree_state_of_kept_thread a writable false) → IsSoundTreeState (tree_state_of_kept_thread b writable false)
 sound_beside a b writable leaves s = record {
   accepted = accepted_beside a b leaves s.accepted s.used;
   fits = λ e. subst (IsWritable b.disk) (sym leaves.pairs) (writable_on a.disk b.disk a.pairs (geometry_beside a b leaves) (s.fits e));
@@ -93,27 +93,27 @@ sound_beside a b writable leaves s = record {
 }
 
 around_is : (writable : Bool) (block_size page count block_size_now page_now count_now : ℕ) (used used_now : List ℕ) (ps qs : List Pair) → block_size_now ≡ block_size → page_now ≡ page → count_now ≡ count → used_now ≡ used → qs ≡ ps
-    → (let x : Surroundings = record { writable = writable; block_size = block_size_now; page = page_now; block_count = count_now; used = used_now; gstate = gstate_of qs } in x)
+    → (let x : DiskSummary = record { writable = writable; block_size = block_size_now; page = page_now; block_count = count_now; used = used_now; gstate = gstate_of qs } in x)
     ≡ record { writable = writable; block_size = block_size; page = page; block_count = count; used = used; gstate = gstate_of ps }
 around_is writable block_size page count block_size_now page_now count_now used used_now ps qs b p c u q = λ i. record { writable = writable; block_size = b i; page = p i; block_count = c i; used = u i; gstate = gstate_of (q i) }
 
 -- a disk of which no used block changed
-pub left_beside : (t : Kept) (blocks : Blocks) {after : Tree} → IsAccepted t.disk t.pairs → IsWritable t.disk t.pairs → AreUsed t.map (used_blocks t.disk t.pairs) → SparesUsed t.map t.disk.blocks blocks
-    → IsLeftByStop (with_blocks blocks t.disk) (tree_in t.disk t.pairs) after
+pub left_beside : (t : Kept) (blocks : Blocks) {after : Tree} → IsAcceptedImage t.disk t.pairs → IsWritable t.disk t.pairs → AreExactlyTheUsedBlocks t.map (used_blocks t.disk t.pairs) → KeepsBytesOfUsedBlocks t.map t.disk.blocks blocks
+    → ShowsTreeBeforeOrAfter (with_blocks blocks t.disk) (tree_on_disk t.disk t.pairs) after
 left_beside t blocks accepted fits used spared =
     let same : SameGeometry t.disk (with_blocks blocks t.disk) = record { block_size = refl; page = refl; order = refl; count = spared.count } in
     let f = still_follows t.disk (with_blocks blocks t.disk) t.pairs accepted same (λ x has. spared.same x ((used x).1 has)) in
     record { pairs = t.pairs; accepted = f.accepted; writable = writable_on t.disk (with_blocks blocks t.disk) t.pairs same fits; tree = inl f.shows }
 
 -- the calls of a tree
-module _ (a b : State) (root : ℕ) (writable : Bool) (h : IsRooted a root writable) (still : b.failed ≡ false) (leaves : LeavesPairsAndUsed a.kept b.kept) where
-  abbrev sound : IsSound (tree_state_of a.kept writable false)
+module _ (a b : ThreadView) (root : ℕ) (writable : Bool) (h : IsSoundThreadWithRoot a root writable) (still : b.failed ≡ false) (leaves : LeavesPairsAndUsedBlocks a.kept b.kept) where
+  abbrev sound : IsSoundTreeState (tree_state_of_kept_thread a.kept writable false)
   sound = h.sound
 
-  pub rooted_beside : IsRooted b root writable
-  rooted_beside = record { works = still; sound = sound_beside a.kept b.kept writable leaves sound; root_is = h.root_is ∙ ap superblocks_before (sym leaves.pairs) }
+  pub rooted_beside : IsSoundThreadWithRoot b root writable
+  rooted_beside = record { works = still; sound = sound_beside a.kept b.kept writable leaves sound; root_is = h.root_is ∙ ap pair_count_before_root (sym leaves.pairs) }
 
-  written_beside : (r : Result Contents Error) → ReportsWork a.kept b.kept r → OnOk r (WritesUnusedBlocks (tree_state_of_thread a writable) (tree_state_of_thread (behind b r) writable))
+  written_beside : (r : Result WriterContents Error) → ReportsFaultOrNoMemory a.kept b.kept r → OnOk r (WritesUnusedBlocks (tree_state_of_thread a writable) (tree_state_of_thread (behind b r) writable))
   written_beside (Err e) t = tt
   written_beside (Ok c) t =
       let s = sound_beside a.kept b.kept writable leaves sound in
@@ -131,38 +131,38 @@ module _ (a b : State) (root : ℕ) (writable : Bool) (h : IsRooted a root writa
         no_fault = t.no_fault (λ e. absurd (cc));
       }
 
-  broken_beside : (r : Result Contents Error) → OnErr r (IsFailedTree (tree_state_of_thread a writable) (tree_state_of_thread (behind b r) writable))
+  broken_beside : (r : Result WriterContents Error) → OnErr r (IsFailedTree (tree_state_of_thread a writable) (tree_state_of_thread (behind b r) writable))
   broken_beside (Ok c) = tt
   broken_beside (Err e) = record { failed = refl; geometry = geometry_beside a.kept b.kept leaves; calls = leaves.at_worst.events; called = leaves.at_worst.extends }
 
-  reported_beside : (r : Result Contents Error) → ReportsWork a.kept b.kept r → IfErr r (IsError (tree_state_of_thread a writable) (tree_state_of_thread (behind b r) writable))
+  reported_beside : (r : Result WriterContents Error) → ReportsFaultOrNoMemory a.kept b.kept r → IfErr r (IsErrorWithCause (tree_state_of_thread a writable) (tree_state_of_thread (behind b r) writable))
   reported_beside (Ok c) t = tt
   reported_beside (Err e) t = record {
     errors = t.errors;
     fault = λ io. t.fault (ap Err io);
-    no_fault = λ other. t.no_fault (λ z. other (same_error Contents e Io z));
+    no_fault = λ other. t.no_fault (λ z. other (same_error WriterContents e Io z));
   }
 
   -- a loss of power on the way leaves the image as it was
-  survives_beside : writable ≡ true → Survives a.kept.disk a.kept.history b.kept.history (tree_in a.kept.disk a.kept.pairs) (tree_in a.kept.disk a.kept.pairs)
-  survives_beside may clean = LeavesOnly-weaker (λ blocks spared. left_beside a.kept blocks sound.accepted (sound.fits may) sound.used spared) (LeavesOnly-worst leaves.at_worst)
+  survives_beside : writable ≡ true → SurvivesStopsSince a.kept.disk a.kept.history b.kept.history (tree_on_disk a.kept.disk a.kept.pairs) (tree_on_disk a.kept.disk a.kept.pairs)
+  survives_beside may clean = IsTrueAfterEachStopSince-weaker (λ blocks spared. left_beside a.kept blocks sound.accepted (sound.fits may) sound.used spared) (IsTrueAfterEachStopSince-worst leaves.at_worst)
 
-  pub writing : (now : TreeState) (r : Result Contents Error) (c : State) → tree_state_of_thread a writable ≡ now → c ≡ behind b r → ReportsWork a.kept b.kept r → IsWriting now r (tree_state_of_thread c writable)
+  pub writing : (now : TreeState) (r : Result WriterContents Error) (c : ThreadView) → tree_state_of_thread a writable ≡ now → c ≡ behind b r → ReportsFaultOrNoMemory a.kept b.kept r → WritesUnusedBlocksOrFails now r (tree_state_of_thread c writable)
   writing now r c view is t =
-      subst (λ (s : TreeState). IsWriting s r (tree_state_of_thread c writable)) view
-      (subst (λ (t : State). IsWriting (tree_state_of_thread a writable) r (tree_state_of_thread t writable)) (sym is)
+      subst (λ (s : TreeState). WritesUnusedBlocksOrFails s r (tree_state_of_thread c writable)) view
+      (subst (λ (t : ThreadView). WritesUnusedBlocksOrFails (tree_state_of_thread a writable) r (tree_state_of_thread t writable)) (sym is)
       (record { beside = written_beside r t; broken = broken_beside r; errors = reported_beside r t; survives = survives_beside }))
 
   -- and the thread is still that of the image
-  pub held_beside : (r : Result Contents Error) (c : State) → c ≡ behind b r → IsRootedUnlessFailed c root writable
-  held_beside r c is = subst (λ (t : State). IsRootedUnlessFailed t root writable) (sym is) (go r)
+  pub held_beside : (r : Result WriterContents Error) (c : ThreadView) → c ≡ behind b r → IsSoundThreadUnlessFailed c root writable
+  held_beside r c is = subst (λ (t : ThreadView). IsSoundThreadUnlessFailed t root writable) (sym is) (go r)
     where
-      go : (r : Result Contents Error) → IsRootedUnlessFailed (behind b r) root writable
+      go : (r : Result WriterContents Error) → IsSoundThreadUnlessFailed (behind b r) root writable
       go (Err e) f = absurd (cc)
       go (Ok x) f = rooted_beside
 
-  pub all_over : (path : Path) (contents : Contents) (bytes : List ℕ) (shape : Form) (r : Result Contents Error) → IsOverFile a.kept path contents → IfOk r (λ c. HoldsContents b.kept c bytes shape)
-      → IfOk r (λ c. AreOwned b.kept.map (list_blocks_of a.kept contents) (list_blocks_of b.kept c)) → IfOk r (IsOverFile b.kept path)
+  pub all_over : (path : Path) (contents : WriterContents) (bytes : List ℕ) (shape : ContentsForm) (r : Result WriterContents Error) → AreWriterContentsOverKeptFile a.kept path contents → IfOk r (λ c. HasContentsInFormOnThread b.kept c bytes shape)
+      → IfOk r (λ c. AreUsedBlocksAmong b.kept.map (list_blocks_of_contents a.kept contents) (list_blocks_of_contents b.kept c)) → IfOk r (AreWriterContentsOverKeptFile b.kept path)
   all_over path contents bytes shape (Err e) over holds owned = tt
   all_over path contents bytes shape (Ok c) over holds owned = over_beside a.kept b.kept leaves sound.accepted sound.used path contents c bytes shape over holds owned
 
@@ -171,29 +171,29 @@ module _ (a b : State) (root : ℕ) (writable : Bool) (h : IsRooted a root writa
 limit_short : (block_size limit : ℕ) → 1024 ≤ block_size → limit ≡ inline_limit block_size → limit < block_size
 limit_short block_size limit large e = let m = min-le_right (block_size / 8) 1022 in omega arith
 
-module _ (t : Kept) (writable : Bool) (limit : ℕ) (sound : IsSound (tree_state_of t writable false)) (large : 1024 ≤ t.disk.block_size) (is : limit ≡ inline_limit t.disk.block_size) where
+module _ (t : Kept) (writable : Bool) (limit : ℕ) (sound : IsSoundTreeState (tree_state_of_kept_thread t writable false)) (large : 1024 ≤ t.disk.block_size) (is : limit ≡ inline_limit t.disk.block_size) where
   room_is : (need : ℕ) → length (used_blocks t.disk t.pairs) + need ≤ block_count t.disk → used_count t.map + need ≤ length t.map
-  room_is need room = let e = count_is (tree_state_of t writable false) sound in let s = sound.size in omega arith
+  room_is need room = let e = count_is (tree_state_of_kept_thread t writable false) sound in let s = sound.size in omega arith
 
-  pub can_write : {cache : CachedBlocks} (failed : Bool) (contents : Contents) (place count : ℕ) → CanWriteOpenFile (record (tree_state_of t writable failed) { cache = cache }) contents place count → CanWrite t contents limit place count
+  pub can_write : {cache : CachedBlocks} (failed : Bool) (contents : WriterContents) (place count : ℕ) → CanWriteWriterContents (record (tree_state_of_kept_thread t writable failed) { cache = cache }) contents place count → CanWriteContentsOnThread t contents limit place count
   can_write failed contents place count can = record {
     stands = can.stands;
     fits = record {
-      large = subst (λ (n : ℕ). IsLarge n (form_of contents)) (sym is) can.large;
+      large = subst (λ (n : ℕ). ExceedsInlineLimitIfInFlight n (form_of_contents contents)) (sym is) can.large;
       short = limit_short t.disk.block_size limit large is;
       some = can.some;
       small = can.small;
-      room = λ past. room_is (write_room t.disk.block_size place count (form_of contents)) (can.room (subst (λ n. n < max (form_size (form_of contents)) (place + count)) is past));
+      room = λ past. room_is (block_room_for_write t.disk.block_size place count (form_of_contents contents)) (can.room (subst (λ n. n < max (size_of_contents_form (form_of_contents contents)) (place + count)) is past));
     };
   }
 
-  pub can_truncate : {cache : CachedBlocks} (failed : Bool) (contents : Contents) (size : ℕ) → CanTruncateOpenFile (record (tree_state_of t writable failed) { cache = cache }) contents size → CanTruncate t contents limit size
+  pub can_truncate : {cache : CachedBlocks} (failed : Bool) (contents : WriterContents) (size : ℕ) → CanTruncateWriterContents (record (tree_state_of_kept_thread t writable failed) { cache = cache }) contents size → CanTruncateContentsOnThread t contents limit size
   can_truncate failed contents size can = record {
     stands = can.stands;
     fits = record {
-      large = subst (λ (n : ℕ). IsLarge n (form_of contents)) (sym is) can.large;
+      large = subst (λ (n : ℕ). ExceedsInlineLimitIfInFlight n (form_of_contents contents)) (sym is) can.large;
       short = limit_short t.disk.block_size limit large is;
       small = can.small;
-      room = λ needs. room_is (truncate_room t.disk.block_size size (form_of contents)) (can.room (subst (λ (n : ℕ). NeedsRoom n size (form_of contents)) is needs));
+      room = λ needs. room_is (block_room_for_truncation t.disk.block_size size (form_of_contents contents)) (can.room (subst (λ (n : ℕ). NeedsRoomToTruncate n size (form_of_contents contents)) is needs));
     };
   }

@@ -3,39 +3,39 @@ use Rattle.std.proofs.Common.{ℕ, ◌≡◌, ◌<◌, ◌≤◌, inl, inr, ⊎_
 use Rattle.std.specs.Prelude.{Contains}
 use Rattle.std.specs.List.{IsDistinct, flat_map}
 use Rattle.std.proofs.lemmas.List.Elements.{All-contains, All-from_recursion, recursion_from_All}
-use Rattle.lfs_model.specs.BlockSets.{AreUsed, IsFree, IsInFlight, IsUsed, in_flight_count}
+use Rattle.lfs_model.specs.BlockSets.{AreExactlyTheUsedBlocks, IsFree, IsInFlight, IsUsed, in_flight_count}
 use Rattle.lfs_model.specs.Disk.{Disk, inline_limit}
-use Rattle.lfs_model.specs.History.{Event}
-use Rattle.lfs_model.specs.SkipLists.{blocks_for, bytes_of}
-use Rattle.lfs_model.specs.Session.{ctz_blocks}
+use Rattle.lfs_model.specs.History.{CallEvent}
+use Rattle.lfs_model.specs.SkipLists.{list_block_count_for_size, bytes_of}
+use Rattle.lfs_model.specs.Session.{ctz_block_count}
 use Rattle.lfs_model.specs.SlotEdits.{slot_of_path}
 use Rattle.lfs_model.specs.Slots.{Slot, Struct, Inline, Ctz, Branch}
-use Rattle.lfs_model.specs.Thread.{blocks_of}
+use Rattle.lfs_model.specs.Thread.{blocks_of_pairs}
 use Rattle.lfs_model.specs.Tree.{Path}
-use Rattle.lfs_model.specs.View.{IsAccepted, IsListIfCtz}
-use Rattle.lfs_model.specs.Shown.{all_slots, file_blocks, used_blocks}
+use Rattle.lfs_model.specs.View.{IsAcceptedImage, IsListIfCtz}
+use Rattle.lfs_model.specs.Shown.{all_slots_not_moved, skip_list_blocks_of_struct, used_blocks}
 use Rattle.lfs_model.proofs.BlockCounts.{few_flying}
 use Rattle.lfs_model.proofs.BlockSets.{Contains-count, count-Contains}
 use Rattle.lfs_model.proofs.Counts.{Each, count, count_append, each_from_counted, each_pieces, once_from_distinct}
 use Rattle.lfs_model.proofs.Files.{length_back}
-use Rattle.lfs_writer.specs.StructChanges.{CanReplaceStruct}
-use Rattle.lfs_writer.specs.SettledFiles.{blocks_in_list}
-use Rattle.lfs_writer.specs.ThreadContents.{AreOnDiskOf}
+use Rattle.lfs_writer.specs.StructChanges.{CanReplaceFileStruct}
+use Rattle.lfs_writer.specs.SettledFiles.{blocks_of_list_on_thread}
+use Rattle.lfs_writer.specs.ThreadContents.{AreContentsOnThread}
 use Rattle.lfs_writer.proofs.Coming.{inline_comes, list_comes}
 use Rattle.lfs_writer.proofs.Outside.{none_or_some}
-use Rattle.lfs_operations.specs.Making.{HasRoomFor}
+use Rattle.lfs_operations.specs.Making.{HasSoManyFreeBlocks}
 use Rattle.lfs_thread.specs.Kept.{Kept}
-use Rattle.lfs_tree.specs.OpenContents.{IsOverFile, blocks_named, bytes_held}
-use Rattle.lfs_tree.specs.Stores.{CanCommit, IsFinished, list_in, list_in_struct, struct_in}
+use Rattle.lfs_tree.specs.OpenContents.{AreWriterContentsOverKeptFile, blocks_named, bytes_of_writer_contents}
+use Rattle.lfs_tree.specs.Stores.{CanCommitContentsAtPath, IsFinishedFormWithinLimit, stored_list_of_finished_contents, stored_list_in_struct, struct_of_finished_contents}
 use Rattle.lfs_lookup.proofs.AtPaths.{SizedLists}
 use Rattle.lfs_tree.proofs.Carried.{with_history}
 use Rattle.lfs_tree.proofs.OpenedFiles.{marked_there, no_flight}
 use Rattle.lfs_tree.proofs.SlotsHave.{slot_has}
-use Rattle.lfs_writer.specs.Bases.{IsBase}
-use Rattle.lfs_writer.specs.Contents.{form_of}
-use Rattle.lfs_writer.specs.Hand.{IsListStored as IsStoredList}
-use Rattle.lfs_writer.specs.declared.contents.Contents.{Contents}
-use Rattle.lfs_writer.specs.declared.contents.Contents.TheVariants.{InMemory, Finished, InHand}
+use Rattle.lfs_writer.specs.Bases.{IsListUnlessEmpty}
+use Rattle.lfs_writer.specs.Contents.{form_of_contents}
+use Rattle.lfs_writer.specs.Hand.{IsFinishedListOnDisk as IsStoredList}
+use Rattle.lfs_writer.specs.declared.contents.WriterContents.{WriterContents}
+use Rattle.lfs_writer.specs.declared.contents.WriterContents.TheVariants.{InMemory, Finished, InHand}
 use Rattle.lfs_writer.specs.declared.stored_list.Stored.{Stored}
 
 -- ---- lists
@@ -44,66 +44,66 @@ none_distinct : IsDistinct nat_eq []
 unfolding IsDistinct
 none_distinct = tt
 
-pub distinct_list : (disk : Disk) (s : Struct) → IsListIfCtz disk s → IsDistinct nat_eq (file_blocks disk s)
+pub distinct_list : (disk : Disk) (s : Struct) → IsListIfCtz disk s → IsDistinct nat_eq (skip_list_blocks_of_struct disk s)
 distinct_list disk (Inline bytes) ok = none_distinct
 distinct_list disk (Ctz head size) ok = ok.blocks.distinct
 distinct_list disk (Branch to) ok = none_distinct
 
 -- a slot's list, by what it says
-pub blocks_before_is : (t : Kept) (s : Struct) → blocks_in_list t (list_in_struct s) ≡ file_blocks t.disk s
+pub blocks_before_is : (t : Kept) (s : Struct) → blocks_of_list_on_thread t (stored_list_in_struct s) ≡ skip_list_blocks_of_struct t.disk s
 blocks_before_is t (Inline bytes) = refl
 blocks_before_is t (Ctz head size) = refl
 blocks_before_is t (Branch to) = refl
 
-pub blocks_now_is : (t : Kept) (c : Contents) → blocks_in_list t (list_in c) ≡ file_blocks t.disk (struct_in c)
+pub blocks_now_is : (t : Kept) (c : WriterContents) → blocks_of_list_on_thread t (stored_list_of_finished_contents c) ≡ skip_list_blocks_of_struct t.disk (struct_of_finished_contents c)
 blocks_now_is t (InMemory list) = refl
 blocks_now_is t (Finished s) = refl
 blocks_now_is t (InHand hand) = refl
 
-pub base_before : (disk : Disk) (s : Struct) → IsListIfCtz disk s → IsBase disk.blocks disk.block_size (list_in_struct s).head (list_in_struct s).size
+pub base_before : (disk : Disk) (s : Struct) → IsListIfCtz disk s → IsListUnlessEmpty disk.blocks disk.block_size (stored_list_in_struct s).head (stored_list_in_struct s).size
 base_before disk (Inline bytes) ok = inl refl
 base_before disk (Ctz head size) ok = inr ok
 base_before disk (Branch to) ok = inl refl
 
-pub base_now : (disk : Disk) (c : Contents) → IsListIfCtz disk (struct_in c) → IsBase disk.blocks disk.block_size (list_in c).head (list_in c).size
+pub base_now : (disk : Disk) (c : WriterContents) → IsListIfCtz disk (struct_of_finished_contents c) → IsListUnlessEmpty disk.blocks disk.block_size (stored_list_of_finished_contents c).head (stored_list_of_finished_contents c).size
 base_now disk (InMemory list) ok = inl refl
 base_now disk (Finished s) ok = inr ok
 base_now disk (InHand hand) ok = inl refl
 
 -- ---- what may come
 
-module _ (t : Kept) (path : Path) (u : Slot) (ok : IsAccepted t.disk t.pairs) (used : AreUsed t.map (used_blocks t.disk t.pairs)) (at : slot_of_path t.pairs path ≡ Some u) (sized : SizedLists t.disk) where
+module _ (t : Kept) (path : Path) (u : Slot) (ok : IsAcceptedImage t.disk t.pairs) (used : AreExactlyTheUsedBlocks t.map (used_blocks t.disk t.pairs)) (at : slot_of_path t.pairs path ≡ Some u) (sized : SizedLists t.disk) where
   pub list_there : IsListIfCtz t.disk u.struct
-  list_there = slot_has (λ (s : Slot). IsListIfCtz t.disk s.struct) t.disk t.pairs ok (recursion_from_All (λ (s : Slot). IsListIfCtz t.disk s.struct) (all_slots t.pairs) ok.lists) tt path u at
+  list_there = slot_has (λ (s : Slot). IsListIfCtz t.disk s.struct) t.disk t.pairs ok (recursion_from_All (λ (s : Slot). IsListIfCtz t.disk s.struct) (all_slots_not_moved t.pairs) ok.lists) tt path u at
 
   -- a block of the file's list is no pair's
-  pub list_apart : (b : ℕ) → 1 ≤ count b (file_blocks t.disk u.struct) → count b (blocks_of t.pairs) ≡ 0
+  pub list_apart : (b : ℕ) → 1 ≤ count b (skip_list_blocks_of_struct t.disk u.struct) → count b (blocks_of_pairs t.pairs) ≡ 0
   list_apart b some =
-      let files = flat_map (λ (s : Slot). file_blocks t.disk s.struct) (all_slots t.pairs) in
-      let each = slot_has (λ (s : Slot). Each (λ c. 1 ≤ count c (flat_map (λ (x : Slot). file_blocks t.disk x.struct) (all_slots t.pairs))) (file_blocks t.disk s.struct)) t.disk t.pairs ok
-      (each_pieces (λ c. 1 ≤ count c (flat_map (λ (x : Slot). file_blocks t.disk x.struct) (all_slots t.pairs))) (λ (s : Slot). file_blocks t.disk s.struct) (all_slots t.pairs)
-      (each_from_counted (λ c. 1 ≤ count c (flat_map (λ (x : Slot). file_blocks t.disk x.struct) (all_slots t.pairs))) (flat_map (λ (x : Slot). file_blocks t.disk x.struct) (all_slots t.pairs)) (λ c h. h))) tt path u at in
-      let here : 1 ≤ count b (flat_map (λ (x : Slot). file_blocks t.disk x.struct) (all_slots t.pairs))
-      = All-contains (λ c. 1 ≤ count c (flat_map (λ (x : Slot). file_blocks t.disk x.struct) (all_slots t.pairs))) (file_blocks t.disk u.struct) b
-      (All-from_recursion (λ c. 1 ≤ count c (flat_map (λ (x : Slot). file_blocks t.disk x.struct) (all_slots t.pairs))) (file_blocks t.disk u.struct) each) (Contains-count (file_blocks t.disk u.struct) b some) in
-      let e = count_append b (blocks_of t.pairs) (flat_map (λ (x : Slot). file_blocks t.disk x.struct) (all_slots t.pairs)) in
+      let files = flat_map (λ (s : Slot). skip_list_blocks_of_struct t.disk s.struct) (all_slots_not_moved t.pairs) in
+      let each = slot_has (λ (s : Slot). Each (λ c. 1 ≤ count c (flat_map (λ (x : Slot). skip_list_blocks_of_struct t.disk x.struct) (all_slots_not_moved t.pairs))) (skip_list_blocks_of_struct t.disk s.struct)) t.disk t.pairs ok
+      (each_pieces (λ c. 1 ≤ count c (flat_map (λ (x : Slot). skip_list_blocks_of_struct t.disk x.struct) (all_slots_not_moved t.pairs))) (λ (s : Slot). skip_list_blocks_of_struct t.disk s.struct) (all_slots_not_moved t.pairs)
+      (each_from_counted (λ c. 1 ≤ count c (flat_map (λ (x : Slot). skip_list_blocks_of_struct t.disk x.struct) (all_slots_not_moved t.pairs))) (flat_map (λ (x : Slot). skip_list_blocks_of_struct t.disk x.struct) (all_slots_not_moved t.pairs)) (λ c h. h))) tt path u at in
+      let here : 1 ≤ count b (flat_map (λ (x : Slot). skip_list_blocks_of_struct t.disk x.struct) (all_slots_not_moved t.pairs))
+      = All-contains (λ c. 1 ≤ count c (flat_map (λ (x : Slot). skip_list_blocks_of_struct t.disk x.struct) (all_slots_not_moved t.pairs))) (skip_list_blocks_of_struct t.disk u.struct) b
+      (All-from_recursion (λ c. 1 ≤ count c (flat_map (λ (x : Slot). skip_list_blocks_of_struct t.disk x.struct) (all_slots_not_moved t.pairs))) (skip_list_blocks_of_struct t.disk u.struct) each) (Contains-count (skip_list_blocks_of_struct t.disk u.struct) b some) in
+      let e = count_append b (blocks_of_pairs t.pairs) (flat_map (λ (x : Slot). skip_list_blocks_of_struct t.disk x.struct) (all_slots_not_moved t.pairs)) in
       let o = once_from_distinct (used_blocks t.disk t.pairs) ok.owned_once b in
       omega arith
 
-  pub list_used : (b : ℕ) → 1 ≤ count b (file_blocks t.disk u.struct) → IsUsed t.map b
-  list_used b some = All-contains (IsUsed t.map) (file_blocks t.disk u.struct) b (marked_there t path u ok used at) (Contains-count (file_blocks t.disk u.struct) b some)
+  pub list_used : (b : ℕ) → 1 ≤ count b (skip_list_blocks_of_struct t.disk u.struct) → IsUsed t.map b
+  list_used b some = All-contains (IsUsed t.map) (skip_list_blocks_of_struct t.disk u.struct) b (marked_there t path u ok used at) (Contains-count (skip_list_blocks_of_struct t.disk u.struct) b some)
 
-  stored_of : (s : Stored) → AreOnDiskOf t (Finished s) → IsStoredList t.map t.disk.blocks t.disk.block_size s
+  stored_of : (s : Stored) → AreContentsOnThread t (Finished s) → IsStoredList t.map t.disk.blocks t.disk.block_size s
   stored_of s stands = subst (λ (n : ℕ). IsStoredList t.map t.disk.blocks n s) stands.divided.block_size stands.stands
 
-  size_of_list : (s : Stored) (limit : ℕ) → limit < s.size → AreOnDiskOf t (Finished s) → s.size ≡ length (bytes_held t (Finished s))
+  size_of_list : (s : Stored) (limit : ℕ) → limit < s.size → AreContentsOnThread t (Finished s) → s.size ≡ length (bytes_of_writer_contents t (Finished s))
   size_of_list s limit large stands = sym (sized s.head s.size (⊎_elim (λ none. absurd (omega arith)) (λ list. list) (stored_of s stands).base))
 
-  pub may_come : (c : Contents) → IsOverFile t path c → IsFinished (inline_limit t.disk.block_size) (form_of c) → CanReplaceStruct t (bytes_held t c) u.struct (struct_in c)
-  may_come (InMemory list) over few = inline_comes t (bytes_held t (InMemory list)) u.struct few
+  pub may_come : (c : WriterContents) → AreWriterContentsOverKeptFile t path c → IsFinishedFormWithinLimit (inline_limit t.disk.block_size) (form_of_contents c) → CanReplaceFileStruct t (bytes_of_writer_contents t c) u.struct (struct_of_finished_contents c)
+  may_come (InMemory list) over few = inline_comes t (bytes_of_writer_contents t (InMemory list)) u.struct few
   may_come (Finished s) over large =
       let size = size_of_list s (inline_limit t.disk.block_size) large over.stands in
-      list_comes t s (bytes_held t (Finished s)) (form_of (Finished s)) u.struct
+      list_comes t s (bytes_of_writer_contents t (Finished s)) (form_of_contents (Finished s)) u.struct
       (record {
         geometry = over.stands.geometry;
         divided = over.stands.divided;
@@ -114,38 +114,38 @@ module _ (t : Kept) (path : Path) (u : Slot) (ok : IsAccepted t.disk t.pairs) (u
   may_come (InHand hand) over never = absurd never
 
   -- blocks in flight are those of the contents
-  pub flying_in : (c : Contents) → IsOverFile t path c → IsFinished (inline_limit t.disk.block_size) (form_of c) → (b : ℕ) → IsInFlight t.map b → Contains (file_blocks t.disk (struct_in c)) b
+  pub flying_in : (c : WriterContents) → AreWriterContentsOverKeptFile t path c → IsFinishedFormWithinLimit (inline_limit t.disk.block_size) (form_of_contents c) → (b : ℕ) → IsInFlight t.map b → Contains (skip_list_blocks_of_struct t.disk (struct_of_finished_contents c)) b
   flying_in (InMemory list) over few b flies = absurd (over.stands.stands.idle.none b flies)
   flying_in (Finished s) over large b flies = ((stored_of s over.stands).flying b flies).1
   flying_in (InHand hand) over never b flies = absurd never
 
   -- none of these is free, or a pair's
-  pub coming_taken : (c : Contents) → IsOverFile t path c → IsFinished (inline_limit t.disk.block_size) (form_of c) → (b : ℕ) → 1 ≤ count b (file_blocks t.disk (struct_in c)) → IsFree t.map b → ⊥
+  pub coming_taken : (c : WriterContents) → AreWriterContentsOverKeptFile t path c → IsFinishedFormWithinLimit (inline_limit t.disk.block_size) (form_of_contents c) → (b : ℕ) → 1 ≤ count b (skip_list_blocks_of_struct t.disk (struct_of_finished_contents c)) → IsFree t.map b → ⊥
   coming_taken (InMemory list) over few b some = absurd (omega arith)
-  coming_taken (Finished s) over large b some = All-contains (λ x. ¬ (IsFree t.map x)) (blocks_in_list t s) b (stored_of s over.stands).marked (Contains-count (blocks_in_list t s) b some)
+  coming_taken (Finished s) over large b some = All-contains (λ x. ¬ (IsFree t.map x)) (blocks_of_list_on_thread t s) b (stored_of s over.stands).marked (Contains-count (blocks_of_list_on_thread t s) b some)
   coming_taken (InHand hand) over never b some = absurd never
 
-  pub coming_apart : (c : Contents) → IsOverFile t path c → IsFinished (inline_limit t.disk.block_size) (form_of c) → (b : ℕ) → 1 ≤ count b (file_blocks t.disk (struct_in c)) → count b (blocks_of t.pairs) ≡ 0
+  pub coming_apart : (c : WriterContents) → AreWriterContentsOverKeptFile t path c → IsFinishedFormWithinLimit (inline_limit t.disk.block_size) (form_of_contents c) → (b : ℕ) → 1 ≤ count b (skip_list_blocks_of_struct t.disk (struct_of_finished_contents c)) → count b (blocks_of_pairs t.pairs) ≡ 0
   coming_apart (InMemory list) over few b some = absurd (omega arith)
   coming_apart (Finished s) over large b some = ⊎_elim (λ none. none)
       (λ is. absurd (
-      let e = count_append b (blocks_of t.pairs) (flat_map (λ (x : Slot). file_blocks t.disk x.struct) (all_slots t.pairs)) in
+      let e = count_append b (blocks_of_pairs t.pairs) (flat_map (λ (x : Slot). skip_list_blocks_of_struct t.disk x.struct) (all_slots_not_moved t.pairs)) in
       let u_is = (used b).1 (Contains-count (used_blocks t.disk t.pairs) b (omega arith)) in
-      let own = subst (λ (o : Option Slot). Contains (blocks_named t.disk o) b) at (over.owned.each b (Contains-count (blocks_in_list t s) b some) u_is) in
-      let none = list_apart b (count-Contains (file_blocks t.disk u.struct) b own) in
+      let own = subst (λ (o : Option Slot). Contains (blocks_named t.disk o) b) at (over.owned.each b (Contains-count (blocks_of_list_on_thread t s) b some) u_is) in
+      let none = list_apart b (count-Contains (skip_list_blocks_of_struct t.disk u.struct) b own) in
       omega arith))
-      (none_or_some (count b (blocks_of t.pairs)))
+      (none_or_some (count b (blocks_of_pairs t.pairs)))
   coming_apart (InHand hand) over never b some = absurd never
 
-  list_room : (c : Contents) → IsOverFile t path c → IsFinished (inline_limit t.disk.block_size) (form_of c) → in_flight_count t.map ≤ ctz_blocks t.disk.block_size (length (bytes_held t c))
+  list_room : (c : WriterContents) → AreWriterContentsOverKeptFile t path c → IsFinishedFormWithinLimit (inline_limit t.disk.block_size) (form_of_contents c) → in_flight_count t.map ≤ ctz_block_count t.disk.block_size (length (bytes_of_writer_contents t c))
   list_room (InMemory list) over few = let e = no_flight t.map (λ b. over.stands.stands.idle.none b) in omega arith
   list_room (Finished s) over large =
       let size = size_of_list s (inline_limit t.disk.block_size) large over.stands in
-      let few = few_flying (blocks_in_list t s) t.map (λ b flies. ((stored_of s over.stands).flying b flies).1) in
-      let l = length_back t.disk.blocks (blocks_for t.disk.block_size s.size) s.head in
-      let k : ctz_blocks t.disk.block_size s.size ≡ blocks_for t.disk.block_size s.size
-      = ap (λ b. cond b 0 (blocks_for t.disk.block_size s.size)) (past s.size (inline_limit t.disk.block_size) large) in
-      let m = ap (ctz_blocks t.disk.block_size) size in
+      let few = few_flying (blocks_of_list_on_thread t s) t.map (λ b flies. ((stored_of s over.stands).flying b flies).1) in
+      let l = length_back t.disk.blocks (list_block_count_for_size t.disk.block_size s.size) s.head in
+      let k : ctz_block_count t.disk.block_size s.size ≡ list_block_count_for_size t.disk.block_size s.size
+      = ap (λ b. cond b 0 (list_block_count_for_size t.disk.block_size s.size)) (past s.size (inline_limit t.disk.block_size) large) in
+      let m = ap (ctz_block_count t.disk.block_size) size in
       omega arith
     where
       past : (n limit : ℕ) → limit < n → nat_le n limit ≡ false
@@ -156,15 +156,15 @@ module _ (t : Kept) (path : Path) (u : Slot) (ok : IsAccepted t.disk t.pairs) (u
           go true e = absurd (let k = leb-true n limit e in omega arith)
   list_room (InHand hand) over never = absurd never
 
-  pub room_there : (c : Contents) → CanCommit t path c → HasRoomFor 2 t.map
+  pub room_there : (c : WriterContents) → CanCommitContentsAtPath t path c → HasSoManyFreeBlocks 2 t.map
   room_there c can = let l = list_room c can.over can.finished in let r = can.room in omega arith
 
-pub over_read : (t : Kept) (h : List Event) (path : Path) (c : Contents) → IsOverFile t path c → IsOverFile (with_history t h) path c
+pub over_read : (t : Kept) (h : List CallEvent) (path : Path) (c : WriterContents) → AreWriterContentsOverKeptFile t path c → AreWriterContentsOverKeptFile (with_history t h) path c
 over_read t h path c over = record {
   file = over.file;
   stands = record { geometry = over.stands.geometry; divided = over.stands.divided; stands = over.stands.stands };
   owned = over.owned;
 }
 
-pub can_read : (t : Kept) (h : List Event) (path : Path) (c : Contents) → CanCommit t path c → CanCommit (with_history t h) path c
+pub can_read : (t : Kept) (h : List CallEvent) (path : Path) (c : WriterContents) → CanCommitContentsAtPath t path c → CanCommitContentsAtPath (with_history t h) path c
 can_read t h path c can = record { over = over_read t h path c can.over; finished = can.finished; room = can.room }

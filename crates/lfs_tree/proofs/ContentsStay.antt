@@ -2,20 +2,20 @@
 use Rattle.std.proofs.Common.{ℕ, ◌≡◌, ◌≢◌, ◌<◌, ⊎_elim, inl, inr, List, [], ◌∷◌, ◌++◌, drop, length, take, slice_get, sym, ap, ◌∙◌, subst, arith, length-append}
 use Rattle.std.specs.Prelude.{All, Contains}
 use Rattle.std.proofs.lemmas.List.Elements.{All-from_recursion, Contains-append_left, Contains-append_right}
-use Rattle.lfs_model.specs.Blocks.{Blocks, block_in}
-use Rattle.lfs_model.specs.BlockSets.{BlockSets, IsFree, IsInFlight}
-use Rattle.lfs_model.specs.SkipLists.{blocks_back, blocks_for}
+use Rattle.lfs_model.specs.Blocks.{Blocks, block_bytes_in}
+use Rattle.lfs_model.specs.BlockSets.{BlockStateList, IsFree, IsInFlight}
+use Rattle.lfs_model.specs.SkipLists.{list_blocks_from_head, list_block_count_for_size}
 use Rattle.lfs_model.proofs.BlockSets.{Contains-count, count-Contains}
 use Rattle.lfs_model.proofs.Counts.{each_counted, each_from_counted}
 use Rattle.lfs_model.proofs.Files.{Same, back_same, bytes_same, chain_same, data_same, list_same}
 use Rattle.lfs_model.proofs.Counts.{Each}
 use Rattle.std.proofs.lemmas.List.Elements.{recursion_from_All}
-use Rattle.lfs_ctz.specs.Growing.{Growing, IsRest, IsSameList, content_of, bytes_of_blocks, kept_blocks, last_in, pending_in, pending_of, size_with_pointers}
-use Rattle.lfs_ctz.specs.declared.rest.Rest.{Rest}
-use Rattle.lfs_ctz.specs.declared.rest.Rest.TheVariants.{Closed, Shared, Handed, Held}
-use Rattle.lfs_writer.specs.BlocksApart.{IsApart}
-use Rattle.lfs_writer.specs.Bases.{IsBase, list_blocks}
-use Rattle.lfs_writer.specs.Hand.{IsHand, IsListStored, hand_bytes, stored_bytes}
+use Rattle.lfs_ctz.specs.Growing.{GrowingList, IsRestAtItsLocation, IsSameListOnLaterDisk, content_of, data_of_list_blocks, blocks_kept_when_growing, block_of_rest, unwritten_block_of_rest, unwritten_block_of_list, list_size_by_block_size}
+use Rattle.lfs_ctz.specs.declared.rest.RestLocation.{RestLocation}
+use Rattle.lfs_ctz.specs.declared.rest.RestLocation.TheVariants.{Closed, Shared, Handed, Held}
+use Rattle.lfs_writer.specs.BlocksApart.{IsTakenAndNotPending}
+use Rattle.lfs_writer.specs.Bases.{IsListUnlessEmpty, list_blocks_by_head_and_size}
+use Rattle.lfs_writer.specs.Hand.{IsListInHandOverBase, IsFinishedListOnDisk, bytes_of_list_over_base, bytes_of_stored_list}
 use Rattle.lfs_writer.specs.declared.stored_list.Stored.{Stored}
 
 -- what holds of each member
@@ -32,14 +32,14 @@ pub of_all : (P : ℕ → Type 0) (bs : List ℕ) → All P bs → (b : ℕ) →
 of_all P bs all b has = of_each P bs (recursion_from_All P bs all) b has
 
 -- These blocks are as they were, on the disk and in the map, and no block comes into flight.
-pub record StayAs (map : BlockSets) (d : Blocks) (bs : List ℕ) (later : BlockSets) (e : Blocks) : Type 0 where
+pub record StayAs (map : BlockStateList) (d : Blocks) (bs : List ℕ) (later : BlockStateList) (e : Blocks) : Type 0 where
   pub size : length later ≡ length map
   pub count : length e ≡ length d
-  pub same : (b : ℕ) → Contains bs b → block_in e b ≡ block_in d b
+  pub same : (b : ℕ) → Contains bs b → block_bytes_in e b ≡ block_bytes_in d b
   pub states : (b : ℕ) → Contains bs b → slice_get later b ≡ slice_get map b
   pub none_comes : (b : ℕ) → IsInFlight later b → IsInFlight map b
 
-stay_left : (map later : BlockSets) (d e : Blocks) (xs ys : List ℕ) → StayAs map d (xs ++ ys) later e → StayAs map d xs later e
+stay_left : (map later : BlockStateList) (d e : Blocks) (xs ys : List ℕ) → StayAs map d (xs ++ ys) later e → StayAs map d xs later e
 stay_left map later d e xs ys s = record {
   size = s.size;
   count = s.count;
@@ -48,7 +48,7 @@ stay_left map later d e xs ys s = record {
   none_comes = s.none_comes;
 }
 
-stay_right : (map later : BlockSets) (d e : Blocks) (xs ys : List ℕ) → StayAs map d (xs ++ ys) later e → StayAs map d ys later e
+stay_right : (map later : BlockStateList) (d e : Blocks) (xs ys : List ℕ) → StayAs map d (xs ++ ys) later e → StayAs map d ys later e
 stay_right map later d e xs ys s = record {
   size = s.size;
   count = s.count;
@@ -57,59 +57,59 @@ stay_right map later d e xs ys s = record {
   none_comes = s.none_comes;
 }
 
-not_free : (map later : BlockSets) (b : ℕ) → slice_get later b ≡ slice_get map b → ¬ (IsFree map b) → ¬ (IsFree later b)
+not_free : (map later : BlockStateList) (b : ℕ) → slice_get later b ≡ slice_get map b → ¬ (IsFree map b) → ¬ (IsFree later b)
 not_free map later b same was free = was (sym same ∙ free)
 
 -- ---- a list
 
-module _ (map later : BlockSets) (d e : Blocks) (block_size : ℕ) (s : Stored) (stay : StayAs map d (list_blocks d block_size s.head s.size) later e) where
-  each_same : Same d e (list_blocks d block_size s.head s.size)
-  each_same = each_of (λ b. block_in e b ≡ block_in d b) (list_blocks d block_size s.head s.size) stay.same
+module _ (map later : BlockStateList) (d e : Blocks) (block_size : ℕ) (s : Stored) (stay : StayAs map d (list_blocks_by_head_and_size d block_size s.head s.size) later e) where
+  each_same : Same d e (list_blocks_by_head_and_size d block_size s.head s.size)
+  each_same = each_of (λ b. block_bytes_in e b ≡ block_bytes_in d b) (list_blocks_by_head_and_size d block_size s.head s.size) stay.same
 
-  pub list_stays : list_blocks e block_size s.head s.size ≡ list_blocks d block_size s.head s.size
-  list_stays = back_same d e (blocks_for block_size s.size) s.head each_same
+  pub list_stays : list_blocks_by_head_and_size e block_size s.head s.size ≡ list_blocks_by_head_and_size d block_size s.head s.size
+  list_stays = back_same d e (list_block_count_for_size block_size s.size) s.head each_same
 
-  pub base_stays : IsBase d block_size s.head s.size → IsBase e block_size s.head s.size
+  pub base_stays : IsListUnlessEmpty d block_size s.head s.size → IsListUnlessEmpty e block_size s.head s.size
   base_stays base = ⊎_elim (λ none. inl none) (λ list. inr (list_same d e block_size s.head s.size stay.count each_same list)) base
 
-  pub bytes_stay : stored_bytes e block_size s ≡ stored_bytes d block_size s
+  pub bytes_stay : bytes_of_stored_list e block_size s ≡ bytes_of_stored_list d block_size s
   bytes_stay = bytes_same d e block_size s.head s.size each_same
 
-  pub stored_stays : IsListStored map d block_size s → IsListStored later e block_size s
+  pub stored_stays : IsFinishedListOnDisk map d block_size s → IsFinishedListOnDisk later e block_size s
   stored_stays is = record {
     base = base_stays is.base;
     count = stay.size ∙ is.count ∙ sym stay.count;
     marked = subst (All (λ b. ¬ (IsFree later b))) (sym list_stays)
-        (all_of (λ b. ¬ (IsFree later b)) (list_blocks d block_size s.head s.size) (λ b has. not_free map later b (stay.states b has) (of_all (λ x. ¬ (IsFree map x)) (list_blocks d block_size s.head s.size) is.marked b has)));
+        (all_of (λ b. ¬ (IsFree later b)) (list_blocks_by_head_and_size d block_size s.head s.size) (λ b has. not_free map later b (stay.states b has) (of_all (λ x. ¬ (IsFree map x)) (list_blocks_by_head_and_size d block_size s.head s.size) is.marked b has)));
     flying = λ b flies. let k = is.flying b (stay.none_comes b flies) in (k.0, subst (λ (bs : List ℕ). Contains bs b) (sym list_stays) k.1);
   }
 
 -- ---- a list in hand, over its base
 
-module _ (map later : BlockSets) (d e : Blocks) (block_size : ℕ) (g : Growing) (base : Stored) (shared : ℕ) (hand : IsHand map d block_size g base shared)
-    (stay : StayAs map d (kept_blocks d g ++ list_blocks d block_size base.head base.size) later e) where
+module _ (map later : BlockStateList) (d e : Blocks) (block_size : ℕ) (g : GrowingList) (base : Stored) (shared : ℕ) (hand : IsListInHandOverBase map d block_size g base shared)
+    (stay : StayAs map d (blocks_kept_when_growing d g ++ list_blocks_by_head_and_size d block_size base.head base.size) later e) where
   abbrev own : List ℕ
-  own = kept_blocks d g
+  own = blocks_kept_when_growing d g
 
   abbrev bb : List ℕ
-  bb = list_blocks d block_size base.head base.size
+  bb = list_blocks_by_head_and_size d block_size base.head base.size
 
-  stay_own : StayAs map d (kept_blocks d g) later e
-  stay_own = stay_left map later d e (kept_blocks d g) (list_blocks d block_size base.head base.size) stay
+  stay_own : StayAs map d (blocks_kept_when_growing d g) later e
+  stay_own = stay_left map later d e (blocks_kept_when_growing d g) (list_blocks_by_head_and_size d block_size base.head base.size) stay
 
-  stay_base : StayAs map d (list_blocks d block_size base.head base.size) later e
-  stay_base = stay_right map later d e (kept_blocks d g) (list_blocks d block_size base.head base.size) stay
+  stay_base : StayAs map d (list_blocks_by_head_and_size d block_size base.head base.size) later e
+  stay_base = stay_right map later d e (blocks_kept_when_growing d g) (list_blocks_by_head_and_size d block_size base.head base.size) stay
 
-  full_same : Same d e (blocks_back d g.full g.head)
-  full_same = each_of (λ b. block_in e b ≡ block_in d b) (blocks_back d g.full g.head) (λ b has. stay_own.same b (Contains-append_left (blocks_back d g.full g.head) (pending_of g) b has))
+  full_same : Same d e (list_blocks_from_head d g.full g.head)
+  full_same = each_of (λ b. block_bytes_in e b ≡ block_bytes_in d b) (list_blocks_from_head d g.full g.head) (λ b has. stay_own.same b (Contains-append_left (list_blocks_from_head d g.full g.head) (unwritten_block_of_list g) b has))
 
-  full_back : blocks_back e g.full g.head ≡ blocks_back d g.full g.head
+  full_back : list_blocks_from_head e g.full g.head ≡ list_blocks_from_head d g.full g.head
   full_back = back_same d e g.full g.head full_same
 
   -- no block is shared with the list that the rest comes from
-  rest_still : (t : Rest) → blocks_back d g.full g.head ++ last_in t ≡ blocks_back d g.full g.head ++ pending_in t → IsRest d g.full g.head g.rest t → IsRest e g.full g.head g.rest t
+  rest_still : (t : RestLocation) → list_blocks_from_head d g.full g.head ++ block_of_rest t ≡ list_blocks_from_head d g.full g.head ++ unwritten_block_of_rest t → IsRestAtItsLocation d g.full g.head g.rest t → IsRestAtItsLocation e g.full g.head g.rest t
   rest_still Closed same is = is
-  rest_still (Shared b) same is = absurd (omega (arith, ap length same, length-append (blocks_back d g.full g.head) (b ∷ []), length-append (blocks_back d g.full g.head) []))
+  rest_still (Shared b) same is = absurd (omega (arith, ap length same, length-append (list_blocks_from_head d g.full g.head) (b ∷ []), length-append (list_blocks_from_head d g.full g.head) []))
   rest_still (Handed b) same is = record {
     some = is.some;
     in_range = subst (λ n. b < n) (sym stay.count) is.in_range;
@@ -117,18 +117,18 @@ module _ (map later : BlockSets) (d e : Blocks) (block_size : ℕ) (g : Growing)
   }
   rest_still Held same is = is
 
-  pub hand_still : IsSameList d e g
+  pub hand_still : IsSameListOnLaterDisk d e g
   hand_still = record {
     growing = record { chain = chain_same d e g.full g.head stay.count full_same hand.begun.growing.chain; stand = rest_still g.stand hand.own hand.begun.growing.stand };
-    content = ap (λ (l : List ℕ). l ++ g.rest) (ap (bytes_of_blocks e) full_back ∙ data_same d e 0 (blocks_back d g.full g.head) full_same);
-    kept = ap (λ (l : List ℕ). l ++ pending_of g) full_back;
-    blocks = ap (λ (l : List ℕ). l ++ last_in g.stand) full_back;
+    content = ap (λ (l : List ℕ). l ++ g.rest) (ap (data_of_list_blocks e) full_back ∙ data_same d e 0 (list_blocks_from_head d g.full g.head) full_same);
+    kept = ap (λ (l : List ℕ). l ++ unwritten_block_of_list g) full_back;
+    blocks = ap (λ (l : List ℕ). l ++ block_of_rest g.stand) full_back;
   }
 
-  pub base_list : list_blocks e block_size base.head base.size ≡ list_blocks d block_size base.head base.size
+  pub base_list : list_blocks_by_head_and_size e block_size base.head base.size ≡ list_blocks_by_head_and_size d block_size base.head base.size
   base_list = list_stays map later d e block_size base stay_base
 
-  pub hand_stays : IsHand later e block_size g base shared
+  pub hand_stays : IsListInHandOverBase later e block_size g base shared
   hand_stays = record {
     begun = record {
       growing = hand_still.growing;
@@ -136,14 +136,14 @@ module _ (map later : BlockSets) (d e : Blocks) (block_size : ℕ) (g : Growing)
         count = stay.size ∙ hand.begun.marked.count ∙ sym stay.count;
         kept = subst (All (λ b. ¬ (IsFree later b))) (sym hand_still.kept)
             (all_of (λ b. ¬ (IsFree later b)) own (λ b has. not_free map later b (stay_own.states b has) (of_all (λ x. ¬ (IsFree map x)) own hand.begun.marked.kept b has)));
-        pending = all_of (IsInFlight later) (pending_of g) (λ b has. stay_own.states b (Contains-append_right _ (pending_of g) b has) ∙ of_all (IsInFlight map) (pending_of g) hand.begun.marked.pending b has);
+        pending = all_of (IsInFlight later) (unwritten_block_of_list g) (λ b has. stay_own.states b (Contains-append_right _ (unwritten_block_of_list g) b has) ∙ of_all (IsInFlight map) (unwritten_block_of_list g) hand.begun.marked.pending b has);
       };
       list = base_stays map later d e block_size base stay_base hand.begun.list;
-      apart = subst (All (IsApart later (pending_of g))) (sym base_list)
-          (all_of (IsApart later (pending_of g)) bb (λ b has. let k = of_all (IsApart map (pending_of g)) bb hand.begun.apart b has in (not_free map later b (stay_base.states b has) k.0, k.1)));
+      apart = subst (All (IsTakenAndNotPending later (unwritten_block_of_list g))) (sym base_list)
+          (all_of (IsTakenAndNotPending later (unwritten_block_of_list g)) bb (λ b has. let k = of_all (IsTakenAndNotPending map (unwritten_block_of_list g)) bb hand.begun.apart b has in (not_free map later b (stay_base.states b has) k.0, k.1)));
       few = hand.begun.few;
       front = ap (take shared) hand_still.kept ∙ hand.begun.front ∙ ap (take shared) (sym base_list);
-      behind = subst (λ (l : List ℕ). All (λ b. All (λ c. c ≢ b) l) (drop shared (kept_blocks e g))) (sym base_list)
+      behind = subst (λ (l : List ℕ). All (λ b. All (λ c. c ≢ b) l) (drop shared (blocks_kept_when_growing e g))) (sym base_list)
           (subst (λ (l : List ℕ). All (λ b. All (λ c. c ≢ b) bb) (drop shared l)) (sym hand_still.kept) hand.begun.behind);
       taken = λ b has used.
           let was : Contains own b = subst (λ (l : List ℕ). Contains l b) hand_still.kept has in
@@ -158,6 +158,6 @@ module _ (map later : BlockSets) (d e : Blocks) (block_size : ℕ) (g : Growing)
     listed = hand.listed;
   }
 
-  pub hand_bytes_stay : hand_bytes e block_size g base ≡ hand_bytes d block_size g base
-  hand_bytes_stay = ap (λ (l : List ℕ). l ++ drop (size_with_pointers block_size g) (stored_bytes e block_size base)) hand_still.content
-      ∙ ap (λ (l : List ℕ). content_of d g ++ drop (size_with_pointers block_size g) l) (bytes_stay map later d e block_size base stay_base)
+  pub hand_bytes_stay : bytes_of_list_over_base e block_size g base ≡ bytes_of_list_over_base d block_size g base
+  hand_bytes_stay = ap (λ (l : List ℕ). l ++ drop (list_size_by_block_size block_size g) (bytes_of_stored_list e block_size base)) hand_still.content
+      ∙ ap (λ (l : List ℕ). content_of d g ++ drop (list_size_by_block_size block_size g) l) (bytes_stay map later d e block_size base stay_base)

@@ -1,7 +1,7 @@
 -- How many reads a creation may take that has no directory above it: six are few, and seven aren't.
 use Rattle.std.proofs.Common.{ℕ, ◌≡◌, ◌++◌, false, List, [], ap, arith, replicate}
-use Rattle.lfs_model.specs.History.{Event, event}
+use Rattle.lfs_model.specs.History.{CallEvent, call_event_with}
 use Rattle.lfs_model.specs.History.Call.{Read}
 use Rattle.lfs_model.specs.Thread.{gstate_of}
-use Rattle.lfs_tree.specs.Reads.{ReadsToCreate}
+use Rattle.lfs_tree.specs.Reads.{ReadsAtMostParentPairsPlusSix}
 use Rattle.lfs_tree.specs.TreeState.{TreeState}

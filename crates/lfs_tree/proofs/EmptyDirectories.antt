@@ -4,14 +4,14 @@ use Rattle.std.proofs.lemmas.List.{drop-drop}
 use Rattle.std.proofs.lemmas.Option.{get_or_from_slice_get, slice_get_within}
 use Rattle.std.proofs.Math.Seq.{drop-append_seam}
 use Rattle.lfs_model.specs.Disk.{Disk}
-use Rattle.lfs_model.specs.InDirectory.{BeginsAt, HaveNoSuperblock, entries_only, slots_in}
+use Rattle.lfs_model.specs.InDirectory.{IsPairAtAddress, HaveNoSuperblock, entries_only, slots_in}
 use Rattle.lfs_model.specs.Names.{Name}
 use Rattle.lfs_model.specs.Slots.{Slot, is_superblock, same_pair}
-use Rattle.lfs_model.specs.Thread.{Pair, directory_pairs, first_at, gstate_of, is_hard, root_of, superblocks_before, entries_not_moved}
+use Rattle.lfs_model.specs.Thread.{Pair, pairs_of_all_directories, first_pair_address, gstate_of, is_hard_tail, root_directory_of_pairs, pair_count_before_root, entries_not_moved}
 use Rattle.lfs_model.specs.Tree.{Path}
-use Rattle.lfs_model.specs.Profile.{HaveSlots, IsWritable}
-use Rattle.lfs_model.specs.View.{IsAccepted}
-use Rattle.lfs_model.specs.Shown.{PathLeadsTo, entries_in}
+use Rattle.lfs_model.specs.Profile.{HaveSlotsAfterHardTail, IsWritable}
+use Rattle.lfs_model.specs.View.{IsAcceptedImage}
+use Rattle.lfs_model.specs.Shown.{IsPathToDirectory, entries_by_directory_in_thread}
 use Rattle.lfs_model.proofs.Counts.{Each}
 use Rattle.lfs_model.proofs.Found.{HasDirectory}
 use Rattle.lfs_model.proofs.Global.{HasNoMove}
@@ -35,21 +35,21 @@ path_some (x ∷ above) name e = absurd (cc)
 -- the pair has no slots, and no hard tail
 pub record IsBare (p : Pair) : Type 0 where
   pub empty : p.content.slots ≡ []
-  pub alone : is_hard p.content.tail ≡ false
+  pub alone : is_hard_tail p.content.tail ≡ false
 
-module _ (disk : Disk) (ps : List Pair) (above : Path) (name : Name) (a : ℕ × ℕ) (n : ℕ) (ok : IsAccepted disk ps) (fits : IsWritable disk ps) (none : HasNoMove (gstate_of ps))
-    (leads : PathLeadsTo ps (above ++ name ∷ []) a) (b : BeginsAt ps a n) (empty : entries_in ps a ≡ []) where
+module _ (disk : Disk) (ps : List Pair) (above : Path) (name : Name) (a : ℕ × ℕ) (n : ℕ) (ok : IsAcceptedImage disk ps) (fits : IsWritable disk ps) (none : HasNoMove (gstate_of ps))
+    (leads : IsPathToDirectory ps (above ++ name ∷ []) a) (b : IsPairAtAddress ps a n) (empty : entries_by_directory_in_thread ps a ≡ []) where
   begun : IsDirectory ps a n
   begun = begins_directory disk ps (above ++ name ∷ []) a n ok leads b
 
-  abbrev d : HasDirectory (directory_pairs ps) a
+  abbrev d : HasDirectory (pairs_of_all_directories ps) a
   d = begun.directory
 
   -- the root isn't named by an entry
   not_root : d.before ≡ [] → ⊥
   not_root e =
-      let root : root_of ps ≡ d.first.at = ap first_at (d.is ∙ ap (λ z. z ++ (d.first ∷ d.run ++ d.after)) e) in
-      path_some above name (ok.once [] (above ++ name ∷ []) (root_of ps) a refl leads (subst (λ z. same_pair z a ≡ true) (sym root) d.at))
+      let root : root_directory_of_pairs ps ≡ d.first.at = ap first_pair_address (d.is ∙ ap (λ z. z ++ (d.first ∷ d.run ++ d.after)) e) in
+      path_some above name (ok.once [] (above ++ name ∷ []) (root_directory_of_pairs ps) a refl leads (subst (λ z. same_pair z a ≡ true) (sym root) d.at))
 
   some_before : 1 ≤ length d.before
   some_before = go d.before not_root
@@ -59,13 +59,13 @@ module _ (disk : Disk) (ps : List Pair) (above : Path) (name : Name) (a : ℕ ×
       go (x ∷ xs) h = omega arith
 
   rest_here : drop n ps ≡ d.first ∷ d.run ++ d.after
-  rest_here = ap (λ k. drop k ps) begun.number ∙ sym (drop-drop (length d.before) (superblocks_before ps) ps) ∙ ap (drop (length d.before)) d.is ∙ drop-append_seam d.before (d.first ∷ d.run ++ d.after)
+  rest_here = ap (λ k. drop k ps) begun.number ∙ sym (drop-drop (length d.before) (pair_count_before_root ps) ps) ∙ ap (drop (length d.before)) d.is ∙ drop-append_seam d.before (d.first ∷ d.run ++ d.after)
 
   plain : HaveNoSuperblock (d.first ∷ d.run ++ d.after)
   plain =
       let number = begun.number in
       let some = some_before in
-      let low : superblocks_before ps ≤ n - 1 = omega arith in
+      let low : pair_count_before_root ps ≤ n - 1 = omega arith in
       let next : n - 1 + 1 ≡ n = omega arith in
       subst HaveNoSuperblock (ap (λ k. drop k ps) next ∙ rest_here) (plain_behind disk ps (n - 1) ok low)
 
@@ -76,10 +76,10 @@ module _ (disk : Disk) (ps : List Pair) (above : Path) (name : Name) (a : ℕ ×
   first_bare : (d.first.content.slots ≡ []) × (entries_only (slots_in d.run) ≡ [])
   first_bare = none_first d.first.content.slots (slots_in d.run) plain.0 shown
 
-  have : HaveSlots (is_hard d.first.content.tail) (d.run ++ d.after)
-  have = (have_right None d.before (d.first ∷ d.run ++ d.after) (subst (HaveSlots false) d.is fits.no_empty_pair)).1
+  have : HaveSlotsAfterHardTail (is_hard_tail d.first.content.tail) (d.run ++ d.after)
+  have = (have_right None d.before (d.first ∷ d.run ++ d.after) (subst (HaveSlotsAfterHardTail false) d.is fits.no_empty_pair)).1
 
-  no_run : (run : List Pair) → d.run ≡ run → IsRun (d.first ∷ run) → HaveNoSuperblock (run ++ d.after) → entries_only (slots_in run) ≡ [] → HaveSlots (is_hard d.first.content.tail) (run ++ d.after) → is_hard d.first.content.tail ≡ false
+  no_run : (run : List Pair) → d.run ≡ run → IsRun (d.first ∷ run) → HaveNoSuperblock (run ++ d.after) → entries_only (slots_in run) ≡ [] → HaveSlotsAfterHardTail (is_hard_tail d.first.content.tail) (run ++ d.after) → is_hard_tail d.first.content.tail ≡ false
   no_run [] e is_run clean shows filled = is_run
   no_run (q ∷ run) e is_run clean shows filled = absurd (filled.0 is_run.0 (none_first q.content.slots (slots_in run) clean.0 shows).0)
 
@@ -99,5 +99,5 @@ module _ (disk : Disk) (ps : List Pair) (above : Path) (name : Name) (a : ℕ ×
   bare_there = subst IsBare (sym (get_or_from_slice_get ps n d.first no_pair first_there)) bare_first
 
 -- the pair of that number is at that address
-pub at_there : (ps : List Pair) (a : ℕ × ℕ) (n : ℕ) → BeginsAt ps a n → same_pair (get_or ps n no_pair).at a ≡ true
+pub at_there : (ps : List Pair) (a : ℕ × ℕ) (n : ℕ) → IsPairAtAddress ps a n → same_pair (get_or ps n no_pair).at a ≡ true
 at_there ps a n b = subst (λ (p : Pair). same_pair p.at a ≡ true) (sym (get_or_from_slice_get ps n b.pair no_pair b.there)) b.same

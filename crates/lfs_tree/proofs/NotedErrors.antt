@@ -3,28 +3,28 @@ use Rattle.std.proofs.Common.{ℕ, ◌≡◌, ◌∙◌, ◌||◌, true, Result,
 use Rattle.std.specs.Prelude.{OnErr, is_err}
 use Rattle.lfs_device.specs.declared.error.Error.{Error}
 use Rattle.lfs_model.specs.Tree.{Tree}
-use Rattle.lfs_thread.specs.Kept.{Kept, State}
-use Rattle.lfs_tree.specs.TreeChanges.{IsChange}
-use Rattle.lfs_tree.specs.RootedThreads.{IsRootedUnlessFailed, IsRooted}
+use Rattle.lfs_thread.specs.Kept.{Kept, ThreadView}
+use Rattle.lfs_tree.specs.TreeChanges.{ChangesTreeOrFails}
+use Rattle.lfs_tree.specs.RootedThreads.{IsSoundThreadUnlessFailed, IsSoundThreadWithRoot}
 
-module _ {X : Type 0} (t b new : State) (Done : Kept → Type 0) (after : Tree) (r : Result X Error) (w : IsChange t Done after r b) (f : new ≡ record b { failed = is_err r || b.failed }) where
-  pub noted : IsChange t Done after r new
-  noted = subst (λ (n : State). IsChange t Done after r n) (sym f) (go r w)
+module _ {X : Type 0} (t b new : ThreadView) (Done : Kept → Type 0) (after : Tree) (r : Result X Error) (w : ChangesTreeOrFails t Done after r b) (f : new ≡ record b { failed = is_err r || b.failed }) where
+  pub noted : ChangesTreeOrFails t Done after r new
+  noted = subst (λ (n : ThreadView). ChangesTreeOrFails t Done after r n) (sym f) (go r w)
     where
-      go : (r : Result X Error) → IsChange t Done after r b → IsChange t Done after r (record b { failed = is_err r || b.failed })
+      go : (r : Result X Error) → ChangesTreeOrFails t Done after r b → ChangesTreeOrFails t Done after r (record b { failed = is_err r || b.failed })
       go (Ok x) w = record { done = w.done; works = w.works; stands = w.stands; called = w.called; errors = w.errors; survives = w.survives }
       go (Err e) w = record { done = w.done; works = tt; stands = w.stands; called = w.called; errors = w.errors; survives = w.survives }
 
   pub noted_failed : OnErr r (new.failed ≡ true)
-  noted_failed = subst (λ (n : State). OnErr r (n.failed ≡ true)) (sym f) (go r)
+  noted_failed = subst (λ (n : ThreadView). OnErr r (n.failed ≡ true)) (sym f) (go r)
     where
       go : (r : Result X Error) → OnErr r ((is_err r || b.failed) ≡ true)
       go (Ok x) = tt
       go (Err e) = refl
 
-  pub noted_held : (root : ℕ) → IsRooted t root true → IsRootedUnlessFailed new root true
-  noted_held root rooted = subst (λ (n : State). IsRootedUnlessFailed n root true) (sym f) (go r w)
+  pub noted_held : (root : ℕ) → IsSoundThreadWithRoot t root true → IsSoundThreadUnlessFailed new root true
+  noted_held root rooted = subst (λ (n : ThreadView). IsSoundThreadUnlessFailed n root true) (sym f) (go r w)
     where
-      go : (r : Result X Error) → IsChange t Done after r b → IsRootedUnlessFailed (record b { failed = is_err r || b.failed }) root true
+      go : (r : Result X Error) → ChangesTreeOrFails t Done after r b → IsSoundThreadUnlessFailed (record b { failed = is_err r || b.failed }) root true
       go (Err e) w works = absurd (cc)
       go (Ok x) w works = record { works = w.works; sound = w.stands.sound; root_is = rooted.root_is ∙ sym w.stands.root }

@@ -5,24 +5,24 @@ use Rattle.std.proofs.lemmas.List.Elements.{All-from_recursion}
 use Rattle.std.proofs.lemmas.Option.{same_Some}
 use Rattle.lfs_device.specs.declared.error.Error.{Error}
 use Rattle.lfs_device.specs.declared.error.Error.TheVariants.{Io, NoMemory}
-use Rattle.lfs_writer.specs.SettledFiles.{IsReadBesideMap}
-use Rattle.lfs_writer.specs.ThreadContents.{ReportsWork}
-use Rattle.lfs_model.specs.BlockSets.{AreUsed, IsInFlight, IsUsed}
+use Rattle.lfs_writer.specs.SettledFiles.{ChangesOnlyBlockMap}
+use Rattle.lfs_writer.specs.ThreadContents.{ReportsFaultOrNoMemory}
+use Rattle.lfs_model.specs.BlockSets.{AreExactlyTheUsedBlocks, IsInFlight, IsUsed}
 use Rattle.lfs_model.specs.BlockSets.BlockState.{InFlight, Used}
 use Rattle.lfs_model.specs.Disk.{Disk}
-use Rattle.lfs_model.specs.History.{EachEvent, EachSince, Event, OnlyReads, faults}
-use Rattle.lfs_model.specs.Keeping.{struct_at}
-use Rattle.lfs_model.specs.Layout.{directory_after}
+use Rattle.lfs_model.specs.History.{IsTrueOfEachCall, IsTrueOfEachCallSince, CallEvent, AreCallsSinceOnlyReads, faults}
+use Rattle.lfs_model.specs.Keeping.{struct_of_path}
+use Rattle.lfs_model.specs.Layout.{directory_address_after_pair}
 use Rattle.lfs_model.specs.Operations as ops
-use Rattle.lfs_model.specs.PowerLoss.{IsLeftByStop, Survives, with_blocks}
+use Rattle.lfs_model.specs.PowerLoss.{ShowsTreeBeforeOrAfter, SurvivesStopsSince, with_blocks}
 use Rattle.lfs_model.specs.Session.{Files, Session}
-use Rattle.lfs_model.specs.Slots.{Gstate, no_gstate}
-use Rattle.lfs_model.specs.WrittenContent.{is_no_gstate}
+use Rattle.lfs_model.specs.Slots.{Gstate, zero_gstate}
+use Rattle.lfs_model.specs.WrittenContent.{is_zero_gstate}
 use Rattle.std.proofs.lemmas.Bool.{and_parts}
-use Rattle.lfs_model.specs.Thread.{Pair, blocks_of, directory_pairs, gstate_of, superblocks_before}
+use Rattle.lfs_model.specs.Thread.{Pair, blocks_of_pairs, pairs_of_all_directories, gstate_of, pair_count_before_root}
 use Rattle.lfs_model.specs.Tree.{Tree}
-use Rattle.lfs_model.specs.View.{IsAccepted}
-use Rattle.lfs_model.specs.Shown.{IsReached, all_slots, file_blocks, tree_in, used_blocks}
+use Rattle.lfs_model.specs.View.{IsAcceptedImage}
+use Rattle.lfs_model.specs.Shown.{IsDirectoryReached, all_slots_not_moved, skip_list_blocks_of_struct, tree_on_disk, used_blocks}
 use Rattle.lfs_model.specs.Profile.{IsWritable}
 use Rattle.lfs_model.proofs.AfterStops.{survives_then}
 use Rattle.lfs_model.proofs.Arranged.{arranged_after, arranged_settled, recovered_stays}
@@ -33,57 +33,57 @@ use Rattle.lfs_model.proofs.Found.{chain_of_thread}
 use Rattle.lfs_model.proofs.KeptStructs.{struct_stays}
 use Rattle.lfs_model.proofs.LeftFiles.{same_leaves}
 use Rattle.lfs_model.proofs.Global.{HasNoMove}
-use Rattle.lfs_model.proofs.Histories.{LeavesOnly-reads, LeavesOnly-weaker, Stops-read, unprogrammed-reads}
-use Rattle.lfs_operations.specs.Dropping.{SameInFlight}
-use Rattle.lfs_operations.specs.Ready.{IsReady}
-use Rattle.lfs_operations.specs.Recovering.{AreUnreached, AreUnreachedFrom, CanDropUnreached, HasRecovered, ReportsOfRecovery}
+use Rattle.lfs_model.proofs.Histories.{IsTrueAfterEachStopSince-reads, IsTrueAfterEachStopSince-weaker, IsLeftByStopIn-read, unprogrammed-reads}
+use Rattle.lfs_operations.specs.Dropping.{HasSameBlocksInFlight}
+use Rattle.lfs_operations.specs.Ready.{IsImageReadyForChange}
+use Rattle.lfs_operations.specs.Recovering.{AreUnreachedPairNumbers, AreUnreachedPairNumbersFrom, CanDropUnreachedPairs, HasDroppedUnreachedAndRecovered, ReportsOfRecovery}
 use Rattle.lfs_operations.specs.EndingMove.{CanEndMove, HasEndedMove}
 use Rattle.lfs_operations.proofs.RecoverMap.{count_used}
 use Rattle.lfs_operations.proofs.RecoverWrites.{none_there}
-use Rattle.lfs_thread.specs.Kept.{Kept, State}
-use Rattle.lfs_thread.specs.Steps.{HasReported, IsOnlyRead, Writes}
-use Rattle.lfs_tree.specs.TreeChanges.{AppliesOn, HasFurtherCalls, SurvivesTo, ReportsError}
-use Rattle.lfs_tree.specs.RootedThreads.{IsRootedUnlessFailed, IsRooted, tree_state_of, tree_state_of_thread}
-use Rattle.lfs_tree.specs.Recoveries.{CanDropLost, HasDroppedLost}
-use Rattle.lfs_tree.specs.TreeState.{IsAppliedOn, IsSound, LeavesFlight, TreeState, kept_of, tree_view}
+use Rattle.lfs_thread.specs.Kept.{Kept, ThreadView}
+use Rattle.lfs_thread.specs.Steps.{HasReportedIoOrUnwrittenNoMemory, IsThreadOnlyRead, ThreadChangesOnlyTheseBlocks}
+use Rattle.lfs_tree.specs.TreeChanges.{AppliesOperationOnThread, HasFurtherDeviceCalls, SurvivesWithOldOrNewTree, ReportsErrorWithCause}
+use Rattle.lfs_tree.specs.RootedThreads.{IsSoundThreadUnlessFailed, IsSoundThreadWithRoot, tree_state_of_kept_thread, tree_state_of_thread}
+use Rattle.lfs_tree.specs.Recoveries.{CanDropUnreachedDirectories, HasDroppedUnreachedDirectories}
+use Rattle.lfs_tree.specs.TreeState.{IsOperationAppliedToTree, IsSoundTreeState, KeepsBlocksInFlightUnchanged, TreeState, kept_of, tree_view}
 use Rattle.lfs_tree.proofs.Carried.{all_pairs, keeps_writing, lists_from, read_is, with_history}
 use Rattle.lfs_tree.proofs.CarryFreed.{writes_then}
 use Rattle.lfs_tree.proofs.KeptFiles.{keeps_same, keeps_then}
 
 -- ---- numbers of pairs
 
-numbers_from : (R : ℕ × ℕ → Type 0) (n : ℕ) (from : Option (ℕ × ℕ)) (xs : List Pair) (numbers : List ℕ) → AreUnreachedFrom R n from xs numbers → (j : ℕ) → j < length numbers → get_or numbers j 0 < n + length xs
+numbers_from : (R : ℕ × ℕ → Type 0) (n : ℕ) (from : Option (ℕ × ℕ)) (xs : List Pair) (numbers : List ℕ) → AreUnreachedPairNumbersFrom R n from xs numbers → (j : ℕ) → j < length numbers → get_or numbers j 0 < n + length xs
 numbers_from R n from [] numbers h j low = absurd (let l = ap length h in omega arith)
-numbers_from R n from (x ∷ xs) numbers (inl h) j low = let k = numbers_from R (suc n) (directory_after from x) xs numbers h.1 j low in omega arith
+numbers_from R n from (x ∷ xs) numbers (inl h) j low = let k = numbers_from R (suc n) (directory_address_after_pair from x) xs numbers h.1 j low in omega arith
 numbers_from R n from (x ∷ xs) numbers (inr h) j low =
-    subst (λ z. get_or z j 0 < n + length (x ∷ xs)) (sym h.1.0) (go j (subst (λ z. j < length z) h.1.0 low) (λ i l. numbers_from R (suc n) (directory_after from x) xs h.0 h.1.1.1 i l))
+    subst (λ z. get_or z j 0 < n + length (x ∷ xs)) (sym h.1.0) (go j (subst (λ z. j < length z) h.1.0 low) (λ i l. numbers_from R (suc n) (directory_address_after_pair from x) xs h.0 h.1.1.1 i l))
   where
     go : (j : ℕ) → j < length (n ∷ h.0) → ((i : ℕ) → i < length h.0 → get_or h.0 i 0 < suc n + length xs) → get_or (n ∷ h.0) j 0 < n + length (x ∷ xs)
     go zero l next = omega arith
     go (suc j) l next = let k = next j (omega arith) in omega arith
 
-pub numbers_below : (ps : List Pair) (numbers : List ℕ) → AreUnreached ps numbers → (j : ℕ) → j < length numbers → get_or numbers j 0 < length ps
+pub numbers_below : (ps : List Pair) (numbers : List ℕ) → AreUnreachedPairNumbers ps numbers → (j : ℕ) → j < length numbers → get_or numbers j 0 < length ps
 numbers_below ps numbers h j low =
-    let k = numbers_from (IsReached ps) (superblocks_before ps) None (directory_pairs ps) numbers h j low in
+    let k = numbers_from (IsDirectoryReached ps) (pair_count_before_root ps) None (pairs_of_all_directories ps) numbers h j low in
     let c = chain_of_thread ps in
-    let a = ap superblocks_before c.0 ∙ c.1 in
-    let b = ap length c.0 ∙ length-append (take (superblocks_before ps) ps) (directory_pairs ps) in
+    let a = ap pair_count_before_root c.0 ∙ c.1 in
+    let b = ap length c.0 ∙ length-append (take (pair_count_before_root ps) ps) (pairs_of_all_directories ps) in
     omega arith
 
 -- ---- blocks in flight
 
-apart_pairs : (t : Kept) → AreUsed t.map (used_blocks t.disk t.pairs) → (b : ℕ) → IsInFlight t.map b → All (λ c. c ≢ b) (blocks_of t.pairs)
-apart_pairs t used b flies = All-from_recursion (λ c. c ≢ b) (blocks_of t.pairs) (none_there b (blocks_of t.pairs) (go (count b (blocks_of t.pairs)) refl))
+apart_pairs : (t : Kept) → AreExactlyTheUsedBlocks t.map (used_blocks t.disk t.pairs) → (b : ℕ) → IsInFlight t.map b → All (λ c. c ≢ b) (blocks_of_pairs t.pairs)
+apart_pairs t used b flies = All-from_recursion (λ c. c ≢ b) (blocks_of_pairs t.pairs) (none_there b (blocks_of_pairs t.pairs) (go (count b (blocks_of_pairs t.pairs)) refl))
   where
-    go : (n : ℕ) → count b (blocks_of t.pairs) ≡ n → n ≡ 0
+    go : (n : ℕ) → count b (blocks_of_pairs t.pairs) ≡ n → n ≡ 0
     go zero e = refl
     go (suc n) e =
-        let k = count_append b (blocks_of t.pairs) (flat_map (λ s. file_blocks t.disk s.struct) (all_slots t.pairs)) in
+        let k = count_append b (blocks_of_pairs t.pairs) (flat_map (λ s. skip_list_blocks_of_struct t.disk s.struct) (all_slots_not_moved t.pairs)) in
         let here : IsUsed t.map b = (used b).1 (Contains-count (used_blocks t.disk t.pairs) b (omega arith)) in
         let wrong : InFlight ≡ Used = same_Some InFlight Used (sym flies ∙ here) in
         absurd (cc)
 
-leaves_same : (a c : Kept) → AreUsed a.map (used_blocks a.disk a.pairs) → SameInFlight a.map c.map → Writes (blocks_of a.pairs) a c → LeavesFlight (tree_state_of a true false) (tree_state_of c true false)
+leaves_same : (a c : Kept) → AreExactlyTheUsedBlocks a.map (used_blocks a.disk a.pairs) → HasSameBlocksInFlight a.map c.map → ThreadChangesOnlyTheseBlocks (blocks_of_pairs a.pairs) a c → KeepsBlocksInFlightUnchanged (tree_state_of_kept_thread a true false) (tree_state_of_kept_thread c true false)
 leaves_same a c used same w = record {
   stay = λ b flies. (same b).1 flies;
   none_comes = λ b flies. (same b).0 flies;
@@ -91,7 +91,7 @@ leaves_same a c used same w = record {
   unprogrammed_still = λ b k flies was. w.elsewhere.stays b k (apart_pairs a used b flies) was;
 }
 
-pub leaves_then : (a b c : TreeState) → LeavesFlight a b → LeavesFlight b c → LeavesFlight a c
+pub leaves_then : (a b c : TreeState) → KeepsBlocksInFlightUnchanged a b → KeepsBlocksInFlightUnchanged b c → KeepsBlocksInFlightUnchanged a c
 leaves_then a b c f g = record {
   stay = λ x flies. g.stay x (f.stay x flies);
   none_comes = λ x flies. f.none_comes x (g.none_comes x flies);
@@ -99,7 +99,7 @@ leaves_then a b c f g = record {
   unprogrammed_still = λ x k flies was. g.unprogrammed_still x k (f.stay x flies) (f.unprogrammed_still x k flies was);
 }
 
-leaves_reading : (t : Kept) (h : List Event) → OnlyReads t.disk.blocks t.history h → LeavesFlight (tree_state_of t true false) (tree_state_of (with_history t h) true false)
+leaves_reading : (t : Kept) (h : List CallEvent) → AreCallsSinceOnlyReads t.disk.blocks t.history h → KeepsBlocksInFlightUnchanged (tree_state_of_kept_thread t true false) (tree_state_of_kept_thread (with_history t h) true false)
 leaves_reading t h reads = record {
   stay = λ b flies. flies;
   none_comes = λ b flies. flies;
@@ -109,8 +109,8 @@ leaves_reading t h reads = record {
 
 -- ---- directories are dropped
 
-pub can_drop : (t m : Kept) (numbers : List ℕ) → CanDropLost t → 1024 ≤ t.disk.block_size → IsOnlyRead t m → AreUnreached t.pairs numbers → CanDropUnreached m numbers
-can_drop t m numbers can large r reported = subst (λ z. CanDropUnreached z numbers) (sym (read_is t m r)) (record {
+pub can_drop : (t m : Kept) (numbers : List ℕ) → CanDropUnreachedDirectories t → 1024 ≤ t.disk.block_size → IsThreadOnlyRead t m → AreUnreachedPairNumbers t.pairs numbers → CanDropUnreachedPairs m numbers
+can_drop t m numbers can large r reported = subst (λ z. CanDropUnreachedPairs z numbers) (sym (read_is t m r)) (record {
   accepted = can.accepted;
   writable = can.writable;
   used = can.used;
@@ -121,12 +121,12 @@ can_drop t m numbers can large r reported = subst (λ z. CanDropUnreached z numb
 })
 
 -- the lists are freed behind the drop
-pub freed : (old mid new : Kept) (numbers : List ℕ) → IsAccepted old.disk old.pairs → AreUsed old.map (used_blocks old.disk old.pairs) → HasNoMove (gstate_of old.pairs) → HasRecovered old numbers mid → Writes (blocks_of old.pairs) old mid → IsReadBesideMap mid new → IsReady new → SameInFlight mid.map new.map
-    → HasDroppedLost old new
+pub freed : (old mid new : Kept) (numbers : List ℕ) → IsAcceptedImage old.disk old.pairs → AreExactlyTheUsedBlocks old.map (used_blocks old.disk old.pairs) → HasNoMove (gstate_of old.pairs) → HasDroppedUnreachedAndRecovered old numbers mid → ThreadChangesOnlyTheseBlocks (blocks_of_pairs old.pairs) old mid → ChangesOnlyBlockMap mid new → IsImageReadyForChange new → HasSameBlocksInFlight mid.map new.map
+    → HasDroppedUnreachedDirectories old new
 freed old mid new numbers accepted used none r w only ready flying = record {
   ready = ready;
-  root = ap superblocks_before only.pairs ∙ r.root;
-  shows = ap₂ (λ (disk : Disk) (ps : List Pair). tree_in disk ps) only.disk only.pairs ∙ r.shows;
+  root = ap pair_count_before_root only.pairs ∙ r.root;
+  shows = ap₂ (λ (disk : Disk) (ps : List Pair). tree_on_disk disk ps) only.disk only.pairs ∙ r.shows;
   completed = λ s tree. subst₂ (λ (disk : Disk) (ps : List Pair). IsCompleted old.disk old.pairs s ops.Recover disk ps) (sym only.disk) (sym only.pairs) (r.completed s tree);
   fewer = λ b.
       let e = ap₂ (λ (disk : Disk) (ps : List Pair). count b (used_blocks disk ps)) only.disk only.pairs in
@@ -134,12 +134,12 @@ freed old mid new numbers accepted used none r w only ready flying = record {
       let v = count_used b old.disk old.pairs none in
       let k = r.fewer b in let l = r.lost b in
       omega arith;
-  keeps = λ path file. keeps_writing old new (blocks_of old.pairs) accepted used (all_pairs old) (writes_then old mid new (blocks_of old.pairs) w only) path file
-      (ap (λ (ps : List Pair). struct_at ps path) only.pairs ∙ (r.completed (record { tree = tree_in old.disk old.pairs; files = [] }) refl).structs path file refl refl);
-  flight = leaves_same old new used (λ b. ((λ flies. (r.flying b).0 ((flying b).0 flies)), (λ flies. (flying b).1 ((r.flying b).1 flies)))) (writes_then old mid new (blocks_of old.pairs) w only);
+  keeps = λ path file. keeps_writing old new (blocks_of_pairs old.pairs) accepted used (all_pairs old) (writes_then old mid new (blocks_of_pairs old.pairs) w only) path file
+      (ap (λ (ps : List Pair). struct_of_path ps path) only.pairs ∙ (r.completed (record { tree = tree_on_disk old.disk old.pairs; files = [] }) refl).structs path file refl refl);
+  flight = leaves_same old new used (λ b. ((λ flies. (r.flying b).0 ((flying b).0 flies)), (λ flies. (flying b).1 ((r.flying b).1 flies)))) (writes_then old mid new (blocks_of_pairs old.pairs) w only);
 }
 
-dropped_behind : (t : Kept) (h : List Event) (d : Kept) → OnlyReads t.disk.blocks t.history h → HasDroppedLost (with_history t h) d → HasDroppedLost t d
+dropped_behind : (t : Kept) (h : List CallEvent) (d : Kept) → AreCallsSinceOnlyReads t.disk.blocks t.history h → HasDroppedUnreachedDirectories (with_history t h) d → HasDroppedUnreachedDirectories t d
 dropped_behind t h d reads k = record {
   ready = k.ready;
   root = k.root;
@@ -147,52 +147,52 @@ dropped_behind t h d reads k = record {
   completed = k.completed;
   fewer = k.fewer;
   keeps = λ path file. let keeps = k.keeps path file in record { file = keeps.file; struct = keeps.struct; list = keeps.list; bytes = keeps.bytes };
-  flight = leaves_then (tree_state_of t true false) (tree_state_of (with_history t h) true false) (tree_state_of d true false) (leaves_reading t h reads) k.flight;
+  flight = leaves_then (tree_state_of_kept_thread t true false) (tree_state_of_kept_thread (with_history t h) true false) (tree_state_of_kept_thread d true false) (leaves_reading t h reads) k.flight;
 }
 
-pub dropped : (t m d : Kept) → IsOnlyRead t m → HasDroppedLost m d → HasDroppedLost t d
-dropped t m d r k = dropped_behind t m.history d r.reads (subst (λ z. HasDroppedLost z d) (read_is t m r) k)
+pub dropped : (t m d : Kept) → IsThreadOnlyRead t m → HasDroppedUnreachedDirectories m d → HasDroppedUnreachedDirectories t d
+dropped t m d r k = dropped_behind t m.history d r.reads (subst (λ z. HasDroppedUnreachedDirectories z d) (read_is t m r) k)
 
 -- ---- a stop
 
-all_some : (events : List Event) → EachEvent (λ e. Unit {0}) events
+all_some : (events : List CallEvent) → IsTrueOfEachCall (λ e. Unit {0}) events
 all_some [] = tt
 all_some (e ∷ older) = (tt, all_some older)
 
-pub some_since : (events old new : List Event) → new ≡ events ++ old → EachSince (λ e. Unit {0}) old new
+pub some_since : (events old new : List CallEvent) → new ≡ events ++ old → IsTrueOfEachCallSince (λ e. Unit {0}) old new
 some_since events old new e = record { events = events; extends = e; each = all_some events }
 
-pub reading_survives : (t : Kept) (h : List Event) → IsAccepted t.disk t.pairs → IsWritable t.disk t.pairs → OnlyReads t.disk.blocks t.history h → Survives t.disk t.history h (tree_in t.disk t.pairs) (tree_in t.disk t.pairs)
-reading_survives t h ok fits reads clean = LeavesOnly-reads Stops-read reads (record { pairs = t.pairs; accepted = ok; writable = fits; tree = inl refl })
+pub reading_survives : (t : Kept) (h : List CallEvent) → IsAcceptedImage t.disk t.pairs → IsWritable t.disk t.pairs → AreCallsSinceOnlyReads t.disk.blocks t.history h → SurvivesStopsSince t.disk t.history h (tree_on_disk t.disk t.pairs) (tree_on_disk t.disk t.pairs)
+reading_survives t h ok fits reads clean = IsTrueAfterEachStopSince-reads IsLeftByStopIn-read reads (record { pairs = t.pairs; accepted = ok; writable = fits; tree = inl refl })
 
-pub read_survives : (t m : Kept) → CanDropLost t → IsOnlyRead t m → SurvivesTo t m (tree_in t.disk t.pairs)
+pub read_survives : (t m : Kept) → CanDropUnreachedDirectories t → IsThreadOnlyRead t m → SurvivesWithOldOrNewTree t m (tree_on_disk t.disk t.pairs)
 read_survives t m can r = reading_survives t m.history can.accepted can.writable r.reads
 
-pub drop_survives : (t m d : Kept) → CanDropLost t → IsOnlyRead t m → Writes (blocks_of m.pairs) m d → Survives m.disk m.history d.history (tree_in m.disk m.pairs) (tree_in m.disk m.pairs) → SurvivesTo t d (tree_in t.disk t.pairs)
+pub drop_survives : (t m d : Kept) → CanDropUnreachedDirectories t → IsThreadOnlyRead t m → ThreadChangesOnlyTheseBlocks (blocks_of_pairs m.pairs) m d → SurvivesStopsSince m.disk m.history d.history (tree_on_disk m.disk m.pairs) (tree_on_disk m.disk m.pairs) → SurvivesWithOldOrNewTree t d (tree_on_disk t.disk t.pairs)
 drop_survives t m d can r w k =
-    survives_then t.disk t.history m.history d.history (tree_in t.disk t.pairs) (tree_in t.disk t.pairs) r.reads w.at_worst (read_survives t m can r)
-    (subst₂ (λ (disk : Disk) (ps : List Pair). Survives disk m.history d.history (tree_in disk ps) (tree_in disk ps)) r.disk r.pairs k)
+    survives_then t.disk t.history m.history d.history (tree_on_disk t.disk t.pairs) (tree_on_disk t.disk t.pairs) r.reads w.at_worst (read_survives t m can r)
+    (subst₂ (λ (disk : Disk) (ps : List Pair). SurvivesStopsSince disk m.history d.history (tree_on_disk disk ps) (tree_on_disk disk ps)) r.disk r.pairs k)
 
 -- behind the end of a set move
-pub end_survives : (a b : Kept) (h : List Event) → Writes (blocks_of a.pairs) a b → tree_in b.disk b.pairs ≡ tree_in a.disk a.pairs → (calls : List Event) → h ≡ calls ++ b.history
-    → Survives a.disk a.history b.history (tree_in a.disk a.pairs) (tree_in a.disk a.pairs) → Survives b.disk b.history h (tree_in b.disk b.pairs) (tree_in b.disk b.pairs)
-    → Survives a.disk a.history h (tree_in a.disk a.pairs) (tree_in a.disk a.pairs)
+pub end_survives : (a b : Kept) (h : List CallEvent) → ThreadChangesOnlyTheseBlocks (blocks_of_pairs a.pairs) a b → tree_on_disk b.disk b.pairs ≡ tree_on_disk a.disk a.pairs → (calls : List CallEvent) → h ≡ calls ++ b.history
+    → SurvivesStopsSince a.disk a.history b.history (tree_on_disk a.disk a.pairs) (tree_on_disk a.disk a.pairs) → SurvivesStopsSince b.disk b.history h (tree_on_disk b.disk b.pairs) (tree_on_disk b.disk b.pairs)
+    → SurvivesStopsSince a.disk a.history h (tree_on_disk a.disk a.pairs) (tree_on_disk a.disk a.pairs)
 end_survives a b h w shows calls called first second =
-    survives_then a.disk a.history b.history h (tree_in a.disk a.pairs) (tree_in a.disk a.pairs) w.at_worst (some_since calls b.history h called) first
-    (λ clean. LeavesOnly-weaker (λ left x. subst (λ z. IsLeftByStop z (tree_in a.disk a.pairs) (tree_in a.disk a.pairs))
+    survives_then a.disk a.history b.history h (tree_on_disk a.disk a.pairs) (tree_on_disk a.disk a.pairs) w.at_worst (some_since calls b.history h called) first
+    (λ clean. IsTrueAfterEachStopSince-weaker (λ left x. subst (λ z. ShowsTreeBeforeOrAfter z (tree_on_disk a.disk a.pairs) (tree_on_disk a.disk a.pairs))
     (λ j. record { block_size = w.shape.block_size j; page = w.shape.page j; order = w.shape.order j; blocks = left })
-    (subst (λ z. IsLeftByStop (with_blocks left b.disk) z z) shows x)) (second clean))
+    (subst (λ z. ShowsTreeBeforeOrAfter (with_blocks left b.disk) z z) shows x)) (second clean))
 
 -- ---- calls
 
-pub called_writing : (a b : Kept) (bs : List ℕ) → Writes bs a b → HasFurtherCalls a b
+pub called_writing : (a b : Kept) (bs : List ℕ) → ThreadChangesOnlyTheseBlocks bs a b → HasFurtherDeviceCalls a b
 called_writing a b bs w = record {
   geometry = record { block_size = w.shape.block_size; page = w.shape.page; order = w.shape.order; count = w.shape.count };
   calls = w.at_worst.events;
   called = w.at_worst.extends;
 }
 
-pub called_then : (a b c : Kept) → HasFurtherCalls a b → HasFurtherCalls b c → HasFurtherCalls a c
+pub called_then : (a b c : Kept) → HasFurtherDeviceCalls a b → HasFurtherDeviceCalls b c → HasFurtherDeviceCalls a c
 called_then a b c f g = record {
   geometry = record {
     block_size = g.geometry.block_size ∙ f.geometry.block_size;
@@ -206,19 +206,19 @@ called_then a b c f g = record {
 
 -- ---- the whole
 
-pub can_end : (t : State) (root : ℕ) → IsRooted t root true → CanEndMove t.kept
+pub can_end : (t : ThreadView) (root : ℕ) → IsSoundThreadWithRoot t root true → CanEndMove t.kept
 can_end t root r = record { accepted = r.sound.accepted; writable = r.sound.fits refl; used = r.sound.used; size = r.sound.size }
 
-pub can_drop_then : (a b : Kept) → HasEndedMove a b → CanDropLost b
+pub can_drop_then : (a b : Kept) → HasEndedMove a b → CanDropUnreachedDirectories b
 can_drop_then a b e = record { accepted = e.taken.follows.accepted; writable = e.taken.writable; used = e.used; size = e.size; none = e.none }
 
-pub recovered_whole : (t : State) (root : ℕ) (b c : Kept) → IsRooted t root true → (gstate_of t.kept.pairs ≡ no_gstate → ⊥) → HasEndedMove t.kept b → Writes (blocks_of t.kept.pairs) t.kept b → HasDroppedLost b c → HasFurtherCalls b c
-    → faults c.history ≡ faults t.kept.history → AppliesOn t.kept ops.Recover c
+pub recovered_whole : (t : ThreadView) (root : ℕ) (b c : Kept) → IsSoundThreadWithRoot t root true → (gstate_of t.kept.pairs ≡ zero_gstate → ⊥) → HasEndedMove t.kept b → ThreadChangesOnlyTheseBlocks (blocks_of_pairs t.kept.pairs) t.kept b → HasDroppedUnreachedDirectories b c → HasFurtherDeviceCalls b c
+    → faults c.history ≡ faults t.kept.history → AppliesOperationOnThread t.kept ops.Recover c
 recovered_whole t root b c rooted left e w d called quiet =
     let a = t.kept in
-    let all = called_then a b c (called_writing a b (blocks_of a.pairs) w) called in
-    let completed : (files : Files) → IsCompleted b.disk b.pairs (record { tree = tree_in a.disk a.pairs; files = files }) ops.Recover c.disk c.pairs
-    = λ files. d.completed (record { tree = tree_in a.disk a.pairs; files = files }) (sym e.taken.follows.shows) in
+    let all = called_then a b c (called_writing a b (blocks_of_pairs a.pairs) w) called in
+    let completed : (files : Files) → IsCompleted b.disk b.pairs (record { tree = tree_on_disk a.disk a.pairs; files = files }) ops.Recover c.disk c.pairs
+    = λ files. d.completed (record { tree = tree_on_disk a.disk a.pairs; files = files }) (sym e.taken.follows.shows) in
     record {
       works = refl;
       sound = record { accepted = d.ready.accepted; fits = λ z. d.ready.writable; is_kept = λ z. refl; used = d.ready.used; size = d.ready.size };
@@ -231,14 +231,14 @@ recovered_whole t root b c rooted left e w d called quiet =
       recovered = (completed []).recovered;
       shows = λ around files. (completed files).tree around;
       arranged = λ files.
-          let s : Session = record { tree = tree_in a.disk a.pairs; files = files } in
+          let s : Session = record { tree = tree_on_disk a.disk a.pairs; files = files } in
           let k = completed files in
           arranged_after a.disk c.disk c.disk a.pairs c.pairs c.pairs s ops.Recover all.geometry k.accepted k.recovered (e.leads_on s c.disk c.pairs k.laid_out) (recovered_stays c.disk c.pairs s k.accepted d.ready.writable d.ready.settled);
       itself = λ z. absurd (cc);
       nothing_left = λ z done. absurd (left done.gstate);
-      flight = leaves_then (tree_state_of a true false) (tree_state_of b true false) (tree_state_of c true false) (leaves_same a b rooted.sound.used e.flying w) d.flight;
+      flight = leaves_then (tree_state_of_kept_thread a true false) (tree_state_of_kept_thread b true false) (tree_state_of_kept_thread c true false) (leaves_same a b rooted.sound.used e.flying w) d.flight;
       keeps = λ path file away.
-          let first = keeps_writing a b (blocks_of a.pairs) rooted.sound.accepted rooted.sound.used (all_pairs a) w path file (struct_stays a.disk a.pairs b.pairs path file (e.taken.follows.stays path (same_leaves path))) in
+          let first = keeps_writing a b (blocks_of_pairs a.pairs) rooted.sound.accepted rooted.sound.used (all_pairs a) w path file (struct_stays a.disk a.pairs b.pairs path file (e.taken.follows.stays path (same_leaves path))) in
           let k = keeps_then a b c path first (d.keeps path first.file) in
           record { file = k.file; struct = k.struct; list = k.list; bytes = k.bytes };
       lists = λ none. absurd (left none);
@@ -249,37 +249,37 @@ recovered_whole t root b c rooted left e w d called quiet =
 same_error : {X : Type 0} (e f : Error) → (let r : Result X Error = Err e in r) ≡ Err f → e ≡ f
 same_error e f h = cc
 
-pub reports_reading : {X : Type 0} (t m : Kept) (r : Result X Error) (e : Error) → r ≡ Err e → HasReported t m r → ReportsError t m e
+pub reports_reading : {X : Type 0} (t m : Kept) (r : Result X Error) (e : Error) → r ≡ Err e → HasReportedIoOrUnwrittenNoMemory t m r → ReportsErrorWithCause t m e
 reports_reading {X} t m r e is reported = record {
   errors = subst (λ (z : Result X Error). IfErr z (λ f. (f ≡ Io) ⊎ (f ≡ NoMemory))) is reported.errors;
   fault = λ io. reported.fault (is ∙ ap Err io);
   no_fault = λ other. reported.no_fault (λ io. other (same_error e Io (sym is ∙ io)));
 }
 
-pub reports_steps : {X : Type 0} (m d : State) (r : Result X Error) (e : Error) → r ≡ Err e → ReportsOfRecovery m d r → ReportsError m.kept d.kept e
+pub reports_steps : {X : Type 0} (m d : ThreadView) (r : Result X Error) (e : Error) → r ≡ Err e → ReportsOfRecovery m d r → ReportsErrorWithCause m.kept d.kept e
 reports_steps {X} m d r e is reported = record {
   errors = subst (λ (z : Result X Error). IfErr z (λ f. (f ≡ Io) ⊎ (f ≡ NoMemory))) is reported.errors;
   fault = λ io. reported.fault (is ∙ ap Err io);
   no_fault = λ other. reported.no_fault (λ io. other (same_error e Io (sym is ∙ io)));
 }
 
-pub reports_work : {X : Type 0} (m d : Kept) (r : Result X Error) (e : Error) → r ≡ Err e → ReportsWork m d r → ReportsError m d e
+pub reports_work : {X : Type 0} (m d : Kept) (r : Result X Error) (e : Error) → r ≡ Err e → ReportsFaultOrNoMemory m d r → ReportsErrorWithCause m d e
 reports_work {X} m d r e is reported = record {
   errors = subst (λ (z : Result X Error). IfErr z (λ f. (f ≡ Io) ⊎ (f ≡ NoMemory))) is reported.errors;
   fault = λ io. reported.fault (is ∙ ap Err io);
   no_fault = λ other. reported.no_fault (λ io. other (same_error e Io (sym is ∙ io)));
 }
 
-pub reports_then : (a b c : Kept) (e : Error) → faults b.history ≡ faults a.history → ReportsError b c e → ReportsError a c e
+pub reports_then : (a b c : Kept) (e : Error) → faults b.history ≡ faults a.history → ReportsErrorWithCause b c e → ReportsErrorWithCause a c e
 reports_then a b c e quiet t = record { errors = t.errors; fault = λ io. let k = t.fault io in omega (arith, k, quiet); no_fault = λ other. t.no_fault other ∙ quiet }
 
 -- an error is passed on
-pub reports_given : {Y : Type 0} (a c : Kept) (given : Result Y Error) (e f : Error) → given ≡ Err f → f ≡ e → ReportsError a c e → IfErr given (ReportsError a c)
-reports_given {Y = Y} a c given e f is same t = subst (λ (r : Result Y Error). IfErr r (ReportsError a c)) (sym is) (subst (ReportsError a c) (sym same) t)
+pub reports_given : {Y : Type 0} (a c : Kept) (given : Result Y Error) (e f : Error) → given ≡ Err f → f ≡ e → ReportsErrorWithCause a c e → IfErr given (ReportsErrorWithCause a c)
+reports_given {Y = Y} a c given e f is same t = subst (λ (r : Result Y Error). IfErr r (ReportsErrorWithCause a c)) (sym is) (subst (ReportsErrorWithCause a c) (sym same) t)
 
 -- ---- where nothing is left to recover
 
-pub recovered_already : (t : TreeState) → t.failed ≡ false → t.writable ≡ true → IsSound t → gstate_of t.pairs ≡ no_gstate → IsAppliedOn t ops.Recover t
+pub recovered_already : (t : TreeState) → t.failed ≡ false → t.writable ≡ true → IsSoundTreeState t → gstate_of t.pairs ≡ zero_gstate → IsOperationAppliedToTree t ops.Recover t
 recovered_already t works writable sound settled = record {
   works = works;
   sound = sound;
@@ -301,14 +301,14 @@ recovered_already t works writable sound settled = record {
   lists = λ none. lists_from t.disk t.disk t.pairs (λ b some. refl);
 }
 
-pub none_survives : (t : TreeState) (after : Tree) → Survives t.disk t.history t.history (tree_view t) after
+pub none_survives : (t : TreeState) (after : Tree) → SurvivesStopsSince t.disk t.history t.history (tree_view t) after
 none_survives t after clean = record { events = []; extends = refl; each = tt }
 
 -- a state in which nothing is set
-pub nothing_set : (g : Gstate) → is_no_gstate g ≡ true → g ≡ no_gstate
+pub nothing_set : (g : Gstate) → is_zero_gstate g ≡ true → g ≡ zero_gstate
 nothing_set g z = go g.sync refl
   where
-    go : (sync : Bool) → g.sync ≡ sync → g ≡ no_gstate
+    go : (sync : Bool) → g.sync ≡ sync → g ≡ zero_gstate
     go true e = absurd (let s = (and_parts (not g.sync) _ z).0 in cc)
     go false e =
         let k = and_parts (not g.sync) _ z in
@@ -321,11 +321,11 @@ nothing_set g z = go g.sync refl
         ap (λ s. record g { sync = s }) e ∙ ap (λ k. record g { sync = false; kind = k }) kind
         ∙ ap₂ (λ i p. record { sync = false; kind = 0; id = i; pair = p }) id pair
 
-pub something_set : (g : Gstate) → is_no_gstate g ≡ false → g ≡ no_gstate → ⊥
-something_set g e is = let k = sym e ∙ ap is_no_gstate is in absurd (cc)
+pub something_set : (g : Gstate) → is_zero_gstate g ≡ false → g ≡ zero_gstate → ⊥
+something_set g e is = let k = sym e ∙ ap is_zero_gstate is in absurd (cc)
 
 -- what works is sound
-pub held_sound : (thread : State) (root : ℕ) (writable : Bool) (now : TreeState) → IsRootedUnlessFailed thread root writable → tree_state_of_thread thread writable ≡ now → now.failed ≡ false → IsSound now
+pub held_sound : (thread : ThreadView) (root : ℕ) (writable : Bool) (now : TreeState) → IsSoundThreadUnlessFailed thread root writable → tree_state_of_thread thread writable ≡ now → now.failed ≡ false → IsSoundTreeState now
 held_sound thread root writable now kept view works =
     let s = (kept (ap (λ (s : TreeState). s.failed) view ∙ works)).sound in
-    subst IsSound view (record { accepted = s.accepted; fits = s.fits; is_kept = s.is_kept; used = s.used; size = s.size })
+    subst IsSoundTreeState view (record { accepted = s.accepted; fits = s.fits; is_kept = s.is_kept; used = s.used; size = s.size })

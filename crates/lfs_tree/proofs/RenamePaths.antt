@@ -4,26 +4,26 @@ use Rattle.std.specs.Prelude.{IfOk, IfSome, sum_by}
 use Rattle.std.proofs.lemmas.List.Sums.{sum_by-append}
 use Rattle.lfs_device.specs.declared.error.Error.{Error}
 use Rattle.lfs_model.specs.Disk.{Disk}
-use Rattle.lfs_model.specs.Frame.{pairs_of_path, parents}
-use Rattle.lfs_model.specs.History.{Event, reads}
+use Rattle.lfs_model.specs.Frame.{pair_count_of_directory_at, parents}
+use Rattle.lfs_model.specs.History.{CallEvent, reads}
 use Rattle.lfs_model.specs.Names.{Name}
 use Rattle.lfs_model.specs.SlotEdits.{slot_of_path}
-use Rattle.lfs_model.specs.Slots.{no_gstate}
+use Rattle.lfs_model.specs.Slots.{zero_gstate}
 use Rattle.lfs_model.specs.Thread.{Pair, gstate_of}
 use Rattle.lfs_model.specs.Tree.{Path}
-use Rattle.lfs_model.specs.View.{IsAccepted}
-use Rattle.lfs_model.specs.Shown.{tree_in}
-use Rattle.lfs_thread.specs.Kept.{Kept, State}
-use Rattle.lfs_thread.specs.Steps.{IsOnlyRead}
-use Rattle.lfs_lookup.specs.AtPath.{ShowsAt}
-use Rattle.lfs_lookup.specs.Paths.{BeginsOnPath, IsSlotOf, IsSlotOnPath, LeadsTo, ShowsTo}
+use Rattle.lfs_model.specs.View.{IsAcceptedImage}
+use Rattle.lfs_model.specs.Shown.{tree_on_disk}
+use Rattle.lfs_thread.specs.Kept.{Kept, ThreadView}
+use Rattle.lfs_thread.specs.Steps.{IsThreadOnlyRead}
+use Rattle.lfs_lookup.specs.AtPath.{IsLookupResultAtPath}
+use Rattle.lfs_lookup.specs.Paths.{PathLeadsToFirstPair, IsUnmovedSlotOfPath, IsSlotOfNameBelowPath, PathLeadsToFound, IsLookupResultWithSlotHidden}
 use Rattle.lfs_lookup.specs.declared.paths.Found.{Found}
 use Rattle.lfs_lookup.specs.declared.paths.Found.TheVariants as found
 use Rattle.lfs_lookup.specs.declared.paths.Shown.{Shown}
 use Rattle.lfs_lookup.specs.declared.search.Spot.{Spot}
 use Rattle.lfs_lookup.proofs.Entered.{hiding_none}
 use Rattle.lfs_lookup.proofs.ShownFindings.{few_own}
-use Rattle.lfs_tree.specs.RenamePaths.{AreTargets, directories_of_rename, shown_in}
+use Rattle.lfs_tree.specs.RenamePaths.{AreRenameTargets, directories_of_rename, lookup_result_of_found}
 use Rattle.lfs_tree.specs.TreeState.{TreeState, kept_of}
 use Rattle.lfs_tree.specs.declared.rename_paths.RenameFindings.{RenameFindings}
 use Rattle.lfs_tree.specs.declared.rename_paths.RenameTargets.{RenameTargets}
@@ -31,7 +31,7 @@ use Rattle.lfs_tree.proofs.Carried.{read_is, with_history}
 
 -- ---- where the paths lead to, after reads
 
-leads_on : (t : Kept) (h : List Event) (path : Path) (f : Found) → LeadsTo t path f → LeadsTo (with_history t h) path f
+leads_on : (t : Kept) (h : List CallEvent) (path : Path) (f : Found) → PathLeadsToFound t path f → PathLeadsToFound (with_history t h) path f
 leads_on t h path found.Root l = record { parents = l.parents; there = l.there }
 leads_on t h path found.ParentIsFile l = record { parents = l.parents; there = l.there }
 leads_on t h path found.ParentIsMissing l = record { parents = l.parents; there = l.there }
@@ -39,10 +39,10 @@ leads_on t h path (found.Nothing parent place) l = record { parents = l.parents;
 leads_on t h path (found.Directory parent slot first) l = record { parents = l.parents; there = l.there }
 leads_on t h path (found.File parent slot contents) l = record { parents = l.parents; there = l.there }
 
-pub leads_since : (a b : Kept) (path : Path) (f : Found) → IsOnlyRead a b → LeadsTo a path f → LeadsTo b path f
-leads_since a b path f only l = subst (λ z. LeadsTo z path f) (sym (read_is a b only)) (leads_on a b.history path f l)
+pub leads_since : (a b : Kept) (path : Path) (f : Found) → IsThreadOnlyRead a b → PathLeadsToFound a path f → PathLeadsToFound b path f
+leads_since a b path f only l = subst (λ z. PathLeadsToFound z path f) (sym (read_is a b only)) (leads_on a b.history path f l)
 
-targets_since : (a b : Kept) (from to : Path) (r : RenameTargets) → IsOnlyRead a b → AreTargets a from to r → AreTargets b from to r
+targets_since : (a b : Kept) (from to : Path) (r : RenameTargets) → IsThreadOnlyRead a b → AreRenameTargets a from to r → AreRenameTargets b from to r
 targets_since a b from to r only k = record {
   settled = ap gstate_of only.pairs ∙ k.settled;
   entry = leads_since a b from r.entry only k.entry;
@@ -50,22 +50,22 @@ targets_since a b from to r only k = record {
 }
 
 -- the tree stays
-pub same_tree : (a b : Kept) → IsOnlyRead a b → tree_in b.disk b.pairs ≡ tree_in a.disk a.pairs
-same_tree a b only = ap (λ (d : Disk). tree_in d b.pairs) only.disk ∙ ap (λ (ps : List Pair). tree_in a.disk ps) only.pairs
+pub same_tree : (a b : Kept) → IsThreadOnlyRead a b → tree_on_disk b.disk b.pairs ≡ tree_on_disk a.disk a.pairs
+same_tree a b only = ap (λ (d : Disk). tree_on_disk d b.pairs) only.disk ∙ ap (λ (ps : List Pair). tree_on_disk a.disk ps) only.pairs
 
 -- so do those of what was found, if they are known
-pub found_since : (a b : Kept) (from to : Path) (r : Result RenameFindings Error) → IsOnlyRead a b → IfOk r (λ found. IfSome found.targets (AreTargets a from to)) → IfOk r (λ found. IfSome found.targets (AreTargets b from to))
+pub found_since : (a b : Kept) (from to : Path) (r : Result RenameFindings Error) → IsThreadOnlyRead a b → IfOk r (λ found. IfSome found.targets (AreRenameTargets a from to)) → IfOk r (λ found. IfSome found.targets (AreRenameTargets b from to))
 found_since a b from to (Err e) only k = tt
 found_since a b from to (Ok x) only k = go x.targets k
   where
-    go : (o : Option RenameTargets) → IfSome o (AreTargets a from to) → IfSome o (AreTargets b from to)
+    go : (o : Option RenameTargets) → IfSome o (AreRenameTargets a from to) → IfSome o (AreRenameTargets b from to)
     go None k = tt
     go (Some x) k = targets_since a b from to x only k
 
 -- a recovery before it did nothing
-pub known_behind : (old mid : TreeState) (t : State) (from to : Path) (o : Option RenameTargets) → (gstate_of old.pairs ≡ no_gstate → mid ≡ old) → t.kept ≡ kept_of mid → IfSome o (AreTargets (kept_of old) from to) → IfSome o (AreTargets t.kept from to)
+pub known_behind : (old mid : TreeState) (t : ThreadView) (from to : Path) (o : Option RenameTargets) → (gstate_of old.pairs ≡ zero_gstate → mid ≡ old) → t.kept ≡ kept_of mid → IfSome o (AreRenameTargets (kept_of old) from to) → IfSome o (AreRenameTargets t.kept from to)
 known_behind old mid t from to None idle is k = tt
-known_behind old mid t from to (Some x) idle is k = subst (λ z. AreTargets z from to x) (sym (is ∙ ap kept_of (idle k.settled))) k
+known_behind old mid t from to (Some x) idle is k = subst (λ z. AreRenameTargets z from to x) (sym (is ∙ ap kept_of (idle k.settled))) k
 
 -- ---- what is there
 
@@ -73,8 +73,8 @@ known_behind old mid t from to (Some x) idle is k = subst (λ z. AreTargets z fr
 not_deleted : (id : ℕ) → ◌≡◌ {A = Option ℕ} None (Some id) → ⊥
 not_deleted id k = absurd (cc)
 
-abbrev slot_of : (ps : List Pair) (path above : Path) (name : Name) (parent : ℕ) (slot : Spot) → path ≡ above ++ name ∷ [] → IsSlotOnPath ps above name parent slot → IsSlotOf ps None path slot
-slot_of ps path above name parent slot e s = record {
+abbrev spot_of_shown_entry : (ps : List Pair) (path above : Path) (name : Name) (parent : ℕ) (slot : Spot) → path ≡ above ++ name ∷ [] → IsSlotOfNameBelowPath ps above name parent slot → IsUnmovedSlotOfPath ps None path slot
+spot_of_shown_entry ps path above name parent slot e s = record {
   above = above;
   name = name;
   is = e;
@@ -85,18 +85,18 @@ slot_of ps path above name parent slot e s = record {
   slot = ap (slot_of_path ps) e ∙ s.slot;
 }
 
-shows_to : (t : Kept) (path : Path) (f : Found) → LeadsTo t path f → ShowsTo t None path (shown_in f)
+shows_to : (t : Kept) (path : Path) (f : Found) → PathLeadsToFound t path f → IsLookupResultWithSlotHidden t None path (lookup_result_of_found f)
 shows_to t path found.Root l = l.there
 shows_to t path found.ParentIsFile l = l.parents
 shows_to t path found.ParentIsMissing l = l.parents
 shows_to t path (found.Nothing parent place) l = (l.parents, ap (slot_of_path t.pairs) l.there.is ∙ l.there.there.nothing)
 shows_to t path (found.Directory parent slot first) l =
-    (l.parents, (slot_of t.pairs path l.there.above l.there.name parent slot l.there.is l.there.there.0, subst (λ (p : Path). BeginsOnPath t.pairs p first) (sym l.there.is) l.there.there.1))
-shows_to t path (found.File parent slot contents) l = (l.parents, (slot_of t.pairs path l.there.above l.there.name parent slot l.there.is l.there.there.0, l.there.there.1))
+    (l.parents, (spot_of_shown_entry t.pairs path l.there.above l.there.name parent slot l.there.is l.there.there.0, subst (λ (p : Path). PathLeadsToFirstPair t.pairs p first) (sym l.there.is) l.there.there.1))
+shows_to t path (found.File parent slot contents) l = (l.parents, (spot_of_shown_entry t.pairs path l.there.above l.there.name parent slot l.there.is l.there.there.0, l.there.there.1))
 
-pub shows_found : (t : Kept) (path : Path) (f : Found) (s : Shown) → IsAccepted t.disk t.pairs → gstate_of t.pairs ≡ no_gstate → LeadsTo t path f → s ≡ shown_in f → ShowsAt t path s
+pub shows_found : (t : Kept) (path : Path) (f : Found) (s : Shown) → IsAcceptedImage t.disk t.pairs → gstate_of t.pairs ≡ zero_gstate → PathLeadsToFound t path f → s ≡ lookup_result_of_found f → IsLookupResultAtPath t path s
 shows_found t path f s ok settled l is =
-    subst (λ z. ShowsAt t path z) (sym is) (record { moved = None; hides = (hiding_none t (record { accepted = ok; settled = settled })).hides; shows = shows_to t path f l })
+    subst (λ z. IsLookupResultAtPath t path z) (sym is) (record { moved = None; hides = (hiding_none t (record { accepted = ok; settled = settled })).hides; shows = shows_to t path f l })
 
 -- ---- how many reads that takes
 
@@ -107,8 +107,8 @@ sum_of_rename f from to =
     let c = few_own f to in
     omega (arith, a, b, c)
 
-pub few_since : (a b : Kept) (paths : List Path) (n : ℕ) → IsOnlyRead a b → n ≤ reads b.history + sum_by (pairs_of_path b.pairs) paths → n ≤ reads b.history + sum_by (pairs_of_path a.pairs) paths
-few_since a b paths n only h = subst (λ (ps : List Pair). n ≤ reads b.history + sum_by (pairs_of_path ps) paths) only.pairs h
+pub few_since : (a b : Kept) (paths : List Path) (n : ℕ) → IsThreadOnlyRead a b → n ≤ reads b.history + sum_by (pair_count_of_directory_at b.pairs) paths → n ≤ reads b.history + sum_by (pair_count_of_directory_at a.pairs) paths
+few_since a b paths n only h = subst (λ (ps : List Pair). n ≤ reads b.history + sum_by (pair_count_of_directory_at ps) paths) only.pairs h
 
-pub own_since : (a b : Kept) (path : Path) (n : ℕ) → IsOnlyRead a b → n ≤ reads b.history + pairs_of_path b.pairs path → n ≤ reads b.history + pairs_of_path a.pairs path
-own_since a b path n only h = subst (λ (ps : List Pair). n ≤ reads b.history + pairs_of_path ps path) only.pairs h
+pub own_since : (a b : Kept) (path : Path) (n : ℕ) → IsThreadOnlyRead a b → n ≤ reads b.history + pair_count_of_directory_at b.pairs path → n ≤ reads b.history + pair_count_of_directory_at a.pairs path
+own_since a b path n only h = subst (λ (ps : List Pair). n ≤ reads b.history + pair_count_of_directory_at ps path) only.pairs h

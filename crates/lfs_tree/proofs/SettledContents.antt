@@ -5,47 +5,47 @@ use Rattle.std.proofs.lemmas.List.Elements.{All-contains, All-from_recursion}
 use Rattle.std.proofs.lemmas.Option.{same_Some}
 use Rattle.lfs_device.specs.Bytes.{HasBytes}
 use Rattle.lfs_model.proofs.Sites.{SomeIn, among_right}
-use Rattle.lfs_model.specs.Frame.{HoldsSlot}
-use Rattle.lfs_model.specs.TreeEdits.{change_at, same_path}
-use Rattle.lfs_model.specs.BlockSets.{AreUsed, IsFree, IsInFlight, IsUsed}
+use Rattle.lfs_model.specs.Frame.{IsPairWithSlotOfPath}
+use Rattle.lfs_model.specs.TreeEdits.{tree_after_change_of_node, same_path}
+use Rattle.lfs_model.specs.BlockSets.{AreExactlyTheUsedBlocks, IsFree, IsInFlight, IsUsed}
 use Rattle.lfs_model.specs.BlockSets.BlockState.{Free, InFlight, Used}
-use Rattle.lfs_model.specs.Disk.{Disk, SameGeometry, block_at, block_count}
-use Rattle.lfs_model.specs.History.{Event, LeavesOnly, OnlyReads}
-use Rattle.lfs_model.specs.Layout.{IsLaidOut}
+use Rattle.lfs_model.specs.Disk.{Disk, SameGeometry, block_bytes_on_disk, block_count}
+use Rattle.lfs_model.specs.History.{CallEvent, IsTrueAfterEachStopSince, AreCallsSinceOnlyReads}
+use Rattle.lfs_model.specs.Layout.{IsSlotLayoutAfterOperation}
 use Rattle.lfs_model.specs.Names.{Name}
 use Rattle.lfs_model.specs.Operations as ops
 use Rattle.lfs_model.specs.Operations.{Operation}
-use Rattle.lfs_model.specs.Keeping.{struct_at}
+use Rattle.lfs_model.specs.Keeping.{struct_of_path}
 use Rattle.lfs_model.specs.Session.{Session, Writer, Writing}
-use Rattle.lfs_model.specs.PowerLoss.{IsLeftByStop, with_blocks}
+use Rattle.lfs_model.specs.PowerLoss.{ShowsTreeBeforeOrAfter, with_blocks}
 use Rattle.lfs_model.specs.SlotEdits.{slot_of_path}
 use Rattle.lfs_model.specs.Slots.{Slot}
-use Rattle.lfs_model.specs.Effects.{with_bytes}
-use Rattle.lfs_model.specs.Stops.{Stops}
-use Rattle.lfs_model.specs.Thread.{Pair, blocks_of, gstate_of, superblocks_before}
+use Rattle.lfs_model.specs.Effects.{node_with_bytes}
+use Rattle.lfs_model.specs.Stops.{IsLeftByStopIn}
+use Rattle.lfs_model.specs.Thread.{Pair, blocks_of_pairs, gstate_of, pair_count_before_root}
 use Rattle.lfs_model.specs.Tree.{Path}
-use Rattle.lfs_model.specs.View.{IsAccepted}
+use Rattle.lfs_model.specs.View.{IsAcceptedImage}
 use Rattle.lfs_model.specs.Profile.{IsWritable}
-use Rattle.lfs_model.specs.Shown.{file_blocks, tree_in, used_blocks}
+use Rattle.lfs_model.specs.Shown.{skip_list_blocks_of_struct, tree_on_disk, used_blocks}
 use Rattle.lfs_model.proofs.AfterStops.{survives_then}
 use Rattle.lfs_model.proofs.BlockSets.{Contains-count, count-Contains}
 use Rattle.lfs_model.proofs.Counts.{count, count_append, each_from_counted, each_weaker, once_from_distinct}
 use Rattle.lfs_model.proofs.Files.{HasSameFile, file_blocks_same, is_list_same}
-use Rattle.lfs_model.proofs.Histories.{LeavesOnly-reads, LeavesOnly-trans, LeavesOnly-weaker, LeavesOnly-worst, Stops-read}
-use Rattle.lfs_writer.specs.StructChanges.{CanReplaceStruct}
-use Rattle.lfs_writer.specs.SettledFiles.{CanSettle, IsReadBesideMap, IsSettledIn, blocks_in_list}
+use Rattle.lfs_model.proofs.Histories.{IsTrueAfterEachStopSince-reads, IsTrueAfterEachStopSince-trans, IsTrueAfterEachStopSince-weaker, IsTrueAfterEachStopSince-worst, IsLeftByStopIn-read}
+use Rattle.lfs_writer.specs.StructChanges.{CanReplaceFileStruct}
+use Rattle.lfs_writer.specs.SettledFiles.{CanSettleStoredList, ChangesOnlyBlockMap, IsStoredListSettled, blocks_of_list_on_thread}
 use Rattle.lfs_writer.proofs.Outside.{none_or_some, not_there}
 use Rattle.lfs_writer.proofs.Settlement.{settled_exactly}
 use Rattle.lfs_operations.proofs.Held.{here}
-use Rattle.lfs_operations.specs.Changing.{WritesIn}
-use Rattle.lfs_operations.specs.Storing.{IsStructSet, with_contents_at}
-use Rattle.lfs_thread.specs.Kept.{Kept, State}
-use Rattle.lfs_thread.specs.Steps.{pair_in, Writes}
+use Rattle.lfs_operations.specs.Changing.{WritesPairAndTwoFreeBlocks}
+use Rattle.lfs_operations.specs.Storing.{HasStoredContentsOfFile, tree_with_contents_at}
+use Rattle.lfs_thread.specs.Kept.{Kept, ThreadView}
+use Rattle.lfs_thread.specs.Steps.{kept_pair_at_index, ThreadChangesOnlyTheseBlocks}
 use Rattle.lfs_tree.proofs.CarryCreated.{ready_to}
 use Rattle.lfs_tree.proofs.LeftAlone.{contains_among, holds_slot}
-use Rattle.lfs_tree.specs.TreeChanges.{HasFurtherCalls, IsAtRest, SurvivesTo}
-use Rattle.lfs_tree.specs.OpenContents.{bytes_held}
-use Rattle.lfs_tree.specs.Stores.{CanCommit, CanPutContents, HasCommitted, IsFileFor, list_in, list_in_struct, struct_in, ChangesPairOf}
+use Rattle.lfs_tree.specs.TreeChanges.{HasFurtherDeviceCalls, CanChangeRecoveredImage, SurvivesWithOldOrNewTree}
+use Rattle.lfs_tree.specs.OpenContents.{bytes_of_writer_contents}
+use Rattle.lfs_tree.specs.Stores.{CanCommitContentsAtPath, CanPutFinishedContentsInSlot, HasCommittedBytesOfFile, IsFileSlotAtPath, stored_list_of_finished_contents, stored_list_in_struct, struct_of_finished_contents, ChangesOnlyPairOfPath}
 use Rattle.lfs_tree.specs.declared.contents_at.FileSlot.{FileSlot}
 use Rattle.lfs_lookup.proofs.AtPaths.{SizedLists}
 use Rattle.lfs_tree.proofs.Carried.{pair_blocks, with_history}
@@ -53,83 +53,83 @@ use Rattle.lfs_tree.proofs.CarryEdited.{can_edit, slot_below}
 use Rattle.lfs_tree.proofs.CarrySurvives.{survives_behind}
 use Rattle.lfs_tree.proofs.CommitContents.{base_before, base_now, blocks_before_is, blocks_now_is, can_read, coming_apart, coming_taken, distinct_list, flying_in, list_apart, list_there, list_used, may_come, over_read, room_there}
 use Rattle.lfs_tree.proofs.OpenedFiles.{no_flight, not_free}
-use Rattle.lfs_writer.specs.declared.contents.Contents.{Contents}
+use Rattle.lfs_writer.specs.declared.contents.WriterContents.{WriterContents}
 
 -- ---- the slot gets them
 
-module _ (t : Kept) (path : Path) (u : Slot) (ok : IsAccepted t.disk t.pairs) (used : AreUsed t.map (used_blocks t.disk t.pairs)) (at : slot_of_path t.pairs path ≡ Some u) (sized : SizedLists t.disk)
-    (c : Contents) (can : CanCommit t path c) (pair : ℕ) (below : pair < length t.pairs) (new : Kept) (w : WritesIn t pair new) (above : Path) (name : Name) (come : CanReplaceStruct t (bytes_held t c) u.struct (struct_in c))
-    (is : IsStructSet t new above name (bytes_held t c) come.gone come.come) where
+module _ (t : Kept) (path : Path) (u : Slot) (ok : IsAcceptedImage t.disk t.pairs) (used : AreExactlyTheUsedBlocks t.map (used_blocks t.disk t.pairs)) (at : slot_of_path t.pairs path ≡ Some u) (sized : SizedLists t.disk)
+    (c : WriterContents) (can : CanCommitContentsAtPath t path c) (pair : ℕ) (below : pair < length t.pairs) (new : Kept) (w : WritesPairAndTwoFreeBlocks t pair new) (above : Path) (name : Name) (come : CanReplaceFileStruct t (bytes_of_writer_contents t c) u.struct (struct_of_finished_contents c))
+    (is : HasStoredContentsOfFile t new above name (bytes_of_writer_contents t c) come.gone come.come) where
   -- a block that isn't free and no pair's isn't written
-  untouched : (b : ℕ) → (IsFree t.map b → ⊥) → count b (blocks_of t.pairs) ≡ 0 → block_at new.disk b ≡ block_at t.disk b
+  untouched : (b : ℕ) → (IsFree t.map b → ⊥) → count b (blocks_of_pairs t.pairs) ≡ 0 → block_bytes_on_disk new.disk b ≡ block_bytes_on_disk t.disk b
   untouched b taken none =
       let k = pair_blocks t.pairs pair below in
-      let off : (x : ℕ) → Contains (blocks_of t.pairs) x → x ≢ b = λ x has e. (let some = count-Contains (blocks_of t.pairs) x has in let z = ap (λ y. count y (blocks_of t.pairs)) e in absurd (omega arith)) in
+      let off : (x : ℕ) → Contains (blocks_of_pairs t.pairs) x → x ≢ b = λ x has e. (let some = count-Contains (blocks_of_pairs t.pairs) x has in let z = ap (λ y. count y (blocks_of_pairs t.pairs)) e in absurd (omega arith)) in
       w.writes.others.others b
-      (All-from_recursion (λ x. x ≢ b) ((pair_in t pair).at.0 ∷ (pair_in t pair).at.1 ∷ w.fresh)
-      (off (pair_in t pair).at.0 k.0, (off (pair_in t pair).at.1 k.1, each_weaker (IsFree t.map) (λ x. x ≢ b) (λ x f e. taken (subst (IsFree t.map) e f)) w.fresh w.free)))
+      (All-from_recursion (λ x. x ≢ b) ((kept_pair_at_index t pair).at.0 ∷ (kept_pair_at_index t pair).at.1 ∷ w.fresh)
+      (off (kept_pair_at_index t pair).at.0 k.0, (off (kept_pair_at_index t pair).at.1 k.1, each_weaker (IsFree t.map) (λ x. x ≢ b) (λ x f e. taken (subst (IsFree t.map) e f)) w.fresh w.free)))
 
   geometry : SameGeometry t.disk new.disk
   geometry = record { block_size = w.writes.shape.block_size; page = w.writes.shape.page; order = w.writes.shape.order; count = w.writes.shape.count }
 
-  was_taken : (b : ℕ) → 1 ≤ count b (file_blocks t.disk u.struct) → IsFree t.map b → ⊥
+  was_taken : (b : ℕ) → 1 ≤ count b (skip_list_blocks_of_struct t.disk u.struct) → IsFree t.map b → ⊥
   was_taken b some = not_free t.map b (list_used t path u ok used at sized b some)
 
-  now_taken : (b : ℕ) → 1 ≤ count b (file_blocks t.disk (struct_in c)) → IsFree t.map b → ⊥
+  now_taken : (b : ℕ) → 1 ≤ count b (skip_list_blocks_of_struct t.disk (struct_of_finished_contents c)) → IsFree t.map b → ⊥
   now_taken b some = coming_taken t path u ok used at sized c can.over can.finished b some
 
   was_same : HasSameFile t.disk new.disk u.struct
-  was_same = each_from_counted (λ b. block_at new.disk b ≡ block_at t.disk b) (file_blocks t.disk u.struct) (λ b some. untouched b (was_taken b some) (list_apart t path u ok used at sized b some))
+  was_same = each_from_counted (λ b. block_bytes_on_disk new.disk b ≡ block_bytes_on_disk t.disk b) (skip_list_blocks_of_struct t.disk u.struct) (λ b some. untouched b (was_taken b some) (list_apart t path u ok used at sized b some))
 
-  now_same : HasSameFile t.disk new.disk (struct_in c)
-  now_same = each_from_counted (λ b. block_at new.disk b ≡ block_at t.disk b) (file_blocks t.disk (struct_in c))
+  now_same : HasSameFile t.disk new.disk (struct_of_finished_contents c)
+  now_same = each_from_counted (λ b. block_bytes_on_disk new.disk b ≡ block_bytes_on_disk t.disk b) (skip_list_blocks_of_struct t.disk (struct_of_finished_contents c))
       (λ b some. untouched b (now_taken b some) (coming_apart t path u ok used at sized c can.over can.finished b some))
 
-  before_is : blocks_in_list new (list_in_struct u.struct) ≡ file_blocks t.disk u.struct
+  before_is : blocks_of_list_on_thread new (stored_list_in_struct u.struct) ≡ skip_list_blocks_of_struct t.disk u.struct
   before_is = blocks_before_is new u.struct ∙ file_blocks_same t.disk new.disk u.struct geometry was_same
 
-  now_is : blocks_in_list new (list_in c) ≡ file_blocks t.disk (struct_in c)
-  now_is = blocks_now_is new c ∙ file_blocks_same t.disk new.disk (struct_in c) geometry now_same
+  now_is : blocks_of_list_on_thread new (stored_list_of_finished_contents c) ≡ skip_list_blocks_of_struct t.disk (struct_of_finished_contents c)
+  now_is = blocks_now_is new c ∙ file_blocks_same t.disk new.disk (struct_of_finished_contents c) geometry now_same
 
   -- no block of the pairs is in either list
-  lists_apart : (b : ℕ) → Contains (blocks_of new.pairs) b → ¬ (Contains (blocks_in_list new (list_in_struct u.struct) ++ blocks_in_list new (list_in c)) b)
+  lists_apart : (b : ℕ) → Contains (blocks_of_pairs new.pairs) b → ¬ (Contains (blocks_of_list_on_thread new (stored_list_in_struct u.struct) ++ blocks_of_list_on_thread new (stored_list_of_finished_contents c)) b)
   lists_apart b has both =
-      let some = count-Contains (blocks_in_list new (list_in_struct u.struct) ++ blocks_in_list new (list_in c)) b both in
-      let e = count_append b (blocks_in_list new (list_in_struct u.struct)) (blocks_in_list new (list_in c)) in
+      let some = count-Contains (blocks_of_list_on_thread new (stored_list_in_struct u.struct) ++ blocks_of_list_on_thread new (stored_list_of_finished_contents c)) b both in
+      let e = count_append b (blocks_of_list_on_thread new (stored_list_in_struct u.struct)) (blocks_of_list_on_thread new (stored_list_of_finished_contents c)) in
       let f = ap (count b) before_is in
       let g = ap (count b) now_is in
       ⊎_elim
-      (λ none. let k : 1 ≤ count b (file_blocks t.disk (struct_in c)) = omega arith in
-      ⊎_elim (λ was. absurd (let n = coming_apart t path u ok used at sized c can.over can.finished b k in let m = count-Contains (blocks_of t.pairs) b was in omega arith))
+      (λ none. let k : 1 ≤ count b (skip_list_blocks_of_struct t.disk (struct_of_finished_contents c)) = omega arith in
+      ⊎_elim (λ was. absurd (let n = coming_apart t path u ok used at sized c can.over can.finished b k in let m = count-Contains (blocks_of_pairs t.pairs) b was in omega arith))
       (λ free. absurd (now_taken b k free)) (is.places b has))
-      (λ k. ⊎_elim (λ was. absurd (let n = list_apart t path u ok used at sized b k in let m = count-Contains (blocks_of t.pairs) b was in omega arith))
+      (λ k. ⊎_elim (λ was. absurd (let n = list_apart t path u ok used at sized b k in let m = count-Contains (blocks_of_pairs t.pairs) b was in omega arith))
       (λ free. absurd (was_taken b k free)) (is.places b has))
-      (none_or_some (count b (file_blocks t.disk u.struct)))
+      (none_or_some (count b (skip_list_blocks_of_struct t.disk u.struct)))
 
-  pub can_settle : CanSettle new (list_in_struct u.struct) (list_in c)
+  pub can_settle : CanSettleStoredList new (stored_list_in_struct u.struct) (stored_list_of_finished_contents c)
   can_settle = record {
     was = base_before new.disk u.struct (is_list_same t.disk new.disk u.struct geometry was_same (list_there t path u ok used at sized));
-    list = base_now new.disk c (is_list_same t.disk new.disk (struct_in c) geometry now_same come.list);
+    list = base_now new.disk c (is_list_same t.disk new.disk (struct_of_finished_contents c) geometry now_same come.list);
     size = is.now.ready.size;
     apart = lists_apart;
     shared = record {
       used = λ b has _.
-          let some = count-Contains (blocks_in_list new (list_in_struct u.struct)) b has in
+          let some = count-Contains (blocks_of_list_on_thread new (stored_list_in_struct u.struct)) b has in
           let f = ap (count b) before_is in
-          let was : 1 ≤ count b (file_blocks t.disk u.struct) = omega arith in
+          let was : 1 ≤ count b (skip_list_blocks_of_struct t.disk u.struct) = omega arith in
           is.now.stays b (was_taken b was) ∙ list_used t path u ok used at sized b was;
     };
   }
 
   -- ---- the lists are settled
 
-  lists_are : (b : ℕ) → count b (blocks_in_list new (list_in c)) + count b come.gone ≡ count b come.come + count b (blocks_in_list new (list_in_struct u.struct))
+  lists_are : (b : ℕ) → count b (blocks_of_list_on_thread new (stored_list_of_finished_contents c)) + count b come.gone ≡ count b come.come + count b (blocks_of_list_on_thread new (stored_list_in_struct u.struct))
   lists_are b = let e = come.blocks b in let f = ap (count b) before_is in let g = ap (count b) now_is in omega arith
 
   -- the image names the list that came
-  list_within : (b : ℕ) → Contains (blocks_in_list new (list_in c)) b → Contains (used_blocks new.disk new.pairs) b
+  list_within : (b : ℕ) → Contains (blocks_of_list_on_thread new (stored_list_of_finished_contents c)) b → Contains (used_blocks new.disk new.pairs) b
   list_within b has =
-      let some = count-Contains (blocks_in_list new (list_in c)) b has in
+      let some = count-Contains (blocks_of_list_on_thread new (stored_list_of_finished_contents c)) b has in
       let s = is.now.ready.used.same b in
       let l = lists_are b in
       let f = ap (count b) before_is in
@@ -138,83 +138,83 @@ module _ (t : Kept) (path : Path) (u : Slot) (ok : IsAccepted t.disk t.pairs) (u
       (λ was.
       let own = count-Contains is.now.ready.used.owned b ((is.now.ready.used.are b).0 (is.now.stays b (was_taken b was) ∙ list_used t path u ok used at sized b was)) in
       let o = is.once b in
-      let once = once_from_distinct (file_blocks t.disk u.struct) (distinct_list t.disk u.struct (list_there t path u ok used at sized)) b in
+      let once = once_from_distinct (skip_list_blocks_of_struct t.disk u.struct) (distinct_list t.disk u.struct (list_there t path u ok used at sized)) b in
       omega arith)
-      (none_or_some (count b (file_blocks t.disk u.struct))))
+      (none_or_some (count b (skip_list_blocks_of_struct t.disk u.struct))))
 
-  module _ (later : Kept) (only : IsReadBesideMap new later) (settled : IsSettledIn new (list_in_struct u.struct) (list_in c) later) where
+  module _ (later : Kept) (only : ChangesOnlyBlockMap new later) (settled : IsStoredListSettled new (stored_list_in_struct u.struct) (stored_list_of_finished_contents c) later) where
     on : (P : Disk → List Pair → Type 0) → P new.disk new.pairs → P later.disk later.pairs
     on P p = subst (λ (d : Disk). P d later.pairs) (sym only.disk) (subst (P new.disk) (sym only.pairs) p)
 
-    used_later : AreUsed later.map (used_blocks new.disk new.pairs)
-    used_later = settled_exactly new.map later.map is.now.ready.used.owned (used_blocks new.disk new.pairs) (blocks_in_list new (list_in_struct u.struct)) (blocks_in_list new (list_in c)) come.gone come.come
+    used_later : AreExactlyTheUsedBlocks later.map (used_blocks new.disk new.pairs)
+    used_later = settled_exactly new.map later.map is.now.ready.used.owned (used_blocks new.disk new.pairs) (blocks_of_list_on_thread new (stored_list_in_struct u.struct)) (blocks_of_list_on_thread new (stored_list_of_finished_contents c)) come.gone come.come
         is.now.ready.used.are (λ b. let s = is.now.ready.used.same b in let o = is.once b in omega arith) is.now.ready.used.same lists_are list_within settled
 
     none_later : (b : ℕ) → ¬ (IsInFlight later.map b)
     none_later b flies = ⊎_elim
         (λ none. ⊎_elim
         (λ never.
-        let there = is.now.none_comes b (sym (settled.others b (not_there b (blocks_in_list new (list_in_struct u.struct)) never) (not_there b (blocks_in_list new (list_in c)) none)) ∙ flies) in
-        let some = count-Contains (file_blocks t.disk (struct_in c)) b (flying_in t path u ok used at sized c can.over can.finished b there) in
+        let there = is.now.none_comes b (sym (settled.others b (not_there b (blocks_of_list_on_thread new (stored_list_in_struct u.struct)) never) (not_there b (blocks_of_list_on_thread new (stored_list_of_finished_contents c)) none)) ∙ flies) in
+        let some = count-Contains (skip_list_blocks_of_struct t.disk (struct_of_finished_contents c)) b (flying_in t path u ok used at sized c can.over can.finished b there) in
         let g = ap (count b) now_is in
         absurd (omega arith))
-        (λ was. absurd (let k : Free ≡ InFlight = same_Some Free InFlight (sym (settled.freed b (Contains-count (blocks_in_list new (list_in_struct u.struct)) b was) (not_there b (blocks_in_list new (list_in c)) none)) ∙ flies) in cc))
-        (none_or_some (count b (blocks_in_list new (list_in_struct u.struct)))))
-        (λ some. absurd (let k : Used ≡ InFlight = same_Some Used InFlight (sym (All-contains (IsUsed later.map) (blocks_in_list new (list_in c)) b settled.used (Contains-count (blocks_in_list new (list_in c)) b some)) ∙ flies) in cc))
-        (none_or_some (count b (blocks_in_list new (list_in c))))
+        (λ was. absurd (let k : Free ≡ InFlight = same_Some Free InFlight (sym (settled.freed b (Contains-count (blocks_of_list_on_thread new (stored_list_in_struct u.struct)) b was) (not_there b (blocks_of_list_on_thread new (stored_list_of_finished_contents c)) none)) ∙ flies) in cc))
+        (none_or_some (count b (blocks_of_list_on_thread new (stored_list_in_struct u.struct)))))
+        (λ some. absurd (let k : Used ≡ InFlight = same_Some Used InFlight (sym (All-contains (IsUsed later.map) (blocks_of_list_on_thread new (stored_list_of_finished_contents c)) b settled.used (Contains-count (blocks_of_list_on_thread new (stored_list_of_finished_contents c)) b some)) ∙ flies) in cc))
+        (none_or_some (count b (blocks_of_list_on_thread new (stored_list_of_finished_contents c))))
 
-    pub committed : path ≡ above ++ name ∷ [] → ChangesPairOf t.disk t.pairs path new.disk → HasCommitted t path (bytes_held t c) later
+    pub committed : path ≡ above ++ name ∷ [] → ChangesOnlyPairOfPath t.disk t.pairs path new.disk → HasCommittedBytesOfFile t path (bytes_of_writer_contents t c) later
     committed e alone = record {
       sound = record {
-        accepted = on (λ d ps. IsAccepted d ps) is.now.ready.accepted;
+        accepted = on (λ d ps. IsAcceptedImage d ps) is.now.ready.accepted;
         fits = λ w. on (λ d ps. IsWritable d ps) is.now.ready.writable;
         is_kept = λ w. refl;
-        used = on (λ d ps. AreUsed later.map (used_blocks d ps)) used_later;
+        used = on (λ d ps. AreExactlyTheUsedBlocks later.map (used_blocks d ps)) used_later;
         size = settled.count ∙ is.now.ready.size ∙ sym (ap (λ (d : Disk). block_count d) only.disk);
       };
       fits = on (λ d ps. IsWritable d ps) is.now.ready.writable;
       settled = ap gstate_of only.pairs ∙ is.now.ready.settled;
-      root = ap superblocks_before only.pairs ∙ is.now.root;
-      shows = on (λ d ps. tree_in d ps ≡ change_at path (with_bytes (bytes_held t c)) (tree_in t.disk t.pairs)) (is.now.shows ∙ ap (λ p. change_at p (with_bytes (bytes_held t c)) (tree_in t.disk t.pairs)) (sym e));
-      synced = λ files fd writer wr. on (λ d ps. IsLaidOut t.disk t.pairs (record { tree = tree_in t.disk t.pairs; files = files }) (ops.Sync fd) d ps)
-          (is.synced (record { tree = tree_in t.disk t.pairs; files = files }) fd writer refl (wr.0, (wr.1.0, (wr.1.1.0 ∙ e, wr.1.1.1)))).laid_out;
-      closed = λ files fd writer wr. on (λ d ps. IsLaidOut t.disk t.pairs (record { tree = tree_in t.disk t.pairs; files = files }) (ops.Close fd) d ps)
-          (is.closed (record { tree = tree_in t.disk t.pairs; files = files }) fd writer refl (wr.0, (wr.1.0, (wr.1.1.0 ∙ e, wr.1.1.1)))).laid_out;
+      root = ap pair_count_before_root only.pairs ∙ is.now.root;
+      shows = on (λ d ps. tree_on_disk d ps ≡ tree_after_change_of_node path (node_with_bytes (bytes_of_writer_contents t c)) (tree_on_disk t.disk t.pairs)) (is.now.shows ∙ ap (λ p. tree_after_change_of_node p (node_with_bytes (bytes_of_writer_contents t c)) (tree_on_disk t.disk t.pairs)) (sym e));
+      synced = λ files fd writer wr. on (λ d ps. IsSlotLayoutAfterOperation t.disk t.pairs (record { tree = tree_on_disk t.disk t.pairs; files = files }) (ops.Sync fd) d ps)
+          (is.synced (record { tree = tree_on_disk t.disk t.pairs; files = files }) fd writer refl (wr.0, (wr.1.0, (wr.1.1.0 ∙ e, wr.1.1.1)))).laid_out;
+      closed = λ files fd writer wr. on (λ d ps. IsSlotLayoutAfterOperation t.disk t.pairs (record { tree = tree_on_disk t.disk t.pairs; files = files }) (ops.Close fd) d ps)
+          (is.closed (record { tree = tree_on_disk t.disk t.pairs; files = files }) fd writer refl (wr.0, (wr.1.0, (wr.1.1.0 ∙ e, wr.1.1.1)))).laid_out;
       others = λ q file apart.
-          let writer : Writer = record { path = above ++ name ∷ []; contents = bytes_held t c; position = 0; append = false; dirty = true; turned = false; last_end = None } in
-          let s : Session = record { tree = tree_in t.disk t.pairs; files = Some (Writing writer) ∷ [] } in
-          ap (λ (ps : List Pair). struct_at ps q) only.pairs ∙ (is.synced s 0 writer refl (refl, (refl, (refl, refl)))).structs q file refl (subst (λ p. same_path p q ≡ false) e apart);
-      alone = subst (λ (d : Disk). ChangesPairOf t.disk t.pairs path d) (sym only.disk) alone;
+          let writer : Writer = record { path = above ++ name ∷ []; contents = bytes_of_writer_contents t c; position = 0; append = false; dirty = true; turned = false; last_end = None } in
+          let s : Session = record { tree = tree_on_disk t.disk t.pairs; files = Some (Writing writer) ∷ [] } in
+          ap (λ (ps : List Pair). struct_of_path ps q) only.pairs ∙ (is.synced s 0 writer refl (refl, (refl, (refl, refl)))).structs q file refl (subst (λ p. same_path p q ≡ false) e apart);
+      alone = subst (λ (d : Disk). ChangesOnlyPairOfPath t.disk t.pairs path d) (sym only.disk) alone;
       none_in_flight = no_flight later.map none_later;
     }
 
-pub committed_read : (t : Kept) (h : List Event) (path : Path) (bytes : List ℕ) (later : Kept) → HasCommitted (with_history t h) path bytes later → HasCommitted t path bytes later
+pub committed_read : (t : Kept) (h : List CallEvent) (path : Path) (bytes : List ℕ) (later : Kept) → HasCommittedBytesOfFile (with_history t h) path bytes later → HasCommittedBytesOfFile t path bytes later
 committed_read t h path bytes later k =
     record { sound = k.sound; fits = k.fits; settled = k.settled; root = k.root; shows = k.shows; others = k.others; synced = k.synced; closed = k.closed; alone = k.alone; none_in_flight = k.none_in_flight }
 
 -- ---- behind calls that only read
 
-module _ (t : State) (root : ℕ) (rests : IsAtRest t root) (path : Path) (large : 1024 ≤ t.kept.disk.block_size) (bytes : HasBytes t.kept.disk.blocks) (c : Contents) (can : CanCommit t.kept path c)
-    (file : FileSlot) (slot : IsFileFor t.kept.pairs path file) (sized : SizedLists t.kept.disk) (h : List Event) where
+module _ (t : ThreadView) (root : ℕ) (rests : CanChangeRecoveredImage t root) (path : Path) (large : 1024 ≤ t.kept.disk.block_size) (bytes : HasBytes t.kept.disk.blocks) (c : WriterContents) (can : CanCommitContentsAtPath t.kept path c)
+    (file : FileSlot) (slot : IsFileSlotAtPath t.kept.pairs path file) (sized : SizedLists t.kept.disk) (h : List CallEvent) where
   abbrev u : Slot
   u = slot.slot.stands.stands.stands.slot
 
-  abbrev ok : IsAccepted t.kept.disk t.kept.pairs
+  abbrev ok : IsAcceptedImage t.kept.disk t.kept.pairs
   ok = rests.held.sound.accepted
 
-  abbrev used : AreUsed t.kept.map (used_blocks t.kept.disk t.kept.pairs)
+  abbrev used : AreExactlyTheUsedBlocks t.kept.map (used_blocks t.kept.disk t.kept.pairs)
   used = rests.held.sound.used
 
   at : slot_of_path t.kept.pairs path ≡ Some slot.slot.stands.stands.stands.slot
   at = ap (slot_of_path t.kept.pairs) slot.slot.is ∙ slot.slot.stands.slot
 
-  come : CanReplaceStruct (with_history t.kept h) (bytes_held (with_history t.kept h) c) slot.slot.stands.stands.stands.slot.struct (struct_in c)
+  come : CanReplaceFileStruct (with_history t.kept h) (bytes_of_writer_contents (with_history t.kept h) c) slot.slot.stands.stands.stands.slot.struct (struct_of_finished_contents c)
   come = may_come (with_history t.kept h) path u ok used at sized c (over_read t.kept h path c can.over) can.finished
 
   below : file.spot.pair < length t.kept.pairs
   below = slot_below t root rests path large bytes file.spot slot.slot h
 
-  pub can_put : CanPutContents (with_history t.kept h) file.spot c
+  pub can_put : CanPutFinishedContentsInSlot (with_history t.kept h) file.spot c
   unfolding can_edit
   can_put = record {
     can = can_edit t root rests path large bytes file.spot slot.slot h;
@@ -225,66 +225,66 @@ module _ (t : State) (root : ℕ) (rests : IsAtRest t root) (path : Path) (large
     room = room_there (with_history t.kept h) path u ok used at sized c (can_read t.kept h path c can);
   }
 
-  module _ (new : Kept) (w : WritesIn (with_history t.kept h) file.spot.pair new)
-      (gives : (put : CanPutContents (with_history t.kept h) file.spot c)
-      → IsStructSet (with_history t.kept h) new put.can.path put.can.name (bytes_held (with_history t.kept h) c) put.come.gone put.come.come) where
-    is : IsStructSet (with_history t.kept h) new slot.slot.above slot.slot.name (bytes_held (with_history t.kept h) c) come.gone come.come
+  module _ (new : Kept) (w : WritesPairAndTwoFreeBlocks (with_history t.kept h) file.spot.pair new)
+      (gives : (put : CanPutFinishedContentsInSlot (with_history t.kept h) file.spot c)
+      → HasStoredContentsOfFile (with_history t.kept h) new put.can.path put.can.name (bytes_of_writer_contents (with_history t.kept h) c) put.come.gone put.come.come) where
+    is : HasStoredContentsOfFile (with_history t.kept h) new slot.slot.above slot.slot.name (bytes_of_writer_contents (with_history t.kept h) c) come.gone come.come
     unfolding can_put can_edit
     is = gives can_put
 
-    pub settles : CanSettle new file.list (list_in c)
-    settles = subst (λ l. CanSettle new l (list_in c)) (sym slot.list)
+    pub settles : CanSettleStoredList new file.list (stored_list_of_finished_contents c)
+    settles = subst (λ l. CanSettleStoredList new l (stored_list_of_finished_contents c)) (sym slot.list)
         (can_settle (with_history t.kept h) path u ok used at sized c (can_read t.kept h path c can) file.spot.pair below new w slot.slot.above slot.slot.name come is)
 
     -- the pair of the slot is written, and blocks that were free
-    changes : ChangesPairOf t.kept.disk t.kept.pairs path new.disk
+    changes : ChangesOnlyPairOfPath t.kept.disk t.kept.pairs path new.disk
     changes =
         let s = slot.slot.stands.stands in
         let place = s.place in
-        let is : pair_in t.kept file.spot.pair ≡ s.pair = here (with_history t.kept h) (ready_to t root h rests large) slot.slot.first file.spot.pair s.pair s.rest s.place in
-        let writes = subst (λ (z : Pair). Writes (z.at.0 ∷ z.at.1 ∷ w.fresh) (with_history t.kept h) new) is w.writes in
+        let is : kept_pair_at_index t.kept file.spot.pair ≡ s.pair = here (with_history t.kept h) (ready_to t root h rests large) slot.slot.first file.spot.pair s.pair s.rest s.place in
+        let writes = subst (λ (z : Pair). ThreadChangesOnlyTheseBlocks (z.at.0 ∷ z.at.1 ∷ w.fresh) (with_history t.kept h) new) is w.writes in
         record {
           pair = s.pair;
           there = contains_among s.pair t.kept.pairs (subst (SomeIn (λ y. y ≡ s.pair)) (sym place.parts)
               (among_right (λ y. y ≡ s.pair) place.front (place.left ++ s.pair ∷ s.rest) (among_right (λ y. y ≡ s.pair) place.left (s.pair ∷ s.rest) (inl refl))));
-          holds = subst (HoldsSlot t.kept.pairs s.pair) (sym slot.slot.is)
+          holds = subst (IsPairWithSlotOfPath t.kept.pairs s.pair) (sym slot.slot.is)
               (holds_slot t.kept.pairs slot.slot.above slot.slot.stands.on.at slot.slot.first slot.slot.name file.spot.pair file.spot.id ok.thread.distinct slot.slot.stands.on.leads slot.slot.stands.on.begins s);
           others = λ b has first second. writes.others.others b (All-from_recursion (λ x. x ≢ b) (s.pair.at.0 ∷ s.pair.at.1 ∷ w.fresh)
               ((λ e. first (sym e)), ((λ e. second (sym e)), each_weaker (IsFree t.kept.map) (λ x. x ≢ b) (λ x f e. not_free t.kept.map b ((used b).1 has) (subst (IsFree t.kept.map) e f)) w.fresh w.free)));
         }
 
-    module _ (later : Kept) (only : IsReadBesideMap new later) where
-      pub commits : IsSettledIn new file.list (list_in c) later → HasCommitted t.kept path (bytes_held t.kept c) later
-      commits settled = committed_read t.kept h path (bytes_held t.kept c) later
+    module _ (later : Kept) (only : ChangesOnlyBlockMap new later) where
+      pub commits : IsStoredListSettled new file.list (stored_list_of_finished_contents c) later → HasCommittedBytesOfFile t.kept path (bytes_of_writer_contents t.kept c) later
+      commits settled = committed_read t.kept h path (bytes_of_writer_contents t.kept c) later
           (committed (with_history t.kept h) path u ok used at sized c (can_read t.kept h path c can) file.spot.pair below new w slot.slot.above slot.slot.name come is later only
-          (subst (λ l. IsSettledIn new l (list_in c) later) slot.list settled) slot.slot.is changes)
+          (subst (λ l. IsStoredListSettled new l (stored_list_of_finished_contents c) later) slot.list settled) slot.slot.is changes)
 
       -- the calls that settle only read
-      pub survives_settled : OnlyReads t.kept.disk.blocks t.kept.history h → SurvivesTo t.kept new (change_at path (with_bytes (bytes_held t.kept c)) (tree_in t.kept.disk t.kept.pairs))
-          → SurvivesTo t.kept later (change_at path (with_bytes (bytes_held t.kept c)) (tree_in t.kept.disk t.kept.pairs))
+      pub survives_settled : AreCallsSinceOnlyReads t.kept.disk.blocks t.kept.history h → SurvivesWithOldOrNewTree t.kept new (tree_after_change_of_node path (node_with_bytes (bytes_of_writer_contents t.kept c)) (tree_on_disk t.kept.disk t.kept.pairs))
+          → SurvivesWithOldOrNewTree t.kept later (tree_after_change_of_node path (node_with_bytes (bytes_of_writer_contents t.kept c)) (tree_on_disk t.kept.disk t.kept.pairs))
       survives_settled reads k =
-          let after = change_at path (with_bytes (bytes_held t.kept c)) (tree_in t.kept.disk t.kept.pairs) in
+          let after = tree_after_change_of_node path (node_with_bytes (bytes_of_writer_contents t.kept c)) (tree_on_disk t.kept.disk t.kept.pairs) in
           let disk_is : new.disk ≡ with_blocks new.disk.blocks t.kept.disk = λ i. record { block_size = w.writes.shape.block_size i; page = w.writes.shape.page i; order = w.writes.shape.order i; blocks = new.disk.blocks } in
-          let first : LeavesOnly Stops t.kept.history new.history (λ d. Unit {0}) = LeavesOnly-trans (LeavesOnly-reads Stops-read reads tt) (LeavesOnly-weaker (λ d p. tt) (LeavesOnly-worst w.writes.at_worst)) in
-          survives_then t.kept.disk t.kept.history new.history later.history (tree_in t.kept.disk t.kept.pairs) after first only.reads k
-          (λ clean. LeavesOnly-reads Stops-read only.reads
-          (subst (λ (d : Disk). IsLeftByStop d (tree_in t.kept.disk t.kept.pairs) (change_at path (with_bytes (bytes_held t.kept c)) (tree_in t.kept.disk t.kept.pairs))) disk_is
+          let first : IsTrueAfterEachStopSince IsLeftByStopIn t.kept.history new.history (λ d. Unit {0}) = IsTrueAfterEachStopSince-trans (IsTrueAfterEachStopSince-reads IsLeftByStopIn-read reads tt) (IsTrueAfterEachStopSince-weaker (λ d p. tt) (IsTrueAfterEachStopSince-worst w.writes.at_worst)) in
+          survives_then t.kept.disk t.kept.history new.history later.history (tree_on_disk t.kept.disk t.kept.pairs) after first only.reads k
+          (λ clean. IsTrueAfterEachStopSince-reads IsLeftByStopIn-read only.reads
+          (subst (λ (d : Disk). ShowsTreeBeforeOrAfter d (tree_on_disk t.kept.disk t.kept.pairs) (tree_after_change_of_node path (node_with_bytes (bytes_of_writer_contents t.kept c)) (tree_on_disk t.kept.disk t.kept.pairs))) disk_is
           (record {
             pairs = new.pairs;
             accepted = is.now.ready.accepted;
             writable = is.now.ready.writable;
-            tree = inr (is.now.shows ∙ ap (λ p. change_at p (with_bytes (bytes_held t.kept c)) (tree_in t.kept.disk t.kept.pairs)) (sym slot.slot.is));
+            tree = inr (is.now.shows ∙ ap (λ p. tree_after_change_of_node p (node_with_bytes (bytes_of_writer_contents t.kept c)) (tree_on_disk t.kept.disk t.kept.pairs)) (sym slot.slot.is));
           })))
 
-  pub survives_put : (new : Kept) (w : WritesIn (with_history t.kept h) file.spot.pair new) → OnlyReads t.kept.disk.blocks t.kept.history h
-      → ((put : CanPutContents (with_history t.kept h) file.spot c) → SurvivesTo (with_history t.kept h) new (with_contents_at (with_history t.kept h) put.can.path put.can.name (bytes_held (with_history t.kept h) c)))
-      → SurvivesTo t.kept new (change_at path (with_bytes (bytes_held t.kept c)) (tree_in t.kept.disk t.kept.pairs))
+  pub survives_put : (new : Kept) (w : WritesPairAndTwoFreeBlocks (with_history t.kept h) file.spot.pair new) → AreCallsSinceOnlyReads t.kept.disk.blocks t.kept.history h
+      → ((put : CanPutFinishedContentsInSlot (with_history t.kept h) file.spot c) → SurvivesWithOldOrNewTree (with_history t.kept h) new (tree_with_contents_at (with_history t.kept h) put.can.path put.can.name (bytes_of_writer_contents (with_history t.kept h) c)))
+      → SurvivesWithOldOrNewTree t.kept new (tree_after_change_of_node path (node_with_bytes (bytes_of_writer_contents t.kept c)) (tree_on_disk t.kept.disk t.kept.pairs))
   unfolding can_put can_edit
   survives_put new w reads gives =
-      subst (λ p. SurvivesTo t.kept new (change_at p (with_bytes (bytes_held t.kept c)) (tree_in t.kept.disk t.kept.pairs))) (sym slot.slot.is)
-      (survives_behind t root rests h new _ (with_contents_at t.kept slot.slot.above slot.slot.name (bytes_held t.kept c)) reads w.writes (gives can_put))
+      subst (λ p. SurvivesWithOldOrNewTree t.kept new (tree_after_change_of_node p (node_with_bytes (bytes_of_writer_contents t.kept c)) (tree_on_disk t.kept.disk t.kept.pairs))) (sym slot.slot.is)
+      (survives_behind t root rests h new _ (tree_with_contents_at t.kept slot.slot.above slot.slot.name (bytes_of_writer_contents t.kept c)) reads w.writes (gives can_put))
 
-pub called_beside : (a b c : Kept) → HasFurtherCalls a b → IsReadBesideMap b c → HasFurtherCalls a c
+pub called_beside : (a b c : Kept) → HasFurtherDeviceCalls a b → ChangesOnlyBlockMap b c → HasFurtherDeviceCalls a c
 called_beside a b c k r = record {
   geometry = subst (λ (d : Disk). SameGeometry a.disk d) (sym r.disk) k.geometry;
   calls = r.reads.events ++ k.calls;

@@ -3,113 +3,113 @@ use Rattle.std.proofs.Common.{ℕ, ◌≡◌, ◌≤◌, ◌<◌, ◌⊎◌, inl
 use Rattle.std.specs.Prelude.{Any, Contains}
 use Rattle.std.proofs.lemmas.Bool.{cases_lt}
 use Rattle.lfs_model.specs.BlockSets.{IsFree}
-use Rattle.lfs_model.specs.Frame.{HoldsSlot, LeavesAlone}
-use Rattle.lfs_model.specs.InDirectory.{HasNameAtPlace}
+use Rattle.lfs_model.specs.Frame.{IsPairWithSlotOfPath, LeavesUnrelatedBlocksUnchanged}
+use Rattle.lfs_model.specs.InDirectory.{IsPlaceOfNameInDirectory}
 use Rattle.lfs_model.specs.Names.{Name}
 use Rattle.lfs_model.specs.Operations as ops
-use Rattle.lfs_model.specs.Refusals.{as_path}
+use Rattle.lfs_model.specs.Refusals.{path_or_root}
 use Rattle.lfs_model.specs.Session.{Session}
 use Rattle.lfs_model.specs.Thread.{Pair}
 use Rattle.lfs_model.specs.Tree.{Path}
 use Rattle.lfs_model.proofs.BlockSets.{Contains-count, count-Contains}
 use Rattle.lfs_model.proofs.Counts.{count, count_append, each_weaker}
 use Rattle.lfs_operations.proofs.Held.{here}
-use Rattle.lfs_operations.specs.Altering.{AltersBut, IsAltered}
-use Rattle.lfs_operations.specs.Changing.{WritesIn}
-use Rattle.lfs_thread.specs.Device.{four_of, two_of}
+use Rattle.lfs_operations.specs.Altering.{ChangesOnlyGivenAlteredOrFreeBlocks, IsBlockOfAlteredPair}
+use Rattle.lfs_operations.specs.Changing.{WritesPairAndTwoFreeBlocks}
+use Rattle.lfs_thread.specs.Device.{blocks_of_two_addresses, blocks_of_address}
 use Rattle.lfs_thread.specs.Kept.{Kept}
-use Rattle.lfs_thread.specs.Steps.{pair_in}
-use Rattle.lfs_tree.specs.Moves.{CanMoveEntry, SparesOthersInMove}
-use Rattle.lfs_tree.specs.declared.renames_at.Source.{Source}
+use Rattle.lfs_thread.specs.Steps.{kept_pair_at_index}
+use Rattle.lfs_tree.specs.Moves.{CanMoveEntry, SparesOtherBlocksInRename}
+use Rattle.lfs_tree.specs.declared.renames_at.RenameSource.{RenameSource}
 use Rattle.lfs_lookup.specs.declared.search.Spot.{Spot}
 use Rattle.lfs_tree.proofs.Carried.{behind_below}
 use Rattle.lfs_tree.proofs.LeftAlone.{IsConcerned, IsConcernedOrFree, concerned_alone, first_owned, holds_slot, pair_there, second_owned}
 
 -- a block is one of two pairs'
-one_of_four : (a c : ℕ × ℕ) (b : ℕ) → Contains (four_of a c) b → Contains (two_of a) b ⊎ Contains (two_of c) b
-one_of_four a c b h = go (cases_lt 0 (count b (two_of a)))
+one_of_four : (a c : ℕ × ℕ) (b : ℕ) → Contains (blocks_of_two_addresses a c) b → Contains (blocks_of_address a) b ⊎ Contains (blocks_of_address c) b
+one_of_four a c b h = go (cases_lt 0 (count b (blocks_of_address a)))
   where
-    go : (0 < count b (two_of a)) ⊎ (count b (two_of a) ≤ 0) → Contains (two_of a) b ⊎ Contains (two_of c) b
-    go (inl l) = inl (Contains-count (two_of a) b l)
-    go (inr l) = inr (Contains-count (two_of c) b (let k = count-Contains (four_of a c) b h in let e = count_append b (two_of a) (two_of c) in omega (arith, l, k, e)))
+    go : (0 < count b (blocks_of_address a)) ⊎ (count b (blocks_of_address a) ≤ 0) → Contains (blocks_of_address a) b ⊎ Contains (blocks_of_address c) b
+    go (inl l) = inl (Contains-count (blocks_of_address a) b l)
+    go (inr l) = inr (Contains-count (blocks_of_address c) b (let k = count-Contains (blocks_of_two_addresses a c) b h in let e = count_append b (blocks_of_address a) (blocks_of_address c) in omega (arith, l, k, e)))
 
-module _ (t new : Kept) (from to : Path) (source : Source) (name : Name) (can : CanMoveEntry t from to source name) (s : Session) (given to_given : List ℕ) (e : as_path given ≡ from) (f : as_path to_given ≡ to) where
+module _ (t new : Kept) (from to : Path) (source : RenameSource) (name : Name) (can : CanMoveEntry t from to source name) (s : Session) (given to_given : List ℕ) (e : path_or_root given ≡ from) (f : path_or_root to_given ≡ to) where
   abbrev Concerned : ℕ → Type 0
-  Concerned b = IsConcerned t.pairs (as_path given ∷ as_path to_given ∷ []) new.pairs b
+  Concerned b = IsConcerned t.pairs (path_or_root given ∷ path_or_root to_given ∷ []) new.pairs b
 
   -- the pairs of the two slots
 
   abbrev Holds : Pair → Type 0
-  Holds p = Any (HoldsSlot t.pairs p) (as_path given ∷ as_path to_given ∷ [])
+  Holds p = Any (IsPairWithSlotOfPath t.pairs p) (path_or_root given ∷ path_or_root to_given ∷ [])
 
-  source_holds : Holds (pair_in t source.slot.pair)
+  source_holds : Holds (kept_pair_at_index t source.slot.pair)
   source_holds =
       let there = can.old.stands in
       subst Holds (sym (here t can.old.ready can.old.first source.slot.pair there.pair there.rest there.place)) (
         0,
-        as_path given,
+        path_or_root given,
         omega arith,
         refl,
-        subst (HoldsSlot t.pairs there.pair) (sym (e ∙ can.old_is))
+        subst (IsPairWithSlotOfPath t.pairs there.pair) (sym (e ∙ can.old_is))
             (holds_slot t.pairs can.old.path can.old.at can.old.first can.old.name source.slot.pair source.slot.id can.old.ready.accepted.thread.distinct can.old.leads can.old.begins there),
       )
 
-  target_holds : (slot : Spot) → HasNameAtPlace t.pairs can.first name slot.pair slot.id → Holds (pair_in t slot.pair)
+  target_holds : (slot : Spot) → IsPlaceOfNameInDirectory t.pairs can.first name slot.pair slot.id → Holds (kept_pair_at_index t slot.pair)
   target_holds slot there =
       subst Holds (sym (here t can.old.ready can.first slot.pair there.pair there.rest there.place)) (
         1,
-        as_path to_given,
+        path_or_root to_given,
         omega arith,
         refl,
-        subst (HoldsSlot t.pairs there.pair) (sym (f ∙ can.is))
+        subst (IsPairWithSlotOfPath t.pairs there.pair) (sym (f ∙ can.is))
             (holds_slot t.pairs can.above can.on.at can.first name slot.pair slot.id can.old.ready.accepted.thread.distinct can.on.leads can.on.begins there),
       )
 
-  concerned : (index : ℕ) → index < length t.pairs → Holds (pair_in t index) → (b : ℕ) → Contains (two_of (pair_in t index).at) b → Concerned b
-  concerned index low holds b own = record { pair = pair_in t index; there = pair_there t.pairs index low; own = count-Contains (two_of (pair_in t index).at) b own; why = inl holds }
+  concerned : (index : ℕ) → index < length t.pairs → Holds (kept_pair_at_index t index) → (b : ℕ) → Contains (blocks_of_address (kept_pair_at_index t index).at) b → Concerned b
+  concerned index low holds b own = record { pair = kept_pair_at_index t index; there = pair_there t.pairs index low; own = count-Contains (blocks_of_address (kept_pair_at_index t index).at) b own; why = inl holds }
 
-  source_concerned : (b : ℕ) → Contains (two_of (pair_in t source.slot.pair).at) b → Concerned b
+  source_concerned : (b : ℕ) → Contains (blocks_of_address (kept_pair_at_index t source.slot.pair).at) b → Concerned b
   source_concerned = concerned source.slot.pair (behind_below t.pairs can.old.first source.slot.pair can.old.stands.pair can.old.stands.rest can.old.stands.place) source_holds
 
-  target_concerned : (slot : Spot) → HasNameAtPlace t.pairs can.first name slot.pair slot.id → (b : ℕ) → Contains (two_of (pair_in t slot.pair).at) b → Concerned b
+  target_concerned : (slot : Spot) → IsPlaceOfNameInDirectory t.pairs can.first name slot.pair slot.id → (b : ℕ) → Contains (blocks_of_address (kept_pair_at_index t slot.pair).at) b → Concerned b
   target_concerned slot there = concerned slot.pair (behind_below t.pairs can.first slot.pair there.pair there.rest there.place) (target_holds slot there)
 
   -- the source's pair alone is written
-  within_alone : WritesIn t source.slot.pair new → LeavesAlone t.disk t.pairs s (ops.Rename given to_given) new.disk new.pairs
+  within_alone : WritesPairAndTwoFreeBlocks t source.slot.pair new → LeavesUnrelatedBlocksUnchanged t.disk t.pairs s (ops.Rename given to_given) new.disk new.pairs
   within_alone w =
-      let p = pair_in t source.slot.pair in
+      let p = kept_pair_at_index t source.slot.pair in
       concerned_alone t new s (ops.Rename given to_given) (p.at.0 ∷ p.at.1 ∷ w.fresh) can.old.ready.accepted can.old.ready.used (
-        inl (source_concerned p.at.0 (Contains-count (two_of p.at) p.at.0 (first_owned p))),
-        (inl (source_concerned p.at.1 (Contains-count (two_of p.at) p.at.1 (second_owned p))), each_weaker (IsFree t.map) (IsConcernedOrFree t (as_path given ∷ as_path to_given ∷ []) new.pairs) (λ b free. inr free) w.fresh w.free),
+        inl (source_concerned p.at.0 (Contains-count (blocks_of_address p.at) p.at.0 (first_owned p))),
+        (inl (source_concerned p.at.1 (Contains-count (blocks_of_address p.at) p.at.1 (second_owned p))), each_weaker (IsFree t.map) (IsConcernedOrFree t (path_or_root given ∷ path_or_root to_given ∷ []) new.pairs) (λ b free. inr free) w.fresh w.free),
       )
       w.writes
 
   -- pairs that don't stay are written beside the two
-  rest_alone : (bs : List ℕ) → ((b : ℕ) → Contains bs b → Concerned b) → AltersBut t bs new → LeavesAlone t.disk t.pairs s (ops.Rename given to_given) new.disk new.pairs
+  rest_alone : (bs : List ℕ) → ((b : ℕ) → Contains bs b → Concerned b) → ChangesOnlyGivenAlteredOrFreeBlocks t bs new → LeavesUnrelatedBlocksUnchanged t.disk t.pairs s (ops.Rename given to_given) new.disk new.pairs
   rest_alone bs known w = concerned_alone t new s (ops.Rename given to_given) w.blocks can.old.ready.accepted can.old.ready.used
-      (each_weaker (λ b. Contains bs b ⊎ (IsAltered t new b ⊎ IsFree t.map b)) (IsConcernedOrFree t (as_path given ∷ as_path to_given ∷ []) new.pairs) each w.blocks w.each) w.writes
+      (each_weaker (λ b. Contains bs b ⊎ (IsBlockOfAlteredPair t new b ⊎ IsFree t.map b)) (IsConcernedOrFree t (path_or_root given ∷ path_or_root to_given ∷ []) new.pairs) each w.blocks w.each) w.writes
     where
-      each : (b : ℕ) → Contains bs b ⊎ (IsAltered t new b ⊎ IsFree t.map b) → IsConcernedOrFree t (as_path given ∷ as_path to_given ∷ []) new.pairs b
+      each : (b : ℕ) → Contains bs b ⊎ (IsBlockOfAlteredPair t new b ⊎ IsFree t.map b) → IsConcernedOrFree t (path_or_root given ∷ path_or_root to_given ∷ []) new.pairs b
       each b (inl has) = inl (known b has)
-      each b (inr (inl k)) = inl (record { pair = pair_in t k.index; there = pair_there t.pairs k.index k.below; own = count-Contains (two_of (pair_in t k.index).at) b k.own; why = inr k.alters })
+      each b (inr (inl k)) = inl (record { pair = kept_pair_at_index t k.index; there = pair_there t.pairs k.index k.below; own = count-Contains (blocks_of_address (kept_pair_at_index t k.index).at) b k.own; why = inr k.alters })
       each b (inr (inr free)) = inr free
 
-  both_concerned : (slot : Spot) → HasNameAtPlace t.pairs can.first name slot.pair slot.id → (b : ℕ) → Contains (four_of (pair_in t source.slot.pair).at (pair_in t slot.pair).at) b → Concerned b
-  both_concerned slot there b h = go (one_of_four (pair_in t source.slot.pair).at (pair_in t slot.pair).at b h)
+  both_concerned : (slot : Spot) → IsPlaceOfNameInDirectory t.pairs can.first name slot.pair slot.id → (b : ℕ) → Contains (blocks_of_two_addresses (kept_pair_at_index t source.slot.pair).at (kept_pair_at_index t slot.pair).at) b → Concerned b
+  both_concerned slot there b h = go (one_of_four (kept_pair_at_index t source.slot.pair).at (kept_pair_at_index t slot.pair).at b h)
     where
-      go : Contains (two_of (pair_in t source.slot.pair).at) b ⊎ Contains (two_of (pair_in t slot.pair).at) b → Concerned b
+      go : Contains (blocks_of_address (kept_pair_at_index t source.slot.pair).at) b ⊎ Contains (blocks_of_address (kept_pair_at_index t slot.pair).at) b → Concerned b
       go (inl own) = source_concerned b own
       go (inr own) = target_concerned slot there b own
 
 -- ---- a rename
 
-module _ (t new : Kept) (from to : Path) (source : Source) (name : Name) (can : CanMoveEntry t from to source name) where
-  pub spares_within : WritesIn t source.slot.pair new → SparesOthersInMove t from to new
+module _ (t new : Kept) (from to : Path) (source : RenameSource) (name : Name) (can : CanMoveEntry t from to source name) where
+  pub spares_within : WritesPairAndTwoFreeBlocks t source.slot.pair new → SparesOtherBlocksInRename t from to new
   spares_within w s given to_given e f = within_alone t new from to source name can s given to_given e f w
 
-  pub spares_one : AltersBut t (two_of (pair_in t source.slot.pair).at) new → SparesOthersInMove t from to new
-  spares_one w s given to_given e f = rest_alone t new from to source name can s given to_given e f (two_of (pair_in t source.slot.pair).at) (source_concerned t new from to source name can s given to_given e f) w
+  pub spares_one : ChangesOnlyGivenAlteredOrFreeBlocks t (blocks_of_address (kept_pair_at_index t source.slot.pair).at) new → SparesOtherBlocksInRename t from to new
+  spares_one w s given to_given e f = rest_alone t new from to source name can s given to_given e f (blocks_of_address (kept_pair_at_index t source.slot.pair).at) (source_concerned t new from to source name can s given to_given e f) w
 
-  pub spares_two : (slot : Spot) → HasNameAtPlace t.pairs can.first name slot.pair slot.id → AltersBut t (four_of (pair_in t source.slot.pair).at (pair_in t slot.pair).at) new → SparesOthersInMove t from to new
+  pub spares_two : (slot : Spot) → IsPlaceOfNameInDirectory t.pairs can.first name slot.pair slot.id → ChangesOnlyGivenAlteredOrFreeBlocks t (blocks_of_two_addresses (kept_pair_at_index t source.slot.pair).at (kept_pair_at_index t slot.pair).at) new → SparesOtherBlocksInRename t from to new
   spares_two slot there w s given to_given e f =
-      rest_alone t new from to source name can s given to_given e f (four_of (pair_in t source.slot.pair).at (pair_in t slot.pair).at) (both_concerned t new from to source name can s given to_given e f slot there) w
+      rest_alone t new from to source name can s given to_given e f (blocks_of_two_addresses (kept_pair_at_index t source.slot.pair).at (kept_pair_at_index t slot.pair).at) (both_concerned t new from to source name can s given to_given e f slot there) w

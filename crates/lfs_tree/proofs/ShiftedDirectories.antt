@@ -2,24 +2,24 @@
 use Rattle.std.proofs.Common.{ℕ, ◌≡◌, ◌≢◌, ◌⊎◌, inl, inr, ◌-◌, ◌∙◌, ◌++◌, false, [], ◌∷◌, Result, Ok, Err, sym, ap₂, subst, arith}
 use Rattle.std.specs.Prelude.{OnOk, is_err}
 use Rattle.lfs_device.specs.declared.error.Error.{Error}
-use Rattle.lfs_model.specs.TreeEdits.{renamed, rest_after}
-use Rattle.lfs_model.specs.InDirectory.{HasNameAtPlace}
+use Rattle.lfs_model.specs.TreeEdits.{renamed, path_without_prefix}
+use Rattle.lfs_model.specs.InDirectory.{IsPlaceOfNameInDirectory}
 use Rattle.lfs_model.specs.Names.{Name}
 use Rattle.lfs_model.specs.Slots.{Branch}
 use Rattle.lfs_model.specs.Tree.{Path}
-use Rattle.lfs_model.specs.Shown.{tree_in}
-use Rattle.lfs_operations.specs.Altering.{AltersBut}
-use Rattle.lfs_operations.specs.MovingSteps.{WritesAmong}
-use Rattle.lfs_operations.specs.MovingAcross.{IsRenamedAcross, with_moved}
-use Rattle.lfs_operations.specs.MovingOnto.{CanReplaceDirectory}
-use Rattle.lfs_operations.specs.Renaming.{with_renamed}
-use Rattle.lfs_operations.specs.RenamingOver.{CanRenameOntoDirectory, IsRenamedOntoDirectory, ReportsOverSteps}
-use Rattle.lfs_thread.specs.Device.{four_of, two_of}
-use Rattle.lfs_thread.specs.Kept.{Kept, State}
-use Rattle.lfs_thread.specs.Steps.{IsOnlyRead, Writes, pair_in}
-use Rattle.lfs_tree.specs.TreeChanges.{SurvivesTo}
-use Rattle.lfs_tree.specs.Moves.{CanMoveEntry, CanMoveOntoDirectory, HasMovedEntry, ReportsOfWork}
-use Rattle.lfs_tree.specs.declared.renames_at.Source.{Source}
+use Rattle.lfs_model.specs.Shown.{tree_on_disk}
+use Rattle.lfs_operations.specs.Altering.{ChangesOnlyGivenAlteredOrFreeBlocks}
+use Rattle.lfs_operations.specs.MovingSteps.{WritesPairsAndFreeBlocks}
+use Rattle.lfs_operations.specs.MovingAcross.{IsEntryRenamedAcrossPairs, tree_with_moved_entry}
+use Rattle.lfs_operations.specs.MovingOnto.{CanReplaceDirectoryAcrossPairs}
+use Rattle.lfs_operations.specs.Renaming.{tree_with_renamed_entry}
+use Rattle.lfs_operations.specs.RenamingOver.{CanRenameOntoDirectoryInPair, IsEntryRenamedOntoDirectory, ReportsSlotReadThenCommits}
+use Rattle.lfs_thread.specs.Device.{blocks_of_two_addresses, blocks_of_address}
+use Rattle.lfs_thread.specs.Kept.{Kept, ThreadView}
+use Rattle.lfs_thread.specs.Steps.{IsThreadOnlyRead, ThreadChangesOnlyTheseBlocks, kept_pair_at_index}
+use Rattle.lfs_tree.specs.TreeChanges.{SurvivesWithOldOrNewTree}
+use Rattle.lfs_tree.specs.Moves.{CanMoveEntry, CanMoveOntoDirectory, HasMovedEntry, WorksOrReportsError}
+use Rattle.lfs_tree.specs.declared.renames_at.RenameSource.{RenameSource}
 use Rattle.lfs_lookup.specs.declared.search.Spot.{Spot}
 use Rattle.lfs_tree.proofs.Carried.{among_two, behind_below}
 use Rattle.lfs_tree.proofs.ShiftedAlone.{spares_one, spares_two}
@@ -28,10 +28,10 @@ use Rattle.lfs_tree.proofs.ShiftedSlots.{none_gone, survives_at}
 
 -- what stands there, seen in the directory of another number
 record IsDirectoryAt (t : Kept) (first index id : ℕ) (name : Name) (at : ℕ × ℕ) : Type 0 where
-  target : HasNameAtPlace t.pairs first name index id
+  target : IsPlaceOfNameInDirectory t.pairs first name index id
   branch : target.stands.slot.struct ≡ Branch at
 
-module _ (t : Kept) (from to : Path) (source : Source) (slot : Spot) (gone : ℕ) (name : Name) (can : CanMoveOntoDirectory t from to source slot gone name) where
+module _ (t : Kept) (from to : Path) (source : RenameSource) (slot : Spot) (gone : ℕ) (name : Name) (can : CanMoveOntoDirectory t from to source slot gone name) where
   abbrev shift : CanMoveEntry t from to source name
   shift = can.can
 
@@ -43,7 +43,7 @@ module _ (t : Kept) (from to : Path) (source : Source) (slot : Spot) (gone : ℕ
       subst (λ i. IsDirectoryAt t shift.old.first i slot.id name can.at) (sym e)
       (subst (λ f. IsDirectoryAt t f slot.pair slot.id name can.at) (one_place t from to source slot name shift can.target e) (record { target = can.target; branch = can.branch }))
 
-  pub over_within : source.slot.pair ≡ slot.pair → CanRenameOntoDirectory t source.slot.pair source.slot.id slot.id name gone
+  pub over_within : source.slot.pair ≡ slot.pair → CanRenameOntoDirectoryInPair t source.slot.pair source.slot.id slot.id name gone
   over_within e =
       let there = directory_here e in
       record {
@@ -61,16 +61,16 @@ module _ (t : Kept) (from to : Path) (source : Source) (slot : Spot) (gone : ℕ
         alone = can.alone;
       }
 
-  pub over_survives_within : (new : Kept) → source.slot.pair ≡ slot.pair → ((rename : CanRenameOntoDirectory t source.slot.pair source.slot.id slot.id name gone) → SurvivesTo t new (with_renamed t rename.over.can.path rename.over.can.name name))
-      → SurvivesTo t new (renamed from to (tree_in t.disk t.pairs))
+  pub over_survives_within : (new : Kept) → source.slot.pair ≡ slot.pair → ((rename : CanRenameOntoDirectoryInPair t source.slot.pair source.slot.id slot.id name gone) → SurvivesWithOldOrNewTree t new (tree_with_renamed_entry t rename.over.can.path rename.over.can.name name))
+      → SurvivesWithOldOrNewTree t new (renamed from to (tree_on_disk t.disk t.pairs))
   unfolding over_within
   over_survives_within new e gives = survives_at t new from to _ _ shift.old_is (path_here e) (gives (over_within e))
 
-  pub over_done_within : (new : Kept) → source.slot.pair ≡ slot.pair → AltersBut t (two_of (pair_in t source.slot.pair).at) new
-      → ((rename : CanRenameOntoDirectory t source.slot.pair source.slot.id slot.id name gone) → IsRenamedOntoDirectory t new rename.over.can.path rename.over.can.name name) → HasMovedEntry t from to new
+  pub over_done_within : (new : Kept) → source.slot.pair ≡ slot.pair → ChangesOnlyGivenAlteredOrFreeBlocks t (blocks_of_address (kept_pair_at_index t source.slot.pair).at) new
+      → ((rename : CanRenameOntoDirectoryInPair t source.slot.pair source.slot.id slot.id name gone) → IsEntryRenamedOntoDirectory t new rename.over.can.path rename.over.can.name name) → HasMovedEntry t from to new
   unfolding over_within
   over_done_within new e alters gives =
-      let is : IsRenamedOntoDirectory t new shift.old.path shift.old.name name = gives (over_within e) in
+      let is : IsEntryRenamedOntoDirectory t new shift.old.path shift.old.name name = gives (over_within e) in
       record {
         ready = none_gone new is.now.ready;
         flying = is.now.flying;
@@ -79,16 +79,16 @@ module _ (t : Kept) (from to : Path) (source : Source) (slot : Spot) (gone : ℕ
         alone = spares_one t new from to source name shift alters;
       }
 
-  pub over_writes_within : (new : Kept) → Writes (four_of (pair_in t source.slot.pair).at (pair_in t (gone - 1)).at) t new → WritesAmong t new
+  pub over_writes_within : (new : Kept) → ThreadChangesOnlyTheseBlocks (blocks_of_two_addresses (kept_pair_at_index t source.slot.pair).at (kept_pair_at_index t (gone - 1)).at) t new → WritesPairsAndFreeBlocks t new
   over_writes_within new w = record {
-    blocks = four_of (pair_in t source.slot.pair).at (pair_in t (gone - 1)).at;
+    blocks = blocks_of_two_addresses (kept_pair_at_index t source.slot.pair).at (kept_pair_at_index t (gone - 1)).at;
     writes = w;
     each = among_two t source.slot.pair (gone - 1) [] (behind_below t.pairs shift.old.first source.slot.pair shift.old.stands.pair shift.old.stands.rest shift.old.stands.place) (let b = can.below in omega (arith, b)) tt;
   }
 
   -- ---- in another pair
 
-  pub over_apart : source.slot.pair ≢ slot.pair → CanReplaceDirectory t source.slot.pair source.slot.id source.first slot.pair slot.id name gone
+  pub over_apart : source.slot.pair ≢ slot.pair → CanReplaceDirectoryAcrossPairs t source.slot.pair source.slot.id source.first slot.pair slot.id name gone
   over_apart ne = record {
     old = shift.old;
     begins_old = shift.old_first;
@@ -106,20 +106,20 @@ module _ (t : Kept) (from to : Path) (source : Source) (slot : Spot) (gone : ℕ
     alone = can.alone;
     logged = shift.logged _;
     apart = ne;
-    not_beneath = ap₂ rest_after (sym shift.old_is) (sym shift.is) ∙ shift.not_beneath;
+    not_beneath = ap₂ path_without_prefix (sym shift.old_is) (sym shift.is) ∙ shift.not_beneath;
     fits = shift.fits;
   }
 
-  pub over_survives_apart : (new : Kept) → source.slot.pair ≢ slot.pair → ((rename : CanReplaceDirectory t source.slot.pair source.slot.id source.first slot.pair slot.id name gone) → SurvivesTo t new (with_moved t rename.old.path rename.old.name rename.path name))
-      → SurvivesTo t new (renamed from to (tree_in t.disk t.pairs))
+  pub over_survives_apart : (new : Kept) → source.slot.pair ≢ slot.pair → ((rename : CanReplaceDirectoryAcrossPairs t source.slot.pair source.slot.id source.first slot.pair slot.id name gone) → SurvivesWithOldOrNewTree t new (tree_with_moved_entry t rename.old.path rename.old.name rename.path name))
+      → SurvivesWithOldOrNewTree t new (renamed from to (tree_on_disk t.disk t.pairs))
   unfolding over_apart
   over_survives_apart new ne gives = survives_at t new from to _ _ shift.old_is shift.is (gives (over_apart ne))
 
-  pub over_done_apart : (new : Kept) → source.slot.pair ≢ slot.pair → AltersBut t (four_of (pair_in t source.slot.pair).at (pair_in t slot.pair).at) new
-      → ((rename : CanReplaceDirectory t source.slot.pair source.slot.id source.first slot.pair slot.id name gone) → IsRenamedAcross t new rename.old.path rename.old.name rename.path name) → HasMovedEntry t from to new
+  pub over_done_apart : (new : Kept) → source.slot.pair ≢ slot.pair → ChangesOnlyGivenAlteredOrFreeBlocks t (blocks_of_two_addresses (kept_pair_at_index t source.slot.pair).at (kept_pair_at_index t slot.pair).at) new
+      → ((rename : CanReplaceDirectoryAcrossPairs t source.slot.pair source.slot.id source.first slot.pair slot.id name gone) → IsEntryRenamedAcrossPairs t new rename.old.path rename.old.name rename.path name) → HasMovedEntry t from to new
   unfolding over_apart
   over_done_apart new ne alters gives =
-      let is : IsRenamedAcross t new shift.old.path shift.old.name shift.above name = gives (over_apart ne) in
+      let is : IsEntryRenamedAcrossPairs t new shift.old.path shift.old.name shift.above name = gives (over_apart ne) in
       record {
         ready = none_gone new is.now.ready;
         flying = is.now.flying;
@@ -130,10 +130,10 @@ module _ (t : Kept) (from to : Path) (source : Source) (slot : Spot) (gone : ℕ
 
 -- ---- what is told
 
-pub reported_over : {X : Type 0} (old new : State) (r : Result X Error) → ReportsOverSteps old new r → ReportsOfWork old new r
+pub reported_over : {X : Type 0} (old new : ThreadView) (r : Result X Error) → ReportsSlotReadThenCommits old new r → WorksOrReportsError old new r
 reported_over {X} old new r t = record { works = works r t.failed; errors = t.errors; fault = t.fault; no_fault = t.no_fault }
   where
-    works : (r : Result X Error) → (new.failed ≡ is_err r) ⊎ ((new.failed ≡ false) × IsOnlyRead old.kept new.kept) → OnOk r (new.failed ≡ false)
+    works : (r : Result X Error) → (new.failed ≡ is_err r) ⊎ ((new.failed ≡ false) × IsThreadOnlyRead old.kept new.kept) → OnOk r (new.failed ≡ false)
     works (Ok x) (inl h) = h
     works (Ok x) (inr h) = h.0
     works (Err e) h = tt

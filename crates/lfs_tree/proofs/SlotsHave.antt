@@ -6,37 +6,37 @@ use Rattle.lfs_model.specs.Disk.{Disk}
 use Rattle.lfs_model.specs.Names.{Name}
 use Rattle.lfs_model.specs.SlotEdits.{slot_of_path}
 use Rattle.lfs_model.specs.Slots.{Slot, Struct, Inline, Ctz, Branch}
-use Rattle.lfs_model.specs.Thread.{Pair, root_of}
-use Rattle.lfs_model.specs.Tree.{Path, branch_of, child_of, entry_named, root_slot, slot_at}
-use Rattle.lfs_model.specs.View.{IsAccepted}
-use Rattle.lfs_model.specs.Shown.{PathLeadsTo, all_slots, entries_in}
+use Rattle.lfs_model.specs.Thread.{Pair, root_directory_of_pairs}
+use Rattle.lfs_model.specs.Tree.{Path, branch_address_of_struct, child_slot_of, entry_of_name, root_slot, slot_at_path}
+use Rattle.lfs_model.specs.View.{IsAcceptedImage}
+use Rattle.lfs_model.specs.Shown.{IsPathToDirectory, all_slots_not_moved, entries_by_directory_in_thread}
 use Rattle.lfs_model.proofs.Counts.{Each}
 use Rattle.lfs_model.proofs.Walks.{walk_on}
 use Rattle.lfs_lookup.proofs.AtPaths.{each_found}
 use Rattle.lfs_lookup.proofs.Visits.{each_entry}
 
-module _ (P : Slot → Type 0) (disk : Disk) (ps : List Pair) (ok : IsAccepted disk ps) (all : Each P (all_slots ps)) where
-  child_has : (above : Path) (s c : Slot) (n : Name) → slot_of_path ps above ≡ Some s → child_of (entries_in ps) s n ≡ Some c → P c
+module _ (P : Slot → Type 0) (disk : Disk) (ps : List Pair) (ok : IsAcceptedImage disk ps) (all : Each P (all_slots_not_moved ps)) where
+  child_has : (above : Path) (s c : Slot) (n : Name) → slot_of_path ps above ≡ Some s → child_slot_of (entries_by_directory_in_thread ps) s n ≡ Some c → P c
   child_has above s c n at child = go s.struct refl
     where
       go : (x : Struct) → s.struct ≡ x → P c
-      go (Inline bytes) e = absurd (let k = sym (ap (λ z. option_and_then (λ at. entry_named n (entries_in ps at)) (branch_of z)) e) ∙ child in cc)
-      go (Ctz head size) e = absurd (let k = sym (ap (λ z. option_and_then (λ at. entry_named n (entries_in ps at)) (branch_of z)) e) ∙ child in cc)
+      go (Inline bytes) e = absurd (let k = sym (ap (λ z. option_and_then (λ at. entry_of_name n (entries_by_directory_in_thread ps at)) (branch_address_of_struct z)) e) ∙ child in cc)
+      go (Ctz head size) e = absurd (let k = sym (ap (λ z. option_and_then (λ at. entry_of_name n (entries_by_directory_in_thread ps at)) (branch_address_of_struct z)) e) ∙ child in cc)
       go (Branch to) e =
-          let leads : PathLeadsTo ps above to = ap (λ o. option_and_then (λ (f : Slot). branch_of f.struct) o) at ∙ ap branch_of e in
-          each_found P n (entries_in ps to) c (each_entry P disk ps above to ok leads all)
-          (sym (ap (λ z. option_and_then (λ at. entry_named n (entries_in ps at)) (branch_of z)) e) ∙ child)
+          let leads : IsPathToDirectory ps above to = ap (λ o. option_and_then (λ (f : Slot). branch_address_of_struct f.struct) o) at ∙ ap branch_address_of_struct e in
+          each_found P n (entries_by_directory_in_thread ps to) c (each_entry P disk ps above to ok leads all)
+          (sym (ap (λ z. option_and_then (λ at. entry_of_name n (entries_by_directory_in_thread ps at)) (branch_address_of_struct z)) e) ∙ child)
 
-  below_has : (path above : Path) (s u : Slot) → slot_of_path ps above ≡ Some s → P s → slot_at (entries_in ps) s path ≡ Some u → P u
+  below_has : (path above : Path) (s u : Slot) → slot_of_path ps above ≡ Some s → P s → slot_at_path (entries_by_directory_in_thread ps) s path ≡ Some u → P u
   below_has [] above s u at has e = subst P (same_Some s u e) has
-  below_has (n ∷ path) above s u at has e = go (child_of (entries_in ps) s n) refl (λ c k h. below_has path (above ++ n ∷ []) c u
-      (walk_on (entries_in ps) (root_slot (root_of ps)) s above (n ∷ []) at ∙ ap (λ o. option_and_then (λ x. slot_at (entries_in ps) x []) o) k) (child_has above s c n at k) h) e
+  below_has (n ∷ path) above s u at has e = go (child_slot_of (entries_by_directory_in_thread ps) s n) refl (λ c k h. below_has path (above ++ n ∷ []) c u
+      (walk_on (entries_by_directory_in_thread ps) (root_slot (root_directory_of_pairs ps)) s above (n ∷ []) at ∙ ap (λ o. option_and_then (λ x. slot_at_path (entries_by_directory_in_thread ps) x []) o) k) (child_has above s c n at k) h) e
     where
-      go : (o : Option Slot) → child_of (entries_in ps) s n ≡ o → ((c : Slot) → child_of (entries_in ps) s n ≡ Some c → slot_at (entries_in ps) c path ≡ Some u → P u)
-          → option_and_then (λ child. slot_at (entries_in ps) child path) o ≡ Some u → P u
+      go : (o : Option Slot) → child_slot_of (entries_by_directory_in_thread ps) s n ≡ o → ((c : Slot) → child_slot_of (entries_by_directory_in_thread ps) s n ≡ Some c → slot_at_path (entries_by_directory_in_thread ps) c path ≡ Some u → P u)
+          → option_and_then (λ child. slot_at_path (entries_by_directory_in_thread ps) child path) o ≡ Some u → P u
       go None k on h = absurd (cc)
       go (Some c) k on h = on c k h
 
   -- the root's own slot stands in no directory
-  pub slot_has : P (root_slot (root_of ps)) → (path : Path) (u : Slot) → slot_of_path ps path ≡ Some u → P u
-  slot_has root path u e = below_has path [] (root_slot (root_of ps)) u refl root e
+  pub slot_has : P (root_slot (root_directory_of_pairs ps)) → (path : Path) (u : Slot) → slot_of_path ps path ≡ Some u → P u
+  slot_has root path u e = below_has path [] (root_slot (root_directory_of_pairs ps)) u refl root e

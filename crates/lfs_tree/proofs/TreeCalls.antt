@@ -4,17 +4,17 @@ use Rattle.std.specs.Prelude.{IfErr, OnErr, OnOk, is_err}
 use Rattle.lfs_device.specs.declared.error.Error.{Error}
 use Rattle.lfs_model.specs.Operations as ops
 use Rattle.lfs_model.specs.Operations.{Operation}
-use Rattle.lfs_model.specs.Slots.{no_gstate}
+use Rattle.lfs_model.specs.Slots.{zero_gstate}
 use Rattle.lfs_model.specs.Thread.{gstate_of}
 use Rattle.lfs_model.specs.Tree.{Tree}
-use Rattle.lfs_model.specs.Shown.{tree_in}
-use Rattle.lfs_thread.specs.Kept.{Kept, State}
+use Rattle.lfs_model.specs.Shown.{tree_on_disk}
+use Rattle.lfs_thread.specs.Kept.{Kept, ThreadView}
 use Rattle.lfs_tree.specs.Calls as calls
-use Rattle.lfs_tree.specs.Calls.{Call, DoesOperation, IsOperation, tree_left_by}
-use Rattle.lfs_tree.specs.TreeChanges.{HasFurtherCalls, HasDoneCall, IsAtRest, IsChange, IsOperationOn, SurvivesTo, ReportsError}
-use Rattle.lfs_tree.specs.RootedThreads.{IsRootedUnlessFailed, IsRooted, tree_state_of, tree_state_of_thread}
-use Rattle.lfs_tree.specs.Recoveries.{HasEndedLosses}
-use Rattle.lfs_tree.specs.TreeState.{IsFailedTree, IsAppliedOn, IsAppliedImage, IsError, IsSound, LeavesRest, TreeState, SurvivesAs, without_cache, kept_of, tree_view}
+use Rattle.lfs_tree.specs.Calls.{TreeCall, IsCallOfOperation, AppliesCallOrFails, tree_after_call}
+use Rattle.lfs_tree.specs.TreeChanges.{HasFurtherDeviceCalls, HasAppliedCall, CanChangeRecoveredImage, ChangesTreeOrFails, AppliesCallOnThread, SurvivesWithOldOrNewTree, ReportsErrorWithCause}
+use Rattle.lfs_tree.specs.RootedThreads.{IsSoundThreadUnlessFailed, IsSoundThreadWithRoot, tree_state_of_kept_thread, tree_state_of_thread}
+use Rattle.lfs_tree.specs.Recoveries.{HasRecoveredFromPowerLoss}
+use Rattle.lfs_tree.specs.TreeState.{IsFailedTree, IsOperationAppliedToTree, IsOperationAppliedToImage, IsErrorWithCause, IsSoundTreeState, LeavesUnconcernedBlocksAlone, TreeState, SurvivesStopsInTreeCall, tree_state_without_cache, kept_of, tree_view}
 use Rattle.lfs_tree.proofs.NotedErrors.{noted, noted_failed, noted_held}
 use Rattle.lfs_tree.proofs.Operated.{IsPlain}
 use Rattle.lfs_tree.proofs.Carried.{lists_from}
@@ -23,7 +23,7 @@ use Rattle.lfs_tree.proofs.RecoveredFirst.{called_after, carried_after, spares_a
 
 -- ---- what a change of the thread is for who sees the tree
 
-module _ (t : State) (writable : Bool) (now : TreeState) (view : tree_state_of_thread t writable ≡ now) (Done : Kept → Type 0) (after : Tree) {X : Type 0} (r : Result X Error) (new : State) (w : IsChange t Done after r new) where
+module _ (t : ThreadView) (writable : Bool) (now : TreeState) (view : tree_state_of_thread t writable ≡ now) (Done : Kept → Type 0) (after : Tree) {X : Type 0} (r : Result X Error) (new : ThreadView) (w : ChangesTreeOrFails t Done after r new) where
   pub breaks : OnErr r (new.failed ≡ true) → OnErr r (IsFailedTree now (tree_state_of_thread new writable))
   breaks failed = subst (λ (s : TreeState). OnErr r (IsFailedTree s (tree_state_of_thread new writable))) view (go r failed)
     where
@@ -31,50 +31,50 @@ module _ (t : State) (writable : Bool) (now : TreeState) (view : tree_state_of_t
       go (Ok x) f = tt
       go (Err e) f = record { failed = f; geometry = w.called.geometry; calls = w.called.calls; called = w.called.called }
 
-  pub reports : IfErr r (IsError now (tree_state_of_thread new writable))
-  reports = subst (λ (s : TreeState). IfErr r (IsError s (tree_state_of_thread new writable))) view (go r w.errors)
+  pub reports : IfErr r (IsErrorWithCause now (tree_state_of_thread new writable))
+  reports = subst (λ (s : TreeState). IfErr r (IsErrorWithCause s (tree_state_of_thread new writable))) view (go r w.errors)
     where
-      go : (r : Result X Error) → IfErr r (ReportsError t.kept new.kept) → IfErr r (IsError (tree_state_of_thread t writable) (tree_state_of_thread new writable))
+      go : (r : Result X Error) → IfErr r (ReportsErrorWithCause t.kept new.kept) → IfErr r (IsErrorWithCause (tree_state_of_thread t writable) (tree_state_of_thread new writable))
       go (Ok x) k = tt
       go (Err e) k = record { errors = k.errors; fault = k.fault; no_fault = k.no_fault }
 
 -- ---- the recovery itself
 
-module _ (t : State) (writable : Bool) (now : TreeState) (view : tree_state_of_thread t writable ≡ now) (works : t.failed ≡ false) (may : writable ≡ true) (left : gstate_of t.kept.pairs ≡ no_gstate → ⊥)
-    {X : Type 0} (r : Result X Error) (new : State) (w : IsChange t (HasEndedLosses t.kept) (tree_in t.kept.disk t.kept.pairs) r new) where
-  pub recovers : OnErr r (new.failed ≡ true) → IsOperation now calls.Recover r (tree_state_of_thread new writable)
-  recovers failed = subst (λ (s : TreeState). IsOperation s calls.Recover r (tree_state_of_thread new writable)) view (record {
+module _ (t : ThreadView) (writable : Bool) (now : TreeState) (view : tree_state_of_thread t writable ≡ now) (works : t.failed ≡ false) (may : writable ≡ true) (left : gstate_of t.kept.pairs ≡ zero_gstate → ⊥)
+    {X : Type 0} (r : Result X Error) (new : ThreadView) (w : ChangesTreeOrFails t (HasRecoveredFromPowerLoss t.kept) (tree_on_disk t.kept.disk t.kept.pairs) r new) where
+  pub recovers : OnErr r (new.failed ≡ true) → AppliesCallOrFails now calls.Recover r (tree_state_of_thread new writable)
+  recovers failed = subst (λ (s : TreeState). AppliesCallOrFails s calls.Recover r (tree_state_of_thread new writable)) view (record {
     done = done r w.done w.works;
     alone = alone r;
-    broken = breaks t writable (tree_state_of_thread t writable) refl (HasEndedLosses t.kept) (tree_in t.kept.disk t.kept.pairs) r new w failed;
-    errors = reports t writable (tree_state_of_thread t writable) refl (HasEndedLosses t.kept) (tree_in t.kept.disk t.kept.pairs) r new w;
+    broken = breaks t writable (tree_state_of_thread t writable) refl (HasRecoveredFromPowerLoss t.kept) (tree_on_disk t.kept.disk t.kept.pairs) r new w failed;
+    errors = reports t writable (tree_state_of_thread t writable) refl (HasRecoveredFromPowerLoss t.kept) (tree_on_disk t.kept.disk t.kept.pairs) r new w;
     survives = w.survives;
   })
     where
-      done : (r : Result X Error) → OnOk r (HasEndedLosses t.kept new.kept) → OnOk r (new.failed ≡ false) → OnOk r ((op : Operation) → DoesOperation calls.Recover op → IsAppliedOn (tree_state_of_thread t writable) op (tree_state_of_thread new writable))
+      done : (r : Result X Error) → OnOk r (HasRecoveredFromPowerLoss t.kept new.kept) → OnOk r (new.failed ≡ false) → OnOk r ((op : Operation) → IsCallOfOperation calls.Recover op → IsOperationAppliedToTree (tree_state_of_thread t writable) op (tree_state_of_thread new writable))
       done (Err e) k still = tt
       done (Ok x) k still = λ op is.
-          subst (λ o. IsAppliedOn (tree_state_of_thread t writable) o (tree_state_of_thread new writable)) (sym is)
-          (subst (λ (s : TreeState). IsAppliedImage s ops.Recover (tree_state_of new.kept writable new.failed)) (ap₂ (λ a b. tree_state_of t.kept a b) (sym may) (sym works))
-          (subst (λ (s : TreeState). IsAppliedImage (tree_state_of t.kept true false) ops.Recover s) (ap₂ (λ a b. tree_state_of new.kept a b) (sym may) (sym still)) k.carries))
+          subst (λ o. IsOperationAppliedToTree (tree_state_of_thread t writable) o (tree_state_of_thread new writable)) (sym is)
+          (subst (λ (s : TreeState). IsOperationAppliedToImage s ops.Recover (tree_state_of_kept_thread new.kept writable new.failed)) (ap₂ (λ a b. tree_state_of_kept_thread t.kept a b) (sym may) (sym works))
+          (subst (λ (s : TreeState). IsOperationAppliedToImage (tree_state_of_kept_thread t.kept true false) ops.Recover s) (ap₂ (λ a b. tree_state_of_kept_thread new.kept a b) (sym may) (sym still)) k.carries))
 
-      alone : (r : Result X Error) → OnOk r ((op : Operation) → DoesOperation calls.Recover op → LeavesRest (tree_state_of_thread t writable) op (tree_state_of_thread new writable))
+      alone : (r : Result X Error) → OnOk r ((op : Operation) → IsCallOfOperation calls.Recover op → LeavesUnconcernedBlocksAlone (tree_state_of_thread t writable) op (tree_state_of_thread new writable))
       alone (Err e) = tt
       alone (Ok x) = λ op is none. absurd (left none)
 
-  pub settles_seen : OnOk r (HasEndedLosses (kept_of now) new.kept)
-  settles_seen = subst (λ (s : TreeState). OnOk r (HasEndedLosses (kept_of s) new.kept)) view w.done
+  pub settles_seen : OnOk r (HasRecoveredFromPowerLoss (kept_of now) new.kept)
+  settles_seen = subst (λ (s : TreeState). OnOk r (HasRecoveredFromPowerLoss (kept_of s) new.kept)) view w.done
 
 -- where nothing is left nothing is done
-leaves_itself : (t : TreeState) (op : Operation) → LeavesRest t op t
+leaves_itself : (t : TreeState) (op : Operation) → LeavesUnconcernedBlocksAlone t op t
 leaves_itself t op none files = record {
   files = lists_from t.disk t.disk t.pairs (λ b some. refl);
   pairs = λ p here there other. (refl, refl);
 }
 
-pub recovers_nothing : (t : TreeState) → t.failed ≡ false → t.writable ≡ true → IsSound t → gstate_of t.pairs ≡ no_gstate → (r : Result (Unit {0}) Error) → r ≡ Ok tt → IsOperation t calls.Recover r t
-recovers_nothing t works may sound none r is = subst (λ (z : Result (Unit {0}) Error). IsOperation t calls.Recover z t) (sym is) (record {
-  done = λ op does. subst (λ o. IsAppliedOn t o t) (sym does) (recovered_already t works may sound none);
+pub recovers_nothing : (t : TreeState) → t.failed ≡ false → t.writable ≡ true → IsSoundTreeState t → gstate_of t.pairs ≡ zero_gstate → (r : Result (Unit {0}) Error) → r ≡ Ok tt → AppliesCallOrFails t calls.Recover r t
+recovers_nothing t works may sound none r is = subst (λ (z : Result (Unit {0}) Error). AppliesCallOrFails t calls.Recover z t) (sym is) (record {
+  done = λ op does. subst (λ o. IsOperationAppliedToTree t o t) (sym does) (recovered_already t works may sound none);
   alone = λ op does. leaves_itself t op;
   broken = tt;
   errors = tt;
@@ -82,61 +82,61 @@ recovers_nothing t works may sound none r is = subst (λ (z : Result (Unit {0}) 
 })
 
 -- where it failed, so did the call
-pub recovery_failed : {X Y : Type 0} (old mid : TreeState) (call : Call) (r : Result X Error) (s : Result Y Error) (e f : Error) → r ≡ Err e → s ≡ Err f → f ≡ e → IsOperation old calls.Recover r mid → IsOperation old call s mid
+pub recovery_failed : {X Y : Type 0} (old mid : TreeState) (call : TreeCall) (r : Result X Error) (s : Result Y Error) (e f : Error) → r ≡ Err e → s ≡ Err f → f ≡ e → AppliesCallOrFails old calls.Recover r mid → AppliesCallOrFails old call s mid
 recovery_failed {X} {Y} old mid call r s e f was is same k =
-    subst (λ (z : Result Y Error). IsOperation old call z mid) (sym (is ∙ ap Err same)) (go (subst (λ (z : Result X Error). IsOperation old calls.Recover z mid) was k))
+    subst (λ (z : Result Y Error). AppliesCallOrFails old call z mid) (sym (is ∙ ap Err same)) (go (subst (λ (z : Result X Error). AppliesCallOrFails old calls.Recover z mid) was k))
   where
-    go : (let z : Result X Error = Err e in IsOperation old calls.Recover z mid) → (let z : Result Y Error = Err e in IsOperation old call z mid)
-    go k = record { done = tt; alone = tt; broken = k.broken; errors = k.errors; survives = survives_before (kept_of old) (kept_of mid) (tree_left_by call (tree_view old)) k.survives }
+    go : (let z : Result X Error = Err e in AppliesCallOrFails old calls.Recover z mid) → (let z : Result Y Error = Err e in AppliesCallOrFails old call z mid)
+    go k = record { done = tt; alone = tt; broken = k.broken; errors = k.errors; survives = survives_before (kept_of old) (kept_of mid) (tree_after_call call (tree_view old)) k.survives }
 
 -- ---- what comes behind it
 
-module _ (old mid : TreeState) (works : old.failed ≡ false) (may : old.writable ≡ true) (done : IsAppliedOn old ops.Recover mid) (settled : HasEndedLosses (kept_of old) (kept_of mid))
-    (t : State) (root : ℕ) (writable : Bool) (held : IsRootedUnlessFailed t root writable) (view : tree_state_of_thread t writable ≡ mid) where
+module _ (old mid : TreeState) (works : old.failed ≡ false) (may : old.writable ≡ true) (done : IsOperationAppliedToTree old ops.Recover mid) (settled : HasRecoveredFromPowerLoss (kept_of old) (kept_of mid))
+    (t : ThreadView) (root : ℕ) (writable : Bool) (held : IsSoundThreadUnlessFailed t root writable) (view : tree_state_of_thread t writable ≡ mid) where
   pub writes : writable ≡ true
   writes = ap (λ (s : TreeState). s.writable) view ∙ done.writable
 
   kept_is : t.kept ≡ kept_of mid
   kept_is = ap kept_of view
 
-  pub settled_here : HasEndedLosses (kept_of old) t.kept
-  settled_here = subst (λ (k : Kept). HasEndedLosses (kept_of old) k) (sym kept_is) settled
+  pub settled_here : HasRecoveredFromPowerLoss (kept_of old) t.kept
+  settled_here = subst (λ (k : Kept). HasRecoveredFromPowerLoss (kept_of old) k) (sym kept_is) settled
 
-  bare_is : without_cache old ≡ tree_state_of (kept_of old) true false
-  bare_is = ap₂ (λ a b. tree_state_of (kept_of old) a b) may works
+  bare_is : tree_state_without_cache old ≡ tree_state_of_kept_thread (kept_of old) true false
+  bare_is = ap₂ (λ a b. tree_state_of_kept_thread (kept_of old) a b) may works
 
   -- what is asked for
-  pub allowed : (P : TreeState → Type 0) → P (without_cache old) → P (tree_state_of (kept_of old) true false)
+  pub allowed : (P : TreeState → Type 0) → P (tree_state_without_cache old) → P (tree_state_of_kept_thread (kept_of old) true false)
   allowed P h = subst P bare_is h
 
-  pub rests_behind : IsAtRest t root
+  pub rests_behind : CanChangeRecoveredImage t root
   rests_behind = record {
-    held = subst (λ a. IsRooted t root a) writes (held (ap (λ (s : TreeState). s.failed) view ∙ done.works));
-    settled = subst (λ (k : Kept). gstate_of k.pairs ≡ no_gstate) (sym kept_is) done.recovered.gstate;
+    held = subst (λ a. IsSoundThreadWithRoot t root a) writes (held (ap (λ (s : TreeState). s.failed) view ∙ done.works));
+    settled = subst (λ (k : Kept). gstate_of k.pairs ≡ zero_gstate) (sym kept_is) done.recovered.gstate;
   }
 
-  module _ (call : Call) (plain : (op : Operation) → DoesOperation call op → IsPlain op) (first : SurvivesAs old mid (tree_view old)) where
-    operates : {X : Type 0} (r : Result X Error) (new : State) → IsOperationOn t call r new → OnErr r (new.failed ≡ true) → IsOperation old call r (tree_state_of_thread new writable)
+  module _ (call : TreeCall) (plain : (op : Operation) → IsCallOfOperation call op → IsPlain op) (first : SurvivesStopsInTreeCall old mid (tree_view old)) where
+    operates : {X : Type 0} (r : Result X Error) (new : ThreadView) → AppliesCallOnThread t call r new → OnErr r (new.failed ≡ true) → AppliesCallOrFails old call r (tree_state_of_thread new writable)
     operates {X} r new w failed = record {
       done = dones r w.done w.works;
       alone = alone r w.done;
       broken = broken r failed;
       errors = errors r w.errors;
-      survives = survives_after (kept_of old) t.kept settled_here new.kept (tree_left_by call) w.called
-          (subst (λ (k : Kept). SurvivesTo (kept_of old) k (tree_view old)) (sym kept_is) first) w.survives;
+      survives = survives_after (kept_of old) t.kept settled_here new.kept (tree_after_call call) w.called
+          (subst (λ (k : Kept). SurvivesWithOldOrNewTree (kept_of old) k (tree_view old)) (sym kept_is) first) w.survives;
     }
       where
-        all : HasFurtherCalls (kept_of old) new.kept
+        all : HasFurtherDeviceCalls (kept_of old) new.kept
         all = called_after (kept_of old) t.kept settled_here new.kept w.called
 
-        dones : (r : Result X Error) → OnOk r (HasDoneCall t.kept call new.kept) → OnOk r (new.failed ≡ false) → OnOk r ((op : Operation) → DoesOperation call op → IsAppliedOn old op (tree_state_of_thread new writable))
+        dones : (r : Result X Error) → OnOk r (HasAppliedCall t.kept call new.kept) → OnOk r (new.failed ≡ false) → OnOk r ((op : Operation) → IsCallOfOperation call op → IsOperationAppliedToTree old op (tree_state_of_thread new writable))
         dones (Err e) k still = tt
         dones (Ok x) k still = λ op does.
-            subst (λ (s : TreeState). IsAppliedImage s op (tree_state_of new.kept writable new.failed)) (sym bare_is)
-            (subst (λ (s : TreeState). IsAppliedImage (tree_state_of (kept_of old) true false) op s) (ap₂ (λ a b. tree_state_of new.kept a b) (sym writes) (sym still))
+            subst (λ (s : TreeState). IsOperationAppliedToImage s op (tree_state_of_kept_thread new.kept writable new.failed)) (sym bare_is)
+            (subst (λ (s : TreeState). IsOperationAppliedToImage (tree_state_of_kept_thread (kept_of old) true false) op s) (ap₂ (λ a b. tree_state_of_kept_thread new.kept a b) (sym writes) (sym still))
             (carried_after (kept_of old) t.kept settled_here new.kept op (plain op does).0 (plain op does).1 (k.carries op does)))
 
-        alone : (r : Result X Error) → OnOk r (HasDoneCall t.kept call new.kept) → OnOk r ((op : Operation) → DoesOperation call op → LeavesRest old op (tree_state_of_thread new writable))
+        alone : (r : Result X Error) → OnOk r (HasAppliedCall t.kept call new.kept) → OnOk r ((op : Operation) → IsCallOfOperation call op → LeavesUnconcernedBlocksAlone old op (tree_state_of_thread new writable))
         alone (Err e) k = tt
         alone (Ok x) k = λ op does. spares_after (kept_of old) t.kept settled_here new.kept op (k.spares op does)
 
@@ -144,13 +144,13 @@ module _ (old mid : TreeState) (works : old.failed ≡ false) (may : old.writabl
         broken (Ok x) f = tt
         broken (Err e) f = record { failed = f; geometry = all.geometry; calls = all.calls; called = all.called }
 
-        errors : (r : Result X Error) → IfErr r (ReportsError t.kept new.kept) → IfErr r (IsError old (tree_state_of_thread new writable))
+        errors : (r : Result X Error) → IfErr r (ReportsErrorWithCause t.kept new.kept) → IfErr r (IsErrorWithCause old (tree_state_of_thread new writable))
         errors (Ok x) k = tt
         errors (Err e) k = let m = reported_after (kept_of old) t.kept settled_here new.kept e k in record { errors = m.errors; fault = m.fault; no_fault = m.no_fault }
 
-    module _ {X : Type 0} (b new : State) (r : Result X Error) (w : IsOperationOn t call r b) (f : new ≡ record b { failed = is_err r || b.failed }) where
-      pub operates_noted : IsOperation old call r (tree_state_of_thread new writable)
-      operates_noted = operates r new (noted t b new (HasDoneCall t.kept call) (tree_left_by call (tree_in t.kept.disk t.kept.pairs)) r w f) (noted_failed t b new (HasDoneCall t.kept call) (tree_left_by call (tree_in t.kept.disk t.kept.pairs)) r w f)
+    module _ {X : Type 0} (b new : ThreadView) (r : Result X Error) (w : AppliesCallOnThread t call r b) (f : new ≡ record b { failed = is_err r || b.failed }) where
+      pub operates_noted : AppliesCallOrFails old call r (tree_state_of_thread new writable)
+      operates_noted = operates r new (noted t b new (HasAppliedCall t.kept call) (tree_after_call call (tree_on_disk t.kept.disk t.kept.pairs)) r w f) (noted_failed t b new (HasAppliedCall t.kept call) (tree_after_call call (tree_on_disk t.kept.disk t.kept.pairs)) r w f)
 
-      pub held_noted : IsRootedUnlessFailed new root writable
-      held_noted = subst (λ a. IsRootedUnlessFailed new root a) (sym writes) (noted_held t b new (HasDoneCall t.kept call) (tree_left_by call (tree_in t.kept.disk t.kept.pairs)) r w f root rests_behind.held)
+      pub held_noted : IsSoundThreadUnlessFailed new root writable
+      held_noted = subst (λ a. IsSoundThreadUnlessFailed new root a) (sym writes) (noted_held t b new (HasAppliedCall t.kept call) (tree_after_call call (tree_on_disk t.kept.disk t.kept.pairs)) r w f root rests_behind.held)

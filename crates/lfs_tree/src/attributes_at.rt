@@ -1,13 +1,13 @@
 // Attributes of entries at paths, in a thread that has nothing to recover.
 
 ghost use Rattle.std.specs.Prelude.{◌≡◌, true, false};
-ghost use Rattle.lfs_tree.specs.Permissions.{CanRemoveAttr, CanSetAttr};
+ghost use Rattle.lfs_tree.specs.Permissions.{CanRemoveAttrAtPath, CanSetAttrAtPath};
 ghost use Rattle.lfs_tree.specs.Calls as call;
-ghost use Rattle.lfs_tree.specs.TreeChanges.{IsAtRest, IsOperationOn};
-ghost use Rattle.lfs_tree.specs.SlotChanges.{IsSlotIn, has_slot};
-ghost use Rattle.lfs_tree.specs.RootedThreads.{tree_state_of};
+ghost use Rattle.lfs_tree.specs.TreeChanges.{CanChangeRecoveredImage, AppliesCallOnThread};
+ghost use Rattle.lfs_tree.specs.SlotChanges.{IsSpotOfFoundEntry, is_entry_found};
+ghost use Rattle.lfs_tree.specs.RootedThreads.{tree_state_of_kept_thread};
 
-use crate::entries_at::{find_target, know_device};
+use crate::entries_at::{find_at_path, show_block_facts_to_proof};
 use lfs_device::{BlockDevice, Error};
 use lfs_lookup::{Found, Path, Spot};
 use lfs_operations::{remove_attribute, set_attribute};
@@ -15,9 +15,9 @@ use lfs_thread::Thread;
 use std::alloc::Global;
 
 // Returns the slot of an entry that was found.
-fn slot_in(found: Found) -> Spot
-    requires { has_slot found ≡ true }
-    ensures { IsSlotIn found result }
+fn spot_of_found_entry(found: Found) -> Spot
+    requires { is_entry_found found ≡ true }
+    ensures { IsSpotOfFoundEntry found result }
 {
     match found {
         Found::Directory { slot, .. } | Found::File { slot, .. } => slot,
@@ -36,14 +36,14 @@ pub(crate) fn set_attr_at<D: BlockDevice>(
     kind: u8,
     bytes: &[u8],
 ) -> Result<(), Error>
-    requires rests { IsAtRest thread.old root }
-    requires can { CanSetAttr (tree_state_of thread.old.kept true false) path.now kind bytes.now }
-    ensures { IsOperationOn thread.old (call.SetAttr path.now kind bytes.now) result thread.new }
+    requires rests { CanChangeRecoveredImage thread.old root }
+    requires can { CanSetAttrAtPath (tree_state_of_kept_thread thread.old.kept true false) path.now kind bytes.now }
+    ensures { AppliesCallOnThread thread.old (call.SetAttr path.now kind bytes.now) result thread.new }
 {
-    path.know_bytes();
-    know_device(thread);
-    let target = find_target(alloc, thread, root, path)?;
-    let slot = slot_in(target.found);
+    path.show_path_bytes_to_proof();
+    show_block_facts_to_proof(thread);
+    let target = find_at_path(alloc, thread, root, path)?;
+    let slot = spot_of_found_entry(target.found);
     set_attribute(alloc, thread, slot.pair, slot.id, kind, bytes)
 }
 
@@ -57,13 +57,13 @@ pub(crate) fn remove_attr_at<D: BlockDevice>(
     path: &Path<'_>,
     kind: u8,
 ) -> Result<(), Error>
-    requires rests { IsAtRest thread.old root }
-    requires can { CanRemoveAttr (tree_state_of thread.old.kept true false) path.now kind }
-    ensures { IsOperationOn thread.old (call.RemoveAttr path.now kind) result thread.new }
+    requires rests { CanChangeRecoveredImage thread.old root }
+    requires can { CanRemoveAttrAtPath (tree_state_of_kept_thread thread.old.kept true false) path.now kind }
+    ensures { AppliesCallOnThread thread.old (call.RemoveAttr path.now kind) result thread.new }
 {
-    path.know_bytes();
-    know_device(thread);
-    let target = find_target(alloc, thread, root, path)?;
-    let slot = slot_in(target.found);
+    path.show_path_bytes_to_proof();
+    show_block_facts_to_proof(thread);
+    let target = find_at_path(alloc, thread, root, path)?;
+    let slot = spot_of_found_entry(target.found);
     remove_attribute(alloc, thread, slot.pair, slot.id, kind)
 }

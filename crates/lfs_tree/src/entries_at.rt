@@ -2,14 +2,14 @@
 
 ghost use Rattle.std.specs.Prelude.{◌≡◌, ◌≤◌, ◌+◌, map, sum_by, true, false, IfOk};
 ghost use Rattle.lfs_device.specs.Bytes.{HasBytes};
-ghost use Rattle.lfs_model.specs.Frame.{pairs_of_path, parents};
+ghost use Rattle.lfs_model.specs.Frame.{pair_count_of_directory_at, parents};
 ghost use Rattle.lfs_model.specs.History.{reads};
-ghost use Rattle.lfs_model.specs.TreeEdits.{last_name};
-ghost use Rattle.lfs_tree.specs.Permissions.{CanCreate, CanMakeDirectory};
+ghost use Rattle.lfs_model.specs.TreeEdits.{last_name_of_path};
+ghost use Rattle.lfs_tree.specs.Permissions.{CanCreateFileAtPath, CanMakeDirectoryAtPath};
 ghost use Rattle.lfs_tree.specs.Calls as call;
-ghost use Rattle.lfs_tree.specs.TreeChanges.{IsAtRest, IsOperationOn, IsPlaceIn, IsTarget, is_place};
-ghost use Rattle.lfs_tree.specs.RootedThreads.{tree_state_of};
-ghost use Rattle.lfs_lookup.specs.Reading.{IsReading};
+ghost use Rattle.lfs_tree.specs.TreeChanges.{CanChangeRecoveredImage, AppliesCallOnThread, IsSpotOfNothingFound, IsFoundAtPathWithLastName, is_nothing_found};
+ghost use Rattle.lfs_tree.specs.RootedThreads.{tree_state_of_kept_thread};
+ghost use Rattle.lfs_lookup.specs.Reading.{OnlyReadsThreadAndReportsErrors};
 
 use lfs_device::{BlockDevice, Error};
 use lfs_lookup::{Found, Path, Spot, look_up};
@@ -18,7 +18,7 @@ use lfs_thread::Thread;
 use std::alloc::Global;
 
 // Shows the proof what is known of any device: how large a block is, and that it holds bytes.
-pub(crate) fn know_device<D: BlockDevice>(thread: &Thread<D>)
+pub(crate) fn show_block_facts_to_proof<D: BlockDevice>(thread: &Thread<D>)
     ensures large { 1024 ≤ thread.now.kept.disk.block_size }
     ensures bytes { HasBytes thread.now.kept.disk.blocks }
 {
@@ -27,7 +27,7 @@ pub(crate) fn know_device<D: BlockDevice>(thread: &Thread<D>)
 
 // Returns the last of the names.
 pub(crate) fn last_of<'a>(names: &[&'a [u8]]) -> &'a [u8]
-    ensures { result.now ≡ last_name (map (λ name. name.now) names.now) }
+    ensures { result.now ≡ last_name_of_path (map (λ name. name.now) names.now) }
 {
     match names.split_last() {
         Some((name, _)) => name,
@@ -37,8 +37,8 @@ pub(crate) fn last_of<'a>(names: &[&'a [u8]]) -> &'a [u8]
 
 // Returns the place of a name that wasn't found.
 fn place_in(found: Found) -> Spot
-    requires { is_place found ≡ true }
-    ensures { IsPlaceIn found result }
+    requires { is_nothing_found found ≡ true }
+    ensures { IsSpotOfNothingFound found result }
 {
     match found {
         Found::Nothing { place, .. } => place,
@@ -48,26 +48,26 @@ fn place_in(found: Found) -> Spot
 
 // What a look-up finds at a path, and the path's last name.
 #[derive(Drop)]
-pub(crate) struct FoundTarget<'a> {
+pub(crate) struct FoundAtPath<'a> {
     pub(crate) found: Found,
     pub(crate) name: &'a [u8],
 }
 
 // Looks up a path.
-pub(crate) fn find_target<'a, D: BlockDevice>(
+pub(crate) fn find_at_path<'a, D: BlockDevice>(
     alloc: Global,
     thread: &mut Thread<D>,
     root: usize,
     path: &Path<'a>,
-) -> Result<FoundTarget<'a>, Error>
-    requires { IsAtRest thread.old root }
-    ensures target { IfOk result (λ target. IsTarget thread.old.kept path.now target.found target.name.now) }
-    ensures few { reads thread.new.kept.history ≤ reads thread.old.kept.history + sum_by (pairs_of_path thread.old.kept.pairs) (parents path.now) }
-    ensures reading { IsReading thread.old thread.new result }
+) -> Result<FoundAtPath<'a>, Error>
+    requires { CanChangeRecoveredImage thread.old root }
+    ensures target { IfOk result (λ target. IsFoundAtPathWithLastName thread.old.kept path.now target.found target.name.now) }
+    ensures few { reads thread.new.kept.history ≤ reads thread.old.kept.history + sum_by (pair_count_of_directory_at thread.old.kept.pairs) (parents path.now) }
+    ensures reading { OnlyReadsThreadAndReportsErrors thread.old thread.new result }
 {
     let names = path.names(alloc)?;
     let found = look_up(alloc, thread, root, &names)?;
-    Ok(FoundTarget {
+    Ok(FoundAtPath {
         found,
         name: last_of(&names),
     })
@@ -82,15 +82,15 @@ pub(crate) fn create_at<D: BlockDevice>(
     root: usize,
     path: &Path<'_>,
 ) -> Result<(), Error>
-    requires rests { IsAtRest thread.old root }
-    requires can { CanCreate (tree_state_of thread.old.kept true false) path.now }
-    ensures does { IsOperationOn thread.old (call.Create path.now) result thread.new }
-    ensures few { reads thread.new.kept.history ≤ reads thread.old.kept.history + sum_by (pairs_of_path thread.old.kept.pairs) (parents path.now) + 6 }
+    requires rests { CanChangeRecoveredImage thread.old root }
+    requires can { CanCreateFileAtPath (tree_state_of_kept_thread thread.old.kept true false) path.now }
+    ensures does { AppliesCallOnThread thread.old (call.Create path.now) result thread.new }
+    ensures few { reads thread.new.kept.history ≤ reads thread.old.kept.history + sum_by (pair_count_of_directory_at thread.old.kept.pairs) (parents path.now) + 6 }
 {
-    path.know_bytes();
-    path.know_names();
-    know_device(thread);
-    let target = find_target(alloc, thread, root, path)?;
+    path.show_path_bytes_to_proof();
+    path.show_path_names_to_proof();
+    show_block_facts_to_proof(thread);
+    let target = find_at_path(alloc, thread, root, path)?;
     let place = place_in(target.found);
     create(alloc, thread, place.pair, place.id, target.name)
 }
@@ -98,20 +98,20 @@ pub(crate) fn create_at<D: BlockDevice>(
 // Makes an empty directory where no entry is.
 //
 // Errors: `Io` where a call of the device failed. `NoMemory` where memory isn't granted.
-pub(crate) fn make_at<D: BlockDevice>(
+pub(crate) fn make_directory_at<D: BlockDevice>(
     alloc: Global,
     thread: &mut Thread<D>,
     root: usize,
     path: &Path<'_>,
 ) -> Result<(), Error>
-    requires rests { IsAtRest thread.old root }
-    requires can { CanMakeDirectory (tree_state_of thread.old.kept true false) path.now }
-    ensures { IsOperationOn thread.old (call.Mkdir path.now) result thread.new }
+    requires rests { CanChangeRecoveredImage thread.old root }
+    requires can { CanMakeDirectoryAtPath (tree_state_of_kept_thread thread.old.kept true false) path.now }
+    ensures { AppliesCallOnThread thread.old (call.Mkdir path.now) result thread.new }
 {
-    path.know_bytes();
-    path.know_names();
-    know_device(thread);
-    let target = find_target(alloc, thread, root, path)?;
+    path.show_path_bytes_to_proof();
+    path.show_path_names_to_proof();
+    show_block_facts_to_proof(thread);
+    let target = find_at_path(alloc, thread, root, path)?;
     let place = place_in(target.found);
     make_directory(alloc, thread, place.pair, place.id, target.name)
 }

@@ -1,15 +1,15 @@
 // An empty file system on a device.
 
 ghost use Rattle.std.specs.Prelude.{◌≡◌, ◌≤◌, ◌+◌, [], false, IfErr, IfOk, OnOk};
-ghost use Rattle.lfs_device.specs.Calls.{ChangesOnly, ReportsFaults};
+ghost use Rattle.lfs_device.specs.Calls.{ChangesOnlyTheseBlocks, ReportsFaults};
 ghost use Rattle.lfs_model.specs.History.{erases};
-ghost use Rattle.lfs_model.specs.Thread.{anchor};
+ghost use Rattle.lfs_model.specs.Thread.{anchor_pair_address};
 ghost use Rattle.lfs_pair.specs.ChangeView.{changes_view};
-ghost use Rattle.lfs_pair.specs.Fresh.{FailsUntouched};
-ghost use Rattle.lfs_thread.specs.Device.{two_of};
-ghost use Rattle.lfs_thread.specs.Kept.{disk_on, kept_view_on};
-ghost use Rattle.lfs_thread.specs.Steps.{Writes};
-ghost use Rattle.lfs_tree.specs.Formats.{ReturnsDevice, ErasesTwo, IsEmptyMap, IsEmptyRoot, IsEmptyThread, IsFormatted, ShowsEmptyRoot, put_superblock};
+ghost use Rattle.lfs_pair.specs.Fresh.{FailsUntouchedAtNoMemory};
+ghost use Rattle.lfs_thread.specs.Device.{blocks_of_address};
+ghost use Rattle.lfs_thread.specs.Kept.{disk_of_device, kept_thread_of_device};
+ghost use Rattle.lfs_thread.specs.Steps.{ThreadChangesOnlyTheseBlocks};
+ghost use Rattle.lfs_tree.specs.Formats.{ReturnsDeviceWithFormatError, ErasesTwoBlocks, IsBlockMapAfterFormat, IsHeaderOfEmptyRoot, IsThreadOfEmptyRoot, IsFreshlyFormatted, ShowsEmptyRoot, superblock_slot_changes};
 
 use lfs_alloc::BlockMap;
 use lfs_cache::Cache;
@@ -25,7 +25,7 @@ const ROOT: [u32; 2] = [0, 1];
 
 // Returns the changes that put the superblock into slot 0.
 fn superblock_changes<'a>(structure: &'a [u8; 24]) -> [Change<'a>; 2]
-    ensures { changes_view result ≡ put_superblock structure.now }
+    ensures { changes_view result ≡ superblock_slot_changes structure.now }
 {
     [
         Change::Create {
@@ -42,11 +42,14 @@ fn superblock_changes<'a>(structure: &'a [u8; 24]) -> [Change<'a>; 2]
 }
 
 // Writes the superblock, and nothing else, into a pair of the blocks 0 and 1.
-fn write_root<D: BlockDevice>(alloc: Global, device: &mut D) -> Result<Pair, Error>
-    ensures root { IfOk result (λ pair. IsEmptyRoot (disk_on D.BlockDevice device.new) (D.history device.new) pair) }
+fn write_root_pair_with_superblock<D: BlockDevice>(
+    alloc: Global,
+    device: &mut D,
+) -> Result<Pair, Error>
+    ensures root { IfOk result (λ pair. IsHeaderOfEmptyRoot (disk_of_device D.BlockDevice device.new) (D.history device.new) pair) }
     ensures erases { OnOk result (erases (D.history device.new) ≡ erases (D.history device.old) + 2) }
-    ensures error { IfErr result (λ e. FailsUntouched device.old device.new e) }
-    ensures device { ChangesOnly D.BlockDevice (two_of anchor) device.old device.new }
+    ensures error { IfErr result (λ e. FailsUntouchedAtNoMemory device.old device.new e) }
+    ensures device { ChangesOnlyTheseBlocks D.BlockDevice (blocks_of_address anchor_pair_address) device.old device.new }
     ensures faults { ReportsFaults D.BlockDevice device.old device.new result }
 {
     let geometry = device.geometry();
@@ -57,21 +60,21 @@ fn write_root<D: BlockDevice>(alloc: Global, device: &mut D) -> Result<Pair, Err
 }
 
 // Writes the superblock, and makes its pair the only one of the thread.
-fn write_thread<D: BlockDevice>(
+fn write_thread_of_root_pair<D: BlockDevice>(
     alloc: Global,
     device: &mut D,
     pairs: &mut Vec<Pair>,
 ) -> Result<(), Error>
     requires none { pairs.old.items ≡ [] }
-    ensures root { OnOk result (IsEmptyThread (disk_on D.BlockDevice device.new) (D.history device.new) pairs.new.items) }
+    ensures root { OnOk result (IsThreadOfEmptyRoot (disk_of_device D.BlockDevice device.new) (D.history device.new) pairs.new.items) }
     ensures erases { OnOk result (erases (D.history device.new) ≡ erases (D.history device.old) + 2) }
-    ensures error { IfErr result (λ e. FailsUntouched device.old device.new e) }
-    ensures device { ChangesOnly D.BlockDevice (two_of anchor) device.old device.new }
+    ensures error { IfErr result (λ e. FailsUntouchedAtNoMemory device.old device.new e) }
+    ensures device { ChangesOnlyTheseBlocks D.BlockDevice (blocks_of_address anchor_pair_address) device.old device.new }
     ensures faults { ReportsFaults D.BlockDevice device.old device.new result }
 {
     // The header's memory is taken before anything is written.
     pairs.reserve(1)?;
-    let pair = write_root(alloc, device)?;
+    let pair = write_root_pair_with_superblock(alloc, device)?;
     pairs.push(pair)?;
     Ok(())
 }
@@ -80,7 +83,7 @@ fn write_thread<D: BlockDevice>(
 fn in_memory(alloc: Global, block_count: u32) -> Result<(Cache, BlockMap), Error>
     requires { 2 ≤ block_count }
     ensures empty { IfOk result (λ parts. parts.0 ≡ []) }
-    ensures map { IfOk result (λ parts. IsEmptyMap block_count parts.1) }
+    ensures map { IfOk result (λ parts. IsBlockMapAfterFormat block_count parts.1) }
     ensures error { IfErr result (λ e. e ≡ Error.NoMemory) }
 {
     let cache = Cache::new(alloc)?;
@@ -104,11 +107,11 @@ fn in_memory(alloc: Global, block_count: u32) -> Result<(Cache, BlockMap), Error
 /// then. An error comes with the device.
 pub fn format<D: BlockDevice>(alloc: Global, mut device: D) -> Result<Thread<D>, (D, Error)>
     ensures works { IfOk result (λ t. t.failed ≡ false) }
-    ensures formatted { IfOk result (λ t. IsFormatted t.kept) }
+    ensures formatted { IfOk result (λ t. IsFreshlyFormatted t.kept) }
     ensures shows { IfOk result (λ t. ShowsEmptyRoot t.kept) }
-    ensures writes { IfOk result (λ t. Writes (two_of anchor) (kept_view_on D.BlockDevice device [] []) t.kept) }
-    ensures calls { IfOk result (λ t. ErasesTwo (D.history device) t.kept.history) }
-    ensures back { IfErr result (λ e. ReturnsDevice D.BlockDevice (two_of anchor) device e.0 e.1) }
+    ensures writes { IfOk result (λ t. ThreadChangesOnlyTheseBlocks (blocks_of_address anchor_pair_address) (kept_thread_of_device D.BlockDevice device [] []) t.kept) }
+    ensures calls { IfOk result (λ t. ErasesTwoBlocks (D.history device) t.kept.history) }
+    ensures back { IfErr result (λ e. ReturnsDeviceWithFormatError D.BlockDevice (blocks_of_address anchor_pair_address) device e.0 e.1) }
 {
     let block_count = device.geometry().block_count;
     let mut pairs = Vec::new(alloc);
@@ -116,7 +119,7 @@ pub fn format<D: BlockDevice>(alloc: Global, mut device: D) -> Result<Thread<D>,
         Ok(parts) => parts,
         Err(error) => return Err((device, error)),
     };
-    match write_thread(alloc, &mut device, &mut pairs) {
+    match write_thread_of_root_pair(alloc, &mut device, &mut pairs) {
         Ok(()) => Ok(Thread::from_parts(Parts {
             device,
             cache,

@@ -2,37 +2,37 @@
 
 ghost use Rattle.std.specs.Prelude.{◌≡◌, ◌++◌, ◌<◌, IfErr, IfOk, OnOk, false, is_err, length, map};
 ghost use Rattle.std.specs.Option.{option_to_list};
-ghost use Rattle.lfs_writer.specs.SettledFiles.{IsReadBesideMap};
-ghost use Rattle.lfs_writer.specs.ThreadContents.{ReportsWork};
-ghost use Rattle.lfs_model.specs.LoggedContent.{HasParts, HaveParts};
+ghost use Rattle.lfs_writer.specs.SettledFiles.{ChangesOnlyBlockMap};
+ghost use Rattle.lfs_writer.specs.ThreadContents.{ReportsFaultOrNoMemory};
+ghost use Rattle.lfs_model.specs.LoggedContent.{IsWellFormedRawSlot, AreWellFormedRawSlots};
 ghost use Rattle.lfs_model.specs.Slots.{Content as ModelContent};
-ghost use Rattle.lfs_operations.specs.Dropping.{SameInFlight};
-ghost use Rattle.lfs_operations.specs.Ready.{IsReady};
-ghost use Rattle.lfs_operations.specs.Recovering.{AreUnreached, slots_at};
+ghost use Rattle.lfs_operations.specs.Dropping.{HasSameBlocksInFlight};
+ghost use Rattle.lfs_operations.specs.Ready.{IsImageReadyForChange};
+ghost use Rattle.lfs_operations.specs.Recovering.{AreUnreachedPairNumbers, slots_of_numbered_pairs};
 ghost use Rattle.lfs_tag.specs.ContentView.{slot_view};
-ghost use Rattle.lfs_thread.specs.CachedLog.{IsBlockOf};
-ghost use Rattle.lfs_thread.specs.Steps.{pair_in};
-ghost use Rattle.lfs_tree.specs.LostLists.{CanFreeLists, list_of_raw_struct, lists_of_slots, lists_of_raw_slots};
-ghost use Rattle.lfs_lookup.specs.Reading.{IsReading};
-ghost use Rattle.lfs_lookup.specs.Search.{HoldsContent};
+ghost use Rattle.lfs_thread.specs.CachedLog.{IsLogBlockOfContent};
+ghost use Rattle.lfs_thread.specs.Steps.{kept_pair_at_index};
+ghost use Rattle.lfs_tree.specs.LostLists.{CanFreeListsOfDroppedSlots, stored_lists_of_raw_struct, stored_lists_of_slots, stored_lists_of_raw_slots};
+ghost use Rattle.lfs_lookup.specs.Reading.{OnlyReadsThreadAndReportsErrors};
+ghost use Rattle.lfs_lookup.specs.Search.{HasLogWithCompleteContent};
 
 use lfs_device::{BlockDevice, Error};
-use lfs_lookup::{Entry, FileStorage, entry_of};
+use lfs_lookup::{FileOrDirectory, FileStorage, entry_of};
 use lfs_tag::{Content, Log, Slot};
 use lfs_thread::Thread;
 use lfs_writer::{Stored, settle_file, settled_map_is_exact};
 use std::alloc::{AllocError, Global};
 
 // Returns the list that a slot names, if it names one.
-fn list_of(slot: &Slot<'_>) -> Option<Stored>
-    requires { HasParts (slot_view slot.now) }
-    ensures { option_to_list result ≡ list_of_raw_struct (slot_view slot.now).struct }
+fn list_of_slot(slot: &Slot<'_>) -> Option<Stored>
+    requires { IsWellFormedRawSlot (slot_view slot.now) }
+    ensures { option_to_list result ≡ stored_lists_of_raw_struct (slot_view slot.now).struct }
 {
     let Some(structure) = slot.structure else {
         return None;
     };
     match entry_of(&structure) {
-        Entry::File(FileStorage::List { head, size }) => Some(Stored {
+        FileOrDirectory::File(FileStorage::List { head, size }) => Some(Stored {
             head,
             size,
             in_flight: false,
@@ -42,12 +42,12 @@ fn list_of(slot: &Slot<'_>) -> Option<Stored>
 }
 
 // Adds the lists that slots name.
-fn push_lists(lists: &mut Vec<Stored>, slots: &[Slot<'_>]) -> Result<(), AllocError>
-    requires { HaveParts (map slot_view slots.now) }
-    ensures { OnOk result (lists.new.items ≡ lists.old.items ++ lists_of_raw_slots (map slot_view slots.now)) }
+fn push_lists_of_slots(lists: &mut Vec<Stored>, slots: &[Slot<'_>]) -> Result<(), AllocError>
+    requires { AreWellFormedRawSlots (map slot_view slots.now) }
+    ensures { OnOk result (lists.new.items ≡ lists.old.items ++ stored_lists_of_raw_slots (map slot_view slots.now)) }
 {
     for slot in slots {
-        if let Some(list) = list_of(slot) {
+        if let Some(list) = list_of_slot(slot) {
             lists.push(list)?;
         }
     }
@@ -55,18 +55,18 @@ fn push_lists(lists: &mut Vec<Stored>, slots: &[Slot<'_>]) -> Result<(), AllocEr
 }
 
 // Adds the lists that the slots of a log name.
-fn push_lists_in(alloc: Global, lists: &mut Vec<Stored>, log: &Log<'_>) -> Result<(), Error>
-    requires { HoldsContent log.now }
-    ensures lists { (content : ModelContent) → IsBlockOf log.now content → OnOk result (lists.new.items ≡ lists.old.items ++ lists_of_slots content.slots) }
+fn push_lists_of_log(alloc: Global, lists: &mut Vec<Stored>, log: &Log<'_>) -> Result<(), Error>
+    requires { HasLogWithCompleteContent log.now }
+    ensures lists { (content : ModelContent) → IsLogBlockOfContent log.now content → OnOk result (lists.new.items ≡ lists.old.items ++ stored_lists_of_slots content.slots) }
     ensures errors { IfErr result (λ e. e ≡ Error.NoMemory) }
 {
     let content = Content::read(alloc, log)?;
-    push_lists(lists, &content.slots)?;
+    push_lists_of_slots(lists, &content.slots)?;
     Ok(())
 }
 
 // Adds the lists that the slots of a pair name.
-fn push_lists_at<D: BlockDevice>(
+fn push_lists_of_pair<D: BlockDevice>(
     alloc: Global,
     thread: &mut Thread<D>,
     lists: &mut Vec<Stored>,
@@ -74,11 +74,11 @@ fn push_lists_at<D: BlockDevice>(
 ) -> Result<(), Error>
     requires works { thread.old.failed ≡ false }
     requires below { index < length thread.old.kept.pairs }
-    ensures lists { OnOk result (lists.new.items ≡ lists.old.items ++ lists_of_slots (pair_in thread.old.kept index).content.slots) }
-    ensures reading { IsReading thread.old thread.new result }
+    ensures lists { OnOk result (lists.new.items ≡ lists.old.items ++ stored_lists_of_slots (kept_pair_at_index thread.old.kept index).content.slots) }
+    ensures reading { OnlyReadsThreadAndReportsErrors thread.old thread.new result }
 {
     thread.load_pair(index)?;
-    push_lists_in(alloc, lists, &thread.lend(index).unwrap())
+    push_lists_of_log(alloc, lists, &thread.lend(index).unwrap())
 }
 
 // Returns the lists that the slots of these pairs name. No path leads to the pairs.
@@ -90,13 +90,13 @@ pub(crate) fn lists_of_pairs<D: BlockDevice>(
     numbers: &[usize],
 ) -> Result<Vec<Stored>, Error>
     requires works { thread.old.failed ≡ false }
-    requires unreached { AreUnreached thread.old.kept.pairs numbers.now }
-    ensures lists { IfOk result (λ lists. lists.items ≡ lists_of_slots (slots_at thread.old.kept.pairs numbers.now)) }
-    ensures reading { IsReading thread.old thread.new result }
+    requires unreached { AreUnreachedPairNumbers thread.old.kept.pairs numbers.now }
+    ensures lists { IfOk result (λ lists. lists.items ≡ stored_lists_of_slots (slots_of_numbered_pairs thread.old.kept.pairs numbers.now)) }
+    ensures reading { OnlyReadsThreadAndReportsErrors thread.old thread.new result }
 {
     let mut lists = Vec::new(alloc);
     for number in numbers {
-        push_lists_at(alloc, thread, &mut lists, *number)?;
+        push_lists_of_pair(alloc, thread, &mut lists, *number)?;
     }
     Ok(lists)
 }
@@ -109,12 +109,12 @@ pub(crate) fn free_lists<D: BlockDevice>(
     lists: &[Stored],
 ) -> Result<(), Error>
     requires works { thread.old.failed ≡ false }
-    requires can { CanFreeLists thread.old.kept lists.now }
-    ensures ready { OnOk result (IsReady thread.new.kept) }
-    ensures flying { OnOk result (SameInFlight thread.old.kept.map thread.new.kept.map) }
-    ensures only { IsReadBesideMap thread.old.kept thread.new.kept }
+    requires can { CanFreeListsOfDroppedSlots thread.old.kept lists.now }
+    ensures ready { OnOk result (IsImageReadyForChange thread.new.kept) }
+    ensures flying { OnOk result (HasSameBlocksInFlight thread.old.kept.map thread.new.kept.map) }
+    ensures only { ChangesOnlyBlockMap thread.old.kept thread.new.kept }
     ensures failed { thread.new.failed ≡ is_err result }
-    ensures reports { ReportsWork thread.old.kept thread.new.kept result }
+    ensures reports { ReportsFaultOrNoMemory thread.old.kept thread.new.kept result }
 {
     settled_map_is_exact();
     let nothing = Stored {

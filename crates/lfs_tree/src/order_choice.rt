@@ -3,15 +3,15 @@
 ghost use Rattle.std.specs.Prelude.{◌≡◌, IfErr, IfOk, List};
 ghost use Rattle.lfs_device.specs.Shown.{ordered};
 ghost use Rattle.lfs_model.specs.Thread.{Pair};
-ghost use Rattle.lfs_model.specs.View.{IsAccepted};
+ghost use Rattle.lfs_model.specs.View.{IsAcceptedImage};
 ghost use Rattle.lfs_model.specs.declared.order.NameOrder.{NameOrder};
 ghost use Rattle.lfs_model.specs.declared.order.NameOrder.TheVariants.{LongerFirst, ShorterFirst};
-ghost use Rattle.lfs_mount.specs.Device.{IsMountError};
-ghost use Rattle.lfs_mount.specs.Either.{GivesDeviceBack};
-ghost use Rattle.lfs_thread.specs.Kept.{disk_on};
+ghost use Rattle.lfs_mount.specs.Device.{IsIoCorruptOrNoMemory};
+ghost use Rattle.lfs_mount.specs.Either.{ReturnsUnchangedDeviceWithError};
+ghost use Rattle.lfs_thread.specs.Kept.{disk_of_device};
 ghost use Rattle.lfs_tree.specs.TreeState.{IsMountedTree};
 
-use crate::mounted_tree::read_root;
+use crate::mounted_tree::find_root_and_writing_profile;
 use crate::tree::Tree;
 use lfs_device::{BlockDevice, Error, Ordered};
 use std::alloc::Global;
@@ -25,14 +25,14 @@ pub fn mount_either<D: BlockDevice>(
     alloc: Global,
     device: D,
 ) -> Result<Tree<Ordered<D>>, (D, Error)>
-    ensures mounted { IfOk result (λ t. IsMountedTree (ordered t.disk.order (disk_on D.BlockDevice device)) (D.history device) t) }
-    ensures longer { IfOk result (λ t. t.disk.order ≡ ShorterFirst → (ps : List Pair) → ¬ IsAccepted (ordered LongerFirst (disk_on D.BlockDevice device)) ps) }
-    ensures corrupt { IfErr result (λ e. e.1 ≡ Error.Corrupt → (order : NameOrder) (ps : List Pair) → ¬ IsAccepted (ordered order (disk_on D.BlockDevice device)) ps) }
-    ensures errors { IfErr result (λ e. IsMountError e.1) }
-    ensures back { IfErr result (λ e. GivesDeviceBack D.BlockDevice device e.0 e.1) }
+    ensures mounted { IfOk result (λ t. IsMountedTree (ordered t.disk.order (disk_of_device D.BlockDevice device)) (D.history device) t) }
+    ensures longer { IfOk result (λ t. t.disk.order ≡ ShorterFirst → (ps : List Pair) → ¬ IsAcceptedImage (ordered LongerFirst (disk_of_device D.BlockDevice device)) ps) }
+    ensures corrupt { IfErr result (λ e. e.1 ≡ Error.Corrupt → (order : NameOrder) (ps : List Pair) → ¬ IsAcceptedImage (ordered order (disk_of_device D.BlockDevice device)) ps) }
+    ensures errors { IfErr result (λ e. IsIoCorruptOrNoMemory e.1) }
+    ensures back { IfErr result (λ e. ReturnsUnchangedDeviceWithError D.BlockDevice device e.0 e.1) }
 {
     let mut thread = lfs_mount::mount_either(alloc, device)?;
-    match read_root(alloc, &mut thread) {
+    match find_root_and_writing_profile(alloc, &mut thread) {
         Ok((root, is_writable)) => Ok(Tree {
             thread,
             root,

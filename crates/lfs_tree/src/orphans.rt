@@ -1,17 +1,17 @@
 // The pairs of directories that no path leads to.
 
 ghost use Rattle.std.specs.Prelude.{◌≡◌, ◌<◌, ◌≤◌, ◌++◌, ◌∷◌, [], IfOk, OnOk, false, if◌then◌else◌, length, replicate, slice_index_or};
-ghost use Rattle.lfs_model.specs.Thread.{superblocks_before};
-ghost use Rattle.lfs_model.specs.View.{IsAccepted};
-ghost use Rattle.lfs_operations.specs.Recovering.{AreUnreached};
+ghost use Rattle.lfs_model.specs.Thread.{pair_count_before_root};
+ghost use Rattle.lfs_model.specs.View.{IsAcceptedImage};
+ghost use Rattle.lfs_operations.specs.Recovering.{AreUnreachedPairNumbers};
 ghost use Rattle.lfs_lookup.specs.Items.{item_view, items_view};
-ghost use Rattle.lfs_lookup.specs.Profile.{follows_at};
-ghost use Rattle.lfs_lookup.specs.Reading.{IsReading};
-ghost use Rattle.lfs_tree.specs.Orphans.{AllBegin, AreReachMarks, HasMarked, IsNamedBy, IsNamedIn};
-ghost use Rattle.lfs_lookup.specs.Walk.{BeginsIfBranch};
+ghost use Rattle.lfs_lookup.specs.Profile.{follows_hard_tail_at};
+ghost use Rattle.lfs_lookup.specs.Reading.{OnlyReadsThreadAndReportsErrors};
+ghost use Rattle.lfs_tree.specs.Orphans.{BranchesBeginInThread, AreMarksOfReachedPairs, HasMarkedReachedPairs, IsFirstPairOfStruct, IsFirstPairOfSomeStruct};
+ghost use Rattle.lfs_lookup.specs.Walk.{HasFirstPairInThreadIfBranch};
 
 use lfs_device::{BlockDevice, Error};
-use lfs_lookup::{Item, Structure, entries_under, follows_at};
+use lfs_lookup::{NameAndOwnedStruct, OwnedStruct, directory_items_under_gstate, follows_at};
 use lfs_thread::{Thread, number_of};
 use std::alloc::{AllocError, Global};
 
@@ -25,7 +25,7 @@ fn unset_marks(alloc: Global, count: usize) -> Result<Vec<bool>, AllocError>
 // Marks the pair of a number, unless it is marked. Its directory is visited later.
 fn mark(marks: &mut Vec<bool>, pending: &mut Vec<usize>, number: usize) -> Result<(), AllocError>
     requires { number < length marks.old.items }
-    ensures { OnOk result (HasMarked (λ n. n ≡ number) marks.old.items pending.old.items marks.new.items pending.new.items) }
+    ensures { OnOk result (HasMarkedReachedPairs (λ n. n ≡ number) marks.old.items pending.old.items marks.new.items pending.new.items) }
 {
     if !marks[number] {
         marks[number] = true;
@@ -35,18 +35,18 @@ fn mark(marks: &mut Vec<bool>, pending: &mut Vec<usize>, number: usize) -> Resul
 }
 
 // Marks the first pair of the directory that an entry names, if it names one.
-fn mark_branch<D: BlockDevice>(
+fn mark_branch_pair<D: BlockDevice>(
     thread: &Thread<D>,
-    item: &Item,
+    item: &NameAndOwnedStruct,
     marks: &mut Vec<bool>,
     pending: &mut Vec<usize>,
 ) -> Result<(), AllocError>
-    requires accepted { IsAccepted thread.now.kept.disk thread.now.kept.pairs }
-    requires begins { BeginsIfBranch thread.now.kept.pairs (item_view item.now).struct }
+    requires accepted { IsAcceptedImage thread.now.kept.disk thread.now.kept.pairs }
+    requires begins { HasFirstPairInThreadIfBranch thread.now.kept.pairs (item_view item.now).struct }
     requires len { length marks.old.items ≡ length thread.now.kept.pairs }
-    ensures { OnOk result (HasMarked (IsNamedBy thread.now.kept.pairs (item_view item.now).struct) marks.old.items pending.old.items marks.new.items pending.new.items) }
+    ensures { OnOk result (HasMarkedReachedPairs (IsFirstPairOfStruct thread.now.kept.pairs (item_view item.now).struct) marks.old.items pending.old.items marks.new.items pending.new.items) }
 {
-    if let Structure::Branch(to) = item.structure {
+    if let OwnedStruct::Branch(to) = item.structure {
         let number = number_of(thread, to).unwrap();
         mark(marks, pending, number)?;
     }
@@ -54,49 +54,49 @@ fn mark_branch<D: BlockDevice>(
 }
 
 // Marks the first pairs of the directories that entries name.
-fn mark_branches<D: BlockDevice>(
+fn mark_branch_pairs<D: BlockDevice>(
     thread: &Thread<D>,
-    mut items: Vec<Item>,
+    mut items: Vec<NameAndOwnedStruct>,
     marks: &mut Vec<bool>,
     pending: &mut Vec<usize>,
 ) -> Result<(), AllocError>
-    requires accepted { IsAccepted thread.now.kept.disk thread.now.kept.pairs }
-    requires begin { AllBegin thread.now.kept.pairs (items_view items.items) }
+    requires accepted { IsAcceptedImage thread.now.kept.disk thread.now.kept.pairs }
+    requires begin { BranchesBeginInThread thread.now.kept.pairs (items_view items.items) }
     requires len { length marks.old.items ≡ length thread.now.kept.pairs }
-    ensures { OnOk result (HasMarked (IsNamedIn thread.now.kept.pairs (items_view items.items)) marks.old.items pending.old.items marks.new.items pending.new.items) }
+    ensures { OnOk result (HasMarkedReachedPairs (IsFirstPairOfSomeStruct thread.now.kept.pairs (items_view items.items)) marks.old.items pending.old.items marks.new.items pending.new.items) }
 {
     while let Some(item) = items.pop() {
-        mark_branch(thread, &item, marks, pending)?;
+        mark_branch_pair(thread, &item, marks, pending)?;
     }
     Ok(())
 }
 
 // Returns which pairs a path leads to, as the first of a directory.
-fn mark_directories<D: BlockDevice>(
+fn mark_reached_directories<D: BlockDevice>(
     alloc: Global,
     thread: &mut Thread<D>,
     root: usize,
 ) -> Result<Vec<bool>, Error>
     requires works { thread.old.failed ≡ false }
-    requires accepted { IsAccepted thread.old.kept.disk thread.old.kept.pairs }
-    requires root { root ≡ superblocks_before thread.old.kept.pairs }
-    ensures marks { IfOk result (λ marks. AreReachMarks thread.old.kept.pairs marks.items) }
-    ensures reading { IsReading thread.old thread.new result }
+    requires accepted { IsAcceptedImage thread.old.kept.disk thread.old.kept.pairs }
+    requires root { root ≡ pair_count_before_root thread.old.kept.pairs }
+    ensures marks { IfOk result (λ marks. AreMarksOfReachedPairs thread.old.kept.pairs marks.items) }
+    ensures reading { OnlyReadsThreadAndReportsErrors thread.old thread.new result }
 {
     let state = thread.state();
     let mut marks = unset_marks(alloc, thread.len())?;
     let mut pending = Vec::new(alloc);
     mark(&mut marks, &mut pending, root)?;
     while let Some(first) = pending.pop() {
-        let items = entries_under(alloc, thread, &state, first)?;
-        mark_branches(thread, items, &mut marks, &mut pending)?;
+        let items = directory_items_under_gstate(alloc, thread, &state, first)?;
+        mark_branch_pairs(thread, items, &mut marks, &mut pending)?;
     }
     Ok(marks)
 }
 
 // Returns whether a path leads to the directory of a pair. Where a hard tail leads to the pair,
 // this is so of the pair before.
-fn is_reached_at<D: BlockDevice>(
+fn is_pair_reached_at<D: BlockDevice>(
     thread: &Thread<D>,
     root: usize,
     marks: &[bool],
@@ -106,7 +106,7 @@ fn is_reached_at<D: BlockDevice>(
     requires works { thread.now.failed ≡ false }
     requires below { index < length thread.now.kept.pairs }
     requires len { length marks.now ≡ length thread.now.kept.pairs }
-    ensures { result ≡ (if follows_at root thread.now.kept.pairs index then before else slice_index_or marks.now index false) }
+    ensures { result ≡ (if follows_hard_tail_at root thread.now.kept.pairs index then before else slice_index_or marks.now index false) }
 {
     if follows_at(thread, root, index) {
         before
@@ -116,7 +116,11 @@ fn is_reached_at<D: BlockDevice>(
 }
 
 // Notes a number, unless a path leads there.
-fn note(numbers: &mut Vec<usize>, index: usize, is_reached: bool) -> Result<(), AllocError>
+fn note_unreached_number(
+    numbers: &mut Vec<usize>,
+    index: usize,
+    is_reached: bool,
+) -> Result<(), AllocError>
     ensures { OnOk result (numbers.new.items ≡ (if is_reached then numbers.old.items else numbers.old.items ++ index ∷ [])) }
 {
     if !is_reached {
@@ -126,23 +130,23 @@ fn note(numbers: &mut Vec<usize>, index: usize, is_reached: bool) -> Result<(), 
 }
 
 // Returns the numbers of the pairs of directories whose first one isn't marked.
-fn unmarked_directories<D: BlockDevice>(
+fn numbers_of_unmarked_directories<D: BlockDevice>(
     alloc: Global,
     thread: &Thread<D>,
     root: usize,
     marks: &[bool],
 ) -> Result<Vec<usize>, AllocError>
     requires works { thread.now.failed ≡ false }
-    requires root { root ≡ superblocks_before thread.now.kept.pairs }
+    requires root { root ≡ pair_count_before_root thread.now.kept.pairs }
     requires few { root ≤ length thread.now.kept.pairs }
-    requires marks { AreReachMarks thread.now.kept.pairs marks.now }
-    ensures { IfOk result (λ numbers. AreUnreached thread.now.kept.pairs numbers.items) }
+    requires marks { AreMarksOfReachedPairs thread.now.kept.pairs marks.now }
+    ensures { IfOk result (λ numbers. AreUnreachedPairNumbers thread.now.kept.pairs numbers.items) }
 {
     let mut numbers = Vec::new(alloc);
     let mut is_reached = true;
     for index in root..thread.len() {
-        is_reached = is_reached_at(thread, root, marks, index, is_reached);
-        note(&mut numbers, index, is_reached)?;
+        is_reached = is_pair_reached_at(thread, root, marks, index, is_reached);
+        note_unreached_number(&mut numbers, index, is_reached)?;
     }
     Ok(numbers)
 }
@@ -157,12 +161,12 @@ pub(crate) fn unreached<D: BlockDevice>(
     root: usize,
 ) -> Result<Vec<usize>, Error>
     requires works { thread.old.failed ≡ false }
-    requires accepted { IsAccepted thread.old.kept.disk thread.old.kept.pairs }
-    requires root { root ≡ superblocks_before thread.old.kept.pairs }
-    ensures unreached { IfOk result (λ numbers. AreUnreached thread.old.kept.pairs numbers.items) }
-    ensures reading { IsReading thread.old thread.new result }
+    requires accepted { IsAcceptedImage thread.old.kept.disk thread.old.kept.pairs }
+    requires root { root ≡ pair_count_before_root thread.old.kept.pairs }
+    ensures unreached { IfOk result (λ numbers. AreUnreachedPairNumbers thread.old.kept.pairs numbers.items) }
+    ensures reading { OnlyReadsThreadAndReportsErrors thread.old thread.new result }
 {
-    let marks = mark_directories(alloc, thread, root)?;
-    let numbers = unmarked_directories(alloc, thread, root, &marks)?;
+    let marks = mark_reached_directories(alloc, thread, root)?;
+    let numbers = numbers_of_unmarked_directories(alloc, thread, root, &marks)?;
     Ok(numbers)
 }

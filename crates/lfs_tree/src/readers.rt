@@ -6,12 +6,12 @@ ghost use Rattle.lfs_model.specs.History.{reads};
 ghost use Rattle.lfs_model.specs.Slots.{Inline};
 ghost use Rattle.lfs_model.specs.Tree.{Path as ModelPath};
 ghost use Rattle.lfs_model.specs.TreeEdits.{bytes_at};
-ghost use Rattle.lfs_lookup.specs.FileContents.{AreContentsAt, AreFoundAt, struct_of};
-ghost use Rattle.lfs_lookup.specs.Finds.{Finds};
-ghost use Rattle.lfs_tree.specs.Reads.{ReadsOnce};
+ghost use Rattle.lfs_lookup.specs.FileContents.{AreFileContentsAtPath, AreContentsOfFileAtPathOrNone, struct_of};
+ghost use Rattle.lfs_lookup.specs.Finds.{IsFoundNodeAtPath};
+ghost use Rattle.lfs_tree.specs.Reads.{ReadsEachPairOnce};
 ghost use Rattle.lfs_tree.specs.TreeState.{IsReadOnlyCall, kept_of, tree_view};
 
-use crate::answers::note_error;
+use crate::answers::mark_thread_failed_on_error;
 use crate::tree::Tree;
 use lfs_device::{BlockDevice, Error};
 use lfs_lookup::{FileContents, FoundFile, Path, bytes_of, file_at};
@@ -26,12 +26,12 @@ impl<D: BlockDevice> Tree<D> {
     pub fn find_file(&mut self, alloc: Global, path: &Path<'_>) -> Result<FoundFile, Error>
         requires { self.old.failed ≡ false }
         ensures asks { IsReadOnlyCall self.old result self.new }
-        ensures found { IfOk result (λ found. Finds (tree_view self.old) path.now found.finding) }
-        ensures contents { IfOk result (λ found. AreFoundAt (kept_of self.old) path.now found.contents) }
-        ensures few { ReadsOnce (parents path.now) self.old self.new.history }
+        ensures found { IfOk result (λ found. IsFoundNodeAtPath (tree_view self.old) path.now found.finding) }
+        ensures contents { IfOk result (λ found. AreContentsOfFileAtPathOrNone (kept_of self.old) path.now found.contents) }
+        ensures few { ReadsEachPairOnce (parents path.now) self.old self.new.history }
     {
         let found = file_at(alloc, &mut self.thread, self.root, path);
-        note_error(&mut self.thread, &found);
+        mark_thread_failed_on_error(&mut self.thread, &found);
         found
     }
 
@@ -48,14 +48,14 @@ impl<D: BlockDevice> Tree<D> {
         count: usize,
     ) -> Result<Vec<u8>, Error>
         requires works { self.old.failed ≡ false }
-        requires there { (path : ModelPath) × AreContentsAt self.old.pairs path contents.now }
+        requires there { (path : ModelPath) × AreFileContentsAtPath self.old.pairs path contents.now }
         ensures asks { IsReadOnlyCall self.old result self.new }
-        ensures bytes { (path : ModelPath) → AreContentsAt self.old.pairs path contents.now → IfOk result (λ v. v.items ≡ take count (drop position (bytes_at (tree_view self.old path)))) }
+        ensures bytes { (path : ModelPath) → AreFileContentsAtPath self.old.pairs path contents.now → IfOk result (λ v. v.items ≡ take count (drop position (bytes_at (tree_view self.old path)))) }
         ensures end { IfOk result (λ v. position + length v.items < 2 ^ 32) }
         ensures none { (own : List ℕ) → struct_of contents.now ≡ Inline own → self.new.history ≡ self.old.history }
     {
         let bytes = bytes_of(alloc, &mut self.thread, contents, position, count);
-        note_error(&mut self.thread, &bytes);
+        mark_thread_failed_on_error(&mut self.thread, &bytes);
         bytes
     }
 }

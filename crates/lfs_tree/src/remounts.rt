@@ -1,7 +1,7 @@
 // A device that is mounted again.
 
 ghost use Rattle.std.specs.Prelude.{◌≡◌, IfErr, OnErr, OnOk};
-ghost use Rattle.lfs_tree.specs.TreeState.{FailsInRead, IsMountError, IsMountedTree};
+ghost use Rattle.lfs_tree.specs.TreeState.{IsTreeFailedByRead, IsMountErrorWithCause, IsMountedTree};
 
 use crate::tree::Tree;
 use lfs_alloc::BlockMap;
@@ -12,34 +12,34 @@ use std::alloc::Global;
 
 // What a thread has besides its device, for a device of which nothing is known.
 #[derive(Drop)]
-pub(crate) struct Spare {
+pub(crate) struct SpareThreadParts {
     alloc: Global,
     cache: Cache,
     map: BlockMap,
 }
 
-impl Spare {
+impl SpareThreadParts {
     // Takes the memory for it.
-    pub(crate) fn new(alloc: Global) -> Result<Spare, Error>
+    pub(crate) fn new(alloc: Global) -> Result<SpareThreadParts, Error>
         ensures { IfErr result (λ e. e ≡ Error.NoMemory) }
     {
         let cache = Cache::new(alloc)?;
         let map = BlockMap::new(alloc, 0)?;
-        Ok(Spare { alloc, cache, map })
+        Ok(SpareThreadParts { alloc, cache, map })
     }
 }
 
 // Mounts the same device again.
 pub(crate) fn mount_again<D: BlockDevice>(
     tree: Tree<D>,
-    spare: Spare,
+    spare: SpareThreadParts,
 ) -> (Tree<D>, Result<(), Error>)
     ensures mounted { OnOk result.1 (IsMountedTree tree.disk tree.history result.0) }
-    ensures broken { OnErr result.1 (FailsInRead tree result.0) }
-    ensures errors { IfErr result.1 (IsMountError tree result.0) }
+    ensures broken { OnErr result.1 (IsTreeFailedByRead tree result.0) }
+    ensures errors { IfErr result.1 (IsMountErrorWithCause tree result.0) }
 {
     let is_writable = tree.is_writable;
-    let Spare { alloc, cache, map } = spare;
+    let SpareThreadParts { alloc, cache, map } = spare;
     match Tree::mount(alloc, tree.into_device()) {
         Ok(tree) => (tree, Ok(())),
         Err((device, error)) => {

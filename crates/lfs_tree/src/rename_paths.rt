@@ -1,24 +1,24 @@
 // What is at the two paths of a rename, before anything is written.
 
 ghost use Rattle.std.specs.Prelude.{◌≡◌, ◌≤◌, ◌+◌, ◌++◌, true, false, IfOk, IfSome, sum_by};
-ghost use Rattle.lfs_model.specs.Frame.{pairs_of_path, parents};
+ghost use Rattle.lfs_model.specs.Frame.{pair_count_of_directory_at, parents};
 ghost use Rattle.lfs_model.specs.History.{reads};
-ghost use Rattle.lfs_model.specs.Shown.{tree_in};
-ghost use Rattle.lfs_lookup.specs.Finds.{Finds, has_names};
-ghost use Rattle.lfs_lookup.specs.Paths.{LeadsTo};
-ghost use Rattle.lfs_lookup.specs.Reading.{IsReading};
-ghost use Rattle.lfs_tree.specs.TreeChanges.{IsAtRest};
-ghost use Rattle.lfs_tree.specs.RootedThreads.{IsRooted};
-ghost use Rattle.lfs_tree.specs.RenamePaths.{AreTargets, HasFoundBoth, directories_of_rename, shown_in};
+ghost use Rattle.lfs_model.specs.Shown.{tree_on_disk};
+ghost use Rattle.lfs_lookup.specs.Finds.{IsFoundNodeAtPath, has_entry_beneath_path};
+ghost use Rattle.lfs_lookup.specs.Paths.{PathLeadsToFound};
+ghost use Rattle.lfs_lookup.specs.Reading.{OnlyReadsThreadAndReportsErrors};
+ghost use Rattle.lfs_tree.specs.TreeChanges.{CanChangeRecoveredImage};
+ghost use Rattle.lfs_tree.specs.RootedThreads.{IsSoundThreadWithRoot};
+ghost use Rattle.lfs_tree.specs.RenamePaths.{AreRenameTargets, HasFoundBothRenamePaths, directories_of_rename, lookup_result_of_found};
 ghost use Rattle.lfs_tree.specs.TreeState.{IsReadOnlyCall, kept_of, tree_view};
 
-use crate::answers::note_error;
-use crate::entries_at::find_target;
+use crate::answers::mark_thread_failed_on_error;
+use crate::entries_at::find_at_path;
 use crate::tree::Tree;
 use lfs_device::{BlockDevice, Error};
 use lfs_lookup::{
-    Found, FoundNode, Inside, Path, Shown, attributes_size_at, find_at, first_of, found_node_of,
-    has_entries, look_inside_at,
+    Found, FoundNode, Inside, Path, Shown, attributes_size_at, find_node_at_path, first_of,
+    found_node_of, has_entries, look_inside_at,
 };
 use lfs_thread::Thread;
 use std::alloc::Global;
@@ -47,7 +47,7 @@ pub struct RenameFindings {
 
 // Returns what was found, but for where a name belongs and in which directory it is.
 fn shown_in(found: Found) -> Shown
-    ensures { result ≡ shown_in found }
+    ensures { result ≡ lookup_result_of_found found }
 {
     match found {
         Found::Root => Shown::Root,
@@ -60,20 +60,20 @@ fn shown_in(found: Found) -> Shown
 }
 
 // Looks up the two paths.
-fn find_targets<D: BlockDevice>(
+fn find_rename_targets<D: BlockDevice>(
     alloc: Global,
     thread: &mut Thread<D>,
     root: usize,
     from: &Path<'_>,
     to: &Path<'_>,
 ) -> Result<RenameTargets, Error>
-    requires { IsAtRest thread.old root }
-    ensures targets { IfOk result (AreTargets thread.old.kept from.now to.now) }
-    ensures few { reads thread.new.kept.history ≤ reads thread.old.kept.history + sum_by (pairs_of_path thread.old.kept.pairs) (parents from.now ++ parents to.now) }
-    ensures reading { IsReading thread.old thread.new result }
+    requires { CanChangeRecoveredImage thread.old root }
+    ensures targets { IfOk result (AreRenameTargets thread.old.kept from.now to.now) }
+    ensures few { reads thread.new.kept.history ≤ reads thread.old.kept.history + sum_by (pair_count_of_directory_at thread.old.kept.pairs) (parents from.now ++ parents to.now) }
+    ensures reading { OnlyReadsThreadAndReportsErrors thread.old thread.new result }
 {
-    let entry = find_target(alloc, thread, root, from)?;
-    let target = find_target(alloc, thread, root, to)?;
+    let entry = find_at_path(alloc, thread, root, from)?;
+    let target = find_at_path(alloc, thread, root, to)?;
     Ok(RenameTargets {
         entry: entry.found,
         target: target.found,
@@ -81,7 +81,7 @@ fn find_targets<D: BlockDevice>(
 }
 
 // Returns where the two paths lead to: what is known, or else what a look-up finds.
-pub(crate) fn targets_at<D: BlockDevice>(
+pub(crate) fn rename_targets_at<D: BlockDevice>(
     alloc: Global,
     thread: &mut Thread<D>,
     root: usize,
@@ -89,32 +89,32 @@ pub(crate) fn targets_at<D: BlockDevice>(
     to: &Path<'_>,
     known: Option<RenameTargets>,
 ) -> Result<RenameTargets, Error>
-    requires rests { IsAtRest thread.old root }
-    requires known { IfSome known (AreTargets thread.old.kept from.now to.now) }
-    ensures targets { IfOk result (AreTargets thread.old.kept from.now to.now) }
-    ensures reading { IsReading thread.old thread.new result }
+    requires rests { CanChangeRecoveredImage thread.old root }
+    requires known { IfSome known (AreRenameTargets thread.old.kept from.now to.now) }
+    ensures targets { IfOk result (AreRenameTargets thread.old.kept from.now to.now) }
+    ensures reading { OnlyReadsThreadAndReportsErrors thread.old thread.new result }
 {
     match known {
         Some(targets) => Ok(targets),
-        None => find_targets(alloc, thread, root, from, to),
+        None => find_rename_targets(alloc, thread, root, from, to),
     }
 }
 
 // Returns what is at a path by what was found there, and whether it is a directory that has
 // entries.
-fn inside_of<D: BlockDevice>(
+fn inside_of_found_entry<D: BlockDevice>(
     alloc: Global,
     thread: &mut Thread<D>,
     root: usize,
     _path: &Path<'_>,
     found: Found,
 ) -> Result<Inside, Error>
-    requires rests { IsAtRest thread.old root }
-    requires leads { LeadsTo thread.old.kept _path.now found }
-    ensures found { IfOk result (λ inside. Finds (tree_in thread.old.kept.disk thread.old.kept.pairs) _path.now inside.finding) }
-    ensures has { IfOk result (λ inside. inside.has_entries ≡ has_names (tree_in thread.old.kept.disk thread.old.kept.pairs) _path.now) }
-    ensures few { reads thread.new.kept.history ≤ reads thread.old.kept.history + pairs_of_path thread.old.kept.pairs _path.now }
-    ensures reading { IsReading thread.old thread.new result }
+    requires rests { CanChangeRecoveredImage thread.old root }
+    requires leads { PathLeadsToFound thread.old.kept _path.now found }
+    ensures found { IfOk result (λ inside. IsFoundNodeAtPath (tree_on_disk thread.old.kept.disk thread.old.kept.pairs) _path.now inside.finding) }
+    ensures has { IfOk result (λ inside. inside.has_entries ≡ has_entry_beneath_path (tree_on_disk thread.old.kept.disk thread.old.kept.pairs) _path.now) }
+    ensures few { reads thread.new.kept.history ≤ reads thread.old.kept.history + pair_count_of_directory_at thread.old.kept.pairs _path.now }
+    ensures reading { OnlyReadsThreadAndReportsErrors thread.old thread.new result }
 {
     let shown = shown_in(found);
     let has_entries = has_entries(alloc, thread, first_of(root, shown))?;
@@ -127,22 +127,22 @@ fn inside_of<D: BlockDevice>(
 }
 
 // Looks up the two paths of a rename where nothing is to recover.
-fn find_both<D: BlockDevice>(
+fn find_both_rename_paths<D: BlockDevice>(
     alloc: Global,
     thread: &mut Thread<D>,
     root: usize,
     from: &Path<'_>,
     to: &Path<'_>,
 ) -> Result<RenameFindings, Error>
-    requires { IsAtRest thread.old root }
-    ensures found { IfOk result (HasFoundBoth (tree_in thread.old.kept.disk thread.old.kept.pairs) from.now to.now) }
-    ensures targets { IfOk result (λ found. IfSome found.targets (AreTargets thread.old.kept from.now to.now)) }
-    ensures few { reads thread.new.kept.history ≤ reads thread.old.kept.history + sum_by (pairs_of_path thread.old.kept.pairs) (directories_of_rename from.now to.now) }
-    ensures reading { IsReading thread.old thread.new result }
+    requires { CanChangeRecoveredImage thread.old root }
+    ensures found { IfOk result (HasFoundBothRenamePaths (tree_on_disk thread.old.kept.disk thread.old.kept.pairs) from.now to.now) }
+    ensures targets { IfOk result (λ found. IfSome found.targets (AreRenameTargets thread.old.kept from.now to.now)) }
+    ensures few { reads thread.new.kept.history ≤ reads thread.old.kept.history + sum_by (pair_count_of_directory_at thread.old.kept.pairs) (directories_of_rename from.now to.now) }
+    ensures reading { OnlyReadsThreadAndReportsErrors thread.old thread.new result }
 {
-    let targets = find_targets(alloc, thread, root, from, to)?;
+    let targets = find_rename_targets(alloc, thread, root, from, to)?;
     let attributes_size = attributes_size_at(alloc, thread, root, from)?;
-    let target = inside_of(alloc, thread, root, to, targets.target)?;
+    let target = inside_of_found_entry(alloc, thread, root, to, targets.target)?;
     // By the sizes of its blocks a list has as many bytes as its entry says.
     let _device = thread.device();
     Ok(RenameFindings {
@@ -154,20 +154,20 @@ fn find_both<D: BlockDevice>(
 }
 
 // Looks up the two paths of a rename where something is to recover first.
-fn show_both<D: BlockDevice>(
+fn show_both_rename_paths<D: BlockDevice>(
     alloc: Global,
     thread: &mut Thread<D>,
     root: usize,
     from: &Path<'_>,
     to: &Path<'_>,
 ) -> Result<RenameFindings, Error>
-    requires { IsRooted thread.old root true }
-    ensures found { IfOk result (HasFoundBoth (tree_in thread.old.kept.disk thread.old.kept.pairs) from.now to.now) }
-    ensures targets { IfOk result (λ found. IfSome found.targets (AreTargets thread.old.kept from.now to.now)) }
-    ensures few { reads thread.new.kept.history ≤ reads thread.old.kept.history + sum_by (pairs_of_path thread.old.kept.pairs) (directories_of_rename from.now to.now) }
-    ensures reading { IsReading thread.old thread.new result }
+    requires { IsSoundThreadWithRoot thread.old root true }
+    ensures found { IfOk result (HasFoundBothRenamePaths (tree_on_disk thread.old.kept.disk thread.old.kept.pairs) from.now to.now) }
+    ensures targets { IfOk result (λ found. IfSome found.targets (AreRenameTargets thread.old.kept from.now to.now)) }
+    ensures few { reads thread.new.kept.history ≤ reads thread.old.kept.history + sum_by (pair_count_of_directory_at thread.old.kept.pairs) (directories_of_rename from.now to.now) }
+    ensures reading { OnlyReadsThreadAndReportsErrors thread.old thread.new result }
 {
-    let entry = find_at(alloc, thread, root, from)?;
+    let entry = find_node_at_path(alloc, thread, root, from)?;
     let target = look_inside_at(alloc, thread, root, to)?;
     let attributes_size = attributes_size_at(alloc, thread, root, from)?;
     Ok(RenameFindings {
@@ -179,24 +179,24 @@ fn show_both<D: BlockDevice>(
 }
 
 // Looks up the two paths of a rename.
-fn look_up_both<D: BlockDevice>(
+fn look_up_both_rename_paths<D: BlockDevice>(
     alloc: Global,
     thread: &mut Thread<D>,
     root: usize,
     from: &Path<'_>,
     to: &Path<'_>,
 ) -> Result<RenameFindings, Error>
-    requires { IsRooted thread.old root true }
-    ensures found { IfOk result (HasFoundBoth (tree_in thread.old.kept.disk thread.old.kept.pairs) from.now to.now) }
-    ensures targets { IfOk result (λ found. IfSome found.targets (AreTargets thread.old.kept from.now to.now)) }
-    ensures few { reads thread.new.kept.history ≤ reads thread.old.kept.history + sum_by (pairs_of_path thread.old.kept.pairs) (directories_of_rename from.now to.now) }
-    ensures reading { IsReading thread.old thread.new result }
+    requires { IsSoundThreadWithRoot thread.old root true }
+    ensures found { IfOk result (HasFoundBothRenamePaths (tree_on_disk thread.old.kept.disk thread.old.kept.pairs) from.now to.now) }
+    ensures targets { IfOk result (λ found. IfSome found.targets (AreRenameTargets thread.old.kept from.now to.now)) }
+    ensures few { reads thread.new.kept.history ≤ reads thread.old.kept.history + sum_by (pair_count_of_directory_at thread.old.kept.pairs) (directories_of_rename from.now to.now) }
+    ensures reading { OnlyReadsThreadAndReportsErrors thread.old thread.new result }
 {
     let state = thread.state();
     if state.is_none() {
-        find_both(alloc, thread, root, from, to)
+        find_both_rename_paths(alloc, thread, root, from, to)
     } else {
-        show_both(alloc, thread, root, from, to)
+        show_both_rename_paths(alloc, thread, root, from, to)
     }
 }
 
@@ -216,12 +216,12 @@ impl<D: BlockDevice> Tree<D> {
         requires works { self.old.failed ≡ false }
         requires writable { self.old.writable ≡ true }
         ensures asks { IsReadOnlyCall self.old result self.new }
-        ensures found { IfOk result (HasFoundBoth (tree_view self.old) from.now to.now) }
-        ensures targets { IfOk result (λ found. IfSome found.targets (AreTargets (kept_of self.new) from.now to.now)) }
-        ensures few { reads self.new.history ≤ reads self.old.history + sum_by (pairs_of_path self.old.pairs) (directories_of_rename from.now to.now) }
+        ensures found { IfOk result (HasFoundBothRenamePaths (tree_view self.old) from.now to.now) }
+        ensures targets { IfOk result (λ found. IfSome found.targets (AreRenameTargets (kept_of self.new) from.now to.now)) }
+        ensures few { reads self.new.history ≤ reads self.old.history + sum_by (pair_count_of_directory_at self.old.pairs) (directories_of_rename from.now to.now) }
     {
-        let found = look_up_both(alloc, &mut self.thread, self.root, from, to);
-        note_error(&mut self.thread, &found);
+        let found = look_up_both_rename_paths(alloc, &mut self.thread, self.root, from, to);
+        mark_thread_failed_on_error(&mut self.thread, &found);
         found
     }
 }

@@ -3,22 +3,22 @@
 ghost use Rattle.std.specs.Prelude.{◌≡◌, ◌≢◌, false, true, IfSome, OnOk};
 ghost use Rattle.lfs_model.specs.TreeEdits.{renamed, same_path};
 ghost use Rattle.lfs_model.specs.Tree.{Path};
-ghost use Rattle.lfs_model.specs.Shown.{tree_in};
-ghost use Rattle.lfs_operations.specs.MovingSteps.{WritesAmong};
-ghost use Rattle.lfs_tree.specs.Permissions.{CanRename};
+ghost use Rattle.lfs_model.specs.Shown.{tree_on_disk};
+ghost use Rattle.lfs_operations.specs.MovingSteps.{WritesPairsAndFreeBlocks};
+ghost use Rattle.lfs_tree.specs.Permissions.{CanRenamePath};
 ghost use Rattle.lfs_tree.specs.Calls as call;
-ghost use Rattle.lfs_tree.specs.Calls.{IsOperation};
-ghost use Rattle.lfs_tree.specs.TreeChanges.{IsAtRest, IsOperationOn, SurvivesTo};
-ghost use Rattle.lfs_tree.specs.SlotChanges.{has_slot};
-ghost use Rattle.lfs_tree.specs.RootedThreads.{tree_state_of};
-ghost use Rattle.lfs_tree.specs.Moves.{CanMoveToTarget, CanMoveOntoFile, CanMoveOntoDirectory, HasMovedEntry, HasMovedOntoFile, IsSourceIn, ReportsOfWork};
-ghost use Rattle.lfs_tree.specs.RenamePaths.{AreTargets};
+ghost use Rattle.lfs_tree.specs.Calls.{AppliesCallOrFails};
+ghost use Rattle.lfs_tree.specs.TreeChanges.{CanChangeRecoveredImage, AppliesCallOnThread, SurvivesWithOldOrNewTree};
+ghost use Rattle.lfs_tree.specs.SlotChanges.{is_entry_found};
+ghost use Rattle.lfs_tree.specs.RootedThreads.{tree_state_of_kept_thread};
+ghost use Rattle.lfs_tree.specs.Moves.{CanMoveOntoFound, CanMoveOntoFile, CanMoveOntoDirectory, HasMovedEntry, HasMovedOntoFile, IsRenameSourceOfFound, WorksOrReportsError};
+ghost use Rattle.lfs_tree.specs.RenamePaths.{AreRenameTargets};
 ghost use Rattle.lfs_tree.specs.TreeState.{kept_of};
 
-use crate::answers::note_error;
-use crate::entries_at::{know_device, last_of};
-use crate::removals_at::free_list;
-use crate::rename_paths::{RenameTargets, targets_at};
+use crate::answers::mark_thread_failed_on_error;
+use crate::entries_at::{last_of, show_block_facts_to_proof};
+use crate::removals_at::free_list_of_file;
+use crate::rename_paths::{RenameTargets, rename_targets_at};
 use crate::tree::Tree;
 use lfs_device::{BlockDevice, Error};
 use lfs_lookup::{FileStorage, Found, Path, Spot};
@@ -31,18 +31,18 @@ use std::alloc::Global;
 
 // An entry's slot, and the number of the first pair of its directory.
 #[derive(Clone, Copy, Drop)]
-pub(crate) struct Source {
+pub(crate) struct RenameSource {
     pub(crate) slot: Spot,
     pub(crate) first: usize,
 }
 
 // Returns the slot of an entry that was found.
-fn source_in(found: Found) -> Source
-    requires { has_slot found ≡ true }
-    ensures { IsSourceIn found result }
+fn source_of_found(found: Found) -> RenameSource
+    requires { is_entry_found found ≡ true }
+    ensures { IsRenameSourceOfFound found result }
 {
     match found {
-        Found::Directory { parent, slot, .. } | Found::File { parent, slot, .. } => Source {
+        Found::Directory { parent, slot, .. } | Found::File { parent, slot, .. } => RenameSource {
             slot,
             first: parent,
         },
@@ -51,10 +51,10 @@ fn source_in(found: Found) -> Source
 }
 
 // Puts an entry in the place of a file, whose list is left in the map.
-fn replace_file<D: BlockDevice>(
+fn replace_file_keeping_list<D: BlockDevice>(
     alloc: Global,
     thread: &mut Thread<D>,
-    source: Source,
+    source: RenameSource,
     slot: Spot,
     _contents: FileStorage,
     name: &[u8],
@@ -62,9 +62,9 @@ fn replace_file<D: BlockDevice>(
     requires works { thread.old.failed ≡ false }
     requires can { (from to : Path) × CanMoveOntoFile thread.old.kept from to source slot _contents name.now }
     ensures shifted { OnOk result ((from to : Path) → CanMoveOntoFile thread.old.kept from to source slot _contents name.now → HasMovedOntoFile thread.old.kept from to _contents thread.new.kept) }
-    ensures errors { ReportsOfWork thread.old thread.new result }
-    ensures device { WritesAmong thread.old.kept thread.new.kept }
-    ensures survives { (from to : Path) → CanMoveOntoFile thread.old.kept from to source slot _contents name.now → SurvivesTo thread.old.kept thread.new.kept (renamed from to (tree_in thread.old.kept.disk thread.old.kept.pairs)) }
+    ensures errors { WorksOrReportsError thread.old thread.new result }
+    ensures device { WritesPairsAndFreeBlocks thread.old.kept thread.new.kept }
+    ensures survives { (from to : Path) → CanMoveOntoFile thread.old.kept from to source slot _contents name.now → SurvivesWithOldOrNewTree thread.old.kept thread.new.kept (renamed from to (tree_on_disk thread.old.kept.disk thread.old.kept.pairs)) }
 {
     let from = source.slot;
     if from.pair == slot.pair {
@@ -87,7 +87,7 @@ fn replace_file<D: BlockDevice>(
 fn move_onto_file<D: BlockDevice>(
     alloc: Global,
     thread: &mut Thread<D>,
-    source: Source,
+    source: RenameSource,
     slot: Spot,
     contents: FileStorage,
     name: &[u8],
@@ -95,19 +95,19 @@ fn move_onto_file<D: BlockDevice>(
     requires works { thread.old.failed ≡ false }
     requires can { (from to : Path) × CanMoveOntoFile thread.old.kept from to source slot contents name.now }
     ensures shifted { OnOk result ((from to : Path) → CanMoveOntoFile thread.old.kept from to source slot contents name.now → HasMovedEntry thread.old.kept from to thread.new.kept) }
-    ensures errors { ReportsOfWork thread.old thread.new result }
-    ensures device { WritesAmong thread.old.kept thread.new.kept }
-    ensures survives { (from to : Path) → CanMoveOntoFile thread.old.kept from to source slot contents name.now → SurvivesTo thread.old.kept thread.new.kept (renamed from to (tree_in thread.old.kept.disk thread.old.kept.pairs)) }
+    ensures errors { WorksOrReportsError thread.old thread.new result }
+    ensures device { WritesPairsAndFreeBlocks thread.old.kept thread.new.kept }
+    ensures survives { (from to : Path) → CanMoveOntoFile thread.old.kept from to source slot contents name.now → SurvivesWithOldOrNewTree thread.old.kept thread.new.kept (renamed from to (tree_on_disk thread.old.kept.disk thread.old.kept.pairs)) }
 {
-    replace_file(alloc, thread, source, slot, contents, name)?;
-    free_list(thread, contents)
+    replace_file_keeping_list(alloc, thread, source, slot, contents, name)?;
+    free_list_of_file(thread, contents)
 }
 
 // Puts an entry in the place of a directory without entries, whose own pair has number `gone`.
 fn move_onto_directory<D: BlockDevice>(
     alloc: Global,
     thread: &mut Thread<D>,
-    source: Source,
+    source: RenameSource,
     slot: Spot,
     gone: usize,
     name: &[u8],
@@ -115,9 +115,9 @@ fn move_onto_directory<D: BlockDevice>(
     requires works { thread.old.failed ≡ false }
     requires can { (from to : Path) × CanMoveOntoDirectory thread.old.kept from to source slot gone name.now }
     ensures shifted { OnOk result ((from to : Path) → CanMoveOntoDirectory thread.old.kept from to source slot gone name.now → HasMovedEntry thread.old.kept from to thread.new.kept) }
-    ensures errors { ReportsOfWork thread.old thread.new result }
-    ensures device { WritesAmong thread.old.kept thread.new.kept }
-    ensures survives { (from to : Path) → CanMoveOntoDirectory thread.old.kept from to source slot gone name.now → SurvivesTo thread.old.kept thread.new.kept (renamed from to (tree_in thread.old.kept.disk thread.old.kept.pairs)) }
+    ensures errors { WorksOrReportsError thread.old thread.new result }
+    ensures device { WritesPairsAndFreeBlocks thread.old.kept thread.new.kept }
+    ensures survives { (from to : Path) → CanMoveOntoDirectory thread.old.kept from to source slot gone name.now → SurvivesWithOldOrNewTree thread.old.kept thread.new.kept (renamed from to (tree_on_disk thread.old.kept.disk thread.old.kept.pairs)) }
 {
     let from = source.slot;
     if from.pair == slot.pair {
@@ -138,23 +138,23 @@ fn move_onto_directory<D: BlockDevice>(
 }
 
 // Gives an entry the path at which `target` was found.
-fn move_to_target<D: BlockDevice>(
+fn move_onto_found<D: BlockDevice>(
     alloc: Global,
     thread: &mut Thread<D>,
-    source: Source,
+    source: RenameSource,
     found: Found,
     name: &[u8],
 ) -> Result<(), Error>
     requires works { thread.old.failed ≡ false }
-    requires can { (from to : Path) × CanMoveToTarget thread.old.kept from to source found name.now }
-    ensures shifted { OnOk result ((from to : Path) → CanMoveToTarget thread.old.kept from to source found name.now → HasMovedEntry thread.old.kept from to thread.new.kept) }
-    ensures errors { ReportsOfWork thread.old thread.new result }
-    ensures device { WritesAmong thread.old.kept thread.new.kept }
-    ensures survives { (from to : Path) → CanMoveToTarget thread.old.kept from to source found name.now → SurvivesTo thread.old.kept thread.new.kept (renamed from to (tree_in thread.old.kept.disk thread.old.kept.pairs)) }
+    requires can { (from to : Path) × CanMoveOntoFound thread.old.kept from to source found name.now }
+    ensures shifted { OnOk result ((from to : Path) → CanMoveOntoFound thread.old.kept from to source found name.now → HasMovedEntry thread.old.kept from to thread.new.kept) }
+    ensures errors { WorksOrReportsError thread.old thread.new result }
+    ensures device { WritesPairsAndFreeBlocks thread.old.kept thread.new.kept }
+    ensures survives { (from to : Path) → CanMoveOntoFound thread.old.kept from to source found name.now → SurvivesWithOldOrNewTree thread.old.kept thread.new.kept (renamed from to (tree_on_disk thread.old.kept.disk thread.old.kept.pairs)) }
 {
     match found {
         Found::Nothing { place, .. } => {
-            let Source { slot, first } = source;
+            let RenameSource { slot, first } = source;
             if slot.pair == place.pair {
                 rename(alloc, thread, slot.pair, slot.id, place.id, name)
             } else {
@@ -185,20 +185,20 @@ pub(crate) fn rename_at<D: BlockDevice>(
     to: &Path<'_>,
     known: Option<RenameTargets>,
 ) -> Result<(), Error>
-    requires rests { IsAtRest thread.old root }
-    requires can { CanRename (tree_state_of thread.old.kept true false) from.now to.now }
+    requires rests { CanChangeRecoveredImage thread.old root }
+    requires can { CanRenamePath (tree_state_of_kept_thread thread.old.kept true false) from.now to.now }
     requires apart { same_path from.now to.now ≡ false }
-    requires known { IfSome known (AreTargets thread.old.kept from.now to.now) }
-    ensures { IsOperationOn thread.old (call.Rename from.now to.now) result thread.new }
+    requires known { IfSome known (AreRenameTargets thread.old.kept from.now to.now) }
+    ensures { AppliesCallOnThread thread.old (call.Rename from.now to.now) result thread.new }
 {
-    from.know_bytes();
-    to.know_bytes();
-    to.know_names();
-    know_device(thread);
+    from.show_path_bytes_to_proof();
+    to.show_path_bytes_to_proof();
+    to.show_path_names_to_proof();
+    show_block_facts_to_proof(thread);
     let names = to.names(alloc)?;
-    let targets = targets_at(alloc, thread, root, from, to, known)?;
-    let source = source_in(targets.entry);
-    move_to_target(alloc, thread, source, targets.target, last_of(&names))
+    let targets = rename_targets_at(alloc, thread, root, from, to, known)?;
+    let source = source_of_found(targets.entry);
+    move_onto_found(alloc, thread, source, targets.target, last_of(&names))
 }
 
 impl<D: BlockDevice> Tree<D> {
@@ -217,14 +217,14 @@ impl<D: BlockDevice> Tree<D> {
         to: &Path<'_>,
         known: Option<RenameTargets>,
     ) -> Result<(), Error>
-        requires can { CanRename self.old from.now to.now }
+        requires can { CanRenamePath self.old from.now to.now }
         requires apart { same_path from.now to.now ≡ false }
-        requires known { IfSome known (AreTargets (kept_of self.old) from.now to.now) }
-        ensures { IsOperation self.old (call.Rename from.now to.now) result self.new }
+        requires known { IfSome known (AreRenameTargets (kept_of self.old) from.now to.now) }
+        ensures { AppliesCallOrFails self.old (call.Rename from.now to.now) result self.new }
     {
         self.recover(alloc)?;
         let renamed = rename_at(alloc, &mut self.thread, self.root, from, to, known);
-        note_error(&mut self.thread, &renamed);
+        mark_thread_failed_on_error(&mut self.thread, &renamed);
         renamed
     }
 }

@@ -4,42 +4,42 @@ ghost use Rattle.std.specs.Prelude.{◌≡◌, ◌<◌, ◌==◌, ◌≤◌, ◌
 ghost use Rattle.std.specs.List.{list_any};
 ghost use Rattle.std.specs.Option.{option_map};
 ghost use Rattle.lfs_model.specs.History.{reads};
-ghost use Rattle.lfs_model.specs.Frame.{pairs_of_path, parents};
-ghost use Rattle.lfs_model.specs.TreeEdits.{attributes_of, bytes_at};
-ghost use Rattle.lfs_model.specs.Content.{attribute_of};
-ghost use Rattle.lfs_model.specs.Slots.{no_gstate};
-ghost use Rattle.lfs_model.specs.Thread.{Pair, anchor, gstate_of};
-ghost use Rattle.lfs_model.specs.View.{IsAccepted};
+ghost use Rattle.lfs_model.specs.Frame.{pair_count_of_directory_at, parents};
+ghost use Rattle.lfs_model.specs.TreeEdits.{attributes_of_node, bytes_at};
+ghost use Rattle.lfs_model.specs.Content.{attribute_bytes_of_type};
+ghost use Rattle.lfs_model.specs.Slots.{zero_gstate};
+ghost use Rattle.lfs_model.specs.Thread.{Pair, anchor_pair_address, gstate_of};
+ghost use Rattle.lfs_model.specs.View.{IsAcceptedImage};
 ghost use Rattle.lfs_model.specs.Disk.{SameGeometry, block_count};
 ghost use Rattle.lfs_model.specs.Effects.{items_in};
-ghost use Rattle.lfs_mount.specs.Device.{IsMountError};
+ghost use Rattle.lfs_mount.specs.Device.{IsIoCorruptOrNoMemory};
 ghost use Rattle.lfs_tag.specs.FieldsView.{move_view};
-ghost use Rattle.lfs_thread.specs.Device.{GivesBack, two_of};
-ghost use Rattle.lfs_thread.specs.Kept.{disk_on, kept_view_on};
-ghost use Rattle.lfs_tree.specs.Permissions.{CanCreate, CanMakeDirectory, CanRemove, CanRemoveAttr, CanSetAttr};
-ghost use Rattle.lfs_lookup.specs.CachedPairs.{AreSmall};
+ghost use Rattle.lfs_thread.specs.Device.{GivesDeviceBackWithError, blocks_of_address};
+ghost use Rattle.lfs_thread.specs.Kept.{disk_of_device, kept_thread_of_device};
+ghost use Rattle.lfs_tree.specs.Permissions.{CanCreateFileAtPath, CanMakeDirectoryAtPath, CanRemoveEntryAtPath, CanRemoveAttrAtPath, CanSetAttrAtPath};
+ghost use Rattle.lfs_lookup.specs.CachedPairs.{AreFewDirectoriesOfOnePairEach};
 ghost use Rattle.lfs_tree.specs.Calls as call;
-ghost use Rattle.lfs_tree.specs.Calls.{IsOperation};
-ghost use Rattle.lfs_tree.specs.Reads.{HasCached, ReadsOnce, ReadsToCreate};
-ghost use Rattle.lfs_tree.specs.Recoveries.{HasEndedLosses};
+ghost use Rattle.lfs_tree.specs.Calls.{AppliesCallOrFails};
+ghost use Rattle.lfs_tree.specs.Reads.{HasCachedDirectories, ReadsEachPairOnce, ReadsAtMostParentPairsPlusSix};
+ghost use Rattle.lfs_tree.specs.Recoveries.{HasRecoveredFromPowerLoss};
 ghost use Rattle.lfs_lookup.specs.AttributeAt.{IsAttributesSize};
-ghost use Rattle.lfs_lookup.specs.Finds.{Finds, has_names, list_item_view};
-ghost use Rattle.lfs_tree.specs.Formats.{ReturnsDevice, IsFormatted, WritesFirstTwo};
-ghost use Rattle.lfs_tree.specs.TreeState.{IsReadOnlyCall, FailsInRead, IsMountError as IsMountErrorOf, IsMountedTree, IsSound, surroundings_of, kept_of, tree_view};
+ghost use Rattle.lfs_lookup.specs.Finds.{IsFoundNodeAtPath, has_entry_beneath_path, list_item_view};
+ghost use Rattle.lfs_tree.specs.Formats.{ReturnsDeviceWithFormatError, IsFreshlyFormatted, WritesFirstTwoBlocks};
+ghost use Rattle.lfs_tree.specs.TreeState.{IsReadOnlyCall, IsTreeFailedByRead, IsMountErrorWithCause, IsMountedTree, IsSoundTreeState, disk_summary_of_tree, kept_of, tree_view};
 
-use crate::answers::note_error;
+use crate::answers::mark_thread_failed_on_error;
 use crate::attributes_at::{remove_attr_at, set_attr_at};
-use crate::entries_at::{create_at, make_at};
+use crate::entries_at::{create_at, make_directory_at};
 use crate::formats::format;
 use crate::lost_recovery::recover_at;
-use crate::mounted_tree::read_root;
-use crate::remounts::{Spare, mount_again};
+use crate::mounted_tree::find_root_and_writing_profile;
+use crate::remounts::{SpareThreadParts, mount_again};
 use crate::removals_at::remove_at;
 use core::mem::replace_with;
 use lfs_device::{BlockDevice, Error, Geometry};
 use lfs_lookup::{
-    FoundAttribute, FoundNode, Inside, Listing, Path, attribute_at, attributes_size_at, find_at,
-    list_at, look_inside_at,
+    FoundAttribute, FoundNode, Inside, Listing, Path, attribute_at, attributes_size_at,
+    find_node_at_path, list_at, look_inside_at,
 };
 use lfs_tag::MoveState;
 use lfs_thread::Thread;
@@ -59,14 +59,14 @@ pub struct Tree<D: BlockDevice> {
 }
 
 impl<D: BlockDevice> Model for Tree<D> {
-    ghost use Rattle.lfs_tree.specs.RootedThreads.{IsRootedUnlessFailed, tree_state_of_thread};
+    ghost use Rattle.lfs_tree.specs.RootedThreads.{IsSoundThreadUnlessFailed, tree_state_of_thread};
     ghost use Rattle.lfs_tree.specs.TreeState.{TreeState};
 
     ghost Value = { TreeState };
 
     ghost view = { λ t. tree_state_of_thread t.thread t.is_writable };
 
-    ghost invariant = { λ t. IsRootedUnlessFailed t.thread t.root t.is_writable };
+    ghost invariant = { λ t. IsSoundThreadUnlessFailed t.thread t.root t.is_writable };
 }
 
 impl<D: BlockDevice> Tree<D> {
@@ -75,13 +75,13 @@ impl<D: BlockDevice> Tree<D> {
     /// Errors: `Corrupt` exactly where the device has no accepted image. `Io` where a read failed.
     /// `NoMemory` where memory isn't granted. An error comes with the device.
     pub fn mount(alloc: Global, device: D) -> Result<Tree<D>, (D, Error)>
-        ensures mounted { IfOk result (IsMountedTree (disk_on D.BlockDevice device) (D.history device)) }
-        ensures corrupt { IfErr result (λ e. e.1 ≡ Error.Corrupt → (ps : List Pair) → ¬ IsAccepted (disk_on D.BlockDevice device) ps) }
-        ensures errors { IfErr result (λ e. IsMountError e.1) }
-        ensures back { IfErr result (λ e. GivesBack D.BlockDevice device e.0 e.1) }
+        ensures mounted { IfOk result (IsMountedTree (disk_of_device D.BlockDevice device) (D.history device)) }
+        ensures corrupt { IfErr result (λ e. e.1 ≡ Error.Corrupt → (ps : List Pair) → ¬ IsAcceptedImage (disk_of_device D.BlockDevice device) ps) }
+        ensures errors { IfErr result (λ e. IsIoCorruptOrNoMemory e.1) }
+        ensures back { IfErr result (λ e. GivesDeviceBackWithError D.BlockDevice device e.0 e.1) }
     {
         let mut thread = lfs_mount::mount(alloc, device)?;
-        match read_root(alloc, &mut thread) {
+        match find_root_and_writing_profile(alloc, &mut thread) {
             Ok((root, is_writable)) => Ok(Tree {
                 thread,
                 root,
@@ -96,11 +96,11 @@ impl<D: BlockDevice> Tree<D> {
     /// Errors are those of that call.
     pub fn format(alloc: Global, device: D) -> Result<Tree<D>, (D, Error)>
         ensures works { IfOk result (λ t. (t.failed ≡ false) × (t.writable ≡ true)) }
-        ensures sound { IfOk result IsSound }
-        ensures formatted { IfOk result (λ t. IsFormatted (kept_of t)) }
-        ensures geometry { IfOk result (λ t. SameGeometry (disk_on D.BlockDevice device) t.disk) }
-        ensures calls { IfOk result (λ t. WritesFirstTwo (kept_view_on D.BlockDevice device [] []) (kept_of t)) }
-        ensures back { IfErr result (λ e. ReturnsDevice D.BlockDevice (two_of anchor) device e.0 e.1) }
+        ensures sound { IfOk result IsSoundTreeState }
+        ensures formatted { IfOk result (λ t. IsFreshlyFormatted (kept_of t)) }
+        ensures geometry { IfOk result (λ t. SameGeometry (disk_of_device D.BlockDevice device) t.disk) }
+        ensures calls { IfOk result (λ t. WritesFirstTwoBlocks (kept_thread_of_device D.BlockDevice device [] []) (kept_of t)) }
+        ensures back { IfErr result (λ e. ReturnsDeviceWithFormatError D.BlockDevice (blocks_of_address anchor_pair_address) device e.0 e.1) }
     {
         match format(alloc, device) {
             Ok(thread) => Ok(Tree {
@@ -117,10 +117,10 @@ impl<D: BlockDevice> Tree<D> {
     /// Errors are those of [`mount`](Tree::mount). The tree has failed after any.
     pub fn remount(&mut self, alloc: Global) -> Result<(), Error>
         ensures mounted { OnOk result (IsMountedTree self.old.disk self.old.history self.new) }
-        ensures broken { OnErr result (FailsInRead self.old self.new) }
-        ensures errors { IfErr result (IsMountErrorOf self.old self.new) }
+        ensures broken { OnErr result (IsTreeFailedByRead self.old self.new) }
+        ensures errors { IfErr result (IsMountErrorWithCause self.old self.new) }
     {
-        match Spare::new(alloc) {
+        match SpareThreadParts::new(alloc) {
             Ok(spare) => replace_with(self, spare, mount_again),
             Err(error) => {
                 self.thread.fail();
@@ -131,7 +131,7 @@ impl<D: BlockDevice> Tree<D> {
 
     /// Borrows the device, as the last call left it, after an error too.
     pub fn device(&self) -> &D
-        ensures disk { disk_on D.BlockDevice result.now ≡ self.now.disk }
+        ensures disk { disk_of_device D.BlockDevice result.now ≡ self.now.disk }
         ensures history { D.history result.now ≡ self.now.history }
     {
         self.thread.device()
@@ -139,7 +139,7 @@ impl<D: BlockDevice> Tree<D> {
 
     /// Returns the device, as the last call left it, also from a tree that has failed.
     pub fn into_device(self) -> D
-        ensures disk { disk_on D.BlockDevice result ≡ self.disk }
+        ensures disk { disk_of_device D.BlockDevice result ≡ self.disk }
         ensures history { D.history result ≡ self.history }
     {
         self.thread.into_device()
@@ -178,7 +178,7 @@ impl<D: BlockDevice> Tree<D> {
     /// Returns how many blocks the image uses.
     pub fn used_count(&self) -> u32
         requires { self.now.failed ≡ false }
-        ensures { result ≡ length (surroundings_of self.now).used }
+        ensures { result ≡ length (disk_summary_of_tree self.now).used }
     {
         self.thread.used_count()
     }
@@ -187,7 +187,7 @@ impl<D: BlockDevice> Tree<D> {
     pub fn is_used(&self, block: u32) -> bool
         requires works { self.now.failed ≡ false }
         requires below { block < block_count self.now.disk }
-        ensures { result ≡ list_any (λ b. b == block) (surroundings_of self.now).used }
+        ensures { result ≡ list_any (λ b. b == block) (disk_summary_of_tree self.now).used }
     {
         self.thread.is_used(block)
     }
@@ -195,7 +195,7 @@ impl<D: BlockDevice> Tree<D> {
     /// Returns the global state (DESIGN.md of littlefs, "The move problem").
     pub fn gstate(&self) -> MoveState
         requires { self.now.failed ≡ false }
-        ensures { move_view result ≡ (surroundings_of self.now).gstate }
+        ensures { move_view result ≡ (disk_summary_of_tree self.now).gstate }
     {
         self.thread.state()
     }
@@ -208,12 +208,12 @@ impl<D: BlockDevice> Tree<D> {
     pub fn look_up(&mut self, alloc: Global, path: &Path<'_>) -> Result<FoundNode, Error>
         requires { self.old.failed ≡ false }
         ensures asks { IsReadOnlyCall self.old result self.new }
-        ensures found { IfOk result (Finds (tree_view self.old) path.now) }
-        ensures few { ReadsOnce (parents path.now) self.old self.new.history }
-        ensures hand { AreSmall self.old.pairs (parents path.now) → IfOk result (λ found. found.fault ≡ None → HasCached self.new (parents path.now)) }
+        ensures found { IfOk result (IsFoundNodeAtPath (tree_view self.old) path.now) }
+        ensures few { ReadsEachPairOnce (parents path.now) self.old self.new.history }
+        ensures hand { AreFewDirectoriesOfOnePairEach self.old.pairs (parents path.now) → IfOk result (λ found. found.fault ≡ None → HasCachedDirectories self.new (parents path.now)) }
     {
-        let found = find_at(alloc, &mut self.thread, self.root, path);
-        note_error(&mut self.thread, &found);
+        let found = find_node_at_path(alloc, &mut self.thread, self.root, path);
+        mark_thread_failed_on_error(&mut self.thread, &found);
         found
     }
 
@@ -225,12 +225,12 @@ impl<D: BlockDevice> Tree<D> {
     pub fn look_inside(&mut self, alloc: Global, path: &Path<'_>) -> Result<Inside, Error>
         requires { self.old.failed ≡ false }
         ensures asks { IsReadOnlyCall self.old result self.new }
-        ensures found { IfOk result (λ inside. Finds (tree_view self.old) path.now inside.finding) }
-        ensures has { IfOk result (λ inside. inside.has_entries ≡ has_names (tree_view self.old) path.now) }
-        ensures few { reads self.new.history ≤ reads self.old.history + sum_by (pairs_of_path self.old.pairs) (parents path.now ++ path.now ∷ []) }
+        ensures found { IfOk result (λ inside. IsFoundNodeAtPath (tree_view self.old) path.now inside.finding) }
+        ensures has { IfOk result (λ inside. inside.has_entries ≡ has_entry_beneath_path (tree_view self.old) path.now) }
+        ensures few { reads self.new.history ≤ reads self.old.history + sum_by (pair_count_of_directory_at self.old.pairs) (parents path.now ++ path.now ∷ []) }
     {
         let inside = look_inside_at(alloc, &mut self.thread, self.root, path);
-        note_error(&mut self.thread, &inside);
+        mark_thread_failed_on_error(&mut self.thread, &inside);
         inside
     }
 
@@ -248,12 +248,12 @@ impl<D: BlockDevice> Tree<D> {
     ) -> Result<FoundAttribute, Error>
         requires { self.old.failed ≡ false }
         ensures asks { IsReadOnlyCall self.old result self.new }
-        ensures found { IfOk result (λ found. Finds (tree_view self.old) path.now found.finding) }
-        ensures bytes { IfOk result (λ found. (option_map (λ v. v.items) found.bytes ≡ attribute_of kind (attributes_of (tree_view self.old path.now))) × IfSome found.bytes (λ v. length v.items ≤ 1022)) }
-        ensures few { ReadsOnce (parents path.now) self.old self.new.history }
+        ensures found { IfOk result (λ found. IsFoundNodeAtPath (tree_view self.old) path.now found.finding) }
+        ensures bytes { IfOk result (λ found. (option_map (λ v. v.items) found.bytes ≡ attribute_bytes_of_type kind (attributes_of_node (tree_view self.old path.now))) × IfSome found.bytes (λ v. length v.items ≤ 1022)) }
+        ensures few { ReadsEachPairOnce (parents path.now) self.old self.new.history }
     {
         let found = attribute_at(alloc, &mut self.thread, self.root, path, kind);
-        note_error(&mut self.thread, &found);
+        mark_thread_failed_on_error(&mut self.thread, &found);
         found
     }
 
@@ -266,11 +266,11 @@ impl<D: BlockDevice> Tree<D> {
     pub fn attributes_size(&mut self, alloc: Global, path: &Path<'_>) -> Result<usize, Error>
         requires { self.old.failed ≡ false }
         ensures asks { IsReadOnlyCall self.old result self.new }
-        ensures size { IfOk result (IsAttributesSize (attributes_of (tree_view self.old path.now))) }
-        ensures few { ReadsOnce (parents path.now) self.old self.new.history }
+        ensures size { IfOk result (IsAttributesSize (attributes_of_node (tree_view self.old path.now))) }
+        ensures few { ReadsEachPairOnce (parents path.now) self.old self.new.history }
     {
         let size = attributes_size_at(alloc, &mut self.thread, self.root, path);
-        note_error(&mut self.thread, &size);
+        mark_thread_failed_on_error(&mut self.thread, &size);
         size
     }
 
@@ -283,12 +283,12 @@ impl<D: BlockDevice> Tree<D> {
     pub fn list(&mut self, alloc: Global, path: &Path<'_>) -> Result<Listing, Error>
         requires { self.old.failed ≡ false }
         ensures asks { IsReadOnlyCall self.old result self.new }
-        ensures found { IfOk result (λ listing. Finds (tree_view self.old) path.now listing.finding) }
+        ensures found { IfOk result (λ listing. IsFoundNodeAtPath (tree_view self.old) path.now listing.finding) }
         ensures items { IfOk result (λ listing. map list_item_view listing.items.items ≡ items_in (tree_view self.old) path.now) }
-        ensures few { ReadsOnce (parents path.now ++ path.now ∷ []) self.old self.new.history }
+        ensures few { ReadsEachPairOnce (parents path.now ++ path.now ∷ []) self.old self.new.history }
     {
         let listing = list_at(alloc, &mut self.thread, self.root, path);
-        note_error(&mut self.thread, &listing);
+        mark_thread_failed_on_error(&mut self.thread, &listing);
         listing
     }
 
@@ -299,12 +299,12 @@ impl<D: BlockDevice> Tree<D> {
     /// Errors: `Io` where a call of the device failed. `NoMemory` where memory isn't granted. The
     /// tree has failed after either.
     pub fn mkdir(&mut self, alloc: Global, path: &Path<'_>) -> Result<(), Error>
-        requires { CanMakeDirectory self.old path.now }
-        ensures { IsOperation self.old (call.Mkdir path.now) result self.new }
+        requires { CanMakeDirectoryAtPath self.old path.now }
+        ensures { AppliesCallOrFails self.old (call.Mkdir path.now) result self.new }
     {
         self.recover(alloc)?;
-        let made = make_at(alloc, &mut self.thread, self.root, path);
-        note_error(&mut self.thread, &made);
+        let made = make_directory_at(alloc, &mut self.thread, self.root, path);
+        mark_thread_failed_on_error(&mut self.thread, &made);
         made
     }
 
@@ -316,13 +316,13 @@ impl<D: BlockDevice> Tree<D> {
     /// Errors: `Io` where a call of the device failed. `NoMemory` where memory isn't granted. The
     /// tree has failed after either.
     pub fn create(&mut self, alloc: Global, path: &Path<'_>) -> Result<(), Error>
-        requires { CanCreate self.old path.now }
-        ensures does { IsOperation self.old (call.Create path.now) result self.new }
-        ensures few { ReadsToCreate path.now self.old self.new.history }
+        requires { CanCreateFileAtPath self.old path.now }
+        ensures does { AppliesCallOrFails self.old (call.Create path.now) result self.new }
+        ensures few { ReadsAtMostParentPairsPlusSix path.now self.old self.new.history }
     {
         self.recover(alloc)?;
         let created = create_at(alloc, &mut self.thread, self.root, path);
-        note_error(&mut self.thread, &created);
+        mark_thread_failed_on_error(&mut self.thread, &created);
         created
     }
 
@@ -333,12 +333,12 @@ impl<D: BlockDevice> Tree<D> {
     /// Errors: `Io` where a call of the device failed. `NoMemory` where memory isn't granted. The
     /// tree has failed after either.
     pub fn remove(&mut self, alloc: Global, path: &Path<'_>) -> Result<(), Error>
-        requires { CanRemove self.old path.now }
-        ensures { IsOperation self.old (call.Remove path.now) result self.new }
+        requires { CanRemoveEntryAtPath self.old path.now }
+        ensures { AppliesCallOrFails self.old (call.Remove path.now) result self.new }
     {
         self.recover(alloc)?;
         let removed = remove_at(alloc, &mut self.thread, self.root, path);
-        note_error(&mut self.thread, &removed);
+        mark_thread_failed_on_error(&mut self.thread, &removed);
         removed
     }
 
@@ -355,12 +355,12 @@ impl<D: BlockDevice> Tree<D> {
         kind: u8,
         bytes: &[u8],
     ) -> Result<(), Error>
-        requires { CanSetAttr self.old path.now kind bytes.now }
-        ensures { IsOperation self.old (call.SetAttr path.now kind bytes.now) result self.new }
+        requires { CanSetAttrAtPath self.old path.now kind bytes.now }
+        ensures { AppliesCallOrFails self.old (call.SetAttr path.now kind bytes.now) result self.new }
     {
         self.recover(alloc)?;
         let set = set_attr_at(alloc, &mut self.thread, self.root, path, kind, bytes);
-        note_error(&mut self.thread, &set);
+        mark_thread_failed_on_error(&mut self.thread, &set);
         set
     }
 
@@ -373,15 +373,15 @@ impl<D: BlockDevice> Tree<D> {
     pub fn recover(&mut self, alloc: Global) -> Result<(), Error>
         requires works { self.old.failed ≡ false }
         requires writable { self.old.writable ≡ true }
-        ensures does { IsOperation self.old call.Recover result self.new }
-        ensures settled { OnOk result (HasEndedLosses (kept_of self.old) (kept_of self.new)) }
-        ensures idle { gstate_of self.old.pairs ≡ no_gstate → self.new ≡ self.old }
+        ensures does { AppliesCallOrFails self.old call.Recover result self.new }
+        ensures settled { OnOk result (HasRecoveredFromPowerLoss (kept_of self.old) (kept_of self.new)) }
+        ensures idle { gstate_of self.old.pairs ≡ zero_gstate → self.new ≡ self.old }
     {
         if self.gstate().is_none() {
             return Ok(());
         }
         let recovered = recover_at(alloc, &mut self.thread, self.root);
-        note_error(&mut self.thread, &recovered);
+        mark_thread_failed_on_error(&mut self.thread, &recovered);
         recovered
     }
 
@@ -392,12 +392,12 @@ impl<D: BlockDevice> Tree<D> {
     /// Errors: `Io` where a call of the device failed. `NoMemory` where memory isn't granted. The
     /// tree has failed after either.
     pub fn remove_attr(&mut self, alloc: Global, path: &Path<'_>, kind: u8) -> Result<(), Error>
-        requires { CanRemoveAttr self.old path.now kind }
-        ensures { IsOperation self.old (call.RemoveAttr path.now kind) result self.new }
+        requires { CanRemoveAttrAtPath self.old path.now kind }
+        ensures { AppliesCallOrFails self.old (call.RemoveAttr path.now kind) result self.new }
     {
         self.recover(alloc)?;
         let removed = remove_attr_at(alloc, &mut self.thread, self.root, path, kind);
-        note_error(&mut self.thread, &removed);
+        mark_thread_failed_on_error(&mut self.thread, &removed);
         removed
     }
 }

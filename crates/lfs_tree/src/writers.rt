@@ -1,25 +1,25 @@
 // The contents of files that are open for writing.
 
 ghost use Rattle.std.specs.Prelude.{◌≡◌, [], false, true, length, take, IfErr, IfOk, OnErr, OnOk};
-ghost use Rattle.lfs_model.specs.TreeEdits.{bytes_at, change_at, is_file};
+ghost use Rattle.lfs_model.specs.TreeEdits.{bytes_at, tree_after_change_of_node, is_file};
 ghost use Rattle.lfs_model.specs.BlockSets.{in_flight_count};
 ghost use Rattle.lfs_model.specs.Disk.{inline_limit};
-ghost use Rattle.lfs_model.specs.Writers.{written_into, zeros_to};
-ghost use Rattle.lfs_model.specs.Effects.{with_bytes};
+ghost use Rattle.lfs_model.specs.Writers.{contents_after_write, bytes_padded_with_zeros};
+ghost use Rattle.lfs_model.specs.Effects.{node_with_bytes};
 ghost use Rattle.lfs_model.specs.Tree.{Path as ModelPath};
-ghost use Rattle.lfs_tree.specs.OpenContents.{CanOpen, CanStoreAt, CanTruncateOpenFile, CanWriteOpenFile, HasBytesAs, IsOpenedForm, IsOver, IsStoredAt, IsWriting, bytes_held, kept_of};
-ghost use Rattle.lfs_tree.specs.TreeState.{IsReadOnlyCall, IsFailedTree, FailsInRead, IsError, SurvivesAs, tree_view};
-ghost use Rattle.lfs_writer.specs.Contents.{form_of};
+ghost use Rattle.lfs_tree.specs.OpenContents.{CanOpenWriterAtPath, CanStoreContentsAt, CanTruncateWriterContents, CanWriteWriterContents, HasWriterBytesInForm, IsFormOfOpenedContents, AreWriterContentsOverTreeFile, HasStoredBytesAt, WritesUnusedBlocksOrFails, bytes_of_writer_contents, kept_of};
+ghost use Rattle.lfs_tree.specs.TreeState.{IsReadOnlyCall, IsFailedTree, IsTreeFailedByRead, IsErrorWithCause, SurvivesStopsInTreeCall, tree_view};
+ghost use Rattle.lfs_writer.specs.Contents.{form_of_contents};
 ghost use Rattle.lfs_writer.specs.Form as form;
 ghost use Rattle.lfs_writer.specs.Form.{truncated, written};
 
-use crate::answers::note_error;
-use crate::contents_at::store_at;
-use crate::opened_contents::{no_contents, open_at};
+use crate::answers::mark_thread_failed_on_error;
+use crate::contents_at::store_contents_at_path;
+use crate::opened_contents::{contents_of_no_bytes, open_contents_at_path};
 use crate::tree::Tree;
 use lfs_device::{BlockDevice, Error};
 use lfs_lookup::Path;
-use lfs_writer::{Contents, truncate_file, write_file};
+use lfs_writer::{WriterContents, truncate_file, write_file};
 use std::alloc::Global;
 
 impl<D: BlockDevice> Tree<D> {
@@ -28,33 +28,33 @@ impl<D: BlockDevice> Tree<D> {
     ///
     /// Errors: `Io` where a read failed. `NoMemory` where memory isn't granted. The tree has failed
     /// after either.
-    pub fn contents(&mut self, alloc: Global, path: &Path<'_>) -> Result<Contents, Error>
-        requires { CanOpen self.old path.now }
+    pub fn contents(&mut self, alloc: Global, path: &Path<'_>) -> Result<WriterContents, Error>
+        requires { CanOpenWriterAtPath self.old path.now }
         ensures asks { IsReadOnlyCall self.old result self.new }
-        ensures over { IfOk result (IsOver self.new path.now) }
-        ensures bytes { IfOk result (λ c. bytes_held (kept_of self.new) c ≡ bytes_at (tree_view self.old path.now)) }
-        ensures form { IfOk result (λ c. IsOpenedForm self.old.disk.block_size (length (bytes_at (tree_view self.old path.now))) (form_of c)) }
+        ensures over { IfOk result (AreWriterContentsOverTreeFile self.new path.now) }
+        ensures bytes { IfOk result (λ c. bytes_of_writer_contents (kept_of self.new) c ≡ bytes_at (tree_view self.old path.now)) }
+        ensures form { IfOk result (λ c. IsFormOfOpenedContents self.old.disk.block_size (length (bytes_at (tree_view self.old path.now))) (form_of_contents c)) }
     {
-        let contents = open_at(alloc, &mut self.thread, self.root, path);
-        note_error(&mut self.thread, &contents);
+        let contents = open_contents_at_path(alloc, &mut self.thread, self.root, path);
+        mark_thread_failed_on_error(&mut self.thread, &contents);
         contents
     }
 
     /// Returns contents of no bytes, for a writer that opens a file to write it anew.
     ///
     /// Errors: `NoMemory` where memory isn't granted. The tree has failed then.
-    pub fn empty_contents(&mut self, alloc: Global) -> Result<Contents, Error>
+    pub fn empty_contents(&mut self, alloc: Global) -> Result<WriterContents, Error>
         requires works { self.old.failed ≡ false }
         requires idle { in_flight_count self.old.map ≡ 0 }
         ensures same { OnOk result (self.new ≡ self.old) }
-        ensures over { (path : ModelPath) → is_file (tree_view self.old path) ≡ true → IfOk result (IsOver self.new path) }
-        ensures bytes { IfOk result (λ c. bytes_held (kept_of self.new) c ≡ []) }
-        ensures form { IfOk result (λ c. form_of c ≡ form.InMemory 0) }
-        ensures broken { OnErr result (FailsInRead self.old self.new) }
-        ensures errors { IfErr result (IsError self.old self.new) }
+        ensures over { (path : ModelPath) → is_file (tree_view self.old path) ≡ true → IfOk result (AreWriterContentsOverTreeFile self.new path) }
+        ensures bytes { IfOk result (λ c. bytes_of_writer_contents (kept_of self.new) c ≡ []) }
+        ensures form { IfOk result (λ c. form_of_contents c ≡ form.InMemory 0) }
+        ensures broken { OnErr result (IsTreeFailedByRead self.old self.new) }
+        ensures errors { IfErr result (IsErrorWithCause self.old self.new) }
     {
-        let contents = no_contents(alloc, &self.thread);
-        note_error(&mut self.thread, &contents);
+        let contents = contents_of_no_bytes(alloc, &self.thread);
+        mark_thread_failed_on_error(&mut self.thread, &contents);
         contents
     }
 
@@ -66,19 +66,19 @@ impl<D: BlockDevice> Tree<D> {
     pub fn write(
         &mut self,
         alloc: Global,
-        contents: Contents,
+        contents: WriterContents,
         place: u32,
         bytes: &[u8],
-    ) -> Result<Contents, Error>
-        requires { CanWriteOpenFile self.old contents place (length bytes.now) }
-        ensures over { (path : ModelPath) → IsOver self.old path contents → IfOk result (IsOver self.new path) }
-        ensures written { IfOk result (HasBytesAs self.new (written_into (bytes_held (kept_of self.old) contents) place bytes.now)
-            (written (inline_limit self.old.disk.block_size) place (length bytes.now) (form_of contents))) }
-        ensures writes { IsWriting self.old result self.new }
+    ) -> Result<WriterContents, Error>
+        requires { CanWriteWriterContents self.old contents place (length bytes.now) }
+        ensures over { (path : ModelPath) → AreWriterContentsOverTreeFile self.old path contents → IfOk result (AreWriterContentsOverTreeFile self.new path) }
+        ensures written { IfOk result (HasWriterBytesInForm self.new (contents_after_write (bytes_of_writer_contents (kept_of self.old) contents) place bytes.now)
+            (written (inline_limit self.old.disk.block_size) place (length bytes.now) (form_of_contents contents))) }
+        ensures writes { WritesUnusedBlocksOrFails self.old result self.new }
     {
         let limit = self.geometry().inline_limit();
         let written = write_file(alloc, &mut self.thread, contents, limit, place, bytes);
-        note_error(&mut self.thread, &written);
+        mark_thread_failed_on_error(&mut self.thread, &written);
         written
     }
 
@@ -88,33 +88,38 @@ impl<D: BlockDevice> Tree<D> {
     pub fn truncate(
         &mut self,
         alloc: Global,
-        contents: Contents,
+        contents: WriterContents,
         size: u32,
-    ) -> Result<Contents, Error>
-        requires { CanTruncateOpenFile self.old contents size }
-        ensures over { (path : ModelPath) → IsOver self.old path contents → IfOk result (IsOver self.new path) }
-        ensures truncated { IfOk result (HasBytesAs self.new (take size (zeros_to size (bytes_held (kept_of self.old) contents)))
-            (truncated (inline_limit self.old.disk.block_size) size (form_of contents))) }
-        ensures writes { IsWriting self.old result self.new }
+    ) -> Result<WriterContents, Error>
+        requires { CanTruncateWriterContents self.old contents size }
+        ensures over { (path : ModelPath) → AreWriterContentsOverTreeFile self.old path contents → IfOk result (AreWriterContentsOverTreeFile self.new path) }
+        ensures truncated { IfOk result (HasWriterBytesInForm self.new (take size (bytes_padded_with_zeros size (bytes_of_writer_contents (kept_of self.old) contents)))
+            (truncated (inline_limit self.old.disk.block_size) size (form_of_contents contents))) }
+        ensures writes { WritesUnusedBlocksOrFails self.old result self.new }
     {
         let limit = self.geometry().inline_limit();
         let truncated = truncate_file(alloc, &mut self.thread, contents, limit, size);
-        note_error(&mut self.thread, &truncated);
+        mark_thread_failed_on_error(&mut self.thread, &truncated);
         truncated
     }
 
     /// Commits a writer's contents. The file has them then, and no block is in flight any more.
     ///
     /// Errors are those of [`write`](Tree::write).
-    pub fn store(&mut self, alloc: Global, path: &Path<'_>, contents: Contents) -> Result<(), Error>
-        requires { CanStoreAt self.old path.now contents }
-        ensures stored { OnOk result (IsStoredAt self.old path.now (bytes_held (kept_of self.old) contents) self.new) }
+    pub fn store(
+        &mut self,
+        alloc: Global,
+        path: &Path<'_>,
+        contents: WriterContents,
+    ) -> Result<(), Error>
+        requires { CanStoreContentsAt self.old path.now contents }
+        ensures stored { OnOk result (HasStoredBytesAt self.old path.now (bytes_of_writer_contents (kept_of self.old) contents) self.new) }
         ensures broken { OnErr result (IsFailedTree self.old self.new) }
-        ensures errors { IfErr result (IsError self.old self.new) }
-        ensures survives { SurvivesAs self.old self.new (change_at path.now (with_bytes (bytes_held (kept_of self.old) contents)) (tree_view self.old)) }
+        ensures errors { IfErr result (IsErrorWithCause self.old self.new) }
+        ensures survives { SurvivesStopsInTreeCall self.old self.new (tree_after_change_of_node path.now (node_with_bytes (bytes_of_writer_contents (kept_of self.old) contents)) (tree_view self.old)) }
     {
-        let stored = store_at(alloc, &mut self.thread, self.root, path, contents);
-        note_error(&mut self.thread, &stored);
+        let stored = store_contents_at_path(alloc, &mut self.thread, self.root, path, contents);
+        mark_thread_failed_on_error(&mut self.thread, &stored);
         stored
     }
 }

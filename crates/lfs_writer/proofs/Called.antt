@@ -1,20 +1,20 @@
 -- What calls of a device one behind the other say of its faults and of what they leave alone.
 use Rattle.std.proofs.Common.{ℕ, ◌≡◌, Bool, List, ◌∷◌, Result, Ok, Err, refl, sym, subst, ◌∙◌, arith}
-use Rattle.lfs_device.specs.Calls.{ReadsOnly, ChangesOnly, ReportsFaults}
+use Rattle.lfs_device.specs.Calls.{ReadsOnly, ChangesOnlyTheseBlocks, ReportsFaults}
 use Rattle.lfs_device.specs.declared.device.BlockDevice.{Ghosts}
 use Rattle.lfs_device.specs.declared.error.Error.{Error}
 use Rattle.lfs_device.specs.declared.error.Error.TheVariants.{Io, NoMemory}
 use Rattle.lfs_model.specs.Blocks.{Blocks}
-use Rattle.lfs_model.specs.BlockSets.{BlockSets}
-use Rattle.lfs_model.specs.History.{event, faults}
+use Rattle.lfs_model.specs.BlockSets.{BlockStateList}
+use Rattle.lfs_model.specs.History.{call_event_with, faults}
 use Rattle.lfs_model.specs.History.Call.{Read}
-use Rattle.lfs_model.proofs.Histories.{AtWorst-read, LeavesOnly-reads, OnlyReads-trans, began, goes_on, unprogrammed-reads}
-use Rattle.lfs_ctz.specs.Growing.{Growing, pending_of}
-use Rattle.lfs_writer.specs.BlocksApart.{IsApart, IsTakenInMap, SparesApart}
-use Rattle.lfs_writer.specs.Calls.{LeavesApart, LeavesUsed}
-use Rattle.lfs_writer.specs.Hand.{KeepsUsed, SparesUsed}
-use Rattle.lfs_writer.proofs.Growth.{Spares-refl, Spares-trans, SparesPages-trans, stops_trans}
-use Rattle.lfs_writer.proofs.Spared.{SparesUsed-refl, SparesUsed-trans, SparesUsedPages-trans, pages_end, spares_end, stops_end, to_used, to_used_pages, to_used_stops, used_stops_trans}
+use Rattle.lfs_model.proofs.Histories.{IsWorstOutcomeOfStop-read, IsTrueAfterEachStopSince-reads, AreCallsSinceOnlyReads-trans, began, goes_on, unprogrammed-reads}
+use Rattle.lfs_ctz.specs.Growing.{GrowingList, unwritten_block_of_list}
+use Rattle.lfs_writer.specs.BlocksApart.{IsTakenAndNotPending, HasGrowingListBlocksTaken, KeepsBytesOfTakenBlocks}
+use Rattle.lfs_writer.specs.Calls.{CallKeepsTakenBlocks, CallKeepsUsedBlocks}
+use Rattle.lfs_writer.specs.Hand.{KeepsUsedBlocksInMap, KeepsBytesOfUsedBlocks}
+use Rattle.lfs_writer.proofs.Growth.{Spares-refl, Spares-trans, KeepsUnprogrammedInTakenBlocks-trans, stops_trans}
+use Rattle.lfs_writer.proofs.Spared.{KeepsBytesOfUsedBlocks-refl, KeepsBytesOfUsedBlocks-trans, KeepsUnprogrammedInUsedBlocks-trans, pages_end, spares_end, stops_end, to_used, to_used_pages, to_used_stops, used_stops_trans}
 
 module _ {D : Type 0} (g : Ghosts D) where
   -- a call that succeeds has no fault
@@ -50,25 +50,25 @@ module _ {D : Type 0} (g : Ghosts D) where
   read_on first second = record {
     same = second.same ∙ first.same;
     geometry = second.geometry ∙ first.geometry;
-    reads = OnlyReads-trans first.reads second.reads first.same;
+    reads = AreCallsSinceOnlyReads-trans first.reads second.reads first.same;
   }
 
-  pub read_once : {old new : D} {block off len : ℕ} {failed : Bool} → g.history new ≡ event (Read block off len) (g.blocks old) (g.blocks new) failed ∷ g.history old
+  pub read_once : {old new : D} {block off len : ℕ} {failed : Bool} → g.history new ≡ call_event_with (Read block off len) (g.blocks old) (g.blocks new) failed ∷ g.history old
       → g.blocks new ≡ g.blocks old → g.geometry new ≡ g.geometry old → ReadsOnly g old new
   read_once called same geometry = record { same = same; geometry = geometry; reads = goes_on began called (record { reads = refl; before = refl; after = same }) }
 
   -- ---- blocks that stand apart
 
-  pub apart_reads : {old new : D} (map : BlockSets) (pending : List ℕ) → ReadsOnly g old new → LeavesApart g map pending old new
+  pub apart_reads : {old new : D} (map : BlockStateList) (pending : List ℕ) → ReadsOnly g old new → CallKeepsTakenBlocks g map pending old new
   apart_reads {old} {new} map pending only = record {
-    spared = subst (SparesApart map pending (g.blocks old)) (sym only.same) (Spares-refl map pending (g.blocks old));
+    spared = subst (KeepsBytesOfTakenBlocks map pending (g.blocks old)) (sym only.same) (Spares-refl map pending (g.blocks old));
     pages = record { stays = λ k i apart was. unprogrammed-reads k i only.reads ∙ was };
     geometry = only.geometry;
-    at_worst = LeavesOnly-reads AtWorst-read only.reads (Spares-refl map pending (g.blocks old));
+    at_worst = IsTrueAfterEachStopSince-reads IsWorstOutcomeOfStop-read only.reads (Spares-refl map pending (g.blocks old));
   }
 
   -- the list's last block is written
-  pub apart_end : {old new : D} {pending : List ℕ} (map : BlockSets) → ChangesOnly g pending old new → LeavesApart g map pending old new
+  pub apart_end : {old new : D} {pending : List ℕ} (map : BlockStateList) → ChangesOnlyTheseBlocks g pending old new → CallKeepsTakenBlocks g map pending old new
   apart_end {old} {new} {pending} map changes = record {
     spared = spares_end map pending (g.blocks old) (g.blocks new) changes.others;
     pages = pages_end map pending (g.history old) (g.history new) changes.elsewhere;
@@ -76,41 +76,41 @@ module _ {D : Type 0} (g : Ghosts D) where
     at_worst = stops_end map pending (g.blocks old) (g.history old) (g.history new) changes.at_worst;
   }
 
-  pub apart_on : {map later : BlockSets} {pending then : List ℕ} {old mid new : D} → ((k : ℕ) → IsApart map pending k → IsApart later then k) → LeavesApart g map pending old mid → LeavesApart g later then mid new
-      → LeavesApart g map pending old new
+  pub apart_on : {map later : BlockStateList} {pending then : List ℕ} {old mid new : D} → ((k : ℕ) → IsTakenAndNotPending map pending k → IsTakenAndNotPending later then k) → CallKeepsTakenBlocks g map pending old mid → CallKeepsTakenBlocks g later then mid new
+      → CallKeepsTakenBlocks g map pending old new
   apart_on {map} {later} {pending} {then} {old} {mid} {new} apart first second = record {
     spared = Spares-trans map later pending then (g.blocks old) (g.blocks mid) (g.blocks new) apart first.spared second.spared;
-    pages = SparesPages-trans map later pending then (g.history old) (g.history mid) (g.history new) apart first.pages second.pages;
+    pages = KeepsUnprogrammedInTakenBlocks-trans map later pending then (g.history old) (g.history mid) (g.history new) apart first.pages second.pages;
     geometry = second.geometry ∙ first.geometry;
     at_worst = stops_trans map later pending then (g.blocks old) (g.blocks mid) (g.history old) (g.history mid) (g.history new) apart first.at_worst first.spared second.at_worst;
   }
 
-  pub apart_read : {map : BlockSets} {pending : List ℕ} {old mid new : D} → LeavesApart g map pending old mid → ReadsOnly g mid new → LeavesApart g map pending old new
+  pub apart_read : {map : BlockStateList} {pending : List ℕ} {old mid new : D} → CallKeepsTakenBlocks g map pending old mid → ReadsOnly g mid new → CallKeepsTakenBlocks g map pending old new
   apart_read {map} {pending} first only = apart_on (λ k apart. apart) first (apart_reads map pending only)
 
   -- ---- used blocks
 
-  pub used_reads : {old new : D} (map : BlockSets) → ReadsOnly g old new → LeavesUsed g map old new
+  pub used_reads : {old new : D} (map : BlockStateList) → ReadsOnly g old new → CallKeepsUsedBlocks g map old new
   used_reads {old} {new} map only = record {
-    spared = subst (SparesUsed map (g.blocks old)) (sym only.same) (SparesUsed-refl map (g.blocks old));
+    spared = subst (KeepsBytesOfUsedBlocks map (g.blocks old)) (sym only.same) (KeepsBytesOfUsedBlocks-refl map (g.blocks old));
     pages = record { stays = λ k i used was. unprogrammed-reads k i only.reads ∙ was };
     geometry = only.geometry;
-    at_worst = LeavesOnly-reads AtWorst-read only.reads (SparesUsed-refl map (g.blocks old));
+    at_worst = IsTrueAfterEachStopSince-reads IsWorstOutcomeOfStop-read only.reads (KeepsBytesOfUsedBlocks-refl map (g.blocks old));
   }
 
-  pub used_on : {map later : BlockSets} {old mid new : D} → KeepsUsed map later → LeavesUsed g map old mid → LeavesUsed g later mid new → LeavesUsed g map old new
+  pub used_on : {map later : BlockStateList} {old mid new : D} → KeepsUsedBlocksInMap map later → CallKeepsUsedBlocks g map old mid → CallKeepsUsedBlocks g later mid new → CallKeepsUsedBlocks g map old new
   used_on {map} {later} {old} {mid} {new} keeps first second = record {
-    spared = SparesUsed-trans map later (g.blocks old) (g.blocks mid) (g.blocks new) keeps first.spared second.spared;
-    pages = SparesUsedPages-trans map later (g.history old) (g.history mid) (g.history new) keeps first.pages second.pages;
+    spared = KeepsBytesOfUsedBlocks-trans map later (g.blocks old) (g.blocks mid) (g.blocks new) keeps first.spared second.spared;
+    pages = KeepsUnprogrammedInUsedBlocks-trans map later (g.history old) (g.history mid) (g.history new) keeps first.pages second.pages;
     geometry = second.geometry ∙ first.geometry;
     at_worst = used_stops_trans map later (g.blocks old) (g.blocks mid) (g.history old) (g.history mid) (g.history new) keeps first.at_worst first.spared second.at_worst;
   }
 
-  pub used_read : {map : BlockSets} {old mid new : D} → LeavesUsed g map old mid → ReadsOnly g mid new → LeavesUsed g map old new
+  pub used_read : {map : BlockStateList} {old mid new : D} → CallKeepsUsedBlocks g map old mid → ReadsOnly g mid new → CallKeepsUsedBlocks g map old new
   used_read {map} first only = used_on (record { count = refl; used = refl; stays = λ b used. used }) first (used_reads map only)
 
   -- used blocks stand apart
-  pub used_of : {map : BlockSets} {d : Blocks} {old new : D} (list : Growing) → IsTakenInMap map d list → LeavesApart g map (pending_of list) old new → LeavesUsed g map old new
+  pub used_of : {map : BlockStateList} {d : Blocks} {old new : D} (list : GrowingList) → HasGrowingListBlocksTaken map d list → CallKeepsTakenBlocks g map (unwritten_block_of_list list) old new → CallKeepsUsedBlocks g map old new
   used_of {map} {d} {old} {new} list marked leaves = record {
     spared = to_used map d list marked (g.blocks old) (g.blocks new) leaves.spared;
     pages = to_used_pages map d list marked (g.history old) (g.history new) leaves.pages;

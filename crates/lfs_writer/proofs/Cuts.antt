@@ -3,36 +3,36 @@ use Rattle.std.proofs.Common.{ℕ, ◌≡◌, ◌≢◌, inl, inr, ⊎_elim, get
 use Rattle.std.specs.Prelude.{All, Contains}
 use Rattle.std.proofs.lemmas.List.{take-take, length-take}
 use Rattle.std.proofs.lemmas.List.Elements.{All-contains, All-contains_itself, All-take}
-use Rattle.lfs_model.specs.Blocks.{Blocks, SameButThese}
-use Rattle.lfs_model.specs.BlockSets.{BlockSets, IsFree, IsInFlight}
-use Rattle.lfs_model.specs.SkipLists.{IsList}
-use Rattle.lfs_writer.specs.BlocksApart.{IsApart}
-use Rattle.lfs_writer.specs.Bases.{IsBase, list_blocks}
-use Rattle.lfs_writer.specs.Hand.{IsListStored}
-use Rattle.lfs_writer.specs.Releases.{Releases}
+use Rattle.lfs_model.specs.Blocks.{Blocks, AreBlocksEqualExceptThese}
+use Rattle.lfs_model.specs.BlockSets.{BlockStateList, IsFree, IsInFlight}
+use Rattle.lfs_model.specs.SkipLists.{IsSkipList}
+use Rattle.lfs_writer.specs.BlocksApart.{IsTakenAndNotPending}
+use Rattle.lfs_writer.specs.Bases.{IsListUnlessEmpty, list_blocks_by_head_and_size}
+use Rattle.lfs_writer.specs.Hand.{IsFinishedListOnDisk}
+use Rattle.lfs_writer.specs.Releases.{ReleasesBlocksInFlight}
 use Rattle.lfs_writer.specs.declared.stored_list.Stored.{Stored}
 use Rattle.lfs_writer.proofs.Bases.{blocks_stay, list_stays}
 use Rattle.lfs_writer.proofs.Ends.{base_distinct, gone_of, still_apart, still_flying}
 use Rattle.lfs_writer.proofs.Spared.{spares_end}
 use Rattle.lfs_writer.proofs.Takings.{member}
 
-module _ (map : BlockSets) (d f : Blocks) (block_size : ℕ) (stored : Stored) (pending : List ℕ) (is : IsListStored map d block_size stored) (none : pending ≡ []) (same : SameButThese pending d f) where
+module _ (map : BlockStateList) (d f : Blocks) (block_size : ℕ) (stored : Stored) (pending : List ℕ) (is : IsFinishedListOnDisk map d block_size stored) (none : pending ≡ []) (same : AreBlocksEqualExceptThese pending d f) where
   abbrev bb : List ℕ
-  bb = list_blocks d block_size stored.head stored.size
+  bb = list_blocks_by_head_and_size d block_size stored.head stored.size
 
-  apart : All (IsApart map pending) (list_blocks d block_size stored.head stored.size)
-  apart k x l = (is.marked k x l, subst (All (λ p. p ≢ get_or (list_blocks d block_size stored.head stored.size) k x)) (sym none) (λ i y m. absurd (omega (arith, m))))
+  apart : All (IsTakenAndNotPending map pending) (list_blocks_by_head_and_size d block_size stored.head stored.size)
+  apart k x l = (is.marked k x l, subst (All (λ p. p ≢ get_or (list_blocks_by_head_and_size d block_size stored.head stored.size) k x)) (sym none) (λ i y m. absurd (omega (arith, m))))
 
-  stay : list_blocks f block_size stored.head stored.size ≡ list_blocks d block_size stored.head stored.size
+  stay : list_blocks_by_head_and_size f block_size stored.head stored.size ≡ list_blocks_by_head_and_size d block_size stored.head stored.size
   stay = blocks_stay map pending d f block_size stored.head stored.size (spares_end map pending d f same) apart
 
-  pub base_stays : IsBase f block_size stored.head stored.size
+  pub base_stays : IsListUnlessEmpty f block_size stored.head stored.size
   base_stays = ⊎_elim (λ zero. inl zero) (λ list. inr (list_stays map pending d f block_size stored.head stored.size (spares_end map pending d f same) apart list)) is.base
 
-  pub cuts : (later : BlockSets) (n head keep : ℕ) → IsList f block_size head keep → list_blocks f block_size head keep ≡ take n bb → Releases map later (gone_of stored.in_flight n (list_blocks f block_size stored.head stored.size))
-      → IsListStored later f block_size (record { head = head; size = keep; in_flight = stored.in_flight })
+  pub cuts : (later : BlockStateList) (n head keep : ℕ) → IsSkipList f block_size head keep → list_blocks_by_head_and_size f block_size head keep ≡ take n bb → ReleasesBlocksInFlight map later (gone_of stored.in_flight n (list_blocks_by_head_and_size f block_size stored.head stored.size))
+      → IsFinishedListOnDisk later f block_size (record { head = head; size = keep; in_flight = stored.in_flight })
   cuts later n head keep list blocks released =
-      let out : Releases map later (gone_of stored.in_flight n bb) = subst (λ (l : List ℕ). Releases map later (gone_of stored.in_flight n l)) stay released in
+      let out : ReleasesBlocksInFlight map later (gone_of stored.in_flight n bb) = subst (λ (l : List ℕ). ReleasesBlocksInFlight map later (gone_of stored.in_flight n l)) stay released in
       let front : take n (take n bb) ≡ take n bb = take-take n n bb (omega arith) in
       let behind : All (λ b. All (λ c. c ≢ b) bb) (drop n (take n bb)) = λ k x l. absurd (omega (arith, l, length-drop n (take n bb), length-take n bb)) in
       let distinct = base_distinct d block_size stored.head stored.size is.base in

@@ -5,15 +5,15 @@ use Rattle.std.specs.List.{IsDistinct}
 use Rattle.std.proofs.lemmas.List.{take-append-drop}
 use Rattle.std.proofs.lemmas.List.Elements.{All-contains, All-contains_itself, All-drop, Contains-append_cases}
 use Rattle.lfs_device.specs.declared.geometry.Geometry.{Geometry}
-use Rattle.lfs_model.specs.Blocks.{Blocks, SameButThese}
-use Rattle.lfs_model.specs.BlockSets.{BlockSets, IsFree, IsInFlight}
+use Rattle.lfs_model.specs.Blocks.{Blocks, AreBlocksEqualExceptThese}
+use Rattle.lfs_model.specs.BlockSets.{BlockStateList, IsFree, IsInFlight}
 use Rattle.lfs_model.specs.BlockSets.BlockState.{Free, Used}
-use Rattle.lfs_model.specs.SkipLists.{blocks_for, AreListBlocks, IsList}
-use Rattle.lfs_ctz.specs.Growing.{Growing, blocks_of_list, kept_blocks, pending_of}
-use Rattle.lfs_writer.specs.Bases.{IsBase, list_blocks}
-use Rattle.lfs_writer.specs.Hand.{IsHand, IsListStored, KeepsUsed}
-use Rattle.lfs_writer.specs.Releases.{Releases}
-use Rattle.lfs_writer.specs.TakenBlocks.{Keeps}
+use Rattle.lfs_model.specs.SkipLists.{list_block_count_for_size, AreListBlocks, IsSkipList}
+use Rattle.lfs_ctz.specs.Growing.{GrowingList, blocks_of_growing_list, blocks_kept_when_growing, unwritten_block_of_list}
+use Rattle.lfs_writer.specs.Bases.{IsListUnlessEmpty, list_blocks_by_head_and_size}
+use Rattle.lfs_writer.specs.Hand.{IsListInHandOverBase, IsFinishedListOnDisk, KeepsUsedBlocksInMap}
+use Rattle.lfs_writer.specs.Releases.{ReleasesBlocksInFlight}
+use Rattle.lfs_writer.specs.TakenBlocks.{ChangesOnlyFreeBlocksInMap}
 use Rattle.lfs_writer.specs.declared.stored_list.Stored.{Stored}
 use Rattle.lfs_writer.proofs.Bases.{blocks_stay, list_stays}
 use Rattle.lfs_writer.proofs.Hands.{Contains-drop, Contains-take, distinct_parts}
@@ -28,8 +28,8 @@ pub none_distinct : IsDistinct nat_eq []
 unfolding IsDistinct
 none_distinct = tt
 
-pub base_distinct : (d : Blocks) (block_size head size : ℕ) → IsBase d block_size head size → IsDistinct nat_eq (list_blocks d block_size head size)
-base_distinct d block_size head size (inl none) = subst (λ n. IsDistinct nat_eq (list_blocks d block_size head n)) (sym none) none_distinct
+pub base_distinct : (d : Blocks) (block_size head size : ℕ) → IsListUnlessEmpty d block_size head size → IsDistinct nat_eq (list_blocks_by_head_and_size d block_size head size)
+base_distinct d block_size head size (inl none) = subst (λ n. IsDistinct nat_eq (list_blocks_by_head_and_size d block_size head n)) (sym none) none_distinct
 base_distinct d block_size head size (inr list) = list.blocks.distinct
 
 -- a new list's blocks stay in flight
@@ -42,7 +42,7 @@ still_apart shared kept bb x true distinct front behind has = ⊎_elim
     (Contains-append_cases (take shared kept) (drop shared kept) x (subst (λ (l : List ℕ). Contains l x) (sym (take-append-drop shared kept)) has))
 
 -- and no other block does
-pub still_flying : (map later : BlockSets) (shared : ℕ) (kept bb : List ℕ) (b : ℕ) (in_flight : Bool) → take shared kept ≡ take shared bb → Releases map later (gone_of in_flight shared bb)
+pub still_flying : (map later : BlockStateList) (shared : ℕ) (kept bb : List ℕ) (b : ℕ) (in_flight : Bool) → take shared kept ≡ take shared bb → ReleasesBlocksInFlight map later (gone_of in_flight shared bb)
     → (IsInFlight map b → Contains kept b ⊎ ((in_flight ≡ true) × Contains bb b)) → IsInFlight later b → Contains kept b
 still_flying map later shared kept bb b in_flight front released was is = ⊎_elim
     (λ has. absurd (All-contains (λ x. ¬ (IsInFlight later x)) (gone_of in_flight shared bb) b released.gone has is))
@@ -54,46 +54,46 @@ still_flying map later shared kept bb b in_flight front released was is = ⊎_el
     (was (sym (released.others b apart) ∙ is)))
     (member (gone_of in_flight shared bb) b)
 
-module _ (map later : BlockSets) (e f : Blocks) (block_size : ℕ) (h : Growing) (base : Stored) (shared head size : ℕ) (hand : IsHand map e block_size h base shared) (others : SameButThese (pending_of h) e f)
-    (list : IsList f block_size head size) (blocks : list_blocks f block_size head size ≡ blocks_of_list e h) (released : Releases map later (gone_of base.in_flight shared (list_blocks f block_size base.head base.size))) where
+module _ (map later : BlockStateList) (e f : Blocks) (block_size : ℕ) (h : GrowingList) (base : Stored) (shared head size : ℕ) (hand : IsListInHandOverBase map e block_size h base shared) (others : AreBlocksEqualExceptThese (unwritten_block_of_list h) e f)
+    (list : IsSkipList f block_size head size) (blocks : list_blocks_by_head_and_size f block_size head size ≡ blocks_of_growing_list e h) (released : ReleasesBlocksInFlight map later (gone_of base.in_flight shared (list_blocks_by_head_and_size f block_size base.head base.size))) where
   bb : List ℕ
-  bb = list_blocks e block_size base.head base.size
+  bb = list_blocks_by_head_and_size e block_size base.head base.size
 
-  stay : list_blocks f block_size base.head base.size ≡ list_blocks e block_size base.head base.size
-  stay = blocks_stay map (pending_of h) e f block_size base.head base.size (spares_end map (pending_of h) e f others) hand.begun.apart
+  stay : list_blocks_by_head_and_size f block_size base.head base.size ≡ list_blocks_by_head_and_size e block_size base.head base.size
+  stay = blocks_stay map (unwritten_block_of_list h) e f block_size base.head base.size (spares_end map (unwritten_block_of_list h) e f others) hand.begun.apart
 
-  out : Releases map later (gone_of base.in_flight shared (list_blocks e block_size base.head base.size))
-  out = subst (λ (l : List ℕ). Releases map later (gone_of base.in_flight shared l)) stay released
+  out : ReleasesBlocksInFlight map later (gone_of base.in_flight shared (list_blocks_by_head_and_size e block_size base.head base.size))
+  out = subst (λ (l : List ℕ). ReleasesBlocksInFlight map later (gone_of base.in_flight shared l)) stay released
 
-  kept_is : list_blocks f block_size head size ≡ kept_blocks e h
+  kept_is : list_blocks_by_head_and_size f block_size head size ≡ blocks_kept_when_growing e h
   kept_is = blocks ∙ hand.own
 
-  pub ends : IsListStored later f block_size (record { head = head; size = size; in_flight = true })
+  pub ends : IsFinishedListOnDisk later f block_size (record { head = head; size = size; in_flight = true })
   ends = record {
     base = inr list;
     count = released.count ∙ hand.begun.marked.count ∙ sym others.count;
     marked = subst (All (λ b. ¬ (IsFree later b))) (sym kept_is) (λ k x l free.
-        hand.begun.marked.kept k x l (sym (out.others (get_or (kept_blocks e h) k x) (still_apart shared (kept_blocks e h) (list_blocks e block_size base.head base.size) (get_or (kept_blocks e h) k x) base.in_flight
-        (base_distinct e block_size base.head base.size hand.begun.list) hand.begun.front hand.begun.behind (All-contains_itself (kept_blocks e h) k x l))) ∙ free));
+        hand.begun.marked.kept k x l (sym (out.others (get_or (blocks_kept_when_growing e h) k x) (still_apart shared (blocks_kept_when_growing e h) (list_blocks_by_head_and_size e block_size base.head base.size) (get_or (blocks_kept_when_growing e h) k x) base.in_flight
+        (base_distinct e block_size base.head base.size hand.begun.list) hand.begun.front hand.begun.behind (All-contains_itself (blocks_kept_when_growing e h) k x l))) ∙ free));
     flying = λ b is. (
       refl,
       subst (λ (l : List ℕ). Contains l b) (sym kept_is)
-          (still_flying map later shared (kept_blocks e h) (list_blocks e block_size base.head base.size) b base.in_flight hand.begun.front out (hand.begun.flying b) is),
+          (still_flying map later shared (blocks_kept_when_growing e h) (list_blocks_by_head_and_size e block_size base.head base.size) b base.in_flight hand.begun.front out (hand.begun.flying b) is),
     );
   }
 
 -- under other names of the geometry
-pub ends_by : (map later : BlockSets) (e f : Blocks) (geometry now device : Geometry) (h : Growing) (base : Stored) (shared head size : ℕ) → now ≡ geometry → device ≡ geometry → IsHand map e geometry.block_size h base shared
-    → SameButThese (pending_of h) e f → IsList f now.block_size head size → list_blocks f now.block_size head size ≡ blocks_of_list e h
-    → Releases map later (gone_of base.in_flight shared (list_blocks f device.block_size base.head base.size)) → IsListStored later f geometry.block_size (record { head = head; size = size; in_flight = true })
+pub ends_by : (map later : BlockStateList) (e f : Blocks) (geometry now device : Geometry) (h : GrowingList) (base : Stored) (shared head size : ℕ) → now ≡ geometry → device ≡ geometry → IsListInHandOverBase map e geometry.block_size h base shared
+    → AreBlocksEqualExceptThese (unwritten_block_of_list h) e f → IsSkipList f now.block_size head size → list_blocks_by_head_and_size f now.block_size head size ≡ blocks_of_growing_list e h
+    → ReleasesBlocksInFlight map later (gone_of base.in_flight shared (list_blocks_by_head_and_size f device.block_size base.head base.size)) → IsFinishedListOnDisk later f geometry.block_size (record { head = head; size = size; in_flight = true })
 ends_by map later e f geometry now device h base shared head size same also hand others list blocks released =
     ends map later e f geometry.block_size h base shared head size hand others
-    (subst (λ (k : Geometry). IsList f k.block_size head size) same list)
-    (subst (λ (k : Geometry). list_blocks f k.block_size head size ≡ blocks_of_list e h) same blocks)
-    (subst (λ (k : Geometry). Releases map later (gone_of base.in_flight shared (list_blocks f k.block_size base.head base.size))) also released)
+    (subst (λ (k : Geometry). IsSkipList f k.block_size head size) same list)
+    (subst (λ (k : Geometry). list_blocks_by_head_and_size f k.block_size head size ≡ blocks_of_growing_list e h) same blocks)
+    (subst (λ (k : Geometry). ReleasesBlocksInFlight map later (gone_of base.in_flight shared (list_blocks_by_head_and_size f k.block_size base.head base.size))) also released)
 
 -- the same blocks are used
-pub used_kept : (a b c : BlockSets) (bs : List ℕ) → Keeps a b → Releases b c bs → KeepsUsed a c
+pub used_kept : (a b c : BlockStateList) (bs : List ℕ) → ChangesOnlyFreeBlocksInMap a b → ReleasesBlocksInFlight b c bs → KeepsUsedBlocksInMap a c
 used_kept a b c bs keeps released = record {
   count = released.count ∙ keeps.count;
   used = released.used ∙ keeps.used;
@@ -105,14 +105,14 @@ unfolding IsDistinct
 none_chain d head = record { in_range = λ k x l. absurd (omega (arith, l)); distinct = tt; pointers = λ i k l less. absurd (omega (arith, l)) }
 
 -- a base's blocks, from the head back
-pub base_chain : (d : Blocks) (geometry now : Geometry) (head size n : ℕ) → now ≡ geometry → n ≡ blocks_for now.block_size size → IsBase d geometry.block_size head size → AreListBlocks d n head
-base_chain d geometry now head size n same is (inl none) = subst (λ k. AreListBlocks d k head) (sym (is ∙ ap (blocks_for now.block_size) none)) (none_chain d head)
+pub base_chain : (d : Blocks) (geometry now : Geometry) (head size n : ℕ) → now ≡ geometry → n ≡ list_block_count_for_size now.block_size size → IsListUnlessEmpty d geometry.block_size head size → AreListBlocks d n head
+base_chain d geometry now head size n same is (inl none) = subst (λ k. AreListBlocks d k head) (sym (is ∙ ap (list_block_count_for_size now.block_size) none)) (none_chain d head)
 base_chain d geometry now head size n same is (inr list) =
-    subst (λ k. AreListBlocks d k head) (sym (is ∙ ap (λ (k : Geometry). blocks_for k.block_size size) same)) list.blocks
+    subst (λ k. AreListBlocks d k head) (sym (is ∙ ap (λ (k : Geometry). list_block_count_for_size k.block_size size) same)) list.blocks
 
 -- a base stays while the list's last block is written
-pub base_end : (map : BlockSets) (e f : Blocks) (geometry device : Geometry) (h : Growing) (base : Stored) (shared : ℕ) → device ≡ geometry → IsHand map e geometry.block_size h base shared → SameButThese (pending_of h) e f
-    → IsBase f device.block_size base.head base.size
+pub base_end : (map : BlockStateList) (e f : Blocks) (geometry device : Geometry) (h : GrowingList) (base : Stored) (shared : ℕ) → device ≡ geometry → IsListInHandOverBase map e geometry.block_size h base shared → AreBlocksEqualExceptThese (unwritten_block_of_list h) e f
+    → IsListUnlessEmpty f device.block_size base.head base.size
 base_end map e f geometry device h base shared same hand others =
-    subst (λ (k : Geometry). IsBase f k.block_size base.head base.size) (sym same)
-    (⊎_elim (λ none. inl none) (λ list. inr (list_stays map (pending_of h) e f geometry.block_size base.head base.size (spares_end map (pending_of h) e f others) hand.begun.apart list)) hand.begun.list)
+    subst (λ (k : Geometry). IsListUnlessEmpty f k.block_size base.head base.size) (sym same)
+    (⊎_elim (λ none. inl none) (λ list. inr (list_stays map (unwritten_block_of_list h) e f geometry.block_size base.head base.size (spares_end map (unwritten_block_of_list h) e f others) hand.begun.apart list)) hand.begun.list)

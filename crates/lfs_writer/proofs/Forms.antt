@@ -4,24 +4,24 @@ use Rattle.std.specs.Prelude.{nat_le, nat_lt, ◌==◌, ◌||◌}
 use Rattle.std.proofs.lemmas.Bool.{or_left, or_right, eqb-true, eqb-false, leb-true, leb-false, ltb-true, ltb-false, ne_eqb, eq-eqb, cases_eq, lt-leb, le-leb}
 use Rattle.std.proofs.lemmas.List.{length-take, length-replicate}
 use Rattle.lfs_model.specs.Disk.{inline_limit}
-use Rattle.lfs_model.specs.SkipLists.{blocks_for}
-use Rattle.lfs_model.specs.Session.{Writer, ctz_blocks, blocks_held_by}
-use Rattle.lfs_model.specs.Writers.{after_write, after_truncate, after_sync, opened_writer, written_into, turns, write_place, zeros_to}
+use Rattle.lfs_model.specs.SkipLists.{list_block_count_for_size}
+use Rattle.lfs_model.specs.Session.{Writer, ctz_block_count, reserved_block_count_of_writer}
+use Rattle.lfs_model.specs.Writers.{writer_after_write, writer_after_truncate, writer_after_sync, writer_after_open, contents_after_write, turns, write_position, bytes_padded_with_zeros}
 use Rattle.lfs_model.specs.Operations.{Flags}
 use Rattle.lfs_model.specs.Tree.{Path}
-use Rattle.lfs_writer.specs.Form.{Form, InMemory, Finished, InHand, form_size, form_blocks, grown, shortened, written, truncated, synced, IsWriterForm}
-use Rattle.lfs_model.proofs.ListSizes.{blocks_for-more}
+use Rattle.lfs_writer.specs.Form.{ContentsForm, InMemory, Finished, InHand, size_of_contents_form, blocks_in_flight_of_form, grown, form_after_shortening, written, truncated, form_after_sync, IsFormOfWriterContents}
+use Rattle.lfs_model.proofs.ListSizes.{list_block_count_for_size-more}
 
-length-zeros_to : (n : ℕ) (bytes : List ℕ) → length (zeros_to n bytes) ≡ max n (length bytes)
+length-zeros_to : (n : ℕ) (bytes : List ℕ) → length (bytes_padded_with_zeros n bytes) ≡ max n (length bytes)
 length-zeros_to n bytes = omega (arith, length-append bytes (replicate (n - length bytes) 0), length-replicate {A = ℕ} (n - length bytes) 0)
 
-pub length-written : (old : List ℕ) (at : ℕ) (bytes : List ℕ) → length (written_into old at bytes) ≡ max (length old) (at + length bytes)
+pub length-written : (old : List ℕ) (at : ℕ) (bytes : List ℕ) → length (contents_after_write old at bytes) ≡ max (length old) (at + length bytes)
 length-written old at bytes =
-    let front : length (take at (zeros_to at old)) ≡ at = omega (arith, length-take at (zeros_to at old), length-zeros_to at old) in
-    omega (arith, front, length-append (take at (zeros_to at old) ++ bytes) (drop (at + length bytes) old), length-append (take at (zeros_to at old)) bytes, length-drop (at + length bytes) old)
+    let front : length (take at (bytes_padded_with_zeros at old)) ≡ at = omega (arith, length-take at (bytes_padded_with_zeros at old), length-zeros_to at old) in
+    omega (arith, front, length-append (take at (bytes_padded_with_zeros at old) ++ bytes) (drop (at + length bytes) old), length-append (take at (bytes_padded_with_zeros at old)) bytes, length-drop (at + length bytes) old)
 
 -- one form or another
-either : (block_size : ℕ) (t : Bool) (a b : Form) (w : Writer) → (t ≡ true → IsWriterForm block_size a w) → (t ≡ false → IsWriterForm block_size b w) → IsWriterForm block_size (if t then a else b) w
+either : (block_size : ℕ) (t : Bool) (a b : ContentsForm) (w : Writer) → (t ≡ true → IsFormOfWriterContents block_size a w) → (t ≡ false → IsFormOfWriterContents block_size b w) → IsFormOfWriterContents block_size (if t then a else b) w
 either block_size true a b w first second = first refl
 either block_size false a b w first second = second refl
 
@@ -37,7 +37,7 @@ turned_or : (t : Bool) (P : Type 0) → (t ≡ true → P) → (t ≡ false → 
 turned_or true P first second = first refl
 turned_or false P first second = second refl
 
-kept_grown : (block_size : ℕ) (w v : Writer) (begin stop : ℕ) → Grew w v begin stop → inline_limit block_size < length v.contents → begin ≤ stop → (form : Form) → IsWriterForm block_size form w → IsWriterForm block_size (grown begin stop form) v
+kept_grown : (block_size : ℕ) (w v : Writer) (begin stop : ℕ) → Grew w v begin stop → inline_limit block_size < length v.contents → begin ≤ stop → (form : ContentsForm) → IsFormOfWriterContents block_size form w → IsFormOfWriterContents block_size (grown begin stop form) v
 kept_grown block_size w v begin stop grew large le (InMemory size) kept =
     let few : size ≤ inline_limit block_size = kept.fits in
     let is : size ≡ length w.contents = kept.size in
@@ -91,7 +91,7 @@ kept_grown block_size w v begin stop grew large le (InHand end base flying) kept
     })
 
 kept_shortened : (block_size : ℕ) (w v : Writer) (size : ℕ) → v.dirty ≡ true → (w.turned ≡ true → v.turned ≡ true) → ((end : ℕ) → w.last_end ≡ Some end → v.turned ≡ true) → length v.contents ≡ size → inline_limit block_size < size → size ≤ length w.contents
-    → (form : Form) → IsWriterForm block_size form w → IsWriterForm block_size (shortened size form) v
+    → (form : ContentsForm) → IsFormOfWriterContents block_size form w → IsFormOfWriterContents block_size (form_after_shortening size form) v
 kept_shortened block_size w v size dirty stays turns long large le (InMemory old) kept =
     let few : old ≤ inline_limit block_size = kept.fits in
     let is : old ≡ length w.contents = kept.size in
@@ -114,13 +114,13 @@ kept_shortened block_size w v size dirty stays turns long large le (InHand end b
 turned_on : (turned : Bool) (last_end : Option ℕ) (begin end : ℕ) → last_end ≡ Some end → end ≢ begin → (turned || turns last_end begin) ≡ true
 turned_on turned last_end begin end at ne = or_right turned (turns last_end begin) (let e : turns (Some end) begin ≡ true = ap not (ne_eqb begin end (λ e. ne (sym e))) in ap (λ l. turns l begin) at ∙ e)
 
-pub kept_written : (block_size : ℕ) (form : Form) (w : Writer) (byte : ℕ) (bytes : List ℕ) → IsWriterForm block_size form w
-    → IsWriterForm block_size (written (inline_limit block_size) (write_place w) (length (byte ∷ bytes)) form) (after_write w (byte ∷ bytes))
+pub kept_written : (block_size : ℕ) (form : ContentsForm) (w : Writer) (byte : ℕ) (bytes : List ℕ) → IsFormOfWriterContents block_size form w
+    → IsFormOfWriterContents block_size (written (inline_limit block_size) (write_position w) (length (byte ∷ bytes)) form) (writer_after_write w (byte ∷ bytes))
 kept_written block_size form w byte bytes kept =
-    let place : ℕ = write_place w in
-    let size : ℕ = form_size form in
+    let place : ℕ = write_position w in
+    let size : ℕ = size_of_contents_form form in
     let stop : ℕ = place + length (byte ∷ bytes) in
-    let v : Writer = after_write w (byte ∷ bytes) in
+    let v : Writer = writer_after_write w (byte ∷ bytes) in
     let is : size ≡ length w.contents = kept.size in
     let long : length v.contents ≡ max (length w.contents) stop = length-written w.contents place (byte ∷ bytes) in
     either block_size (nat_le (max size stop) (inline_limit block_size)) (InMemory (max size stop)) (grown (min place size) stop form) v
@@ -139,33 +139,33 @@ kept_written block_size form w byte bytes kept =
 
 abbrev resized_to : ℕ → Writer → Writer
 resized_to size w = record w {
-  contents = take size (zeros_to size w.contents);
+  contents = take size (bytes_padded_with_zeros size w.contents);
   dirty = true;
   turned = w.turned || is_some w.last_end;
   last_end = if nat_lt (length w.contents) size then Some size else w.last_end;
 }
 
-module _ (block_size : ℕ) (form : Form) (w : Writer) (size : ℕ) (kept : IsWriterForm block_size form w) (ne : size ≢ length w.contents) where
+module _ (block_size : ℕ) (form : ContentsForm) (w : Writer) (size : ℕ) (kept : IsFormOfWriterContents block_size form w) (ne : size ≢ length w.contents) where
   abbrev resized : Writer
   resized = resized_to size w
 
   long : length resized.contents ≡ size
-  long = omega (arith, length-take size (zeros_to size w.contents), length-zeros_to size w.contents)
+  long = omega (arith, length-take size (bytes_padded_with_zeros size w.contents), length-zeros_to size w.contents)
 
   some_turned : (end : ℕ) → w.last_end ≡ Some end → resized.turned ≡ true
   some_turned end at = or_right w.turned (is_some w.last_end) (ap is_some at)
 
-  abbrev other : Form
-  other = if nat_lt (form_size form) size then grown (form_size form) size form else shortened size form
+  abbrev other : ContentsForm
+  other = if nat_lt (size_of_contents_form form) size then grown (size_of_contents_form form) size form else form_after_shortening size form
 
-  kept_other : inline_limit block_size < size → IsWriterForm block_size other resized
+  kept_other : inline_limit block_size < size → IsFormOfWriterContents block_size other resized
   kept_other large =
-      let is : form_size form ≡ length w.contents = kept.size in
+      let is : size_of_contents_form form ≡ length w.contents = kept.size in
       let now = long in
-      either block_size (nat_lt (form_size form) size) (grown (form_size form) size form) (shortened size form) resized
+      either block_size (nat_lt (size_of_contents_form form) size) (grown (size_of_contents_form form) size form) (form_after_shortening size form) resized
       (λ longer.
-      let more : form_size form < size = ltb-true (form_size form) size longer in
-      kept_grown block_size w resized (form_size form) size
+      let more : size_of_contents_form form < size = ltb-true (size_of_contents_form form) size longer in
+      kept_grown block_size w resized (size_of_contents_form form) size
       (record {
         dirty = refl;
         stays = λ t. or_left w.turned (is_some w.last_end) t;
@@ -175,40 +175,40 @@ module _ (block_size : ℕ) (form : Form) (w : Writer) (size : ℕ) (kept : IsWr
       })
       (omega arith) (omega arith) form kept)
       (λ shorter.
-      let less : size ≤ form_size form = ltb-false (form_size form) size shorter in
+      let less : size ≤ size_of_contents_form form = ltb-false (size_of_contents_form form) size shorter in
       kept_shortened block_size w resized size refl (λ t. or_left w.turned (is_some w.last_end) t) some_turned now large (omega arith) form kept)
 
-  kept_resized : IsWriterForm block_size (if nat_le size (inline_limit block_size) then InMemory size else other) resized
+  kept_resized : IsFormOfWriterContents block_size (if nat_le size (inline_limit block_size) then InMemory size else other) resized
   kept_resized = either block_size (nat_le size (inline_limit block_size)) (InMemory size) other resized
       (λ fits. record { size = sym long; fits = leb-true size (inline_limit block_size) fits })
       (λ exceeds. kept_other (leb-false size (inline_limit block_size) exceeds))
 
-  kept_truncated_ne : IsWriterForm block_size (truncated (inline_limit block_size) size form) (after_truncate w size)
+  kept_truncated_ne : IsFormOfWriterContents block_size (truncated (inline_limit block_size) size form) (writer_after_truncate w size)
   kept_truncated_ne =
-      let is : form_size form ≡ length w.contents = kept.size in
+      let is : size_of_contents_form form ≡ length w.contents = kept.size in
       let first : truncated (inline_limit block_size) size form ≡ (if nat_le size (inline_limit block_size) then InMemory size else other) =
-      ap (λ (t : Bool). if t then form else (if nat_le size (inline_limit block_size) then InMemory size else other)) (ne_eqb size (form_size form) (λ e. ne (e ∙ is))) in
-      let second : after_truncate w size ≡ resized = ap (λ (t : Bool). if t then w else resized) (ne_eqb size (length w.contents) ne) in
-      subst (λ (f : Form). IsWriterForm block_size f (after_truncate w size)) (sym first) (subst (λ (v : Writer). IsWriterForm block_size (if nat_le size (inline_limit block_size) then InMemory size else other) v) (sym second) kept_resized)
+      ap (λ (t : Bool). if t then form else (if nat_le size (inline_limit block_size) then InMemory size else other)) (ne_eqb size (size_of_contents_form form) (λ e. ne (e ∙ is))) in
+      let second : writer_after_truncate w size ≡ resized = ap (λ (t : Bool). if t then w else resized) (ne_eqb size (length w.contents) ne) in
+      subst (λ (f : ContentsForm). IsFormOfWriterContents block_size f (writer_after_truncate w size)) (sym first) (subst (λ (v : Writer). IsFormOfWriterContents block_size (if nat_le size (inline_limit block_size) then InMemory size else other) v) (sym second) kept_resized)
 
-pub kept_truncated : (block_size : ℕ) (form : Form) (w : Writer) (size : ℕ) → IsWriterForm block_size form w → IsWriterForm block_size (truncated (inline_limit block_size) size form) (after_truncate w size)
+pub kept_truncated : (block_size : ℕ) (form : ContentsForm) (w : Writer) (size : ℕ) → IsFormOfWriterContents block_size form w → IsFormOfWriterContents block_size (truncated (inline_limit block_size) size form) (writer_after_truncate w size)
 kept_truncated block_size form w size kept = ⊎_elim
     (λ e.
     let first : truncated (inline_limit block_size) size form ≡ form =
-    ap (λ (t : Bool). if t then form else (if nat_le size (inline_limit block_size) then InMemory size else (if nat_lt (form_size form) size then grown (form_size form) size form else shortened size form))) (eq-eqb size (form_size form) (e ∙ sym kept.size)) in
-    let second : after_truncate w size ≡ w = ap (λ (t : Bool). if t then w else resized_to size w) (eq-eqb size (length w.contents) e) in
-    subst (λ (f : Form). IsWriterForm block_size f (after_truncate w size)) (sym first) (subst (λ (v : Writer). IsWriterForm block_size form v) (sym second) kept))
+    ap (λ (t : Bool). if t then form else (if nat_le size (inline_limit block_size) then InMemory size else (if nat_lt (size_of_contents_form form) size then grown (size_of_contents_form form) size form else form_after_shortening size form))) (eq-eqb size (size_of_contents_form form) (e ∙ sym kept.size)) in
+    let second : writer_after_truncate w size ≡ w = ap (λ (t : Bool). if t then w else resized_to size w) (eq-eqb size (length w.contents) e) in
+    subst (λ (f : ContentsForm). IsFormOfWriterContents block_size f (writer_after_truncate w size)) (sym first) (subst (λ (v : Writer). IsFormOfWriterContents block_size form v) (sym second) kept))
     (λ ne. kept_truncated_ne block_size form w size kept ne)
     (cases_eq size (length w.contents))
 
-contents_synced : (w : Writer) → (after_sync w).contents ≡ w.contents
+contents_synced : (w : Writer) → (writer_after_sync w).contents ≡ w.contents
 contents_synced w = go w.dirty
   where
     go : (t : Bool) → (if t then record w { dirty = false; turned = false; last_end = None } else w).contents ≡ w.contents
     go true = refl
     go false = refl
 
-pub kept_synced : (block_size : ℕ) (form : Form) (w : Writer) → IsWriterForm block_size form w → IsWriterForm block_size (synced form) (after_sync w)
+pub kept_synced : (block_size : ℕ) (form : ContentsForm) (w : Writer) → IsFormOfWriterContents block_size form w → IsFormOfWriterContents block_size (form_after_sync form) (writer_after_sync w)
 kept_synced block_size (InMemory size) w kept = record { size = kept.size ∙ ap length (sym (contents_synced w)); fits = kept.fits }
 kept_synced block_size (Finished size flying) w kept = record {
   size = kept.size ∙ ap length (sym (contents_synced w));
@@ -220,11 +220,11 @@ kept_synced block_size (InHand end base flying) w kept = record {
 }
 
 -- a writer that was opened on contents in its entry, or truncated, has them in memory
-pub kept_opened_inline : (block_size : ℕ) (path : Path) (flags : Flags) (bytes : List ℕ) → length (opened_writer path flags bytes).contents ≤ inline_limit block_size
-    → IsWriterForm block_size (InMemory (length (opened_writer path flags bytes).contents)) (opened_writer path flags bytes)
+pub kept_opened_inline : (block_size : ℕ) (path : Path) (flags : Flags) (bytes : List ℕ) → length (writer_after_open path flags bytes).contents ≤ inline_limit block_size
+    → IsFormOfWriterContents block_size (InMemory (length (writer_after_open path flags bytes).contents)) (writer_after_open path flags bytes)
 kept_opened_inline block_size path flags bytes few = record { size = refl; fits = few }
 
-pub kept_opened_list : (block_size : ℕ) (path : Path) (flags : Flags) (bytes : List ℕ) → IsWriterForm block_size (Finished (length (opened_writer path flags bytes).contents) false) (opened_writer path flags bytes)
+pub kept_opened_list : (block_size : ℕ) (path : Path) (flags : Flags) (bytes : List ℕ) → IsFormOfWriterContents block_size (Finished (length (writer_after_open path flags bytes).contents) false) (writer_after_open path flags bytes)
 kept_opened_list block_size path flags bytes = record {
   size = refl;
   fits = record { dirty = λ e. absurd (cc); large = λ e. absurd (cc); turned = λ e. absurd (cc) };
@@ -232,48 +232,48 @@ kept_opened_list block_size path flags bytes = record {
 
 -- ---- space
 
-held_dirty : (block_size : ℕ) (w : Writer) → w.dirty ≡ true → inline_limit block_size < length w.contents → blocks_held_by block_size w ≡ 2 + (if w.turned then 2 else 1) * blocks_for block_size (length w.contents)
+held_dirty : (block_size : ℕ) (w : Writer) → w.dirty ≡ true → inline_limit block_size < length w.contents → reserved_block_count_of_writer block_size w ≡ 2 + (if w.turned then 2 else 1) * list_block_count_for_size block_size (length w.contents)
 held_dirty block_size w dirty large =
     let n : ℕ = length w.contents in
-    let first : blocks_held_by block_size w ≡ 2 + (if w.turned then 2 else 1) * ctz_blocks block_size n = ap (λ (t : Bool). if not t then 0 else 2 + (if w.turned then 2 else 1) * ctz_blocks block_size n) dirty in
+    let first : reserved_block_count_of_writer block_size w ≡ 2 + (if w.turned then 2 else 1) * ctz_block_count block_size n = ap (λ (t : Bool). if not t then 0 else 2 + (if w.turned then 2 else 1) * ctz_block_count block_size n) dirty in
     let outside : nat_le n (inline_limit block_size) ≡ false = lt-leb n (inline_limit block_size) large in
-    first ∙ ap (λ (t : Bool). 2 + (if w.turned then 2 else 1) * (if t then 0 else blocks_for block_size n)) outside
+    first ∙ ap (λ (t : Bool). 2 + (if w.turned then 2 else 1) * (if t then 0 else list_block_count_for_size block_size n)) outside
 
-held_turned : (block_size : ℕ) (w : Writer) → w.dirty ≡ true → inline_limit block_size < length w.contents → w.turned ≡ true → blocks_held_by block_size w ≡ 2 + 2 * blocks_for block_size (length w.contents)
-held_turned block_size w dirty large turned = held_dirty block_size w dirty large ∙ ap (λ (t : Bool). 2 + (if t then 2 else 1) * blocks_for block_size (length w.contents)) turned
+held_turned : (block_size : ℕ) (w : Writer) → w.dirty ≡ true → inline_limit block_size < length w.contents → w.turned ≡ true → reserved_block_count_of_writer block_size w ≡ 2 + 2 * list_block_count_for_size block_size (length w.contents)
+held_turned block_size w dirty large turned = held_dirty block_size w dirty large ∙ ap (λ (t : Bool). 2 + (if t then 2 else 1) * list_block_count_for_size block_size (length w.contents)) turned
 
-held_once : (block_size : ℕ) (w : Writer) → w.dirty ≡ true → inline_limit block_size < length w.contents → 2 + blocks_for block_size (length w.contents) ≤ blocks_held_by block_size w
-held_once block_size w dirty large = turned_or w.turned (2 + blocks_for block_size (length w.contents) ≤ blocks_held_by block_size w)
+held_once : (block_size : ℕ) (w : Writer) → w.dirty ≡ true → inline_limit block_size < length w.contents → 2 + list_block_count_for_size block_size (length w.contents) ≤ reserved_block_count_of_writer block_size w
+held_once block_size w dirty large = turned_or w.turned (2 + list_block_count_for_size block_size (length w.contents) ≤ reserved_block_count_of_writer block_size w)
     (λ t. let e = held_turned block_size w dirty large t in omega arith)
-    (λ t. let e : blocks_held_by block_size w ≡ 2 + 1 * blocks_for block_size (length w.contents) = held_dirty block_size w dirty large ∙ ap (λ (t : Bool). 2 + (if t then 2 else 1) * blocks_for block_size (length w.contents)) t in omega arith)
+    (λ t. let e : reserved_block_count_of_writer block_size w ≡ 2 + 1 * list_block_count_for_size block_size (length w.contents) = held_dirty block_size w dirty large ∙ ap (λ (t : Bool). 2 + (if t then 2 else 1) * list_block_count_for_size block_size (length w.contents)) t in omega arith)
 
 -- The blocks in flight, and two more while the writer is dirty, are no more than it holds.
-pub held_covers : (block_size : ℕ) (form : Form) (w : Writer) → IsWriterForm block_size form w → form_blocks block_size form ≤ blocks_held_by block_size w - 2
+pub held_covers : (block_size : ℕ) (form : ContentsForm) (w : Writer) → IsFormOfWriterContents block_size form w → blocks_in_flight_of_form block_size form ≤ reserved_block_count_of_writer block_size w - 2
 held_covers block_size (InMemory size) w kept = omega arith
 held_covers block_size (Finished size true) w kept =
     let is : size ≡ length w.contents = kept.size in
     let large : inline_limit block_size < size = kept.fits.large refl in
-    let same : blocks_for block_size size ≡ blocks_for block_size (length w.contents) = ap (blocks_for block_size) is in
+    let same : list_block_count_for_size block_size size ≡ list_block_count_for_size block_size (length w.contents) = ap (list_block_count_for_size block_size) is in
     let e = held_once block_size w (kept.fits.dirty refl) (omega arith) in
     omega arith
 held_covers block_size (Finished size false) w kept = omega arith
 held_covers block_size (InHand end base true) w kept =
     let is : max end base ≡ length w.contents = kept.size in
     let large : inline_limit block_size < max end base = kept.fits.large in
-    let one = blocks_for-more block_size end (length w.contents) (omega arith) in
-    let two = blocks_for-more block_size base (length w.contents) (omega arith) in
+    let one = list_block_count_for_size-more block_size end (length w.contents) (omega arith) in
+    let two = list_block_count_for_size-more block_size base (length w.contents) (omega arith) in
     let e = held_turned block_size w kept.fits.dirty (omega arith) (kept.fits.turned refl) in
     omega arith
 held_covers block_size (InHand end base false) w kept =
     let is : max end base ≡ length w.contents = kept.size in
     let large : inline_limit block_size < max end base = kept.fits.large in
-    let one = blocks_for-more block_size end (length w.contents) (omega arith) in
+    let one = list_block_count_for_size-more block_size end (length w.contents) (omega arith) in
     let e = held_once block_size w kept.fits.dirty (omega arith) in
     omega arith
 
 -- room for what a writer holds is room for going on, or for a list over the base
-pub room_grown : (block_size end base : ℕ) (flying : Bool) (v : Writer) (used all : ℕ) → IsWriterForm block_size (InHand end base flying) v → used + blocks_held_by block_size v ≤ all
-    → used + blocks_for block_size end + (if flying then blocks_for block_size base else 0) ≤ all
+pub room_grown : (block_size end base : ℕ) (flying : Bool) (v : Writer) (used all : ℕ) → IsFormOfWriterContents block_size (InHand end base flying) v → used + reserved_block_count_of_writer block_size v ≤ all
+    → used + list_block_count_for_size block_size end + (if flying then list_block_count_for_size block_size base else 0) ≤ all
 room_grown block_size end base flying v used all kept room =
     let covers = held_covers block_size (InHand end base flying) v kept in
     let is : max end base ≡ length v.contents = kept.size in
@@ -282,40 +282,40 @@ room_grown block_size end base flying v used all kept room =
     omega arith
 
 -- for a list that ends and another one over it
-pub room_turned : (block_size end base : ℕ) (v : Writer) (used all : ℕ) → IsWriterForm block_size (InHand end base true) v → used + blocks_held_by block_size v ≤ all
-    → used + 2 * blocks_for block_size (max base end) ≤ all
+pub room_turned : (block_size end base : ℕ) (v : Writer) (used all : ℕ) → IsFormOfWriterContents block_size (InHand end base true) v → used + reserved_block_count_of_writer block_size v ≤ all
+    → used + 2 * list_block_count_for_size block_size (max base end) ≤ all
 room_turned block_size end base v used all kept room =
     let is : max end base ≡ length v.contents = kept.size in
     let large : inline_limit block_size < max end base = kept.fits.large in
     let e = held_turned block_size v kept.fits.dirty (omega arith) (kept.fits.turned refl) in
-    let same : blocks_for block_size (max base end) ≡ blocks_for block_size (length v.contents) = ap (blocks_for block_size) (let m : max base end ≡ length v.contents = omega arith in m) in
+    let same : list_block_count_for_size block_size (max base end) ≡ list_block_count_for_size block_size (length v.contents) = ap (list_block_count_for_size block_size) (let m : max base end ≡ length v.contents = omega arith in m) in
     omega arith
 
 -- for ending a list as it is
-pub room_ended : (block_size end base : ℕ) (flying : Bool) (w : Writer) (used all : ℕ) → IsWriterForm block_size (InHand end base flying) w → used + blocks_held_by block_size w ≤ all
-    → used + (if flying then blocks_for block_size base else 0) + blocks_for block_size base ≤ all
+pub room_ended : (block_size end base : ℕ) (flying : Bool) (w : Writer) (used all : ℕ) → IsFormOfWriterContents block_size (InHand end base flying) w → used + reserved_block_count_of_writer block_size w ≤ all
+    → used + (if flying then list_block_count_for_size block_size base else 0) + list_block_count_for_size block_size base ≤ all
 room_ended block_size end base true w used all kept room =
     let is : max end base ≡ length w.contents = kept.size in
     let large : inline_limit block_size < max end base = kept.fits.large in
-    let two = blocks_for-more block_size base (length w.contents) (omega arith) in
+    let two = list_block_count_for_size-more block_size base (length w.contents) (omega arith) in
     let e = held_turned block_size w kept.fits.dirty (omega arith) (kept.fits.turned refl) in
     omega arith
 room_ended block_size end base false w used all kept room =
     let is : max end base ≡ length w.contents = kept.size in
     let large : inline_limit block_size < max end base = kept.fits.large in
-    let two = blocks_for-more block_size base (length w.contents) (omega arith) in
+    let two = list_block_count_for_size-more block_size base (length w.contents) (omega arith) in
     let e = held_once block_size w kept.fits.dirty (omega arith) in
     omega arith
 
 -- ---- which form a write leaves
 
-pub written_few : (limit place count : ℕ) (form : Form) → max (form_size form) (place + count) ≤ limit → written limit place count form ≡ InMemory (max (form_size form) (place + count))
+pub written_few : (limit place count : ℕ) (form : ContentsForm) → max (size_of_contents_form form) (place + count) ≤ limit → written limit place count form ≡ InMemory (max (size_of_contents_form form) (place + count))
 written_few limit place count form few =
-    ap (λ (t : Bool). if t then InMemory (max (form_size form) (place + count)) else grown (min place (form_size form)) (place + count) form) (le-leb (max (form_size form) (place + count)) limit few)
+    ap (λ (t : Bool). if t then InMemory (max (size_of_contents_form form) (place + count)) else grown (min place (size_of_contents_form form)) (place + count) form) (le-leb (max (size_of_contents_form form) (place + count)) limit few)
 
-pub written_many : (limit place count : ℕ) (form : Form) → limit < max (form_size form) (place + count) → written limit place count form ≡ grown (min place (form_size form)) (place + count) form
+pub written_many : (limit place count : ℕ) (form : ContentsForm) → limit < max (size_of_contents_form form) (place + count) → written limit place count form ≡ grown (min place (size_of_contents_form form)) (place + count) form
 written_many limit place count form many =
-    ap (λ (t : Bool). if t then InMemory (max (form_size form) (place + count)) else grown (min place (form_size form)) (place + count) form) (lt-leb (max (form_size form) (place + count)) limit many)
+    ap (λ (t : Bool). if t then InMemory (max (size_of_contents_form form) (place + count)) else grown (min place (size_of_contents_form form)) (place + count) form) (lt-leb (max (size_of_contents_form form) (place + count)) limit many)
 
 -- a write to contents in hand, by what it makes of the list and its base
 pub written_hand : (limit place count end base : ℕ) (flying : Bool) (size under : ℕ) (waits : Bool) → limit < max end base → size ≡ place + count

@@ -5,10 +5,10 @@ use Rattle.std.proofs.Math.Bridge.{le_prop}
 use Rattle.std.proofs.Math.Nat.{ℕ_set}
 use Rattle.lfs_device.specs.declared.geometry.Geometry.{Geometry}
 use Rattle.lfs_model.specs.declared.order.NameOrder.{NameOrder}
-use Rattle.lfs_model.specs.Geometry.{IsGeometry}
+use Rattle.lfs_model.specs.Geometry.{IsValidGeometry}
 
 -- its limits hold in one way
-pub one_way : {size page count : ℕ} (v w : IsGeometry size page count) → v ≡ w
+pub one_way : {size page count : ℕ} (v w : IsValidGeometry size page count) → v ≡ w
 one_way v w = λ i. record {
   power = Bool-set _ _ v.power w.power i;
   pages = le_prop v.pages w.pages i;
@@ -20,17 +20,17 @@ one_way v w = λ i. record {
   bytes = le_prop v.bytes w.bytes i;
 }
 
-with_size : (a : Geometry) (size : ℕ) → a.block_size ≡ size → (v : IsGeometry size a.page a.block_count) → a ≡ record { block_size = size; page = a.page; order = a.order; block_count = a.block_count; valid = v }
-with_size a size is = subst (λ s. (v : IsGeometry s a.page a.block_count) → a ≡ record { block_size = s; page = a.page; order = a.order; block_count = a.block_count; valid = v }) is
+with_size : (a : Geometry) (size : ℕ) → a.block_size ≡ size → (v : IsValidGeometry size a.page a.block_count) → a ≡ record { block_size = size; page = a.page; order = a.order; block_count = a.block_count; valid = v }
+with_size a size is = subst (λ s. (v : IsValidGeometry s a.page a.block_count) → a ≡ record { block_size = s; page = a.page; order = a.order; block_count = a.block_count; valid = v }) is
     (λ v. ap (λ w. record { block_size = a.block_size; page = a.page; order = a.order; block_count = a.block_count; valid = w }) (one_way a.valid v))
 
-with_page : (a : Geometry) (size page : ℕ) → a.block_size ≡ size → a.page ≡ page → (v : IsGeometry size page a.block_count) → a ≡ record { block_size = size; page = page; order = a.order; block_count = a.block_count; valid = v }
-with_page a size page is also = subst (λ p. (v : IsGeometry size p a.block_count) → a ≡ record { block_size = size; page = p; order = a.order; block_count = a.block_count; valid = v }) also (with_size a size is)
+with_page : (a : Geometry) (size page : ℕ) → a.block_size ≡ size → a.page ≡ page → (v : IsValidGeometry size page a.block_count) → a ≡ record { block_size = size; page = page; order = a.order; block_count = a.block_count; valid = v }
+with_page a size page is also = subst (λ p. (v : IsValidGeometry size p a.block_count) → a ≡ record { block_size = size; page = p; order = a.order; block_count = a.block_count; valid = v }) also (with_size a size is)
 
-with_order : (a : Geometry) (size page : ℕ) (order : NameOrder) → a.block_size ≡ size → a.page ≡ page → a.order ≡ order → (v : IsGeometry size page a.block_count)
+with_order : (a : Geometry) (size page : ℕ) (order : NameOrder) → a.block_size ≡ size → a.page ≡ page → a.order ≡ order → (v : IsValidGeometry size page a.block_count)
     → a ≡ record { block_size = size; page = page; order = order; block_count = a.block_count; valid = v }
-with_order a size page order is also too = subst (λ o. (v : IsGeometry size page a.block_count) → a ≡ record { block_size = size; page = page; order = o; block_count = a.block_count; valid = v }) too (with_page a size page is also)
+with_order a size page order is also too = subst (λ o. (v : IsValidGeometry size page a.block_count) → a ≡ record { block_size = size; page = page; order = o; block_count = a.block_count; valid = v }) too (with_page a size page is also)
 
 pub geometry_is : (a b : Geometry) → a.block_size ≡ b.block_size → a.page ≡ b.page → a.order ≡ b.order → a.block_count ≡ b.block_count → a ≡ b
 geometry_is a b size page order count =
-    subst (λ n. (v : IsGeometry b.block_size b.page n) → a ≡ record { block_size = b.block_size; page = b.page; order = b.order; block_count = n; valid = v }) count (with_order a b.block_size b.page b.order size page order) b.valid
+    subst (λ n. (v : IsValidGeometry b.block_size b.page n) → a ≡ record { block_size = b.block_size; page = b.page; order = b.order; block_count = n; valid = v }) count (with_order a b.block_size b.page b.order size page order) b.valid

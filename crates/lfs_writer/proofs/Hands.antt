@@ -8,17 +8,17 @@ use Rattle.std.proofs.lemmas.Grind.{get_or_default_zero}
 use Rattle.std.proofs.lemmas.List.Elements.{All-append, All-contains, All-take, Contains-append_left, Contains-append_cases}
 use Rattle.std.proofs.lemmas.Map.Keys.{apart_from_distinct}
 use Rattle.lfs_model.specs.Blocks.{Blocks}
-use Rattle.lfs_model.specs.BlockSets.{BlockSets, IsFree}
+use Rattle.lfs_model.specs.BlockSets.{BlockStateList, IsFree}
 use Rattle.lfs_model.specs.BlockSets.BlockState.{Free, Used}
-use Rattle.lfs_model.specs.SkipLists.{blocks_for}
-use Rattle.lfs_ctz.specs.Growing.{Growing, IsGrowing, blocks_of_list, is_in_buffer_alone, kept_blocks, pending_of, size_with_pointers}
-use Rattle.lfs_ctz.specs.Growing.{pending_in}
-use Rattle.lfs_ctz.specs.declared.rest.Rest.{Rest}
-use Rattle.lfs_ctz.specs.declared.rest.Rest.TheVariants.{Closed, Shared, Handed, Held}
-use Rattle.lfs_writer.specs.BlocksApart.{Grows, IsApart, IsTakenInMap, SparesApart}
-use Rattle.lfs_writer.specs.Bases.{list_blocks}
-use Rattle.lfs_writer.specs.Hand.{IsListBegun, IsHand, IsListStored}
-use Rattle.lfs_writer.specs.TakenBlocks.{Keeps}
+use Rattle.lfs_model.specs.SkipLists.{list_block_count_for_size}
+use Rattle.lfs_ctz.specs.Growing.{GrowingList, HasGrowingListOnDisk, blocks_of_growing_list, is_list_only_in_buffer, blocks_kept_when_growing, unwritten_block_of_list, list_size_by_block_size}
+use Rattle.lfs_ctz.specs.Growing.{unwritten_block_of_rest}
+use Rattle.lfs_ctz.specs.declared.rest.RestLocation.{RestLocation}
+use Rattle.lfs_ctz.specs.declared.rest.RestLocation.TheVariants.{Closed, Shared, Handed, Held}
+use Rattle.lfs_writer.specs.BlocksApart.{GrowsListInFreeBlocks, IsTakenAndNotPending, HasGrowingListBlocksTaken, KeepsBytesOfTakenBlocks}
+use Rattle.lfs_writer.specs.Bases.{list_blocks_by_head_and_size}
+use Rattle.lfs_writer.specs.Hand.{IsListBegunOverBase, IsListInHandOverBase, IsFinishedListOnDisk}
+use Rattle.lfs_writer.specs.TakenBlocks.{ChangesOnlyFreeBlocksInMap}
 use Rattle.lfs_writer.specs.declared.stored_list.Stored.{Stored}
 use Rattle.lfs_writer.proofs.Bases.{blocks_stay, list_stays}
 use Rattle.lfs_writer.proofs.Growth.{in_longer, split}
@@ -49,23 +49,23 @@ distinct_parts n xs b distinct (i, lt, is) k x l same =
 
 -- ---- growth
 
-pub hand_grows : (map later : BlockSets) (d e : Blocks) (block_size : ℕ) (g h : Growing) (base : Stored) (shared : ℕ) → IsListBegun map d block_size g base shared → SparesApart map (pending_of g) d e → Keeps map later
-    → Grows map d g later e h → IsGrowing e h → IsTakenInMap later e h → blocks_of_list e h ≡ kept_blocks e h → length (kept_blocks e h) ≡ blocks_for block_size (size_with_pointers block_size h) → is_in_buffer_alone h ≡ false → IsHand later e block_size h base shared
+pub hand_grows : (map later : BlockStateList) (d e : Blocks) (block_size : ℕ) (g h : GrowingList) (base : Stored) (shared : ℕ) → IsListBegunOverBase map d block_size g base shared → KeepsBytesOfTakenBlocks map (unwritten_block_of_list g) d e → ChangesOnlyFreeBlocksInMap map later
+    → GrowsListInFreeBlocks map d g later e h → HasGrowingListOnDisk e h → HasGrowingListBlocksTaken later e h → blocks_of_growing_list e h ≡ blocks_kept_when_growing e h → length (blocks_kept_when_growing e h) ≡ list_block_count_for_size block_size (list_size_by_block_size block_size h) → is_list_only_in_buffer h ≡ false → IsListInHandOverBase later e block_size h base shared
 hand_grows map later d e block_size g h base shared begun spared keeps grown growing marked own many listed =
-    let bb : List ℕ = list_blocks d block_size base.head base.size in
-    let stay : list_blocks e block_size base.head base.size ≡ bb = blocks_stay map (pending_of g) d e block_size base.head base.size spared begun.apart in
-    let x : List ℕ = kept_blocks d g in
-    let y : List ℕ = kept_blocks e h in
+    let bb : List ℕ = list_blocks_by_head_and_size d block_size base.head base.size in
+    let stay : list_blocks_by_head_and_size e block_size base.head base.size ≡ bb = blocks_stay map (unwritten_block_of_list g) d e block_size base.head base.size spared begun.apart in
+    let x : List ℕ = blocks_kept_when_growing d g in
+    let y : List ℕ = blocks_kept_when_growing e h in
     let all : y ≡ x ++ drop (length x) y = split x y grown.front in
     let size : length (take shared x) ≡ length (take shared bb) = ap length begun.front in
-    let long = length_back d (blocks_for block_size base.size) base.head in
+    let long = length_back d (list_block_count_for_size block_size base.size) base.head in
     let few : shared ≤ length x = (let p = length-take shared x in let q = length-take-le shared bb (let f = begun.few in omega arith) in omega arith) in
     record {
       begun = record {
         growing = growing;
         marked = marked;
-        list = ⊎_elim (λ none. inl none) (λ list. inr (list_stays map (pending_of g) d e block_size base.head base.size spared begun.apart list)) begun.list;
-        apart = subst (All (IsApart later (pending_of h))) (sym stay) (λ k v l. grown.apart (get_or bb k v) (begun.apart k v l));
+        list = ⊎_elim (λ none. inl none) (λ list. inr (list_stays map (unwritten_block_of_list g) d e block_size base.head base.size spared begun.apart list)) begun.list;
+        apart = subst (All (IsTakenAndNotPending later (unwritten_block_of_list h))) (sym stay) (λ k v l. grown.apart (get_or bb k v) (begun.apart k v l));
         few = begun.few;
         front = ap (take shared) all ∙ take-append-le shared x (drop (length x) y) few ∙ begun.front ∙ ap (take shared) (sym stay);
         behind = subst (λ (l : List ℕ). All (λ b. All (λ c. c ≢ b) l) (drop shared y)) (sym stay)
@@ -90,11 +90,11 @@ hand_grows map later d e block_size g h base shared begun spared keeps grown gro
 
 -- ---- the beginning
 
-pub begins : (map : BlockSets) (d : Blocks) (block_size : ℕ) (g : Growing) (base : Stored) (full : ℕ) → IsListStored map d block_size base → IsGrowing d g → pending_of g ≡ []
-    → kept_blocks d g ≡ take full (list_blocks d block_size base.head base.size) → g.full ≡ full → IsListBegun map d block_size g base full
+pub begins : (map : BlockStateList) (d : Blocks) (block_size : ℕ) (g : GrowingList) (base : Stored) (full : ℕ) → IsFinishedListOnDisk map d block_size base → HasGrowingListOnDisk d g → unwritten_block_of_list g ≡ []
+    → blocks_kept_when_growing d g ≡ take full (list_blocks_by_head_and_size d block_size base.head base.size) → g.full ≡ full → IsListBegunOverBase map d block_size g base full
 begins map d block_size g base full stored growing none kept is =
-    let bb : List ℕ = list_blocks d block_size base.head base.size in
-    let long = length_back d (blocks_for block_size base.size) base.head in
+    let bb : List ℕ = list_blocks_by_head_and_size d block_size base.head base.size in
+    let long = length_back d (list_block_count_for_size block_size base.size) base.head in
     let many = length-kept d g in
     let empty = ap length none in
     let part = length-take full bb in
@@ -110,18 +110,18 @@ begins map d block_size g base full stored growing none kept is =
       apart = λ k x l. (stored.marked k x l, λ i y m. absurd (omega (arith, m)));
       few = omega arith;
       front = ap (take full) kept ∙ take-take full full bb (omega arith);
-      behind = λ k x l. absurd (omega (arith, l, length-drop full (kept_blocks d g), ap length kept));
+      behind = λ k x l. absurd (omega (arith, l, length-drop full (blocks_kept_when_growing d g), ap length kept));
       taken = λ b has used. Contains-take full bb b (subst (λ (l : List ℕ). Contains l b) kept has);
       flying = λ b flying. inr (stored.flying b flying);
     }
 
-pub pending_none : (t : Rest) → length (pending_in t) ≡ 0 → pending_in t ≡ []
+pub pending_none : (t : RestLocation) → length (unwritten_block_of_rest t) ≡ 0 → unwritten_block_of_rest t ≡ []
 pending_none Closed e = refl
 pending_none (Shared b) e = refl
 pending_none (Handed b) e = absurd (omega (arith, e))
 pending_none Held e = refl
 
-pub none_pending : (d : Blocks) (g : Growing) → kept_blocks d g ≡ [] → (pending_of g ≡ []) × (g.full ≡ 0)
+pub none_pending : (d : Blocks) (g : GrowingList) → blocks_kept_when_growing d g ≡ [] → (unwritten_block_of_list g ≡ []) × (g.full ≡ 0)
 none_pending d g none =
     let many = length-kept d g in
     let empty = ap length none in

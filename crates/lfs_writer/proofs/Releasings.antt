@@ -6,15 +6,15 @@ use Rattle.std.proofs.lemmas.List.{length-set}
 use Rattle.std.proofs.lemmas.List.Elements.{All-cons}
 use Rattle.std.proofs.lemmas.List.Sums.{sum_by-set}
 use Rattle.std.proofs.lemmas.Option.{slice_get-get_or}
-use Rattle.lfs_model.specs.Blocks.{Blocks, block_in}
-use Rattle.lfs_model.specs.BlockSets.{BlockState, BlockSets, IsInFlight, IsUsed, is_used, used_count}
+use Rattle.lfs_model.specs.Blocks.{Blocks, block_bytes_in}
+use Rattle.lfs_model.specs.BlockSets.{BlockState, BlockStateList, IsInFlight, IsUsed, is_used, used_count}
 use Rattle.lfs_model.specs.BlockSets.BlockState.{Free, InFlight, Used}
-use Rattle.lfs_model.specs.SkipLists.{AreListBlocks, blocks_back, word_at}
+use Rattle.lfs_model.specs.SkipLists.{AreListBlocks, list_blocks_from_head, word_at}
 use Rattle.lfs_model.proofs.BlockSets.{slice_get-set_same, slice_get-set_other}
-use Rattle.lfs_writer.specs.Releases.{Releases}
+use Rattle.lfs_writer.specs.Releases.{ReleasesBlocksInFlight}
 use Rattle.lfs_model.proofs.Files.{length_back}
 
-pub releases_none : (sets : BlockSets) → Releases sets sets []
+pub releases_none : (sets : BlockStateList) → ReleasesBlocksInFlight sets sets []
 releases_none sets = record { count = refl; used = refl; stays = λ b is. is; gone = λ k x l. absurd (omega (arith, l)); others = λ b apart. refl }
 
 abbrev counted : BlockState → ℕ
@@ -26,7 +26,7 @@ uncounted InFlight ne = refl
 uncounted Used ne = absurd (ne refl)
 
 -- a block that isn't used becomes free
-pub releases_one : (sets new : BlockSets) (b : ℕ) → b < length sets → ¬ (IsUsed sets b) → new ≡ set sets b Free → Releases sets new (b ∷ [])
+pub releases_one : (sets new : BlockStateList) (b : ℕ) → b < length sets → ¬ (IsUsed sets b) → new ≡ set sets b Free → ReleasesBlocksInFlight sets new (b ∷ [])
 releases_one sets new b lt unused is =
     let here : slice_get new b ≡ Some Free = ap (λ m. slice_get m b) is ∙ slice_get-set_same sets b Free lt in
     let there : (other : ℕ) → other ≢ b → slice_get new other ≡ slice_get sets other = λ other ne. ap (λ m. slice_get m other) is ∙ slice_get-set_other sets b other Free ne in
@@ -42,7 +42,7 @@ releases_one sets new b lt unused is =
     }
 
 -- one more
-pub releases_more : (old mid new : BlockSets) (b : ℕ) (bs : List ℕ) → Releases old mid bs → Releases mid new (b ∷ []) → Releases old new (b ∷ bs)
+pub releases_more : (old mid new : BlockStateList) (b : ℕ) (bs : List ℕ) → ReleasesBlocksInFlight old mid bs → ReleasesBlocksInFlight mid new (b ∷ []) → ReleasesBlocksInFlight old new (b ∷ bs)
 releases_more old mid new b bs first second =
     let gone : ¬ (IsInFlight new b) = second.gone 0 0 (omega arith) in
     let there : (other : ℕ) → other ≢ b → slice_get new other ≡ slice_get mid other = λ other ne. second.others other (All-cons (λ x. x ≢ other) b [] (λ e. ne (sym e)) (λ k x l. absurd (omega (arith, l)))) in
@@ -58,37 +58,37 @@ releases_more old mid new b bs first second =
     }
 
 -- a block of a list, and those behind it
-pub drop_here : (d : Blocks) (count head index : ℕ) → index < count → drop index (blocks_back d count head) ≡ slice_index (blocks_back d count head) index ∷ drop (index + 1) (blocks_back d count head)
+pub drop_here : (d : Blocks) (count head index : ℕ) → index < count → drop index (list_blocks_from_head d count head) ≡ slice_index (list_blocks_from_head d count head) index ∷ drop (index + 1) (list_blocks_from_head d count head)
 drop_here d count head index lt =
-    drop-cons (blocks_back d count head) index 0 (omega (arith, length_back d count head))
-    ∙ ap (λ n. slice_index (blocks_back d count head) index ∷ drop n (blocks_back d count head)) (sym (add-one index))
+    drop-cons (list_blocks_from_head d count head) index 0 (omega (arith, length_back d count head))
+    ∙ ap (λ n. slice_index (list_blocks_from_head d count head) index ∷ drop n (list_blocks_from_head d count head)) (sym (add-one index))
 
 -- its pointer 0 names the one before it
-pub before_in : (d : Blocks) (count head index block : ℕ) → AreListBlocks d count head → 0 < index → index < count → block ≡ slice_index (blocks_back d count head) index
-    → word_at (block_in d block) 0 ≡ slice_index (blocks_back d count head) (index - 1)
+pub before_in : (d : Blocks) (count head index block : ℕ) → AreListBlocks d count head → 0 < index → index < count → block ≡ slice_index (list_blocks_from_head d count head) index
+    → word_at (block_bytes_in d block) 0 ≡ slice_index (list_blocks_from_head d count head) (index - 1)
 before_in d count head zero block chain some lt is = absurd (omega arith)
-before_in d count head (suc i) block chain some lt is = ap (λ b. word_at (block_in d b) 0) is ∙ chain.pointers (suc i) 0 lt (omega arith)
+before_in d count head (suc i) block chain some lt is = ap (λ b. word_at (block_bytes_in d b) 0) is ∙ chain.pointers (suc i) 0 lt (omega arith)
 
-pub in_range_at : (d : Blocks) (count head index : ℕ) → AreListBlocks d count head → index < count → slice_index (blocks_back d count head) index < length d
+pub in_range_at : (d : Blocks) (count head index : ℕ) → AreListBlocks d count head → index < count → slice_index (list_blocks_from_head d count head) index < length d
 in_range_at d count head index chain lt = chain.in_range index 0 (omega (arith, length_back d count head))
 
 -- the block that was read before one
-pub next_is : (d e : Blocks) (count head index block word : ℕ) → e ≡ d → AreListBlocks d count head → 0 < index → index < count → block ≡ slice_index (blocks_back d count head) index
-    → word ≡ word_at (block_in e block) 0 → word ≡ slice_index (blocks_back d count head) (index - 1)
+pub next_is : (d e : Blocks) (count head index block word : ℕ) → e ≡ d → AreListBlocks d count head → 0 < index → index < count → block ≡ slice_index (list_blocks_from_head d count head) index
+    → word ≡ word_at (block_bytes_in e block) 0 → word ≡ slice_index (list_blocks_from_head d count head) (index - 1)
 next_is d e count head index block word same chain some lt is read =
-    read ∙ ap (λ (b : Blocks). word_at (block_in b block) 0) same ∙ before_in d count head index block chain some lt is
+    read ∙ ap (λ (b : Blocks). word_at (block_bytes_in b block) 0) same ∙ before_in d count head index block chain some lt is
 
 -- it is on the device
-pub next_there : (d e : Blocks) (count head index block n : ℕ) → e ≡ d → AreListBlocks d count head → index < count → block ≡ slice_index (blocks_back d count head) index → n ≡ length d
-    → 0 < index → n ≤ word_at (block_in e block) 0 → ⊥
+pub next_there : (d e : Blocks) (count head index block n : ℕ) → e ≡ d → AreListBlocks d count head → index < count → block ≡ slice_index (list_blocks_from_head d count head) index → n ≡ length d
+    → 0 < index → n ≤ word_at (block_bytes_in e block) 0 → ⊥
 next_there d e count head index block n same chain lt is all some out =
-    let next = next_is d e count head index block (word_at (block_in e block) 0) same chain some lt is refl in
+    let next = next_is d e count head index block (word_at (block_bytes_in e block) 0) same chain some lt is refl in
     let within = in_range_at d count head (index - 1) chain (omega arith) in
     absurd (omega arith)
 
 -- a block more of a list is out of flight
-pub releases_here : (old mid new : BlockSets) (d : Blocks) (count head index block : ℕ) → index < count → block ≡ slice_index (blocks_back d count head) index
-    → Releases old mid (drop (index + 1) (blocks_back d count head)) → Releases mid new (block ∷ []) → Releases old new (drop index (blocks_back d count head))
+pub releases_here : (old mid new : BlockStateList) (d : Blocks) (count head index block : ℕ) → index < count → block ≡ slice_index (list_blocks_from_head d count head) index
+    → ReleasesBlocksInFlight old mid (drop (index + 1) (list_blocks_from_head d count head)) → ReleasesBlocksInFlight mid new (block ∷ []) → ReleasesBlocksInFlight old new (drop index (list_blocks_from_head d count head))
 releases_here old mid new d count head index block lt is first second =
-    subst (λ (l : List ℕ). Releases old new l) (ap (λ b. b ∷ drop (index + 1) (blocks_back d count head)) is ∙ sym (drop_here d count head index lt))
-    (releases_more old mid new block (drop (index + 1) (blocks_back d count head)) first second)
+    subst (λ (l : List ℕ). ReleasesBlocksInFlight old new l) (ap (λ b. b ∷ drop (index + 1) (list_blocks_from_head d count head)) is ∙ sym (drop_here d count head index lt))
+    (releases_more old mid new block (drop (index + 1) (list_blocks_from_head d count head)) first second)

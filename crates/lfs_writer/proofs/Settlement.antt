@@ -2,14 +2,14 @@
 use Rattle.std.proofs.Common.{ℕ, ◌≡◌, ◌+◌, ◌≤◌, ⊎_elim, List, Some, sym, ◌∙◌, arith}
 use Rattle.std.specs.Prelude.{Contains, ◌↔◌}
 use Rattle.std.proofs.lemmas.List.Elements.{All-contains}
-use Rattle.lfs_model.specs.BlockSets.{AreUsed, BlockSets, IsUsed}
+use Rattle.lfs_model.specs.BlockSets.{AreExactlyTheUsedBlocks, BlockStateList, IsUsed}
 use Rattle.lfs_model.specs.BlockSets.BlockState.{Free, Used}
 use Rattle.lfs_model.proofs.BlockSets.{Contains-count, count-Contains}
 use Rattle.lfs_model.proofs.Counts.{count}
 use Rattle.lfs_writer.specs.SettledMaps.{IsMapSettled}
 use Rattle.lfs_writer.proofs.Outside.{none_or_some, not_there}
 
-module _ (sets later : BlockSets) (owned used before now gone come : List ℕ) (are : AreUsed sets owned) (once : (b : ℕ) → count b owned ≤ 1) (counted : (b : ℕ) → count b owned + count b come ≡ count b used + count b gone)
+module _ (sets later : BlockStateList) (owned used before now gone come : List ℕ) (are : AreExactlyTheUsedBlocks sets owned) (once : (b : ℕ) → count b owned ≤ 1) (counted : (b : ℕ) → count b owned + count b come ≡ count b used + count b gone)
     (lists : (b : ℕ) → count b now + count b gone ≡ count b come + count b before) (within : (b : ℕ) → Contains now b → Contains used b) (settled : IsMapSettled sets later before now) where
   used_is : (b : ℕ) → IsUsed later b → Contains used b
   used_is b is = ⊎_elim
@@ -36,5 +36,5 @@ module _ (sets later : BlockSets) (owned used before now gone come : List ℕ) (
       (λ some. All-contains (IsUsed later) now b settled.used (Contains-count now b some))
       (none_or_some (count b now))
 
-  pub settled_exactly : AreUsed later used
+  pub settled_exactly : AreExactlyTheUsedBlocks later used
   settled_exactly b = (used_is b, is_used b)

@@ -4,88 +4,88 @@ use Rattle.std.specs.Prelude.{IfOk}
 use Rattle.lfs_device.specs.declared.error.Error.{Error}
 use Rattle.lfs_device.specs.declared.device.BlockDevice.{Ghosts}
 use Rattle.lfs_device.specs.declared.geometry.Geometry.{Geometry}
-use Rattle.lfs_model.specs.Blocks.{Blocks, IsDivided}
-use Rattle.lfs_model.specs.BlockSets.{BlockSets, used_count}
+use Rattle.lfs_model.specs.Blocks.{Blocks, HasBlocksOfCountAndSize}
+use Rattle.lfs_model.specs.BlockSets.{BlockStateList, used_count}
 use Rattle.lfs_model.specs.Disk.{Disk}
-use Rattle.lfs_thread.specs.Beside.{IsDividedAs, IsOnDevice}
+use Rattle.lfs_thread.specs.Beside.{DiskHasGeometry, HasDeviceAndMap}
 use Rattle.lfs_thread.specs.Kept.{Kept}
-use Rattle.lfs_writer.specs.Contents.{CanFinishContents, CanTruncateContents, CanWriteContents, FitsTruncation, FitsWrite, HasContents, AreOnDisk, end_room, form_of}
-use Rattle.lfs_writer.specs.Form.{Form}
-use Rattle.lfs_writer.specs.BlockOwners.{AreOwned, blocks_held}
-use Rattle.lfs_writer.specs.declared.contents.Contents.{Contents}
-use Rattle.lfs_writer.specs.ThreadContents.{CanFinish, CanTruncate, CanWrite, HoldsContents, AreOnDiskOf, list_blocks_of}
+use Rattle.lfs_writer.specs.Contents.{CanFinishContents, CanTruncateContents, CanWriteContents, HasBlockRoomForTruncation, HasBlockRoomForWrite, HasContentsInForm, AreContentsOnDisk, block_room_for_finish, form_of_contents}
+use Rattle.lfs_writer.specs.Form.{ContentsForm}
+use Rattle.lfs_writer.specs.BlockOwners.{AreUsedBlocksAmong, blocks_of_contents}
+use Rattle.lfs_writer.specs.declared.contents.WriterContents.{WriterContents}
+use Rattle.lfs_writer.specs.ThreadContents.{CanFinishContentsOnThread, CanTruncateContentsOnThread, CanWriteContentsOnThread, HasContentsInFormOnThread, AreContentsOnThread, list_blocks_of_contents}
 use Rattle.lfs_writer.proofs.Geometries.{geometry_is}
 
-module _ {D : Type 0} (g : Ghosts D) (t : Kept) (device : D) (map : BlockSets) (shows : IsOnDevice g t device map)
-    (shape : IsDivided (g.geometry device).block_size (g.geometry device).block_count (g.blocks device)) where
+module _ {D : Type 0} (g : Ghosts D) (t : Kept) (device : D) (map : BlockStateList) (shows : HasDeviceAndMap g t device map)
+    (shape : HasBlocksOfCountAndSize (g.geometry device).block_size (g.geometry device).block_count (g.blocks device)) where
   pub blocks_here : g.blocks device ≡ t.disk.blocks
   blocks_here = ap (λ (d : Disk). d.blocks) shows.disk
 
   pub size_here : (g.geometry device).block_size ≡ t.disk.block_size
   size_here = ap (λ (d : Disk). d.block_size) shows.disk
 
-  pub divided_here : IsDividedAs (g.geometry device) t.disk
+  pub divided_here : DiskHasGeometry (g.geometry device) t.disk
   divided_here = record { block_size = size_here; page = ap (λ (d : Disk). d.page) shows.disk; order = ap (λ (d : Disk). d.order) shows.disk; count = sym shape.count ∙ ap length blocks_here }
 
-  pub geometry_here : (x : Geometry) → IsDividedAs x t.disk → g.geometry device ≡ x
+  pub geometry_here : (x : Geometry) → DiskHasGeometry x t.disk → g.geometry device ≡ x
   geometry_here x of_disk = geometry_is (g.geometry device) x (size_here ∙ sym of_disk.block_size) (divided_here.page ∙ sym of_disk.page) (divided_here.order ∙ sym of_disk.order) (divided_here.count ∙ sym of_disk.count)
 
-  pub stands_here : (contents : Contents) → AreOnDiskOf t contents → AreOnDisk map (g.blocks device) (g.geometry device) contents
+  pub stands_here : (contents : WriterContents) → AreContentsOnThread t contents → AreContentsOnDisk map (g.blocks device) (g.geometry device) contents
   stands_here contents is =
-      subst (λ (m : BlockSets). AreOnDisk m (g.blocks device) (g.geometry device) contents) (sym shows.map)
-      (subst (λ (d : Blocks). AreOnDisk t.map d (g.geometry device) contents) (sym blocks_here)
-      (subst (λ (x : Geometry). AreOnDisk t.map t.disk.blocks x contents) (sym (geometry_here is.geometry is.divided)) is.stands))
+      subst (λ (m : BlockStateList). AreContentsOnDisk m (g.blocks device) (g.geometry device) contents) (sym shows.map)
+      (subst (λ (d : Blocks). AreContentsOnDisk t.map d (g.geometry device) contents) (sym blocks_here)
+      (subst (λ (x : Geometry). AreContentsOnDisk t.map t.disk.blocks x contents) (sym (geometry_here is.geometry is.divided)) is.stands))
 
   -- contents that a call left there
-  pub holds_here : (x : Geometry) (contents : Contents) (bytes : List ℕ) (form : Form) → x ≡ g.geometry device → HasContents map (g.blocks device) x contents bytes form → HoldsContents t contents bytes form
+  pub holds_here : (x : Geometry) (contents : WriterContents) (bytes : List ℕ) (form : ContentsForm) → x ≡ g.geometry device → HasContentsInForm map (g.blocks device) x contents bytes form → HasContentsInFormOnThread t contents bytes form
   holds_here x contents bytes form is has = record {
     geometry = g.geometry device;
     divided = divided_here;
-    has = subst (λ (y : Geometry). HasContents t.map t.disk.blocks y contents bytes form) is
-        (subst (λ (m : BlockSets). HasContents m t.disk.blocks x contents bytes form) shows.map
-        (subst (λ (d : Blocks). HasContents map d x contents bytes form) blocks_here has));
+    has = subst (λ (y : Geometry). HasContentsInForm t.map t.disk.blocks y contents bytes form) is
+        (subst (λ (m : BlockStateList). HasContentsInForm m t.disk.blocks x contents bytes form) shows.map
+        (subst (λ (d : Blocks). HasContentsInForm map d x contents bytes form) blocks_here has));
   }
 
   -- a write there
-  pub write_here : (contents : Contents) (limit place count : ℕ) → CanWrite t contents limit place count → CanWriteContents map (g.blocks device) (g.geometry device) contents limit place count
+  pub write_here : (contents : WriterContents) (limit place count : ℕ) → CanWriteContentsOnThread t contents limit place count → CanWriteContents map (g.blocks device) (g.geometry device) contents limit place count
   write_here contents limit place count can = record {
     stands = stands_here contents can.stands;
-    fits = subst (λ (n : ℕ). FitsWrite map n (form_of contents) limit place count) (sym size_here) (subst (λ (m : BlockSets). FitsWrite m t.disk.block_size (form_of contents) limit place count) (sym shows.map) can.fits);
+    fits = subst (λ (n : ℕ). HasBlockRoomForWrite map n (form_of_contents contents) limit place count) (sym size_here) (subst (λ (m : BlockStateList). HasBlockRoomForWrite m t.disk.block_size (form_of_contents contents) limit place count) (sym shows.map) can.fits);
   }
 
   -- a truncation
-  pub truncate_here : (contents : Contents) (limit size : ℕ) → CanTruncate t contents limit size → CanTruncateContents map (g.blocks device) (g.geometry device) contents limit size
+  pub truncate_here : (contents : WriterContents) (limit size : ℕ) → CanTruncateContentsOnThread t contents limit size → CanTruncateContents map (g.blocks device) (g.geometry device) contents limit size
   truncate_here contents limit size can = record {
     stands = stands_here contents can.stands;
-    fits = subst (λ (n : ℕ). FitsTruncation map n (form_of contents) limit size) (sym size_here) (subst (λ (m : BlockSets). FitsTruncation m t.disk.block_size (form_of contents) limit size) (sym shows.map) can.fits);
+    fits = subst (λ (n : ℕ). HasBlockRoomForTruncation map n (form_of_contents contents) limit size) (sym size_here) (subst (λ (m : BlockStateList). HasBlockRoomForTruncation m t.disk.block_size (form_of_contents contents) limit size) (sym shows.map) can.fits);
   }
 
   -- the end of a list in hand
-  pub finish_here : (contents : Contents) → CanFinish t contents → CanFinishContents map (g.blocks device) (g.geometry device) contents
+  pub finish_here : (contents : WriterContents) → CanFinishContentsOnThread t contents → CanFinishContents map (g.blocks device) (g.geometry device) contents
   finish_here contents can = record {
     stands = stands_here contents can.stands;
-    room = subst (λ (n : ℕ). used_count map + end_room n (form_of contents) ≤ length map) (sym size_here)
-        (subst (λ (m : BlockSets). used_count m + end_room t.disk.block_size (form_of contents) ≤ length m) (sym shows.map) can.room);
+    room = subst (λ (n : ℕ). used_count map + block_room_for_finish n (form_of_contents contents) ≤ length map) (sym size_here)
+        (subst (λ (m : BlockStateList). used_count m + block_room_for_finish t.disk.block_size (form_of_contents contents) ≤ length m) (sym shows.map) can.room);
   }
 
 -- what a call answers, seen from the thread
-pub holds_after : {D : Type 0} (g : Ghosts D) (old new : Kept) (d e : D) (m n : BlockSets) → IsOnDevice g old d m → IsOnDevice g new e n → IsDivided (g.geometry d).block_size (g.geometry d).block_count (g.blocks d)
-    → IsDivided (g.geometry e).block_size (g.geometry e).block_count (g.blocks e) → g.geometry e ≡ g.geometry d → (bytes : Blocks → ℕ → List ℕ) (form : Form) (r : Result Contents Error)
-    → IfOk r (λ c. HasContents n (g.blocks e) (g.geometry d) c (bytes (g.blocks d) (g.geometry d).block_size) form) → IfOk r (λ c. HoldsContents new c (bytes old.disk.blocks old.disk.block_size) form)
+pub holds_after : {D : Type 0} (g : Ghosts D) (old new : Kept) (d e : D) (m n : BlockStateList) → HasDeviceAndMap g old d m → HasDeviceAndMap g new e n → HasBlocksOfCountAndSize (g.geometry d).block_size (g.geometry d).block_count (g.blocks d)
+    → HasBlocksOfCountAndSize (g.geometry e).block_size (g.geometry e).block_count (g.blocks e) → g.geometry e ≡ g.geometry d → (bytes : Blocks → ℕ → List ℕ) (form : ContentsForm) (r : Result WriterContents Error)
+    → IfOk r (λ c. HasContentsInForm n (g.blocks e) (g.geometry d) c (bytes (g.blocks d) (g.geometry d).block_size) form) → IfOk r (λ c. HasContentsInFormOnThread new c (bytes old.disk.blocks old.disk.block_size) form)
 holds_after g old new d e m n before after shape later geometry bytes form (Ok c) has =
-    subst (λ (x : Blocks). HoldsContents new c (bytes x old.disk.block_size) form) (blocks_here g old d m before shape)
-    (subst (λ (k : ℕ). HoldsContents new c (bytes (g.blocks d) k) form) (size_here g old d m before shape)
+    subst (λ (x : Blocks). HasContentsInFormOnThread new c (bytes x old.disk.block_size) form) (blocks_here g old d m before shape)
+    (subst (λ (k : ℕ). HasContentsInFormOnThread new c (bytes (g.blocks d) k) form) (size_here g old d m before shape)
     (holds_here g new e n after later (g.geometry d) c (bytes (g.blocks d) (g.geometry d).block_size) form (sym geometry) has))
 holds_after g old new d e m n before after shape later geometry bytes form (Err x) has = tt
 
 -- no used block comes into the lists
-pub owned_after : {D : Type 0} (g : Ghosts D) (old new : Kept) (d e : D) (m n : BlockSets) → IsOnDevice g old d m → IsOnDevice g new e n → IsDivided (g.geometry d).block_size (g.geometry d).block_count (g.blocks d)
-    → IsDivided (g.geometry e).block_size (g.geometry e).block_count (g.blocks e) → g.geometry e ≡ g.geometry d → (contents : Contents) (r : Result Contents Error)
-    → IfOk r (λ c. AreOwned n (blocks_held (g.blocks d) (g.geometry d).block_size contents) (blocks_held (g.blocks e) (g.geometry d).block_size c)) → IfOk r (λ c. AreOwned new.map (list_blocks_of old contents) (list_blocks_of new c))
+pub owned_after : {D : Type 0} (g : Ghosts D) (old new : Kept) (d e : D) (m n : BlockStateList) → HasDeviceAndMap g old d m → HasDeviceAndMap g new e n → HasBlocksOfCountAndSize (g.geometry d).block_size (g.geometry d).block_count (g.blocks d)
+    → HasBlocksOfCountAndSize (g.geometry e).block_size (g.geometry e).block_count (g.blocks e) → g.geometry e ≡ g.geometry d → (contents : WriterContents) (r : Result WriterContents Error)
+    → IfOk r (λ c. AreUsedBlocksAmong n (blocks_of_contents (g.blocks d) (g.geometry d).block_size contents) (blocks_of_contents (g.blocks e) (g.geometry d).block_size c)) → IfOk r (λ c. AreUsedBlocksAmong new.map (list_blocks_of_contents old contents) (list_blocks_of_contents new c))
 owned_after g old new d e m n before after shape later geometry contents (Ok c) owned =
-    subst (λ (s : BlockSets). AreOwned s (list_blocks_of old contents) (list_blocks_of new c)) after.map
-    (subst (λ (k : ℕ). AreOwned n (list_blocks_of old contents) (blocks_held new.disk.blocks k c)) (ap (λ (x : Geometry). x.block_size) (sym geometry) ∙ size_here g new e n after later)
-    (subst (λ (x : Blocks). AreOwned n (list_blocks_of old contents) (blocks_held x (g.geometry d).block_size c)) (blocks_here g new e n after later)
-    (subst (λ (k : ℕ). AreOwned n (blocks_held old.disk.blocks k contents) (blocks_held (g.blocks e) (g.geometry d).block_size c)) (size_here g old d m before shape)
-    (subst (λ (x : Blocks). AreOwned n (blocks_held x (g.geometry d).block_size contents) (blocks_held (g.blocks e) (g.geometry d).block_size c)) (blocks_here g old d m before shape) owned))))
+    subst (λ (s : BlockStateList). AreUsedBlocksAmong s (list_blocks_of_contents old contents) (list_blocks_of_contents new c)) after.map
+    (subst (λ (k : ℕ). AreUsedBlocksAmong n (list_blocks_of_contents old contents) (blocks_of_contents new.disk.blocks k c)) (ap (λ (x : Geometry). x.block_size) (sym geometry) ∙ size_here g new e n after later)
+    (subst (λ (x : Blocks). AreUsedBlocksAmong n (list_blocks_of_contents old contents) (blocks_of_contents x (g.geometry d).block_size c)) (blocks_here g new e n after later)
+    (subst (λ (k : ℕ). AreUsedBlocksAmong n (blocks_of_contents old.disk.blocks k contents) (blocks_of_contents (g.blocks e) (g.geometry d).block_size c)) (size_here g old d m before shape)
+    (subst (λ (x : Blocks). AreUsedBlocksAmong n (blocks_of_contents x (g.geometry d).block_size contents) (blocks_of_contents (g.blocks e) (g.geometry d).block_size c)) (blocks_here g old d m before shape) owned))))
 owned_after g old new d e m n before after shape later geometry contents (Err x) owned = tt

@@ -7,10 +7,10 @@ use Rattle.std.proofs.lemmas.List.{length-set, get_or_at, get_or_append_left}
 use Rattle.std.proofs.lemmas.List.Elements.{All-append, All-cons}
 use Rattle.std.proofs.lemmas.Map.Keys.{IsDistinct-from_apart, apart_from_distinct}
 use Rattle.std.proofs.lemmas.Option.{slice_get_within}
-use Rattle.lfs_model.specs.BlockSets.{BlockSets, IsFree, IsInFlight, in_flight_count, used_count}
+use Rattle.lfs_model.specs.BlockSets.{BlockStateList, IsFree, IsInFlight, in_flight_count, used_count}
 use Rattle.lfs_model.specs.BlockSets.BlockState.{Free, InFlight}
 use Rattle.lfs_model.proofs.BlockSets.{Contains-head, Contains-tail, slice_get-set_same, slice_get-set_other, counts_from_none_free}
-use Rattle.lfs_writer.specs.TakenBlocks.{Keeps, Takes}
+use Rattle.lfs_writer.specs.TakenBlocks.{ChangesOnlyFreeBlocksInMap, TakesFreeBlocks}
 
 -- a block is one of them, or apart from each
 pub member : (bs : List ℕ) (b : ℕ) → Contains bs b ⊎ All (λ x. x ≢ b) bs
@@ -20,7 +20,7 @@ member (x ∷ bs) b = ⊎_elim
     (λ ne. ⊎_elim (λ has. inl (Contains-tail x b bs has)) (λ apart. inr (All-cons (λ y. y ≢ b) x bs ne apart)) (member bs b))
     (cases_eq x b)
 
-pub takes_none : (sets : BlockSets) → Takes sets sets []
+pub takes_none : (sets : BlockStateList) → TakesFreeBlocks sets sets []
 unfolding IsDistinct
 takes_none sets = record {
   count = refl;
@@ -31,11 +31,11 @@ takes_none sets = record {
 }
 
 -- blocks that weren't free are as they were
-pub others_stay : (old new : BlockSets) (bs : List ℕ) → Takes old new bs → (b : ℕ) → ¬ (IsFree old b) → slice_get new b ≡ slice_get old b
+pub others_stay : (old new : BlockStateList) (bs : List ℕ) → TakesFreeBlocks old new bs → (b : ℕ) → ¬ (IsFree old b) → slice_get new b ≡ slice_get old b
 others_stay old new bs takes b not_free = takes.others b (λ k x l e. not_free (subst (IsFree old) e (takes.free k x l)))
 
 -- a block of these isn't a free one
-not_taken : (old mid : BlockSets) (bs : List ℕ) (b : ℕ) → Takes old mid bs → IsFree mid b → All (λ x. x ≢ b) bs
+not_taken : (old mid : BlockStateList) (bs : List ℕ) (b : ℕ) → TakesFreeBlocks old mid bs → IsFree mid b → All (λ x. x ≢ b) bs
 not_taken old mid bs b takes free k x l e =
     let flying : IsInFlight mid b = subst (IsInFlight mid) e (takes.taken k x l) in
     let both : Some Free ≡ Some InFlight = sym free ∙ flying in cc
@@ -50,7 +50,7 @@ distinct_more bs b distinct apart = IsDistinct-from_apart nat_eq (bs ++ b ∷ []
     (cases_lt j (length bs))))
 
 -- a block more is taken
-pub takes_more : (old mid new : BlockSets) (bs : List ℕ) (b : ℕ) → Takes old mid bs → IsFree mid b → new ≡ set mid b InFlight → Takes old new (bs ++ b ∷ [])
+pub takes_more : (old mid new : BlockStateList) (bs : List ℕ) (b : ℕ) → TakesFreeBlocks old mid bs → IsFree mid b → new ≡ set mid b InFlight → TakesFreeBlocks old new (bs ++ b ∷ [])
 takes_more old mid new bs b takes free is =
     let apart : All (λ x. x ≢ b) bs = not_taken old mid bs b takes free in
     let within = slice_get_within mid b Free free in
@@ -67,12 +67,12 @@ takes_more old mid new bs b takes free is =
     }
 
 -- some block is free where the two sets don't have all
-pub some_free : (sets : BlockSets) → used_count sets + in_flight_count sets < length sets → ((b : ℕ) → ¬ (IsFree sets b)) → ⊥
+pub some_free : (sets : BlockStateList) → used_count sets + in_flight_count sets < length sets → ((b : ℕ) → ¬ (IsFree sets b)) → ⊥
 some_free sets room none = absurd (omega (arith, counts_from_none_free sets none, room))
 
-pub keeps_by : (old new : BlockSets) (bs : List ℕ) → Takes old new bs → used_count new ≡ used_count old → Keeps old new
+pub keeps_by : (old new : BlockStateList) (bs : List ℕ) → TakesFreeBlocks old new bs → used_count new ≡ used_count old → ChangesOnlyFreeBlocksInMap old new
 keeps_by old new bs takes used = record { count = takes.count; states = others_stay old new bs takes; used = used }
 
 -- what came into flight
-pub came : (old new : BlockSets) (bs : List ℕ) → Takes old new bs → (b : ℕ) → IsInFlight new b → IsInFlight old b ⊎ Contains bs b
+pub came : (old new : BlockStateList) (bs : List ℕ) → TakesFreeBlocks old new bs → (b : ℕ) → IsInFlight new b → IsInFlight old b ⊎ Contains bs b
 came old new bs takes b flying = ⊎_elim (λ has. inr has) (λ apart. inl (sym (takes.others b apart) ∙ flying)) (member bs b)

@@ -4,52 +4,52 @@ use Rattle.std.specs.Prelude.{nat_le, nat_lt, ◌==◌}
 use Rattle.std.proofs.lemmas.Bool.{cases_eq, cases_lt, eq-eqb, ne_eqb, le-leb, lt-leb, lt-ltb, le-ltb}
 use Rattle.std.proofs.lemmas.List.{append-nil, length-replicate, length-take-le, take_all}
 use Rattle.std.proofs.Common.{length-append}
-use Rattle.lfs_model.specs.SkipLists.{blocks_for}
-use Rattle.lfs_model.specs.Writers.{written_into, zeros_to}
-use Rattle.lfs_writer.specs.Contents.{truncate_room}
-use Rattle.lfs_writer.specs.Form.{Form, InMemory, Finished, InHand, form_size, grown, shortened, truncated}
+use Rattle.lfs_model.specs.SkipLists.{list_block_count_for_size}
+use Rattle.lfs_model.specs.Writers.{contents_after_write, bytes_padded_with_zeros}
+use Rattle.lfs_writer.specs.Contents.{block_room_for_truncation}
+use Rattle.lfs_writer.specs.Form.{ContentsForm, InMemory, Finished, InHand, size_of_contents_form, grown, form_after_shortening, truncated}
 use Rattle.lfs_writer.proofs.Flights.{at_end, zeros_not}
 use Rattle.lfs_writer.proofs.Memories.{shortened_bytes}
 
 -- ---- bytes
 
-filled_to : (size : ℕ) (old : List ℕ) → length (zeros_to size old) ≡ max size (length old)
+filled_to : (size : ℕ) (old : List ℕ) → length (bytes_padded_with_zeros size old) ≡ max size (length old)
 filled_to size old = omega (arith, length-append old (replicate (size - length old) 0), length-replicate {A = ℕ} (size - length old) 0)
 
-pub length-resized : (size : ℕ) (old : List ℕ) → length (take size (zeros_to size old)) ≡ size
-length-resized size old = length-take-le size (zeros_to size old) (omega (arith, filled_to size old))
+pub length-resized : (size : ℕ) (old : List ℕ) → length (take size (bytes_padded_with_zeros size old)) ≡ size
+length-resized size old = length-take-le size (bytes_padded_with_zeros size old) (omega (arith, filled_to size old))
 
 -- the first bytes, and zeros up to the size
-pub resized : (old : List ℕ) (keep size : ℕ) → keep ≡ min (length old) size → written_into (take keep old) size [] ≡ take size (zeros_to size old)
+pub resized : (old : List ℕ) (keep size : ℕ) → keep ≡ min (length old) size → contents_after_write (take keep old) size [] ≡ take size (bytes_padded_with_zeros size old)
 resized old keep size is =
     let cut : List ℕ = take keep old in
     let long : length cut ≡ keep = length-take-le keep old (omega arith) in
-    let front : written_into cut size [] ≡ zeros_to size cut = at_end cut [] size (omega arith) ∙ append-nil (zeros_to size cut) in
+    let front : contents_after_write cut size [] ≡ bytes_padded_with_zeros size cut = at_end cut [] size (omega arith) ∙ append-nil (bytes_padded_with_zeros size cut) in
     front ∙ ⊎_elim
     (λ less.
-    ap (zeros_to size) (take_all keep old (omega arith)) ∙ sym (take_all size (zeros_to size old) (omega (arith, filled_to size old))))
+    ap (bytes_padded_with_zeros size) (take_all keep old (omega arith)) ∙ sym (take_all size (bytes_padded_with_zeros size old) (omega (arith, filled_to size old))))
     (λ ge.
     let e : keep ≡ size = omega arith in
     zeros_not cut size (omega arith) ∙ ap (λ k. take k old) e ∙ shortened_bytes old size ge)
     (cases_lt (length old) size)
 
 -- all of them
-pub resized_none : (old : List ℕ) (size : ℕ) → size ≡ length old → old ≡ take size (zeros_to size old)
+pub resized_none : (old : List ℕ) (size : ℕ) → size ≡ length old → old ≡ take size (bytes_padded_with_zeros size old)
 resized_none old size is = sym (take_all size old (omega arith)) ∙ shortened_bytes old size (omega arith)
 
 -- ---- forms
 
-pub truncated_same : (limit size : ℕ) (form : Form) → size ≡ form_size form → form ≡ truncated limit size form
+pub truncated_same : (limit size : ℕ) (form : ContentsForm) → size ≡ size_of_contents_form form → form ≡ truncated limit size form
 truncated_same limit size form is =
-    sym (ap (λ (t : Bool). if t then form else (if nat_le size limit then InMemory size else (if nat_lt (form_size form) size then grown (form_size form) size form else shortened size form))) (eq-eqb size (form_size form) is))
+    sym (ap (λ (t : Bool). if t then form else (if nat_le size limit then InMemory size else (if nat_lt (size_of_contents_form form) size then grown (size_of_contents_form form) size form else form_after_shortening size form))) (eq-eqb size (size_of_contents_form form) is))
 
-truncated_other : (limit size : ℕ) (form : Form) → size ≢ form_size form → truncated limit size form ≡ (if nat_le size limit then InMemory size else (if nat_lt (form_size form) size then grown (form_size form) size form else shortened size form))
+truncated_other : (limit size : ℕ) (form : ContentsForm) → size ≢ size_of_contents_form form → truncated limit size form ≡ (if nat_le size limit then InMemory size else (if nat_lt (size_of_contents_form form) size then grown (size_of_contents_form form) size form else form_after_shortening size form))
 truncated_other limit size form ne =
-    ap (λ (t : Bool). if t then form else (if nat_le size limit then InMemory size else (if nat_lt (form_size form) size then grown (form_size form) size form else shortened size form))) (ne_eqb size (form_size form) ne)
+    ap (λ (t : Bool). if t then form else (if nat_le size limit then InMemory size else (if nat_lt (size_of_contents_form form) size then grown (size_of_contents_form form) size form else form_after_shortening size form))) (ne_eqb size (size_of_contents_form form) ne)
 
-pub truncated_few : (limit size : ℕ) (form : Form) → size ≢ form_size form → size ≤ limit → InMemory size ≡ truncated limit size form
+pub truncated_few : (limit size : ℕ) (form : ContentsForm) → size ≢ size_of_contents_form form → size ≤ limit → InMemory size ≡ truncated limit size form
 truncated_few limit size form ne few =
-    sym (truncated_other limit size form ne ∙ ap (λ (t : Bool). if t then InMemory size else (if nat_lt (form_size form) size then grown (form_size form) size form else shortened size form)) (le-leb size limit few))
+    sym (truncated_other limit size form ne ∙ ap (λ (t : Bool). if t then InMemory size else (if nat_lt (size_of_contents_form form) size then grown (size_of_contents_form form) size form else form_after_shortening size form)) (le-leb size limit few))
 
 pub truncated_held : (limit size old : ℕ) → size ≤ limit → InMemory size ≡ truncated limit size (InMemory old)
 truncated_held limit size old few = ⊎_elim
@@ -57,17 +57,17 @@ truncated_held limit size old few = ⊎_elim
     (λ ne. truncated_few limit size (InMemory old) ne few)
     (cases_eq size old)
 
-truncated_many : (limit size : ℕ) (form : Form) → size ≢ form_size form → limit < size → truncated limit size form ≡ (if nat_lt (form_size form) size then grown (form_size form) size form else shortened size form)
+truncated_many : (limit size : ℕ) (form : ContentsForm) → size ≢ size_of_contents_form form → limit < size → truncated limit size form ≡ (if nat_lt (size_of_contents_form form) size then grown (size_of_contents_form form) size form else form_after_shortening size form)
 truncated_many limit size form ne many =
-    truncated_other limit size form ne ∙ ap (λ (t : Bool). if t then InMemory size else (if nat_lt (form_size form) size then grown (form_size form) size form else shortened size form)) (lt-leb size limit many)
+    truncated_other limit size form ne ∙ ap (λ (t : Bool). if t then InMemory size else (if nat_lt (size_of_contents_form form) size then grown (size_of_contents_form form) size form else form_after_shortening size form)) (lt-leb size limit many)
 
-pub truncated_longer : (limit size : ℕ) (form : Form) → form_size form < size → limit < size → grown (form_size form) size form ≡ truncated limit size form
+pub truncated_longer : (limit size : ℕ) (form : ContentsForm) → size_of_contents_form form < size → limit < size → grown (size_of_contents_form form) size form ≡ truncated limit size form
 truncated_longer limit size form more many =
-    sym (truncated_many limit size form (omega arith) many ∙ ap (λ (t : Bool). if t then grown (form_size form) size form else shortened size form) (lt-ltb (form_size form) size more))
+    sym (truncated_many limit size form (omega arith) many ∙ ap (λ (t : Bool). if t then grown (size_of_contents_form form) size form else form_after_shortening size form) (lt-ltb (size_of_contents_form form) size more))
 
-pub truncated_cut : (limit size : ℕ) (form : Form) → size < form_size form → limit < size → shortened size form ≡ truncated limit size form
+pub truncated_cut : (limit size : ℕ) (form : ContentsForm) → size < size_of_contents_form form → limit < size → form_after_shortening size form ≡ truncated limit size form
 truncated_cut limit size form less many =
-    sym (truncated_many limit size form (omega arith) many ∙ ap (λ (t : Bool). if t then grown (form_size form) size form else shortened size form) (le-ltb (form_size form) size (omega arith)))
+    sym (truncated_many limit size form (omega arith) many ∙ ap (λ (t : Bool). if t then grown (size_of_contents_form form) size form else form_after_shortening size form) (le-ltb (size_of_contents_form form) size (omega arith)))
 
 -- contents in hand are ended where they are cut
 pub truncated_ended : (limit size end base : ℕ) (flying : Bool) → size < max end base → truncated limit size (Finished (max end base) true) ≡ truncated limit size (InHand end base flying)
@@ -96,22 +96,22 @@ lengthened_hand limit end base size flying now under waits more many is on anew 
 -- ---- room
 
 pub longer_room : (block_size size end base : ℕ) (flying : Bool) → max end base < size
-    → truncate_room block_size size (InHand end base flying) ≡ (if end == max end base then blocks_for block_size size + (if flying then blocks_for block_size base else 0) else 2 * blocks_for block_size size)
+    → block_room_for_truncation block_size size (InHand end base flying) ≡ (if end == max end base then list_block_count_for_size block_size size + (if flying then list_block_count_for_size block_size base else 0) else 2 * list_block_count_for_size block_size size)
 longer_room block_size size end base flying more =
-    ap (λ (t : Bool). if t then (if end == max end base then blocks_for block_size size + (if flying then blocks_for block_size base else 0) else 2 * blocks_for block_size size)
-    else (if flying then blocks_for block_size base else 0) + blocks_for block_size base) (lt-ltb (max end base) size more)
+    ap (λ (t : Bool). if t then (if end == max end base then list_block_count_for_size block_size size + (if flying then list_block_count_for_size block_size base else 0) else 2 * list_block_count_for_size block_size size)
+    else (if flying then list_block_count_for_size block_size base else 0) + list_block_count_for_size block_size base) (lt-ltb (max end base) size more)
 
-pub room_on : (block_size size end base : ℕ) (flying : Bool) → max end base < size → end ≡ max end base → truncate_room block_size size (InHand end base flying) ≡ blocks_for block_size size + (if flying then blocks_for block_size base else 0)
+pub room_on : (block_size size end base : ℕ) (flying : Bool) → max end base < size → end ≡ max end base → block_room_for_truncation block_size size (InHand end base flying) ≡ list_block_count_for_size block_size size + (if flying then list_block_count_for_size block_size base else 0)
 room_on block_size size end base flying more same =
     longer_room block_size size end base flying more
-    ∙ ap (λ (t : Bool). if t then blocks_for block_size size + (if flying then blocks_for block_size base else 0) else 2 * blocks_for block_size size) (eq-eqb end (max end base) same)
+    ∙ ap (λ (t : Bool). if t then list_block_count_for_size block_size size + (if flying then list_block_count_for_size block_size base else 0) else 2 * list_block_count_for_size block_size size) (eq-eqb end (max end base) same)
 
-pub room_anew : (block_size size end base : ℕ) (flying : Bool) → max end base < size → end ≢ max end base → truncate_room block_size size (InHand end base flying) ≡ 2 * blocks_for block_size size
+pub room_anew : (block_size size end base : ℕ) (flying : Bool) → max end base < size → end ≢ max end base → block_room_for_truncation block_size size (InHand end base flying) ≡ 2 * list_block_count_for_size block_size size
 room_anew block_size size end base flying more ne =
     longer_room block_size size end base flying more
-    ∙ ap (λ (t : Bool). if t then blocks_for block_size size + (if flying then blocks_for block_size base else 0) else 2 * blocks_for block_size size) (ne_eqb end (max end base) ne)
+    ∙ ap (λ (t : Bool). if t then list_block_count_for_size block_size size + (if flying then list_block_count_for_size block_size base else 0) else 2 * list_block_count_for_size block_size size) (ne_eqb end (max end base) ne)
 
-pub room_shorter : (block_size size end base : ℕ) (flying : Bool) → size < max end base → truncate_room block_size size (InHand end base flying) ≡ (if flying then blocks_for block_size base else 0) + blocks_for block_size base
+pub room_shorter : (block_size size end base : ℕ) (flying : Bool) → size < max end base → block_room_for_truncation block_size size (InHand end base flying) ≡ (if flying then list_block_count_for_size block_size base else 0) + list_block_count_for_size block_size base
 room_shorter block_size size end base flying less =
-    ap (λ (t : Bool). if t then (if end == max end base then blocks_for block_size size + (if flying then blocks_for block_size base else 0) else 2 * blocks_for block_size size)
-    else (if flying then blocks_for block_size base else 0) + blocks_for block_size base) (le-ltb (max end base) size (omega arith))
+    ap (λ (t : Bool). if t then (if end == max end base then list_block_count_for_size block_size size + (if flying then list_block_count_for_size block_size base else 0) else 2 * list_block_count_for_size block_size size)
+    else (if flying then list_block_count_for_size block_size base else 0) + list_block_count_for_size block_size base) (le-ltb (max end base) size (omega arith))

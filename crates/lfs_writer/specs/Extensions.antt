@@ -1,23 +1,23 @@
 -- A list in hand that has grown.
 use Rattle.std.specs.Prelude.{ℕ, ◌≡◌, false, List, length}
 use Rattle.lfs_model.specs.Blocks.{Blocks}
-use Rattle.lfs_model.specs.BlockSets.{BlockSets}
-use Rattle.lfs_model.specs.SkipLists.{blocks_for}
-use Rattle.lfs_ctz.specs.Growing.{IsGrowing, blocks_of_list, content_of, is_in_buffer_alone, kept_blocks, end_of, Growing}
-use Rattle.lfs_writer.specs.BlocksApart.{Grows, IsTakenInMap}
+use Rattle.lfs_model.specs.BlockSets.{BlockStateList}
+use Rattle.lfs_model.specs.SkipLists.{list_block_count_for_size}
+use Rattle.lfs_ctz.specs.Growing.{HasGrowingListOnDisk, blocks_of_growing_list, content_of, is_list_only_in_buffer, blocks_kept_when_growing, size_of_growing_list, GrowingList}
+use Rattle.lfs_writer.specs.BlocksApart.{GrowsListInFreeBlocks, HasGrowingListBlocksTaken}
 
 -- the list's blocks are its own, as many as its bytes need, and it can be ended
-pub record IsOwn (disk : Blocks) (list : Growing) : Type 0 where
-  pub own : blocks_of_list disk list ≡ kept_blocks disk list
-  pub many : length (kept_blocks disk list) ≡ blocks_for list.geometry.block_size (end_of list)
-  pub listed : is_in_buffer_alone list ≡ false
+pub record HasOwnListBlocks (disk : Blocks) (list : GrowingList) : Type 0 where
+  pub own : blocks_of_growing_list disk list ≡ blocks_kept_when_growing disk list
+  pub many : length (blocks_kept_when_growing disk list) ≡ list_block_count_for_size list.geometry.block_size (size_of_growing_list list)
+  pub listed : is_list_only_in_buffer list ≡ false
 
 -- A list grew to these bytes, so many, in blocks that were free before.
-pub record IsExtended (map : BlockSets) (disk : Blocks) (list : Growing) (bytes : List ℕ) (size : ℕ) (later : BlockSets) (new : Blocks) (longer : Growing) : Type 0 where
+pub record IsGrowingListExtended (map : BlockStateList) (disk : Blocks) (list : GrowingList) (bytes : List ℕ) (size : ℕ) (later : BlockStateList) (new : Blocks) (longer : GrowingList) : Type 0 where
   pub geometry : longer.geometry ≡ list.geometry
-  pub growing : IsGrowing new longer
+  pub growing : HasGrowingListOnDisk new longer
   pub content : content_of new longer ≡ bytes
-  pub sum : end_of longer ≡ size
-  pub own : IsOwn new longer
-  pub grown : Grows map disk list later new longer
-  pub marked : IsTakenInMap later new longer
+  pub sum : size_of_growing_list longer ≡ size
+  pub own : HasOwnListBlocks new longer
+  pub grown : GrowsListInFreeBlocks map disk list later new longer
+  pub marked : HasGrowingListBlocksTaken later new longer

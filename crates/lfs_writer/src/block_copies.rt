@@ -2,19 +2,19 @@
 
 ghost use Rattle.std.specs.Prelude.{◌≡◌, ◌≤◌, ◌<◌, ◌+◌, ◌-◌, ◌++◌, length, max, min, take, drop, slice_range, IfOk, OnOk};
 ghost use Rattle.lfs_device.specs.Calls.{ReadsOnly};
-ghost use Rattle.lfs_model.specs.Blocks.{block_in};
+ghost use Rattle.lfs_model.specs.Blocks.{block_bytes_in};
 ghost use Rattle.lfs_model.specs.BlockSets.{in_flight_count, used_count};
 ghost use Rattle.lfs_model.specs.History.{reads};
-ghost use Rattle.lfs_model.specs.SkipLists.{AreListBlocks, blocks_back, blocks_for, bytes_of};
-ghost use Rattle.lfs_ctz.specs.Calls.{ReportsIo, ReportsMemory};
-ghost use Rattle.lfs_ctz.specs.Growing.{IsGrowing, kept_blocks, pending_of, content_of, end_of};
-ghost use Rattle.lfs_writer.specs.BlocksApart.{IsTakenInMap};
-ghost use Rattle.lfs_writer.specs.Bases.{IsBaseApart};
-ghost use Rattle.lfs_writer.specs.Calls.{LeavesApart};
-ghost use Rattle.lfs_writer.specs.Extensions.{IsExtended, IsOwn};
-ghost use Rattle.lfs_writer.specs.TakenBlocks.{Keeps};
+ghost use Rattle.lfs_model.specs.SkipLists.{AreListBlocks, list_blocks_from_head, list_block_count_for_size, bytes_of};
+ghost use Rattle.lfs_ctz.specs.Calls.{ReportsNoErrorButIo, ReportsIoOrNoMemory};
+ghost use Rattle.lfs_ctz.specs.Growing.{HasGrowingListOnDisk, blocks_kept_when_growing, unwritten_block_of_list, content_of, size_of_growing_list};
+ghost use Rattle.lfs_writer.specs.BlocksApart.{HasGrowingListBlocksTaken};
+ghost use Rattle.lfs_writer.specs.Bases.{IsBaseApartFromGrowingList};
+ghost use Rattle.lfs_writer.specs.Calls.{CallKeepsTakenBlocks};
+ghost use Rattle.lfs_writer.specs.Extensions.{IsGrowingListExtended, HasOwnListBlocks};
+ghost use Rattle.lfs_writer.specs.TakenBlocks.{ChangesOnlyFreeBlocksInMap};
 
-use crate::extensions::extend;
+use crate::extensions::extend_list_in_free_blocks;
 use lfs_alloc::BlockMap;
 use lfs_ctz::{Extender, blocks_for, head_before, place};
 use lfs_device::{BlockDevice, Error};
@@ -26,7 +26,7 @@ use std::alloc::Global;
 ///
 /// Errors: `Io` where the device failed. `NoMemory` where memory isn't granted. After either the
 /// list in hand can only be dropped.
-pub(crate) fn copy_rest<D: BlockDevice>(
+pub(crate) fn copy_rest_of_base<D: BlockDevice>(
     alloc: Global,
     dev: &mut D,
     map: &mut BlockMap,
@@ -34,30 +34,30 @@ pub(crate) fn copy_rest<D: BlockDevice>(
     head: u32,
     size: u32,
 ) -> Result<(), Error>
-    requires growing { IsGrowing (D.blocks dev.old) list.old }
+    requires growing { HasGrowingListOnDisk (D.blocks dev.old) list.old }
     requires geometry { D.geometry dev.old ≡ list.old.geometry }
-    requires marked { IsTakenInMap map.old (D.blocks dev.old) list.old }
-    requires own { IsOwn (D.blocks dev.old) list.old }
-    requires base { IsBaseApart map.old (pending_of list.old) (D.blocks dev.old) list.old.geometry.block_size head size }
-    requires room { used_count map.old + in_flight_count map.old + blocks_for list.old.geometry.block_size size ≤ length map.old + length (kept_blocks (D.blocks dev.old) list.old) }
-    ensures extended { OnOk result (IsExtended map.old (D.blocks dev.old) list.old
-        (content_of (D.blocks dev.old) list.old ++ drop (end_of list.old) (bytes_of (D.blocks dev.old) list.old.geometry.block_size head size))
-        (max (end_of list.old) size) map.new (D.blocks dev.new) list.new) }
-    ensures map { Keeps map.old map.new }
-    ensures device { LeavesApart D.BlockDevice map.old (pending_of list.old) dev.old dev.new }
-    ensures reports { ReportsMemory D.BlockDevice dev.old dev.new result }
+    requires marked { HasGrowingListBlocksTaken map.old (D.blocks dev.old) list.old }
+    requires own { HasOwnListBlocks (D.blocks dev.old) list.old }
+    requires base { IsBaseApartFromGrowingList map.old (unwritten_block_of_list list.old) (D.blocks dev.old) list.old.geometry.block_size head size }
+    requires room { used_count map.old + in_flight_count map.old + list_block_count_for_size list.old.geometry.block_size size ≤ length map.old + length (blocks_kept_when_growing (D.blocks dev.old) list.old) }
+    ensures extended { OnOk result (IsGrowingListExtended map.old (D.blocks dev.old) list.old
+        (content_of (D.blocks dev.old) list.old ++ drop (size_of_growing_list list.old) (bytes_of (D.blocks dev.old) list.old.geometry.block_size head size))
+        (max (size_of_growing_list list.old) size) map.new (D.blocks dev.new) list.new) }
+    ensures map { ChangesOnlyFreeBlocksInMap map.old map.new }
+    ensures device { CallKeepsTakenBlocks D.BlockDevice map.old (unwritten_block_of_list list.old) dev.old dev.new }
+    ensures reports { ReportsIoOrNoMemory D.BlockDevice dev.old dev.new result }
 {
     if list.size() >= size {
         return Ok(());
     }
     let block_size = dev.geometry().block_size;
     let mut chunk = Vec::from_elem(alloc, 0u8, block_size as usize)?;
-    copy_pieces(alloc, dev, map, list, head, size, chunk.as_mut_slice())?;
+    append_other_list_by_blocks(alloc, dev, map, list, head, size, chunk.as_mut_slice())?;
     Ok(())
 }
 
 // Appends to a list in hand the bytes that another list has after those in hand, a block at a time.
-fn copy_pieces<D: BlockDevice>(
+fn append_other_list_by_blocks<D: BlockDevice>(
     alloc: Global,
     dev: &mut D,
     map: &mut BlockMap,
@@ -67,19 +67,19 @@ fn copy_pieces<D: BlockDevice>(
     chunk: &mut [u8],
 ) -> Result<(), Error>
     requires chunk { length chunk.old ≡ list.old.geometry.block_size }
-    requires behind { end_of list.old < size }
-    requires growing { IsGrowing (D.blocks dev.old) list.old }
+    requires behind { size_of_growing_list list.old < size }
+    requires growing { HasGrowingListOnDisk (D.blocks dev.old) list.old }
     requires geometry { D.geometry dev.old ≡ list.old.geometry }
-    requires marked { IsTakenInMap map.old (D.blocks dev.old) list.old }
-    requires own { IsOwn (D.blocks dev.old) list.old }
-    requires base { IsBaseApart map.old (pending_of list.old) (D.blocks dev.old) list.old.geometry.block_size head size }
-    requires room { used_count map.old + in_flight_count map.old + blocks_for list.old.geometry.block_size size ≤ length map.old + length (kept_blocks (D.blocks dev.old) list.old) }
-    ensures extended { OnOk result (IsExtended map.old (D.blocks dev.old) list.old
-        (content_of (D.blocks dev.old) list.old ++ drop (end_of list.old) (bytes_of (D.blocks dev.old) list.old.geometry.block_size head size))
-        (max (end_of list.old) size) map.new (D.blocks dev.new) list.new) }
-    ensures map { Keeps map.old map.new }
-    ensures device { LeavesApart D.BlockDevice map.old (pending_of list.old) dev.old dev.new }
-    ensures reports { ReportsMemory D.BlockDevice dev.old dev.new result }
+    requires marked { HasGrowingListBlocksTaken map.old (D.blocks dev.old) list.old }
+    requires own { HasOwnListBlocks (D.blocks dev.old) list.old }
+    requires base { IsBaseApartFromGrowingList map.old (unwritten_block_of_list list.old) (D.blocks dev.old) list.old.geometry.block_size head size }
+    requires room { used_count map.old + in_flight_count map.old + list_block_count_for_size list.old.geometry.block_size size ≤ length map.old + length (blocks_kept_when_growing (D.blocks dev.old) list.old) }
+    ensures extended { OnOk result (IsGrowingListExtended map.old (D.blocks dev.old) list.old
+        (content_of (D.blocks dev.old) list.old ++ drop (size_of_growing_list list.old) (bytes_of (D.blocks dev.old) list.old.geometry.block_size head size))
+        (max (size_of_growing_list list.old) size) map.new (D.blocks dev.new) list.new) }
+    ensures map { ChangesOnlyFreeBlocksInMap map.old map.new }
+    ensures device { CallKeepsTakenBlocks D.BlockDevice map.old (unwritten_block_of_list list.old) dev.old dev.new }
+    ensures reports { ReportsIoOrNoMemory D.BlockDevice dev.old dev.new result }
 {
     let block_size = dev.geometry().block_size;
     let (from, _) = place(block_size, list.size());
@@ -88,8 +88,8 @@ fn copy_pieces<D: BlockDevice>(
         let pos = list.size();
         let (index, off) = place(block_size, pos);
         let block = blocks[(index - from) as usize];
-        let count = read_piece(dev, block, off, size - pos, chunk)?;
-        extend(alloc, dev, map, list, &chunk[..count])?;
+        let count = read_bytes_of_block_from(dev, block, off, size - pos, chunk)?;
+        extend_list_in_free_blocks(alloc, dev, map, list, &chunk[..count])?;
     }
     Ok(())
 }
@@ -104,9 +104,9 @@ fn blocks_from<D: BlockDevice>(
 ) -> Result<Vec<u32>, Error>
     requires chain { AreListBlocks (D.blocks dev.old) count head }
     requires within { from ≤ count }
-    ensures blocks { IfOk result (λ v. v.items ≡ drop from (blocks_back (D.blocks dev.old) count head)) }
+    ensures blocks { IfOk result (λ v. v.items ≡ drop from (list_blocks_from_head (D.blocks dev.old) count head)) }
     ensures device { ReadsOnly D.BlockDevice dev.old dev.new }
-    ensures reports { ReportsMemory D.BlockDevice dev.old dev.new result }
+    ensures reports { ReportsIoOrNoMemory D.BlockDevice dev.old dev.new result }
     // The list is walked once: one read for each of them.
     ensures few { OnOk result (reads (D.history dev.new) ≤ reads (D.history dev.old) + (count - from)) }
 {
@@ -122,7 +122,7 @@ fn blocks_from<D: BlockDevice>(
 }
 
 // Reads the bytes of a block from an offset on, at most `most` of them.
-fn read_piece<D: BlockDevice>(
+fn read_bytes_of_block_from<D: BlockDevice>(
     dev: &mut D,
     block: u32,
     off: u32,
@@ -134,9 +134,9 @@ fn read_piece<D: BlockDevice>(
     requires some { 1 ≤ most }
     requires room { length buf.old ≡ (D.geometry dev.old).block_size }
     ensures count { IfOk result (λ n. (1 ≤ n) × (n ≤ length buf.old) × (n ≡ min ((D.geometry dev.old).block_size - off) most)) }
-    ensures bytes { IfOk result (λ n. take n buf.new ≡ slice_range (block_in (D.blocks dev.old) block) off (off + n)) }
+    ensures bytes { IfOk result (λ n. take n buf.new ≡ slice_range (block_bytes_in (D.blocks dev.old) block) off (off + n)) }
     ensures device { ReadsOnly D.BlockDevice dev.old dev.new }
-    ensures reports { ReportsIo D.BlockDevice dev.old dev.new result }
+    ensures reports { ReportsNoErrorButIo D.BlockDevice dev.old dev.new result }
     ensures few { reads (D.history dev.new) ≡ reads (D.history dev.old) + 1 }
 {
     let count = (buf.len() - off as usize).min(most as usize);

@@ -2,15 +2,15 @@
 
 ghost use Rattle.std.specs.Prelude.{ℕ, OnOk, IfOk};
 ghost use Rattle.lfs_model.specs.BlockSets.{IsInFlight};
-ghost use Rattle.lfs_ctz.specs.Calls.{ReportsMemory};
-ghost use Rattle.lfs_writer.specs.Calls.{LeavesUsed};
-ghost use Rattle.lfs_writer.specs.Contents.{CanFinishContents, HasContents, bytes_in, finished, form_of};
-ghost use Rattle.lfs_writer.specs.Hand.{KeepsUsed};
-ghost use Rattle.lfs_writer.specs.BlockOwners.{AreOwned, blocks_held};
+ghost use Rattle.lfs_ctz.specs.Calls.{ReportsIoOrNoMemory};
+ghost use Rattle.lfs_writer.specs.Calls.{CallKeepsUsedBlocks};
+ghost use Rattle.lfs_writer.specs.Contents.{CanFinishContents, HasContentsInForm, contents_bytes_in_blocks, finished, form_of_contents};
+ghost use Rattle.lfs_writer.specs.Hand.{KeepsUsedBlocksInMap};
+ghost use Rattle.lfs_writer.specs.BlockOwners.{AreUsedBlocksAmong, blocks_of_contents};
 
-use crate::contents::Contents;
-use crate::list_ends::end_hand;
-use crate::releases::release_one;
+use crate::contents::WriterContents;
+use crate::list_ends::end_list_in_hand;
+use crate::releases::release_block_in_flight;
 use lfs_alloc::BlockMap;
 use lfs_device::{BlockDevice, Error};
 use std::alloc::Global;
@@ -26,35 +26,35 @@ pub fn finish<D: BlockDevice>(
     alloc: Global,
     dev: &mut D,
     map: &mut BlockMap,
-    contents: Contents,
-) -> Result<Contents, Error>
+    contents: WriterContents,
+) -> Result<WriterContents, Error>
     requires { CanFinishContents map.old (D.blocks dev.old) (D.geometry dev.old) contents }
-    ensures finished { IfOk result (λ c. HasContents map.new (D.blocks dev.new) (D.geometry dev.old) c
-        (bytes_in (D.blocks dev.old) (D.geometry dev.old).block_size contents) (finished (form_of contents))) }
-    ensures owned { IfOk result (λ c. AreOwned map.new (blocks_held (D.blocks dev.old) (D.geometry dev.old).block_size contents) (blocks_held (D.blocks dev.new) (D.geometry dev.old).block_size c)) }
-    ensures map { KeepsUsed map.old map.new }
-    ensures device { LeavesUsed D.BlockDevice map.old dev.old dev.new }
-    ensures reports { ReportsMemory D.BlockDevice dev.old dev.new result }
+    ensures finished { IfOk result (λ c. HasContentsInForm map.new (D.blocks dev.new) (D.geometry dev.old) c
+        (contents_bytes_in_blocks (D.blocks dev.old) (D.geometry dev.old).block_size contents) (finished (form_of_contents contents))) }
+    ensures owned { IfOk result (λ c. AreUsedBlocksAmong map.new (blocks_of_contents (D.blocks dev.old) (D.geometry dev.old).block_size contents) (blocks_of_contents (D.blocks dev.new) (D.geometry dev.old).block_size c)) }
+    ensures map { KeepsUsedBlocksInMap map.old map.new }
+    ensures device { CallKeepsUsedBlocks D.BlockDevice map.old dev.old dev.new }
+    ensures reports { ReportsIoOrNoMemory D.BlockDevice dev.old dev.new result }
 {
     match contents {
-        Contents::InMemory(list) => Ok(Contents::InMemory(list)),
-        Contents::Finished(stored) => Ok(Contents::Finished(stored)),
-        Contents::InHand(hand) => {
-            let stored = end_hand(alloc, dev, map, hand)?;
-            Ok(Contents::Finished(stored))
+        WriterContents::InMemory(list) => Ok(WriterContents::InMemory(list)),
+        WriterContents::Finished(stored) => Ok(WriterContents::Finished(stored)),
+        WriterContents::InHand(hand) => {
+            let stored = end_list_in_hand(alloc, dev, map, hand)?;
+            Ok(WriterContents::Finished(stored))
         }
     }
 }
 
 /// Releases all blocks in flight. No other file has blocks in flight, so no block is read.
-pub fn abandon(map: &mut BlockMap)
+pub fn release_all_blocks_in_flight(map: &mut BlockMap)
     ensures none { (b : ℕ) → ¬ (IsInFlight map.new b) }
-    ensures map { KeepsUsed map.old map.new }
+    ensures map { KeepsUsedBlocksInMap map.old map.new }
 {
     let block_count = map.block_count();
     let mut block = 0;
     'abandoning: while block < block_count {
-        release_one(map, block);
+        release_block_in_flight(map, block);
         block += 1;
     }
 }

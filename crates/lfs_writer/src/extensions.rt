@@ -2,13 +2,13 @@
 
 ghost use Rattle.std.specs.Prelude.{◌≡◌, ◌≤◌, ◌<◌, ◌+◌, ◌++◌, ◌^◌, ℕ, length, OnOk};
 ghost use Rattle.lfs_model.specs.BlockSets.{in_flight_count, used_count};
-ghost use Rattle.lfs_model.specs.SkipLists.{blocks_for};
-ghost use Rattle.lfs_ctz.specs.Calls.{ReportsMemory};
-ghost use Rattle.lfs_ctz.specs.Growing.{IsGrowing, kept_blocks, pending_of, content_of, end_of};
-ghost use Rattle.lfs_writer.specs.BlocksApart.{IsTakenInMap};
-ghost use Rattle.lfs_writer.specs.Calls.{LeavesApart};
-ghost use Rattle.lfs_writer.specs.Extensions.{IsExtended};
-ghost use Rattle.lfs_writer.specs.TakenBlocks.{Keeps};
+ghost use Rattle.lfs_model.specs.SkipLists.{list_block_count_for_size};
+ghost use Rattle.lfs_ctz.specs.Calls.{ReportsIoOrNoMemory};
+ghost use Rattle.lfs_ctz.specs.Growing.{HasGrowingListOnDisk, blocks_kept_when_growing, unwritten_block_of_list, content_of, size_of_growing_list};
+ghost use Rattle.lfs_writer.specs.BlocksApart.{HasGrowingListBlocksTaken};
+ghost use Rattle.lfs_writer.specs.Calls.{CallKeepsTakenBlocks};
+ghost use Rattle.lfs_writer.specs.Extensions.{IsGrowingListExtended};
+ghost use Rattle.lfs_writer.specs.TakenBlocks.{ChangesOnlyFreeBlocksInMap};
 
 use crate::taken_blocks::take_blocks;
 use lfs_alloc::BlockMap;
@@ -23,26 +23,26 @@ use std::alloc::Global;
 ///
 /// Errors: `Io` where the device failed. `NoMemory` where memory isn't granted. After either the
 /// list can only be dropped.
-pub(crate) fn extend<D: BlockDevice>(
+pub(crate) fn extend_list_in_free_blocks<D: BlockDevice>(
     alloc: Global,
     dev: &mut D,
     map: &mut BlockMap,
     list: &mut Extender,
     bytes: &[u8],
 ) -> Result<(), Error>
-    requires growing { IsGrowing (D.blocks dev.old) list.old }
+    requires growing { HasGrowingListOnDisk (D.blocks dev.old) list.old }
     requires geometry { D.geometry dev.old ≡ list.old.geometry }
     requires some { 1 ≤ length bytes.now }
-    requires small { end_of list.old + length bytes.now < 2 ^ 31 }
-    requires marked { IsTakenInMap map.old (D.blocks dev.old) list.old }
-    requires room { used_count map.old + in_flight_count map.old + blocks_for list.old.geometry.block_size (end_of list.old + length bytes.now)
-        ≤ length map.old + length (kept_blocks (D.blocks dev.old) list.old) }
-    ensures extended { OnOk result (IsExtended map.old (D.blocks dev.old) list.old
-        (content_of (D.blocks dev.old) list.old ++ bytes.now) (end_of list.old + length bytes.now) map.new (D.blocks dev.new) list.new) }
+    requires small { size_of_growing_list list.old + length bytes.now < 2 ^ 31 }
+    requires marked { HasGrowingListBlocksTaken map.old (D.blocks dev.old) list.old }
+    requires room { used_count map.old + in_flight_count map.old + list_block_count_for_size list.old.geometry.block_size (size_of_growing_list list.old + length bytes.now)
+        ≤ length map.old + length (blocks_kept_when_growing (D.blocks dev.old) list.old) }
+    ensures extended { OnOk result (IsGrowingListExtended map.old (D.blocks dev.old) list.old
+        (content_of (D.blocks dev.old) list.old ++ bytes.now) (size_of_growing_list list.old + length bytes.now) map.new (D.blocks dev.new) list.new) }
     // No block that was used or in flight changes, except the list's pending one.
-    ensures map { Keeps map.old map.new }
-    ensures device { LeavesApart D.BlockDevice map.old (pending_of list.old) dev.old dev.new }
-    ensures reports { ReportsMemory D.BlockDevice dev.old dev.new result }
+    ensures map { ChangesOnlyFreeBlocksInMap map.old map.new }
+    ensures device { CallKeepsTakenBlocks D.BlockDevice map.old (unwritten_block_of_list list.old) dev.old dev.new }
+    ensures reports { ReportsIoOrNoMemory D.BlockDevice dev.old dev.new result }
 {
     let count = list.needed(bytes.len() as u32);
     let blocks = take_blocks(alloc, map, count)?;

@@ -1,14 +1,14 @@
 // The contents of files that are open for writing, on the device of a thread of metadata pairs.
 
 ghost use Rattle.std.specs.Prelude.{◌≡◌, false, is_err, length, take, IfErr, IfOk, OnOk};
-ghost use Rattle.lfs_model.specs.Writers.{written_into, zeros_to};
-ghost use Rattle.lfs_writer.specs.SettledFiles.{CanSettle, IsReadBesideMap, IsSettledIn};
-ghost use Rattle.lfs_writer.specs.ThreadContents.{CanFinish, CanTruncate, CanWrite, HoldsContents, LeavesPairsAndUsed, ReportsWork, list_blocks_of};
-ghost use Rattle.lfs_writer.specs.Contents.{bytes_in, finished, form_of};
+ghost use Rattle.lfs_model.specs.Writers.{contents_after_write, bytes_padded_with_zeros};
+ghost use Rattle.lfs_writer.specs.SettledFiles.{CanSettleStoredList, ChangesOnlyBlockMap, IsStoredListSettled};
+ghost use Rattle.lfs_writer.specs.ThreadContents.{CanFinishContentsOnThread, CanTruncateContentsOnThread, CanWriteContentsOnThread, HasContentsInFormOnThread, LeavesPairsAndUsedBlocks, ReportsFaultOrNoMemory, list_blocks_of_contents};
+ghost use Rattle.lfs_writer.specs.Contents.{contents_bytes_in_blocks, finished, form_of_contents};
 ghost use Rattle.lfs_writer.specs.Form.{truncated, written};
-ghost use Rattle.lfs_writer.specs.BlockOwners.{AreOwned};
+ghost use Rattle.lfs_writer.specs.BlockOwners.{AreUsedBlocksAmong};
 
-use crate::{Contents, Stored, finish, settle_list, truncate_contents, write_contents};
+use crate::{Stored, WriterContents, finish, settle_list, truncate_contents, write_contents};
 use lfs_device::{BlockDevice, Error};
 use lfs_thread::Thread;
 use std::alloc::Global;
@@ -23,19 +23,19 @@ use std::alloc::Global;
 pub fn write_file<D: BlockDevice>(
     alloc: Global,
     thread: &mut Thread<D>,
-    contents: Contents,
+    contents: WriterContents,
     limit: u32,
     place: u32,
     bytes: &[u8],
-) -> Result<Contents, Error>
+) -> Result<WriterContents, Error>
     requires works { thread.old.failed ≡ false }
-    requires can { CanWrite thread.old.kept contents limit place (length bytes.now) }
-    ensures written { IfOk result (λ c. HoldsContents thread.new.kept c (written_into (bytes_in thread.old.kept.disk.blocks thread.old.kept.disk.block_size contents) place bytes.now)
-        (written limit place (length bytes.now) (form_of contents))) }
-    ensures owned { IfOk result (λ c. AreOwned thread.new.kept.map (list_blocks_of thread.old.kept contents) (list_blocks_of thread.new.kept c)) }
+    requires can { CanWriteContentsOnThread thread.old.kept contents limit place (length bytes.now) }
+    ensures written { IfOk result (λ c. HasContentsInFormOnThread thread.new.kept c (contents_after_write (contents_bytes_in_blocks thread.old.kept.disk.blocks thread.old.kept.disk.block_size contents) place bytes.now)
+        (written limit place (length bytes.now) (form_of_contents contents))) }
+    ensures owned { IfOk result (λ c. AreUsedBlocksAmong thread.new.kept.map (list_blocks_of_contents thread.old.kept contents) (list_blocks_of_contents thread.new.kept c)) }
     ensures works { thread.new.failed ≡ false }
-    ensures leaves { LeavesPairsAndUsed thread.old.kept thread.new.kept }
-    ensures reports { ReportsWork thread.old.kept thread.new.kept result }
+    ensures leaves { LeavesPairsAndUsedBlocks thread.old.kept thread.new.kept }
+    ensures reports { ReportsFaultOrNoMemory thread.old.kept thread.new.kept result }
 {
     thread.beside(|device, map| {
         write_contents(alloc, device, map, contents, limit, place, bytes)
@@ -52,18 +52,18 @@ pub fn write_file<D: BlockDevice>(
 pub fn truncate_file<D: BlockDevice>(
     alloc: Global,
     thread: &mut Thread<D>,
-    contents: Contents,
+    contents: WriterContents,
     limit: u32,
     size: u32,
-) -> Result<Contents, Error>
+) -> Result<WriterContents, Error>
     requires works { thread.old.failed ≡ false }
-    requires can { CanTruncate thread.old.kept contents limit size }
-    ensures truncated { IfOk result (λ c. HoldsContents thread.new.kept c (take size (zeros_to size (bytes_in thread.old.kept.disk.blocks thread.old.kept.disk.block_size contents)))
-        (truncated limit size (form_of contents))) }
-    ensures owned { IfOk result (λ c. AreOwned thread.new.kept.map (list_blocks_of thread.old.kept contents) (list_blocks_of thread.new.kept c)) }
+    requires can { CanTruncateContentsOnThread thread.old.kept contents limit size }
+    ensures truncated { IfOk result (λ c. HasContentsInFormOnThread thread.new.kept c (take size (bytes_padded_with_zeros size (contents_bytes_in_blocks thread.old.kept.disk.blocks thread.old.kept.disk.block_size contents)))
+        (truncated limit size (form_of_contents contents))) }
+    ensures owned { IfOk result (λ c. AreUsedBlocksAmong thread.new.kept.map (list_blocks_of_contents thread.old.kept contents) (list_blocks_of_contents thread.new.kept c)) }
     ensures works { thread.new.failed ≡ false }
-    ensures leaves { LeavesPairsAndUsed thread.old.kept thread.new.kept }
-    ensures reports { ReportsWork thread.old.kept thread.new.kept result }
+    ensures leaves { LeavesPairsAndUsedBlocks thread.old.kept thread.new.kept }
+    ensures reports { ReportsFaultOrNoMemory thread.old.kept thread.new.kept result }
 {
     thread.beside(|device, map| truncate_contents(alloc, device, map, contents, limit, size))
 }
@@ -76,32 +76,32 @@ pub fn truncate_file<D: BlockDevice>(
 pub fn finish_file<D: BlockDevice>(
     alloc: Global,
     thread: &mut Thread<D>,
-    contents: Contents,
-) -> Result<Contents, Error>
+    contents: WriterContents,
+) -> Result<WriterContents, Error>
     requires works { thread.old.failed ≡ false }
-    requires can { CanFinish thread.old.kept contents }
-    ensures finished { IfOk result (λ c. HoldsContents thread.new.kept c (bytes_in thread.old.kept.disk.blocks thread.old.kept.disk.block_size contents) (finished (form_of contents))) }
-    ensures owned { IfOk result (λ c. AreOwned thread.new.kept.map (list_blocks_of thread.old.kept contents) (list_blocks_of thread.new.kept c)) }
+    requires can { CanFinishContentsOnThread thread.old.kept contents }
+    ensures finished { IfOk result (λ c. HasContentsInFormOnThread thread.new.kept c (contents_bytes_in_blocks thread.old.kept.disk.blocks thread.old.kept.disk.block_size contents) (finished (form_of_contents contents))) }
+    ensures owned { IfOk result (λ c. AreUsedBlocksAmong thread.new.kept.map (list_blocks_of_contents thread.old.kept contents) (list_blocks_of_contents thread.new.kept c)) }
     ensures works { thread.new.failed ≡ false }
-    ensures leaves { LeavesPairsAndUsed thread.old.kept thread.new.kept }
-    ensures reports { ReportsWork thread.old.kept thread.new.kept result }
+    ensures leaves { LeavesPairsAndUsedBlocks thread.old.kept thread.new.kept }
+    ensures reports { ReportsFaultOrNoMemory thread.old.kept thread.new.kept result }
 {
     thread.beside(|device, map| finish(alloc, device, map, contents))
 }
 
 // Settles a list in the map of a thread, which works on. After an error the map is of no use.
-fn settle_beside<D: BlockDevice>(
+fn settle_list_in_thread_map<D: BlockDevice>(
     thread: &mut Thread<D>,
     before: Stored,
     stored: Stored,
 ) -> Result<(), Error>
     requires works { thread.old.failed ≡ false }
-    requires can { CanSettle thread.old.kept before stored }
-    ensures settled { OnOk result (IsSettledIn thread.old.kept before stored thread.new.kept) }
+    requires can { CanSettleStoredList thread.old.kept before stored }
+    ensures settled { OnOk result (IsStoredListSettled thread.old.kept before stored thread.new.kept) }
     ensures errors { IfErr result (λ e. e ≡ Error.Io) }
-    ensures only { IsReadBesideMap thread.old.kept thread.new.kept }
+    ensures only { ChangesOnlyBlockMap thread.old.kept thread.new.kept }
     ensures works { thread.new.failed ≡ false }
-    ensures reports { ReportsWork thread.old.kept thread.new.kept result }
+    ensures reports { ReportsFaultOrNoMemory thread.old.kept thread.new.kept result }
 {
     thread.beside(|device, map| settle_list(device, map, before, stored))
 }
@@ -118,14 +118,14 @@ pub fn settle_file<D: BlockDevice>(
     stored: Stored,
 ) -> Result<(), Error>
     requires works { thread.old.failed ≡ false }
-    requires can { CanSettle thread.old.kept before stored }
-    ensures settled { OnOk result (IsSettledIn thread.old.kept before stored thread.new.kept) }
+    requires can { CanSettleStoredList thread.old.kept before stored }
+    ensures settled { OnOk result (IsStoredListSettled thread.old.kept before stored thread.new.kept) }
     ensures errors { IfErr result (λ e. e ≡ Error.Io) }
-    ensures only { IsReadBesideMap thread.old.kept thread.new.kept }
+    ensures only { ChangesOnlyBlockMap thread.old.kept thread.new.kept }
     ensures failed { thread.new.failed ≡ is_err result }
-    ensures reports { ReportsWork thread.old.kept thread.new.kept result }
+    ensures reports { ReportsFaultOrNoMemory thread.old.kept thread.new.kept result }
 {
-    let result = settle_beside(thread, before, stored);
+    let result = settle_list_in_thread_map(thread, before, stored);
     if result.is_err() {
         thread.fail();
     }

@@ -25,11 +25,11 @@ mod taken_blocks;
 mod writes;
 mod zeros;
 
-pub use completion::{abandon, finish};
-pub use contents::{Contents, in_memory, write_contents};
+pub use completion::{finish, release_all_blocks_in_flight};
+pub use contents::{WriterContents, in_memory, write_contents};
 pub use files::{finish_file, settle_file, truncate_file, write_file};
-pub use laws::{forms_fit_writer, held_blocks_are_room, settled_map_is_exact};
-pub use memory::load;
+pub use laws::{forms_fit_writer, reserved_blocks_suffice_for_calls, settled_map_is_exact};
+pub use memory::load_list_into_memory;
 pub use named_lists::settle_list;
 pub use new_sizes::truncate_contents;
 pub use stored_list::Stored;

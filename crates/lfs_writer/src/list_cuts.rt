@@ -2,12 +2,12 @@
 
 ghost use Rattle.std.specs.Prelude.{◌≡◌, ◌≤◌, take, OnOk, IfOk};
 ghost use Rattle.lfs_device.specs.Calls.{ReadsOnly};
-ghost use Rattle.lfs_ctz.specs.Calls.{ReportsIo};
-ghost use Rattle.lfs_writer.specs.Hand.{IsListStored, KeepsUsed, stored_bytes};
-ghost use Rattle.lfs_writer.specs.HandWrites.{IsFinishedList};
-ghost use Rattle.lfs_writer.specs.BlockOwners.{IsFrontOf};
+ghost use Rattle.lfs_ctz.specs.Calls.{ReportsNoErrorButIo};
+ghost use Rattle.lfs_writer.specs.Hand.{IsFinishedListOnDisk, KeepsUsedBlocksInMap, bytes_of_stored_list};
+ghost use Rattle.lfs_writer.specs.HandWrites.{IsFinishedListOfBytes};
+ghost use Rattle.lfs_writer.specs.BlockOwners.{IsFrontOfStoredList};
 
-use crate::list_ends::release_base;
+use crate::list_ends::release_blocks_of_base;
 use crate::stored_list::Stored;
 use lfs_alloc::BlockMap;
 use lfs_ctz::{blocks_for, cut};
@@ -20,24 +20,24 @@ use lfs_device::{BlockDevice, Error};
 /// and writes nothing.
 ///
 /// Errors: `Io` where the device failed.
-pub(crate) fn cut_list<D: BlockDevice>(
+pub(crate) fn shorten_stored_list<D: BlockDevice>(
     dev: &mut D,
     map: &mut BlockMap,
     stored: Stored,
     keep: u32,
 ) -> Result<Stored, Error>
-    requires stored { IsListStored map.old (D.blocks dev.old) (D.geometry dev.old).block_size stored }
+    requires stored { IsFinishedListOnDisk map.old (D.blocks dev.old) (D.geometry dev.old).block_size stored }
     requires some { 1 ≤ keep }
     requires within { keep ≤ stored.size }
-    ensures cut { IfOk result (λ s. IsFinishedList map.new (D.blocks dev.new) (D.geometry dev.old) s keep (take keep (stored_bytes (D.blocks dev.old) (D.geometry dev.old).block_size stored))) }
-    ensures front { IfOk result (IsFrontOf (D.geometry dev.old).block_size (D.blocks dev.old) stored (D.blocks dev.new)) }
-    ensures map { KeepsUsed map.old map.new }
+    ensures cut { IfOk result (λ s. IsFinishedListOfBytes map.new (D.blocks dev.new) (D.geometry dev.old) s keep (take keep (bytes_of_stored_list (D.blocks dev.old) (D.geometry dev.old).block_size stored))) }
+    ensures front { IfOk result (IsFrontOfStoredList (D.geometry dev.old).block_size (D.blocks dev.old) stored (D.blocks dev.new)) }
+    ensures map { KeepsUsedBlocksInMap map.old map.new }
     ensures device { ReadsOnly D.BlockDevice dev.old dev.new }
-    ensures reports { ReportsIo D.BlockDevice dev.old dev.new result }
+    ensures reports { ReportsNoErrorButIo D.BlockDevice dev.old dev.new result }
 {
     let head = cut(dev, stored.head, stored.size, keep)?;
     let count = blocks_for(dev.geometry().block_size, keep);
-    release_base(dev, map, stored, count)?;
+    release_blocks_of_base(dev, map, stored, count)?;
     Ok(Stored {
         head,
         size: keep,

@@ -2,11 +2,11 @@
 
 ghost use Rattle.std.specs.Prelude.{◌≡◌, ◌≤◌, IfOk};
 ghost use Rattle.lfs_device.specs.Calls.{ReadsOnly};
-ghost use Rattle.lfs_model.specs.BlockSets.{BlockSets};
-ghost use Rattle.lfs_ctz.specs.Calls.{ReportsMemory};
-ghost use Rattle.lfs_writer.specs.Bases.{IsBase};
-ghost use Rattle.lfs_writer.specs.Hand.{IsListStored, stored_bytes};
-ghost use Rattle.lfs_writer.specs.HandWrites.{EndsAt};
+ghost use Rattle.lfs_model.specs.BlockSets.{BlockStateList};
+ghost use Rattle.lfs_ctz.specs.Calls.{ReportsIoOrNoMemory};
+ghost use Rattle.lfs_writer.specs.Bases.{IsListUnlessEmpty};
+ghost use Rattle.lfs_writer.specs.Hand.{IsFinishedListOnDisk, bytes_of_stored_list};
+ghost use Rattle.lfs_writer.specs.HandWrites.{IsListInHandBegunUpTo};
 
 use crate::stored_list::Stored;
 use crate::writes::Hand;
@@ -19,19 +19,19 @@ use std::alloc::Global;
 /// The caller's condition is that the list has at least so many bytes.
 ///
 /// Errors: `NoMemory` where memory for a block isn't granted. `Io` where the device failed.
-pub(crate) fn begin_over<D: BlockDevice>(
+pub(crate) fn begin_list_over_finished<D: BlockDevice>(
     alloc: Global,
     dev: &mut D,
     base: Stored,
     keep: u32,
 ) -> Result<Hand, Error>
-    requires base { IsBase (D.blocks dev.old) (D.geometry dev.old).block_size base.head base.size }
+    requires base { IsListUnlessEmpty (D.blocks dev.old) (D.geometry dev.old).block_size base.head base.size }
     requires within { keep ≤ base.size }
-    ensures begun { IfOk result (λ h. (map : BlockSets) → IsListStored map (D.blocks dev.old) (D.geometry dev.old).block_size base
-        → EndsAt map (D.blocks dev.old) (D.geometry dev.old) h keep (stored_bytes (D.blocks dev.old) (D.geometry dev.old).block_size base)) }
+    ensures begun { IfOk result (λ h. (map : BlockStateList) → IsFinishedListOnDisk map (D.blocks dev.old) (D.geometry dev.old).block_size base
+        → IsListInHandBegunUpTo map (D.blocks dev.old) (D.geometry dev.old) h keep (bytes_of_stored_list (D.blocks dev.old) (D.geometry dev.old).block_size base)) }
     ensures base { IfOk result (λ h. h.base ≡ base) }
     ensures device { ReadsOnly D.BlockDevice dev.old dev.new }
-    ensures reports { ReportsMemory D.BlockDevice dev.old dev.new result }
+    ensures reports { ReportsIoOrNoMemory D.BlockDevice dev.old dev.new result }
 {
     if keep == 0 {
         let list = Extender::start(alloc, dev.geometry())?;

@@ -4,22 +4,22 @@ ghost use Rattle.std.specs.Prelude.{◌≡◌, ◌≤◌, ◌<◌, ◌+◌, ◌-
 ghost use Rattle.lfs_device.specs.Calls.{ReadsOnly};
 ghost use Rattle.lfs_model.specs.BlockSets.{Used};
 ghost use Rattle.lfs_model.specs.History.{reads};
-ghost use Rattle.lfs_model.specs.SkipLists.{AreListBlocks, blocks_back};
-ghost use Rattle.lfs_ctz.specs.Calls.{ReportsIo};
-ghost use Rattle.lfs_writer.specs.Bases.{IsBase, list_blocks};
-ghost use Rattle.lfs_writer.specs.SettledMaps.{IsMapSettled, KeepsOthers, Puts, SharesUsed, state_after_settle};
-ghost use Rattle.lfs_writer.specs.SharedBlocks.{IsSharedCount, apart_count};
+ghost use Rattle.lfs_model.specs.SkipLists.{AreListBlocks, list_blocks_from_head};
+ghost use Rattle.lfs_ctz.specs.Calls.{ReportsNoErrorButIo};
+ghost use Rattle.lfs_writer.specs.Bases.{IsListUnlessEmpty, list_blocks_by_head_and_size};
+ghost use Rattle.lfs_writer.specs.SettledMaps.{IsMapSettled, KeepsStatesOfOtherBlocks, PutsBlocksInState, AreSharedBlocksUsed, state_after_settle};
+ghost use Rattle.lfs_writer.specs.SharedBlocks.{IsCountOfSharedFrontBlocks, count_of_unshared_blocks};
 
-use crate::shared_blocks::shared_count;
+use crate::shared_blocks::shared_block_count;
 use crate::stored_list::Stored;
 use lfs_alloc::BlockMap;
 use lfs_ctz::{blocks_for, head_before};
 use lfs_device::{BlockDevice, Error};
 
 // Makes a block used, whatever its state.
-fn use_one(map: &mut BlockMap, block: u32)
+fn make_block_used(map: &mut BlockMap, block: u32)
     requires { block < length map.old }
-    ensures { Puts Used map.old map.new (block ∷ []) }
+    ensures { PutsBlocksInState Used map.old map.new (block ∷ []) }
 {
     if map.is_in_flight(block) {
         map.settle(block);
@@ -29,19 +29,19 @@ fn use_one(map: &mut BlockMap, block: u32)
 }
 
 // Makes a block used, or free.
-fn put_one(map: &mut BlockMap, block: u32, used: bool)
+fn make_block_used_or_free(map: &mut BlockMap, block: u32, used: bool)
     requires { block < length map.old }
-    ensures { Puts (state_after_settle used) map.old map.new (block ∷ []) }
+    ensures { PutsBlocksInState (state_after_settle used) map.old map.new (block ∷ []) }
 {
     if used {
-        use_one(map, block);
+        make_block_used(map, block);
         return;
     }
     map.release(block);
 }
 
 // Makes each block of a list from an index on used, or free, the last one first.
-fn put_blocks<D: BlockDevice>(
+fn make_list_used_or_free<D: BlockDevice>(
     dev: &mut D,
     map: &mut BlockMap,
     head: u32,
@@ -52,16 +52,16 @@ fn put_blocks<D: BlockDevice>(
     requires chain { AreListBlocks (D.blocks dev.old) count head }
     requires map { length map.old ≡ length (D.blocks dev.old) }
     requires within { from ≤ count }
-    ensures put { OnOk result (Puts (state_after_settle used) map.old map.new (drop from (blocks_back (D.blocks dev.old) count head))) }
-    ensures others { KeepsOthers map.old map.new (blocks_back (D.blocks dev.old) count head) }
+    ensures put { OnOk result (PutsBlocksInState (state_after_settle used) map.old map.new (drop from (list_blocks_from_head (D.blocks dev.old) count head))) }
+    ensures others { KeepsStatesOfOtherBlocks map.old map.new (list_blocks_from_head (D.blocks dev.old) count head) }
     ensures device { ReadsOnly D.BlockDevice dev.old dev.new }
-    ensures reports { ReportsIo D.BlockDevice dev.old dev.new result }
+    ensures reports { ReportsNoErrorButIo D.BlockDevice dev.old dev.new result }
     ensures few { OnOk result (reads (D.history dev.new) ≤ reads (D.history dev.old) + (count - from)) }
 {
     let mut block = head;
     let mut index = count;
     'putting: while index > from {
-        put_one(map, block, used);
+        make_block_used_or_free(map, block, used);
         index -= 1;
         block = head_before(dev, block, index - from)?;
     }
@@ -82,27 +82,27 @@ pub fn settle_list<D: BlockDevice>(
     before: Stored,
     stored: Stored,
 ) -> Result<(), Error>
-    requires before { IsBase (D.blocks dev.old) (D.geometry dev.old).block_size before.head before.size }
-    requires stored { IsBase (D.blocks dev.old) (D.geometry dev.old).block_size stored.head stored.size }
+    requires before { IsListUnlessEmpty (D.blocks dev.old) (D.geometry dev.old).block_size before.head before.size }
+    requires stored { IsListUnlessEmpty (D.blocks dev.old) (D.geometry dev.old).block_size stored.head stored.size }
     requires map { length map.old ≡ length (D.blocks dev.old) }
-    requires shared { SharesUsed map.old (list_blocks (D.blocks dev.old) (D.geometry dev.old).block_size before.head before.size)
-        (list_blocks (D.blocks dev.old) (D.geometry dev.old).block_size stored.head stored.size) }
-    ensures settled { OnOk result (IsMapSettled map.old map.new (list_blocks (D.blocks dev.old) (D.geometry dev.old).block_size before.head before.size)
-        (list_blocks (D.blocks dev.old) (D.geometry dev.old).block_size stored.head stored.size)) }
-    ensures others { KeepsOthers map.old map.new (list_blocks (D.blocks dev.old) (D.geometry dev.old).block_size before.head before.size
-        ++ list_blocks (D.blocks dev.old) (D.geometry dev.old).block_size stored.head stored.size) }
+    requires shared { AreSharedBlocksUsed map.old (list_blocks_by_head_and_size (D.blocks dev.old) (D.geometry dev.old).block_size before.head before.size)
+        (list_blocks_by_head_and_size (D.blocks dev.old) (D.geometry dev.old).block_size stored.head stored.size) }
+    ensures settled { OnOk result (IsMapSettled map.old map.new (list_blocks_by_head_and_size (D.blocks dev.old) (D.geometry dev.old).block_size before.head before.size)
+        (list_blocks_by_head_and_size (D.blocks dev.old) (D.geometry dev.old).block_size stored.head stored.size)) }
+    ensures others { KeepsStatesOfOtherBlocks map.old map.new (list_blocks_by_head_and_size (D.blocks dev.old) (D.geometry dev.old).block_size before.head before.size
+        ++ list_blocks_by_head_and_size (D.blocks dev.old) (D.geometry dev.old).block_size stored.head stored.size) }
     ensures device { ReadsOnly D.BlockDevice dev.old dev.new }
-    ensures reports { ReportsIo D.BlockDevice dev.old dev.new result }
-    ensures few { (n : ℕ) → IsSharedCount (list_blocks (D.blocks dev.old) (D.geometry dev.old).block_size before.head before.size)
-        (list_blocks (D.blocks dev.old) (D.geometry dev.old).block_size stored.head stored.size) n
-        → OnOk result (reads (D.history dev.new) ≤ reads (D.history dev.old) + 2 * apart_count (list_blocks (D.blocks dev.old) (D.geometry dev.old).block_size before.head before.size)
-        (list_blocks (D.blocks dev.old) (D.geometry dev.old).block_size stored.head stored.size) n) }
+    ensures reports { ReportsNoErrorButIo D.BlockDevice dev.old dev.new result }
+    ensures few { (n : ℕ) → IsCountOfSharedFrontBlocks (list_blocks_by_head_and_size (D.blocks dev.old) (D.geometry dev.old).block_size before.head before.size)
+        (list_blocks_by_head_and_size (D.blocks dev.old) (D.geometry dev.old).block_size stored.head stored.size) n
+        → OnOk result (reads (D.history dev.new) ≤ reads (D.history dev.old) + 2 * count_of_unshared_blocks (list_blocks_by_head_and_size (D.blocks dev.old) (D.geometry dev.old).block_size before.head before.size)
+        (list_blocks_by_head_and_size (D.blocks dev.old) (D.geometry dev.old).block_size stored.head stored.size) n) }
 {
     let block_size = dev.geometry().block_size;
     let gone = blocks_for(block_size, before.size);
     let kept = blocks_for(block_size, stored.size);
-    let shared = shared_count(dev, before.head, gone, stored.head, kept)?;
-    put_blocks(dev, map, before.head, gone, shared, false)?;
-    put_blocks(dev, map, stored.head, kept, shared, true)?;
+    let shared = shared_block_count(dev, before.head, gone, stored.head, kept)?;
+    make_list_used_or_free(dev, map, before.head, gone, shared, false)?;
+    make_list_used_or_free(dev, map, stored.head, kept, shared, true)?;
     Ok(())
 }

@@ -2,18 +2,18 @@
 
 ghost use Rattle.std.specs.Prelude.{◌≡◌, ◌≢◌, ◌≤◌, ◌<◌, ◌+◌, ◌*◌, ◌^◌, length, max, min, OnOk, IfOk};
 ghost use Rattle.lfs_model.specs.BlockSets.{used_count};
-ghost use Rattle.lfs_model.specs.SkipLists.{blocks_for};
-ghost use Rattle.lfs_model.specs.Writers.{written_into};
-ghost use Rattle.lfs_ctz.specs.Calls.{ReportsMemory};
-ghost use Rattle.lfs_ctz.specs.Growing.{end_of};
-ghost use Rattle.lfs_writer.specs.Calls.{LeavesUsed};
-ghost use Rattle.lfs_writer.specs.Hand.{KeepsUsed};
-ghost use Rattle.lfs_writer.specs.BaseRoom.{base_blocks};
-ghost use Rattle.lfs_writer.specs.HandWrites.{HasWritten, EndsAt, IsHandWithBytes, TurnsOver, bytes_over, length_in};
+ghost use Rattle.lfs_model.specs.SkipLists.{list_block_count_for_size};
+ghost use Rattle.lfs_model.specs.Writers.{contents_after_write};
+ghost use Rattle.lfs_ctz.specs.Calls.{ReportsIoOrNoMemory};
+ghost use Rattle.lfs_ctz.specs.Growing.{size_of_growing_list};
+ghost use Rattle.lfs_writer.specs.Calls.{CallKeepsUsedBlocks};
+ghost use Rattle.lfs_writer.specs.Hand.{KeepsUsedBlocksInMap};
+ghost use Rattle.lfs_writer.specs.BaseRoom.{blocks_in_flight_of_base};
+ghost use Rattle.lfs_writer.specs.HandWrites.{IsListInHandWrittenUpTo, IsListInHandBegunUpTo, IsListInHandWithBytes, HasBaseWithOldUsedBlocksForWrite, bytes_of_contents_in_hand, length_of_contents_in_hand};
 
-use crate::list_ends::end_hand;
-use crate::list_starts::begin_over;
-use crate::writes::{Hand, write_from};
+use crate::list_ends::end_list_in_hand;
+use crate::list_starts::begin_list_over_finished;
+use crate::writes::{Hand, write_from_place};
 use lfs_alloc::BlockMap;
 use lfs_device::{BlockDevice, Error};
 use std::alloc::Global;
@@ -25,28 +25,28 @@ use std::alloc::Global;
 /// remaining bytes of its base take.
 ///
 /// Errors: `NoMemory` where memory isn't granted. `Io` where the device failed.
-pub(crate) fn turn_to<D: BlockDevice>(
+pub(crate) fn restart_list_in_hand_at_place<D: BlockDevice>(
     alloc: Global,
     dev: &mut D,
     map: &mut BlockMap,
     hand: Hand,
     place: u32,
 ) -> Result<Hand, Error>
-    requires going { IsHandWithBytes map.old (D.blocks dev.old) (D.geometry dev.old) hand }
-    requires within { place ≤ length_in hand }
-    requires room { end_of hand.list ≢ place →
-        used_count map.old + base_blocks (D.geometry dev.old).block_size hand.base + blocks_for (D.geometry dev.old).block_size hand.base.size ≤ length map.old }
-    ensures turned { IfOk result (λ h. EndsAt map.new (D.blocks dev.new) (D.geometry dev.old) h place (bytes_over (D.blocks dev.old) hand)) }
-    ensures over { IfOk result (TurnsOver map.new (D.geometry dev.old).block_size (D.blocks dev.old) hand place (D.blocks dev.new)) }
-    ensures map { KeepsUsed map.old map.new }
-    ensures device { LeavesUsed D.BlockDevice map.old dev.old dev.new }
-    ensures reports { ReportsMemory D.BlockDevice dev.old dev.new result }
+    requires going { IsListInHandWithBytes map.old (D.blocks dev.old) (D.geometry dev.old) hand }
+    requires within { place ≤ length_of_contents_in_hand hand }
+    requires room { size_of_growing_list hand.list ≢ place →
+        used_count map.old + blocks_in_flight_of_base (D.geometry dev.old).block_size hand.base + list_block_count_for_size (D.geometry dev.old).block_size hand.base.size ≤ length map.old }
+    ensures turned { IfOk result (λ h. IsListInHandBegunUpTo map.new (D.blocks dev.new) (D.geometry dev.old) h place (bytes_of_contents_in_hand (D.blocks dev.old) hand)) }
+    ensures over { IfOk result (HasBaseWithOldUsedBlocksForWrite map.new (D.geometry dev.old).block_size (D.blocks dev.old) hand place (D.blocks dev.new)) }
+    ensures map { KeepsUsedBlocksInMap map.old map.new }
+    ensures device { CallKeepsUsedBlocks D.BlockDevice map.old dev.old dev.new }
+    ensures reports { ReportsIoOrNoMemory D.BlockDevice dev.old dev.new result }
 {
     if hand.list.size() == place {
         return Ok(hand);
     }
-    let base = end_hand(alloc, dev, map, hand)?;
-    let hand = begin_over(alloc, dev, base, place)?;
+    let base = end_list_in_hand(alloc, dev, map, hand)?;
+    let hand = begin_list_over_finished(alloc, dev, base, place)?;
     Ok(hand)
 }
 
@@ -57,7 +57,7 @@ pub(crate) fn turn_to<D: BlockDevice>(
 /// the write doesn't continue it.
 ///
 /// Errors: `NoMemory` where memory isn't granted. `Io` where the device failed.
-pub(crate) fn write_elsewhere<D: BlockDevice>(
+pub(crate) fn write_nonsequentially<D: BlockDevice>(
     alloc: Global,
     dev: &mut D,
     map: &mut BlockMap,
@@ -65,23 +65,23 @@ pub(crate) fn write_elsewhere<D: BlockDevice>(
     place: u32,
     bytes: &[u8],
 ) -> Result<Hand, Error>
-    requires going { IsHandWithBytes map.old (D.blocks dev.old) (D.geometry dev.old) hand }
+    requires going { IsListInHandWithBytes map.old (D.blocks dev.old) (D.geometry dev.old) hand }
     requires some { 1 ≤ length bytes.now }
     requires small { place + length bytes.now < 2 ^ 31 }
-    requires on { end_of hand.list ≡ min place (length_in hand) →
-        used_count map.old + blocks_for (D.geometry dev.old).block_size (place + length bytes.now) + base_blocks (D.geometry dev.old).block_size hand.base ≤ length map.old }
-    requires anew { end_of hand.list ≢ min place (length_in hand) →
-        used_count map.old + 2 * blocks_for (D.geometry dev.old).block_size (max (length_in hand) (place + length bytes.now)) ≤ length map.old }
-    ensures written { IfOk result (λ h. HasWritten map.new (D.blocks dev.new) (D.geometry dev.old) h (place + length bytes.now)
-        (written_into (bytes_over (D.blocks dev.old) hand) place bytes.now)) }
-    ensures over { IfOk result (TurnsOver map.new (D.geometry dev.old).block_size (D.blocks dev.old) hand (min place (length_in hand)) (D.blocks dev.new)) }
-    ensures map { KeepsUsed map.old map.new }
-    ensures device { LeavesUsed D.BlockDevice map.old dev.old dev.new }
-    ensures reports { ReportsMemory D.BlockDevice dev.old dev.new result }
+    requires on { size_of_growing_list hand.list ≡ min place (length_of_contents_in_hand hand) →
+        used_count map.old + list_block_count_for_size (D.geometry dev.old).block_size (place + length bytes.now) + blocks_in_flight_of_base (D.geometry dev.old).block_size hand.base ≤ length map.old }
+    requires anew { size_of_growing_list hand.list ≢ min place (length_of_contents_in_hand hand) →
+        used_count map.old + 2 * list_block_count_for_size (D.geometry dev.old).block_size (max (length_of_contents_in_hand hand) (place + length bytes.now)) ≤ length map.old }
+    ensures written { IfOk result (λ h. IsListInHandWrittenUpTo map.new (D.blocks dev.new) (D.geometry dev.old) h (place + length bytes.now)
+        (contents_after_write (bytes_of_contents_in_hand (D.blocks dev.old) hand) place bytes.now)) }
+    ensures over { IfOk result (HasBaseWithOldUsedBlocksForWrite map.new (D.geometry dev.old).block_size (D.blocks dev.old) hand (min place (length_of_contents_in_hand hand)) (D.blocks dev.new)) }
+    ensures map { KeepsUsedBlocksInMap map.old map.new }
+    ensures device { CallKeepsUsedBlocks D.BlockDevice map.old dev.old dev.new }
+    ensures reports { ReportsIoOrNoMemory D.BlockDevice dev.old dev.new result }
 {
     let length = hand.list.size().max(hand.base.size);
-    let turned = turn_to(alloc, dev, map, hand, place.min(length))?;
+    let turned = restart_list_in_hand_at_place(alloc, dev, map, hand, place.min(length))?;
     let mut hand = turned;
-    write_from(alloc, dev, map, &mut hand, place, bytes)?;
+    write_from_place(alloc, dev, map, &mut hand, place, bytes)?;
     Ok(hand)
 }

@@ -2,19 +2,19 @@
 
 ghost use Rattle.std.specs.Prelude.{◌≡◌, ◌≤◌, ◌<◌, ◌∷◌, [], length, drop, OnOk};
 ghost use Rattle.lfs_device.specs.Calls.{ReadsOnly};
-ghost use Rattle.lfs_model.specs.SkipLists.{AreListBlocks, blocks_back};
-ghost use Rattle.lfs_ctz.specs.Calls.{ReportsIo};
-ghost use Rattle.lfs_writer.specs.Hand.{KeepsUsed};
-ghost use Rattle.lfs_writer.specs.Releases.{Releases};
+ghost use Rattle.lfs_model.specs.SkipLists.{AreListBlocks, list_blocks_from_head};
+ghost use Rattle.lfs_ctz.specs.Calls.{ReportsNoErrorButIo};
+ghost use Rattle.lfs_writer.specs.Hand.{KeepsUsedBlocksInMap};
+ghost use Rattle.lfs_writer.specs.Releases.{ReleasesBlocksInFlight};
 
 use lfs_alloc::BlockMap;
 use lfs_ctz::head_before;
 use lfs_device::{BlockDevice, Error};
 
 // Releases a block in flight. A used block stays used.
-pub(crate) fn release_one(map: &mut BlockMap, block: u32)
+pub(crate) fn release_block_in_flight(map: &mut BlockMap, block: u32)
     requires { block < length map.old }
-    ensures { Releases map.old map.new (block ∷ []) }
+    ensures { ReleasesBlocksInFlight map.old map.new (block ∷ []) }
 {
     if !map.is_used(block) {
         map.release(block);
@@ -26,7 +26,7 @@ pub(crate) fn release_one(map: &mut BlockMap, block: u32)
 /// The list has so many blocks, up to the head.
 ///
 /// Errors: `Io` where the device failed.
-pub(crate) fn release_from<D: BlockDevice>(
+pub(crate) fn release_list_blocks_from<D: BlockDevice>(
     dev: &mut D,
     map: &mut BlockMap,
     head: u32,
@@ -36,15 +36,15 @@ pub(crate) fn release_from<D: BlockDevice>(
     requires chain { AreListBlocks (D.blocks dev.old) count head }
     requires map { length map.old ≡ length (D.blocks dev.old) }
     requires within { from ≤ count }
-    ensures released { OnOk result (Releases map.old map.new (drop from (blocks_back (D.blocks dev.old) count head))) }
-    ensures map { KeepsUsed map.old map.new }
+    ensures released { OnOk result (ReleasesBlocksInFlight map.old map.new (drop from (list_blocks_from_head (D.blocks dev.old) count head))) }
+    ensures map { KeepsUsedBlocksInMap map.old map.new }
     ensures device { ReadsOnly D.BlockDevice dev.old dev.new }
-    ensures reports { ReportsIo D.BlockDevice dev.old dev.new result }
+    ensures reports { ReportsNoErrorButIo D.BlockDevice dev.old dev.new result }
 {
     let mut block = head;
     let mut index = count;
     'releasing: while index > from {
-        release_one(map, block);
+        release_block_in_flight(map, block);
         index -= 1;
         block = head_before(dev, block, index)?;
     }

@@ -2,7 +2,7 @@
 
 ghost use Rattle.std.specs.Prelude.{◌≡◌, ◌≤◌, ◌+◌, ℕ, length, slice_get, IfOk, IfErr};
 ghost use Rattle.lfs_model.specs.BlockSets.{in_flight_count, used_count};
-ghost use Rattle.lfs_writer.specs.TakenBlocks.{Keeps, Takes};
+ghost use Rattle.lfs_writer.specs.TakenBlocks.{ChangesOnlyFreeBlocksInMap, TakesFreeBlocks};
 
 use lfs_alloc::BlockMap;
 use lfs_device::Error;
@@ -11,14 +11,14 @@ use std::alloc::Global;
 // Takes so many blocks, which are free.
 pub(crate) fn take_blocks(alloc: Global, map: &mut BlockMap, count: u32) -> Result<Vec<u32>, Error>
     requires { used_count map.old + in_flight_count map.old + count ≤ length map.old }
-    ensures taken { IfOk result (λ v. Takes map.old map.new v.items) }
+    ensures taken { IfOk result (λ v. TakesFreeBlocks map.old map.new v.items) }
     ensures count { IfOk result (λ v. length v.items ≡ count) }
     ensures flying { IfOk result (λ v. in_flight_count map.new ≡ in_flight_count map.old + length v.items) }
-    ensures kept { Keeps map.old map.new }
+    ensures kept { ChangesOnlyFreeBlocksInMap map.old map.new }
     ensures error { IfErr result (λ e. e ≡ Error.NoMemory) }
 {
     let mut blocks = Vec::with_capacity(alloc, count as usize)?;
-    'taking: while blocks.len() < count as usize {
+    'changes_to_drop_next: while blocks.len() < count as usize {
         let block = map.take().unwrap();
         blocks.push(block)?;
     }

@@ -2,17 +2,17 @@
 
 ghost use Rattle.std.specs.Prelude.{◌≡◌, ◌≤◌, ◌<◌, ◌+◌, ◌^◌, length, min, OnOk};
 ghost use Rattle.lfs_model.specs.BlockSets.{used_count};
-ghost use Rattle.lfs_model.specs.SkipLists.{blocks_for};
-ghost use Rattle.lfs_model.specs.Writers.{written_into};
-ghost use Rattle.lfs_ctz.specs.Calls.{ReportsMemory};
-ghost use Rattle.lfs_ctz.specs.Growing.{end_of};
-ghost use Rattle.lfs_writer.specs.Calls.{LeavesUsed};
-ghost use Rattle.lfs_writer.specs.Hand.{KeepsUsed};
-ghost use Rattle.lfs_writer.specs.BaseRoom.{base_blocks};
-ghost use Rattle.lfs_writer.specs.HandWrites.{IsHandBegun, HasWritten, bytes_over, length_in};
-ghost use Rattle.lfs_writer.specs.BlockOwners.{KeepsList};
+ghost use Rattle.lfs_model.specs.SkipLists.{list_block_count_for_size};
+ghost use Rattle.lfs_model.specs.Writers.{contents_after_write};
+ghost use Rattle.lfs_ctz.specs.Calls.{ReportsIoOrNoMemory};
+ghost use Rattle.lfs_ctz.specs.Growing.{size_of_growing_list};
+ghost use Rattle.lfs_writer.specs.Calls.{CallKeepsUsedBlocks};
+ghost use Rattle.lfs_writer.specs.Hand.{KeepsUsedBlocksInMap};
+ghost use Rattle.lfs_writer.specs.BaseRoom.{blocks_in_flight_of_base};
+ghost use Rattle.lfs_writer.specs.HandWrites.{IsListInHandBegun, IsListInHandWrittenUpTo, bytes_of_contents_in_hand, length_of_contents_in_hand};
+ghost use Rattle.lfs_writer.specs.BlockOwners.{KeepsBlocksOfStoredList};
 
-use crate::extensions::extend;
+use crate::extensions::extend_list_in_free_blocks;
 use crate::stored_list::Stored;
 use crate::zeros::write_zeros;
 use lfs_alloc::BlockMap;
@@ -36,26 +36,26 @@ pub struct Hand {
 ///
 /// Errors: `Io` where the device failed. `NoMemory` where memory isn't granted. After either the
 /// list in hand can only be dropped.
-pub(crate) fn write_on<D: BlockDevice>(
+pub(crate) fn write_on_at_list_end<D: BlockDevice>(
     alloc: Global,
     dev: &mut D,
     map: &mut BlockMap,
     hand: &mut Hand,
     bytes: &[u8],
 ) -> Result<(), Error>
-    requires begun { IsHandBegun map.old (D.blocks dev.old) (D.geometry dev.old) hand.old }
+    requires begun { IsListInHandBegun map.old (D.blocks dev.old) (D.geometry dev.old) hand.old }
     requires some { 1 ≤ length bytes.now }
-    requires small { end_of hand.old.list + length bytes.now < 2 ^ 31 }
-    requires room { used_count map.old + blocks_for (D.geometry dev.old).block_size (end_of hand.old.list + length bytes.now)
-        + base_blocks (D.geometry dev.old).block_size hand.old.base ≤ length map.old }
-    ensures written { OnOk result (HasWritten map.new (D.blocks dev.new) (D.geometry dev.old) hand.new (end_of hand.old.list + length bytes.now)
-        (written_into (bytes_over (D.blocks dev.old) hand.old) (end_of hand.old.list) bytes.now)) }
-    ensures base { KeepsList (D.geometry dev.old).block_size (D.blocks dev.old) hand.old.base (D.blocks dev.new) hand.new.base }
-    ensures map { KeepsUsed map.old map.new }
-    ensures device { LeavesUsed D.BlockDevice map.old dev.old dev.new }
-    ensures reports { ReportsMemory D.BlockDevice dev.old dev.new result }
+    requires small { size_of_growing_list hand.old.list + length bytes.now < 2 ^ 31 }
+    requires room { used_count map.old + list_block_count_for_size (D.geometry dev.old).block_size (size_of_growing_list hand.old.list + length bytes.now)
+        + blocks_in_flight_of_base (D.geometry dev.old).block_size hand.old.base ≤ length map.old }
+    ensures written { OnOk result (IsListInHandWrittenUpTo map.new (D.blocks dev.new) (D.geometry dev.old) hand.new (size_of_growing_list hand.old.list + length bytes.now)
+        (contents_after_write (bytes_of_contents_in_hand (D.blocks dev.old) hand.old) (size_of_growing_list hand.old.list) bytes.now)) }
+    ensures base { KeepsBlocksOfStoredList (D.geometry dev.old).block_size (D.blocks dev.old) hand.old.base (D.blocks dev.new) hand.new.base }
+    ensures map { KeepsUsedBlocksInMap map.old map.new }
+    ensures device { CallKeepsUsedBlocks D.BlockDevice map.old dev.old dev.new }
+    ensures reports { ReportsIoOrNoMemory D.BlockDevice dev.old dev.new result }
 {
-    extend(alloc, dev, map, &mut hand.list, bytes)?;
+    extend_list_in_free_blocks(alloc, dev, map, &mut hand.list, bytes)?;
     Ok(())
 }
 
@@ -66,7 +66,7 @@ pub(crate) fn write_on<D: BlockDevice>(
 ///
 /// Errors: `Io` where the device failed. `NoMemory` where memory isn't granted. After either the
 /// list in hand can only be dropped.
-pub(crate) fn write_from<D: BlockDevice>(
+pub(crate) fn write_from_place<D: BlockDevice>(
     alloc: Global,
     dev: &mut D,
     map: &mut BlockMap,
@@ -74,20 +74,20 @@ pub(crate) fn write_from<D: BlockDevice>(
     place: u32,
     bytes: &[u8],
 ) -> Result<(), Error>
-    requires begun { IsHandBegun map.old (D.blocks dev.old) (D.geometry dev.old) hand.old }
-    requires at { end_of hand.old.list ≡ min place (length_in hand.old) }
+    requires begun { IsListInHandBegun map.old (D.blocks dev.old) (D.geometry dev.old) hand.old }
+    requires at { size_of_growing_list hand.old.list ≡ min place (length_of_contents_in_hand hand.old) }
     requires some { 1 ≤ length bytes.now }
     requires small { place + length bytes.now < 2 ^ 31 }
-    requires room { used_count map.old + blocks_for (D.geometry dev.old).block_size (place + length bytes.now) + base_blocks (D.geometry dev.old).block_size hand.old.base ≤ length map.old }
-    ensures written { OnOk result (HasWritten map.new (D.blocks dev.new) (D.geometry dev.old) hand.new (place + length bytes.now)
-        (written_into (bytes_over (D.blocks dev.old) hand.old) place bytes.now)) }
-    ensures base { KeepsList (D.geometry dev.old).block_size (D.blocks dev.old) hand.old.base (D.blocks dev.new) hand.new.base }
-    ensures map { KeepsUsed map.old map.new }
-    ensures device { LeavesUsed D.BlockDevice map.old dev.old dev.new }
-    ensures reports { ReportsMemory D.BlockDevice dev.old dev.new result }
+    requires room { used_count map.old + list_block_count_for_size (D.geometry dev.old).block_size (place + length bytes.now) + blocks_in_flight_of_base (D.geometry dev.old).block_size hand.old.base ≤ length map.old }
+    ensures written { OnOk result (IsListInHandWrittenUpTo map.new (D.blocks dev.new) (D.geometry dev.old) hand.new (place + length bytes.now)
+        (contents_after_write (bytes_of_contents_in_hand (D.blocks dev.old) hand.old) place bytes.now)) }
+    ensures base { KeepsBlocksOfStoredList (D.geometry dev.old).block_size (D.blocks dev.old) hand.old.base (D.blocks dev.new) hand.new.base }
+    ensures map { KeepsUsedBlocksInMap map.old map.new }
+    ensures device { CallKeepsUsedBlocks D.BlockDevice map.old dev.old dev.new }
+    ensures reports { ReportsIoOrNoMemory D.BlockDevice dev.old dev.new result }
 {
     let gap = place - hand.list.size();
     write_zeros(alloc, dev, map, hand, gap)?;
-    write_on(alloc, dev, map, hand, bytes)?;
+    write_on_at_list_end(alloc, dev, map, hand, bytes)?;
     Ok(())
 }

@@ -2,17 +2,17 @@
 
 ghost use Rattle.std.specs.Prelude.{◌≡◌, ◌≤◌, ◌<◌, ◌+◌, ◌^◌, length, replicate, OnOk};
 ghost use Rattle.lfs_model.specs.BlockSets.{used_count};
-ghost use Rattle.lfs_model.specs.SkipLists.{blocks_for};
-ghost use Rattle.lfs_model.specs.Writers.{written_into};
-ghost use Rattle.lfs_ctz.specs.Calls.{ReportsMemory};
-ghost use Rattle.lfs_ctz.specs.Growing.{end_of};
-ghost use Rattle.lfs_writer.specs.Calls.{LeavesUsed};
-ghost use Rattle.lfs_writer.specs.Hand.{KeepsUsed};
-ghost use Rattle.lfs_writer.specs.BaseRoom.{base_blocks};
-ghost use Rattle.lfs_writer.specs.HandWrites.{IsHandBegun, HasZerosWritten, bytes_over};
-ghost use Rattle.lfs_writer.specs.BlockOwners.{KeepsList};
+ghost use Rattle.lfs_model.specs.SkipLists.{list_block_count_for_size};
+ghost use Rattle.lfs_model.specs.Writers.{contents_after_write};
+ghost use Rattle.lfs_ctz.specs.Calls.{ReportsIoOrNoMemory};
+ghost use Rattle.lfs_ctz.specs.Growing.{size_of_growing_list};
+ghost use Rattle.lfs_writer.specs.Calls.{CallKeepsUsedBlocks};
+ghost use Rattle.lfs_writer.specs.Hand.{KeepsUsedBlocksInMap};
+ghost use Rattle.lfs_writer.specs.BaseRoom.{blocks_in_flight_of_base};
+ghost use Rattle.lfs_writer.specs.HandWrites.{IsListInHandBegun, HasZerosWrittenAtListEnd, bytes_of_contents_in_hand};
+ghost use Rattle.lfs_writer.specs.BlockOwners.{KeepsBlocksOfStoredList};
 
-use crate::writes::{Hand, write_on};
+use crate::writes::{Hand, write_on_at_list_end};
 use lfs_alloc::BlockMap;
 use lfs_device::{BlockDevice, Error};
 use std::alloc::Global;
@@ -30,22 +30,22 @@ pub(crate) fn write_zeros<D: BlockDevice>(
     hand: &mut Hand,
     count: u32,
 ) -> Result<(), Error>
-    requires begun { IsHandBegun map.old (D.blocks dev.old) (D.geometry dev.old) hand.old }
-    requires small { end_of hand.old.list + count < 2 ^ 31 }
-    requires room { used_count map.old + blocks_for (D.geometry dev.old).block_size (end_of hand.old.list + count)
-        + base_blocks (D.geometry dev.old).block_size hand.old.base ≤ length map.old }
-    ensures zeroed { OnOk result (HasZerosWritten map.new (D.blocks dev.new) (D.geometry dev.old) hand.new count (end_of hand.old.list + count)
-        (written_into (bytes_over (D.blocks dev.old) hand.old) (end_of hand.old.list) (replicate count 0))) }
-    ensures base { KeepsList (D.geometry dev.old).block_size (D.blocks dev.old) hand.old.base (D.blocks dev.new) hand.new.base }
-    ensures map { KeepsUsed map.old map.new }
-    ensures device { LeavesUsed D.BlockDevice map.old dev.old dev.new }
-    ensures reports { ReportsMemory D.BlockDevice dev.old dev.new result }
+    requires begun { IsListInHandBegun map.old (D.blocks dev.old) (D.geometry dev.old) hand.old }
+    requires small { size_of_growing_list hand.old.list + count < 2 ^ 31 }
+    requires room { used_count map.old + list_block_count_for_size (D.geometry dev.old).block_size (size_of_growing_list hand.old.list + count)
+        + blocks_in_flight_of_base (D.geometry dev.old).block_size hand.old.base ≤ length map.old }
+    ensures zeroed { OnOk result (HasZerosWrittenAtListEnd map.new (D.blocks dev.new) (D.geometry dev.old) hand.new count (size_of_growing_list hand.old.list + count)
+        (contents_after_write (bytes_of_contents_in_hand (D.blocks dev.old) hand.old) (size_of_growing_list hand.old.list) (replicate count 0))) }
+    ensures base { KeepsBlocksOfStoredList (D.geometry dev.old).block_size (D.blocks dev.old) hand.old.base (D.blocks dev.new) hand.new.base }
+    ensures map { KeepsUsedBlocksInMap map.old map.new }
+    ensures device { CallKeepsUsedBlocks D.BlockDevice map.old dev.old dev.new }
+    ensures reports { ReportsIoOrNoMemory D.BlockDevice dev.old dev.new result }
 {
     let mut done = 0;
     'zeroing: while done < count {
         let zeros = [0; 512];
         let part = (count - done).min(512);
-        write_on(alloc, dev, map, hand, &zeros[..part as usize])?;
+        write_on_at_list_end(alloc, dev, map, hand, &zeros[..part as usize])?;
         done += part;
     }
     Ok(())

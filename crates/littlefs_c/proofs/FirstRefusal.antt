@@ -6,10 +6,10 @@ use Rattle.std.proofs.lemmas.List.Elements.{All-from_recursion, All-map, recursi
 use Rattle.lfs_device.specs.declared.error.Error.{Error}
 use Rattle.lfs_model.specs.Run.{is_refusal}
 use Rattle.lfs_model.proofs.Counts.{each_append}
-use Rattle.lfs_fs.specs.OpView.{NamesRefusal, reply_view}
+use Rattle.lfs_fs.specs.OpView.{RefusesOnlyWithRefusalError, reply_view}
 use Rattle.lfs_fs.specs.declared.run.Reply.{Reply}
 use Rattle.lfs_fs.specs.declared.run.Reply.TheVariants as reply
-use Rattle.littlefs_c.specs.FirstRefusals.{IsFirstRefused}
+use Rattle.littlefs_c.specs.FirstRefusals.{IsFirstRefusedReply}
 
 -- a reply that doesn't refuse
 abbrev pub IsPassed : Reply → Type 0
@@ -34,13 +34,13 @@ one_more replies i r lt h is passed =
 pub all_passed : (replies : List Reply) (i : ℕ) → length replies ≤ i → All IsPassed (take i replies) → All IsPassed replies
 all_passed replies i le h = subst (All IsPassed) (take_all i replies le) h
 
-pub first_at : (replies : List Reply) (i : ℕ) (r : Reply) (e : Error) → i < length replies → All NamesRefusal replies → All IsPassed (take i replies) → r ≡ get_or replies i r → r ≡ reply.Refused e → IsFirstRefused (map reply_view replies) e
+pub first_at : (replies : List Reply) (i : ℕ) (r : Reply) (e : Error) → i < length replies → All RefusesOnlyWithRefusalError replies → All IsPassed (take i replies) → r ≡ get_or replies i r → r ≡ reply.Refused e → IsFirstRefusedReply (map reply_view replies) e
 first_at replies i r e lt named h is refuses = record {
   before = map reply_view (take i replies);
   after = map reply_view (drop (i + 1) replies);
   are = ap (map reply_view) parts ∙ map-append reply_view (take i replies) (reply.Refused e ∷ drop (i + 1) replies);
   accepted = All-map (λ r. is_refusal r ≡ false) reply_view (take i replies) h;
-  refusal = subst NamesRefusal (sym is ∙ refuses) (named i r lt);
+  refusal = subst RefusesOnlyWithRefusalError (sym is ∙ refuses) (named i r lt);
 }
   where
     parts : replies ≡ take i replies ++ reply.Refused e ∷ drop (i + 1) replies

@@ -9,28 +9,28 @@ use Rattle.lfs_lookup.specs.declared.kinds.Stat.{Stat}
 use Rattle.lfs_model.specs.declared.order.NameOrder.{NameOrder}
 use Rattle.lfs_model.specs.declared.order.NameOrder.TheVariants.{LongerFirst, ShorterFirst}
 
-abbrev pub code_of : {X : Type 0} → (X → ℕ) → Result X Error → ℤ
-code_of number (Ok x) = pos (number x)
-code_of number (Err e) = pos 0 -ℤ pos (number_of e)
+abbrev pub code_of_result : {X : Type 0} → (X → ℕ) → Result X Error → ℤ
+code_of_result number (Ok x) = pos (number x)
+code_of_result number (Err e) = pos 0 -ℤ pos (number_of e)
 
 -- the order of names that a number stands for
-abbrev pub order_of : ℕ → Result NameOrder Error
-order_of n = if n == 0 then Ok LongerFirst else (if n == 1 then Ok ShorterFirst else Err Invalid)
+abbrev pub name_order_of_number : ℕ → Result NameOrder Error
+name_order_of_number n = if n == 0 then Ok LongerFirst else (if n == 1 then Ok ShorterFirst else Err Invalid)
 
 -- a file's size, or 2 to the 32nd for a directory
 abbrev pub size_by_kind : Kind → ℕ → ℕ
 size_by_kind kind.File size = size
 size_by_kind kind.Dir size = 4294967296
 
-abbrev pub size_number : Stat → ℕ
-size_number stat = size_by_kind stat.kind stat.size
+abbrev pub size_number_of_stat : Stat → ℕ
+size_number_of_stat stat = size_by_kind stat.kind stat.size
 
 -- the number is the code of a result of which P holds
-abbrev pub SaysDone : ℤ → (Result Unit Error → Type 0) → Type 0
-SaysDone code P = (r : Result Unit Error) × ((code ≡ code_of (λ _. 0) r) × P r)
+abbrev pub IsCodeOfDoneResult : ℤ → (Result Unit Error → Type 0) → Type 0
+IsCodeOfDoneResult code P = (r : Result Unit Error) × ((code ≡ code_of_result (λ _. 0) r) × P r)
 
-abbrev pub SaysCount : ℤ → (Result ℕ Error → Type 0) → Type 0
-SaysCount code P = (r : Result ℕ Error) × ((code ≡ code_of (λ n. n) r) × P r)
+abbrev pub IsCodeOfCountResult : ℤ → (Result ℕ Error → Type 0) → Type 0
+IsCodeOfCountResult code P = (r : Result ℕ Error) × ((code ≡ code_of_result (λ n. n) r) × P r)
 
-abbrev pub SaysSize : ℤ → (Result Stat Error → Type 0) → Type 0
-SaysSize code P = (r : Result Stat Error) × ((code ≡ code_of size_number r) × P r)
+abbrev pub IsCodeOfSizeResult : ℤ → (Result Stat Error → Type 0) → Type 0
+IsCodeOfSizeResult code P = (r : Result Stat Error) × ((code ≡ code_of_result size_number_of_stat r) × P r)

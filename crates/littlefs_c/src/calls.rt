@@ -3,15 +3,15 @@
 ghost use Rattle.std.specs.Prelude.{◌≡◌, ◌∷◌, ◌<◌, ◌^◌, ◌-◌, [], min, length, IfOk};
 ghost use Rattle.lfs_model.specs.Operations as ops;
 ghost use Rattle.lfs_fs.specs.FlagsView.{flags_view};
-ghost use Rattle.littlefs_c.specs.Buffers.{FillsBuffer, put_in};
-ghost use Rattle.littlefs_c.specs.Codes.{order_of};
-ghost use Rattle.littlefs_c.specs.Calls.{ChangesImage, ChecksImage};
-ghost use Rattle.littlefs_c.specs.Files.{reading, replacing_flags, writing};
-ghost use Rattle.littlefs_c.specs.Starts.{FormatsIn};
+ghost use Rattle.littlefs_c.specs.Buffers.{FillsBufferOrRefuses, buffer_with_bytes};
+ghost use Rattle.littlefs_c.specs.Codes.{name_order_of_number};
+ghost use Rattle.littlefs_c.specs.Calls.{ChangesImageOrRefuses, ChecksImage};
+ghost use Rattle.littlefs_c.specs.Files.{operations_to_read_file, replacing_flags, operations_to_write_file};
+ghost use Rattle.littlefs_c.specs.Starts.{FormatsImageOrRefuses};
 
 use crate::image::{begin, device};
 use crate::lines::lines_of;
-use crate::operation_runs::change;
+use crate::operation_runs::change_image;
 use crate::reads::{attribute_at, bytes_at, items_at};
 use bitflags::Flags;
 use lfs_device::{Error, NameOrder};
@@ -21,7 +21,7 @@ use std::alloc::Global;
 // Returns the order of names that a number stands for: 0 for the longer names first, 1 for the
 // shorter ones. `Invalid` for another number.
 fn order_of_number(number: u32) -> Result<NameOrder, Error>
-    ensures { order_of number ≡ result }
+    ensures { name_order_of_number number ≡ result }
 {
     match number {
         0 => Ok(NameOrder::LongerFirst),
@@ -38,7 +38,7 @@ pub(crate) fn format(
     page: u32,
     order: u32,
 ) -> Result<(), Error>
-    ensures { FormatsIn block_size page order image.old result image.new }
+    ensures { FormatsImageOrRefuses block_size page order image.old result image.new }
 {
     let order = order_of_number(order)?;
     let device = device(alloc, image, block_size, page)?;
@@ -61,10 +61,10 @@ pub(crate) fn check(alloc: Global, image: &[u8], block_size: u32, page: u32) -> 
 }
 
 // Puts bytes at the beginning of a buffer, if all of them fit. Returns how many they are.
-fn hand_over(bytes: &[u8], buffer: &mut [u8]) -> usize
+fn copy_to_buffer(bytes: &[u8], buffer: &mut [u8]) -> usize
     ensures room { result ≡ length bytes.now }
     ensures small { result < 2 ^ 63 }
-    ensures buffer { buffer.new ≡ put_in bytes.now buffer.old }
+    ensures buffer { buffer.new ≡ buffer_with_bytes bytes.now buffer.old }
 {
     if bytes.len() <= buffer.len() {
         buffer[..bytes.len()].copy_from_slice(bytes);
@@ -81,12 +81,12 @@ pub(crate) fn list(
     path: &[u8],
     buffer: &mut [u8],
 ) -> Result<usize, Error>
-    ensures reported { FillsBuffer block_size page image.now (ops.ListAll path.now ∷ []) result buffer.old buffer.new }
+    ensures reported { FillsBufferOrRefuses block_size page image.now (ops.ListAll path.now ∷ []) result buffer.old buffer.new }
     ensures small { IfOk result (λ n. n < 2 ^ 63) }
 {
     let items = items_at(alloc, image, block_size, page, path)?;
     let text = lines_of(alloc, &items)?;
-    Ok(hand_over(&text, buffer))
+    Ok(copy_to_buffer(&text, buffer))
 }
 
 // Puts the bytes of a file from a position on into a buffer, as many as there is room for.
@@ -99,12 +99,12 @@ pub(crate) fn read(
     position: u32,
     buffer: &mut [u8],
 ) -> Result<usize, Error>
-    ensures reported { FillsBuffer block_size page image.now (reading path.now position (min (length buffer.old) (2 ^ 32 - 1))) result buffer.old buffer.new }
+    ensures reported { FillsBufferOrRefuses block_size page image.now (operations_to_read_file path.now position (min (length buffer.old) (2 ^ 32 - 1))) result buffer.old buffer.new }
     ensures small { IfOk result (λ n. n < 2 ^ 63) }
 {
     let count = buffer.len().min(4_294_967_295) as u32;
     let bytes = bytes_at(alloc, image, block_size, page, path, position, count)?;
-    Ok(hand_over(&bytes, buffer))
+    Ok(copy_to_buffer(&bytes, buffer))
 }
 
 // Puts the bytes of an entry's attribute into a buffer.
@@ -117,11 +117,11 @@ pub(crate) fn get_attr(
     kind: u8,
     buffer: &mut [u8],
 ) -> Result<usize, Error>
-    ensures reported { FillsBuffer block_size page image.now (ops.GetAttr path.now kind ∷ []) result buffer.old buffer.new }
+    ensures reported { FillsBufferOrRefuses block_size page image.now (ops.GetAttr path.now kind ∷ []) result buffer.old buffer.new }
     ensures small { IfOk result (λ n. n < 2 ^ 63) }
 {
     let bytes = attribute_at(alloc, image, block_size, page, path, kind)?;
-    Ok(hand_over(&bytes, buffer))
+    Ok(copy_to_buffer(&bytes, buffer))
 }
 
 // Returns the flags of an open that makes a file, or makes it empty.
@@ -143,14 +143,14 @@ pub(crate) fn write<'a>(
     path: &'a [u8],
     bytes: &'a [u8],
 ) -> Result<(), Error>
-    ensures { ChangesImage block_size page image.old (writing path.now bytes.now) result image.new }
+    ensures { ChangesImageOrRefuses block_size page image.old (operations_to_write_file path.now bytes.now) result image.new }
 {
     let ops = [
         Op::Open(path, replacing()),
         Op::Write(0, bytes),
         Op::Close(0),
     ];
-    change(alloc, image, block_size, page, &ops)
+    change_image(alloc, image, block_size, page, &ops)
 }
 
 // Makes an empty directory.
@@ -161,9 +161,9 @@ pub(crate) fn mkdir(
     page: u32,
     path: &[u8],
 ) -> Result<(), Error>
-    ensures { ChangesImage block_size page image.old (ops.Mkdir path.now ∷ []) result image.new }
+    ensures { ChangesImageOrRefuses block_size page image.old (ops.Mkdir path.now ∷ []) result image.new }
 {
-    change(alloc, image, block_size, page, &[Op::Mkdir(path)])
+    change_image(alloc, image, block_size, page, &[Op::Mkdir(path)])
 }
 
 // Removes a file, or a directory without entries.
@@ -174,9 +174,9 @@ pub(crate) fn remove(
     page: u32,
     path: &[u8],
 ) -> Result<(), Error>
-    ensures { ChangesImage block_size page image.old (ops.Remove path.now ∷ []) result image.new }
+    ensures { ChangesImageOrRefuses block_size page image.old (ops.Remove path.now ∷ []) result image.new }
 {
-    change(alloc, image, block_size, page, &[Op::Remove(path)])
+    change_image(alloc, image, block_size, page, &[Op::Remove(path)])
 }
 
 // Renames an entry.
@@ -188,9 +188,9 @@ pub(crate) fn rename<'a>(
     from: &'a [u8],
     to: &'a [u8],
 ) -> Result<(), Error>
-    ensures { ChangesImage block_size page image.old (ops.Rename from.now to.now ∷ []) result image.new }
+    ensures { ChangesImageOrRefuses block_size page image.old (ops.Rename from.now to.now ∷ []) result image.new }
 {
-    change(alloc, image, block_size, page, &[Op::Rename(from, to)])
+    change_image(alloc, image, block_size, page, &[Op::Rename(from, to)])
 }
 
 // Sets an attribute of an entry.
@@ -203,9 +203,9 @@ pub(crate) fn set_attr<'a>(
     kind: u8,
     bytes: &'a [u8],
 ) -> Result<(), Error>
-    ensures { ChangesImage block_size page image.old (ops.SetAttr path.now kind bytes.now ∷ []) result image.new }
+    ensures { ChangesImageOrRefuses block_size page image.old (ops.SetAttr path.now kind bytes.now ∷ []) result image.new }
 {
-    change(
+    change_image(
         alloc,
         image,
         block_size,
@@ -223,9 +223,9 @@ pub(crate) fn remove_attr(
     path: &[u8],
     kind: u8,
 ) -> Result<(), Error>
-    ensures { ChangesImage block_size page image.old (ops.RemoveAttr path.now kind ∷ []) result image.new }
+    ensures { ChangesImageOrRefuses block_size page image.old (ops.RemoveAttr path.now kind ∷ []) result image.new }
 {
-    change(
+    change_image(
         alloc,
         image,
         block_size,

@@ -2,7 +2,7 @@
 
 ghost use Rattle.std.specs.Prelude.{◌≡◌, ◌<◌, ◌^◌, pos, ◌-ℤ◌, IfOk};
 ghost use Rattle.lfs_device.specs.Error.{number_of};
-ghost use Rattle.littlefs_c.specs.Codes.{code_of, size_number};
+ghost use Rattle.littlefs_c.specs.Codes.{code_of_result, size_number_of_stat};
 
 use lfs_device::Error;
 use lfs_fs::{Kind, Stat};
@@ -15,7 +15,7 @@ fn error_code(error: Error) -> i64
 
 // Returns 0 where the call was done.
 pub(crate) fn done_code(answer: Result<(), Error>) -> i64
-    ensures { result ≡ code_of (λ _. 0) answer }
+    ensures { result ≡ code_of_result (λ _. 0) answer }
 {
     match answer {
         Ok(()) => 0,
@@ -24,7 +24,7 @@ pub(crate) fn done_code(answer: Result<(), Error>) -> i64
 }
 
 pub(crate) fn count_code(answer: Result<u32, Error>) -> i64
-    ensures { result ≡ code_of (λ n. n) answer }
+    ensures { result ≡ code_of_result (λ n. n) answer }
 {
     match answer {
         Ok(count) => i64::from(count),
@@ -34,7 +34,7 @@ pub(crate) fn count_code(answer: Result<u32, Error>) -> i64
 
 // Returns a file's size, or 2 to the 32nd for a directory.
 pub(crate) fn size_code(answer: Result<Stat, Error>) -> i64
-    ensures { result ≡ code_of size_number answer }
+    ensures { result ≡ code_of_result size_number_of_stat answer }
 {
     match answer {
         Ok(stat) => match stat.kind {
@@ -48,7 +48,7 @@ pub(crate) fn size_code(answer: Result<Stat, Error>) -> i64
 // Returns the room that a reply takes in a buffer.
 pub(crate) fn room_code(answer: Result<usize, Error>) -> i64
     requires { IfOk answer (λ n. n < 2 ^ 63) }
-    ensures { result ≡ code_of (λ n. n) answer }
+    ensures { result ≡ code_of_result (λ n. n) answer }
 {
     match answer {
         Ok(room) => room as i64,

@@ -3,12 +3,12 @@
 
 ghost use Rattle.std.specs.Prelude.{◌∷◌, ◌-◌, ◌^◌, [], min, length};
 ghost use Rattle.lfs_model.specs.Operations as ops;
-ghost use Rattle.littlefs_c.specs.Buffers.{FillsBuffer};
-ghost use Rattle.littlefs_c.specs.Calls.{GivesReply, ChangesImage, ChecksImage};
+ghost use Rattle.littlefs_c.specs.Buffers.{FillsBufferOrRefuses};
+ghost use Rattle.littlefs_c.specs.Calls.{GivesLastReplyOrRefuses, ChangesImageOrRefuses, ChecksImage};
 ghost use Rattle.lfs_lookup.specs.Finds.{stat_view};
-ghost use Rattle.littlefs_c.specs.Codes.{SaysCount, SaysDone, SaysSize};
-ghost use Rattle.littlefs_c.specs.Files.{reading, writing};
-ghost use Rattle.littlefs_c.specs.Starts.{FormatsIn};
+ghost use Rattle.littlefs_c.specs.Codes.{IsCodeOfCountResult, IsCodeOfDoneResult, IsCodeOfSizeResult};
+ghost use Rattle.littlefs_c.specs.Files.{operations_to_read_file, operations_to_write_file};
+ghost use Rattle.littlefs_c.specs.Starts.{FormatsImageOrRefuses};
 
 use crate::calls;
 use crate::codes::{count_code, done_code, room_code, size_code};
@@ -31,7 +31,7 @@ pub extern "C" fn lfs_c_format(
     page: u32,
     order: u32,
 ) -> i64
-    ensures { SaysDone result (λ r. FormatsIn block_size page order image.old r image.new) }
+    ensures { IsCodeOfDoneResult result (λ r. FormatsImageOrRefuses block_size page order image.old r image.new) }
 {
     done_code(calls::format(alloc, image, block_size, page, order))
 }
@@ -45,7 +45,7 @@ pub extern "C" fn lfs_c_format(
 /// in neither order. `NoMemory` where memory isn't granted.
 #[unsafe(no_mangle)]
 pub extern "C" fn lfs_c_check(alloc: Global, image: &[u8], block_size: u32, page: u32) -> i64
-    ensures { SaysDone result (λ r. ChecksImage block_size page image.now r) }
+    ensures { IsCodeOfDoneResult result (λ r. ChecksImage block_size page image.now r) }
 {
     done_code(calls::check(alloc, image, block_size, page))
 }
@@ -68,7 +68,7 @@ pub extern "C" fn lfs_c_list(
     path: &[u8],
     buffer: &mut [u8],
 ) -> i64
-    ensures { SaysCount result (λ r. FillsBuffer block_size page image.now (ops.ListAll path.now ∷ []) r buffer.old buffer.new) }
+    ensures { IsCodeOfCountResult result (λ r. FillsBufferOrRefuses block_size page image.now (ops.ListAll path.now ∷ []) r buffer.old buffer.new) }
 {
     room_code(calls::list(alloc, image, block_size, page, path, buffer))
 }
@@ -86,7 +86,7 @@ pub extern "C" fn lfs_c_stat(
     page: u32,
     path: &[u8],
 ) -> i64
-    ensures { SaysSize result (λ r. GivesReply block_size page image.now (ops.Stat path.now ∷ []) (λ stat. ops.StatIs (stat_view stat)) r) }
+    ensures { IsCodeOfSizeResult result (λ r. GivesLastReplyOrRefuses block_size page image.now (ops.Stat path.now ∷ []) (λ stat. ops.StatIs (stat_view stat)) r) }
 {
     size_code(size_at(alloc, image, block_size, page, path))
 }
@@ -108,7 +108,7 @@ pub extern "C" fn lfs_c_read(
     position: u32,
     buffer: &mut [u8],
 ) -> i64
-    ensures { SaysCount result (λ r. FillsBuffer block_size page image.now (reading path.now position (min (length buffer.old) (2 ^ 32 - 1))) r buffer.old buffer.new) }
+    ensures { IsCodeOfCountResult result (λ r. FillsBufferOrRefuses block_size page image.now (operations_to_read_file path.now position (min (length buffer.old) (2 ^ 32 - 1))) r buffer.old buffer.new) }
 {
     room_code(calls::read(alloc, image, block_size, page, path, position, buffer))
 }
@@ -128,7 +128,7 @@ pub extern "C" fn lfs_c_write(
     path: &[u8],
     bytes: &[u8],
 ) -> i64
-    ensures { SaysDone result (λ r. ChangesImage block_size page image.old (writing path.now bytes.now) r image.new) }
+    ensures { IsCodeOfDoneResult result (λ r. ChangesImageOrRefuses block_size page image.old (operations_to_write_file path.now bytes.now) r image.new) }
 {
     done_code(calls::write(alloc, image, block_size, page, path, bytes))
 }
@@ -147,7 +147,7 @@ pub extern "C" fn lfs_c_mkdir(
     page: u32,
     path: &[u8],
 ) -> i64
-    ensures { SaysDone result (λ r. ChangesImage block_size page image.old (ops.Mkdir path.now ∷ []) r image.new) }
+    ensures { IsCodeOfDoneResult result (λ r. ChangesImageOrRefuses block_size page image.old (ops.Mkdir path.now ∷ []) r image.new) }
 {
     done_code(calls::mkdir(alloc, image, block_size, page, path))
 }
@@ -166,7 +166,7 @@ pub extern "C" fn lfs_c_remove(
     page: u32,
     path: &[u8],
 ) -> i64
-    ensures { SaysDone result (λ r. ChangesImage block_size page image.old (ops.Remove path.now ∷ []) r image.new) }
+    ensures { IsCodeOfDoneResult result (λ r. ChangesImageOrRefuses block_size page image.old (ops.Remove path.now ∷ []) r image.new) }
 {
     done_code(calls::remove(alloc, image, block_size, page, path))
 }
@@ -187,7 +187,7 @@ pub extern "C" fn lfs_c_rename(
     from: &[u8],
     to: &[u8],
 ) -> i64
-    ensures { SaysDone result (λ r. ChangesImage block_size page image.old (ops.Rename from.now to.now ∷ []) r image.new) }
+    ensures { IsCodeOfDoneResult result (λ r. ChangesImageOrRefuses block_size page image.old (ops.Rename from.now to.now ∷ []) r image.new) }
 {
     done_code(calls::rename(alloc, image, block_size, page, from, to))
 }
@@ -209,7 +209,7 @@ pub extern "C" fn lfs_c_get_attr(
     kind: u8,
     buffer: &mut [u8],
 ) -> i64
-    ensures { SaysCount result (λ r. FillsBuffer block_size page image.now (ops.GetAttr path.now kind ∷ []) r buffer.old buffer.new) }
+    ensures { IsCodeOfCountResult result (λ r. FillsBufferOrRefuses block_size page image.now (ops.GetAttr path.now kind ∷ []) r buffer.old buffer.new) }
 {
     room_code(calls::get_attr(alloc, image, block_size, page, path, kind, buffer))
 }
@@ -231,7 +231,7 @@ pub extern "C" fn lfs_c_set_attr(
     kind: u8,
     bytes: &[u8],
 ) -> i64
-    ensures { SaysDone result (λ r. ChangesImage block_size page image.old (ops.SetAttr path.now kind bytes.now ∷ []) r image.new) }
+    ensures { IsCodeOfDoneResult result (λ r. ChangesImageOrRefuses block_size page image.old (ops.SetAttr path.now kind bytes.now ∷ []) r image.new) }
 {
     done_code(calls::set_attr(alloc, image, block_size, page, path, kind, bytes))
 }
@@ -251,7 +251,7 @@ pub extern "C" fn lfs_c_remove_attr(
     path: &[u8],
     kind: u8,
 ) -> i64
-    ensures { SaysDone result (λ r. ChangesImage block_size page image.old (ops.RemoveAttr path.now kind ∷ []) r image.new) }
+    ensures { IsCodeOfDoneResult result (λ r. ChangesImageOrRefuses block_size page image.old (ops.RemoveAttr path.now kind ∷ []) r image.new) }
 {
     done_code(calls::remove_attr(alloc, image, block_size, page, path, kind))
 }
@@ -263,7 +263,7 @@ pub extern "C" fn lfs_c_remove_attr(
 /// Those of [`lfs_c_check`].
 #[unsafe(no_mangle)]
 pub extern "C" fn lfs_c_used(alloc: Global, image: &[u8], block_size: u32, page: u32) -> i64
-    ensures { SaysCount result (λ r. GivesReply block_size page image.now (ops.UsedCount ∷ []) ops.Count r) }
+    ensures { IsCodeOfCountResult result (λ r. GivesLastReplyOrRefuses block_size page image.now (ops.UsedCount ∷ []) ops.Count r) }
 {
     count_code(used_count(alloc, image, block_size, page))
 }

@@ -1,9 +1,9 @@
 // Sessions over an image's bytes.
 
 ghost use Rattle.std.specs.Prelude.{◌≡◌, ◌*◌, length, IfErr, IfOk};
-ghost use Rattle.lfs_model.specs.Disk.{IsImage};
+ghost use Rattle.lfs_model.specs.Disk.{IsImageOfWholeBlocks};
 ghost use Rattle.lfs_fs.specs.SessionView.{system_state_of};
-ghost use Rattle.littlefs_c.specs.Calls.{IsSessionOn, IsDeviceOf, Prevents};
+ghost use Rattle.littlefs_c.specs.Calls.{IsSessionMountedOnImage, IsUncalledDeviceWithImage, PreventsSessionOnImage};
 
 use lfs_device::{Error, Geometry, RamDevice};
 use lfs_fs::{Session, mount};
@@ -13,7 +13,7 @@ use std::alloc::Global;
 // such image.
 fn geometry(image: &[u8], block_size: u32, page: u32) -> Result<Geometry, Error>
     ensures ok { IfOk result (λ g. (g.block_size ≡ block_size) × (g.page ≡ page) × (g.block_size * g.block_count ≡ length image.now)) }
-    ensures err { IfErr result (λ e. (e ≡ Error.Invalid) × (¬ IsImage block_size page image.now)) }
+    ensures err { IfErr result (λ e. (e ≡ Error.Invalid) × (¬ IsImageOfWholeBlocks block_size page image.now)) }
 {
     if block_size == 0 || image.len() > 268_435_456 || image.len() % block_size as usize != 0 {
         return Err(Error::Invalid);
@@ -28,8 +28,8 @@ pub(crate) fn device(
     block_size: u32,
     page: u32,
 ) -> Result<RamDevice, Error>
-    ensures ok { IfOk result (IsDeviceOf block_size page image.now) }
-    ensures err { IfErr result (λ e. Prevents block_size page image.now e) }
+    ensures ok { IfOk result (IsUncalledDeviceWithImage block_size page image.now) }
+    ensures err { IfErr result (λ e. PreventsSessionOnImage block_size page image.now e) }
 {
     let geometry = geometry(image, block_size, page)?;
     RamDevice::from_bytes(geometry, Vec::from_slice(alloc, image)?)
@@ -42,8 +42,8 @@ pub(crate) fn begin(
     block_size: u32,
     page: u32,
 ) -> Result<Session<RamDevice>, Error>
-    ensures ok { IfOk result (λ s. IsSessionOn block_size page image.now (system_state_of s)) }
-    ensures err { IfErr result (λ e. Prevents block_size page image.now e) }
+    ensures ok { IfOk result (λ s. IsSessionMountedOnImage block_size page image.now (system_state_of s)) }
+    ensures err { IfErr result (λ e. PreventsSessionOnImage block_size page image.now e) }
 {
     let device = device(alloc, image, block_size, page)?;
     match mount(alloc, device) {

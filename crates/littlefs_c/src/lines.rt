@@ -2,8 +2,8 @@
 
 ghost use Rattle.std.specs.Prelude.{◌≡◌, ◌++◌, ◌<◌, map, IfOk, OnOk};
 ghost use Rattle.lfs_model.specs.Listing.{escaped, escaped_text, hex_digit};
-ghost use Rattle.lfs_lookup.specs.Finds.{list_item_view, size_by};
-ghost use Rattle.littlefs_c.specs.Buffers.{head_of, line_of, lines_of};
+ghost use Rattle.lfs_lookup.specs.Finds.{list_item_view, size_if_file};
+ghost use Rattle.littlefs_c.specs.Buffers.{line_beginning_by_size, buffer_line_of_item, buffer_lines_of_items};
 
 use lfs_fs::{Item, Kind};
 use std::alloc::{AllocError, Global};
@@ -43,8 +43,8 @@ fn push_name(text: &mut Vec<u8>, name: &[u8]) -> Result<(), AllocError>
 }
 
 // Adds the part of a line before the name: a file's size, or that it is a directory.
-fn push_head(text: &mut Vec<u8>, kind: Kind, size: u32) -> Result<(), AllocError>
-    ensures { OnOk result (text.new.items ≡ text.old.items ++ head_of (size_by kind size)) }
+fn push_line_beginning(text: &mut Vec<u8>, kind: Kind, size: u32) -> Result<(), AllocError>
+    ensures { OnOk result (text.new.items ≡ text.old.items ++ line_beginning_by_size (size_if_file kind size)) }
 {
     match kind {
         Kind::File => {
@@ -59,9 +59,9 @@ fn push_head(text: &mut Vec<u8>, kind: Kind, size: u32) -> Result<(), AllocError
 
 // Adds the line of an entry.
 fn push_line(text: &mut Vec<u8>, item: &Item) -> Result<(), AllocError>
-    ensures { OnOk result (text.new.items ≡ text.old.items ++ line_of (list_item_view item.now)) }
+    ensures { OnOk result (text.new.items ≡ text.old.items ++ buffer_line_of_item (list_item_view item.now)) }
 {
-    push_head(text, item.kind, item.size)?;
+    push_line_beginning(text, item.kind, item.size)?;
     push_name(text, item.name.as_slice())?;
     text.push(b'\n')?;
     Ok(())
@@ -69,7 +69,7 @@ fn push_line(text: &mut Vec<u8>, item: &Item) -> Result<(), AllocError>
 
 // Returns the lines of a directory's entries, in their order.
 pub(crate) fn lines_of(alloc: Global, items: &[Item]) -> Result<Vec<u8>, AllocError>
-    ensures { IfOk result (λ text. text.items ≡ lines_of (map list_item_view items.now)) }
+    ensures { IfOk result (λ text. text.items ≡ buffer_lines_of_items (map list_item_view items.now)) }
 {
     let mut text = Vec::new(alloc);
     for item in items {

@@ -4,8 +4,8 @@ ghost use Rattle.std.specs.Prelude.{◌∷◌, [], map};
 ghost use Rattle.lfs_model.specs.Operations as ops;
 ghost use Rattle.lfs_fs.specs.SessionView.{system_state_of};
 ghost use Rattle.lfs_lookup.specs.Finds.{list_item_view, stat_view};
-ghost use Rattle.littlefs_c.specs.Calls.{GivesReply};
-ghost use Rattle.littlefs_c.specs.Files.{AppliesWithReply, reading};
+ghost use Rattle.littlefs_c.specs.Calls.{GivesLastReplyOrRefuses};
+ghost use Rattle.littlefs_c.specs.Files.{AppliesWithReply, operations_to_read_file};
 
 use crate::image::begin;
 use lfs_device::{Error, RamDevice};
@@ -20,7 +20,7 @@ pub(crate) fn size_at(
     page: u32,
     path: &[u8],
 ) -> Result<Stat, Error>
-    ensures { GivesReply block_size page image.now (ops.Stat path.now ∷ []) (λ stat. ops.StatIs (stat_view stat)) result }
+    ensures { GivesLastReplyOrRefuses block_size page image.now (ops.Stat path.now ∷ []) (λ stat. ops.StatIs (stat_view stat)) result }
 {
     let mut session = begin(alloc, image, block_size, page)?;
     let answer = session.stat(alloc, path);
@@ -36,7 +36,7 @@ pub(crate) fn used_count(
     block_size: u32,
     page: u32,
 ) -> Result<u32, Error>
-    ensures { GivesReply block_size page image.now (ops.UsedCount ∷ []) ops.Count result }
+    ensures { GivesLastReplyOrRefuses block_size page image.now (ops.UsedCount ∷ []) ops.Count result }
 {
     let session = begin(alloc, image, block_size, page)?;
     let answer = session.used_count();
@@ -52,7 +52,7 @@ pub(crate) fn items_at(
     page: u32,
     path: &[u8],
 ) -> Result<Vec<Item>, Error>
-    ensures { GivesReply block_size page image.now (ops.ListAll path.now ∷ []) (λ items. ops.Items (map list_item_view items.items)) result }
+    ensures { GivesLastReplyOrRefuses block_size page image.now (ops.ListAll path.now ∷ []) (λ items. ops.Items (map list_item_view items.items)) result }
 {
     let mut session = begin(alloc, image, block_size, page)?;
     let answer = session.list(alloc, path);
@@ -69,7 +69,7 @@ pub(crate) fn attribute_at(
     path: &[u8],
     kind: u8,
 ) -> Result<Vec<u8>, Error>
-    ensures { GivesReply block_size page image.now (ops.GetAttr path.now kind ∷ []) (λ v. ops.Bytes v.items) result }
+    ensures { GivesLastReplyOrRefuses block_size page image.now (ops.GetAttr path.now kind ∷ []) (λ v. ops.Bytes v.items) result }
 {
     let mut session = begin(alloc, image, block_size, page)?;
     let answer = session.get_attr(alloc, path, kind);
@@ -85,7 +85,7 @@ fn read_at(
     position: u32,
     count: u32,
 ) -> Result<Vec<u8>, Error>
-    ensures { AppliesWithReply (system_state_of session.old) (reading path.now position count) (λ v. ops.Bytes v.items) result (system_state_of session.new) }
+    ensures { AppliesWithReply (system_state_of session.old) (operations_to_read_file path.now position count) (λ v. ops.Bytes v.items) result (system_state_of session.new) }
 {
     session.open(alloc, path, OpenFlags::READ)?;
     session.seek(0, position)?;
@@ -102,7 +102,7 @@ pub(crate) fn bytes_at(
     position: u32,
     count: u32,
 ) -> Result<Vec<u8>, Error>
-    ensures { GivesReply block_size page image.now (reading path.now position count) (λ v. ops.Bytes v.items) result }
+    ensures { GivesLastReplyOrRefuses block_size page image.now (operations_to_read_file path.now position count) (λ v. ops.Bytes v.items) result }
 {
     let mut session = begin(alloc, image, block_size, page)?;
     let answer = read_at(alloc, &mut session, path, position, count);

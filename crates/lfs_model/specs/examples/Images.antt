@@ -5,32 +5,32 @@ use Rattle.std.specs.Option.{option_map}
 use Rattle.byteorder.specs.Endian.{little_bytes}
 use Rattle.lfs_model.specs.declared.order.NameOrder.TheVariants.{ShorterFirst}
 use Rattle.lfs_model.specs.Blocks.{Blocks}
-use Rattle.lfs_model.specs.Disk.{Disk, file_limit}
-use Rattle.lfs_model.specs.Slots.{Gstate, no_gstate}
+use Rattle.lfs_model.specs.Disk.{Disk, file_size_limit}
+use Rattle.lfs_model.specs.Slots.{Gstate, zero_gstate}
 use Rattle.lfs_model.specs.Log.{LogEntry}
 use Rattle.lfs_model.specs.Content.{RawSlot, RawContent}
 use Rattle.lfs_model.specs.EntryTypes.{file_name_type, superblock_name_type, inline_struct_type}
 use Rattle.lfs_model.specs.Thread.{Pair}
 use Rattle.lfs_model.specs.Tree.{Path, Node, FileNode, DirectoryNode, Tree}
 use Rattle.lfs_model.specs.TreeEdits.{same_path}
-use Rattle.lfs_model.specs.View.{View, IsAccepted, superblock_entry}
+use Rattle.lfs_model.specs.View.{DiskView, IsAcceptedImage, superblock_name_log_entry}
 use Rattle.lfs_model.specs.Profile.{IsWritable}
-use Rattle.lfs_model.specs.WrittenContent.{entry_with}
-use Rattle.lfs_model.specs.Changes.{Change, Create, Delete, PutStruct, PutAttribute}
+use Rattle.lfs_model.specs.WrittenContent.{log_entry_with}
+use Rattle.lfs_model.specs.Changes.{ContentChange, Create, Delete, PutStruct, PutAttribute}
 use Rattle.lfs_model.specs.Names.{Name}
-use Rattle.lfs_model.specs.Fresh.{superblock_bytes}
-use Rattle.lfs_model.specs.BlockBytes.{unwritten, block_of_bytes, superblock_entries, checksum_entry, metadata_block}
+use Rattle.lfs_model.specs.Fresh.{superblock_struct_bytes}
+use Rattle.lfs_model.specs.BlockBytes.{unwritten, bytes_padded_to_block_size, superblock_log_entries, checksum_entry, metadata_block_bytes}
 
 -- the tree with these nodes and no others
-abbrev pub tree_with : List (Path × Node) → Tree
-tree_with nodes path = option_map (λ n. n.1) (find (λ n. same_path path n.0) nodes)
+abbrev pub tree_of_nodes : List (Path × Node) → Tree
+tree_of_nodes nodes path = option_map (λ n. n.1) (find (λ n. same_path path n.0) nodes)
 
-abbrev pub view_with : List (Path × Node) → Gstate → List ℕ → View
-view_with nodes gstate used = record { tree = tree_with nodes; gstate = gstate; used = used }
+abbrev pub view_of_nodes : List (Path × Node) → Gstate → List ℕ → DiskView
+view_of_nodes nodes gstate used = record { tree = tree_of_nodes nodes; gstate = gstate; used = used }
 
 -- file `a` with `hello`, and directory `d` with an empty file `x`
-abbrev pub small_nodes : List (Path × Node)
-small_nodes =
+abbrev pub nodes_of_small_tree : List (Path × Node)
+nodes_of_small_tree =
     ([], DirectoryNode [] (codes "a" ∷ codes "d" ∷ []))
     ∷ (codes "a" ∷ [], FileNode [] (codes "hello"))
     ∷ (codes "d" ∷ [], DirectoryNode [] (codes "x" ∷ []))
@@ -38,18 +38,18 @@ small_nodes =
     ∷ []
 
 -- No pairs make the disk an accepted image.
-abbrev pub IsRefused : Disk → Type 0
-IsRefused disk = (ps : List Pair) → IsAccepted disk ps → ⊥
+abbrev pub IsNoAcceptedImage : Disk → Type 0
+IsNoAcceptedImage disk = (ps : List Pair) → IsAcceptedImage disk ps → ⊥
 
 -- The disk may not be written, if it is an accepted image.
-abbrev pub IsReadOnly : Disk → Type 0
-IsReadOnly disk = (ps : List Pair) → IsAccepted disk ps → IsWritable disk ps → ⊥
+abbrev pub IsOutsideWritingProfile : Disk → Type 0
+IsOutsideWritingProfile disk = (ps : List Pair) → IsAcceptedImage disk ps → IsWritable disk ps → ⊥
 
 -- ---- fresh images
 
 -- two blocks of 1,024 bytes with pages of 128
-abbrev pub small_commit : List ℕ
-small_commit =
+abbrev pub fresh_commit_of_small_image : List ℕ
+fresh_commit_of_small_image =
     0x01 ∷ 0x00 ∷ 0x00 ∷ 0x00 ∷  -- revision 1
     0xf0 ∷ 0x0f ∷ 0xff ∷ 0xf7 ∷ codes "littlefs" ++  -- 0x0ff00008 XOR 0xffffffff: a superblock's name
     0x2f ∷ 0xe0 ∷ 0x00 ∷ 0x10 ∷  -- 0x20100018 XOR 0x0ff00008: an inline struct of 24 bytes
@@ -63,18 +63,18 @@ small_commit =
     0x1c ∷ 0x06 ∷ 0xb9 ∷ 0x35 ∷  -- the checksum
     unwritten 76  -- padding to the page
 
-abbrev pub small_disk : List ℕ → Disk
-small_disk block = record { block_size = 1024; page = 128; order = ShorterFirst; blocks = block ∷ unwritten 1024 ∷ [] }
+abbrev pub small_disk_with_first_block : List ℕ → Disk
+small_disk_with_first_block block = record { block_size = 1024; page = 128; order = ShorterFirst; blocks = block ∷ unwritten 1024 ∷ [] }
 
-abbrev pub small_block : List ℕ
-small_block = block_of_bytes 1024 small_commit
+abbrev pub fresh_block_of_small_image : List ℕ
+fresh_block_of_small_image = bytes_padded_to_block_size 1024 fresh_commit_of_small_image
 
-abbrev pub small_image : Disk
-small_image = small_disk small_block
+abbrev pub small_fresh_image : Disk
+small_fresh_image = small_disk_with_first_block fresh_block_of_small_image
 
 -- 16 blocks of 4,096 bytes with pages of 256
-abbrev pub large_commit : List ℕ
-large_commit =
+abbrev pub fresh_commit_of_large_image : List ℕ
+fresh_commit_of_large_image =
     0x01 ∷ 0x00 ∷ 0x00 ∷ 0x00 ∷  -- revision 1
     0xf0 ∷ 0x0f ∷ 0xff ∷ 0xf7 ∷ codes "littlefs" ++  -- 0x0ff00008 XOR 0xffffffff: a superblock's name
     0x2f ∷ 0xe0 ∷ 0x00 ∷ 0x10 ∷  -- 0x20100018 XOR 0x0ff00008: an inline struct of 24 bytes
@@ -89,32 +89,32 @@ large_commit =
     unwritten 204  -- padding to the page
 
 -- a disk of 16 blocks of 4,096 bytes that begins with these blocks
-abbrev pub large_disk : Blocks → Disk
-large_disk blocks = record { block_size = 4096; page = 256; order = ShorterFirst; blocks = blocks ++ replicate (16 - length blocks) (unwritten 4096) }
+abbrev pub large_disk_with_blocks : Blocks → Disk
+large_disk_with_blocks blocks = record { block_size = 4096; page = 256; order = ShorterFirst; blocks = blocks ++ replicate (16 - length blocks) (unwritten 4096) }
 
-abbrev pub large_image : Disk
-large_image = large_disk (block_of_bytes 4096 large_commit ∷ [])
+abbrev pub large_fresh_image : Disk
+large_fresh_image = large_disk_with_blocks (bytes_padded_to_block_size 4096 fresh_commit_of_large_image ∷ [])
 
 -- a file "b" has been appended to the small image
-abbrev pub appended_commit : List ℕ
-appended_commit =
+abbrev pub commit_that_appends_file : List ℕ
+commit_that_appends_file =
     0x10 ∷ 0x1f ∷ 0xf8 ∷ 0x50 ∷  -- 0x40100400 XOR 0x500ffc50: create id 1
     0x40 ∷ 0x00 ∷ 0x00 ∷ 0x01 ∷ codes "b" ++  -- a file's name of id 1
     0x20 ∷ 0x00 ∷ 0x00 ∷ 0x01 ∷  -- an inline struct of no bytes
     0x70 ∷ 0x1f ∷ 0xf8 ∷ 0x6f ∷  -- a checksum entry of 111 bytes
     0x6a ∷ 0xa8 ∷ 0x34 ∷ 0x70 ∷ unwritten 107
 
-abbrev pub appended_image : Disk
-appended_image = small_disk (block_of_bytes 1024 (small_commit ++ appended_commit))
+abbrev pub image_of_two_commits : Disk
+image_of_two_commits = small_disk_with_first_block (bytes_padded_to_block_size 1024 (fresh_commit_of_small_image ++ commit_that_appends_file))
 
 -- bit k of the checksum is inverted
-abbrev pub turned_block : ℕ → List ℕ
-turned_block k = slice_set small_block (48 + k / 8) (bit_xor (slice_index small_block (48 + k / 8)) (2 ^ (k % 8)))
+abbrev pub block_with_wrong_checksum_bit : ℕ → List ℕ
+block_with_wrong_checksum_bit k = slice_set fresh_block_of_small_image (48 + k / 8) (bit_xor (slice_index fresh_block_of_small_image (48 + k / 8)) (2 ^ (k % 8)))
 
 -- ---- slots that shift: "b" comes, "a" comes before it and goes again, and "b" gets an attribute
 
-abbrev pub shifting_commits : List ℕ
-shifting_commits =
+abbrev pub commits_that_shift_slots : List ℕ
+commits_that_shift_slots =
     0x10 ∷ 0x1f ∷ 0xf8 ∷ 0xd0 ∷  -- 0x40100400 XOR 0x500ffcd0: create id 1
     0x40 ∷ 0x00 ∷ 0x00 ∷ 0x01 ∷ codes "b" ++  -- 0x00100401 XOR 0x40100400: a file's name of id 1
     0x20 ∷ 0x00 ∷ 0x00 ∷ 0x01 ∷  -- 0x20100400 XOR 0x00100401: an inline struct of no bytes
@@ -132,24 +132,24 @@ shifting_commits =
     0x64 ∷ 0x1f ∷ 0xf8 ∷ 0xf6 ∷  -- 0x500ffcf7 XOR 0x34100401: a checksum entry of 247 bytes
     0x9a ∷ 0x37 ∷ 0xc9 ∷ 0x3a ∷ unwritten 243
 
-abbrev pub shifting_block : List ℕ
-shifting_block = block_of_bytes 4096 (large_commit ++ shifting_commits)
+abbrev pub block_with_shifted_slots : List ℕ
+block_with_shifted_slots = bytes_padded_to_block_size 4096 (fresh_commit_of_large_image ++ commits_that_shift_slots)
 
-abbrev pub shifting_image : Disk
-shifting_image = large_disk (shifting_block ∷ [])
+abbrev pub image_with_shifted_slots : Disk
+image_with_shifted_slots = large_disk_with_blocks (block_with_shifted_slots ∷ [])
 
-abbrev pub raw_file : Name → RawSlot
-raw_file name = record { name = Some (file_name_type, name); struct = Some (inline_struct_type, []); attributes = [] }
+abbrev pub raw_slot_of_empty_file : Name → RawSlot
+raw_slot_of_empty_file name = record { name = Some (file_name_type, name); struct = Some (inline_struct_type, []); attributes = [] }
 
-abbrev pub raw_root : RawSlot
-raw_root = record { name = Some (superblock_name_type, codes "littlefs"); struct = Some (inline_struct_type, superblock_bytes 4096 16); attributes = [] }
+abbrev pub raw_slot_of_superblock : RawSlot
+raw_slot_of_superblock = record { name = Some (superblock_name_type, codes "littlefs"); struct = Some (inline_struct_type, superblock_struct_bytes 4096 16); attributes = [] }
 
-abbrev pub raw_content : List RawSlot → RawContent
-raw_content slots = record { slots = slots; tail = None; move = no_gstate }
+abbrev pub raw_content_of_slots : List RawSlot → RawContent
+raw_content_of_slots slots = record { slots = slots; tail = None; move = zero_gstate }
 
 -- the same, as changes
-abbrev pub shifting_changes : List Change
-shifting_changes =
+abbrev pub changes_that_shift_slots : List ContentChange
+changes_that_shift_slots =
     Create 1 file_name_type (codes "b") ∷ PutStruct 1 inline_struct_type []
     ∷ Create 1 file_name_type (codes "a") ∷ PutStruct 1 inline_struct_type []
     ∷ Delete 1
@@ -158,9 +158,9 @@ shifting_changes =
 
 -- ---- a file comes, over storage whose erased bytes are zero: the tag behind such a checksum has the top bit turned
 
-abbrev pub zeroed_block : List ℕ
-zeroed_block =
-    take 44 large_commit ++  -- revision, name and struct as above
+abbrev pub block_over_zeroed_storage : List ℕ
+block_over_zeroed_storage =
+    take 44 fresh_commit_of_large_image ++  -- revision, name and struct as above
     0x70 ∷ 0x0f ∷ 0xfc ∷ 0xc8 ∷  -- 0x501ffcd0 XOR 0x20100018: a checksum entry of 208 bytes
     0x3a ∷ 0xdc ∷ 0x01 ∷ 0xef ∷ unwritten 204 ++
     0x90 ∷ 0x0f ∷ 0xf8 ∷ 0xd0 ∷  -- 0x40100400 XOR 0xd01ffcd0: create id 1
@@ -170,47 +170,47 @@ zeroed_block =
     0xae ∷ 0x92 ∷ 0x72 ∷ 0x5e ∷ unwritten 235 ++
     replicate 3584 0
 
-abbrev pub zeroed_image : Disk
-zeroed_image = record { block_size = 4096; page = 256; order = ShorterFirst; blocks = zeroed_block ∷ replicate 15 (replicate 4096 0) }
+abbrev pub image_over_zeroed_storage : Disk
+image_over_zeroed_storage = record { block_size = 4096; page = 256; order = ShorterFirst; blocks = block_over_zeroed_storage ∷ replicate 15 (replicate 4096 0) }
 
 -- ---- other images of 16 blocks, by their entries
 
 -- a block of the root: the superblock, these entries, the checksum and its padding
-abbrev pub root_block : List LogEntry → ℕ → ℕ → List ℕ
-root_block entries number padding = metadata_block 4096 1 (superblock_entries 4096 16 ++ entries ++ checksum_entry number padding ∷ [])
+abbrev pub root_block_with_entries : List LogEntry → ℕ → ℕ → List ℕ
+root_block_with_entries entries number padding = metadata_block_bytes 4096 1 (superblock_log_entries 4096 16 ++ entries ++ checksum_entry number padding ∷ [])
 
 -- a block of another pair
-abbrev pub pair_block : List LogEntry → ℕ → ℕ → List ℕ
-pair_block entries number padding = metadata_block 4096 1 (entries ++ checksum_entry number padding ∷ [])
+abbrev pub pair_block_with_entries : List LogEntry → ℕ → ℕ → List ℕ
+pair_block_with_entries entries number padding = metadata_block_bytes 4096 1 (entries ++ checksum_entry number padding ∷ [])
 
 -- the root in block 0, and these blocks from block 2 on
-abbrev pub image_with : List ℕ → Blocks → Disk
-image_with root blocks = large_disk (root ∷ unwritten 4096 ∷ blocks)
+abbrev pub image_of_first_block_and_others : List ℕ → Blocks → Disk
+image_of_first_block_and_others root blocks = large_disk_with_blocks (root ∷ unwritten 4096 ∷ blocks)
 
 -- the fresh image cut or lengthened to so many blocks
-abbrev pub resized : ℕ → Disk
-resized count = record { block_size = 4096; page = 256; order = ShorterFirst; blocks = block_of_bytes 4096 large_commit ∷ replicate (count - 1) (unwritten 4096) }
+abbrev pub fresh_image_of_block_count : ℕ → Disk
+fresh_image_of_block_count count = record { block_size = 4096; page = 256; order = ShorterFirst; blocks = bytes_padded_to_block_size 4096 fresh_commit_of_large_image ∷ replicate (count - 1) (unwritten 4096) }
 
 -- a superblock's struct with another version, block size or limit of names, and a fresh root with it
-abbrev pub superblock_with : ℕ → ℕ → ℕ → List ℕ
-superblock_with version block_size name_limit = flat_map (little_bytes 4) (version ∷ block_size ∷ 16 ∷ name_limit ∷ file_limit ∷ 1022 ∷ [])
+abbrev pub superblock_struct_bytes_with : ℕ → ℕ → ℕ → List ℕ
+superblock_struct_bytes_with version block_size name_limit = flat_map (little_bytes 4) (version ∷ block_size ∷ 16 ∷ name_limit ∷ file_size_limit ∷ 1022 ∷ [])
 
-abbrev pub other_root : List ℕ → ℕ → List ℕ
-other_root struct number = metadata_block 4096 1 (superblock_entry ∷ entry_with inline_struct_type 0 struct ∷ checksum_entry number 204 ∷ [])
+abbrev pub root_block_with_superblock_struct : List ℕ → ℕ → List ℕ
+root_block_with_superblock_struct struct number = metadata_block_bytes 4096 1 (superblock_name_log_entry ∷ log_entry_with inline_struct_type 0 struct ∷ checksum_entry number 204 ∷ [])
 
 -- ---- a skip list
 
 -- 2,045 bytes in the blocks 5, 6 and 7; the second pointer of the last is given
-abbrev pub three_blocks_with : ℕ → Blocks
-three_blocks_with pointer =
+abbrev pub list_of_three_blocks_with_pointer : ℕ → Blocks
+list_of_three_blocks_with_pointer pointer =
     replicate 5 (unwritten 1024)
     ++ replicate 1024 1
     ∷ (little_bytes 4 5 ++ replicate 1020 2)
     ∷ (little_bytes 4 6 ++ little_bytes 4 pointer ++ replicate 1016 3) ∷ []
 
-abbrev pub three_blocks : Blocks
-three_blocks = three_blocks_with 5
+abbrev pub list_of_three_blocks : Blocks
+list_of_three_blocks = list_of_three_blocks_with_pointer 5
 
 -- the last block's first pointer names the block itself
-abbrev pub round_blocks : Blocks
-round_blocks = slice_set three_blocks 7 (little_bytes 4 7 ++ little_bytes 4 5 ++ replicate 1016 3)
+abbrev pub blocks_of_endless_list : Blocks
+blocks_of_endless_list = slice_set list_of_three_blocks 7 (little_bytes 4 7 ++ little_bytes 4 5 ++ replicate 1016 3)

@@ -3,8 +3,8 @@ use Rattle.std.specs.Prelude.{true, false, [], ◌∷◌, codes}
 use Rattle.lfs_model.specs.Source.{Source}
 
 -- a file `a` with `hello`
-abbrev pub one_file : Source
-one_file = record { names = λ folder. (codes "a", false) ∷ []; bytes = λ path. codes "hello" }
+abbrev pub source_of_one_file : Source
+source_of_one_file = record { names = λ folder. (codes "a", false) ∷ []; bytes = λ path. codes "hello" }
 
 -- in each folder a folder `d` and a file `a`, whose bytes are its path
 abbrev pub endless_source : Source

@@ -3,7 +3,7 @@ use Rattle.std.specs.Prelude.{All}
 use Rattle.std.specs.List.{IsDistinct, range_with_len}
 use Rattle.std.proofs.lemmas.List.FromFn.{length-range_with_len}
 use Rattle.lfs_device.specs.declared.geometry.Geometry.{Geometry}
-use Rattle.lfs_ctz.specs.Growing.{kept_blocks, size_with_pointers}
+use Rattle.lfs_ctz.specs.Growing.{blocks_kept_when_growing, list_size_by_block_size}
 use Rattle.lfs_block_tests.proofs.Runs.{run_below, run_distinct, run_apart, all_below}
 use Rattle.lfs_block_tests.proofs.lists.append.Goals as goal
 
@@ -23,7 +23,7 @@ push-requires g c =
       count = ap length made ∙ length-range_with_len c.args.next many ∙ c.needed-count.ensures.count;
       in_device = subst (λ (l : List ℕ). All (λ b. b < (g.D.BlockDevice.geometry c.args.dev.now).block_count) l) (sym made) (run_below c.args.next many _ (omega arith));
       distinct = subst (IsDistinct nat_eq) (sym made) (run_distinct c.args.next many);
-      apart = subst (λ (l : List ℕ). All (λ b. All (λ x. x ≢ b) (kept_blocks (g.D.BlockDevice.blocks c.args.dev.now) c.args.extender.now)) l) (sym made) (run_apart c.args.next many _ c.requires.below.below);
+      apart = subst (λ (l : List ℕ). All (λ b. All (λ x. x ≢ b) (blocks_kept_when_growing (g.D.BlockDevice.blocks c.args.dev.now) c.args.extender.now)) l) (sym made) (run_apart c.args.next many _ c.requires.below.below);
     }
 
 pub returns-clause-below : goal.returns-clause-below
@@ -33,7 +33,7 @@ returns-clause-below g c =
       growing = pushed.growing;
       geometry = c.push.ensures.device.geometry ∙ c.requires.below.geometry ∙ sym pushed.geometry;
       below = subst (λ (l : List ℕ). All (λ b. b < c.args.next + c.needed-count.result) l)
-          (sym (pushed.kept ∙ ap (λ (l : List ℕ). kept_blocks (g.D.BlockDevice.blocks c.args.dev.now) c.args.extender.now ++ l) (handed _ _ c.args.next c.needed-count.result c.as_slice.ensures.value c.in_ok-blocks.ensures)))
+          (sym (pushed.kept ∙ ap (λ (l : List ℕ). blocks_kept_when_growing (g.D.BlockDevice.blocks c.args.dev.now) c.args.extender.now ++ l) (handed _ _ c.args.next c.needed-count.result c.as_slice.ensures.value c.in_ok-blocks.ensures)))
           (all_below c.args.next c.needed-count.result _ c.requires.below.below);
     }
 
@@ -45,4 +45,4 @@ returns-clause-own g c =
 pub returns-clause-sum : goal.returns-clause-sum
 returns-clause-sum g c =
     let pushed = c.in_ok-push.ensures.pushed.grown in
-    ap (λ (k : Geometry). size_with_pointers k.block_size c.push.new.self) pushed.geometry ∙ pushed.sum
+    ap (λ (k : Geometry). list_size_by_block_size k.block_size c.push.new.self) pushed.geometry ∙ pushed.sum

@@ -1,6 +1,6 @@
 use Rattle.std.proofs.Common.{◌≡◌, ◌≤◌, ◌+◌, ◌-◌, length}
-use Rattle.lfs_ctz.specs.Growing.{end_of}
-use Rattle.lfs_block_tests.specs.Below.{IsBelow, IsOwn}
+use Rattle.lfs_ctz.specs.Growing.{size_of_growing_list}
+use Rattle.lfs_block_tests.specs.Below.{IsListBelowBlock, IsListInOwnBlocks}
 use Rattle.lfs_block_tests.proofs.lists.append_all.Given as goal
 
 abbrev pub invariant-loop-done : goal.invariant-loop-done
@@ -8,9 +8,9 @@ invariant-loop-done g l =
     let blocks = g.D.BlockDevice.blocks in
     record {
       low : l.done ≤ length l.fn.bytes;
-      below : IsBelow (blocks l.dev) (g.D.BlockDevice.geometry l.dev) l.extender l.next;
-      own : 1 ≤ l.done → IsOwn (blocks l.dev) l.extender;
-      sum : end_of l.extender ≡ end_of l.fn.extender + l.done;
+      below : IsListBelowBlock (blocks l.dev) (g.D.BlockDevice.geometry l.dev) l.extender l.next;
+      own : 1 ≤ l.done → IsListInOwnBlocks (blocks l.dev) l.extender;
+      sum : size_of_growing_list l.extender ≡ size_of_growing_list l.fn.extender + l.done;
     }
 
 abbrev pub decreases-loop-done : goal.decreases-loop-done

@@ -1,7 +1,7 @@
 use Rattle.std.proofs.Common.{◌<◌, sym, ap, subst, ◌∙◌, arith}
 use Rattle.std.specs.Prelude.{All}
 use Rattle.lfs_device.specs.declared.geometry.Geometry.{Geometry}
-use Rattle.lfs_ctz.specs.Growing.{size_with_pointers}
+use Rattle.lfs_ctz.specs.Growing.{list_size_by_block_size}
 use Rattle.lfs_block_tests.proofs.lists.write.Goals as goal
 
 pub append_all-requires-clause-below : goal.append_all-requires-clause-below
@@ -16,4 +16,4 @@ append_all-requires-clause-below g c =
 pub append_all-requires-clause-room : goal.append_all-requires-clause-room
 append_all-requires-clause-room g c =
     let none = c.in_ok-extender.ensures.started.grown (g.D.BlockDevice.blocks c.args.dev.now) in
-    omega (arith, none.sum, ap (λ (k : Geometry). size_with_pointers k.block_size c.in_ok-extender.extender) none.geometry)
+    omega (arith, none.sum, ap (λ (k : Geometry). list_size_by_block_size k.block_size c.in_ok-extender.extender) none.geometry)

@@ -7,28 +7,28 @@ use Rattle.lfs_device.specs.declared.error.Error.{Error}
 use Rattle.lfs_ctz.proofs.Called.{not_read, read_on, quiet}
 use Rattle.lfs_ctz.proofs.Sizes.{pointers_of-le}
 use Rattle.lfs_device.specs.declared.geometry.Geometry.{Geometry}
-use Rattle.lfs_model.specs.Blocks.{Blocks, block_in}
-use Rattle.lfs_model.specs.SkipLists.{AreListBlocks, blocks_back, pointers_of, word_at}
+use Rattle.lfs_model.specs.Blocks.{Blocks, block_bytes_in}
+use Rattle.lfs_model.specs.SkipLists.{AreListBlocks, list_blocks_from_head, pointers_of, word_at}
 use Rattle.lfs_ctz.proofs.Chains.{head_of_back, in_range_at, pointers_of-pos}
 use Rattle.lfs_ctz.proofs.Words.{with_word, word_at-with_word, word_at-with_word_above, drop-with_word}
 use Rattle.lfs_ctz.proofs.Zeros.{zeros32_before}
 use Rattle.lfs_ctz.proofs.block.put_pointers.Goals as goal
 
 -- the head is the block before one at that index
-head_is : (d : Blocks) (n head : ℕ) → 0 < n → head ≡ slice_index (blocks_back d n head) (n - 1)
+head_is : (d : Blocks) (n head : ℕ) → 0 < n → head ≡ slice_index (list_blocks_from_head d n head) (n - 1)
 head_is d n head some =
     let e : n - 1 + 1 ≡ n = omega arith in
-    sym (subst (λ k. slice_index (blocks_back d k head) (n - 1) ≡ head) e (head_of_back d (n - 1) head))
+    sym (subst (λ k. slice_index (list_blocks_from_head d k head) (n - 1) ≡ head) e (head_of_back d (n - 1) head))
 
 -- each further pointer is found where the one before it leads
-next_pointer : (d : Blocks) (n head k to : ℕ) → AreListBlocks d n head → 0 < n → n < 2 ^ 32 → k < trailing_zeros w32 n → to ≡ slice_index (blocks_back d n head) (n - 2 ^ k)
-    → word_at (block_in d to) (4 * k) ≡ slice_index (blocks_back d n head) (n - 2 ^ (k + 1))
+next_pointer : (d : Blocks) (n head k to : ℕ) → AreListBlocks d n head → 0 < n → n < 2 ^ 32 → k < trailing_zeros w32 n → to ≡ slice_index (list_blocks_from_head d n head) (n - 2 ^ k)
+    → word_at (block_bytes_in d to) (4 * k) ≡ slice_index (list_blocks_from_head d n head) (n - 2 ^ (k + 1))
 next_pointer d n head k to chain some low less is =
     let zeros = zeros32_before n k some low less in
     let power = one-le-pow k 2 (omega arith) in
     let many = pointers_of-pos (n - 2 ^ k) zeros.0 in
     let twice : n - 2 ^ k - 2 ^ k ≡ n - 2 ^ (k + 1) = omega (arith, pow-suc 2 k, ap (λ e. 2 ^ e) (add-one k)) in
-    ap (λ b. word_at (block_in d b) (4 * k)) is ∙ chain.pointers (n - 2 ^ k) k (omega arith) (omega arith) ∙ ap (slice_index (blocks_back d n head)) twice
+    ap (λ b. word_at (block_bytes_in d b) (4 * k)) is ∙ chain.pointers (n - 2 ^ k) k (omega arith) (omega arith) ∙ ap (slice_index (list_blocks_from_head d n head)) twice
 
 -- a word more
 words_more : (buf new : List ℕ) (to k : ℕ) (f : ℕ → ℕ) → new ≡ with_word buf (4 * k) to → 4 * k + 4 ≤ length buf → to < 2 ^ 32 → to ≡ f k → ((j : ℕ) → j < k → word_at buf (4 * j) ≡ f j) → (j : ℕ) → j < k + 1 → word_at new (4 * j) ≡ f j
@@ -50,7 +50,7 @@ loop-k-init g c =
     let many = pointers_of-pos index (omega arith) in
     record {
       at = is;
-      words = λ j less. words_more c.args.buf.now c.put_word.new.buf head 0 (λ i. slice_index (blocks_back old index head) (index - 2 ^ i)) c.put_word.ensures (omega (arith, c.requires.room)) (omega arith) is (λ i none. absurd (omega arith)) j (omega arith);
+      words = λ j less. words_more c.args.buf.now c.put_word.new.buf head 0 (λ i. slice_index (list_blocks_from_head old index head) (index - 2 ^ i)) c.put_word.ensures (omega (arith, c.requires.room)) (omega arith) is (λ i none. absurd (omega arith)) j (omega arith);
       rest = ap (λ (b : List ℕ). drop (4 * pointers_of index) b) c.put_word.ensures ∙ drop-with_word c.args.buf.now 0 head (4 * pointers_of index) (omega (arith, c.requires.room)) (omega arith);
       len = c.put_word.auto.buf;
       device = not_read g.D.BlockDevice c.args.dev.now;
@@ -81,13 +81,13 @@ loop-k-preserved g c =
     let k : ℕ = c.loop-k.k in
     let many = pointers_of-pos index (omega arith) in
     let few = pointers_of-le index in
-    let is : c.in_ok-to.to ≡ slice_index (blocks_back old index head) (index - 2 ^ (k + 1)) =
-    c.in_ok-to.ensures.word ∙ ap (λ d. word_at (block_in d c.loop-k.to) (4 * k)) inv.device.same ∙ next_pointer old index head k c.loop-k.to c.requires.chain (omega arith) (omega arith) (omega arith) inv.at in
+    let is : c.in_ok-to.to ≡ slice_index (list_blocks_from_head old index head) (index - 2 ^ (k + 1)) =
+    c.in_ok-to.ensures.word ∙ ap (λ d. word_at (block_bytes_in d c.loop-k.to) (4 * k)) inv.device.same ∙ next_pointer old index head k c.loop-k.to c.requires.chain (omega arith) (omega arith) (omega arith) inv.at in
     let room = c.requires.room in
     let len = inv.len in
     record {
       at = is;
-      words = words_more c.loop-k.buf c.put_word-in-loop-k.new.buf c.in_ok-to.to (k + 1) (λ i. slice_index (blocks_back old index head) (index - 2 ^ i)) c.put_word-in-loop-k.ensures (omega arith) (omega arith) is inv.words;
+      words = words_more c.loop-k.buf c.put_word-in-loop-k.new.buf c.in_ok-to.to (k + 1) (λ i. slice_index (list_blocks_from_head old index head) (index - 2 ^ i)) c.put_word-in-loop-k.ensures (omega arith) (omega arith) is inv.words;
       rest = ap (λ (b : List ℕ). drop (4 * pointers_of index) b) c.put_word-in-loop-k.ensures ∙ drop-with_word c.loop-k.buf (4 * (k + 1)) c.in_ok-to.to (4 * pointers_of index) (omega arith) (omega arith) ∙ inv.rest;
       len = c.put_word-in-loop-k.auto.buf ∙ inv.len;
       device = read_on g.D.BlockDevice inv.device c.pointer.ensures.reading.device;

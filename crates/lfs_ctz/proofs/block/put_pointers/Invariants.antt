@@ -1,7 +1,7 @@
 use Rattle.std.proofs.Common.{ℕ, ◌≡◌, ◌<◌, ◌+◌, ◌-◌, ◌*◌, ◌^◌, length, drop, slice_index}
 use Rattle.lfs_device.specs.Calls.{ReadsOnly}
 use Rattle.lfs_model.specs.History.{faults}
-use Rattle.lfs_model.specs.SkipLists.{blocks_back, pointers_of, word_at}
+use Rattle.lfs_model.specs.SkipLists.{list_blocks_from_head, pointers_of, word_at}
 use Rattle.lfs_ctz.proofs.block.put_pointers.Given as goal
 
 abbrev pub invariant-loop-k : goal.invariant-loop-k
@@ -10,8 +10,8 @@ invariant-loop-k g l =
     let history = g.D.BlockDevice.history in
     let old = l.fn.dev in
     record {
-      at : l.to ≡ slice_index (blocks_back (blocks old) l.index l.head) (l.index - 2 ^ l.k);
-      words : (j : ℕ) → j < l.k + 1 → word_at l.buf (4 * j) ≡ slice_index (blocks_back (blocks old) l.index l.head) (l.index - 2 ^ j);
+      at : l.to ≡ slice_index (list_blocks_from_head (blocks old) l.index l.head) (l.index - 2 ^ l.k);
+      words : (j : ℕ) → j < l.k + 1 → word_at l.buf (4 * j) ≡ slice_index (list_blocks_from_head (blocks old) l.index l.head) (l.index - 2 ^ j);
       rest : drop (4 * pointers_of l.index) l.buf ≡ drop (4 * pointers_of l.index) l.fn.buf;
       len : length l.buf ≡ length l.fn.buf;
       device : ReadsOnly g.D.BlockDevice old l.dev;

@@ -1,17 +1,17 @@
 use Rattle.std.proofs.Common.{ℕ, ◌≡◌, ◌-◌, ◌*◌, ◌<◌, ◌^◌, ◌++◌, List, length, take, drop, slice_index, refl, ap, subst, ◌∙◌, arith}
-use Rattle.lfs_model.proofs.Overwrites.{SameBut-trans}
+use Rattle.lfs_model.proofs.Overwrites.{AreBlocksEqualExceptOne-trans}
 use Rattle.lfs_model.proofs.Histories.{erases-reads, programs-reads}
-use Rattle.lfs_model.specs.Blocks.{Blocks, SameBut, block_in}
+use Rattle.lfs_model.specs.Blocks.{Blocks, AreBlocksEqualExceptOne, block_bytes_in}
 use Rattle.lfs_model.specs.History.{erases, programs}
-use Rattle.lfs_model.specs.SkipLists.{blocks_back, pointers_of, word_at}
+use Rattle.lfs_model.specs.SkipLists.{list_blocks_from_head, pointers_of, word_at}
 use Rattle.lfs_ctz.proofs.Grown.{chain_grown, grown_back}
 use Rattle.lfs_ctz.proofs.Called.{changes_on, erase_once, only_read, program_once}
-use Rattle.lfs_ctz.proofs.Words.{block_in-written, word_at-written, data-written}
+use Rattle.lfs_ctz.proofs.Words.{block_bytes_in-written, word_at-written, data-written}
 use Rattle.lfs_ctz.proofs.block.write_block.Goals as goal
 
 -- an erase of the block on the disk as it was
-erased : (d same mid : Blocks) (block : ℕ) → same ≡ d → SameBut block same mid → SameBut block d mid
-erased d same mid block e others = subst (λ k. SameBut block k mid) e others
+erased : (d same mid : Blocks) (block : ℕ) → same ≡ d → AreBlocksEqualExceptOne block same mid → AreBlocksEqualExceptOne block d mid
+erased d same mid block e others = subst (λ k. AreBlocksEqualExceptOne block k mid) e others
 
 pub returns-in_err-put_pointers-clause-device : goal.returns-in_err-put_pointers-clause-device
 returns-in_err-put_pointers-clause-device g c = only_read g.D.BlockDevice c.args.block c.put_pointers.ensures.device
@@ -33,22 +33,22 @@ returns-clause-device g c =
     (program_once g.D.BlockDevice c.prog.ensures.history c.prog.ensures.others c.prog.ensures.geometry)
 
 -- the block is the buffer's beginning, and what the erase left
-block_is : (g : _) (c : goal.In_ok-prog g) → block_in (g.D.BlockDevice.blocks c.prog.new.self) c.args.block
-    ≡ take c.args.end c.put_pointers.new.buf ++ drop c.args.end (block_in (g.D.BlockDevice.blocks c.erase.new.self) c.args.block)
+block_is : (g : _) (c : goal.In_ok-prog g) → block_bytes_in (g.D.BlockDevice.blocks c.prog.new.self) c.args.block
+    ≡ take c.args.end c.put_pointers.new.buf ++ drop c.args.end (block_bytes_in (g.D.BlockDevice.blocks c.erase.new.self) c.args.block)
 block_is g c =
     let shape = g.met.D.BlockDevice.shape c.args.dev.now in
     let others = erased _ _ _ _ c.put_pointers.ensures.device.same c.erase.ensures.others in
-    block_in-written _ _ c.args.block c.args.end _ c.put_pointers.new.buf (omega (arith, shape.count, others.count, c.requires.follows.in_device)) (omega (arith, c.put_pointers.auto.buf, c.requires.size, c.requires.room)) refl c.in_ok-prog.ensures.ok
+    block_bytes_in-written _ _ c.args.block c.args.end _ c.put_pointers.new.buf (omega (arith, shape.count, others.count, c.requires.follows.in_device)) (omega (arith, c.put_pointers.auto.buf, c.requires.size, c.requires.room)) refl c.in_ok-prog.ensures.ok
 
-points : (g : _) (c : goal.In_ok-prog g) → (k : ℕ) → k < pointers_of c.args.index → word_at (block_in (g.D.BlockDevice.blocks c.prog.new.self) c.args.block) (4 * k)
-    ≡ slice_index (blocks_back (g.D.BlockDevice.blocks c.args.dev.now) c.args.index c.args.head) (c.args.index - 2 ^ k)
+points : (g : _) (c : goal.In_ok-prog g) → (k : ℕ) → k < pointers_of c.args.index → word_at (block_bytes_in (g.D.BlockDevice.blocks c.prog.new.self) c.args.block) (4 * k)
+    ≡ slice_index (list_blocks_from_head (g.D.BlockDevice.blocks c.args.dev.now) c.args.index c.args.head) (c.args.index - 2 ^ k)
 points g c k less =
     ap (λ (b : List ℕ). word_at b (4 * k)) (block_is g c)
     ∙ word_at-written c.put_pointers.new.buf _ c.args.end (4 * k) (omega (arith, c.put_pointers.auto.buf, c.requires.size, c.requires.room)) (omega (arith, c.requires.pointers))
     ∙ c.in_ok-put_pointers.ensures.pointers k less
 
-whole : (g : _) (c : goal.In_ok-prog g) → SameBut c.args.block (g.D.BlockDevice.blocks c.args.dev.now) (g.D.BlockDevice.blocks c.prog.new.self)
-whole g c = SameBut-trans (erased _ _ _ _ c.put_pointers.ensures.device.same c.erase.ensures.others) c.prog.ensures.others
+whole : (g : _) (c : goal.In_ok-prog g) → AreBlocksEqualExceptOne c.args.block (g.D.BlockDevice.blocks c.args.dev.now) (g.D.BlockDevice.blocks c.prog.new.self)
+whole g c = AreBlocksEqualExceptOne-trans (erased _ _ _ _ c.put_pointers.ensures.device.same c.erase.ensures.others) c.prog.ensures.others
 
 pub returns-clause-appended : goal.returns-clause-appended
 returns-clause-appended g c =

@@ -5,8 +5,8 @@ use Rattle.std.proofs.lemmas.Result.{err_from_is_err_and}
 use Rattle.lfs_ctz.proofs.Called.{list_as, list_on, not_read, read_on, quiet}
 use lib.Pow.{pow_mono}
 use Rattle.std.proofs.Common.{slice_index}
-use Rattle.lfs_model.specs.Blocks.{Blocks, block_in}
-use Rattle.lfs_model.specs.SkipLists.{word_at, blocks_back}
+use Rattle.lfs_model.specs.Blocks.{Blocks, block_bytes_in}
+use Rattle.lfs_model.specs.SkipLists.{word_at, list_blocks_from_head}
 use Rattle.lfs_ctz.proofs.Back.{FewSteps, no_steps, step_back, few_steps}
 use Rattle.lfs_ctz.proofs.Chains.{head_of_back, pointer_at}
 use Rattle.lfs_ctz.proofs.read.find.Goals as goal
@@ -55,9 +55,9 @@ loop-at-preserved g c =
       high = (let h = inv.high in omega arith);
       found = λ chain.
           c.in_ok-block.ensures.word
-          ∙ ap (λ d. word_at (block_in d c.loop-at.block) (4 * c.min-skip.result)) inv.device.same
+          ∙ ap (λ d. word_at (block_bytes_in d c.loop-at.block) (4 * c.min-skip.result)) inv.device.same
           ∙ pointer_at old c.args.last c.args.head at c.min-skip.result chain (omega arith) inv.high (let e = c.min-skip.ensures in omega arith) c.loop-at.block (inv.found chain)
-          ∙ ap (λ n. slice_index (blocks_back old (c.args.last + 1) c.args.head) (at - n)) (ap (λ n. 2 ^ n) c.min-skip.ensures ∙ sym s);
+          ∙ ap (λ n. slice_index (list_blocks_from_head old (c.args.last + 1) c.args.head) (at - n)) (ap (λ n. 2 ^ n) c.min-skip.ensures ∙ sym s);
       device = read_on g.D.BlockDevice inv.device c.pointer.ensures.reading.device;
       quiet = quiet g.D.BlockDevice c.in_ok-block.ensures.reading.faults ∙ inv.quiet;
       few = λ m lt.

@@ -1,7 +1,7 @@
 use Rattle.std.proofs.Common.{ℕ, ◌≡◌, ◌≤◌, ◌<◌, ◌+◌, ◌^◌, slice_index}
 use Rattle.lfs_device.specs.Calls.{ReadsOnly}
 use Rattle.lfs_model.specs.History.{faults, reads}
-use Rattle.lfs_model.specs.SkipLists.{AreListBlocks, blocks_back}
+use Rattle.lfs_model.specs.SkipLists.{AreListBlocks, list_blocks_from_head}
 use Rattle.lfs_ctz.proofs.Back.{FewSteps}
 use Rattle.lfs_ctz.proofs.read.find.Given as goal
 
@@ -13,7 +13,7 @@ invariant-loop-at g l =
     record {
       low : l.index ≤ l.at;
       high : l.at ≤ l.last;
-      found : AreListBlocks (blocks old) (l.last + 1) l.fn.head → l.block ≡ slice_index (blocks_back (blocks old) (l.last + 1) l.fn.head) l.at;
+      found : AreListBlocks (blocks old) (l.last + 1) l.fn.head → l.block ≡ slice_index (list_blocks_from_head (blocks old) (l.last + 1) l.fn.head) l.at;
       device : ReadsOnly g.D.BlockDevice old l.dev;
       quiet : faults (history l.dev) ≡ faults (history old);
       few : (m : ℕ) → l.last < 2 ^ m → (done : ℕ) × ((reads (history l.dev) ≤ reads (history old) + done) × FewSteps m l.at l.index done);

@@ -1,7 +1,7 @@
 use Rattle.std.proofs.Common.{ℕ, ◌≡◌, ◌≤◌, ◌<◌, ◌+◌, ◌-◌, ◌*◌, ◌^◌, ◌++◌, min, length, drop, slice_index, slice_range}
 use Rattle.lfs_device.specs.Calls.{ReadsOnly}
 use Rattle.lfs_model.specs.History.{faults, reads}
-use Rattle.lfs_model.specs.SkipLists.{IsList, IsBytePlace, blocks_back, blocks_for, bytes_of}
+use Rattle.lfs_model.specs.SkipLists.{IsSkipList, IsPlaceOfByteInList, list_blocks_from_head, list_block_count_for_size, bytes_of}
 use Rattle.lfs_ctz.proofs.read.read_at.Given as goal
 
 abbrev pub invariant-blocks-2 : goal.invariant-blocks-2
@@ -15,14 +15,14 @@ invariant-blocks-2 g l =
       some : 1 ≤ l.left;
       high : l.left ≤ len;
       in_range : l.block < (geometry old).block_count;
-      found : IsList (blocks old) l.block_size l.fn.head l.fn.size → (i off : ℕ) → IsBytePlace l.block_size (l.fn.pos + l.left - 1) i off
-          → l.block ≡ slice_index (blocks_back (blocks old) (blocks_for l.block_size l.fn.size) l.fn.head) i;
-      bytes : IsList (blocks old) l.block_size l.fn.head l.fn.size
+      found : IsSkipList (blocks old) l.block_size l.fn.head l.fn.size → (i off : ℕ) → IsPlaceOfByteInList l.block_size (l.fn.pos + l.left - 1) i off
+          → l.block ≡ slice_index (list_blocks_from_head (blocks old) (list_block_count_for_size l.block_size l.fn.size) l.fn.head) i;
+      bytes : IsSkipList (blocks old) l.block_size l.fn.head l.fn.size
           → drop l.left l.buf ≡ slice_range (bytes_of (blocks old) l.block_size l.fn.head l.fn.size) (l.fn.pos + l.left) (l.fn.pos + len) ++ drop len l.fn.buf;
       rest : drop len l.buf ≡ drop len l.fn.buf;
       device : ReadsOnly g.D.BlockDevice old l.dev;
       quiet : faults (history l.dev) ≡ faults (history old);
-      few : (m i last off end : ℕ) → blocks_for l.block_size l.fn.size ≤ 2 ^ m → IsBytePlace l.block_size (l.fn.pos + l.left - 1) i off → IsBytePlace l.block_size (l.fn.pos + len - 1) last end
+      few : (m i last off end : ℕ) → list_block_count_for_size l.block_size l.fn.size ≤ 2 ^ m → IsPlaceOfByteInList l.block_size (l.fn.pos + l.left - 1) i off → IsPlaceOfByteInList l.block_size (l.fn.pos + len - 1) last end
           → reads (history l.dev) ≤ reads (history old) + 2 * m + 2 * (last - i);
     }
 

@@ -2,8 +2,8 @@ use Rattle.std.proofs.Common.{length, ◌≡◌, ◌≤◌, ◌+◌, drop, rever
 use Rattle.std.specs.List.{FoldsTo}
 use Rattle.lfs_device.specs.Calls.{ReadsOnly}
 use Rattle.lfs_model.specs.History.{faults, reads}
-use Rattle.lfs_model.specs.SkipLists.{AreListBlocks, blocks_back}
-use Rattle.lfs_ctz.specs.Way.{on_way}
+use Rattle.lfs_model.specs.SkipLists.{AreListBlocks, list_blocks_from_head}
+use Rattle.lfs_ctz.specs.Way.{count_of_indices_on_way}
 use Rattle.lfs_ctz.proofs.Walked.{IsChecked}
 use Rattle.lfs_ctz.proofs.visits.walk.Given as goal
 
@@ -15,13 +15,13 @@ invariant-loop-index g l =
     let old = l.fn.dev in
     record {
       low : l.index ≤ l.last;
-      at : l.block ≡ slice_index (blocks_back (blocks old) (l.last + 1) l.fn.head) l.index;
+      at : l.block ≡ slice_index (list_blocks_from_head (blocks old) (l.last + 1) l.fn.head) l.index;
       checked : IsChecked (blocks old) l.last l.fn.head l.first (geometry old).block_count l.index l.words;
       room : length l.words ≡ 128;
-      visited : FoldsTo (λ p x q. goal.F-step g p x tt q) l.fn.visit (reverse (drop (l.index + 1) (blocks_back (blocks old) (l.last + 1) l.fn.head))) l.visit;
+      visited : FoldsTo (λ p x q. goal.F-step g p x tt q) l.fn.visit (reverse (drop (l.index + 1) (list_blocks_from_head (blocks old) (l.last + 1) l.fn.head))) l.visit;
       callable : goal.F-IsAlwaysCallable g l.visit;
       device : ReadsOnly g.D.BlockDevice old l.dev;
-      few : AreListBlocks (blocks old) (l.last + 1) l.fn.head → reads (history l.dev) + l.index ≤ reads (history old) + l.last + on_way l.last l.index;
+      few : AreListBlocks (blocks old) (l.last + 1) l.fn.head → reads (history l.dev) + l.index ≤ reads (history old) + l.last + count_of_indices_on_way l.last l.index;
       quiet : faults (history l.dev) ≡ faults (history old);
     }
 

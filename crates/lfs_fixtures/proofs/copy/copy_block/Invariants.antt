@@ -1,7 +1,7 @@
 use Rattle.std.proofs.Common.{◌≡◌, ◌+◌, ◌*◌, take}
-use Rattle.lfs_device.specs.Calls.{ChangesBlock}
-use Rattle.lfs_model.specs.Blocks.{block_in}
-use Rattle.lfs_model.specs.History.{AllUnprogrammed, erases, programs, faults}
+use Rattle.lfs_device.specs.Calls.{ChangesOnlyThisBlock}
+use Rattle.lfs_model.specs.Blocks.{block_bytes_in}
+use Rattle.lfs_model.specs.History.{AreBytesUnprogrammed, erases, programs, faults}
 use Rattle.lfs_fixtures.proofs.copy.copy_block.Given as goal
 
 -- the pages so far are copied, and the bytes behind them are unprogrammed
@@ -11,9 +11,9 @@ invariant-loop-page g l =
     let history = g.D.BlockDevice.history in
     let old = l.fn.device in
     record {
-      device : ChangesBlock g.D.BlockDevice l.to old l.device;
-      front : take (l.page * l.geometry.page) (block_in (blocks l.device) l.to) ≡ take (l.page * l.geometry.page) (block_in (blocks old) l.from);
-      unprogrammed : AllUnprogrammed (history l.device) l.to (l.page * l.geometry.page) l.geometry.block_size;
+      device : ChangesOnlyThisBlock g.D.BlockDevice l.to old l.device;
+      front : take (l.page * l.geometry.page) (block_bytes_in (blocks l.device) l.to) ≡ take (l.page * l.geometry.page) (block_bytes_in (blocks old) l.from);
+      unprogrammed : AreBytesUnprogrammed (history l.device) l.to (l.page * l.geometry.page) l.geometry.block_size;
       erases : erases (history l.device) ≡ erases (history old) + 1;
       programs : programs (history l.device) ≡ programs (history old) + l.page;
       no_fault : faults (history l.device) ≡ faults (history old);

@@ -1,10 +1,10 @@
 use Rattle.std.proofs.Common.{◌∙◌, ap, sym}
 use Rattle.lfs_model.specs.Operations as ops
-use Rattle.lfs_model.specs.Session.{lacks}
-use Rattle.lfs_tree.specs.TreeState.{surroundings_of}
-use Rattle.lfs_fs.specs.FileView.{files_view}
+use Rattle.lfs_model.specs.Session.{lacks_free_blocks}
+use Rattle.lfs_tree.specs.TreeState.{disk_summary_of_tree}
+use Rattle.lfs_fs.specs.FileView.{open_files_view}
 use Rattle.lfs_fs.specs.FlagsView.{flags_view}
-use Rattle.lfs_fs.specs.SessionView.{session_view_of}
+use Rattle.lfs_fs.specs.SessionView.{session_view_of_tree_and_files}
 use Rattle.lfs_fs.proofs.Answered.{ready_later}
 use Rattle.lfs_fs.proofs.Errors.{given_on}
 use Rattle.lfs_fs.proofs.Late.{writer_late}
@@ -17,19 +17,19 @@ pub returns : goal.returns
 returns g c =
     let t = c.args.tree.now in
     let fs = c.args.files.now in
-    writer_checked (session_view_of t fs) c.args.bytes.now c.in-Some.path (flags_view c.args.flags) c.in_ok-found.found c.look_up.new.self c.size-size.result c.name_len.result c.name_len-2.result
-    c.is_nothing-is_absent.result c.contains-creates.result c.contains-is_exclusive.result c.contains-truncates.result c.is_directory.result c.is_busy_for_writing.result c.is_overcharged.result c.lacks.result c.overfills_anew.result
+    writer_checked (session_view_of_tree_and_files t fs) c.args.bytes.now c.in-Some.path (flags_view c.args.flags) c.in_ok-found.found c.look_up.new.self c.size-size.result c.name_len.result c.name_len-2.result
+    c.is_nothing-is_absent.result c.contains-creates.result c.contains-is_exclusive.result c.contains-truncates.result c.is_directory.result c.is_busy_for_writing.result c.is_overcharged.result c.lacks.result c.lacks_room_to_replace.result
     c.both.result c.both-2.result c.both-3.result c.both-4.result c.both-5.result c.both-6.result c.both-7.result
-    c.refuse_if.result c.refuse_if-2.result c.refuse_if-3.result c.refuse_if-4.result c.refuse_if-5.result c.refuse_if-6.result c.refuse_if-7.result c.refuse_if-8.result c.unless_refused.result
+    c.refuse_if.result c.refuse_if-2.result c.refuse_if-3.result c.refuse_if-4.result c.refuse_if-5.result c.refuse_if-6.result c.refuse_if-7.result c.refuse_if-8.result c.value_unless_checks_refuse.result
     c.if-has_failed.ensures c.if-not-is_writable.ensures c.in-Some.ensures c.requires.write c.if-not-is_allowed.ensures c.in_ok-found.ensures.asks.asked c.in_ok-found.ensures.found
     c.is_nothing-is_absent.ensures c.size-size.ensures (c.contains-creates.ensures tt) (c.contains-is_exclusive.ensures tt) (c.contains-truncates.ensures tt)
     c.name_len.ensures.len c.both.ensures c.both-2.ensures c.refuse_if.ensures c.both-3.ensures c.refuse_if-2.ensures c.both-4.ensures c.refuse_if-3.ensures c.is_directory.ensures c.refuse_if-4.ensures
     (busy_for t fs c.args.bytes.now _ _ c.in-Some.ensures c.is_busy_for_writing.ensures)
     c.refuse_if-5.ensures c.name_len-2.ensures.len c.is_overcharged.ensures c.both-5.ensures c.refuse_if-6.ensures
-    (c.lacks.ensures ∙ lacks_is c.look_up.new.self fs 2 (ready_later _ _ fs (c.requires.ready (sym c.if-has_failed.ensures)) c.in_ok-found.ensures.asks.asked) ∙ ap (λ z. lacks (surroundings_of c.look_up.new.self) (files_view z fs) 2) c.in_ok-found.ensures.asks.asked.same)
-    c.both-6.ensures c.refuse_if-7.ensures c.overfills_anew.ensures c.both-7.ensures c.refuse_if-8.ensures c.unless_refused.ensures
+    (c.lacks.ensures ∙ lacks_is c.look_up.new.self fs 2 (ready_later _ _ fs (c.requires.ready (sym c.if-has_failed.ensures)) c.in_ok-found.ensures.asks.asked) ∙ ap (λ z. lacks_free_blocks (disk_summary_of_tree c.look_up.new.self) (open_files_view z fs) 2) c.in_ok-found.ensures.asks.asked.same)
+    c.both-6.ensures c.refuse_if-7.ensures c.lacks_room_to_replace.ensures c.both-7.ensures c.refuse_if-8.ensures c.value_unless_checks_refuse.ensures
 
 pub returns-in_err-found : goal.returns-in_err-found
 returns-in_err-found g c =
-    lookup_failed (session_view_of c.args.tree.now c.args.files.now) (ops.Open c.args.bytes.now (flags_view c.args.flags)) _ c.in_err-found.field-0.0 _ c.from_residual.result c.if-has_failed.ensures c.in_err-found.ensures.asks.broken c.in_err-found.ensures.asks.errors (writer_late (session_view_of c.args.tree.now c.args.files.now) c.args.bytes.now c.in-Some.path (flags_view c.args.flags) c.if-has_failed.ensures c.if-not-is_writable.ensures c.in-Some.ensures c.requires.write c.if-not-is_allowed.ensures)
+    lookup_failed (session_view_of_tree_and_files c.args.tree.now c.args.files.now) (ops.Open c.args.bytes.now (flags_view c.args.flags)) _ c.in_err-found.field-0.0 _ c.from_residual.result c.if-has_failed.ensures c.in_err-found.ensures.asks.broken c.in_err-found.ensures.asks.errors (writer_late (session_view_of_tree_and_files c.args.tree.now c.args.files.now) c.args.bytes.now c.in-Some.path (flags_view c.args.flags) c.if-has_failed.ensures c.if-not-is_writable.ensures c.in-Some.ensures c.requires.write c.if-not-is_allowed.ensures)
     (given_on _ c.from_residual.result c.from_residual.ensures.1)

@@ -15,15 +15,15 @@ returns-then-size-gt-FILE_MAX g c =
 pub returns-then-overfills : goal.returns-then-overfills
 returns-then-overfills g c = (
   refl,
-  truncate_fits c.args.tree.now c.args.files.now c.args.fd c.args.size c.in-Some.writer.now c.has_turned_by_size.result c.overfills.result c.if-has_failed.ensures (written_at c.args.tree.now c.args.files.now c.args.fd c.in-Some.writer.now (c.requires (sym c.if-has_failed.ensures)).written c.in-Some.ensures) c.in-Some.ensures (within_limit c.args.size (omega (arith, c.if-size-gt-FILE_MAX.false)))
-      c.if-size-writer.true c.has_turned_by_size.ensures c.overfills.ensures ∙ ap (λ b. refuse_if b ops.NoSpace) c.if-overfills.true,
+  truncate_fits c.args.tree.now c.args.files.now c.args.fd c.args.size c.in-Some.writer.now c.is_nonsequential_after_resize.result c.overfills.result c.if-has_failed.ensures (written_at c.args.tree.now c.args.files.now c.args.fd c.in-Some.writer.now (c.requires (sym c.if-has_failed.ensures)).written c.in-Some.ensures) c.in-Some.ensures (within_limit c.args.size (omega (arith, c.if-size-gt-FILE_MAX.false)))
+      c.if-size-writer.true c.is_nonsequential_after_resize.ensures c.overfills.ensures ∙ ap (λ b. refuse_if b ops.NoSpace) c.if-overfills.true,
 )
 
 pub returns : goal.returns
 returns g c = (
   elim c.else-size-writer.branch [
-    | else-size-writer-via-then-size-writer+else-overfills w ↦ truncate_fits c.args.tree.now c.args.files.now c.args.fd c.args.size c.in-Some.writer.now w.has_turned_by_size.result w.overfills.result c.if-has_failed.ensures (written_at c.args.tree.now c.args.files.now c.args.fd c.in-Some.writer.now (c.requires (sym c.if-has_failed.ensures)).written c.in-Some.ensures) c.in-Some.ensures (within_limit c.args.size (omega (arith, c.if-size-gt-FILE_MAX.false)))
-        w.if-size-writer.true w.has_turned_by_size.ensures w.overfills.ensures ∙ ap (λ b. refuse_if b ops.NoSpace) w.if-overfills.false
+    | else-size-writer-via-then-size-writer+else-overfills w ↦ truncate_fits c.args.tree.now c.args.files.now c.args.fd c.args.size c.in-Some.writer.now w.is_nonsequential_after_resize.result w.overfills.result c.if-has_failed.ensures (written_at c.args.tree.now c.args.files.now c.args.fd c.in-Some.writer.now (c.requires (sym c.if-has_failed.ensures)).written c.in-Some.ensures) c.in-Some.ensures (within_limit c.args.size (omega (arith, c.if-size-gt-FILE_MAX.false)))
+        w.if-size-writer.true w.is_nonsequential_after_resize.ensures w.overfills.ensures ∙ ap (λ b. refuse_if b ops.NoSpace) w.if-overfills.false
     | else-size-writer-via-else-size-writer w ↦ truncate_same c.args.tree.now c.args.files.now c.args.fd c.args.size c.in-Some.writer.now c.if-has_failed.ensures (written_at c.args.tree.now c.args.files.now c.args.fd c.in-Some.writer.now (c.requires (sym c.if-has_failed.ensures)).written c.in-Some.ensures) c.in-Some.ensures (within_limit c.args.size (omega (arith, c.if-size-gt-FILE_MAX.false))) w.if-size-writer.false
   ],
   writer_there c.args.files.now c.args.fd c.in-Some.writer.now c.in-Some.ensures,

@@ -2,4 +2,4 @@ use Rattle.std.proofs.Common.{[], refl}
 use Rattle.lfs_fs.proofs.checks.is_overcharged.Goals as goal
 
 pub returns : goal.returns
-returns g c name e = c.is_overcharged_with.ensures name [] e refl
+returns g c name e = c.is_overcharged_with_attributes.ensures name [] e refl

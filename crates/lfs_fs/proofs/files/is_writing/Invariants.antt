@@ -1,6 +1,6 @@
 use Rattle.std.proofs.Common.{◌≡◌, drop}
-use Rattle.lfs_fs.specs.FileView.{writers_in}
+use Rattle.lfs_fs.specs.FileView.{writers_among}
 use Rattle.lfs_fs.proofs.files.is_writing.Given as goal
 
 abbrev pub invariant-loop-entry : goal.invariant-loop-entry
-invariant-loop-entry l = writers_in l.entries ≡ writers_in (drop l.entry-index l.entries)
+invariant-loop-entry l = writers_among l.entries ≡ writers_among (drop l.entry-index l.entries)

@@ -1,11 +1,11 @@
 use Rattle.std.proofs.Common.{rules, refl}
 use Rattle.lfs_device.specs.RamDevice.{geometry_of, ram_blocks}
-use Rattle.lfs_device.specs.Shown.{disk_of, ordered}
+use Rattle.lfs_device.specs.Shown.{disk_of_geometry_and_blocks, ordered}
 use Rattle.lfs_fs_tests.proofs.recovery.recover_device.Goals as goal
 
 pub returns-in-Ok : goal.returns-in-Ok
 returns-in-Ok c = λ order before after stop.
-    let disk = disk_of (geometry_of c.args.device) (ram_blocks c.args.device) in
+    let disk = disk_of_geometry_and_blocks (geometry_of c.args.device) (ram_blocks c.args.device) in
     c.recover_session.ensures (ordered order disk) (ordered c.in-Ok.session.tree.disk.order disk) before after stop refl c.in-Ok.ensures.state
 
 pub returns : goal.returns

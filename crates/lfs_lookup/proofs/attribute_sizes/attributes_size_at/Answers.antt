@@ -10,36 +10,36 @@ use Rattle.lfs_lookup.proofs.AttributesPut.{none_sized}
 use Rattle.lfs_lookup.proofs.Reading.{answered, further}
 use Rattle.lfs_lookup.proofs.attribute_sizes.attributes_size_at.Goals as goal
 
-pub size_of_slot-requires-clause-below : goal.size_of_slot-requires-clause-below
-size_of_slot-requires-clause-below g c =
+pub attributes_size_of_slot-requires-clause-below : goal.attributes_size_of_slot-requires-clause-below
+attributes_size_of_slot-requires-clause-below g c =
     let t = c.args.thread.now.kept in
-    let f = slot_for t c.args.path.now c.in_ok-shown.shown c.in-Some.slot c.in_ok-shown.ensures.shown (sym c.slot_of.ensures ∙ c.in-Some.is) in
+    let f = slot_for t c.args.path.now c.in_ok-shown.shown c.in-Some.slot c.in_ok-shown.ensures.shown (sym c.spot_of_shown_entry.ensures ∙ c.in-Some.is) in
     subst (λ (ps : List Pair). c.in-Some.slot.pair < length ps) (sym c.shown_at.ensures.reading.only.pairs) f.below
 
-pub size_of_slot-requires-clause-cached_log : goal.size_of_slot-requires-clause-cached_log
-size_of_slot-requires-clause-cached_log g c =
-    slot_is_cached c.shown_at.new.thread c.in_ok-shown.shown (Some c.in-Some.slot) c.in_ok-shown.ensures.cached_log (sym (sym c.slot_of.ensures ∙ c.in-Some.is))
+pub attributes_size_of_slot-requires-clause-cached_log : goal.attributes_size_of_slot-requires-clause-cached_log
+attributes_size_of_slot-requires-clause-cached_log g c =
+    slot_is_cached c.shown_at.new.thread c.in_ok-shown.shown (Some c.in-Some.slot) c.in_ok-shown.ensures.cached_log (sym (sym c.spot_of_shown_entry.ensures ∙ c.in-Some.is))
 
 pub returns-clause-is : goal.returns-clause-is
 returns-clause-is g c =
     let t = c.args.thread.now.kept in
-    let f = slot_for t c.args.path.now c.in_ok-shown.shown c.in-Some.slot c.in_ok-shown.ensures.shown (sym c.slot_of.ensures ∙ c.in-Some.is) in
-    subst (λ a. IfOk c.size_of_slot.result (IsAttributesSize a)) f.attributes
-    (c.size_of_slot.ensures.is f.held
+    let f = slot_for t c.args.path.now c.in_ok-shown.shown c.in-Some.slot c.in_ok-shown.ensures.shown (sym c.spot_of_shown_entry.ensures ∙ c.in-Some.is) in
+    subst (λ a. IfOk c.attributes_size_of_slot.result (IsAttributesSize a)) f.attributes
+    (c.attributes_size_of_slot.ensures.is f.held
     (subst (λ (ps : List Pair). slice_get (slice_index_or ps c.in-Some.slot.pair no_pair).content.slots c.in-Some.slot.id ≡ Some f.held) (sym c.shown_at.ensures.reading.only.pairs) f.there))
 
 pub returns-clause-reading : goal.returns-clause-reading
 returns-clause-reading g c =
-    further _ _ _ c.size_of_slot.result (answered _ _ c.shown_at.result c.in_ok-shown.shown c.in_ok-shown.was c.shown_at.ensures.reading) c.size_of_slot.ensures.reading
+    further _ _ _ c.attributes_size_of_slot.result (answered _ _ c.shown_at.result c.in_ok-shown.shown c.in_ok-shown.was c.shown_at.ensures.reading) c.attributes_size_of_slot.ensures.reading
 
 pub returns-in_default-clause-is : goal.returns-in_default-clause-is
 returns-in_default-clause-is g c =
-    subst (λ a. IsAttributesSize a 0) (sym (no_slot c.args.thread.now.kept c.args.path.now c.in_ok-shown.shown c.in_ok-shown.ensures.shown (sym c.slot_of.ensures ∙ c.in_default.is))) none_sized
+    subst (λ a. IsAttributesSize a 0) (sym (no_slot c.args.thread.now.kept c.args.path.now c.in_ok-shown.shown c.in_ok-shown.ensures.shown (sym c.spot_of_shown_entry.ensures ∙ c.in_default.is))) none_sized
 
 pub returns-clause-few : goal.returns-clause-few
 returns-clause-few g c =
     let f = c.shown_at.ensures.few in
-    let e = ap (λ (t : Kept). reads t.history) c.size_of_slot.ensures.no_call in
+    let e = ap (λ (t : Kept). reads t.history) c.attributes_size_of_slot.ensures.no_call in
     omega (arith, f, e)
 
 pub returns-in_err-shown-clause-kept : goal.returns-in_err-shown-clause-kept
@@ -49,10 +49,10 @@ pub returns-in_default-clause-kept : goal.returns-in_default-clause-kept
 returns-in_default-clause-kept g c = c.shown_at.ensures.loads.none
 
 pub returns-clause-kept : goal.returns-clause-kept
-returns-clause-kept g c = λ there. ap (λ (t : Kept). reads t.history) c.size_of_slot.ensures.no_call ∙ c.shown_at.ensures.loads.none there
+returns-clause-kept g c = λ there. ap (λ (t : Kept). reads t.history) c.attributes_size_of_slot.ensures.no_call ∙ c.shown_at.ensures.loads.none there
 
 pub returns-clause-halves : goal.returns-clause-halves
 returns-clause-halves g c settled slots =
     let k = c.shown_at.ensures.halves settled slots in
-    let e = ap (λ (t : Kept). reads t.history) c.size_of_slot.ensures.no_call in
+    let e = ap (λ (t : Kept). reads t.history) c.attributes_size_of_slot.ensures.no_call in
     omega (arith, k, e)

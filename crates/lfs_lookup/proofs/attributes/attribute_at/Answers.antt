@@ -1,8 +1,8 @@
 use Rattle.std.proofs.Common.{◌∙◌, ap, refl, arith}
 use Rattle.std.proofs.lemmas.Result.{err_from_is_err_and}
 use Rattle.lfs_model.specs.History.{reads}
-use Rattle.lfs_model.specs.TreeEdits.{attributes_of}
-use Rattle.lfs_model.specs.Shown.{tree_in}
+use Rattle.lfs_model.specs.TreeEdits.{attributes_of_node}
+use Rattle.lfs_model.specs.Shown.{tree_on_disk}
 use Rattle.lfs_thread.specs.Kept.{Kept}
 use Rattle.lfs_lookup.proofs.AtPaths.{sized_on}
 use Rattle.lfs_lookup.proofs.AttributeAtSlots.{are_held, held_later, slot_is_cached, slot_within}
@@ -12,10 +12,10 @@ use Rattle.lfs_lookup.proofs.attributes.attribute_at.Goals as goal
 
 pub attribute_if_slot-requires-clause-below : goal.attribute_if_slot-requires-clause-below
 attribute_if_slot-requires-clause-below g c =
-    slot_within c.args.thread.now.kept c.args.path.now c.in_ok-shown.shown c.slot_of.result c.shown_at.new.thread.kept.pairs c.in_ok-shown.ensures.shown c.slot_of.ensures c.shown_at.ensures.reading.only.pairs
+    slot_within c.args.thread.now.kept c.args.path.now c.in_ok-shown.shown c.spot_of_shown_entry.result c.shown_at.new.thread.kept.pairs c.in_ok-shown.ensures.shown c.spot_of_shown_entry.ensures c.shown_at.ensures.reading.only.pairs
 
 pub attribute_if_slot-requires-clause-cached_log : goal.attribute_if_slot-requires-clause-cached_log
-attribute_if_slot-requires-clause-cached_log g c = slot_is_cached c.shown_at.new.thread c.in_ok-shown.shown c.slot_of.result c.in_ok-shown.ensures.cached_log c.slot_of.ensures
+attribute_if_slot-requires-clause-cached_log g c = slot_is_cached c.shown_at.new.thread c.in_ok-shown.shown c.spot_of_shown_entry.result c.in_ok-shown.ensures.cached_log c.spot_of_shown_entry.ensures
 
 pub returns-in_err-bytes-clause-reading : goal.returns-in_err-bytes-clause-reading
 returns-in_err-bytes-clause-reading g c =
@@ -44,8 +44,8 @@ returns-clause-found g c =
 pub returns-clause-is : goal.returns-clause-is
 returns-clause-is g c =
     let t = c.args.thread.now.kept in
-    let held = are_held t c.args.path.now c.in_ok-shown.shown c.slot_of.result c.in_ok-shown.ensures.shown c.slot_of.ensures in
-    c.in_ok-bytes.ensures.is (attributes_of (tree_in t.disk t.pairs c.args.path.now)) (held_later t c.shown_at.new.thread.kept c.slot_of.result _ c.shown_at.ensures.reading.only.pairs held)
+    let held = are_held t c.args.path.now c.in_ok-shown.shown c.spot_of_shown_entry.result c.in_ok-shown.ensures.shown c.spot_of_shown_entry.ensures in
+    c.in_ok-bytes.ensures.is (attributes_of_node (tree_on_disk t.disk t.pairs c.args.path.now)) (held_later t c.shown_at.new.thread.kept c.spot_of_shown_entry.result _ c.shown_at.ensures.reading.only.pairs held)
 
 pub returns-clause-few : goal.returns-clause-few
 returns-clause-few g c =

@@ -1,6 +1,6 @@
 use Rattle.std.proofs.Common.{◌∙◌, arith, refl}
 use Rattle.std.proofs.lemmas.Result.{err_from_is_err_and}
-use Rattle.lfs_model.specs.Frame.{pairs_of_path}
+use Rattle.lfs_model.specs.Frame.{pair_count_of_directory_at}
 use Rattle.lfs_lookup.proofs.AtPaths.{sized_on}
 use Rattle.lfs_lookup.proofs.Reading.{answered, answers, both, further, passed}
 use Rattle.lfs_lookup.proofs.ShownFindings.{few_from, few_own, first_at, first_within, found_shown, has_beneath, in_entry}
@@ -45,7 +45,7 @@ returns-clause-reading g c =
 pub returns-in_err-shown-clause-few : goal.returns-in_err-shown-clause-few
 returns-in_err-shown-clause-few g c =
     let f = c.shown_at.ensures.few in
-    let s = few_own (pairs_of_path c.args.thread.now.kept.pairs) c.args.path.now in
+    let s = few_own (pair_count_of_directory_at c.args.thread.now.kept.pairs) c.args.path.now in
     omega (arith, f, s)
 
 pub returns-in_err-has_entries-clause-few : goal.returns-in_err-has_entries-clause-few
@@ -55,7 +55,7 @@ returns-in_err-has_entries-clause-few g c =
     let n = c.has_entries.ensures.few in
     let k = few_from t c.args.path.now c.requires.accepted c.shown_at.new.thread.kept.pairs c.first_of.result c.shown_at.ensures.reading.only.pairs
     (first_at t c.args.path.now c.requires.accepted c.args.root c.in_ok-shown.shown c.first_of.result c.requires.root c.in_ok-shown.ensures.shown c.first_of.ensures) in
-    let s = few_own (pairs_of_path t.pairs) c.args.path.now in
+    let s = few_own (pair_count_of_directory_at t.pairs) c.args.path.now in
     omega (arith, f, n, k, s)
 
 pub returns-clause-few : goal.returns-clause-few
@@ -65,5 +65,5 @@ returns-clause-few g c =
     let n = c.has_entries.ensures.few in
     let k = few_from t c.args.path.now c.requires.accepted c.shown_at.new.thread.kept.pairs c.first_of.result c.shown_at.ensures.reading.only.pairs
     (first_at t c.args.path.now c.requires.accepted c.args.root c.in_ok-shown.shown c.first_of.result c.requires.root c.in_ok-shown.ensures.shown c.first_of.ensures) in
-    let s = few_own (pairs_of_path t.pairs) c.args.path.now in
+    let s = few_own (pair_count_of_directory_at t.pairs) c.args.path.now in
     omega (arith, f, n, k, s)

@@ -1,6 +1,6 @@
 use Rattle.std.proofs.Common.{Err, ap, map, refl, ◌∙◌, arith}
 use Rattle.std.proofs.lemmas.Result.{err_from_is_err_and}
-use Rattle.lfs_model.specs.Frame.{pairs_of_path}
+use Rattle.lfs_model.specs.Frame.{pair_count_of_directory_at}
 use Rattle.lfs_lookup.specs.Finds.{list_item_view}
 use Rattle.lfs_lookup.specs.Items.{items_view}
 use Rattle.lfs_lookup.proofs.AtPaths.{sized_on}
@@ -14,11 +14,11 @@ use Rattle.lfs_lookup.proofs.listings.list_at.Goals as goal
 pub returns-in_err-shown-clause-few : goal.returns-in_err-shown-clause-few
 returns-in_err-shown-clause-few g c =
     let f = c.shown_at.ensures.few in
-    let s = few_own (pairs_of_path c.args.thread.now.kept.pairs) c.args.path.now in
+    let s = few_own (pair_count_of_directory_at c.args.thread.now.kept.pairs) c.args.path.now in
     omega (arith, f, s)
 
-pub entries_from-requires-clause-below : goal.entries_from-requires-clause-below
-entries_from-requires-clause-below g c =
+pub items_from_first_pair-requires-clause-below : goal.items_from_first_pair-requires-clause-below
+items_from_first_pair-requires-clause-below g c =
     let t = c.args.thread.now.kept in
     first_within t c.args.path.now c.requires.accepted c.shown_at.new.thread.kept.pairs c.first_of.result c.shown_at.ensures.reading.only.pairs
     (first_at t c.args.path.now c.requires.accepted c.args.root c.in_ok-shown.shown c.first_of.result c.requires.root c.in_ok-shown.ensures.shown c.first_of.ensures)
@@ -26,17 +26,17 @@ entries_from-requires-clause-below g c =
 pub returns-in_err-items-clause-reading : goal.returns-in_err-items-clause-reading
 returns-in_err-items-clause-reading g c =
     let p = err_from_is_err_and c.from_residual-in_err-items.result c.from_residual-in_err-items.ensures.1 in
-    passed _ _ c.entries_from.result c.from_residual-in_err-items.result _ p.0 c.in_err-items.was p.1 p.2
-    (further _ _ _ c.entries_from.result (answered _ _ c.shown_at.result c.in_ok-shown.shown c.in_ok-shown.was c.shown_at.ensures.reading) c.entries_from.ensures.reading)
+    passed _ _ c.items_from_first_pair.result c.from_residual-in_err-items.result _ p.0 c.in_err-items.was p.1 p.2
+    (further _ _ _ c.items_from_first_pair.result (answered _ _ c.shown_at.result c.in_ok-shown.shown c.in_ok-shown.was c.shown_at.ensures.reading) c.items_from_first_pair.ensures.reading)
 
 pub returns-in_err-items-clause-few : goal.returns-in_err-items-clause-few
 returns-in_err-items-clause-few g c =
     let t = c.args.thread.now.kept in
     let f = c.shown_at.ensures.few in
-    let n = c.entries_from.ensures.few in
+    let n = c.items_from_first_pair.ensures.few in
     let k = few_from t c.args.path.now c.requires.accepted c.shown_at.new.thread.kept.pairs c.first_of.result c.shown_at.ensures.reading.only.pairs
     (first_at t c.args.path.now c.requires.accepted c.args.root c.in_ok-shown.shown c.first_of.result c.requires.root c.in_ok-shown.ensures.shown c.first_of.ensures) in
-    let s = few_own (pairs_of_path t.pairs) c.args.path.now in
+    let s = few_own (pair_count_of_directory_at t.pairs) c.args.path.now in
     omega (arith, f, n, k, s)
 
 pub listed_items-requires : goal.listed_items-requires
@@ -45,22 +45,22 @@ listed_items-requires g c =
     let device = c.device-device.result.now in
     short_from t c.args.path.now c.requires.accepted c.shown_at.new.thread.kept.pairs c.first_of.result (items_view c.in_ok-items.items.items) (items_view c.sort_by_name.new.items.items) c.shown_at.ensures.reading.only.pairs
     (first_at t c.args.path.now c.requires.accepted c.args.root c.in_ok-shown.shown c.first_of.result c.requires.root c.in_ok-shown.ensures.shown c.first_of.ensures) c.in_ok-items.ensures.items c.sort_by_name.ensures
-    (bytes_on g.D.BlockDevice device t.disk (c.device-device.ensures.disk ∙ c.entries_from.ensures.reading.only.disk ∙ c.shown_at.ensures.reading.only.disk) (g.met.D.BlockDevice.bytes device))
+    (bytes_on g.D.BlockDevice device t.disk (c.device-device.ensures.disk ∙ c.items_from_first_pair.ensures.reading.only.disk ∙ c.shown_at.ensures.reading.only.disk) (g.met.D.BlockDevice.bytes device))
 
 pub returns-in_err-listed-clause-reading : goal.returns-in_err-listed-clause-reading
 returns-in_err-listed-clause-reading g c =
     let p = err_from_is_err_and c.from_residual-in_err-listed.result c.from_residual-in_err-listed.ensures.1 in
     lacks_memory _ _ c.from_residual-in_err-listed.result (p.1 ∙ ap Err p.2)
-    (both _ _ _ (answered _ _ c.shown_at.result c.in_ok-shown.shown c.in_ok-shown.was c.shown_at.ensures.reading) (answered _ _ c.entries_from.result c.in_ok-items.items c.in_ok-items.was c.entries_from.ensures.reading))
+    (both _ _ _ (answered _ _ c.shown_at.result c.in_ok-shown.shown c.in_ok-shown.was c.shown_at.ensures.reading) (answered _ _ c.items_from_first_pair.result c.in_ok-items.items c.in_ok-items.was c.items_from_first_pair.ensures.reading))
 
 pub returns-in_err-listed-clause-few : goal.returns-in_err-listed-clause-few
 returns-in_err-listed-clause-few g c =
     let t = c.args.thread.now.kept in
     let f = c.shown_at.ensures.few in
-    let n = c.entries_from.ensures.few in
+    let n = c.items_from_first_pair.ensures.few in
     let k = few_from t c.args.path.now c.requires.accepted c.shown_at.new.thread.kept.pairs c.first_of.result c.shown_at.ensures.reading.only.pairs
     (first_at t c.args.path.now c.requires.accepted c.args.root c.in_ok-shown.shown c.first_of.result c.requires.root c.in_ok-shown.ensures.shown c.first_of.ensures) in
-    let s = few_own (pairs_of_path t.pairs) c.args.path.now in
+    let s = few_own (pair_count_of_directory_at t.pairs) c.args.path.now in
     omega (arith, f, n, k, s)
 
 pub found_node_of-requires : goal.found_node_of-requires
@@ -71,7 +71,7 @@ returns-clause-found g c =
     let t = c.args.thread.now.kept in
     let device = c.device-device.result.now in
     found_shown t c.args.path.now c.requires.accepted c.args.root c.in_ok-shown.shown c.found_node_of.result c.requires.root
-    (sized_on g.D.BlockDevice device t.disk (g.D.BlockDevice.geometry device).block_count (c.device-device.ensures.disk ∙ c.entries_from.ensures.reading.only.disk ∙ c.shown_at.ensures.reading.only.disk)
+    (sized_on g.D.BlockDevice device t.disk (g.D.BlockDevice.geometry device).block_count (c.device-device.ensures.disk ∙ c.items_from_first_pair.ensures.reading.only.disk ∙ c.shown_at.ensures.reading.only.disk)
     (g.D.BlockDevice.geometry device).valid.no_smaller (g.met.D.BlockDevice.shape device))
     c.in_ok-shown.ensures.shown c.found_node_of.ensures
 
@@ -81,7 +81,7 @@ returns-clause-items g c =
     let device = c.device-device.result.now in
     listed_from t c.args.path.now c.requires.accepted c.shown_at.new.thread.kept.pairs c.first_of.result (items_view c.in_ok-items.items.items) (items_view c.sort_by_name.new.items.items) (map list_item_view c.in_ok-listed.listed.items) c.shown_at.ensures.reading.only.pairs
     (first_at t c.args.path.now c.requires.accepted c.args.root c.in_ok-shown.shown c.first_of.result c.requires.root c.in_ok-shown.ensures.shown c.first_of.ensures) c.in_ok-items.ensures.items c.sort_by_name.ensures
-    (sized_on g.D.BlockDevice device t.disk (g.D.BlockDevice.geometry device).block_count (c.device-device.ensures.disk ∙ c.entries_from.ensures.reading.only.disk ∙ c.shown_at.ensures.reading.only.disk)
+    (sized_on g.D.BlockDevice device t.disk (g.D.BlockDevice.geometry device).block_count (c.device-device.ensures.disk ∙ c.items_from_first_pair.ensures.reading.only.disk ∙ c.shown_at.ensures.reading.only.disk)
     (g.D.BlockDevice.geometry device).valid.no_smaller (g.met.D.BlockDevice.shape device))
     c.in_ok-listed.ensures
 
@@ -89,16 +89,16 @@ pub returns-clause-few : goal.returns-clause-few
 returns-clause-few g c =
     let t = c.args.thread.now.kept in
     let f = c.shown_at.ensures.few in
-    let n = c.entries_from.ensures.few in
+    let n = c.items_from_first_pair.ensures.few in
     let k = few_from t c.args.path.now c.requires.accepted c.shown_at.new.thread.kept.pairs c.first_of.result c.shown_at.ensures.reading.only.pairs
     (first_at t c.args.path.now c.requires.accepted c.args.root c.in_ok-shown.shown c.first_of.result c.requires.root c.in_ok-shown.ensures.shown c.first_of.ensures) in
-    let s = few_own (pairs_of_path t.pairs) c.args.path.now in
+    let s = few_own (pair_count_of_directory_at t.pairs) c.args.path.now in
     omega (arith, f, n, k, s)
 
 pub returns-clause-reading : goal.returns-clause-reading
 returns-clause-reading g c =
     answers _ _ _ _ refl (both _ _ _ (answered _ _ c.shown_at.result c.in_ok-shown.shown c.in_ok-shown.was c.shown_at.ensures.reading)
-    (answered _ _ c.entries_from.result c.in_ok-items.items c.in_ok-items.was c.entries_from.ensures.reading))
+    (answered _ _ c.items_from_first_pair.result c.in_ok-items.items c.in_ok-items.was c.items_from_first_pair.ensures.reading))
 
 pub returns-in_err-shown-clause-kept : goal.returns-in_err-shown-clause-kept
 returns-in_err-shown-clause-kept g c = λ there. c.shown_at.ensures.loads.none (on_hand_above c.args.thread.now c.args.path.now there)
@@ -109,7 +109,7 @@ returns-in_err-items-clause-kept g c = λ there.
     let only = c.shown_at.ensures.reading.only in
     let stay = on_ok c.shown_at.result c.in_ok-shown.shown _ c.in_ok-shown.was (c.shown_at.ensures.loads.stay (on_hand_above c.args.thread.now c.args.path.now there)) in
     let at = first_at t c.args.path.now c.requires.accepted c.args.root c.in_ok-shown.shown c.first_of.result c.requires.root c.in_ok-shown.ensures.shown c.first_of.ensures in
-    c.entries_from.ensures.kept (first_on_hand c.args.thread.now c.shown_at.new.thread c.args.path.now c.requires.accepted only c.first_of.result at stay there)
+    c.items_from_first_pair.ensures.kept (first_on_hand c.args.thread.now c.shown_at.new.thread c.args.path.now c.requires.accepted only c.first_of.result at stay there)
     ∙ c.shown_at.ensures.loads.none (on_hand_above c.args.thread.now c.args.path.now there)
 
 pub returns-in_err-listed-clause-kept : goal.returns-in_err-listed-clause-kept
@@ -118,7 +118,7 @@ returns-in_err-listed-clause-kept g c = λ there.
     let only = c.shown_at.ensures.reading.only in
     let stay = on_ok c.shown_at.result c.in_ok-shown.shown _ c.in_ok-shown.was (c.shown_at.ensures.loads.stay (on_hand_above c.args.thread.now c.args.path.now there)) in
     let at = first_at t c.args.path.now c.requires.accepted c.args.root c.in_ok-shown.shown c.first_of.result c.requires.root c.in_ok-shown.ensures.shown c.first_of.ensures in
-    c.entries_from.ensures.kept (first_on_hand c.args.thread.now c.shown_at.new.thread c.args.path.now c.requires.accepted only c.first_of.result at stay there)
+    c.items_from_first_pair.ensures.kept (first_on_hand c.args.thread.now c.shown_at.new.thread c.args.path.now c.requires.accepted only c.first_of.result at stay there)
     ∙ c.shown_at.ensures.loads.none (on_hand_above c.args.thread.now c.args.path.now there)
 
 pub returns-clause-kept : goal.returns-clause-kept
@@ -127,5 +127,5 @@ returns-clause-kept g c = λ there.
     let only = c.shown_at.ensures.reading.only in
     let stay = on_ok c.shown_at.result c.in_ok-shown.shown _ c.in_ok-shown.was (c.shown_at.ensures.loads.stay (on_hand_above c.args.thread.now c.args.path.now there)) in
     let at = first_at t c.args.path.now c.requires.accepted c.args.root c.in_ok-shown.shown c.first_of.result c.requires.root c.in_ok-shown.ensures.shown c.first_of.ensures in
-    c.entries_from.ensures.kept (first_on_hand c.args.thread.now c.shown_at.new.thread c.args.path.now c.requires.accepted only c.first_of.result at stay there)
+    c.items_from_first_pair.ensures.kept (first_on_hand c.args.thread.now c.shown_at.new.thread c.args.path.now c.requires.accepted only c.first_of.result at stay there)
     ∙ c.shown_at.ensures.loads.none (on_hand_above c.args.thread.now c.args.path.now there)

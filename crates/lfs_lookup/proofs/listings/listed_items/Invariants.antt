@@ -2,12 +2,12 @@ use Rattle.std.proofs.Common.{◌≡◌, ◌++◌, map}
 use Rattle.std.specs.Vec.Iter.{into_iter_items}
 use Rattle.lfs_lookup.specs.Finds.{list_item_view}
 use Rattle.lfs_lookup.specs.Items.{items_view}
-use Rattle.lfs_lookup.specs.ListAt.{AreShortEntries, item_listed}
+use Rattle.lfs_lookup.specs.ListAt.{AreEntriesInNameAndInlineLimits, listed_item_of_entry}
 use Rattle.lfs_lookup.proofs.listings.listed_items.Given as goal
 
 abbrev pub invariant-loop-item : goal.invariant-loop-item
 invariant-loop-item l =
     (goal.iterator-loop-item).can_next l.item-iterator ×
     (goal.iterator-loop-item).is_finite l.item-iterator ×
-    (map list_item_view l.listed.items ++ map item_listed (items_view (into_iter_items l.item-iterator)) ≡ map item_listed (items_view l.fn.items.items)) ×
-    AreShortEntries (items_view (into_iter_items l.item-iterator))
+    (map list_item_view l.listed.items ++ map listed_item_of_entry (items_view (into_iter_items l.item-iterator)) ≡ map listed_item_of_entry (items_view l.fn.items.items)) ×
+    AreEntriesInNameAndInlineLimits (items_view (into_iter_items l.item-iterator))

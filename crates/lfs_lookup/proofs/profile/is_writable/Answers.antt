@@ -4,7 +4,7 @@ use Rattle.lfs_model.specs.Disk.{Disk}
 use Rattle.lfs_model.specs.Thread.{Pair}
 use Rattle.lfs_device.specs.declared.geometry.Geometry.{Geometry}
 use Rattle.lfs_thread.specs.Steps.{no_pair}
-use Rattle.lfs_lookup.specs.Profile.{HasSuperblockStruct}
+use Rattle.lfs_lookup.specs.Profile.{HasSuperblockStructOf24Bytes}
 use Rattle.lfs_lookup.proofs.Profiled.{EachFits, IsAtPair, as_before, fits_each, fits_more, shaped_all, writable_from}
 use Rattle.lfs_lookup.proofs.ReadOnly.{only_itself}
 use Rattle.lfs_lookup.proofs.Reading.{answered, answers, both, further, passed}
@@ -22,7 +22,7 @@ pub fits_at-requires-clause-shaped : goal.fits_at-requires-clause-shaped
 fits_at-requires-clause-shaped g c =
     let inv = c.loop-index.invariant in
     let n = inv.end in
-    subst (λ (ps : List Pair). All HasSuperblockStruct (slice_index_or ps c.loop-index.index no_pair).content.slots) (sym inv.read.only.pairs)
+    subst (λ (ps : List Pair). All HasSuperblockStructOf24Bytes (slice_index_or ps c.loop-index.index no_pair).content.slots) (sym inv.read.only.pairs)
     (shaped_all c.args.thread.now.kept.disk c.args.thread.now.kept.pairs c.loop-index.index c.requires.accepted (omega (arith, n, c.loop-index-test.true)))
 
 pub returns-in_err-fits_at-clause-reading : goal.returns-in_err-fits_at-clause-reading

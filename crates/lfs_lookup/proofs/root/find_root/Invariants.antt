@@ -1,12 +1,12 @@
 use Rattle.std.proofs.Common.{◌≤◌, ◌+◌, ◌-◌, length}
 use Rattle.lfs_model.specs.History.{reads}
-use Rattle.lfs_lookup.specs.Root.{IsInChain}
+use Rattle.lfs_lookup.specs.Root.{IsSuperblockInChain}
 use Rattle.lfs_lookup.proofs.Reading.{HasRead}
 use Rattle.lfs_lookup.proofs.root.find_root.Given as goal
 
 abbrev pub invariant-loop-next : goal.invariant-loop-next
 invariant-loop-next g l = record {
-  chained : IsInChain l.fn.thread.kept l.root;
+  chained : IsSuperblockInChain l.fn.thread.kept l.root;
   read : HasRead l.fn.thread l.thread;
   few : reads l.thread.kept.history ≤ reads l.fn.thread.kept.history + l.root;
 }

@@ -1,6 +1,6 @@
 use Rattle.std.proofs.Common.{◌≡◌, ◌<◌, ◌+◌, ◌-◌, length, drop}
-use Rattle.lfs_model.specs.InDirectory.{run_length}
-use Rattle.lfs_lookup.specs.Halves.{EndsSoft}
+use Rattle.lfs_model.specs.InDirectory.{hard_tail_joined_pair_count}
+use Rattle.lfs_lookup.specs.Halves.{EndsWithoutHardTail}
 use Rattle.lfs_lookup.specs.Listed.{hard_tail_run}
 use Rattle.lfs_lookup.proofs.search.end_of.Given as goal
 
@@ -8,8 +8,8 @@ abbrev pub invariant-loop-next : goal.invariant-loop-next
 invariant-loop-next g l = record {
   below : l.pair < length l.fn.thread.kept.pairs;
   count : l.count ≡ length l.fn.thread.kept.pairs;
-  run : l.pair + run_length (drop l.pair l.fn.thread.kept.pairs) ≡ l.fn.first + run_length (drop l.fn.first l.fn.thread.kept.pairs);
-  soft : EndsSoft (hard_tail_run (drop l.pair l.fn.thread.kept.pairs)) → EndsSoft (hard_tail_run (drop l.fn.first l.fn.thread.kept.pairs));
+  run : l.pair + hard_tail_joined_pair_count (drop l.pair l.fn.thread.kept.pairs) ≡ l.fn.first + hard_tail_joined_pair_count (drop l.fn.first l.fn.thread.kept.pairs);
+  soft : EndsWithoutHardTail (hard_tail_run (drop l.pair l.fn.thread.kept.pairs)) → EndsWithoutHardTail (hard_tail_run (drop l.fn.first l.fn.thread.kept.pairs));
 }
 
 abbrev pub decreases-loop-next : goal.decreases-loop-next

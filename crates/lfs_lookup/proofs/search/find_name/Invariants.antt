@@ -1,7 +1,7 @@
 use Rattle.std.proofs.Common.{◌<◌, ◌≤◌, ◌+◌, ◌-◌, ◌^◌, length, drop}
 use Rattle.lfs_model.specs.History.{reads}
-use Rattle.lfs_model.specs.InDirectory.{run_length}
-use Rattle.lfs_lookup.specs.Halves.{HaveSlots, halvings}
+use Rattle.lfs_model.specs.InDirectory.{hard_tail_joined_pair_count}
+use Rattle.lfs_lookup.specs.Halves.{HasSlotInEachPair, halvings_until_zero}
 use Rattle.lfs_lookup.specs.Listed.{hard_tail_run}
 use Rattle.lfs_lookup.proofs.Halved.{IsHigh, IsLow}
 use Rattle.lfs_lookup.proofs.HalvedReads.{HasHalved, HasLoaded}
@@ -13,12 +13,12 @@ invariant-loop-low g l = record {
   read : HasRead l.fn.thread l.thread;
   from : l.fn.first ≤ l.low;
   meets : l.low ≤ l.high;
-  end : l.high ≤ l.fn.first + run_length (drop l.fn.first l.fn.thread.kept.pairs);
+  end : l.high ≤ l.fn.first + hard_tail_joined_pair_count (drop l.fn.first l.fn.thread.kept.pairs);
   within : l.high ≤ length l.fn.thread.kept.pairs;
   fits : l.high < 2 ^ 64;
-  few : reads l.thread.kept.history + (l.high - l.low) ≤ reads l.fn.thread.kept.history + run_length (drop l.fn.first l.fn.thread.kept.pairs);
-  halves : HaveSlots (hard_tail_run (drop l.fn.first l.fn.thread.kept.pairs))
-      → HasHalved (halvings (run_length (drop l.fn.first l.fn.thread.kept.pairs))) (reads l.fn.thread.kept.history) (reads l.thread.kept.history) (l.high - l.low);
+  few : reads l.thread.kept.history + (l.high - l.low) ≤ reads l.fn.thread.kept.history + hard_tail_joined_pair_count (drop l.fn.first l.fn.thread.kept.pairs);
+  halves : HasSlotInEachPair (hard_tail_run (drop l.fn.first l.fn.thread.kept.pairs))
+      → HasHalved (halvings_until_zero (hard_tail_joined_pair_count (drop l.fn.first l.fn.thread.kept.pairs))) (reads l.fn.thread.kept.history) (reads l.thread.kept.history) (l.high - l.low);
   loaded : HasLoaded (hard_tail_run (drop l.fn.first l.fn.thread.kept.pairs)) l.fn.first l.low l.high l.fn.thread l.thread;
   lesser : IsLow l.fn.thread.kept.disk.order (hard_tail_run (drop l.fn.first l.fn.thread.kept.pairs)) l.fn.first l.fn.name l.spot.pair l.spot.id l.low;
   greater : IsHigh l.fn.thread.kept.disk.order (hard_tail_run (drop l.fn.first l.fn.thread.kept.pairs)) l.fn.first l.fn.name l.high;

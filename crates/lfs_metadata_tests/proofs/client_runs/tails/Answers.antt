@@ -1,9 +1,9 @@
 use Rattle.std.proofs.Common.{ℕ, List, ◌∷◌, [], None, Some, false, refl, ap, ◌∙◌, arith}
 use Rattle.std.specs.Prelude.{replicate}
 use Rattle.lfs_device.specs.declared.geometry.Geometry.{Geometry}
-use Rattle.lfs_model.specs.Slots.{no_gstate}
+use Rattle.lfs_model.specs.Slots.{zero_gstate}
 use Rattle.lfs_model.specs.Content.{RawSlot, RawContent}
-use Rattle.lfs_model.specs.Changes.{Change, PutTail}
+use Rattle.lfs_model.specs.Changes.{ContentChange, PutTail}
 use Rattle.lfs_pair.proofs.Changed.{some_same}
 use Rattle.lfs_metadata_tests.proofs.Ready.{fresh_ready, split_ready}
 use Rattle.lfs_metadata_tests.proofs.client_runs.tails.Goals as goal
@@ -12,12 +12,12 @@ abbrev file : ℕ → RawSlot
 file n = record { name = Some (1, 102 ∷ []); struct = Some (0x201, replicate n 0); attributes = [] }
 
 abbrev held : RawContent
-held = record { slots = file 300 ∷ file 300 ∷ file 300 ∷ []; tail = None; move = no_gstate }
+held = record { slots = file 300 ∷ file 300 ∷ file 300 ∷ []; tail = None; move = zero_gstate }
 
 abbrev new : RawContent
-new = record { slots = file 300 ∷ file 300 ∷ file 300 ∷ []; tail = Some (record { hard = false; to = (4, 5) }); move = no_gstate }
+new = record { slots = file 300 ∷ file 300 ∷ file 300 ∷ []; tail = Some (record { hard = false; to = (4, 5) }); move = zero_gstate }
 
-abbrev changes : List Change
+abbrev changes : List ContentChange
 changes = PutTail false (Some (4, 5)) ∷ []
 
 pub fresh-requires : goal.fresh-requires

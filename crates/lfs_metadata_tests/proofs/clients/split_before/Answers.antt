@@ -1,5 +1,5 @@
 use Rattle.std.proofs.Common.{◌∙◌, arith}
-use Rattle.lfs_model.specs.Slots.{address_of}
+use Rattle.lfs_model.specs.Slots.{pair_address_of_array}
 use Rattle.lfs_metadata_tests.proofs.Tailed.{tail_set}
 use Rattle.lfs_metadata_tests.proofs.clients.split_before.Goals as goal
 
@@ -9,4 +9,4 @@ returns-clause-back g c =
     let few = (g.D.BlockDevice.geometry c.args.dev.now).valid.no_more in
     let first = c.requires.first in
     let second = c.requires.second in
-    splits.back.is_pair.describes.sums.tail ∙ tail_set _ (address_of c.args.next) splits.new (omega (arith, first, few)) (omega (arith, second, few)) splits.made
+    splits.back.is_pair.describes.sums.tail ∙ tail_set _ (pair_address_of_array c.args.next) splits.new (omega (arith, first, few)) (omega (arith, second, few)) splits.made

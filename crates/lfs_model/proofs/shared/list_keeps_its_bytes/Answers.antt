@@ -1,4 +1,4 @@
-use Rattle.lfs_model.proofs.ListSizes.{length-bytes_of, blocks_for-more}
+use Rattle.lfs_model.proofs.ListSizes.{length-bytes_of, list_block_count_for_size-more}
 use Rattle.lfs_model.proofs.Staying.{list-stays, bytes-stay}
 use Rattle.lfs_model.proofs.shared.list_keeps_its_bytes.Goals as goal
 
@@ -6,7 +6,7 @@ pub returns-clause-size : goal.returns-clause-size
 returns-clause-size c = length-bytes_of
 
 pub returns-clause-more : goal.returns-clause-more
-returns-clause-more c = blocks_for-more
+returns-clause-more c = list_block_count_for_size-more
 
 pub returns-clause-stays : goal.returns-clause-stays
 returns-clause-stays c = λ old new bs block_size head size same apart list.

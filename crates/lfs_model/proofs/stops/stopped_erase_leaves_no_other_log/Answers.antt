@@ -1,30 +1,30 @@
 use Rattle.std.proofs.Common.{ℕ, ◌+◌, ◌≡◌, inl, inr, Option, Some, None, List, [], ◌∷◌, ◌++◌, true, refl, ap, arith, zero, suc, length}
-use Rattle.lfs_model.specs.Blocks.{Blocks, block_in}
-use Rattle.lfs_model.specs.History.{Erase, event}
+use Rattle.lfs_model.specs.Blocks.{Blocks, block_bytes_in}
+use Rattle.lfs_model.specs.History.{Erase, call_event_with}
 use Rattle.lfs_model.specs.Crc.{crc_of, next_bits}
 use Rattle.lfs_model.specs.Log.{BlockLog, chain_of, chain_within, commit_within, entry_at, closes}
-use Rattle.lfs_model.specs.Stops.{Stops, LeftByErase}
-use Rattle.lfs_model.specs.BlockBytes.{unwritten, block_of_bytes}
-use Rattle.lfs_model.specs.examples.Images.{small_block, small_commit, appended_commit}
+use Rattle.lfs_model.specs.Stops.{IsLeftByStopIn, IsLeftByStoppedErase}
+use Rattle.lfs_model.specs.BlockBytes.{unwritten, bytes_padded_to_block_size}
+use Rattle.lfs_model.specs.examples.Images.{fresh_block_of_small_image, fresh_commit_of_small_image, commit_that_appends_file}
 use Rattle.lfs_model.proofs.stops.stopped_erase_leaves_no_other_log.Goals as goal
 
 abbrev commits_in : Option BlockLog → ℕ
 commits_in None = 0
 commits_in (Some log) = length log.commits
 
-never : LeftByErase small_block (block_of_bytes 1024 (small_commit ++ appended_commit)) → ⊥
+never : IsLeftByStoppedErase fresh_block_of_small_image (bytes_padded_to_block_size 1024 (fresh_commit_of_small_image ++ commit_that_appends_file)) → ⊥
 unfolding chain_of chain_within commit_within entry_at closes crc_of next_bits
 never (inl same) = let counts : 2 + 0 ≡ 1 + 0 = ap commits_in same in omega arith
 never (inr none) = let counts : 2 + 0 ≡ 0 + 0 = ap commits_in none in omega arith
 
-others : (b : ℕ) (x y : List ℕ) → (b ≡ 0 → ⊥) → block_in (y ∷ []) b ≡ block_in (x ∷ []) b
+others : (b : ℕ) (x y : List ℕ) → (b ≡ 0 → ⊥) → block_bytes_in (y ∷ []) b ≡ block_bytes_in (x ∷ []) b
 others zero x y other = absurd (other refl)
 others (suc b) x y other = refl
 
 pub returns-clause-other : goal.returns-clause-other
 returns-clause-other c = λ after stop. never stop.1
 
-unlogged : (after : Blocks) → Stops (event (Erase 0) (small_block ∷ []) after true) (unwritten 1024 ∷ [])
+unlogged : (after : Blocks) → IsLeftByStopIn (call_event_with (Erase 0) (fresh_block_of_small_image ∷ []) after true) (unwritten 1024 ∷ [])
 unfolding chain_of chain_within commit_within entry_at closes crc_of next_bits
 unlogged after = (record { count = refl; size = refl; others = λ b other. others b _ _ other }, inr refl)
 

@@ -2,19 +2,19 @@ use Rattle.std.proofs.Common.{[], ◌∷◌, refl, arith}
 use Rattle.std.specs.Prelude.{List, codes}
 use Rattle.std.proofs.lemmas.Fmt.{decimal_digit}
 use Rattle.lfs_model.specs.Tree.{FileNode, DirectoryNode}
-use Rattle.lfs_model.specs.Listing.{Entry, IsWalkOf, paths_in}
-use Rattle.lfs_model.specs.examples.Images.{tree_with, small_nodes}
+use Rattle.lfs_model.specs.Listing.{PathAndNode, IsWalkOfTree, entry_paths_in}
+use Rattle.lfs_model.specs.examples.Images.{tree_of_nodes, nodes_of_small_tree}
 use Rattle.lfs_model.proofs.Walked.{same_walk}
 use Rattle.lfs_model.proofs.tree.tree_is_listed.Goals as goal
 
-abbrev entries : List Entry
+abbrev entries : List PathAndNode
 entries =
     record { path = codes "a" ∷ []; node = FileNode [] (codes "hello") }
     ∷ record { path = codes "d" ∷ []; node = DirectoryNode [] (codes "x" ∷ []) }
     ∷ record { path = codes "d" ∷ codes "x" ∷ []; node = FileNode [] [] }
     ∷ []
 
-walk : IsWalkOf (tree_with small_nodes) entries
+walk : IsWalkOfTree (tree_of_nodes nodes_of_small_tree) entries
 walk = (refl, refl, (refl, refl, (refl, refl, tt)))
 
 pub returns-clause-lines : goal.returns-clause-lines
@@ -30,4 +30,4 @@ pub returns-clause-escapes : goal.returns-clause-escapes
 returns-clause-escapes c = rw (decimal_digit 0 (omega arith)) refl
 
 pub returns-clause-one : goal.returns-clause-one
-returns-clause-one c = λ tree a b p q. same_walk tree (paths_in tree []) a b p q
+returns-clause-one c = λ tree a b p q. same_walk tree (entry_paths_in tree []) a b p q

@@ -1,6 +1,6 @@
 use Rattle.std.proofs.Common.{rules, refl, ◌≡◌, true, false, subst}
-use Rattle.lfs_thread.specs.Kept.{disk_on}
-use Rattle.lfs_mount.specs.Marking.{Marks, blocks_to_mark}
+use Rattle.lfs_thread.specs.Kept.{disk_of_device}
+use Rattle.lfs_mount.specs.Marking.{MarksFreeBlocksUsed, list_blocks_to_mark}
 use Rattle.lfs_mount.proofs.Markings.{all_free, some_taken, all_keep}
 use Rattle.lfs_mount.proofs.lists.mark_list.Goals as goal
 
@@ -11,7 +11,7 @@ returns-then-is_free-clause-marked g c =
     let e : c.walk.new.visit.1.now ≡ true = search (rules, flags) in
     record {
       list = c.in_ok-walk.ensures.well_formed;
-      marked = subst (Marks c.args.map.now (blocks_to_mark (disk_on g.D.BlockDevice c.args.device.now) (c.args.head, c.args.size)))
+      marked = subst (MarksFreeBlocksUsed c.args.map.now (list_blocks_to_mark (disk_of_device g.D.BlockDevice c.args.device.now) (c.args.head, c.args.size)))
           (search (rules, names)) (all_free _ (λ p. p.0.now) (λ p. p.1.now) (λ p b q r. search rules) _ _ _ c.in_ok-walk.ensures.visited e).1;
     }
 

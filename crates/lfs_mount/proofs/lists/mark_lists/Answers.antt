@@ -2,14 +2,14 @@ use Rattle.std.proofs.Common.{refl, sym, ap, ap₂, ◌∙◌, ◌≤◌, Err, s
 use Rattle.std.proofs.lemmas.Result.{err_from_is_err_and}
 use Rattle.std.proofs.lemmas.Option.{slice_get_read}
 use Rattle.lfs_device.specs.Calls.{ReadsOnly}
-use Rattle.lfs_device.specs.Shown.{disk_of}
+use Rattle.lfs_device.specs.Shown.{disk_of_geometry_and_blocks}
 use Rattle.lfs_device.specs.declared.geometry.Geometry.{Geometry}
-use Rattle.lfs_model.specs.BlockSets.{BlockSets}
+use Rattle.lfs_model.specs.BlockSets.{BlockStateList}
 use Rattle.lfs_model.specs.Disk.{Disk}
 use Rattle.lfs_model.specs.History.{faults, reads}
-use Rattle.lfs_thread.specs.Kept.{disk_on}
-use Rattle.lfs_mount.specs.ListsView.{lists_view}
-use Rattle.lfs_mount.specs.Marking.{MarksList, MarksLists}
+use Rattle.lfs_thread.specs.Kept.{disk_of_device}
+use Rattle.lfs_mount.specs.ListsView.{file_lists_view}
+use Rattle.lfs_mount.specs.Marking.{MarksFreeBlocksOfList, MarksFreeBlocksOfLists}
 use Rattle.lfs_mount.specs.Reads.{list_reads}
 use Rattle.lfs_mount.proofs.Called.{same_error, read_on, quiet, reported_on}
 use Rattle.lfs_mount.proofs.MarkedLists.{lists_stay, lists_more, lists_fail}
@@ -21,9 +21,9 @@ pub returns-in_err-mark_list-clause-corrupt : goal.returns-in_err-mark_list-clau
 returns-in_err-mark_list-clause-corrupt g c = λ is new all.
     let p = err_from_is_err_and c.from_residual.result c.from_residual.ensures.1 in
     let at = slice_get_read c.args.slots.now _ c.loop-slot.slot-index c.slot-item.result refl c.loop-slot-test.true c.slot-item.is in
-    let disk = disk_on g.D.BlockDevice c.args.device.now in
-    let fails = subst (λ (d : Disk). (end : BlockSets) → ¬ MarksList d c.loop-slot.map (c.in-Some.head, c.in-Some.size) end)
-    (ap₂ disk_of c.loop-slot.invariant.device.geometry c.loop-slot.invariant.device.same) (c.in_err-mark_list.ensures.corrupt (ap Err (same_error p.1 p.2 is))) in
+    let disk = disk_of_device g.D.BlockDevice c.args.device.now in
+    let fails = subst (λ (d : Disk). (end : BlockStateList) → ¬ MarksFreeBlocksOfList d c.loop-slot.map (c.in-Some.head, c.in-Some.size) end)
+    (ap₂ disk_of_geometry_and_blocks c.loop-slot.invariant.device.geometry c.loop-slot.invariant.device.same) (c.in_err-mark_list.ensures.corrupt (ap Err (same_error p.1 p.2 is))) in
     lists_fail disk c.args.slots.now c.loop-slot.slot-index c.slot-item.result (c.in-Some.head, c.in-Some.size) c.args.map.now c.loop-slot.map new at (sym c.list_of.ensures ∙ c.in-Some.is)
     c.loop-slot.invariant.marked fails all
 
@@ -38,16 +38,16 @@ returns-in_err-mark_list-clause-faults g c =
 pub loop-slot-preserved : goal.loop-slot-preserved
 loop-slot-preserved g c =
     let at = slice_get_read c.args.slots.now _ c.loop-slot.slot-index c.slot-item.result refl c.loop-slot-test.true c.slot-item.is in
-    let disk = disk_on g.D.BlockDevice c.args.device.now in
-    let lists = lists_view (take (c.loop-slot.slot-index + 1) c.args.slots.now) in
+    let disk = disk_of_device g.D.BlockDevice c.args.device.now in
+    let lists = file_lists_view (take (c.loop-slot.slot-index + 1) c.args.slots.now) in
     elim c.match-list_of.branch [
       | in-Some+in_ok-mark_list w ↦
-          let same = ap₂ disk_of c.loop-slot.invariant.device.geometry c.loop-slot.invariant.device.same in
+          let same = ap₂ disk_of_geometry_and_blocks c.loop-slot.invariant.device.geometry c.loop-slot.invariant.device.same in
           record {
-            marked = subst (λ m. MarksLists disk c.args.map.now lists m) (sym w.map-is)
+            marked = subst (λ m. MarksFreeBlocksOfLists disk c.args.map.now lists m) (sym w.map-is)
                 (lists_more disk c.args.slots.now c.loop-slot.slot-index c.slot-item.result (w.in-Some.head, w.in-Some.size) c.args.map.now c.loop-slot.map w.mark_list.new.map at
                 (sym c.list_of.ensures ∙ w.in-Some.is) c.loop-slot.invariant.marked
-                (subst (λ (d : Disk). MarksList d c.loop-slot.map (w.in-Some.head, w.in-Some.size) w.mark_list.new.map) same w.in_ok-mark_list.ensures.marked));
+                (subst (λ (d : Disk). MarksFreeBlocksOfList d c.loop-slot.map (w.in-Some.head, w.in-Some.size) w.mark_list.new.map) same w.in_ok-mark_list.ensures.marked));
             device = subst (ReadsOnly g.D.BlockDevice c.args.device.now) (sym w.device-is) (read_on g.D.BlockDevice c.loop-slot.invariant.device w.in_ok-mark_list.ensures.device);
             quiet = ap (λ d. faults (g.D.BlockDevice.history d)) w.device-is ∙ quiet g.D.BlockDevice w.in_ok-mark_list.ensures.faults ∙ c.loop-slot.invariant.quiet;
             few =
@@ -61,7 +61,7 @@ loop-slot-preserved g c =
                 omega arith;
           }
       | in_default w ↦ record {
-        marked = subst (λ m. MarksLists disk c.args.map.now lists m) (sym w.map-is)
+        marked = subst (λ m. MarksFreeBlocksOfLists disk c.args.map.now lists m) (sym w.map-is)
             (lists_stay disk c.args.slots.now c.loop-slot.slot-index c.slot-item.result c.args.map.now c.loop-slot.map at (sym c.list_of.ensures ∙ w.in_default.is) c.loop-slot.invariant.marked);
         device = subst (ReadsOnly g.D.BlockDevice c.args.device.now) (sym w.device-is) c.loop-slot.invariant.device;
         quiet = ap (λ d. faults (g.D.BlockDevice.history d)) w.device-is ∙ c.loop-slot.invariant.quiet;

@@ -1,10 +1,10 @@
 use Rattle.std.proofs.Common.{◌≡◌, ◌++◌, length, take}
-use Rattle.lfs_mount.specs.Reaching.{AreMarksOf}
+use Rattle.lfs_mount.specs.Reaching.{AreMarksOfFoundDirectories}
 use Rattle.lfs_mount.proofs.reachability.find.Given as goal
 
 abbrev pub invariant-loop-branch : goal.invariant-loop-branch
 invariant-loop-branch l = record {
   found : l.found.items ≡ l.initial.found.items ++ take l.branch-index l.branches;
-  marked : AreMarksOf l.is_found.items l.found.items;
+  marked : AreMarksOfFoundDirectories l.is_found.items l.found.items;
   len : length l.is_found.items ≡ length l.initial.is_found.items;
 }

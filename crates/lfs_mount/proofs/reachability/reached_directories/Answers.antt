@@ -4,8 +4,8 @@ use Rattle.std.specs.List.{IsDistinct}
 use Rattle.std.proofs.lemmas.Result.{err_from_is_err_and}
 use Rattle.std.proofs.lemmas.List.{length-set, length-replicate, length-map}
 use Rattle.std.proofs.lemmas.Option.{slice_get_read}
-use Rattle.lfs_mount.specs.DirectoryView.{graph_of, vertex_of}
-use Rattle.lfs_mount.specs.Reaching.{AreMarksOf, is_sound_at}
+use Rattle.lfs_mount.specs.DirectoryView.{directory_graph_view, directory_vertex_view}
+use Rattle.lfs_mount.specs.Reaching.{AreMarksOfFoundDirectories, is_vertex_sound_at}
 use Rattle.lfs_mount.proofs.Called.{same_error}
 use Rattle.lfs_mount.proofs.Marks.{first_marked, marked_within, few_marked, sound_of, branches_found, next_sound, nothing_left, branches_within}
 use Rattle.lfs_mount.proofs.reachability.reached_directories.Goals as goal
@@ -18,7 +18,7 @@ loop-next-init c =
     let found = pushed ∙ ap (λ xs. xs ++ 0 ∷ []) empty in
     record {
       found = found;
-      marked = subst (AreMarksOf (set c.in_ok-is_found.is_found.items 0 true)) (sym found) (first_marked c.in_ok-is_found.is_found.items (length c.args.directories.now) none c.requires.some);
+      marked = subst (AreMarksOfFoundDirectories (set c.in_ok-is_found.is_found.items 0 true)) (sym found) (first_marked c.in_ok-is_found.is_found.items (length c.args.directories.now) none c.requires.some);
       len = length-set c.in_ok-is_found.is_found.items 0 true ∙ ap length none ∙ length-replicate (length c.args.directories.now) false;
       sound = λ k d lt. absurd (omega arith);
       passed = omega arith;
@@ -75,8 +75,8 @@ loop-next-preserved c =
       found = joined ∙ branches_found c.args.order c.args.directories.now c.loop-next.found.items c.loop-next.next c.index.result.now c.index-directories-index.result c.loop-next.invariant.found at here;
       marked = c.in_ok-find.ensures.found.marked;
       len = c.in_ok-find.ensures.found.len ∙ c.loop-next.invariant.len;
-      sound = subst (λ xs. All (λ v. is_sound_at (graph_of c.args.order c.args.directories.now) v ≡ true) (take (c.loop-next.next + 1) xs)) (sym joined)
-          (next_sound (graph_of c.args.order c.args.directories.now) c.loop-next.found.items c.index-directories-index.result.branches.items c.loop-next.next c.index.result.now at c.loop-next.invariant.sound
+      sound = subst (λ xs. All (λ v. is_vertex_sound_at (directory_graph_view c.args.order c.args.directories.now) v ≡ true) (take (c.loop-next.next + 1) xs)) (sym joined)
+          (next_sound (directory_graph_view c.args.order c.args.directories.now) c.loop-next.found.items c.index-directories-index.result.branches.items c.loop-next.next c.index.result.now at c.loop-next.invariant.sound
           (sound_of c.args.order c.args.directories.now c.index.result.now c.index-directories-index.result here ∙ sym c.has.ensures ∙ c.if-not-has.false));
       passed = omega (arith, ap length joined, length-append c.loop-next.found.items c.index-directories-index.result.branches.items);
     }
@@ -85,6 +85,6 @@ pub returns-clause-reached_directories : goal.returns-clause-reached_directories
 returns-clause-reached_directories c = record {
   steps = c.loop-next.next;
   finished = nothing_left c.args.order c.args.directories.now c.loop-next.is_found.items c.loop-next.found.items c.loop-next.next c.loop-next.invariant.found (omega arith) c.loop-next.invariant.marked c.loop-next.invariant.sound;
-  marked = subst (AreMarksOf c.loop-next.is_found.items) c.loop-next.invariant.found c.loop-next.invariant.marked;
-  len = c.loop-next.invariant.len ∙ sym (length-map c.args.directories.now (vertex_of c.args.order));
+  marked = subst (AreMarksOfFoundDirectories c.loop-next.is_found.items) c.loop-next.invariant.found c.loop-next.invariant.marked;
+  len = c.loop-next.invariant.len ∙ sym (length-map c.args.directories.now (directory_vertex_view c.args.order));
 }

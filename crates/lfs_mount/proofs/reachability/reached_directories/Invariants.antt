@@ -1,15 +1,15 @@
 use Rattle.std.proofs.Common.{◌≡◌, ◌≤◌, ◌-◌, length}
-use Rattle.lfs_mount.specs.DirectoryView.{graph_of}
-use Rattle.lfs_mount.specs.Reaching.{AreMarksOf, found_after, is_sound_at}
+use Rattle.lfs_mount.specs.DirectoryView.{directory_graph_view}
+use Rattle.lfs_mount.specs.Reaching.{AreMarksOfFoundDirectories, directories_found_after, is_vertex_sound_at}
 use Rattle.std.specs.Prelude.{All, true, take}
 use Rattle.lfs_mount.proofs.reachability.reached_directories.Given as goal
 
 abbrev pub invariant-loop-next : goal.invariant-loop-next
 invariant-loop-next l = record {
-  found : l.found.items ≡ found_after (graph_of l.order l.directories) l.next;
-  marked : AreMarksOf l.is_found.items l.found.items;
+  found : l.found.items ≡ directories_found_after (directory_graph_view l.order l.directories) l.next;
+  marked : AreMarksOfFoundDirectories l.is_found.items l.found.items;
   len : length l.is_found.items ≡ length l.directories;
-  sound : All (λ v. is_sound_at (graph_of l.order l.directories) v ≡ true) (take l.next l.found.items);
+  sound : All (λ v. is_vertex_sound_at (directory_graph_view l.order l.directories) v ≡ true) (take l.next l.found.items);
   passed : l.next ≤ length l.found.items;
 }
 

@@ -1,7 +1,7 @@
 use Rattle.std.proofs.Common.{ap, sym, subst, ◌∙◌, Err, ◌∷◌, []}
 use Rattle.std.proofs.lemmas.Result.{err_from_is_err_and}
 use Rattle.lfs_model.specs.Changes.{PutAttribute}
-use Rattle.lfs_operations.specs.Changing.{ReportsPut}
+use Rattle.lfs_operations.specs.Changing.{ReportsChangeOrSplit}
 use Rattle.lfs_operations.proofs.Edited.{can_set, has_set, set_survives}
 use Rattle.lfs_operations.proofs.attributes.set_attribute.Goals as goal
 
@@ -11,7 +11,7 @@ put-requires-clause-can g c = can_set c.args.thread.now.kept c.args.pair c.args.
 pub returns-in_err-put-clause-errors : goal.returns-in_err-put-clause-errors
 returns-in_err-put-clause-errors g c =
     let p = err_from_is_err_and c.from_residual.result c.from_residual.ensures.1 in
-    subst (λ r. ReportsPut c.args.thread.now c.put.new.thread c.args.pair (PutAttribute c.args.id c.args.kind c.args.bytes.now ∷ []) r) (c.in_err-put.was ∙ ap Err (sym p.2) ∙ sym p.1) c.put.ensures.errors
+    subst (λ r. ReportsChangeOrSplit c.args.thread.now c.put.new.thread c.args.pair (PutAttribute c.args.id c.args.kind c.args.bytes.now ∷ []) r) (c.in_err-put.was ∙ ap Err (sym p.2) ∙ sym p.1) c.put.ensures.errors
 
 pub returns-in_err-put-clause-survives : goal.returns-in_err-put-clause-survives
 returns-in_err-put-clause-survives g c set =

@@ -1,33 +1,33 @@
 use Rattle.std.proofs.Common.{ℕ, ◌≡◌, ◌+◌, ◌-◌, ◌<◌, List, Some, length, Ok, Err, subst, sym, ap, ◌∙◌, arith}
 use Rattle.std.proofs.lemmas.Result.{err_from_is_err_and}
-use Rattle.lfs_model.proofs.Histories.{LeavesOnly-weaker}
+use Rattle.lfs_model.proofs.Histories.{IsTrueAfterEachStopSince-weaker}
 use Rattle.lfs_pair.specs.declared.commits.Outcome.{Outcome}
 use Rattle.lfs_pair.specs.declared.commits.Outcome.TheVariants as outcome
 use Rattle.lfs_pair.specs.ChangeView.{changes_view}
-use Rattle.lfs_model.specs.Changes.{Change}
+use Rattle.lfs_model.specs.Changes.{ContentChange}
 use Rattle.lfs_tag.specs.FieldsView.{move_view}
-use Rattle.lfs_thread.specs.Steps.{CanDrop, IsDropped, IsLeftByChange, IsCommitRefused, made_in_thread}
+use Rattle.lfs_thread.specs.Steps.{CanDropNextPair, IsPairAfterIndexDropped, LeavesPairOldOrChanged, IsCommitRefused, complete_content_after_changes}
 use Rattle.lfs_thread.specs.Kept.{Kept}
 use Rattle.lfs_model.specs.Slots.{Gstate}
-use Rattle.lfs_operations.specs.Dropping.{CanDropAt, HasDroppedBehind, taking_changes, with_tail_taken}
+use Rattle.lfs_operations.specs.Dropping.{CanDropPairAt, IsNextPairDropped, drop_next_pair_changes, content_after_drop}
 use Rattle.lfs_operations.proofs.DroppedTails.{can_drop, drop_not_refused, has_dropped, left_by_drop}
 use Rattle.lfs_operations.proofs.Removed.{reports_again}
 use Rattle.lfs_operations.proofs.drops.drop_at.Goals as goal
 
-below_there : (t : Kept) (index : ℕ) (state : Gstate) → CanDropAt t index state → index - 1 + 1 < length t.pairs
+below_there : (t : Kept) (index : ℕ) (state : Gstate) → CanDropPairAt t index state → index - 1 + 1 < length t.pairs
 below_there t index state can = let a = can.above in let b = can.below in omega arith
 
-made_there : (t : Kept) (index : ℕ) (state : Gstate) (changes : List Change) → changes ≡ taking_changes t (index - 1) state → made_in_thread t (index - 1) changes ≡ Some (with_tail_taken t (index - 1) state)
-    → made_in_thread t (index - 1) (taking_changes t (index - 1) state) ≡ Some (with_tail_taken t (index - 1) state)
-made_there t index state changes are made = ap (made_in_thread t (index - 1)) (sym are) ∙ made
+made_there : (t : Kept) (index : ℕ) (state : Gstate) (changes : List ContentChange) → changes ≡ drop_next_pair_changes t (index - 1) state → complete_content_after_changes t (index - 1) changes ≡ Some (content_after_drop t (index - 1) state)
+    → complete_content_after_changes t (index - 1) (drop_next_pair_changes t (index - 1) state) ≡ Some (content_after_drop t (index - 1) state)
+made_there t index state changes are made = ap (complete_content_after_changes t (index - 1)) (sym are) ∙ made
 
 pub drop_next-requires-clause-can : goal.drop_next-requires-clause-can
 drop_next-requires-clause-can g c =
     let t = c.args.thread.now.kept in
     let state = move_view c.args.state.now in
-    let k = c.taking-changes.ensures in
-    subst (CanDrop t (c.args.index - 1)) (sym k.are)
-    (can_drop t (c.args.index - 1) state (below_there t c.args.index state c.requires.can) (made_there t c.args.index state (changes_view c.taking-changes.result) k.are k.made))
+    let k = c.changes_to_drop_next-changes.ensures in
+    subst (CanDropNextPair t (c.args.index - 1)) (sym k.are)
+    (can_drop t (c.args.index - 1) state (below_there t c.args.index state c.requires.can) (made_there t c.args.index state (changes_view c.changes_to_drop_next-changes.result) k.are k.made))
 
 pub returns-in_err-drop_next-clause-errors : goal.returns-in_err-drop_next-clause-errors
 returns-in_err-drop_next-clause-errors g c =
@@ -38,9 +38,9 @@ pub returns-in_err-drop_next-clause-stops : goal.returns-in_err-drop_next-clause
 returns-in_err-drop_next-clause-stops g c clean =
     let t = c.args.thread.now.kept in
     let state = move_view c.args.state.now in
-    let k = c.taking-changes.ensures in
-    LeavesOnly-weaker (λ left x. left_by_drop t (c.args.index - 1) state (below_there t c.args.index state c.requires.can) (made_there t c.args.index state (changes_view c.taking-changes.result) k.are k.made) left
-    (subst (λ changes. IsLeftByChange t (c.args.index - 1) changes left) k.are x)) (c.drop_next.ensures.stops clean)
+    let k = c.changes_to_drop_next-changes.ensures in
+    IsTrueAfterEachStopSince-weaker (λ left x. left_by_drop t (c.args.index - 1) state (below_there t c.args.index state c.requires.can) (made_there t c.args.index state (changes_view c.changes_to_drop_next-changes.result) k.are k.made) left
+    (subst (λ changes. LeavesPairOldOrChanged t (c.args.index - 1) changes left) k.are x)) (c.drop_next.ensures.stops clean)
 
 pub returns-clause-is_dropped : goal.returns-clause-is_dropped
 returns-clause-is_dropped g c = by c.in_ok-drop_next.field-0 c.in_ok-drop_next.was
@@ -51,22 +51,22 @@ returns-clause-is_dropped g c = by c.in_ok-drop_next.field-0 c.in_ok-drop_next.w
     state : Gstate
     state = move_view c.args.state.now
 
-    made : made_in_thread t (c.args.index - 1) (taking_changes t (c.args.index - 1) state) ≡ Some (with_tail_taken t (c.args.index - 1) state)
-    made = let k = c.taking-changes.ensures in made_there t c.args.index state (changes_view c.taking-changes.result) k.are k.made
+    made : complete_content_after_changes t (c.args.index - 1) (drop_next_pair_changes t (c.args.index - 1) state) ≡ Some (content_after_drop t (c.args.index - 1) state)
+    made = let k = c.changes_to_drop_next-changes.ensures in made_there t c.args.index state (changes_view c.changes_to_drop_next-changes.result) k.are k.made
 
     below : c.args.index - 1 + 1 < length t.pairs
     below = below_there t c.args.index state c.requires.can
 
-    by : (o : Outcome) → c.drop_next.result ≡ Ok o → HasDroppedBehind t (c.args.index - 1) state c.drop_next.new.self.kept
+    by : (o : Outcome) → c.drop_next.result ≡ Ok o → IsNextPairDropped t (c.args.index - 1) state c.drop_next.new.self.kept
     by outcome.Done is = has_dropped t (c.args.index - 1) state below made c.drop_next.new.self.kept
-        (subst (λ changes. IsDropped t (c.args.index - 1) changes c.drop_next.new.self.kept) c.taking-changes.ensures.are (c.drop_next.ensures.done is))
+        (subst (λ changes. IsPairAfterIndexDropped t (c.args.index - 1) changes c.drop_next.new.self.kept) c.changes_to_drop_next-changes.ensures.are (c.drop_next.ensures.done is))
     by outcome.Full is = absurd (drop_not_refused t (c.args.index - 1) state below made c.requires.can.fits c.drop_next.new.self.kept
-        (subst (λ changes. IsCommitRefused t (c.args.index - 1) changes c.drop_next.new.self.kept) c.taking-changes.ensures.are (c.drop_next.ensures.full is)))
+        (subst (λ changes. IsCommitRefused t (c.args.index - 1) changes c.drop_next.new.self.kept) c.changes_to_drop_next-changes.ensures.are (c.drop_next.ensures.full is)))
 
 pub returns-clause-stops : goal.returns-clause-stops
 returns-clause-stops g c clean =
     let t = c.args.thread.now.kept in
     let state = move_view c.args.state.now in
-    let k = c.taking-changes.ensures in
-    LeavesOnly-weaker (λ left x. left_by_drop t (c.args.index - 1) state (below_there t c.args.index state c.requires.can) (made_there t c.args.index state (changes_view c.taking-changes.result) k.are k.made) left
-    (subst (λ changes. IsLeftByChange t (c.args.index - 1) changes left) k.are x)) (c.drop_next.ensures.stops clean)
+    let k = c.changes_to_drop_next-changes.ensures in
+    IsTrueAfterEachStopSince-weaker (λ left x. left_by_drop t (c.args.index - 1) state (below_there t c.args.index state c.requires.can) (made_there t c.args.index state (changes_view c.changes_to_drop_next-changes.result) k.are k.made) left
+    (subst (λ changes. LeavesPairOldOrChanged t (c.args.index - 1) changes left) k.are x)) (c.drop_next.ensures.stops clean)

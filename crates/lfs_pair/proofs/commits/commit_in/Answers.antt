@@ -5,60 +5,60 @@ use Rattle.lfs_model.specs.History.{faults}
 use Rattle.lfs_pair.proofs.Behind.{is_full}
 use Rattle.lfs_pair.proofs.Erring.{fails_io, reports_io, reports_ok}
 use Rattle.std.proofs.Common.{◌∙◌, rules, Ok, Some, sym, ap, subst}
-use Rattle.lfs_device.specs.Shown.{disk_of}
-use Rattle.lfs_model.specs.History.{EachSince, LeavesOnly}
-use Rattle.lfs_model.specs.Stops.{ErasesCleanly, Stops}
-use Rattle.lfs_model.specs.WrittenContent.{FitsRaw}
-use Rattle.lfs_model.proofs.Histories.{LeavesOnly-weaker}
+use Rattle.lfs_device.specs.Shown.{disk_of_geometry_and_blocks}
+use Rattle.lfs_model.specs.History.{IsTrueOfEachCallSince, IsTrueAfterEachStopSince}
+use Rattle.lfs_model.specs.Stops.{LeavesNoNewLogIfErase, IsLeftByStopIn}
+use Rattle.lfs_model.specs.WrittenContent.{IsRawContentFittingPair}
+use Rattle.lfs_model.proofs.Histories.{IsTrueAfterEachStopSince-weaker}
 use Rattle.lfs_tag.specs.ContentView.{content_view}
-use Rattle.lfs_pair.specs.Pair.{address_in}
+use Rattle.lfs_pair.specs.Pair.{address_of_header}
 use Rattle.lfs_pair.specs.ChangeView.{changes_view}
-use Rattle.lfs_pair.specs.Writing.{ChangesReading}
-use Rattle.lfs_pair.specs.Commit.{both_blocks, KeepsFirst, IsCompacted, PairHolds, LeftWith}
+use Rattle.lfs_pair.specs.Writing.{ChangesBlocksWithFewReads}
+use Rattle.lfs_pair.specs.Commit.{both_blocks_of_pair, KeepsFirstEntry, IsCompacted, PairHasContent, LeavesOldOrNewContent}
 use Rattle.lfs_pair.proofs.Changed.{ends_here, left_by_change, made_here}
 use Rattle.lfs_pair.proofs.commits.commit_in.Goals as goal
 
 pub returns-in_err-compact-clause-stops : goal.returns-in_err-compact-clause-stops
 returns-in_err-compact-clause-stops g c =
     let made = made_here _ _ c.args.pair.now c.requires.can.held c.args.block.now (changes_view c.args.changes.now) (Some (content_view c.in_ok-content.content)) c.requires.can.is_pair c.requires.block c.in_ok-content.ensures.content in
-    let moved = subst (λ p. EachSince ErasesCleanly (g.D.BlockDevice.history c.append.new.dev) (g.D.BlockDevice.history c.compact.new.dev)
-    → LeavesOnly Stops (g.D.BlockDevice.history c.append.new.dev) (g.D.BlockDevice.history c.compact.new.dev) (LeftWith (disk_of (g.D.BlockDevice.geometry c.append.new.dev) (g.D.BlockDevice.blocks c.append.new.dev)) (address_in p) (content_view c.in_ok-content.content)))
+    let moved = subst (λ p. IsTrueOfEachCallSince LeavesNoNewLogIfErase (g.D.BlockDevice.history c.append.new.dev) (g.D.BlockDevice.history c.compact.new.dev)
+    → IsTrueAfterEachStopSince IsLeftByStopIn (g.D.BlockDevice.history c.append.new.dev) (g.D.BlockDevice.history c.compact.new.dev) (LeavesOldOrNewContent (disk_of_geometry_and_blocks (g.D.BlockDevice.geometry c.append.new.dev) (g.D.BlockDevice.blocks c.append.new.dev)) (address_of_header p) (content_view c.in_ok-content.content)))
     (c.in_ok-append.ensures.no_room (ap Ok c.if-branch.false)).pair c.in_err-compact.ensures.stops in
-    let stops = subst (λ d. EachSince ErasesCleanly (g.D.BlockDevice.history d) (g.D.BlockDevice.history c.compact.new.dev)
-    → LeavesOnly Stops (g.D.BlockDevice.history d) (g.D.BlockDevice.history c.compact.new.dev) (LeftWith (disk_of (g.D.BlockDevice.geometry d) (g.D.BlockDevice.blocks d)) (address_in c.args.pair.now) (content_view c.in_ok-content.content)))
+    let stops = subst (λ d. IsTrueOfEachCallSince LeavesNoNewLogIfErase (g.D.BlockDevice.history d) (g.D.BlockDevice.history c.compact.new.dev)
+    → IsTrueAfterEachStopSince IsLeftByStopIn (g.D.BlockDevice.history d) (g.D.BlockDevice.history c.compact.new.dev) (LeavesOldOrNewContent (disk_of_geometry_and_blocks (g.D.BlockDevice.geometry d) (g.D.BlockDevice.blocks d)) (address_of_header c.args.pair.now) (content_view c.in_ok-content.content)))
     (c.in_ok-append.ensures.no_room (ap Ok c.if-branch.false)).device moved in
-    let fits : FitsRaw (g.D.BlockDevice.geometry c.args.dev.now).block_size (g.D.BlockDevice.geometry c.args.dev.now).page (content_view c.in_ok-content.content) = search rules in
-    λ cleanly. LeavesOnly-weaker (λ disk left. left_by_change (disk_of (g.D.BlockDevice.geometry c.args.dev.now) (g.D.BlockDevice.blocks c.args.dev.now)) (address_in c.args.pair.now) (changes_view c.args.changes.now) (content_view c.in_ok-content.content) disk made fits c.in_ok-content.ensures.logged left) (stops cleanly)
+    let fits : IsRawContentFittingPair (g.D.BlockDevice.geometry c.args.dev.now).block_size (g.D.BlockDevice.geometry c.args.dev.now).page (content_view c.in_ok-content.content) = search rules in
+    λ cleanly. IsTrueAfterEachStopSince-weaker (λ disk left. left_by_change (disk_of_geometry_and_blocks (g.D.BlockDevice.geometry c.args.dev.now) (g.D.BlockDevice.blocks c.args.dev.now)) (address_of_header c.args.pair.now) (changes_view c.args.changes.now) (content_view c.in_ok-content.content) disk made fits c.in_ok-content.ensures.logged left) (stops cleanly)
 
 pub returns-clause-stops : goal.returns-clause-stops
 returns-clause-stops g c =
     let made = made_here _ _ c.args.pair.now c.requires.can.held c.args.block.now (changes_view c.args.changes.now) (Some (content_view c.in_ok-content.content)) c.requires.can.is_pair c.requires.block c.in_ok-content.ensures.content in
-    let moved = subst (λ p. EachSince ErasesCleanly (g.D.BlockDevice.history c.append.new.dev) (g.D.BlockDevice.history c.compact.new.dev)
-    → LeavesOnly Stops (g.D.BlockDevice.history c.append.new.dev) (g.D.BlockDevice.history c.compact.new.dev) (LeftWith (disk_of (g.D.BlockDevice.geometry c.append.new.dev) (g.D.BlockDevice.blocks c.append.new.dev)) (address_in p) (content_view c.in_ok-content.content)))
+    let moved = subst (λ p. IsTrueOfEachCallSince LeavesNoNewLogIfErase (g.D.BlockDevice.history c.append.new.dev) (g.D.BlockDevice.history c.compact.new.dev)
+    → IsTrueAfterEachStopSince IsLeftByStopIn (g.D.BlockDevice.history c.append.new.dev) (g.D.BlockDevice.history c.compact.new.dev) (LeavesOldOrNewContent (disk_of_geometry_and_blocks (g.D.BlockDevice.geometry c.append.new.dev) (g.D.BlockDevice.blocks c.append.new.dev)) (address_of_header p) (content_view c.in_ok-content.content)))
     (c.in_ok-append.ensures.no_room (ap Ok c.if-branch.false)).pair c.in_ok-compact.ensures.stops in
-    let stops = subst (λ d. EachSince ErasesCleanly (g.D.BlockDevice.history d) (g.D.BlockDevice.history c.compact.new.dev)
-    → LeavesOnly Stops (g.D.BlockDevice.history d) (g.D.BlockDevice.history c.compact.new.dev) (LeftWith (disk_of (g.D.BlockDevice.geometry d) (g.D.BlockDevice.blocks d)) (address_in c.args.pair.now) (content_view c.in_ok-content.content)))
+    let stops = subst (λ d. IsTrueOfEachCallSince LeavesNoNewLogIfErase (g.D.BlockDevice.history d) (g.D.BlockDevice.history c.compact.new.dev)
+    → IsTrueAfterEachStopSince IsLeftByStopIn (g.D.BlockDevice.history d) (g.D.BlockDevice.history c.compact.new.dev) (LeavesOldOrNewContent (disk_of_geometry_and_blocks (g.D.BlockDevice.geometry d) (g.D.BlockDevice.blocks d)) (address_of_header c.args.pair.now) (content_view c.in_ok-content.content)))
     (c.in_ok-append.ensures.no_room (ap Ok c.if-branch.false)).device moved in
-    let fits : FitsRaw (g.D.BlockDevice.geometry c.args.dev.now).block_size (g.D.BlockDevice.geometry c.args.dev.now).page (content_view c.in_ok-content.content) = search rules in
-    λ cleanly. LeavesOnly-weaker (λ disk left. left_by_change (disk_of (g.D.BlockDevice.geometry c.args.dev.now) (g.D.BlockDevice.blocks c.args.dev.now)) (address_in c.args.pair.now) (changes_view c.args.changes.now) (content_view c.in_ok-content.content) disk made fits c.in_ok-content.ensures.logged left) (stops cleanly)
+    let fits : IsRawContentFittingPair (g.D.BlockDevice.geometry c.args.dev.now).block_size (g.D.BlockDevice.geometry c.args.dev.now).page (content_view c.in_ok-content.content) = search rules in
+    λ cleanly. IsTrueAfterEachStopSince-weaker (λ disk left. left_by_change (disk_of_geometry_and_blocks (g.D.BlockDevice.geometry c.args.dev.now) (g.D.BlockDevice.blocks c.args.dev.now)) (address_of_header c.args.pair.now) (changes_view c.args.changes.now) (content_view c.in_ok-content.content) disk made fits c.in_ok-content.ensures.logged left) (stops cleanly)
 
 pub returns-in_err-append-clause-stops : goal.returns-in_err-append-clause-stops
 returns-in_err-append-clause-stops g c cleanly =
     let made = made_here _ _ c.args.pair.now c.requires.can.held c.args.block.now (changes_view c.args.changes.now) (Some (content_view c.in_ok-content.content)) c.requires.can.is_pair c.requires.block c.in_ok-content.ensures.content in
-    let fits : FitsRaw (g.D.BlockDevice.geometry c.args.dev.now).block_size (g.D.BlockDevice.geometry c.args.dev.now).page (content_view c.in_ok-content.content) = search rules in
-    LeavesOnly-weaker (λ disk left. left_by_change (disk_of (g.D.BlockDevice.geometry c.args.dev.now) (g.D.BlockDevice.blocks c.args.dev.now)) (address_in c.args.pair.now) (changes_view c.args.changes.now) (content_view c.in_ok-content.content) disk made fits c.in_ok-content.ensures.logged left) c.in_err-append.ensures.stops
+    let fits : IsRawContentFittingPair (g.D.BlockDevice.geometry c.args.dev.now).block_size (g.D.BlockDevice.geometry c.args.dev.now).page (content_view c.in_ok-content.content) = search rules in
+    IsTrueAfterEachStopSince-weaker (λ disk left. left_by_change (disk_of_geometry_and_blocks (g.D.BlockDevice.geometry c.args.dev.now) (g.D.BlockDevice.blocks c.args.dev.now)) (address_of_header c.args.pair.now) (changes_view c.args.changes.now) (content_view c.in_ok-content.content) disk made fits c.in_ok-content.ensures.logged left) c.in_err-append.ensures.stops
 
 pub returns-then-branch-clause-stops : goal.returns-then-branch-clause-stops
 returns-then-branch-clause-stops g c cleanly =
     let made = made_here _ _ c.args.pair.now c.requires.can.held c.args.block.now (changes_view c.args.changes.now) (Some (content_view c.in_ok-content.content)) c.requires.can.is_pair c.requires.block c.in_ok-content.ensures.content in
-    let fits : FitsRaw (g.D.BlockDevice.geometry c.args.dev.now).block_size (g.D.BlockDevice.geometry c.args.dev.now).page (content_view c.in_ok-content.content) = search rules in
-    LeavesOnly-weaker (λ disk left. left_by_change (disk_of (g.D.BlockDevice.geometry c.args.dev.now) (g.D.BlockDevice.blocks c.args.dev.now)) (address_in c.args.pair.now) (changes_view c.args.changes.now) (content_view c.in_ok-content.content) disk made fits c.in_ok-content.ensures.logged left) c.in_ok-append.ensures.stops
+    let fits : IsRawContentFittingPair (g.D.BlockDevice.geometry c.args.dev.now).block_size (g.D.BlockDevice.geometry c.args.dev.now).page (content_view c.in_ok-content.content) = search rules in
+    IsTrueAfterEachStopSince-weaker (λ disk left. left_by_change (disk_of_geometry_and_blocks (g.D.BlockDevice.geometry c.args.dev.now) (g.D.BlockDevice.blocks c.args.dev.now)) (address_of_header c.args.pair.now) (changes_view c.args.changes.now) (content_view c.in_ok-content.content) disk made fits c.in_ok-content.ensures.logged left) c.in_ok-append.ensures.stops
 
 pub returns-then-branch-clause-done : goal.returns-then-branch-clause-done
 returns-then-branch-clause-done g c done =
     let now = c.in_ok-append.ensures.done (ap Ok c.if-branch.true) in
     let made = made_here _ _ c.args.pair.now c.requires.can.held c.args.block.now (changes_view c.args.changes.now) (Some (content_view c.in_ok-content.content)) c.requires.can.is_pair c.requires.block c.in_ok-content.ensures.content in
-    let fits : FitsRaw (g.D.BlockDevice.geometry c.args.dev.now).block_size (g.D.BlockDevice.geometry c.args.dev.now).page (content_view c.in_ok-content.content) = search rules in
+    let fits : IsRawContentFittingPair (g.D.BlockDevice.geometry c.args.dev.now).block_size (g.D.BlockDevice.geometry c.args.dev.now).page (content_view c.in_ok-content.content) = search rules in
     record {
       new = content_view c.in_ok-content.content;
       made = made;
@@ -73,12 +73,12 @@ returns-then-branch-clause-done g c done =
 pub returns-clause-done : goal.returns-clause-done
 returns-clause-done g c done =
     let made = made_here _ _ c.args.pair.now c.requires.can.held c.args.block.now (changes_view c.args.changes.now) (Some (content_view c.in_ok-content.content)) c.requires.can.is_pair c.requires.block c.in_ok-content.ensures.content in
-    let fits : FitsRaw (g.D.BlockDevice.geometry c.args.dev.now).block_size (g.D.BlockDevice.geometry c.args.dev.now).page (content_view c.in_ok-content.content) = search rules in
-    let holds = subst (λ p. PairHolds (disk_of (g.D.BlockDevice.geometry c.compact.new.dev) (g.D.BlockDevice.blocks c.compact.new.dev)) (g.D.BlockDevice.history c.compact.new.dev) (address_in p) c.compact.new.pair (content_view c.in_ok-content.content))
+    let fits : IsRawContentFittingPair (g.D.BlockDevice.geometry c.args.dev.now).block_size (g.D.BlockDevice.geometry c.args.dev.now).page (content_view c.in_ok-content.content) = search rules in
+    let holds = subst (λ p. PairHasContent (disk_of_geometry_and_blocks (g.D.BlockDevice.geometry c.compact.new.dev) (g.D.BlockDevice.blocks c.compact.new.dev)) (g.D.BlockDevice.history c.compact.new.dev) (address_of_header p) c.compact.new.pair (content_view c.in_ok-content.content))
     (c.in_ok-append.ensures.no_room (ap Ok c.if-branch.false)).pair c.in_ok-compact.ensures.done.holds in
-    let moved = subst (λ p. KeepsFirst (disk_of (g.D.BlockDevice.geometry c.append.new.dev) (g.D.BlockDevice.blocks c.append.new.dev)) (address_in p) (Some (content_view c.in_ok-content.content)) (disk_of (g.D.BlockDevice.geometry c.compact.new.dev) (g.D.BlockDevice.blocks c.compact.new.dev)))
+    let moved = subst (λ p. KeepsFirstEntry (disk_of_geometry_and_blocks (g.D.BlockDevice.geometry c.append.new.dev) (g.D.BlockDevice.blocks c.append.new.dev)) (address_of_header p) (Some (content_view c.in_ok-content.content)) (disk_of_geometry_and_blocks (g.D.BlockDevice.geometry c.compact.new.dev) (g.D.BlockDevice.blocks c.compact.new.dev)))
     (c.in_ok-append.ensures.no_room (ap Ok c.if-branch.false)).pair c.in_ok-compact.ensures.done.first in
-    let first = subst (λ d. KeepsFirst (disk_of (g.D.BlockDevice.geometry d) (g.D.BlockDevice.blocks d)) (address_in c.args.pair.now) (Some (content_view c.in_ok-content.content)) (disk_of (g.D.BlockDevice.geometry c.compact.new.dev) (g.D.BlockDevice.blocks c.compact.new.dev)))
+    let first = subst (λ d. KeepsFirstEntry (disk_of_geometry_and_blocks (g.D.BlockDevice.geometry d) (g.D.BlockDevice.blocks d)) (address_of_header c.args.pair.now) (Some (content_view c.in_ok-content.content)) (disk_of_geometry_and_blocks (g.D.BlockDevice.geometry c.compact.new.dev) (g.D.BlockDevice.blocks c.compact.new.dev)))
     (c.in_ok-append.ensures.no_room (ap Ok c.if-branch.false)).device moved in
     let anew = subst (λ p. IsCompacted (g.D.BlockDevice.geometry c.append.new.dev).page p (content_view c.in_ok-content.content) (g.D.BlockDevice.blocks c.append.new.dev) (g.D.BlockDevice.blocks c.compact.new.dev)
     (g.D.BlockDevice.history c.append.new.dev) (g.D.BlockDevice.history c.compact.new.dev) c.compact.new.pair) (c.in_ok-append.ensures.no_room (ap Ok c.if-branch.false)).pair c.in_ok-compact.ensures.done.compacted in
@@ -97,19 +97,19 @@ returns-clause-done g c done =
 
 pub returns-clause-device : goal.returns-clause-device
 returns-clause-device g c =
-    let moved = subst (λ p. ChangesReading g.D.BlockDevice 1 (both_blocks (address_in p)) c.append.new.dev c.compact.new.dev) (c.in_ok-append.ensures.no_room (ap Ok c.if-branch.false)).pair (record { only = c.in_ok-compact.ensures.writes.device; few = c.in_ok-compact.ensures.writes.few }) in
-    subst (λ d. ChangesReading g.D.BlockDevice 1 (both_blocks (address_in c.args.pair.now)) d c.compact.new.dev) (c.in_ok-append.ensures.no_room (ap Ok c.if-branch.false)).device moved
+    let moved = subst (λ p. ChangesBlocksWithFewReads g.D.BlockDevice 1 (both_blocks_of_pair (address_of_header p)) c.append.new.dev c.compact.new.dev) (c.in_ok-append.ensures.no_room (ap Ok c.if-branch.false)).pair (record { only = c.in_ok-compact.ensures.writes.device; few = c.in_ok-compact.ensures.writes.few }) in
+    subst (λ d. ChangesBlocksWithFewReads g.D.BlockDevice 1 (both_blocks_of_pair (address_of_header c.args.pair.now)) d c.compact.new.dev) (c.in_ok-append.ensures.no_room (ap Ok c.if-branch.false)).device moved
 
 pub returns-in_err-compact-clause-device : goal.returns-in_err-compact-clause-device
 returns-in_err-compact-clause-device g c =
-    let moved = subst (λ p. ChangesReading g.D.BlockDevice 1 (both_blocks (address_in p)) c.append.new.dev c.compact.new.dev) (c.in_ok-append.ensures.no_room (ap Ok c.if-branch.false)).pair (record { only = c.in_err-compact.ensures.writes.device; few = c.in_err-compact.ensures.writes.few }) in
-    subst (λ d. ChangesReading g.D.BlockDevice 1 (both_blocks (address_in c.args.pair.now)) d c.compact.new.dev) (c.in_ok-append.ensures.no_room (ap Ok c.if-branch.false)).device moved
+    let moved = subst (λ p. ChangesBlocksWithFewReads g.D.BlockDevice 1 (both_blocks_of_pair (address_of_header p)) c.append.new.dev c.compact.new.dev) (c.in_ok-append.ensures.no_room (ap Ok c.if-branch.false)).pair (record { only = c.in_err-compact.ensures.writes.device; few = c.in_err-compact.ensures.writes.few }) in
+    subst (λ d. ChangesBlocksWithFewReads g.D.BlockDevice 1 (both_blocks_of_pair (address_of_header c.args.pair.now)) d c.compact.new.dev) (c.in_ok-append.ensures.no_room (ap Ok c.if-branch.false)).device moved
 
 pub returns-then-not-fits-clause-full : goal.returns-then-not-fits-clause-full
 returns-then-not-fits-clause-full g c is =
     let made = made_here _ _ c.args.pair.now c.requires.can.held c.args.block.now (changes_view c.args.changes.now) (Some (content_view c.in_ok-content.content)) c.requires.can.is_pair c.requires.block c.in_ok-content.ensures.content in
     is_full made c.in_ok-content.ensures.logged (λ fits.
-    let is = c.fits.ensures.1 (subst (λ (k : Geometry). FitsRaw k.block_size k.page (content_view c.in_ok-content.content)) (sym c.geometry-geometry.ensures) fits) in
+    let is = c.fits.ensures.1 (subst (λ (k : Geometry). IsRawContentFittingPair k.block_size k.page (content_view c.in_ok-content.content)) (sym c.geometry-geometry.ensures) fits) in
     absurd (cc (c.if-not-fits.true, is)))
 
 pub returns-in_err-append-clause-faults : goal.returns-in_err-append-clause-faults

@@ -2,17 +2,17 @@ use Rattle.std.proofs.Common.{◌≡◌, ◌∙◌, ap, arith, true, Some, sym}
 use Rattle.std.specs.Prelude.{is_some}
 use Rattle.std.specs.Option.{option_and_then}
 use Rattle.lfs_model.proofs.Logged.{logged}
-use Rattle.lfs_model.specs.Content.{content_after_all, no_content}
-use Rattle.lfs_model.specs.Changes.{changed_by}
-use Rattle.lfs_model.specs.Log.{log_entries}
+use Rattle.lfs_model.specs.Content.{content_after_log_entries, empty_raw_content}
+use Rattle.lfs_model.specs.Changes.{content_after_changes}
+use Rattle.lfs_model.specs.Log.{log_entries_of_block}
 use Rattle.lfs_tag.specs.ContentView.{content_view}
 use Rattle.lfs_pair.specs.ChangeView.{changes_view}
 use Rattle.lfs_pair.proofs.Made.{logged_made}
 use Rattle.lfs_pair.proofs.contents.made_in.Goals as goal
 
-pub returns-in-Ok-apply_all-clause-logged : goal.returns-in-Ok-apply_all-clause-logged
-returns-in-Ok-apply_all-clause-logged c =
-    let held : content_after_all no_content (log_entries c.args.block.now) ≡ Some (content_view c.in-Ok.content) = ap (λ z. content_after_all no_content (log_entries z)) (sym c.known-log.ensures) ∙ c.in-Ok.ensures.content in
-    let some : is_some (changed_by (content_view c.in-Ok.content) (changes_view c.args.changes.now)) ≡ true =
-    ap (λ z. is_some (option_and_then (λ h. changed_by h (changes_view c.args.changes.now)) z)) (sym held) ∙ c.requires.made in
-    logged_made (content_view c.in-Ok.content) (changes_view c.args.changes.now) (content_view c.apply_all.new.content) (logged c.args.block.now (content_view c.in-Ok.content) (λ i. omega (arith, c.type_inv.block i)) held) some c.in-Ok-apply_all.ensures
+pub returns-in-Ok-apply_all_changes-clause-logged : goal.returns-in-Ok-apply_all_changes-clause-logged
+returns-in-Ok-apply_all_changes-clause-logged c =
+    let held : content_after_log_entries empty_raw_content (log_entries_of_block c.args.block.now) ≡ Some (content_view c.in-Ok.content) = ap (λ z. content_after_log_entries empty_raw_content (log_entries_of_block z)) (sym c.known-log.ensures) ∙ c.in-Ok.ensures.content in
+    let some : is_some (content_after_changes (content_view c.in-Ok.content) (changes_view c.args.changes.now)) ≡ true =
+    ap (λ z. is_some (option_and_then (λ h. content_after_changes h (changes_view c.args.changes.now)) z)) (sym held) ∙ c.requires.made in
+    logged_made (content_view c.in-Ok.content) (changes_view c.args.changes.now) (content_view c.apply_all_changes.new.content) (logged c.args.block.now (content_view c.in-Ok.content) (λ i. omega (arith, c.type_inv.block i)) held) some c.in-Ok-apply_all_changes.ensures

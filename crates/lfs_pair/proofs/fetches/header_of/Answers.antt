@@ -1,14 +1,14 @@
 use Rattle.std.proofs.Common.{◌∙◌, arith, ap, sym}
 use Rattle.lfs_model.proofs.Logged.{logged}
-use Rattle.lfs_model.specs.Log.{log_entries}
-use Rattle.lfs_model.specs.Content.{content_after_all, no_content}
+use Rattle.lfs_model.specs.Log.{log_entries_of_block}
+use Rattle.lfs_model.specs.Content.{content_after_log_entries, empty_raw_content}
 use Rattle.lfs_pair.proofs.fetches.header_of.Goals as goal
 
 pub returns-clause-describes : goal.returns-clause-describes
 returns-clause-describes c =
     let held = c.in_ok-summary.ensures.summary.0 in
     let sums = c.in_ok-summary.ensures.summary.1 in
-    let content = ap (λ z. content_after_all no_content (log_entries z)) (sym c.known-log.ensures) ∙ sums.content in (
+    let content = ap (λ z. content_after_log_entries empty_raw_content (log_entries_of_block z)) (sym c.known-log.ensures) ∙ sums.content in (
       held,
       record {
         content = content;

@@ -1,12 +1,12 @@
 use Rattle.std.proofs.Common.{rules, ◌≡◌, ◌<◌, false, ◌∙◌, ap, sym, subst, arith}
 use Rattle.std.proofs.lemmas.List.{take-replicate}
 use Rattle.lfs_device.specs.declared.geometry.Geometry.{Geometry}
-use Rattle.lfs_model.specs.Blocks.{block_in}
+use Rattle.lfs_model.specs.Blocks.{block_bytes_in}
 use Rattle.lfs_model.specs.Content.{has_commit}
 use Rattle.lfs_model.specs.History.{programs, reads}
 use Rattle.lfs_model.proofs.Pages.{page_at_least, page_at_most}
 use Rattle.lfs_model.proofs.Zeroed.{no_commit-programmed}
-use Rattle.lfs_model.proofs.Histories.{began, goes_on, EachSince-only, EachSince-until}
+use Rattle.lfs_model.proofs.Histories.{began, goes_on, IsTrueOfEachCallSince-only, IsTrueOfEachCallSince-until}
 use Rattle.lfs_model.proofs.Overwrites.{slice_range_whole}
 use Rattle.lfs_pair.proofs.Calls.{block_by_erase, block_by_program, block_by_reads, block_trans, reads_one}
 use Rattle.lfs_pair.proofs.fresh.clear.Goals as goal
@@ -63,7 +63,7 @@ pub returns-in_ok-prog-clause-clears : goal.returns-in_ok-prog-clause-clears
 returns-in_ok-prog-clause-clears g c =
     let blocks = g.D.BlockDevice.blocks c.erase.new.self in
     let size = (g.met.D.BlockDevice.shape c.erase.new.self).sizes c.args.block (subst (λ (k : Geometry). c.args.block < k.block_count) (sym c.erase.ensures.geometry) c.requires.in_device) in
-    let whole = slice_range_whole (block_in blocks c.args.block) _ (c.requires.buf ∙ sym (ap (λ (k : Geometry). k.block_size) c.erase.ensures.geometry) ∙ sym size) in
+    let whole = slice_range_whole (block_bytes_in blocks c.args.block) _ (c.requires.buf ∙ sym (ap (λ (k : Geometry). k.block_size) c.erase.ensures.geometry) ∙ sym size) in
     let read = c.in_ok-read.ensures.bytes ∙ whole in
     let erased = ap programs c.in_ok-erase.ensures.history in
     let then = ap programs c.in_ok-read.ensures.history in
@@ -74,6 +74,6 @@ returns-in_ok-prog-clause-clears g c =
       programs = λ logs.
           let first = goes_on {P = λ _. Unit {0}} began c.in_ok-erase.ensures.history tt in
           let behind = goes_on {P = λ _. Unit {0}} (goes_on began c.in_ok-read.ensures.history tt) c.in_ok-prog.ensures.history tt in
-          let none : has_commit (block_in blocks c.args.block) ≡ false = EachSince-only (EachSince-until logs first behind) c.in_ok-erase.ensures.history in
+          let none : has_commit (block_bytes_in blocks c.args.block) ≡ false = IsTrueOfEachCallSince-only (IsTrueOfEachCallSince-until logs first behind) c.in_ok-erase.ensures.history in
           absurd (cc (none, read, c.if-has_commit.true, c.has_commit.ensures, c.read-2.ensures));
     }

@@ -2,48 +2,48 @@ use Rattle.std.proofs.Common.{arith, ◌∙◌}
 use Rattle.std.proofs.lemmas.Result.{err_from_is_err_and}
 use Rattle.lfs_pair.proofs.Erring.{fails_on, reports_ok, reports_on}
 use Rattle.std.proofs.Common.{ap₂, sym, subst}
-use Rattle.lfs_device.specs.Shown.{disk_of}
-use Rattle.lfs_model.specs.Slots.{address_of}
-use Rattle.lfs_model.proofs.Histories.{goes_on_by, EachSince-behind, LeavesOnly-reads, LeavesOnly-weaker, Stops-read}
-use Rattle.lfs_pair.specs.Pair.{address_in}
+use Rattle.lfs_device.specs.Shown.{disk_of_geometry_and_blocks}
+use Rattle.lfs_model.specs.Slots.{pair_address_of_array}
+use Rattle.lfs_model.proofs.Histories.{goes_on_by, IsTrueOfEachCallSince-behind, IsTrueAfterEachStopSince-reads, IsTrueAfterEachStopSince-weaker, IsLeftByStopIn-read}
+use Rattle.lfs_pair.specs.Pair.{address_of_header}
 use Rattle.lfs_pair.specs.ChangeView.{changes_view}
-use Rattle.lfs_pair.specs.Split.{CanSplit, LeftBySplit}
+use Rattle.lfs_pair.specs.Split.{CanSplitPair, LeavesOldContentOrParts}
 use Rattle.lfs_pair.proofs.Behind.{splits_behind}
 use Rattle.lfs_pair.proofs.Calls.{few_at_error, few_by_read, reading_by_read, reading_trans}
 use Rattle.lfs_pair.proofs.Changed.{active_below}
-use Rattle.lfs_pair.proofs.Parted.{CanSplit-reads, left_before}
+use Rattle.lfs_pair.proofs.Parted.{CanSplitPair-reads, left_before}
 use Rattle.lfs_pair.proofs.splits.split.Goals as goal
 
 pub read_block-requires : goal.read_block-requires
 read_block-requires g c = active_below _ _ c.args.pair.now c.requires.commit.held _ c.requires.commit.address c.requires.commit.is_pair (g.met.D.BlockDevice.shape c.args.dev.now).count
 
 pub returns-in_err-block-clause-stops : goal.returns-in_err-block-clause-stops
-returns-in_err-block-clause-stops g c cleanly = LeavesOnly-reads Stops-read c.in_err-block.ensures.device.reads (left_before _ _ _ _)
+returns-in_err-block-clause-stops g c cleanly = IsTrueAfterEachStopSince-reads IsLeftByStopIn-read c.in_err-block.ensures.device.reads (left_before _ _ _ _)
 
 pub split_in-requires-clause-can : goal.split_in-requires-clause-can
 split_in-requires-clause-can g c =
     let read = c.in_ok-block.ensures.device in
-    subst (λ disk. CanSplit disk (g.D.BlockDevice.history c.read_block.new.device) c.args.pair.now (address_of c.args.fresh) (changes_view c.args.changes.now)) (sym (ap₂ disk_of read.geometry read.same))
-    (CanSplit-reads read.reads c.requires)
+    subst (λ disk. CanSplitPair disk (g.D.BlockDevice.history c.read_block.new.device) c.args.pair.now (pair_address_of_array c.args.fresh) (changes_view c.args.changes.now)) (sym (ap₂ disk_of_geometry_and_blocks read.geometry read.same))
+    (CanSplitPair-reads read.reads c.requires)
 
 pub returns-in_err-fresh_pair-clause-stops : goal.returns-in_err-fresh_pair-clause-stops
 returns-in_err-fresh_pair-clause-stops g c cleanly =
     let read = c.in_ok-block.ensures.device in
-    goes_on_by (LeavesOnly-reads Stops-read read.reads (left_before _ _ _ _))
-    (LeavesOnly-weaker (λ disk left. subst (λ old. LeftBySplit old (address_in c.args.pair.now) (address_of c.args.fresh) (changes_view c.args.changes.now) disk) (ap₂ disk_of read.geometry read.same) left)
-    (c.in_err-fresh_pair.ensures.stops (EachSince-behind cleanly read.reads c.in_err-fresh_pair.ensures.device.only.at_worst)))
+    goes_on_by (IsTrueAfterEachStopSince-reads IsLeftByStopIn-read read.reads (left_before _ _ _ _))
+    (IsTrueAfterEachStopSince-weaker (λ disk left. subst (λ old. LeavesOldContentOrParts old (address_of_header c.args.pair.now) (pair_address_of_array c.args.fresh) (changes_view c.args.changes.now) disk) (ap₂ disk_of_geometry_and_blocks read.geometry read.same) left)
+    (c.in_err-fresh_pair.ensures.stops (IsTrueOfEachCallSince-behind cleanly read.reads c.in_err-fresh_pair.ensures.device.only.at_worst)))
 
 pub returns-clause-stops : goal.returns-clause-stops
 returns-clause-stops g c cleanly =
     let read = c.in_ok-block.ensures.device in
-    goes_on_by (LeavesOnly-reads Stops-read read.reads (left_before _ _ _ _))
-    (LeavesOnly-weaker (λ disk left. subst (λ old. LeftBySplit old (address_in c.args.pair.now) (address_of c.args.fresh) (changes_view c.args.changes.now) disk) (ap₂ disk_of read.geometry read.same) left)
-    (c.in_ok-fresh_pair.ensures.stops (EachSince-behind cleanly read.reads c.in_ok-fresh_pair.ensures.device.only.at_worst)))
+    goes_on_by (IsTrueAfterEachStopSince-reads IsLeftByStopIn-read read.reads (left_before _ _ _ _))
+    (IsTrueAfterEachStopSince-weaker (λ disk left. subst (λ old. LeavesOldContentOrParts old (address_of_header c.args.pair.now) (pair_address_of_array c.args.fresh) (changes_view c.args.changes.now) disk) (ap₂ disk_of_geometry_and_blocks read.geometry read.same) left)
+    (c.in_ok-fresh_pair.ensures.stops (IsTrueOfEachCallSince-behind cleanly read.reads c.in_ok-fresh_pair.ensures.device.only.at_worst)))
 
 pub returns-clause-splits : goal.returns-clause-splits
 returns-clause-splits g c =
     let read = c.in_ok-block.ensures.device in
-    splits_behind (ap₂ disk_of read.geometry read.same) read.reads c.in_ok-fresh_pair.ensures.device.only.at_worst c.in_ok-fresh_pair.ensures.splits
+    splits_behind (ap₂ disk_of_geometry_and_blocks read.geometry read.same) read.reads c.in_ok-fresh_pair.ensures.device.only.at_worst c.in_ok-fresh_pair.ensures.splits
 
 pub returns-in_err-block-clause-device : goal.returns-in_err-block-clause-device
 returns-in_err-block-clause-device g c = reading_by_read c.in_err-block.ensures.device (few_at_error c.in_err-block.ensures.errors c.in_err-block.ensures.io c.in_err-block.ensures.no_memory) (omega arith)

@@ -1,7 +1,7 @@
 use Rattle.std.proofs.Common.{◌∷◌, List, arith, drop, subst, sym}
 use Rattle.std.proofs.lemmas.Result.{err_from_is_err_and}
-use Rattle.lfs_script_lines.specs.Kinds.{Kind, Number, order_kinds}
-use Rattle.lfs_script_lines.specs.Lines.{IsWordFault, texts}
+use Rattle.lfs_script_lines.specs.Kinds.{WordKind, Number, word_kinds_of_order_option}
+use Rattle.lfs_script_lines.specs.Lines.{IsErrorOfWordsByKinds, texts}
 use Rattle.lfs_script_lines.proofs.Misfits.{later}
 use Rattle.lfs_script_lines.proofs.Named.{length-texts}
 use Rattle.lfs_script_lines.proofs.OptionKinds.{fresh_given}
@@ -11,5 +11,5 @@ pub returns-in_err-order-clause-err : goal.returns-in_err-order-clause-err
 returns-in_err-order-clause-err c =
     let p = err_from_is_err_and c.from_residual-in_err-order.result c.from_residual-in_err-order.ensures.1 in
     let given = fresh_given (texts c.args.words.now) (omega (arith, length-texts c.args.words.now)) in
-    rw (p.1, p.2) (subst (λ (kinds : List Kind). IsWordFault (texts c.args.words.now) 1 kinds c.in_err-order.field-0.0) (sym given)
-    (later (texts c.args.words.now) 1 Number (Number ∷ Number ∷ order_kinds (drop 4 (texts c.args.words.now))) _ (later (texts c.args.words.now) 2 Number (Number ∷ order_kinds (drop 4 (texts c.args.words.now))) _ (later (texts c.args.words.now) 3 Number (order_kinds (drop 4 (texts c.args.words.now))) _ c.in_err-order.ensures))))
+    rw (p.1, p.2) (subst (λ (kinds : List WordKind). IsErrorOfWordsByKinds (texts c.args.words.now) 1 kinds c.in_err-order.field-0.0) (sym given)
+    (later (texts c.args.words.now) 1 Number (Number ∷ Number ∷ word_kinds_of_order_option (drop 4 (texts c.args.words.now))) _ (later (texts c.args.words.now) 2 Number (Number ∷ word_kinds_of_order_option (drop 4 (texts c.args.words.now))) _ (later (texts c.args.words.now) 3 Number (word_kinds_of_order_option (drop 4 (texts c.args.words.now))) _ c.in_err-order.ensures))))

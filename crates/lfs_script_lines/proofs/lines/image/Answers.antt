@@ -1,7 +1,7 @@
 use Rattle.std.proofs.Common.{◌∷◌, List, arith, drop, subst, sym}
 use Rattle.std.proofs.lemmas.Result.{err_from_is_err_and}
-use Rattle.lfs_script_lines.specs.Kinds.{Bytes, Kind, Number, erased_kinds}
-use Rattle.lfs_script_lines.specs.Lines.{IsWordFault, texts}
+use Rattle.lfs_script_lines.specs.Kinds.{Bytes, WordKind, Number, word_kinds_of_erased_option}
+use Rattle.lfs_script_lines.specs.Lines.{IsErrorOfWordsByKinds, texts}
 use Rattle.lfs_script_lines.proofs.Misfits.{before, later}
 use Rattle.lfs_script_lines.proofs.Named.{length-texts}
 use Rattle.lfs_script_lines.proofs.OptionKinds.{image_given}
@@ -11,12 +11,12 @@ pub returns-in_err-file-clause-err : goal.returns-in_err-file-clause-err
 returns-in_err-file-clause-err c =
     let p = err_from_is_err_and c.from_residual-in_err-file.result c.from_residual-in_err-file.ensures.1 in
     let given = image_given (texts c.args.words.now) (omega (arith, length-texts c.args.words.now)) in
-    rw (p.1, p.2) (subst (λ (kinds : List Kind). IsWordFault (texts c.args.words.now) 1 kinds c.in_err-file.field-0.0) (sym given)
-    (later (texts c.args.words.now) 1 Number (Number ∷ Bytes ∷ erased_kinds (drop 4 (texts c.args.words.now))) _ (later (texts c.args.words.now) 2 Number (Bytes ∷ erased_kinds (drop 4 (texts c.args.words.now))) _ (before (texts c.args.words.now) 3 Bytes (erased_kinds (drop 4 (texts c.args.words.now))) _ c.in_err-file.ensures))))
+    rw (p.1, p.2) (subst (λ (kinds : List WordKind). IsErrorOfWordsByKinds (texts c.args.words.now) 1 kinds c.in_err-file.field-0.0) (sym given)
+    (later (texts c.args.words.now) 1 Number (Number ∷ Bytes ∷ word_kinds_of_erased_option (drop 4 (texts c.args.words.now))) _ (later (texts c.args.words.now) 2 Number (Bytes ∷ word_kinds_of_erased_option (drop 4 (texts c.args.words.now))) _ (before (texts c.args.words.now) 3 Bytes (word_kinds_of_erased_option (drop 4 (texts c.args.words.now))) _ c.in_err-file.ensures))))
 
 pub returns-in_err-erased-clause-err : goal.returns-in_err-erased-clause-err
 returns-in_err-erased-clause-err c =
     let p = err_from_is_err_and c.from_residual-in_err-erased.result c.from_residual-in_err-erased.ensures.1 in
     let given = image_given (texts c.args.words.now) (omega (arith, length-texts c.args.words.now)) in
-    rw (p.1, p.2) (subst (λ (kinds : List Kind). IsWordFault (texts c.args.words.now) 1 kinds c.in_err-erased.field-0.0) (sym given)
-    (later (texts c.args.words.now) 1 Number (Number ∷ Bytes ∷ erased_kinds (drop 4 (texts c.args.words.now))) _ (later (texts c.args.words.now) 2 Number (Bytes ∷ erased_kinds (drop 4 (texts c.args.words.now))) _ (later (texts c.args.words.now) 3 Bytes (erased_kinds (drop 4 (texts c.args.words.now))) _ c.in_err-erased.ensures))))
+    rw (p.1, p.2) (subst (λ (kinds : List WordKind). IsErrorOfWordsByKinds (texts c.args.words.now) 1 kinds c.in_err-erased.field-0.0) (sym given)
+    (later (texts c.args.words.now) 1 Number (Number ∷ Bytes ∷ word_kinds_of_erased_option (drop 4 (texts c.args.words.now))) _ (later (texts c.args.words.now) 2 Number (Bytes ∷ word_kinds_of_erased_option (drop 4 (texts c.args.words.now))) _ (later (texts c.args.words.now) 3 Bytes (word_kinds_of_erased_option (drop 4 (texts c.args.words.now))) _ c.in_err-erased.ensures))))

@@ -7,4 +7,4 @@ returns-in_default-clause-err c = c.in_default.ensures
 
 pub returns-clause-ok : goal.returns-clause-ok
 returns-clause-ok c =
-    (c.in-Some.ensures, omega (arith, length-texts c.args.words.now, c.in_ok-check_count.ensures.ok.0), omega (arith, length-texts c.args.words.now, c.in_ok-check_count.ensures.ok.1), sym c.has_gap.ensures ∙ c.if-has_gap.false)
+    (c.in-Some.ensures, omega (arith, length-texts c.args.words.now, c.in_ok-check_word_count.ensures.ok.0), omega (arith, length-texts c.args.words.now, c.in_ok-check_word_count.ensures.ok.1), sym c.has_gap.ensures ∙ c.if-has_gap.false)

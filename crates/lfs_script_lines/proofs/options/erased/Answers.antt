@@ -1,18 +1,18 @@
 use Rattle.std.proofs.Common.{◌∷◌, List, [], subst, sym}
 use Rattle.std.proofs.lemmas.Result.{err_from_is_err_and}
-use Rattle.lfs_script_lines.specs.Kinds.{Keyword, Kind, Byte}
-use Rattle.lfs_script_lines.specs.Lines.{IsWordFault, texts}
+use Rattle.lfs_script_lines.specs.Kinds.{Keyword, WordKind, Byte}
+use Rattle.lfs_script_lines.specs.Lines.{IsErrorOfWordsByKinds, texts}
 use Rattle.lfs_script_lines.proofs.Misfits.{later}
 use Rattle.lfs_script_lines.proofs.options.erased.Goals as goal
 
-pub returns-in_err-choice : goal.returns-in_err-choice
-returns-in_err-choice c =
+pub returns-in_err-choice_of_two_options : goal.returns-in_err-choice_of_two_options
+returns-in_err-choice_of_two_options c =
     let p = err_from_is_err_and c.from_residual.result c.from_residual.ensures.1 in
-    rw (p.1, p.2) (c.in_err-choice.ensures.err Byte)
+    rw (p.1, p.2) (c.in_err-choice_of_two_options.ensures.err Byte)
 
 pub returns-in_err-byte-in-Leading : goal.returns-in_err-byte-in-Leading
 returns-in_err-byte-in-Leading c =
     let p = err_from_is_err_and c.from_residual-in_err-byte-in-Leading.result c.from_residual-in_err-byte-in-Leading.ensures.1 in
-    let wanted = (c.in_ok-choice.ensures.leading (cc)).1 Byte in
-    rw (p.1, p.2) (subst (λ (kinds : List Kind). IsWordFault (texts c.args.words.now) c.args.place kinds c.in_err-byte-in-Leading.field-0.0) (sym wanted)
+    let wanted = (c.in_ok-choice_of_two_options.ensures.leading (cc)).1 Byte in
+    rw (p.1, p.2) (subst (λ (kinds : List WordKind). IsErrorOfWordsByKinds (texts c.args.words.now) c.args.place kinds c.in_err-byte-in-Leading.field-0.0) (sym wanted)
     (later (texts c.args.words.now) c.args.place Keyword (Byte ∷ []) _ c.in_err-byte-in-Leading.ensures))

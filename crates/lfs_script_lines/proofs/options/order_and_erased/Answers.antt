@@ -1,12 +1,12 @@
 use Rattle.std.proofs.Common.{List, drop, subst, sym}
 use Rattle.std.proofs.lemmas.Result.{err_from_is_err_and}
-use Rattle.lfs_script_lines.specs.Kinds.{Keyword, Kind, erased_kinds}
-use Rattle.lfs_script_lines.specs.Lines.{IsWordFault, texts}
+use Rattle.lfs_script_lines.specs.Kinds.{Keyword, WordKind, word_kinds_of_erased_option}
+use Rattle.lfs_script_lines.specs.Lines.{IsErrorOfWordsByKinds, texts}
 use Rattle.lfs_script_lines.proofs.Misfits.{later}
 use Rattle.lfs_script_lines.proofs.options.order_and_erased.Goals as goal
 
 pub returns-in_err-erased-in-Some : goal.returns-in_err-erased-in-Some
 returns-in_err-erased-in-Some c =
     let p = err_from_is_err_and c.from_residual.result c.from_residual.ensures.1 in
-    rw (p.1, p.2) (subst (λ (kinds : List Kind). IsWordFault (texts c.args.words.now) 4 kinds c.in_err-erased-in-Some.field-0.0) (sym c.in-Some.ensures.given.1)
-    (later (texts c.args.words.now) 4 Keyword (erased_kinds (drop 5 (texts c.args.words.now))) _ c.in_err-erased-in-Some.ensures))
+    rw (p.1, p.2) (subst (λ (kinds : List WordKind). IsErrorOfWordsByKinds (texts c.args.words.now) 4 kinds c.in_err-erased-in-Some.field-0.0) (sym c.in-Some.ensures.given.1)
+    (later (texts c.args.words.now) 4 Keyword (word_kinds_of_erased_option (drop 5 (texts c.args.words.now))) _ c.in_err-erased-in-Some.ensures))

@@ -9,10 +9,10 @@ loop-rest-preserved c =
     let sum = c.loop-rest.sum in
     let rest = c.loop-rest.rest.now in
     let all : take (length rest - 8) (drop 8 rest) ≡ drop 8 rest = take_all (length rest - 8) (drop 8 rest) (omega (arith, length-drop 8 rest)) in
-    rw (all, c.after_eight-sum.ensures) (sym (crc-append sum (take 8 rest) (drop 8 rest)) ∙ ap (crc_of sum) (take-append-drop 8 rest) ∙ c.loop-rest.invariant)
+    rw (all, c.crc_after_eight_bytes-sum.ensures) (sym (crc-append sum (take 8 rest) (drop 8 rest)) ∙ ap (crc_of sum) (take-append-drop 8 rest) ∙ c.loop-rest.invariant)
 
 value : goal.returns-clause-value
-value c = c.after_bytes.ensures ∙ c.loop-rest.invariant
+value c = c.crc_after_bytes.ensures ∙ c.loop-rest.invariant
 
 pub returns-clause-value : goal.returns-clause-value
 returns-clause-value c = value c

@@ -1,7 +1,7 @@
 use Rattle.std.proofs.Common.{◌≡◌, ◌∙◌, sym, ap, refl, arith, eqb, map, true, false}
 use Rattle.lfs_model.specs.Slots.{Attributes}
 use Rattle.lfs_model.specs.Tag.{len_of}
-use Rattle.lfs_model.specs.Content.{RawSlot, with_attribute}
+use Rattle.lfs_model.specs.Content.{RawSlot, attributes_after_entry}
 use Rattle.lfs_tag.specs.declared.content.Slot.{Slot}
 use Rattle.lfs_tag.specs.ContentView.{slot_view, attribute_view}
 use Rattle.lfs_tag.specs.LogEntryView.{log_entry_view}
@@ -12,7 +12,7 @@ pub returns-then-removes : goal.returns-then-removes
 returns-then-removes c =
     let x : Slot = c.index_mut-slot.result.now in
     let y : Slot = record x { attributes = c.remove_attribute.new.attributes } in
-    let f : RawSlot → RawSlot = λ s. record s { attributes = with_attribute (log_entry_view c.args.entry.now) s.attributes } in
+    let f : RawSlot → RawSlot = λ s. record s { attributes = attributes_after_entry (log_entry_view c.args.entry.now) s.attributes } in
     let removes : eqb (len_of c.args.entry.now.tag) 0x3ff ≡ true = sym c.removes.ensures ∙ c.if-removes.true in
     let same = ap (map attribute_view) c.remove_attribute.ensures ∙ without_is c.chunk-kind.result x.attributes.items in
     changed_is f c.args.slots.now.items c.args.id x y (omega arith) c.index_mut-slot.ensures.value
@@ -22,7 +22,7 @@ pub returns-in_ok-set_attribute : goal.returns-in_ok-set_attribute
 returns-in_ok-set_attribute c =
     let x : Slot = c.index_mut-slot.result.now in
     let y : Slot = record x { attributes = c.set_attribute.new.attributes } in
-    let f : RawSlot → RawSlot = λ s. record s { attributes = with_attribute (log_entry_view c.args.entry.now) s.attributes } in
+    let f : RawSlot → RawSlot = λ s. record s { attributes = attributes_after_entry (log_entry_view c.args.entry.now) s.attributes } in
     let sets : eqb (len_of c.args.entry.now.tag) 0x3ff ≡ false = sym c.removes.ensures ∙ c.if-removes.false in
     changed_is f c.args.slots.now.items c.args.id x y (omega arith) c.index_mut-slot.ensures.value
     (rw sets (ap (λ (others : Attributes). record (slot_view x) { attributes = others }) (c.in_ok-set_attribute.ensures ∙ rw c.chunk-kind.ensures refl)))

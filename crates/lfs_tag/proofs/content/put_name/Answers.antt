@@ -1,6 +1,6 @@
 use Rattle.std.proofs.Common.{ap, ◌∙◌, refl, arith, List, Some}
 use Rattle.lfs_tag.specs.declared.content.Slot.{Slot}
-use Rattle.lfs_model.specs.Content.{RawSlot, with_slot_changed}
+use Rattle.lfs_model.specs.Content.{RawSlot, raw_slots_after_slot_change}
 use Rattle.lfs_tag.specs.ContentView.{part_view}
 use Rattle.lfs_tag.proofs.Places.{changed_is}
 use Rattle.lfs_tag.proofs.content.put_name.Goals as goal
@@ -11,4 +11,4 @@ returns c =
     let y : Slot = record x { name = Some c.args.part } in
     let f : RawSlot → RawSlot = λ s. record s { name = Some (part_view c.args.part) } in
     changed_is f c.fill_up.new.slots.items c.args.id x y (omega (arith, c.in_ok-fill_up.ensures.long)) c.index_mut-slot.ensures.value refl
-    ∙ ap (λ (xs : List RawSlot). with_slot_changed f xs c.args.id) c.in_ok-fill_up.ensures.filled
+    ∙ ap (λ (xs : List RawSlot). raw_slots_after_slot_change f xs c.args.id) c.in_ok-fill_up.ensures.filled

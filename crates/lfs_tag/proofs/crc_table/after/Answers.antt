@@ -3,4 +3,4 @@ use Rattle.lfs_tag.proofs.Table.{in_table}
 use Rattle.lfs_tag.proofs.crc_table.after.Goals as goal
 
 pub returns : goal.returns
-returns c = c.number_at.ensures ∙ in_table c.args.row c.args.byte c.requires.row c.requires.byte
+returns c = c.table_number_at.ensures ∙ in_table c.args.row c.args.byte c.requires.row c.requires.byte

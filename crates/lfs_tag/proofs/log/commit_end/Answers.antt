@@ -1,6 +1,6 @@
 use Rattle.std.proofs.Common.{rules, ◌≡◌, sym, ap, ◌∙◌, Some, None, true, false}
 use Rattle.std.specs.Option.{option_map}
-use Rattle.lfs_model.specs.Log.{entry_at, is_checksum, closes, commit_at, end_of_entry}
+use Rattle.lfs_model.specs.Log.{entry_at, is_checksum_entry, closes, commit_at, end_of_entry}
 use Rattle.lfs_tag.specs.LogEntryView.{log_entry_view}
 use Rattle.lfs_model.proofs.Chains.{stop, commit_none, commit_closed, commit_refused, commit_on, stop-with}
 use Rattle.lfs_tag.proofs.log.commit_end.Goals as goal
@@ -9,7 +9,7 @@ pub returns-then-closes-clause-value : goal.returns-then-closes-clause-value
 returns-then-closes-clause-value c =
     let e = log_entry_view c.in-Some.entry in
     let is : entry_at c.args.block.now c.loop-entry.at c.loop-entry.before ≡ Some e = sym c.in-Some.ensures.value in
-    let sum : is_checksum e ≡ true = sym c.ends_commit.ensures ∙ c.if-ends_commit.true in
+    let sum : is_checksum_entry e ≡ true = sym c.ends_commit.ensures ∙ c.if-ends_commit.true in
     let right : closes c.args.block.now c.args.start c.loop-entry.at e ≡ true = sym c.closes.ensures ∙ c.if-closes.true in
     rw c.carried.ensures (sym (ap (option_map stop) (commit_closed c.args.block.now c.args.start c.loop-entry.at c.loop-entry.before e is sum right)) ∙ c.loop-entry.invariant.same)
 
@@ -17,7 +17,7 @@ pub returns-else-closes-clause-value : goal.returns-else-closes-clause-value
 returns-else-closes-clause-value c =
     let e = log_entry_view c.in-Some.entry in
     let is : entry_at c.args.block.now c.loop-entry.at c.loop-entry.before ≡ Some e = sym c.in-Some.ensures.value in
-    let sum : is_checksum e ≡ true = sym c.ends_commit.ensures ∙ c.if-ends_commit.true in
+    let sum : is_checksum_entry e ≡ true = sym c.ends_commit.ensures ∙ c.if-ends_commit.true in
     let wrong : closes c.args.block.now c.args.start c.loop-entry.at e ≡ false = sym c.closes.ensures ∙ c.if-closes.false in
     sym (ap (option_map stop) (commit_refused c.args.block.now c.args.start c.loop-entry.at c.loop-entry.before e is sum wrong)) ∙ c.loop-entry.invariant.same
 
@@ -25,7 +25,7 @@ pub loop-entry-preserved : goal.loop-entry-preserved
 loop-entry-preserved c =
     let e = log_entry_view c.in-Some.entry in
     let is : entry_at c.args.block.now c.loop-entry.at c.loop-entry.before ≡ Some e = sym c.in-Some.ensures.value in
-    let other : is_checksum e ≡ false = sym c.ends_commit.ensures ∙ c.if-ends_commit.false in
+    let other : is_checksum_entry e ≡ false = sym c.ends_commit.ensures ∙ c.if-ends_commit.false in
     record {
       start = search rules;
       reached = search rules;

@@ -1,10 +1,10 @@
 use Rattle.std.proofs.Common.{◌+◌, ◌∙◌, Err, List, ap, refl, subst, sym, set}
 use Rattle.std.proofs.lemmas.Result.{err_from_is_err_and}
-use Rattle.lfs_model.specs.BlockSets.{BlockSets, IsInFlight, Used}
-use Rattle.lfs_model.specs.Slots.{address_of}
-use Rattle.lfs_model.proofs.Histories.{LeavesOnly-weaker}
-use Rattle.lfs_thread.specs.Device.{four_of}
-use Rattle.lfs_thread.specs.Kept.{Header, disk_on}
+use Rattle.lfs_model.specs.BlockSets.{BlockStateList, IsInFlight, Used}
+use Rattle.lfs_model.specs.Slots.{pair_address_of_array}
+use Rattle.lfs_model.proofs.Histories.{IsTrueAfterEachStopSince-weaker}
+use Rattle.lfs_thread.specs.Device.{blocks_of_two_addresses}
+use Rattle.lfs_thread.specs.Kept.{PairHeader, disk_of_device}
 use Rattle.lfs_thread.proofs.Changing.{at_there}
 use Rattle.lfs_thread.proofs.Coming.{second_held}
 use Rattle.lfs_thread.proofs.CachedPair.{reading_there}
@@ -12,38 +12,38 @@ use Rattle.lfs_thread.proofs.Parting.{can_split, device_split, device_is_split, 
 use Rattle.lfs_thread.proofs.Reported.{errors_again}
 use Rattle.lfs_thread.proofs.splits.split_pair.Goals as goal
 
-pub split_to-requires-clause-can : goal.split_to-requires-clause-can
-split_to-requires-clause-can g c =
-    let a = at_there (disk_on g.D.BlockDevice c.args.device.now) c.args.pairs.now.items c.args.index c.index.result.now c.requires.can.can.below c.index.ensures in
-    can_split _ _ _ c.args.map.now c.args.index _ (address_of c.args.fresh) _ a c.requires.kept c.requires.can
+pub split_with_cache-requires-clause-can : goal.split_with_cache-requires-clause-can
+split_with_cache-requires-clause-can g c =
+    let a = at_there (disk_of_device g.D.BlockDevice c.args.device.now) c.args.pairs.now.items c.args.index c.index.result.now c.requires.can.can.below c.index.ensures in
+    can_split _ _ _ c.args.map.now c.args.index _ (pair_address_of_array c.args.fresh) _ a c.requires.kept c.requires.can
 
 pub returns-in_err-fresh_pair-clause-stops : goal.returns-in_err-fresh_pair-clause-stops
 returns-in_err-fresh_pair-clause-stops g c cleanly =
-    let a = at_there (disk_on g.D.BlockDevice c.args.device.now) c.args.pairs.now.items c.args.index c.index.result.now c.requires.can.can.below c.index.ensures in
-    LeavesOnly-weaker (λ left l. left_by_split _ _ c.args.pairs.now.items c.args.map.now c.args.index _ (address_of c.args.fresh) _ left a c.requires.kept c.requires.can l) (c.in_err-fresh_pair.ensures.stops cleanly)
+    let a = at_there (disk_of_device g.D.BlockDevice c.args.device.now) c.args.pairs.now.items c.args.index c.index.result.now c.requires.can.can.below c.index.ensures in
+    IsTrueAfterEachStopSince-weaker (λ left l. left_by_split _ _ c.args.pairs.now.items c.args.map.now c.args.index _ (pair_address_of_array c.args.fresh) _ left a c.requires.kept c.requires.can l) (c.in_err-fresh_pair.ensures.stops cleanly)
 
 pub settle-requires-2 : goal.settle-requires-2
 settle-requires-2 g c =
-    subst (λ (s : BlockSets). IsInFlight s (address_of c.args.fresh).1) (sym c.settle.ensures) (second_held _ (address_of c.args.fresh) c.requires.can.held)
+    subst (λ (s : BlockStateList). IsInFlight s (pair_address_of_array c.args.fresh).1) (sym c.settle.ensures) (second_held _ (pair_address_of_array c.args.fresh) c.requires.can.held)
 
 pub returns-clause-kept : goal.returns-clause-kept
 returns-clause-kept g c =
-    let a = at_there (disk_on g.D.BlockDevice c.args.device.now) c.args.pairs.now.items c.args.index c.index.result.now c.requires.can.can.below c.index.ensures in
+    let a = at_there (disk_of_device g.D.BlockDevice c.args.device.now) c.args.pairs.now.items c.args.index c.index.result.now c.requires.can.can.below c.index.ensures in
     let e = c.in_ok-fresh_pair.ensures in
-    device_split _ _ _ _ _ _ _ _ _ _ _ _ (address_of c.args.fresh) _ e.device.only.geometry a c.requires.kept c.requires.can e.splits e.device.only.others e.device.only.elsewhere _
-    (ap (λ (z : List Header). set (set z c.args.index c.split_to.new.pair) (c.args.index + 1) c.in_ok-fresh_pair.fresh_pair) c.in_ok-insert.ensures.items ∙ placed _ _ _ _ _ c.in_ok-fresh_pair.fresh_pair a) _ (c.settle-2.ensures ∙ ap (λ (s : BlockSets). set s (address_of c.args.fresh).1 Used) c.settle.ensures)
+    device_split _ _ _ _ _ _ _ _ _ _ _ _ (pair_address_of_array c.args.fresh) _ e.device.only.geometry a c.requires.kept c.requires.can e.splits e.device.only.others e.device.only.elsewhere _
+    (ap (λ (z : List PairHeader). set (set z c.args.index c.split_with_cache.new.pair) (c.args.index + 1) c.in_ok-fresh_pair.fresh_pair) c.in_ok-insert.ensures.items ∙ placed _ _ _ _ _ c.in_ok-fresh_pair.fresh_pair a) _ (c.settle-2.ensures ∙ ap (λ (s : BlockStateList). set s (pair_address_of_array c.args.fresh).1 Used) c.settle.ensures)
 
 pub returns-clause-is_split : goal.returns-clause-is_split
 returns-clause-is_split g c =
-    let a = at_there (disk_on g.D.BlockDevice c.args.device.now) c.args.pairs.now.items c.args.index c.index.result.now c.requires.can.can.below c.index.ensures in
+    let a = at_there (disk_of_device g.D.BlockDevice c.args.device.now) c.args.pairs.now.items c.args.index c.index.result.now c.requires.can.can.below c.index.ensures in
     let e = c.in_ok-fresh_pair.ensures in
-    device_is_split _ _ _ _ _ _ _ _ _ _ _ _ (address_of c.args.fresh) _ e.device.only.geometry a c.requires.kept c.requires.can e.splits e.device.only.others e.device.only.elsewhere _
-    (ap (λ (z : List Header). set (set z c.args.index c.split_to.new.pair) (c.args.index + 1) c.in_ok-fresh_pair.fresh_pair) c.in_ok-insert.ensures.items ∙ placed _ _ _ _ _ c.in_ok-fresh_pair.fresh_pair a) _ (c.settle-2.ensures ∙ ap (λ (s : BlockSets). set s (address_of c.args.fresh).1 Used) c.settle.ensures)
+    device_is_split _ _ _ _ _ _ _ _ _ _ _ _ (pair_address_of_array c.args.fresh) _ e.device.only.geometry a c.requires.kept c.requires.can e.splits e.device.only.others e.device.only.elsewhere _
+    (ap (λ (z : List PairHeader). set (set z c.args.index c.split_with_cache.new.pair) (c.args.index + 1) c.in_ok-fresh_pair.fresh_pair) c.in_ok-insert.ensures.items ∙ placed _ _ _ _ _ c.in_ok-fresh_pair.fresh_pair a) _ (c.settle-2.ensures ∙ ap (λ (s : BlockStateList). set s (pair_address_of_array c.args.fresh).1 Used) c.settle.ensures)
 
 pub returns-clause-stops : goal.returns-clause-stops
 returns-clause-stops g c cleanly =
-    let a = at_there (disk_on g.D.BlockDevice c.args.device.now) c.args.pairs.now.items c.args.index c.index.result.now c.requires.can.can.below c.index.ensures in
-    LeavesOnly-weaker (λ left l. left_by_split _ _ c.args.pairs.now.items c.args.map.now c.args.index _ (address_of c.args.fresh) _ left a c.requires.kept c.requires.can l) (c.in_ok-fresh_pair.ensures.stops cleanly)
+    let a = at_there (disk_of_device g.D.BlockDevice c.args.device.now) c.args.pairs.now.items c.args.index c.index.result.now c.requires.can.can.below c.index.ensures in
+    IsTrueAfterEachStopSince-weaker (λ left l. left_by_split _ _ c.args.pairs.now.items c.args.map.now c.args.index _ (pair_address_of_array c.args.fresh) _ left a c.requires.kept c.requires.can l) (c.in_ok-fresh_pair.ensures.stops cleanly)
 
 pub returns-in_err-fresh_pair-clause-errors : goal.returns-in_err-fresh_pair-clause-errors
 returns-in_err-fresh_pair-clause-errors g c =
@@ -59,14 +59,14 @@ returns-clause-errors g c = record {
 
 pub returns-in_err-fresh_pair-clause-device : goal.returns-in_err-fresh_pair-clause-device
 returns-in_err-fresh_pair-clause-device g c =
-    let disk = disk_on g.D.BlockDevice c.args.device.now in
+    let disk = disk_of_device g.D.BlockDevice c.args.device.now in
     let a = at_there disk c.args.pairs.now.items c.args.index c.index.result.now c.requires.can.can.below c.index.ensures in
     reading_there disk (g.D.BlockDevice.history c.args.device.now) c.args.pairs.now.items c.args.map.now c.args.index c.index.result.now a c.requires.kept
-    g.D.BlockDevice c.args.device.now c.split_to.new.device (λ at. four_of at (address_of c.args.fresh)) 3 c.args.cache.now c.in_err-fresh_pair.ensures.device
+    g.D.BlockDevice c.args.device.now c.split_with_cache.new.device (λ at. blocks_of_two_addresses at (pair_address_of_array c.args.fresh)) 3 c.args.cache.now c.in_err-fresh_pair.ensures.device
 
 pub returns-clause-device : goal.returns-clause-device
 returns-clause-device g c =
-    let disk = disk_on g.D.BlockDevice c.args.device.now in
+    let disk = disk_of_device g.D.BlockDevice c.args.device.now in
     let a = at_there disk c.args.pairs.now.items c.args.index c.index.result.now c.requires.can.can.below c.index.ensures in
     reading_there disk (g.D.BlockDevice.history c.args.device.now) c.args.pairs.now.items c.args.map.now c.args.index c.index.result.now a c.requires.kept
-    g.D.BlockDevice c.args.device.now c.split_to.new.device (λ at. four_of at (address_of c.args.fresh)) 3 c.args.cache.now c.in_ok-fresh_pair.ensures.device
+    g.D.BlockDevice c.args.device.now c.split_with_cache.new.device (λ at. blocks_of_two_addresses at (pair_address_of_array c.args.fresh)) 3 c.args.cache.now c.in_ok-fresh_pair.ensures.device

@@ -6,8 +6,8 @@ abbrev pub invariant-loop-len : goal.invariant-loop-len
 invariant-loop-len g l = record {
   within : l.len ≤ length l.buffer;
   size : length l.buffer ≡ length l.initial.buffer;
-  same : g.R.Reader.faults l.image ≡ g.R.Reader.faults l.initial.image;
-  read : Consumes (g.R.Reader.remaining l.initial.image) (g.R.Reader.remaining l.image) (take l.len l.buffer);
+  same : g.R.ImageInput.faults l.image ≡ g.R.ImageInput.faults l.initial.image;
+  read : Consumes (g.R.ImageInput.remaining l.initial.image) (g.R.ImageInput.remaining l.image) (take l.len l.buffer);
 }
 
 abbrev pub decreases-loop-len : goal.decreases-loop-len

@@ -1,20 +1,20 @@
 use Rattle.std.proofs.Common.{◌≡◌, ◌++◌, subst, sym}
 use Rattle.std.specs.Prelude.{OnOk}
-use Rattle.lfs_tool.specs.declared.findings.Stated.{Stated}
-use Rattle.lfs_tool.specs.CheckedLines.{stated_text}
+use Rattle.lfs_tool.specs.declared.findings.WrongNumber.{WrongNumber}
+use Rattle.lfs_tool.specs.CheckedLines.{wrong_number_text}
 use Rattle.lfs_tool.proofs.checked_lines.push_wrong_number.Goals as goal
 
 pub returns-in-BlockSize : goal.returns-in-BlockSize
 returns-in-BlockSize c =
     let call = c.push_two in
-    subst (λ (s : Stated). OnOk call.result (call.new.text.items ≡ c.args.text.now.items ++ stated_text c.args.given.now s)) (sym c.in-BlockSize.is) call.ensures
+    subst (λ (s : WrongNumber). OnOk call.result (call.new.text.items ≡ c.args.text.now.items ++ wrong_number_text c.args.given.now s)) (sym c.in-BlockSize.is) call.ensures
 
 pub returns-in-BlockCount : goal.returns-in-BlockCount
 returns-in-BlockCount c =
     let call = c.push_two-in-BlockCount in
-    subst (λ (s : Stated). OnOk call.result (call.new.text.items ≡ c.args.text.now.items ++ stated_text c.args.given.now s)) (sym c.in-BlockCount.is) call.ensures
+    subst (λ (s : WrongNumber). OnOk call.result (call.new.text.items ≡ c.args.text.now.items ++ wrong_number_text c.args.given.now s)) (sym c.in-BlockCount.is) call.ensures
 
 pub returns-in-Version : goal.returns-in-Version
 returns-in-Version c =
     let call = c.push_two-in-Version in
-    subst (λ (s : Stated). OnOk call.result (call.new.text.items ≡ c.args.text.now.items ++ stated_text c.args.given.now s)) (sym c.in-Version.is) call.ensures
+    subst (λ (s : WrongNumber). OnOk call.result (call.new.text.items ≡ c.args.text.now.items ++ wrong_number_text c.args.given.now s)) (sym c.in-Version.is) call.ensures

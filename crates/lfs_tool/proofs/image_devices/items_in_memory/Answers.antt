@@ -1,6 +1,6 @@
 use Rattle.std.proofs.Common.{sym, ◌∙◌}
 use Rattle.lfs_device.specs.RamDevice.{ram_blocks, geometry_of}
-use Rattle.lfs_device.specs.Shown.{disk_of as shown}
+use Rattle.lfs_device.specs.Shown.{disk_of_geometry_and_blocks as shown}
 use Rattle.lfs_tool.proofs.Mounts.{not_mounted}
 use Rattle.lfs_tool.proofs.image_devices.items_in_memory.Goals as goal
 

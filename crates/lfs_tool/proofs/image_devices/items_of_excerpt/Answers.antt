@@ -1,4 +1,4 @@
-use Rattle.lfs_device.specs.Shown.{disk_of as shown}
+use Rattle.lfs_device.specs.Shown.{disk_of_geometry_and_blocks as shown}
 use Rattle.lfs_tool.specs.ExcerptView.{excerpt_blocks, geometry_of}
 use Rattle.lfs_tool.proofs.Mounts.{not_mounted}
 use Rattle.lfs_tool.proofs.image_devices.items_of_excerpt.Goals as goal

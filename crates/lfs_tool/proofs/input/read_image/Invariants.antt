@@ -5,8 +5,8 @@ use Rattle.lfs_tool.proofs.input.read_image.Given as goal
 abbrev pub invariant-loop-buffer : goal.invariant-loop-buffer
 invariant-loop-buffer g l = record {
   within : vec_len l.bytes ≤ 268435457;
-  same : g.R.Reader.faults l.image ≡ g.R.Reader.faults l.initial.image;
-  read : Consumes (g.R.Reader.remaining l.initial.image) (g.R.Reader.remaining l.image) l.bytes.items;
+  same : g.R.ImageInput.faults l.image ≡ g.R.ImageInput.faults l.initial.image;
+  read : Consumes (g.R.ImageInput.remaining l.initial.image) (g.R.ImageInput.remaining l.image) l.bytes.items;
 }
 
 abbrev pub decreases-loop-buffer : goal.decreases-loop-buffer

@@ -1,6 +1,6 @@
 use Rattle.std.proofs.Common.{◌+◌, ◌-◌, ◌<◌, ◌&&◌, ◌∙◌, ap, ap₂, arith, cond, length, subst, sym}
-use Rattle.lfs_model.specs.Thread.{is_hard, leads_on, meets_superblock, superblock_or, superblocks_before}
-use Rattle.lfs_tool.specs.OwnedSlotView.{pair_view}
+use Rattle.lfs_model.specs.Thread.{is_hard_tail, leads_on, has_superblock_as_first_slot, starts_with_superblock_if_any_slot, pair_count_before_root}
+use Rattle.lfs_tool.specs.OwnedSlotView.{owned_pair_view}
 use Rattle.lfs_tool.proofs.RootPlaces.{one_more, seen_from, stays_inside}
 use Rattle.lfs_tool.proofs.roots.root_of.Goals as goal
 
@@ -11,15 +11,15 @@ loop-index-preserved c =
     let inv = c.loop-index.invariant in
     let within = inv.within in
     let some = c.loop-index-test.true in
-    let h = pair_view c.index-pairs-index.result in
+    let h = owned_pair_view c.index-pairs-index.result in
     let step = seen_from pairs (index - 1) index c.index-pairs-index.result (omega arith) (omega arith) c.index-pairs-index.is in
-    let is = c.with_pair-root.ensures in
+    let is = c.pair_count_before_root_with-root.ensures in
     let few = one_more (c.loop-index.meets && leads_on h) c.loop-index.root in
     let below = inv.below in
     record {
       within = omega arith;
-      root = is ∙ ap₂ (λ m r. cond (m && leads_on h) (1 + r) 0) inv.meets inv.root ∙ sym (ap superblocks_before step);
-      meets = c.meets_with-meets.ensures ∙ ap (λ m. superblock_or h.content.slots (is_hard h.content.tail && m)) inv.meets ∙ sym (ap meets_superblock step);
+      root = is ∙ ap₂ (λ m r. cond (m && leads_on h) (1 + r) 0) inv.meets inv.root ∙ sym (ap pair_count_before_root step);
+      meets = c.meets_superblock_from_pair-meets.ensures ∙ ap (λ m. starts_with_superblock_if_any_slot h.content.slots (is_hard_tail h.content.tail && m)) inv.meets ∙ sym (ap has_superblock_as_first_slot step);
       below = omega (arith, is, few, below);
       inside = λ l. subst (λ r. (index - 1) + r < length pairs) (sym is) (stays_inside pairs index c.loop-index.root c.loop-index.meets (leads_on h) inv.meets within inv.inside some);
     }

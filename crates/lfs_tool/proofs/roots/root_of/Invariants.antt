@@ -1,13 +1,13 @@
 use Rattle.std.proofs.Common.{◌≡◌, ◌+◌, ◌≤◌, ◌<◌, drop, length}
-use Rattle.lfs_model.specs.Thread.{meets_superblock, superblocks_before}
-use Rattle.lfs_tool.specs.OwnedSlotView.{pairs_view}
+use Rattle.lfs_model.specs.Thread.{has_superblock_as_first_slot, pair_count_before_root}
+use Rattle.lfs_tool.specs.OwnedSlotView.{owned_pairs_view}
 use Rattle.lfs_tool.proofs.roots.root_of.Given as goal
 
 abbrev pub invariant-loop-index : goal.invariant-loop-index
 invariant-loop-index l = record {
   within : l.index ≤ length l.pairs;
-  root : l.root ≡ superblocks_before (pairs_view (drop l.index l.pairs));
-  meets : l.meets ≡ meets_superblock (pairs_view (drop l.index l.pairs));
+  root : l.root ≡ pair_count_before_root (owned_pairs_view (drop l.index l.pairs));
+  meets : l.meets ≡ has_superblock_as_first_slot (owned_pairs_view (drop l.index l.pairs));
   below : l.index + l.root ≤ length l.pairs;
   inside : l.index < length l.pairs → l.index + l.root < length l.pairs;
 }

@@ -1,12 +1,12 @@
 use Rattle.std.proofs.Common.{◌∙◌, Err, ap, ap₂, refl, subst}
 use Rattle.std.specs.Option.{option_map}
 use Rattle.std.proofs.lemmas.Result.{err_from_is_err_and}
-use Rattle.lfs_device.specs.Shown.{disk_of}
+use Rattle.lfs_device.specs.Shown.{disk_of_geometry_and_blocks}
 use Rattle.lfs_model.specs.Disk.{Disk}
-use Rattle.lfs_model.specs.Slots.{address_of}
-use Rattle.lfs_model.specs.Thread.{next_of}
+use Rattle.lfs_model.specs.Slots.{pair_address_of_array}
+use Rattle.lfs_model.specs.Thread.{pair_named_by_tail}
 use Rattle.lfs_tag.specs.ContentView.{tail_view}
-use Rattle.lfs_tool.specs.PairReads.{AreFirstPairs, IsPairAt, IsNextPair}
+use Rattle.lfs_tool.specs.PairReads.{AreOwnedFirstPairsOfThread, IsOwnedPairAtAddress, IsNextPairOrFinding}
 use Rattle.lfs_tool.proofs.Along.{held_more}
 use Rattle.lfs_tool.proofs.Looking.{answers, further, lacks_memory, on, passed, seen}
 use Rattle.lfs_tool.proofs.thread_walk.follow.Goals as goal
@@ -30,12 +30,12 @@ returns-in_err-push-clause-looks g c =
 pub returns-in-None-clause-followed : goal.returns-in-None-clause-followed
 returns-in-None-clause-followed g c =
     let looked = c.loop.invariant.looked.device in
-    let disk = disk_of (g.D.BlockDevice.geometry c.args.device.now) (g.D.BlockDevice.blocks c.args.device.now) in
-    let now = disk_of (g.D.BlockDevice.geometry c.loop.device) (g.D.BlockDevice.blocks c.loop.device) in
-    let read = subst (IsNextPair now (address_of c.loop.at)) c.in-Pair.is c.in_ok-pair.ensures.read in
-    let held = subst (λ (d : Disk). IsPairAt d (address_of c.loop.at) c.in-Pair.pair) (ap₂ disk_of looked.geometry looked.same) read in
-    subst (λ t. AreFirstPairs disk (next_of (option_map tail_view t)) c.push.new.self.items) c.in-None.is
-    (held_more disk (address_of c.loop.at) c.loop.pairs.items c.push.new.self.items c.in-Pair.pair c.loop.invariant.held held c.in_ok-push.ensures.items)
+    let disk = disk_of_geometry_and_blocks (g.D.BlockDevice.geometry c.args.device.now) (g.D.BlockDevice.blocks c.args.device.now) in
+    let now = disk_of_geometry_and_blocks (g.D.BlockDevice.geometry c.loop.device) (g.D.BlockDevice.blocks c.loop.device) in
+    let read = subst (IsNextPairOrFinding now (pair_address_of_array c.loop.at)) c.in-Pair.is c.in_ok-pair.ensures.read in
+    let held = subst (λ (d : Disk). IsOwnedPairAtAddress d (pair_address_of_array c.loop.at) c.in-Pair.pair) (ap₂ disk_of_geometry_and_blocks looked.geometry looked.same) read in
+    subst (λ t. AreOwnedFirstPairsOfThread disk (pair_named_by_tail (option_map tail_view t)) c.push.new.self.items) c.in-None.is
+    (held_more disk (pair_address_of_array c.loop.at) c.loop.pairs.items c.push.new.self.items c.in-Pair.pair c.loop.invariant.held held c.in_ok-push.ensures.items)
 
 pub returns-in-None-clause-looks : goal.returns-in-None-clause-looks
 returns-in-None-clause-looks g c =
@@ -44,12 +44,12 @@ returns-in-None-clause-looks g c =
 pub loop-preserved : goal.loop-preserved
 loop-preserved g c =
     let looked = c.loop.invariant.looked.device in
-    let disk = disk_of (g.D.BlockDevice.geometry c.args.device.now) (g.D.BlockDevice.blocks c.args.device.now) in
-    let now = disk_of (g.D.BlockDevice.geometry c.loop.device) (g.D.BlockDevice.blocks c.loop.device) in
-    let read = subst (IsNextPair now (address_of c.loop.at)) c.in-Pair.is c.in_ok-pair.ensures.read in
-    let held = subst (λ (d : Disk). IsPairAt d (address_of c.loop.at) c.in-Pair.pair) (ap₂ disk_of looked.geometry looked.same) read in
+    let disk = disk_of_geometry_and_blocks (g.D.BlockDevice.geometry c.args.device.now) (g.D.BlockDevice.blocks c.args.device.now) in
+    let now = disk_of_geometry_and_blocks (g.D.BlockDevice.geometry c.loop.device) (g.D.BlockDevice.blocks c.loop.device) in
+    let read = subst (IsNextPairOrFinding now (pair_address_of_array c.loop.at)) c.in-Pair.is c.in_ok-pair.ensures.read in
+    let held = subst (λ (d : Disk). IsOwnedPairAtAddress d (pair_address_of_array c.loop.at) c.in-Pair.pair) (ap₂ disk_of_geometry_and_blocks looked.geometry looked.same) read in
     record {
-      held = subst (λ t. AreFirstPairs disk (next_of (option_map tail_view t)) c.push.new.self.items) c.in-Some.is
-          (held_more disk (address_of c.loop.at) c.loop.pairs.items c.push.new.self.items c.in-Pair.pair c.loop.invariant.held held c.in_ok-push.ensures.items);
+      held = subst (λ t. AreOwnedFirstPairsOfThread disk (pair_named_by_tail (option_map tail_view t)) c.push.new.self.items) c.in-Some.is
+          (held_more disk (pair_address_of_array c.loop.at) c.loop.pairs.items c.push.new.self.items c.in-Pair.pair c.loop.invariant.held held c.in_ok-push.ensures.items);
       looked = on g.D.BlockDevice _ _ _ c.loop.invariant.looked (seen g.D.BlockDevice _ _ c.next_pair.result c.in_ok-pair.field-0 c.in_ok-pair.was c.next_pair.ensures.looks);
     }

@@ -1,13 +1,13 @@
 use Rattle.std.proofs.Common.{◌≡◌, ◌⊎◌, ◌<◌, inl, inr, ap, arith, sym, ◌∙◌, Err}
 use Rattle.lfs_device.specs.declared.error.Error.{Error}
 use Rattle.lfs_device.specs.declared.error.Error.TheVariants.{Io, NoMemory}
-use Rattle.lfs_model.specs.History.{Event, faults}
+use Rattle.lfs_model.specs.History.{CallEvent, faults}
 use Rattle.lfs_tool.specs.declared.errors.ToolError.TheVariants.{Fs}
 use Rattle.lfs_tool.proofs.unpacked_images.file_bytes.Goals as goal
 use Rattle.std.specs.Prelude.{List}
 
 -- a device without a fault has met none
-not_a_fault : (e : Error) (old new : List Event) → (e ≡ Io) ⊎ (e ≡ NoMemory) → (e ≡ Io → faults old < faults new) → faults new ≡ 0 → e ≡ NoMemory
+not_a_fault : (e : Error) (old new : List CallEvent) → (e ≡ Io) ⊎ (e ≡ NoMemory) → (e ≡ Io → faults old < faults new) → faults new ≡ 0 → e ≡ NoMemory
 not_a_fault e old new (inl io) fault none = let more = fault io in absurd (omega (arith, more, none))
 not_a_fault e old new (inr memory) fault none = memory
 

@@ -1,6 +1,6 @@
 use Rattle.std.proofs.lemmas.Result.{IfErr-weaker, on_ok_weaker}
 use Rattle.lfs_device.specs.RamDevice.{ram_blocks, geometry_of}
-use Rattle.lfs_device.specs.Shown.{disk_of as shown}
+use Rattle.lfs_device.specs.Shown.{disk_of_geometry_and_blocks as shown}
 use Rattle.lfs_device.specs.declared.ram.RamDevice.{RamDevice}
 use Rattle.lfs_model.specs.Disk.{Disk}
 use Rattle.lfs_tool.proofs.Unpacks.{done_image, fails_image}
@@ -13,9 +13,9 @@ disk_in d = shown (geometry_of d) (ram_blocks d)
 pub returns-in-Ok-clause-done : goal.returns-in-Ok-clause-done
 returns-in-Ok-clause-done g c =
     let d = c.in-Ok.ensures in
-    on_ok_weaker c.unpack_on.result (λ h. done_image c.args.block_size c.args.page c.args.image.items (disk_in c.in-Ok.device) _ _ d.image d.disk h) c.unpack_on.ensures.done
+    on_ok_weaker c.unpack_ram_device.result (λ h. done_image c.args.block_size c.args.page c.args.image.items (disk_in c.in-Ok.device) _ _ d.image d.disk h) c.unpack_ram_device.ensures.done
 
 pub returns-in-Ok-clause-failed : goal.returns-in-Ok-clause-failed
 returns-in-Ok-clause-failed g c =
     let d = c.in-Ok.ensures in
-    IfErr-weaker c.unpack_on.result _ _ (λ e h. fails_image c.args.block_size c.args.page c.args.image.items (disk_in c.in-Ok.device) _ _ e d.image d.disk h) c.unpack_on.ensures.failed
+    IfErr-weaker c.unpack_ram_device.result _ _ (λ e h. fails_image c.args.block_size c.args.page c.args.image.items (disk_in c.in-Ok.device) _ _ e d.image d.disk h) c.unpack_ram_device.ensures.failed

@@ -1,5 +1,5 @@
 use Rattle.std.proofs.Common.{ap, sym, ◌∙◌}
-use Rattle.lfs_tree.specs.Stores.{struct_in}
+use Rattle.lfs_tree.specs.Stores.{struct_of_finished_contents}
 use Rattle.lfs_tree.proofs.PutContents.{held_part, held_struct, held_there, list_part, store_of, stored_from, reports_put}
 use Rattle.lfs_tree.proofs.contents_at.put_contents.Goals as goal
 
@@ -15,7 +15,7 @@ set_struct-requires-clause-can g c =
 pub set_struct-requires-in-Finished-clause-can : goal.set_struct-requires-in-Finished-clause-can
 set_struct-requires-in-Finished-clause-can g c =
     store_of c.args.thread.now.kept c.args.spot c.args.contents.now c.requires.can 0x202 c.ctz_bytes-bytes.result
-    (list_part c.in-Finished.stored.head c.in-Finished.stored.size c.ctz_bytes-bytes.result c.ctz_bytes-bytes.ensures.bytes) (c.ctz_bytes-bytes.ensures.read ∙ sym (ap struct_in c.in-Finished.is))
+    (list_part c.in-Finished.stored.head c.in-Finished.stored.size c.ctz_bytes-bytes.result c.ctz_bytes-bytes.ensures.bytes) (c.ctz_bytes-bytes.ensures.read ∙ sym (ap struct_of_finished_contents c.in-Finished.is))
 
 pub returns-in-InMemory-clause-stored : goal.returns-in-InMemory-clause-stored
 returns-in-InMemory-clause-stored g c =
@@ -35,7 +35,7 @@ returns-in-InMemory-clause-survives g c can =
 pub returns-in-Finished-clause-stored : goal.returns-in-Finished-clause-stored
 returns-in-Finished-clause-stored g c =
     stored_from c.args.thread.now.kept c.set_struct-in-Finished.new.thread.kept c.args.spot c.args.contents.now 0x202 c.ctz_bytes-bytes.result
-    (list_part c.in-Finished.stored.head c.in-Finished.stored.size c.ctz_bytes-bytes.result c.ctz_bytes-bytes.ensures.bytes) (c.ctz_bytes-bytes.ensures.read ∙ sym (ap struct_in c.in-Finished.is))
+    (list_part c.in-Finished.stored.head c.in-Finished.stored.size c.ctz_bytes-bytes.result c.ctz_bytes-bytes.ensures.bytes) (c.ctz_bytes-bytes.ensures.read ∙ sym (ap struct_of_finished_contents c.in-Finished.is))
     c.set_struct-in-Finished.result c.set_struct-in-Finished.ensures.is_stored
 
 pub returns-in-Finished-clause-reports : goal.returns-in-Finished-clause-reports
@@ -45,4 +45,4 @@ returns-in-Finished-clause-reports g c =
 pub returns-in-Finished-clause-survives : goal.returns-in-Finished-clause-survives
 returns-in-Finished-clause-survives g c can =
     c.set_struct-in-Finished.ensures.survives (store_of c.args.thread.now.kept c.args.spot c.args.contents.now can 0x202 c.ctz_bytes-bytes.result
-    (list_part c.in-Finished.stored.head c.in-Finished.stored.size c.ctz_bytes-bytes.result c.ctz_bytes-bytes.ensures.bytes) (c.ctz_bytes-bytes.ensures.read ∙ sym (ap struct_in c.in-Finished.is)))
+    (list_part c.in-Finished.stored.head c.in-Finished.stored.size c.ctz_bytes-bytes.result c.ctz_bytes-bytes.ensures.bytes) (c.ctz_bytes-bytes.ensures.read ∙ sym (ap struct_of_finished_contents c.in-Finished.is)))

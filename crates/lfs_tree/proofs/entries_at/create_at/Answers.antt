@@ -1,11 +1,11 @@
 use Rattle.std.proofs.Common.{arith, subst, sym}
 use Rattle.std.specs.Prelude.{OnOk}
 use Rattle.std.proofs.lemmas.Result.{err_from_is_err_and}
-use Rattle.lfs_operations.specs.Changing.{AltersPair, WritesIn}
-use Rattle.lfs_operations.specs.Creating.{CanCreate, IsCreated, with_file}
-use Rattle.lfs_operations.specs.Making.{HasRoomFor}
+use Rattle.lfs_operations.specs.Changing.{AltersPair, WritesPairAndTwoFreeBlocks}
+use Rattle.lfs_operations.specs.Creating.{CanCreateFileInPair, IsFileCreated, tree_with_new_file}
+use Rattle.lfs_operations.specs.Making.{HasSoManyFreeBlocks}
 use Rattle.lfs_thread.specs.Kept.{Kept}
-use Rattle.lfs_tree.specs.TreeChanges.{SurvivesTo}
+use Rattle.lfs_tree.specs.TreeChanges.{SurvivesWithOldOrNewTree}
 use Rattle.lfs_tree.proofs.Carried.{read_is}
 use Rattle.lfs_tree.proofs.CarryCreated.{can_create, create_does, vacant_to}
 use Rattle.lfs_tree.proofs.CarryPlaces.{place_for, place_found}
@@ -21,40 +21,40 @@ place_in-place-requires g c = place_found c.args.thread.now.kept c.args.path.now
 pub create-requires-clause-can : goal.create-requires-clause-can
 create-requires-clause-can g c =
     let t = c.args.thread.now in
-    let mid = c.find_target.new.thread.kept in
+    let mid = c.find_at_path.new.thread.kept in
     let spot = c.place_in-place.result in
     let name = c.in_ok-target.target.name.now in
     let target = c.in_ok-target.ensures.target in
     let place = place_for t.kept c.args.path.now c.in_ok-target.target.found name spot (vacant_to t.kept c.args.path.now 2 c.requires.can) target.leads c.place_in-place.ensures target.named in
-    subst (λ k. CanCreate k spot.pair spot.id name) (sym (read_is t.kept mid c.find_target.ensures.reading.only))
-    (can_create t c.args.root c.requires.rests c.args.path.now c.know_names.ensures c.know_device.ensures.large c.know_device.ensures.bytes 2 c.requires.can name spot place mid.history)
+    subst (λ k. CanCreateFileInPair k spot.pair spot.id name) (sym (read_is t.kept mid c.find_at_path.ensures.reading.only))
+    (can_create t c.args.root c.requires.rests c.args.path.now c.show_path_names_to_proof.ensures c.show_block_facts_to_proof.ensures.large c.show_block_facts_to_proof.ensures.bytes 2 c.requires.can name spot place mid.history)
 
 pub returns-in_err-target-clause-does : goal.returns-in_err-target-clause-does
 returns-in_err-target-clause-does g c =
     let p = err_from_is_err_and c.from_residual.result c.from_residual.ensures.1 in
-    only_read_change c.args.thread.now c.args.root c.requires.rests c.find_target.new.thread _ _ c.from_residual.result p.0 p.1
-    (passed _ _ c.find_target.result c.from_residual.result _ p.0 c.in_err-target.was p.1 p.2 c.find_target.ensures.reading)
+    only_read_change c.args.thread.now c.args.root c.requires.rests c.find_at_path.new.thread _ _ c.from_residual.result p.0 p.1
+    (passed _ _ c.find_at_path.result c.from_residual.result _ p.0 c.in_err-target.was p.1 p.2 c.find_at_path.ensures.reading)
 
 pub returns-in_err-target-clause-few : goal.returns-in_err-target-clause-few
-returns-in_err-target-clause-few g c = let found = c.find_target.ensures.few in omega (arith, found)
+returns-in_err-target-clause-few g c = let found = c.find_at_path.ensures.few in omega (arith, found)
 
 pub returns-clause-does : goal.returns-clause-does
 returns-clause-does g c =
     let t = c.args.thread.now in
-    let mid = c.find_target.new.thread in
+    let mid = c.find_at_path.new.thread in
     let new = c.create.new.thread in
     let spot = c.place_in-place.result in
     let name = c.in_ok-target.target.name.now in
     let target = c.in_ok-target.ensures.target in
     let place = place_for t.kept c.args.path.now c.in_ok-target.target.found name spot (vacant_to t.kept c.args.path.now 2 c.requires.can) target.leads c.place_in-place.ensures target.named in
-    let read = answered t mid c.find_target.result c.in_ok-target.target c.in_ok-target.was c.find_target.ensures.reading in
+    let read = answered t mid c.find_at_path.result c.in_ok-target.target c.in_ok-target.was c.find_at_path.ensures.reading in
     let is = read_is t.kept mid.kept read.only in
     let e = c.create.ensures in
-    create_does t c.args.root c.requires.rests c.args.path.now c.know_names.ensures c.know_device.ensures.large c.know_device.ensures.bytes 2 c.requires.can name spot place mid.kept.history new c.create.result c.know_bytes.ensures.0 c.know_bytes.ensures.1
-    read.same read.only.reads (subst (λ k. WritesIn k spot.pair new.kept) is e.device)
-    (subst (λ k. OnOk c.create.result ((can : CanCreate k spot.pair spot.id name) → IsCreated k new.kept can.path name)) is e.created) (subst (λ k. OnOk c.create.result (AltersPair k spot.pair new.kept)) is e.alters)
-    (reported_with_room mid.kept new.kept c.create.result (subst (λ (k : Kept). HasRoomFor 2 k.map) (sym is) (room_for t.kept 2 c.requires.rests.held.sound c.requires.can.room)) e.errors.reports.reports) (works_put new c.create.result e.errors.reports.failed)
-    (subst (λ k. (can : CanCreate k spot.pair spot.id name) → SurvivesTo k new.kept (with_file k can.path name)) is e.survives)
+    create_does t c.args.root c.requires.rests c.args.path.now c.show_path_names_to_proof.ensures c.show_block_facts_to_proof.ensures.large c.show_block_facts_to_proof.ensures.bytes 2 c.requires.can name spot place mid.kept.history new c.create.result c.show_path_bytes_to_proof.ensures.0 c.show_path_bytes_to_proof.ensures.1
+    read.same read.only.reads (subst (λ k. WritesPairAndTwoFreeBlocks k spot.pair new.kept) is e.device)
+    (subst (λ k. OnOk c.create.result ((can : CanCreateFileInPair k spot.pair spot.id name) → IsFileCreated k new.kept can.path name)) is e.created) (subst (λ k. OnOk c.create.result (AltersPair k spot.pair new.kept)) is e.alters)
+    (reported_with_room mid.kept new.kept c.create.result (subst (λ (k : Kept). HasSoManyFreeBlocks 2 k.map) (sym is) (room_for t.kept 2 c.requires.rests.held.sound c.requires.can.room)) e.errors.reports.reports) (works_put new c.create.result e.errors.reports.failed)
+    (subst (λ k. (can : CanCreateFileInPair k spot.pair spot.id name) → SurvivesWithOldOrNewTree k new.kept (tree_with_new_file k can.path name)) is e.survives)
 
 pub returns-clause-few : goal.returns-clause-few
-returns-clause-few g c = let found = c.find_target.ensures.few in let few = c.create.ensures.few in omega (arith, found, few)
+returns-clause-few g c = let found = c.find_at_path.ensures.few in let few = c.create.ensures.few in omega (arith, found, few)

@@ -3,9 +3,9 @@ use Rattle.lfs_lookup.proofs.Roots.{root_begins}
 use Rattle.lfs_lookup.proofs.Directories.{within}
 use Rattle.lfs_tree.proofs.orphans.unreached.Goals as goal
 
-pub unmarked_directories-requires-clause-few : goal.unmarked_directories-requires-clause-few
-unmarked_directories-requires-clause-few g c =
+pub numbers_of_unmarked_directories-requires-clause-few : goal.numbers_of_unmarked_directories-requires-clause-few
+numbers_of_unmarked_directories-requires-clause-few g c =
     let l = within c.args.thread.now.kept.pairs _ _ (root_begins c.args.thread.now.kept.disk c.args.thread.now.kept.pairs c.requires.accepted) in
     let e = c.requires.root in
-    let s = ap length c.mark_directories.ensures.reading.only.pairs in
+    let s = ap length c.mark_reached_directories.ensures.reading.only.pairs in
     omega (arith, l, e, s)

@@ -3,7 +3,7 @@ use Rattle.std.proofs.lemmas.List.{drop-set, drop_all, length-set}
 use Rattle.std.proofs.lemmas.Result.{err_from_is_err_and}
 use Rattle.lfs_device.specs.declared.geometry.Geometry.{Geometry}
 use Rattle.lfs_model.specs.Blocks.{Blocks}
-use Rattle.lfs_model.specs.SkipLists.{blocks_back}
+use Rattle.lfs_model.specs.SkipLists.{list_blocks_from_head}
 use Rattle.lfs_model.proofs.Files.{length_back}
 use Rattle.lfs_writer.proofs.Called.{not_read, quiet, read_on, reported_as, reported_on}
 use Rattle.lfs_writer.proofs.Copies.{not_corrupt}
@@ -24,7 +24,7 @@ going-init g c =
       low = within;
       here = λ some. head_is d count head (omega arith);
       long = long;
-      done = drop_all (count - c.args.from) items (omega arith) ∙ sym (drop_all count (blocks_back d count head) (let l = length_back d count head in omega arith));
+      done = drop_all (count - c.args.from) items (omega arith) ∙ sym (drop_all count (list_blocks_from_head d count head) (let l = length_back d count head in omega arith));
       device = not_read g.D.BlockDevice c.args.dev.now;
       quiet = refl;
       few = omega arith;
@@ -75,7 +75,7 @@ going-preserved g c =
     let low = inv.low in
     let long = inv.long in
     let items : List ℕ = c.going.blocks.items in
-    let here : c.going.block ≡ slice_index (blocks_back d count head) (index - 1) = inv.here (omega arith) in
+    let here : c.going.block ≡ slice_index (list_blocks_from_head d count head) (index - 1) = inv.here (omega arith) in
     let few = inv.few in
     let more = c.in_ok-block.ensures.few in
     record {
@@ -83,7 +83,7 @@ going-preserved g c =
       low = omega arith;
       here = λ some. next_is d _ count head (index - 1) c.going.block _ inv.device.same c.requires.chain (omega arith) (omega arith) here (c.in_ok-block.ensures.word (omega arith));
       long = length-set items (index - 1 - from) c.going.block ∙ long;
-      done = put_before items (blocks_back d count head) from index c.going.block (omega arith) (omega arith) here inv.done (drop_here d count head (index - 1) (omega arith));
+      done = put_before items (list_blocks_from_head d count head) from index c.going.block (omega arith) (omega arith) here inv.done (drop_here d count head (index - 1) (omega arith));
       device = read_on g.D.BlockDevice inv.device c.head_before.ensures.reading.device;
       quiet = quiet g.D.BlockDevice c.in_ok-block.ensures.reading.faults ∙ inv.quiet;
       few = omega arith;

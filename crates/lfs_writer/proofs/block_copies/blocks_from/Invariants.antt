@@ -1,13 +1,13 @@
 use Rattle.std.proofs.Common.{◌≡◌, ◌≤◌, ◌<◌, ◌+◌, ◌-◌, length, drop, slice_index}
 use Rattle.lfs_device.specs.Calls.{ReadsOnly}
 use Rattle.lfs_model.specs.History.{faults, reads}
-use Rattle.lfs_model.specs.SkipLists.{blocks_back}
+use Rattle.lfs_model.specs.SkipLists.{list_blocks_from_head}
 use Rattle.lfs_writer.proofs.block_copies.blocks_from.Given as goal
 
 abbrev pub invariant-going : goal.invariant-going
 invariant-going g l =
     let old = l.fn.dev in
-    let all = blocks_back (g.D.BlockDevice.blocks old) l.fn.count l.fn.head in
+    let all = list_blocks_from_head (g.D.BlockDevice.blocks old) l.fn.count l.fn.head in
     record {
       high : l.index ≤ l.fn.count;
       low : l.fn.from ≤ l.index;

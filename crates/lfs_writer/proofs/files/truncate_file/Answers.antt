@@ -1,7 +1,7 @@
 use Rattle.std.proofs.Common.{rules, ap, take, ◌∙◌}
-use Rattle.lfs_model.specs.Writers.{zeros_to}
-use Rattle.lfs_thread.specs.Kept.{disk_on}
-use Rattle.lfs_writer.specs.Contents.{bytes_in, form_of}
+use Rattle.lfs_model.specs.Writers.{bytes_padded_with_zeros}
+use Rattle.lfs_thread.specs.Kept.{disk_of_device}
+use Rattle.lfs_writer.specs.Contents.{contents_bytes_in_blocks, form_of_contents}
 use Rattle.lfs_writer.specs.Form.{truncated}
 use Rattle.lfs_writer.proofs.Standing.{holds_after, owned_after, truncate_here}
 use Rattle.lfs_writer.proofs.files.truncate_file.Goals as goal
@@ -10,7 +10,7 @@ pub beside-requires-clause-can : goal.beside-requires-clause-can
 beside-requires-clause-can g c device map shows = record {
   can = λ p q here here_map _ _ _ _ _ _ _ _ _ _ _ _ _ _.
       truncate_here g.D.BlockDevice c.args.thread.now.kept p.now q.now
-      (record { disk = ap (disk_on g.D.BlockDevice) here ∙ shows.disk; history = ap g.D.BlockDevice.history here ∙ shows.history; map = here_map ∙ shows.map })
+      (record { disk = ap (disk_of_device g.D.BlockDevice) here ∙ shows.disk; history = ap g.D.BlockDevice.history here ∙ shows.history; map = here_map ∙ shows.map })
       (g.met.D.BlockDevice.shape p.now) c.args.contents c.args.limit c.args.size c.requires.can;
 }
 
@@ -19,10 +19,10 @@ returns-clause-truncated g c =
     let ran = c.beside.ensures.ran in
     let run = ran.run in
     holds_after g.D.BlockDevice c.args.thread.now.kept c.beside.new.self.kept run.shown.now run.left.now run.shown_map.now run.left_map.now
-    (record { disk = ap (disk_on g.D.BlockDevice) run.shows ∙ ran.before.disk; history = ap g.D.BlockDevice.history run.shows ∙ ran.before.history; map = run.shows_map ∙ ran.before.map })
-    (record { disk = ap (disk_on g.D.BlockDevice) run.leaves ∙ ran.after.disk; history = ap g.D.BlockDevice.history run.leaves ∙ ran.after.history; map = run.leaves_map ∙ ran.after.map })
+    (record { disk = ap (disk_of_device g.D.BlockDevice) run.shows ∙ ran.before.disk; history = ap g.D.BlockDevice.history run.shows ∙ ran.before.history; map = run.shows_map ∙ ran.before.map })
+    (record { disk = ap (disk_of_device g.D.BlockDevice) run.leaves ∙ ran.after.disk; history = ap g.D.BlockDevice.history run.leaves ∙ ran.after.history; map = run.leaves_map ∙ ran.after.map })
     (g.met.D.BlockDevice.shape run.shown.now) (g.met.D.BlockDevice.shape run.left.now) (search rules)
-    (λ d n. take c.args.size (zeros_to c.args.size (bytes_in d n c.args.contents))) (truncated c.args.limit c.args.size (form_of c.args.contents)) c.beside.result
+    (λ d n. take c.args.size (bytes_padded_with_zeros c.args.size (contents_bytes_in_blocks d n c.args.contents))) (truncated c.args.limit c.args.size (form_of_contents c.args.contents)) c.beside.result
     (search rules)
 
 pub returns-clause-owned : goal.returns-clause-owned
@@ -30,6 +30,6 @@ returns-clause-owned g c =
     let ran = c.beside.ensures.ran in
     let run = ran.run in
     owned_after g.D.BlockDevice c.args.thread.now.kept c.beside.new.self.kept run.shown.now run.left.now run.shown_map.now run.left_map.now
-    (record { disk = ap (disk_on g.D.BlockDevice) run.shows ∙ ran.before.disk; history = ap g.D.BlockDevice.history run.shows ∙ ran.before.history; map = run.shows_map ∙ ran.before.map })
-    (record { disk = ap (disk_on g.D.BlockDevice) run.leaves ∙ ran.after.disk; history = ap g.D.BlockDevice.history run.leaves ∙ ran.after.history; map = run.leaves_map ∙ ran.after.map })
+    (record { disk = ap (disk_of_device g.D.BlockDevice) run.shows ∙ ran.before.disk; history = ap g.D.BlockDevice.history run.shows ∙ ran.before.history; map = run.shows_map ∙ ran.before.map })
+    (record { disk = ap (disk_of_device g.D.BlockDevice) run.leaves ∙ ran.after.disk; history = ap g.D.BlockDevice.history run.leaves ∙ ran.after.history; map = run.leaves_map ∙ ran.after.map })
     (g.met.D.BlockDevice.shape run.shown.now) (g.met.D.BlockDevice.shape run.left.now) (search rules) c.args.contents c.beside.result (search rules)

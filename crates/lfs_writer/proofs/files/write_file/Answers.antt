@@ -1,7 +1,7 @@
 use Rattle.std.proofs.Common.{rules, ap, length, ◌∙◌}
-use Rattle.lfs_model.specs.Writers.{written_into}
-use Rattle.lfs_thread.specs.Kept.{disk_on}
-use Rattle.lfs_writer.specs.Contents.{bytes_in, form_of}
+use Rattle.lfs_model.specs.Writers.{contents_after_write}
+use Rattle.lfs_thread.specs.Kept.{disk_of_device}
+use Rattle.lfs_writer.specs.Contents.{contents_bytes_in_blocks, form_of_contents}
 use Rattle.lfs_writer.specs.Form.{written}
 use Rattle.lfs_writer.proofs.Standing.{holds_after, owned_after, write_here}
 use Rattle.lfs_writer.proofs.files.write_file.Goals as goal
@@ -10,7 +10,7 @@ pub beside-requires-clause-can : goal.beside-requires-clause-can
 beside-requires-clause-can g c device map shows = record {
   can = λ p q here here_map _ _ _ _ _ _ _ _ _ _ _ _ _ _ _ _.
       write_here g.D.BlockDevice c.args.thread.now.kept p.now q.now
-      (record { disk = ap (disk_on g.D.BlockDevice) here ∙ shows.disk; history = ap g.D.BlockDevice.history here ∙ shows.history; map = here_map ∙ shows.map })
+      (record { disk = ap (disk_of_device g.D.BlockDevice) here ∙ shows.disk; history = ap g.D.BlockDevice.history here ∙ shows.history; map = here_map ∙ shows.map })
       (g.met.D.BlockDevice.shape p.now) c.args.contents c.args.limit c.args.place (length c.args.bytes.now) c.requires.can;
 }
 
@@ -19,10 +19,10 @@ returns-clause-written g c =
     let ran = c.beside.ensures.ran in
     let run = ran.run in
     holds_after g.D.BlockDevice c.args.thread.now.kept c.beside.new.self.kept run.shown.now run.left.now run.shown_map.now run.left_map.now
-    (record { disk = ap (disk_on g.D.BlockDevice) run.shows ∙ ran.before.disk; history = ap g.D.BlockDevice.history run.shows ∙ ran.before.history; map = run.shows_map ∙ ran.before.map })
-    (record { disk = ap (disk_on g.D.BlockDevice) run.leaves ∙ ran.after.disk; history = ap g.D.BlockDevice.history run.leaves ∙ ran.after.history; map = run.leaves_map ∙ ran.after.map })
+    (record { disk = ap (disk_of_device g.D.BlockDevice) run.shows ∙ ran.before.disk; history = ap g.D.BlockDevice.history run.shows ∙ ran.before.history; map = run.shows_map ∙ ran.before.map })
+    (record { disk = ap (disk_of_device g.D.BlockDevice) run.leaves ∙ ran.after.disk; history = ap g.D.BlockDevice.history run.leaves ∙ ran.after.history; map = run.leaves_map ∙ ran.after.map })
     (g.met.D.BlockDevice.shape run.shown.now) (g.met.D.BlockDevice.shape run.left.now) (search rules)
-    (λ d n. written_into (bytes_in d n c.args.contents) c.args.place c.args.bytes.now) (written c.args.limit c.args.place (length c.args.bytes.now) (form_of c.args.contents)) c.beside.result
+    (λ d n. contents_after_write (contents_bytes_in_blocks d n c.args.contents) c.args.place c.args.bytes.now) (written c.args.limit c.args.place (length c.args.bytes.now) (form_of_contents c.args.contents)) c.beside.result
     (search rules)
 
 pub returns-clause-owned : goal.returns-clause-owned
@@ -30,6 +30,6 @@ returns-clause-owned g c =
     let ran = c.beside.ensures.ran in
     let run = ran.run in
     owned_after g.D.BlockDevice c.args.thread.now.kept c.beside.new.self.kept run.shown.now run.left.now run.shown_map.now run.left_map.now
-    (record { disk = ap (disk_on g.D.BlockDevice) run.shows ∙ ran.before.disk; history = ap g.D.BlockDevice.history run.shows ∙ ran.before.history; map = run.shows_map ∙ ran.before.map })
-    (record { disk = ap (disk_on g.D.BlockDevice) run.leaves ∙ ran.after.disk; history = ap g.D.BlockDevice.history run.leaves ∙ ran.after.history; map = run.leaves_map ∙ ran.after.map })
+    (record { disk = ap (disk_of_device g.D.BlockDevice) run.shows ∙ ran.before.disk; history = ap g.D.BlockDevice.history run.shows ∙ ran.before.history; map = run.shows_map ∙ ran.before.map })
+    (record { disk = ap (disk_of_device g.D.BlockDevice) run.leaves ∙ ran.after.disk; history = ap g.D.BlockDevice.history run.leaves ∙ ran.after.history; map = run.leaves_map ∙ ran.after.map })
     (g.met.D.BlockDevice.shape run.shown.now) (g.met.D.BlockDevice.shape run.left.now) (search rules) c.args.contents c.beside.result (search rules)

@@ -1,8 +1,8 @@
 use Rattle.std.proofs.Common.{ℕ, ◌≡◌, List, [], length, min, sym, ap, ◌∙◌, arith}
 use Rattle.lfs_device.specs.declared.geometry.Geometry.{Geometry}
 use Rattle.lfs_model.specs.Blocks.{Blocks}
-use Rattle.lfs_model.specs.Writers.{written_into}
-use Rattle.lfs_writer.specs.Contents.{held_bytes}
+use Rattle.lfs_model.specs.Writers.{contents_after_write}
+use Rattle.lfs_writer.specs.Contents.{bytes_in_buffer}
 use Rattle.lfs_writer.specs.Form.{InHand, InMemory}
 use Rattle.lfs_writer.proofs.Memories.{held_size}
 use Rattle.lfs_writer.proofs.Truncations.{length-resized, resized, truncated_held, truncated_longer}
@@ -19,19 +19,19 @@ returns-then-size-limit-clause-truncated g c =
       stands = filled.going;
       has = filled.bytes;
       form = ap (λ k. InHand k hand.base.size hand.base.in_flight) filled.size ∙ ap (λ k. InHand c.args.size k hand.base.in_flight) base.0 ∙ ap (InHand c.args.size 0) base.1
-          ∙ truncated_longer c.args.limit c.args.size (InMemory (length (held_bytes c.args.list))) (omega arith) many;
+          ∙ truncated_longer c.args.limit c.args.size (InMemory (length (bytes_in_buffer c.args.list))) (omega arith) many;
     }
 
 pub returns-clause-truncated : goal.returns-clause-truncated
 returns-clause-truncated g c =
     let d : Blocks = g.D.BlockDevice.blocks c.args.dev.now in
-    let old : List ℕ = held_bytes c.args.list in
+    let old : List ℕ = bytes_in_buffer c.args.list in
     let quiet = c.requires.quiet in
     let all = held_size c.args.list quiet.resting.held in
     let size = c.size.ensures in
     let low = c.min.ensures in
     let keep : c.min.result ≡ min (length old) c.args.size = omega arith in
-    let has = c.put.ensures.rest ∙ ap (λ (l : List ℕ). written_into l c.args.size []) c.cut.ensures.rest ∙ resized old c.min.result c.args.size keep in
+    let has = c.put.ensures.rest ∙ ap (λ (l : List ℕ). contents_after_write l c.args.size []) c.cut.ensures.rest ∙ resized old c.min.result c.args.size keep in
     record {
       stands = record {
         idle = quiet.idle;

@@ -1,11 +1,11 @@
 use Rattle.std.proofs.Common.{◌≡◌, ◌≤◌, ◌+◌, ◌-◌, replicate}
 use Rattle.lfs_model.specs.History.{faults}
-use Rattle.lfs_model.specs.Writers.{written_into}
-use Rattle.lfs_ctz.specs.Growing.{end_of}
-use Rattle.lfs_writer.specs.Calls.{LeavesUsed}
-use Rattle.lfs_writer.specs.Hand.{KeepsUsed}
-use Rattle.lfs_writer.specs.HandWrites.{HasZerosWritten, bytes_over}
-use Rattle.lfs_writer.specs.BlockOwners.{KeepsList}
+use Rattle.lfs_model.specs.Writers.{contents_after_write}
+use Rattle.lfs_ctz.specs.Growing.{size_of_growing_list}
+use Rattle.lfs_writer.specs.Calls.{CallKeepsUsedBlocks}
+use Rattle.lfs_writer.specs.Hand.{KeepsUsedBlocksInMap}
+use Rattle.lfs_writer.specs.HandWrites.{HasZerosWrittenAtListEnd, bytes_of_contents_in_hand}
+use Rattle.lfs_writer.specs.BlockOwners.{KeepsBlocksOfStoredList}
 use Rattle.lfs_writer.proofs.zeros.write_zeros.Given as goal
 
 abbrev pub invariant-zeroing : goal.invariant-zeroing
@@ -14,11 +14,11 @@ invariant-zeroing g l =
     let shows = g.D.BlockDevice in
     record {
       few : l.done ≤ l.count;
-      zeroed : HasZerosWritten l.map (shows.blocks l.dev) (shows.geometry l.fn.dev) l.hand l.done (end_of was.list + l.done)
-          (written_into (bytes_over (shows.blocks l.fn.dev) was) (end_of was.list) (replicate l.done 0));
-      base : KeepsList (shows.geometry l.fn.dev).block_size (shows.blocks l.fn.dev) was.base (shows.blocks l.dev) l.hand.base;
-      map : KeepsUsed l.fn.map l.map;
-      device : LeavesUsed shows l.fn.map l.fn.dev l.dev;
+      zeroed : HasZerosWrittenAtListEnd l.map (shows.blocks l.dev) (shows.geometry l.fn.dev) l.hand l.done (size_of_growing_list was.list + l.done)
+          (contents_after_write (bytes_of_contents_in_hand (shows.blocks l.fn.dev) was) (size_of_growing_list was.list) (replicate l.done 0));
+      base : KeepsBlocksOfStoredList (shows.geometry l.fn.dev).block_size (shows.blocks l.fn.dev) was.base (shows.blocks l.dev) l.hand.base;
+      map : KeepsUsedBlocksInMap l.fn.map l.map;
+      device : CallKeepsUsedBlocks shows l.fn.map l.fn.dev l.dev;
       quiet : faults (shows.history l.dev) ≡ faults (shows.history l.fn.dev);
     }
 

@@ -1,5 +1,5 @@
 use Rattle.std.proofs.Common.{arith, ap, ◌∙◌, ◌≡◌, replicate}
-use Rattle.lfs_alloc.specs.BlockMap.{sets_of}
+use Rattle.lfs_alloc.specs.BlockMap.{block_states_of_marks}
 use Rattle.lfs_alloc.proofs.SetLemmas.{IsMap-replicate, sets_of-replicate}
 use Rattle.lfs_alloc.proofs.block_map.BlockMap.new.Goals as goal
 use Rattle.lfs_alloc.proofs.block_map.BlockMap.new.Goals.{In_ok-marks}
@@ -14,5 +14,5 @@ invariant_of-result c =
 
 pub returns-clause-free : goal.returns-clause-free
 returns-clause-free c =
-    ap (λ items. sets_of items c.args.block_count) (items_are c)
+    ap (λ items. block_states_of_marks items c.args.block_count) (items_are c)
     ∙ sets_of-replicate c.args.block_count c.div_ceil.result c.none.result c.none.ensures (omega (arith, c.div_ceil.ensures))

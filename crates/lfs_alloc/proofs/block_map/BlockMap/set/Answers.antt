@@ -2,9 +2,9 @@ use Rattle.std.proofs.Common.{arith, ap, ◌∙◌, ◌≡◌, ◌<◌, ◌/◌,
 use Rattle.std.proofs.lemmas.List.{get_or_read}
 use mir.Val.{bool_byte}
 use Rattle.lfs_model.specs.BlockSets.{is_used}
-use Rattle.lfs_alloc.specs.Marks.{block_state_view, state_in}
-use Rattle.lfs_alloc.specs.BlockMap.{no_marks, state_at}
-use Rattle.lfs_alloc.proofs.SetLemmas.{IsChange, IsMap-set, count_fits, length-sets_of, sets_of-set, was_counted}
+use Rattle.lfs_alloc.specs.Marks.{block_state_view, block_state_at_bit}
+use Rattle.lfs_alloc.specs.BlockMap.{marks_of_free_blocks, state_of_block_in_marks}
+use Rattle.lfs_alloc.proofs.SetLemmas.{IsChange, IsMap-set, count_fits, length-block_states_of_marks, sets_of-set, was_counted}
 use Rattle.lfs_alloc.proofs.block_map.BlockMap.set.Goals as goal
 use Rattle.lfs_alloc.proofs.block_map.BlockMap.set.Goals.{After-from, After-from-2}
 
@@ -14,27 +14,27 @@ byte_of false = refl
 
 module _ (c : After-from) where
   within : c.args.block < c.self.inside.block_count
-  within = omega (arith, ap length c.self.view_is, length-sets_of c.self.inside.marks.items c.self.inside.block_count)
+  within = omega (arith, ap length c.self.view_is, length-block_states_of_marks c.self.inside.marks.items c.self.inside.block_count)
 
-  read : c.index_mut-marks.result.now ≡ get_or c.self.inside.marks.items (c.args.block / 64) no_marks
-  read = get_or_read c.self.inside.marks.items (c.args.block / 64) c.index_mut-marks.result.now (omega (arith, within)) c.index_mut-marks.ensures.value no_marks
+  read : c.index_mut-marks.result.now ≡ get_or c.self.inside.marks.items (c.args.block / 64) marks_of_free_blocks
+  read = get_or_read c.self.inside.marks.items (c.args.block / 64) c.index_mut-marks.result.now (omega (arith, within)) c.index_mut-marks.ensures.value marks_of_free_blocks
 
   change : IsChange c.self.inside.marks.items c.self.inside.block_count c.args.block c.with.result (block_state_view c.args.state)
   change = record {
     within = within;
     covered = c.self.invariant.covered;
     here = c.with.ensures.here;
-    others = λ other lt ne. c.with.ensures.others other lt ne ∙ ap (λ m. state_in m other) read;
+    others = λ other lt ne. c.with.ensures.others other lt ne ∙ ap (λ m. block_state_at_bit m other) read;
   }
 
-  before : c.from.result ≡ cond (is_used (state_at c.self.inside.marks.items c.args.block)) 1 0
+  before : c.from.result ≡ cond (is_used (state_of_block_in_marks c.self.inside.marks.items c.args.block)) 1 0
   before =
       c.from.ensures ∙ byte_of c.is_used.result
-      ∙ ap (λ b. cond b 1 0) (c.is_used.ensures ∙ ap is_used (c.state-was.ensures ∙ ap (λ m. state_in m (c.args.block % 64)) read))
+      ∙ ap (λ b. cond b 1 0) (c.is_used.ensures ∙ ap is_used (c.state-was.ensures ∙ ap (λ m. block_state_at_bit m (c.args.block % 64)) read))
 
 pub index_mut-marks-requires : goal.index_mut-marks-requires
 index_mut-marks-requires c =
-    omega (arith, ap length c.self.view_is, length-sets_of c.self.inside.marks.items c.self.inside.block_count, c.self.inside.marks.ok.0)
+    omega (arith, ap length c.self.view_is, length-block_states_of_marks c.self.inside.marks.items c.self.inside.block_count, c.self.inside.marks.ok.0)
 
 pub overflow_sub-self : goal.overflow_sub-self
 overflow_sub-self c =

@@ -1,9 +1,9 @@
 use Rattle.std.proofs.Common.{ap, sym, ◌∙◌, ◌≡◌, ℕ, Vec, Global}
 use Rattle.std.specs.Option.{option_map}
 use Rattle.lru.specs.LruCache.{lru_cache}
-use Rattle.lfs_model.specs.Cache.{cached, without_block}
+use Rattle.lfs_model.specs.Cache.{cached_bytes_of_block, cache_without_block}
 use Rattle.lfs_cache.specs.Cache.{cached_blocks_view}
-use Rattle.lfs_cache.proofs.EntryLemmas.{cached-shown, IsCache-rest, remove_entry-distinct, rest, shown-rest}
+use Rattle.lfs_cache.proofs.EntryLemmas.{cached_bytes_of_block-shown, IsCache-rest, remove_entry-distinct, rest, shown-rest}
 use Rattle.lfs_cache.proofs.cache.Cache.take.Goals as goal
 use Rattle.lfs_cache.proofs.cache.Cache.take.Goals.{After-pop}
 
@@ -17,10 +17,10 @@ pub returns-clause-others : goal.returns-clause-others
 returns-clause-others c =
     ap (λ recent. cached_blocks_view recent.entries) (left c)
     ∙ shown-rest c.self.inside.recent.entries c.args.block
-    ∙ ap (λ cache. without_block cache c.args.block) c.self.view_is
+    ∙ ap (λ cache. cache_without_block cache c.args.block) c.self.view_is
 
 pub returns-clause-bytes : goal.returns-clause-bytes
 returns-clause-bytes c =
     ap (option_map (λ (v : Vec ℕ Global). v.items)) c.pop.ensures.value
-    ∙ sym (cached-shown c.self.inside.recent.entries c.args.block)
-    ∙ ap (λ cache. cached cache c.args.block) c.self.view_is
+    ∙ sym (cached_bytes_of_block-shown c.self.inside.recent.entries c.args.block)
+    ∙ ap (λ cache. cached_bytes_of_block cache c.args.block) c.self.view_is

@@ -2,29 +2,29 @@ use Rattle.std.proofs.Common.{refl, ℕ, ◌≡◌, ◌≤◌, length, take, sym
 use Rattle.std.proofs.lemmas.List.{length-take-le}
 use Rattle.lfs_model.specs.SkipLists.{pointers_of}
 use Rattle.lfs_ctz.specs.declared.extender.Extender.TheInside.{Inside}
-use Rattle.lfs_ctz.specs.Extending.{IsHolding}
-use Rattle.lfs_ctz.specs.Fields.{HasBlock, growing_view}
-use Rattle.lfs_ctz.specs.Growing.{Growing, IsInBufferAlone}
+use Rattle.lfs_ctz.specs.Extending.{HasBytesInBuffer}
+use Rattle.lfs_ctz.specs.Fields.{HasBufferOfOneBlock, growing_list_view}
+use Rattle.lfs_ctz.specs.Growing.{GrowingList, HasAllBytesInBuffer}
 use Rattle.lfs_ctz.proofs.Memories.{cut_bytes, rest_at}
 use Rattle.lfs_ctz.proofs.Rests.{rest_long}
 use Rattle.lfs_ctz.proofs.Stands.{is_holding}
 use Rattle.lfs_ctz.proofs.extender.Extender.cut.Goals as goal
 
 -- the first bytes
-module _ (e : Inside) (has : HasBlock e) (len : ℕ) (held : IsInBufferAlone (growing_view e)) (within : len ≤ length (growing_view e).rest) where
+module _ (e : Inside) (has : HasBufferOfOneBlock e) (len : ℕ) (held : HasAllBytesInBuffer (growing_list_view e)) (within : len ≤ length (growing_list_view e).rest) where
   fits : len ≤ e.filled
   fits = omega (arith, rest_long e has)
 
-  front : take len e.buffer.items ≡ take len (growing_view e).rest
+  front : take len e.buffer.items ≡ take len (growing_list_view e).rest
   front = cut_bytes e.buffer.items e.filled len fits ∙ ap (take len) (sym (rest_at e.buffer.items e.full e.filled held.none))
 
-  pub is_cut : IsHolding e.geometry (growing_view (record e { filled = len; size = len })) (take len (growing_view e).rest)
+  pub is_cut : HasBytesInBuffer e.geometry (growing_list_view (record e { filled = len; size = len })) (take len (growing_list_view e).rest)
   is_cut =
       let rest = rest_at e.buffer.items e.full len held.none ∙ front in
-      is_holding e.geometry (growing_view (record e { filled = len; size = len })) _ refl
-      (omega (arith, ap length rest, length-take-le len (growing_view e).rest within, fits, has.in_step.high, ap pointers_of held.none)) rest (record { held = held.held; none = held.none })
+      is_holding e.geometry (growing_list_view (record e { filled = len; size = len })) _ refl
+      (omega (arith, ap length rest, length-take-le len (growing_list_view e).rest within, fits, has.in_step.high, ap pointers_of held.none)) rest (record { held = held.held; none = held.none })
 
 pub returns : goal.returns
 returns c =
-    subst (λ (v : Growing). IsHolding v.geometry (growing_view (record c.self.inside { filled = c.args.len; size = c.args.len })) (take c.args.len v.rest)) c.self.view_is
-    (is_cut c.self.inside c.self.invariant c.args.len (subst IsInBufferAlone (sym c.self.view_is) c.requires.held) (subst (λ (v : Growing). c.args.len ≤ length v.rest) (sym c.self.view_is) c.requires.within))
+    subst (λ (v : GrowingList). HasBytesInBuffer v.geometry (growing_list_view (record c.self.inside { filled = c.args.len; size = c.args.len })) (take c.args.len v.rest)) c.self.view_is
+    (is_cut c.self.inside c.self.invariant c.args.len (subst HasAllBytesInBuffer (sym c.self.view_is) c.requires.held) (subst (λ (v : GrowingList). c.args.len ≤ length v.rest) (sym c.self.view_is) c.requires.within))

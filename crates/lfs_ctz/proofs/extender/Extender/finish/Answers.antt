@@ -1,53 +1,53 @@
 use Rattle.std.specs.Prelude.{All}
 use Rattle.std.proofs.Common.{ap, true, false, ◌≢◌, ℕ, ◌≡◌, ◌≤◌, ◌+◌, ◌++◌, ◌∙◌, List, [], ◌∷◌, length, take, sym, subst, arith}
-use Rattle.lfs_model.specs.History.{Event}
+use Rattle.lfs_model.specs.History.{CallEvent}
 use Rattle.lfs_device.specs.declared.geometry.Geometry.{Geometry}
-use Rattle.lfs_model.specs.Blocks.{Blocks, IsDivided, SameBut}
-use Rattle.lfs_model.specs.SkipLists.{blocks_back, AreListBlocks, data_of}
+use Rattle.lfs_model.specs.Blocks.{Blocks, HasBlocksOfCountAndSize, AreBlocksEqualExceptOne}
+use Rattle.lfs_model.specs.SkipLists.{list_blocks_from_head, AreListBlocks, data_of_list_block}
 use Rattle.lfs_ctz.specs.declared.extender.Extender.TheInside.{Inside}
-use Rattle.lfs_ctz.specs.declared.rest.Rest.TheVariants.{Closed, Shared, Handed, Held}
-use Rattle.lfs_ctz.specs.Fields.{growing_view}
-use Rattle.lfs_ctz.specs.Growing.{Growing, content_of, blocks_of_list, end_of, pending_of, last_in, pending_in, is_rest_in_buffer, IsGrowing}
+use Rattle.lfs_ctz.specs.declared.rest.RestLocation.TheVariants.{Closed, Shared, Handed, Held}
+use Rattle.lfs_ctz.specs.Fields.{growing_list_view}
+use Rattle.lfs_ctz.specs.Growing.{GrowingList, content_of, blocks_of_growing_list, size_of_growing_list, unwritten_block_of_list, block_of_rest, unwritten_block_of_rest, is_rest_in_buffer, HasGrowingListOnDisk}
 use Rattle.lfs_ctz.proofs.Geometries.{shaped}
 use Rattle.lfs_ctz.proofs.Rests.{IsCounted, counted}
-use Rattle.lfs_ctz.specs.Counts.{WritesCount}
-use Rattle.lfs_ctz.specs.Finished.{IsEnd}
-use Rattle.lfs_ctz.specs.declared.rest.Rest.{Rest}
+use Rattle.lfs_ctz.specs.Counts.{WritesBlocksOnceEach}
+use Rattle.lfs_ctz.specs.Finished.{IsEndedList}
+use Rattle.lfs_ctz.specs.declared.rest.RestLocation.{RestLocation}
 use Rattle.lfs_ctz.proofs.Called.{changes_none, changes_one}
 use Rattle.lfs_ctz.proofs.Filling.{closed_end, shared_end, handed_end}
 use Rattle.lfs_ctz.proofs.extender.Extender.finish.Goals as goal
 
-module _ (d : Blocks) (v : Growing) (size : ℕ) (is_counted : IsCounted v size) (geometry : Geometry) (same : geometry ≡ v.geometry) (shape : IsDivided geometry.block_size geometry.block_count d) (held : IsGrowing d v) (some : 1 ≤ end_of v) where
-  divided : IsDivided v.geometry.block_size geometry.block_count d
+module _ (d : Blocks) (v : GrowingList) (size : ℕ) (is_counted : IsCounted v size) (geometry : Geometry) (same : geometry ≡ v.geometry) (shape : HasBlocksOfCountAndSize geometry.block_size geometry.block_count d) (held : HasGrowingListOnDisk d v) (some : 1 ≤ size_of_growing_list v) where
+  divided : HasBlocksOfCountAndSize v.geometry.block_size geometry.block_count d
   divided = shaped d geometry v.geometry (sym same) shape
 
   any : 1 ≤ size
   any = omega (arith, some, is_counted.sum)
 
-  in_closed : v.stand ≡ Closed → IsEnd d v.geometry.block_size v.head size (content_of d v) (blocks_of_list d v)
+  in_closed : v.stand ≡ Closed → IsEndedList d v.geometry.block_size v.head size (content_of d v) (blocks_of_growing_list d v)
   in_closed is =
-      subst (λ t. IsEnd d v.geometry.block_size v.head size (content_of d v) (blocks_back d v.full v.head ++ last_in t)) (sym is)
+      subst (λ t. IsEndedList d v.geometry.block_size v.head size (content_of d v) (list_blocks_from_head d v.full v.head ++ block_of_rest t)) (sym is)
       (closed_end d v.geometry.block_size geometry.block_count v.full v.head size v.rest v.geometry.valid.no_smaller divided held.chain (rw is at held.stand) any is_counted.fits is_counted.sum)
 
-  in_shared : (b : ℕ) → v.stand ≡ Shared b → IsEnd d v.geometry.block_size b size (content_of d v) (blocks_of_list d v)
+  in_shared : (b : ℕ) → v.stand ≡ Shared b → IsEndedList d v.geometry.block_size b size (content_of d v) (blocks_of_growing_list d v)
   in_shared b is =
-      subst (λ t. IsEnd d v.geometry.block_size b size (content_of d v) (blocks_back d v.full v.head ++ last_in t)) (sym is)
+      subst (λ t. IsEndedList d v.geometry.block_size b size (content_of d v) (list_blocks_from_head d v.full v.head ++ block_of_rest t)) (sym is)
       (shared_end d v.geometry.block_size geometry.block_count v.full v.head b size v.rest v.geometry.valid.no_smaller divided held.chain (rw is at held.stand) (let r = is_counted.short in omega arith) is_counted.fits is_counted.sum)
 
-  in_handed : (new : Blocks) (b : ℕ) → v.stand ≡ Handed b → AreListBlocks new (v.full + 1) b → blocks_back new (v.full + 1) b ≡ blocks_back d v.full v.head ++ b ∷ [] → SameBut b d new
-      → take (length v.rest) (data_of new (v.full, b)) ≡ v.rest → IsEnd new v.geometry.block_size b size (content_of d v) (blocks_of_list d v)
+  in_handed : (new : Blocks) (b : ℕ) → v.stand ≡ Handed b → AreListBlocks new (v.full + 1) b → list_blocks_from_head new (v.full + 1) b ≡ list_blocks_from_head d v.full v.head ++ b ∷ [] → AreBlocksEqualExceptOne b d new
+      → take (length v.rest) (data_of_list_block new (v.full, b)) ≡ v.rest → IsEndedList new v.geometry.block_size b size (content_of d v) (blocks_of_growing_list d v)
   in_handed new b is more back but begins =
-      subst (λ t. IsEnd new v.geometry.block_size b size (content_of d v) (blocks_back d v.full v.head ++ last_in t)) (sym is)
+      subst (λ t. IsEndedList new v.geometry.block_size b size (content_of d v) (list_blocks_from_head d v.full v.head ++ block_of_rest t)) (sym is)
       (handed_end d new v.geometry.block_size geometry.block_count v.full v.head b size v.rest v.geometry.valid.no_smaller divided held.chain (rw is at held.stand) more back but begins
       (let r = is_counted.short in omega arith) is_counted.fits is_counted.sum)
 
 -- where the rest stands
-stood : (e : Inside) (v : Growing) (t : Rest) → growing_view e ≡ v → e.stand ≡ t → v.stand ≡ t
-stood e v t shown is = sym (ap (λ (g : Growing). g.stand) shown) ∙ is
+stood : (e : Inside) (v : GrowingList) (t : RestLocation) → growing_list_view e ≡ v → e.stand ≡ t → v.stand ≡ t
+stood e v t shown is = sym (ap (λ (g : GrowingList). g.stand) shown) ∙ is
 
 pub returns-in-Closed-clause-finished : goal.returns-in-Closed-clause-finished
 returns-in-Closed-clause-finished g c =
-    subst (λ (v : Growing). IsEnd (g.D.BlockDevice.blocks c.args.dev.now) c.args.self.geometry.block_size v.head c.self.inside.size (content_of (g.D.BlockDevice.blocks c.args.dev.now) c.args.self) (blocks_of_list (g.D.BlockDevice.blocks c.args.dev.now) c.args.self)) (sym c.self.view_is)
+    subst (λ (v : GrowingList). IsEndedList (g.D.BlockDevice.blocks c.args.dev.now) c.args.self.geometry.block_size v.head c.self.inside.size (content_of (g.D.BlockDevice.blocks c.args.dev.now) c.args.self) (blocks_of_growing_list (g.D.BlockDevice.blocks c.args.dev.now) c.args.self)) (sym c.self.view_is)
     (in_closed (g.D.BlockDevice.blocks c.args.dev.now) c.args.self c.self.inside.size (counted c.self.inside c.args.self c.self.invariant c.self.view_is) _ c.requires.stands.geometry (g.met.D.BlockDevice.shape c.args.dev.now) c.requires.stands.growing c.requires.some
     (stood c.self.inside c.args.self Closed c.self.view_is c.in-Closed.is))
 
@@ -69,29 +69,29 @@ pub returns-clause-size : goal.returns-clause-size
 returns-clause-size g c = (counted c.self.inside c.args.self c.self.invariant c.self.view_is).sum
 
 -- contents that are in memory alone aren't ended
-never_held : (t : Rest) → is_rest_in_buffer t ≡ false → t ≡ Held → ⊥
+never_held : (t : RestLocation) → is_rest_in_buffer t ≡ false → t ≡ Held → ⊥
 never_held t listed is = let other : true ≡ false = subst (λ k. is_rest_in_buffer k ≡ false) is listed in absurd (cc)
 
 pub returns-in-Held-clause-finished : goal.returns-in-Held-clause-finished
 returns-in-Held-clause-finished g c = absurd (never_held c.args.self.stand c.requires.listed (stood c.self.inside c.args.self Held c.self.view_is c.in-Held.is))
 
 -- where no block waits, none is written
-none_written : (v : Growing) (old : List Event) → pending_of v ≡ [] → WritesCount 0 (length (pending_of v)) old old
+none_written : (v : GrowingList) (old : List CallEvent) → unwritten_block_of_list v ≡ [] → WritesBlocksOnceEach 0 (length (unwritten_block_of_list v)) old old
 none_written v old none = record { erased = omega (arith, ap length none); programmed = omega (arith, ap length none) }
 
 pub returns-in-Closed-clause-writes : goal.returns-in-Closed-clause-writes
-returns-in-Closed-clause-writes g c = none_written c.args.self _ (ap pending_in (stood c.self.inside c.args.self Closed c.self.view_is c.in-Closed.is))
+returns-in-Closed-clause-writes g c = none_written c.args.self _ (ap unwritten_block_of_rest (stood c.self.inside c.args.self Closed c.self.view_is c.in-Closed.is))
 
 pub returns-in-Shared-clause-writes : goal.returns-in-Shared-clause-writes
-returns-in-Shared-clause-writes g c = none_written c.args.self _ (ap pending_in (stood c.self.inside c.args.self (Shared c.in-Shared.block) c.self.view_is c.in-Shared.is))
+returns-in-Shared-clause-writes g c = none_written c.args.self _ (ap unwritten_block_of_rest (stood c.self.inside c.args.self (Shared c.in-Shared.block) c.self.view_is c.in-Shared.is))
 
 pub returns-in-Held-clause-writes : goal.returns-in-Held-clause-writes
-returns-in-Held-clause-writes g c = none_written c.args.self _ (ap pending_in (stood c.self.inside c.args.self Held c.self.view_is c.in-Held.is))
+returns-in-Held-clause-writes g c = none_written c.args.self _ (ap unwritten_block_of_rest (stood c.self.inside c.args.self Held c.self.view_is c.in-Held.is))
 
 pub returns-clause-writes : goal.returns-clause-writes
 returns-clause-writes g c =
-    let one = c.in_ok-write_last-in-Handed.ensures.writes in
-    let count = ap (λ t. length (pending_in t)) (stood c.self.inside c.args.self (Handed c.in-Handed.block) c.self.view_is c.in-Handed.is) in
+    let one = c.in_ok-write_last_block-in-Handed.ensures.writes in
+    let count = ap (λ t. length (unwritten_block_of_rest t)) (stood c.self.inside c.args.self (Handed c.in-Handed.block) c.self.view_is c.in-Handed.is) in
     record { erased = omega (arith, one.erased, count); programmed = omega (arith, one.programmed, count) }
 
 pub returns-in-Closed-clause-device : goal.returns-in-Closed-clause-device
@@ -104,19 +104,19 @@ pub returns-in-Held-clause-device : goal.returns-in-Held-clause-device
 returns-in-Held-clause-device g c = changes_none g.D.BlockDevice _ c.args.dev.now
 
 -- the block that waits is written
-written : (t : Rest) (b : ℕ) → t ≡ Handed b → (other : ℕ) → All (λ c. c ≢ other) (pending_in t) → b ≢ other
-written t b is other apart = (subst (λ k. All (λ c. c ≢ other) (pending_in k)) is apart) 0 0 (omega arith)
+written : (t : RestLocation) (b : ℕ) → t ≡ Handed b → (other : ℕ) → All (λ c. c ≢ other) (unwritten_block_of_rest t) → b ≢ other
+written t b is other apart = (subst (λ k. All (λ c. c ≢ other) (unwritten_block_of_rest k)) is apart) 0 0 (omega arith)
 
-pub returns-in_err-write_last-in-Handed-clause-device : goal.returns-in_err-write_last-in-Handed-clause-device
-returns-in_err-write_last-in-Handed-clause-device g c =
-    changes_one g.D.BlockDevice (written c.args.self.stand c.in-Handed.block (stood c.self.inside c.args.self (Handed c.in-Handed.block) c.self.view_is c.in-Handed.is)) (changes_none g.D.BlockDevice _ c.args.dev.now) c.write_last.ensures.device
+pub returns-in_err-write_last_block-in-Handed-clause-device : goal.returns-in_err-write_last_block-in-Handed-clause-device
+returns-in_err-write_last_block-in-Handed-clause-device g c =
+    changes_one g.D.BlockDevice (written c.args.self.stand c.in-Handed.block (stood c.self.inside c.args.self (Handed c.in-Handed.block) c.self.view_is c.in-Handed.is)) (changes_none g.D.BlockDevice _ c.args.dev.now) c.write_last_block.ensures.device
 
 pub returns-clause-device : goal.returns-clause-device
 returns-clause-device g c =
-    changes_one g.D.BlockDevice (written c.args.self.stand c.in-Handed.block (stood c.self.inside c.args.self (Handed c.in-Handed.block) c.self.view_is c.in-Handed.is)) (changes_none g.D.BlockDevice _ c.args.dev.now) c.write_last.ensures.device
+    changes_one g.D.BlockDevice (written c.args.self.stand c.in-Handed.block (stood c.self.inside c.args.self (Handed c.in-Handed.block) c.self.view_is c.in-Handed.is)) (changes_none g.D.BlockDevice _ c.args.dev.now) c.write_last_block.ensures.device
 
 pub returns-clause-finished : goal.returns-clause-finished
 returns-clause-finished g c =
-    let wrote = c.in_ok-write_last-in-Handed.ensures in
+    let wrote = c.in_ok-write_last_block-in-Handed.ensures in
     in_handed (g.D.BlockDevice.blocks c.args.dev.now) c.args.self c.self.inside.size (counted c.self.inside c.args.self c.self.invariant c.self.view_is) _ c.requires.stands.geometry (g.met.D.BlockDevice.shape c.args.dev.now) c.requires.stands.growing c.requires.some _
     c.in-Handed.block (stood c.self.inside c.args.self (Handed c.in-Handed.block) c.self.view_is c.in-Handed.is) wrote.appended.chain wrote.appended.back wrote.device.others wrote.bytes

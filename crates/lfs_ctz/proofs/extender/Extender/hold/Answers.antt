@@ -1,8 +1,8 @@
 use Rattle.std.proofs.Common.{refl, ◌<◌, length, ap, subst, sym, arith}
-use Rattle.lfs_ctz.specs.Extending.{IsHolding}
-use Rattle.lfs_ctz.specs.declared.rest.Rest.TheVariants.{Held}
-use Rattle.lfs_ctz.specs.Fields.{growing_view}
-use Rattle.lfs_ctz.specs.Growing.{Growing}
+use Rattle.lfs_ctz.specs.Extending.{HasBytesInBuffer}
+use Rattle.lfs_ctz.specs.declared.rest.RestLocation.TheVariants.{Held}
+use Rattle.lfs_ctz.specs.Fields.{growing_list_view}
+use Rattle.lfs_ctz.specs.Growing.{GrowingList}
 use Rattle.lfs_ctz.proofs.Memories.{held_front}
 use Rattle.lfs_ctz.proofs.Stands.{is_holding}
 use Rattle.lfs_ctz.proofs.extender.Extender.hold.Goals as goal
@@ -10,8 +10,8 @@ use Rattle.lfs_ctz.proofs.extender.Extender.hold.Goals as goal
 pub returns : goal.returns
 returns c =
     let e = c.self.inside in
-    let room = subst (λ (v : Growing). length c.args.bytes.now < v.geometry.block_size) (sym c.self.view_is) c.requires in
+    let room = subst (λ (v : GrowingList). length c.args.bytes.now < v.geometry.block_size) (sym c.self.view_is) c.requires in
     let rest = held_front e.buffer.items c.overwrite.new.all.items c.args.bytes.now c.overwrite.ensures in
-    let new : Growing = growing_view (record e { buffer = c.overwrite.new.all; full = 0; head = 0; filled = length c.args.bytes.now; size = length c.args.bytes.now; stand = Held }) in
-    subst (λ (v : Growing). IsHolding v.geometry new c.args.bytes.now) c.self.view_is
+    let new : GrowingList = growing_list_view (record e { buffer = c.overwrite.new.all; full = 0; head = 0; filled = length c.args.bytes.now; size = length c.args.bytes.now; stand = Held }) in
+    subst (λ (v : GrowingList). HasBytesInBuffer v.geometry new c.args.bytes.now) c.self.view_is
     (is_holding e.geometry new _ refl (omega (arith, ap length rest, room)) rest (record { held = refl; none = refl }))

@@ -1,33 +1,33 @@
 use Rattle.std.proofs.Common.{refl, ℕ, ◌≡◌, ◌+◌, ◌-◌, ◌<◌, List, length, max, take, replicate, sym, ap, subst, ◌∙◌, arith}
 use Rattle.std.proofs.lemmas.List.{length-take}
-use Rattle.lfs_model.specs.Blocks.{overwritten}
+use Rattle.lfs_model.specs.Blocks.{bytes_after_overwrite_at}
 use Rattle.lfs_model.specs.SkipLists.{pointers_of}
-use Rattle.lfs_model.specs.Writers.{written_into as with_bytes}
+use Rattle.lfs_model.specs.Writers.{contents_after_write as with_bytes}
 use Rattle.lfs_ctz.specs.declared.extender.Extender.TheInside.{Inside}
-use Rattle.lfs_ctz.specs.Extending.{IsHolding}
-use Rattle.lfs_ctz.specs.Fields.{HasBlock, growing_view}
-use Rattle.lfs_ctz.specs.Growing.{Growing, IsInBufferAlone}
+use Rattle.lfs_ctz.specs.Extending.{HasBytesInBuffer}
+use Rattle.lfs_ctz.specs.Fields.{HasBufferOfOneBlock, growing_list_view}
+use Rattle.lfs_ctz.specs.Growing.{GrowingList, HasAllBytesInBuffer}
 use Rattle.lfs_ctz.proofs.Memories.{put_bytes, rest_at}
 use Rattle.lfs_ctz.proofs.Stands.{is_holding}
 use Rattle.lfs_ctz.proofs.extender.Extender.put.Goals as goal
 
-put_is : (e : Inside) (at from end : ℕ) (bytes padded new : List ℕ) → HasBlock e → e.full ≡ 0 → at + length bytes < e.geometry.block_size → from ≡ max e.filled at → end ≡ max e.filled (at + length bytes)
-    → padded ≡ overwritten e.buffer.items e.filled (replicate (from - e.filled) 0) → new ≡ overwritten padded at bytes → take end new ≡ with_bytes (growing_view e).rest at bytes
+put_is : (e : Inside) (at from end : ℕ) (bytes padded new : List ℕ) → HasBufferOfOneBlock e → e.full ≡ 0 → at + length bytes < e.geometry.block_size → from ≡ max e.filled at → end ≡ max e.filled (at + length bytes)
+    → padded ≡ bytes_after_overwrite_at e.buffer.items e.filled (replicate (from - e.filled) 0) → new ≡ bytes_after_overwrite_at padded at bytes → take end new ≡ with_bytes (growing_list_view e).rest at bytes
 put_is e at from end bytes padded new has none room is ends before after =
     ap (λ k. take k new) ends
     ∙ put_bytes e.buffer.items bytes e.filled at (omega (arith, has.one_block, has.in_step.high)) (omega (arith, has.one_block, room)) new
-    (after ∙ ap (λ (l : List ℕ). overwritten l at bytes) (before ∙ ap (λ k. overwritten e.buffer.items e.filled (replicate (k - e.filled) 0)) is))
+    (after ∙ ap (λ (l : List ℕ). bytes_after_overwrite_at l at bytes) (before ∙ ap (λ k. bytes_after_overwrite_at e.buffer.items e.filled (replicate (k - e.filled) 0)) is))
     ∙ ap (λ (l : List ℕ). with_bytes l at bytes) (sym (rest_at e.buffer.items e.full e.filled none))
 
 pub returns : goal.returns
 returns c =
     let e = c.self.inside in
     let has = c.self.invariant in
-    let held = subst IsInBufferAlone (sym c.self.view_is) c.requires.held in
-    let room = subst (λ (v : Growing). c.args.at + length c.args.bytes.now < v.geometry.block_size) (sym c.self.view_is) c.requires.room in
+    let held = subst HasAllBytesInBuffer (sym c.self.view_is) c.requires.held in
+    let room = subst (λ (v : GrowingList). c.args.at + length c.args.bytes.now < v.geometry.block_size) (sym c.self.view_is) c.requires.room in
     let filled : ℕ = c.max-self-inside.result in
-    let new : Growing = growing_view (record e { buffer = c.overwrite.new.all; filled = filled; size = filled }) in
+    let new : GrowingList = growing_list_view (record e { buffer = c.overwrite.new.all; filled = filled; size = filled }) in
     let front = rest_at c.overwrite.new.all.items e.full filled held.none in
     let rest = front ∙ put_is e c.args.at _ _ c.args.bytes.now _ _ has held.none room c.max-from.ensures c.max-self-inside.ensures c.pad.ensures c.overwrite.ensures in
-    subst (λ (v : Growing). IsHolding v.geometry new (with_bytes v.rest c.args.at c.args.bytes.now)) c.self.view_is
+    subst (λ (v : GrowingList). HasBytesInBuffer v.geometry new (with_bytes v.rest c.args.at c.args.bytes.now)) c.self.view_is
     (is_holding e.geometry new _ refl (omega (arith, ap length front, ap pointers_of held.none, length-take filled c.overwrite.new.all.items, c.max-self-inside.ensures, has.in_step.high, room)) rest (record { held = held.held; none = held.none }))

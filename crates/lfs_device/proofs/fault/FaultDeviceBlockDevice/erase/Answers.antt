@@ -1,23 +1,23 @@
 use Rattle.std.proofs.Common.{rules, ◌≡◌, ◌∷◌, is_err}
-use Rattle.lfs_model.specs.History.{event}
+use Rattle.lfs_model.specs.History.{call_event_with}
 use Rattle.lfs_model.specs.History.Call.{Erase}
 use Rattle.lfs_model.proofs.Conformance.{conforms_erase, conforms_next}
 use Rattle.lfs_device.specs.Fault.{due}
-use Rattle.lfs_device.specs.CallsBelow.{IsCallBelow}
-use Rattle.lfs_device.proofs.Faults.{due_failed-call, undue_faults-call, below-call}
+use Rattle.lfs_device.specs.CallsBelow.{CarriesOutCallBelow}
+use Rattle.lfs_device.proofs.Faults.{have_due_calls_failed-call, count_of_undue_faults-call, below-call}
 use Rattle.lfs_device.proofs.Premises.{premises_call}
 use Rattle.lfs_device.proofs.fault.FaultDeviceBlockDevice.erase.Goals as goal
 
-carried : (g : _) (c : goal.After-from_proof-self g) → IsCallBelow g.D.BlockDevice (due c.args.self.now.fault (Erase c.args.block) c.args.self.now.trace.events)
+carried : (g : _) (c : goal.After-from_proof-self g) → CarriesOutCallBelow g.D.BlockDevice (due c.args.self.now.fault (Erase c.args.block) c.args.self.now.trace.events)
     (Erase c.args.block) (is_err c.carry_out_erase-outcome.result) c.args.self.now.inner c.carry_out_erase-outcome.new.device
 carried g c = search rules
 
 newest : (g : _) (c : goal.After-from_proof-self g) → c.from_proof-self.result.events
-    ≡ event (Erase c.args.block) (g.D.BlockDevice.blocks c.args.self.now.inner) (g.D.BlockDevice.blocks c.carry_out_erase-outcome.new.device) (is_err c.carry_out_erase-outcome.result) ∷ c.args.self.now.trace.events
+    ≡ call_event_with (Erase c.args.block) (g.D.BlockDevice.blocks c.args.self.now.inner) (g.D.BlockDevice.blocks c.carry_out_erase-outcome.new.device) (is_err c.carry_out_erase-outcome.result) ∷ c.args.self.now.trace.events
 newest g c = search rules
 
 pub invariant_of-self-clause-due_failed : goal.invariant_of-self-clause-due_failed
-invariant_of-self-clause-due_failed g c = due_failed-call g.D.BlockDevice c.args.self.now.fault c.args.self.now.inner c.carry_out_erase-outcome.new.device (carried g c) (newest g c) c.args.self.now.due_failed
+invariant_of-self-clause-due_failed g c = have_due_calls_failed-call g.D.BlockDevice c.args.self.now.fault c.args.self.now.inner c.carry_out_erase-outcome.new.device (carried g c) (newest g c) c.args.self.now.due_failed
 
 pub invariant_of-self-clause-below : goal.invariant_of-self-clause-below
 invariant_of-self-clause-below g c = below-call (g.D.BlockDevice.history c.args.self.now.inner) (g.D.BlockDevice.history c.carry_out_erase-outcome.new.device) (newest g c) c.args.self.now.below (c.carry_out_erase-outcome.ensures.keeps)
@@ -33,5 +33,5 @@ invariant_of-self-clause-premises g c = λ tears reliable.
 
 pub invariant_of-self-clause-undue_faults : goal.invariant_of-self-clause-undue_faults
 invariant_of-self-clause-undue_faults g c =
-    undue_faults-call g.D.BlockDevice c.args.self.now.fault c.args.self.now.inner c.carry_out_erase-outcome.new.device (carried g c) (newest g c)
+    count_of_undue_faults-call g.D.BlockDevice c.args.self.now.fault c.args.self.now.inner c.carry_out_erase-outcome.new.device (carried g c) (newest g c)
     c.carry_out_erase-outcome.ensures.faults c.args.self.now.undue_faults

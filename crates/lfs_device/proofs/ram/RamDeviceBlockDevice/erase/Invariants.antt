@@ -1,7 +1,7 @@
 use Rattle.std.proofs.Common.{◌∷◌, false}
 use Rattle.lfs_model.specs.Blocks.{Blocks, cut}
-use Rattle.lfs_device.specs.Erased.{erased_disk}
-use Rattle.lfs_model.specs.History.{event}
+use Rattle.lfs_device.specs.Erased.{blocks_after_erase}
+use Rattle.lfs_model.specs.History.{call_event_with}
 use Rattle.lfs_model.specs.History.Call.{Erase}
 use Rattle.lfs_device.proofs.ram.RamDeviceBlockDevice.erase.Given as goal
 
@@ -9,4 +9,4 @@ abbrev pub ghost-from_proof : goal.ghost-from_proof
 ghost-from_proof a =
     let d = a._device.now in
     let disk : Blocks = cut d.geometry.block_size d.geometry.block_count d.bytes.items in
-    event (Erase a._call.now) disk (erased_disk d.erased d.geometry.block_size disk a._call.now) false ∷ d.trace.events
+    call_event_with (Erase a._call.now) disk (blocks_after_erase d.erased d.geometry.block_size disk a._call.now) false ∷ d.trace.events

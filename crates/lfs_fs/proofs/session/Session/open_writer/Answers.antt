@@ -1,17 +1,17 @@
 use Rattle.std.proofs.Common.{◌≡◌, ◌<◌, ◌∙◌, [], sym, refl, ap, subst, set, length, Some, None, Ok}
 use Rattle.lfs_model.specs.Operations as ops
-use Rattle.lfs_model.specs.Effects.{node_size}
+use Rattle.lfs_model.specs.Effects.{file_size_of_node}
 use Rattle.lfs_tree.specs.TreeState.{TreeState, tree_view}
 use Rattle.lfs_fs.specs.FlagsView.{flags_view}
-use Rattle.lfs_fs.specs.FileView.{open_file_at, writers_in}
+use Rattle.lfs_fs.specs.FileView.{open_file_at, writers_among}
 use Rattle.lfs_fs.specs.declared.files.OpenFile.TheVariants as file
-use Rattle.lfs_fs.specs.SessionView.{session_view_of, session_view_with, system_state_of}
+use Rattle.lfs_fs.specs.SessionView.{session_view_of_tree_and_files, session_view_with_files_view, system_state_of}
 use Rattle.lfs_fs.proofs.Errors.{given_on}
 use Rattle.lfs_fs.proofs.OpenedWriters.{IsOpenedBy, can_begin, can_create, no_writer, opened_new, opened_there, room_made, writer_breaks, writer_opened, writer_ready, writer_lacks_memory}
-use Rattle.lfs_model.specs.PowerLoss.{SurvivesStops}
+use Rattle.lfs_model.specs.PowerLoss.{IsOperationSurvivingStops}
 use Rattle.lfs_fs.proofs.StoppedCalls.{created_left, opened_left, opening_keeps}
 use Rattle.lfs_fs.proofs.Sparing.{begun_others, rest_others}
-use Rattle.lfs_fs.specs.CallEffects.{LeavesOthers}
+use Rattle.lfs_fs.specs.CallEffects.{LeavesBlocksOfOthersAlone}
 use Rattle.lfs_device.specs.declared.error.Error.TheVariants as error
 use Rattle.lfs_model.specs.History.{faults}
 use Rattle.lfs_fs.proofs.session.Session.open_writer.Goals as goal
@@ -34,15 +34,15 @@ returns-in_err-found g c =
 pub make_room-requires : goal.make_room-requires
 make_room-requires g c = no_writer c.self.inside.tree c.self.inside.files c.args.path.now (flags_view c.args.flags) c.requires c.in_ok-found.ensures.1
 
-pub begin_existing-answer-requires : goal.begin_existing-answer-requires
-begin_existing-answer-requires g c =
+pub writer_of_existing_file-answer-requires : goal.writer_of_existing_file-answer-requires
+writer_of_existing_file-answer-requires g c =
     let h = c.in_ok-found.ensures in
-    can_begin c.self.inside.tree c.check_open_writer.new.tree c.self.inside.files c.args.path.now (flags_view c.args.flags) c.in-Ok.owned c.in-Some.size c.self.invariant.ready h.0 h.1 c.requires c.in-Ok.ensures.path (ap (λ p. node_size (tree_view c.self.inside.tree p)) (c.in-Ok.ensures.path ∙ sym h.2.path) ∙ h.2.size ∙ c.in-Some.is)
+    can_begin c.self.inside.tree c.check_open_writer.new.tree c.self.inside.files c.args.path.now (flags_view c.args.flags) c.in-Ok.owned c.in-Some.size c.self.invariant.ready h.0 h.1 c.requires c.in-Ok.ensures.path (ap (λ p. file_size_of_node (tree_view c.self.inside.tree p)) (c.in-Ok.ensures.path ∙ sym h.2.path) ∙ h.2.size ∙ c.in-Some.is)
 
-pub begin_new-answer-requires : goal.begin_new-answer-requires
-begin_new-answer-requires g c =
+pub writer_of_new_file-answer-requires : goal.writer_of_new_file-answer-requires
+writer_of_new_file-answer-requires g c =
     let h = c.in_ok-found.ensures in
-    can_create c.self.inside.tree c.check_open_writer.new.tree c.self.inside.files c.args.path.now (flags_view c.args.flags) c.in-Ok.owned c.self.invariant.ready h.0 h.1 c.requires c.in-Ok.ensures.path (ap (λ p. node_size (tree_view c.self.inside.tree p)) (c.in-Ok.ensures.path ∙ sym h.2.path) ∙ h.2.size ∙ c.in-None.is)
+    can_create c.self.inside.tree c.check_open_writer.new.tree c.self.inside.files c.args.path.now (flags_view c.args.flags) c.in-Ok.owned c.self.invariant.ready h.0 h.1 c.requires c.in-Ok.ensures.path (ap (λ p. file_size_of_node (tree_view c.self.inside.tree p)) (c.in-Ok.ensures.path ∙ sym h.2.path) ∙ h.2.size ∙ c.in-None.is)
 
 pub put_back-requires-clause-inside : goal.put_back-requires-clause-inside
 put_back-requires-clause-inside g c =
@@ -57,60 +57,60 @@ put_back-requires-clause-free g c =
 pub put_back-requires-clause-none : goal.put_back-requires-clause-none
 put_back-requires-clause-none g c =
     let stay : c.match-found.self-inside.files ≡ c.make_room.new.self = elim c.match-found.branch [ in-Some+in_ok-writer-in-Some w ↦ ap (λ i. i.files) w.self-inside-is | in-None+in_ok-writer-in-None w ↦ ap (λ i. i.files) w.self-inside-is ] in
-    subst (λ xs. writers_in xs ≡ []) (sym stay) (room_made c.self.inside.files c.make_room.new.self c.in-Ok-make_room.number (no_writer c.self.inside.tree c.self.inside.files c.args.path.now (flags_view c.args.flags) c.requires c.in_ok-found.ensures.1) c.in-Ok-make_room.ensures.number c.in-Ok-make_room.ensures.room).none
+    subst (λ xs. writers_among xs ≡ []) (sym stay) (room_made c.self.inside.files c.make_room.new.self c.in-Ok-make_room.number (no_writer c.self.inside.tree c.self.inside.files c.args.path.now (flags_view c.args.flags) c.requires c.in_ok-found.ensures.1) c.in-Ok-make_room.ensures.number c.in-Ok-make_room.ensures.room).none
 
 -- no memory is granted
 pub returns-in_default : goal.returns-in_default
 returns-in_default g c =
     still_call c.self.inside.tree c.self.inside.files _ (ops.Open c.args.path.now (flags_view c.args.flags)) _ _ c.self.view_is c.self.invariant.ready refl refl (ap (λ (t : TreeState). t.disk) c.fail.ensures ∙ ap (λ (t : TreeState). t.disk) c.in_ok-found.ensures.0.same)
-    (error_ends (session_view_of c.self.inside.tree c.self.inside.files) _ (ops.Open c.args.path.now (flags_view c.args.flags)) error.NoMemory _ c.self.view_is c.in_ok-found.ensures.1 refl)
+    (error_ends (session_view_of_tree_and_files c.self.inside.tree c.self.inside.files) _ (ops.Open c.args.path.now (flags_view c.args.flags)) error.NoMemory _ c.self.view_is c.in_ok-found.ensures.1 refl)
     (writer_lacks_memory c.self.inside.tree c.check_open_writer.new.tree c.fail.new.self c.self.inside.files c.self.inside.files _ c.args.path.now (flags_view c.args.flags) c.self.view_is c.in_ok-found.ensures.0 c.in_ok-found.ensures.1 c.fail.ensures)
-    (only_read (session_view_of c.self.inside.tree c.self.inside.files) _ (ops.Open c.args.path.now (flags_view c.args.flags)) c.fail.new.self c.self.view_is (sound_by c.self.inside.tree c.self.inside.files c.self.invariant.ready) (reads_failing c.self.inside.tree c.check_open_writer.new.tree c.fail.new.self c.fail.ensures c.in_ok-found.ensures.0.reads))
+    (only_read (session_view_of_tree_and_files c.self.inside.tree c.self.inside.files) _ (ops.Open c.args.path.now (flags_view c.args.flags)) c.fail.new.self c.self.view_is (sound_by c.self.inside.tree c.self.inside.files c.self.invariant.ready) (reads_failing c.self.inside.tree c.check_open_writer.new.tree c.fail.new.self c.fail.ensures c.in_ok-found.ensures.0.reads))
 
 pub returns-in_default-make_room : goal.returns-in_default-make_room
 returns-in_default-make_room g c =
     still_call c.self.inside.tree c.self.inside.files _ (ops.Open c.args.path.now (flags_view c.args.flags)) _ _ c.self.view_is c.self.invariant.ready refl refl (ap (λ (t : TreeState). t.disk) c.fail-in_default-make_room.ensures ∙ ap (λ (t : TreeState). t.disk) c.in_ok-found.ensures.0.same)
-    (error_ends (session_view_of c.self.inside.tree c.self.inside.files) _ (ops.Open c.args.path.now (flags_view c.args.flags)) error.NoMemory _ c.self.view_is c.in_ok-found.ensures.1 refl)
+    (error_ends (session_view_of_tree_and_files c.self.inside.tree c.self.inside.files) _ (ops.Open c.args.path.now (flags_view c.args.flags)) error.NoMemory _ c.self.view_is c.in_ok-found.ensures.1 refl)
     (writer_lacks_memory c.self.inside.tree c.check_open_writer.new.tree c.fail-in_default-make_room.new.self c.self.inside.files c.make_room.new.self _ c.args.path.now (flags_view c.args.flags) c.self.view_is c.in_ok-found.ensures.0 c.in_ok-found.ensures.1 c.fail-in_default-make_room.ensures)
-    (only_read (session_view_of c.self.inside.tree c.self.inside.files) _ (ops.Open c.args.path.now (flags_view c.args.flags)) c.fail-in_default-make_room.new.self c.self.view_is (sound_by c.self.inside.tree c.self.inside.files c.self.invariant.ready) (reads_failing c.self.inside.tree c.check_open_writer.new.tree c.fail-in_default-make_room.new.self c.fail-in_default-make_room.ensures c.in_ok-found.ensures.0.reads))
+    (only_read (session_view_of_tree_and_files c.self.inside.tree c.self.inside.files) _ (ops.Open c.args.path.now (flags_view c.args.flags)) c.fail-in_default-make_room.new.self c.self.view_is (sound_by c.self.inside.tree c.self.inside.files c.self.invariant.ready) (reads_failing c.self.inside.tree c.check_open_writer.new.tree c.fail-in_default-make_room.new.self c.fail-in_default-make_room.ensures c.in_ok-found.ensures.0.reads))
 
 -- the tree's call ends it
 pub returns-in_err-writer-in-Some : goal.returns-in_err-writer-in-Some
 returns-in_err-writer-in-Some g c =
     let h = c.in_ok-found.ensures in
     changed_call c.self.inside.tree c.self.inside.files _ (ops.Open c.args.path.now (flags_view c.args.flags)) ops.Opened c.from_residual-in_err-writer-in-Some.result _ c.self.view_is c.self.invariant c.device_meets_laws.ensures refl refl
-    (failed_others c.args.self.now (ops.Open c.args.path.now (flags_view c.args.flags)) (session_view_with c.begin_existing-answer.new.tree []) c.from_residual-in_err-writer-in-Some.result (given_on _ c.from_residual-in_err-writer-in-Some.result c.from_residual-in_err-writer-in-Some.ensures.1))
-    (broken_ends (session_view_of c.self.inside.tree c.self.inside.files) _ (ops.Open c.args.path.now (flags_view c.args.flags)) ops.Opened _ c.from_residual-in_err-writer-in-Some.result _ c.self.view_is c.in_ok-found.ensures.1 refl c.in_err-writer-in-Some.ensures.errors.errors
+    (failed_others c.args.self.now (ops.Open c.args.path.now (flags_view c.args.flags)) (session_view_with_files_view c.writer_of_existing_file-answer.new.tree []) c.from_residual-in_err-writer-in-Some.result (given_on _ c.from_residual-in_err-writer-in-Some.result c.from_residual-in_err-writer-in-Some.ensures.1))
+    (broken_ends (session_view_of_tree_and_files c.self.inside.tree c.self.inside.files) _ (ops.Open c.args.path.now (flags_view c.args.flags)) ops.Opened _ c.from_residual-in_err-writer-in-Some.result _ c.self.view_is c.in_ok-found.ensures.1 refl c.in_err-writer-in-Some.ensures.errors.errors
     (given_on _ c.from_residual-in_err-writer-in-Some.result c.from_residual-in_err-writer-in-Some.ensures.1))
-    (writer_breaks c.self.inside.tree c.check_open_writer.new.tree c.begin_existing-answer.new.tree c.self.inside.files _ _ c.args.path.now (flags_view c.args.flags) _ c.from_residual-in_err-writer-in-Some.result c.self.view_is h.0 h.1 (c.self.invariant.ready (not_failed (session_view_of c.self.inside.tree c.self.inside.files) (ops.Open c.args.path.now (flags_view c.args.flags)) h.1)).sound c.requires c.in_err-writer-in-Some.ensures.broken c.in_err-writer-in-Some.ensures.errors
+    (writer_breaks c.self.inside.tree c.check_open_writer.new.tree c.writer_of_existing_file-answer.new.tree c.self.inside.files _ _ c.args.path.now (flags_view c.args.flags) _ c.from_residual-in_err-writer-in-Some.result c.self.view_is h.0 h.1 (c.self.invariant.ready (not_failed (session_view_of_tree_and_files c.self.inside.tree c.self.inside.files) (ops.Open c.args.path.now (flags_view c.args.flags)) h.1)).sound c.requires c.in_err-writer-in-Some.ensures.broken c.in_err-writer-in-Some.ensures.errors
     (given_on _ c.from_residual-in_err-writer-in-Some.result c.from_residual-in_err-writer-in-Some.ensures.1))
-    (opened_left c.self.inside.tree c.check_open_writer.new.tree c.begin_existing-answer.new.tree c.self.inside.files _ c.args.path.now (flags_view c.args.flags) c.in-Ok.owned _ c.self.view_is c.self.invariant.ready
-    (opening_keeps c.self.inside.tree c.check_open_writer.new.tree c.self.inside.files c.args.path.now (flags_view c.args.flags) c.self.invariant.ready h.0 h.1 c.requires) h.1 c.in-Ok.ensures.path (ap (λ p. node_size (tree_view c.self.inside.tree p)) (c.in-Ok.ensures.path ∙ sym h.2.path) ∙ h.2.size ∙ c.in-Some.is)
-    (c.in_err-writer-in-Some.ensures.broken.calls, c.in_err-writer-in-Some.ensures.broken.called) c.begin_existing-answer.ensures.survives)
+    (opened_left c.self.inside.tree c.check_open_writer.new.tree c.writer_of_existing_file-answer.new.tree c.self.inside.files _ c.args.path.now (flags_view c.args.flags) c.in-Ok.owned _ c.self.view_is c.self.invariant.ready
+    (opening_keeps c.self.inside.tree c.check_open_writer.new.tree c.self.inside.files c.args.path.now (flags_view c.args.flags) c.self.invariant.ready h.0 h.1 c.requires) h.1 c.in-Ok.ensures.path (ap (λ p. file_size_of_node (tree_view c.self.inside.tree p)) (c.in-Ok.ensures.path ∙ sym h.2.path) ∙ h.2.size ∙ c.in-Some.is)
+    (c.in_err-writer-in-Some.ensures.broken.calls, c.in_err-writer-in-Some.ensures.broken.called) c.writer_of_existing_file-answer.ensures.survives)
 
 pub returns-in_err-writer-in-None : goal.returns-in_err-writer-in-None
 returns-in_err-writer-in-None g c =
     let h = c.in_ok-found.ensures in
     changed_call c.self.inside.tree c.self.inside.files _ (ops.Open c.args.path.now (flags_view c.args.flags)) ops.Opened c.from_residual-in_err-writer-in-None.result _ c.self.view_is c.self.invariant c.device_meets_laws-in-None.ensures refl refl
-    (failed_others c.args.self.now (ops.Open c.args.path.now (flags_view c.args.flags)) (session_view_with c.begin_new-answer.new.tree []) c.from_residual-in_err-writer-in-None.result (given_on _ c.from_residual-in_err-writer-in-None.result c.from_residual-in_err-writer-in-None.ensures.1))
-    (broken_ends (session_view_of c.self.inside.tree c.self.inside.files) _ (ops.Open c.args.path.now (flags_view c.args.flags)) ops.Opened _ c.from_residual-in_err-writer-in-None.result _ c.self.view_is c.in_ok-found.ensures.1 refl c.in_err-writer-in-None.ensures.errors.errors
+    (failed_others c.args.self.now (ops.Open c.args.path.now (flags_view c.args.flags)) (session_view_with_files_view c.writer_of_new_file-answer.new.tree []) c.from_residual-in_err-writer-in-None.result (given_on _ c.from_residual-in_err-writer-in-None.result c.from_residual-in_err-writer-in-None.ensures.1))
+    (broken_ends (session_view_of_tree_and_files c.self.inside.tree c.self.inside.files) _ (ops.Open c.args.path.now (flags_view c.args.flags)) ops.Opened _ c.from_residual-in_err-writer-in-None.result _ c.self.view_is c.in_ok-found.ensures.1 refl c.in_err-writer-in-None.ensures.errors.errors
     (given_on _ c.from_residual-in_err-writer-in-None.result c.from_residual-in_err-writer-in-None.ensures.1))
-    (writer_breaks c.self.inside.tree c.check_open_writer.new.tree c.begin_new-answer.new.tree c.self.inside.files _ _ c.args.path.now (flags_view c.args.flags) _ c.from_residual-in_err-writer-in-None.result c.self.view_is h.0 h.1 (c.self.invariant.ready (not_failed (session_view_of c.self.inside.tree c.self.inside.files) (ops.Open c.args.path.now (flags_view c.args.flags)) h.1)).sound c.requires c.in_err-writer-in-None.ensures.broken c.in_err-writer-in-None.ensures.errors
+    (writer_breaks c.self.inside.tree c.check_open_writer.new.tree c.writer_of_new_file-answer.new.tree c.self.inside.files _ _ c.args.path.now (flags_view c.args.flags) _ c.from_residual-in_err-writer-in-None.result c.self.view_is h.0 h.1 (c.self.invariant.ready (not_failed (session_view_of_tree_and_files c.self.inside.tree c.self.inside.files) (ops.Open c.args.path.now (flags_view c.args.flags)) h.1)).sound c.requires c.in_err-writer-in-None.ensures.broken c.in_err-writer-in-None.ensures.errors
     (given_on _ c.from_residual-in_err-writer-in-None.result c.from_residual-in_err-writer-in-None.ensures.1))
-    (created_left c.self.inside.tree c.check_open_writer.new.tree c.begin_new-answer.new.tree c.self.inside.files _ c.args.path.now (flags_view c.args.flags) c.in-Ok.owned c.self.view_is c.self.invariant.ready
-    (opening_keeps c.self.inside.tree c.check_open_writer.new.tree c.self.inside.files c.args.path.now (flags_view c.args.flags) c.self.invariant.ready h.0 h.1 c.requires) h.1 c.requires c.in-Ok.ensures.path (ap (λ p. node_size (tree_view c.self.inside.tree p)) (c.in-Ok.ensures.path ∙ sym h.2.path) ∙ h.2.size ∙ c.in-None.is)
-    (c.in_err-writer-in-None.ensures.broken.calls, c.in_err-writer-in-None.ensures.broken.called) c.begin_new-answer.ensures.survives)
+    (created_left c.self.inside.tree c.check_open_writer.new.tree c.writer_of_new_file-answer.new.tree c.self.inside.files _ c.args.path.now (flags_view c.args.flags) c.in-Ok.owned c.self.view_is c.self.invariant.ready
+    (opening_keeps c.self.inside.tree c.check_open_writer.new.tree c.self.inside.files c.args.path.now (flags_view c.args.flags) c.self.invariant.ready h.0 h.1 c.requires) h.1 c.requires c.in-Ok.ensures.path (ap (λ p. file_size_of_node (tree_view c.self.inside.tree p)) (c.in-Ok.ensures.path ∙ sym h.2.path) ∙ h.2.size ∙ c.in-None.is)
+    (c.in_err-writer-in-None.ensures.broken.calls, c.in_err-writer-in-None.ensures.broken.called) c.writer_of_new_file-answer.ensures.survives)
 
 pub invariant_of-self-2 : goal.invariant_of-self-2
 invariant_of-self-2 g c =
     let stay : c.match-found.self-inside.files ≡ c.make_room.new.self = elim c.match-found.branch [ in-Some+in_ok-writer-in-Some w ↦ ap (λ i. i.files) w.self-inside-is | in-None+in_ok-writer-in-None w ↦ ap (λ i. i.files) w.self-inside-is ] in
     let h = c.in_ok-found.ensures in
     let opened : IsOpenedBy c.self.inside.tree c.self.inside.files c.args.path.now (flags_view c.args.flags) c.match-found.self-inside.tree c.match-found.writer = elim c.match-found.branch [
-      | in-Some+in_ok-writer-in-Some w ↦ subst (λ i. IsOpenedBy c.self.inside.tree c.self.inside.files c.args.path.now (flags_view c.args.flags) i.tree c.match-found.writer) (sym w.self-inside-is) (subst (λ x. IsOpenedBy c.self.inside.tree c.self.inside.files c.args.path.now (flags_view c.args.flags) w.begin_existing-answer.new.tree x) (sym w.writer-is)
-          (opened_there c.self.inside.tree c.check_open_writer.new.tree w.begin_existing-answer.new.tree c.self.inside.files c.args.path.now (flags_view c.args.flags) _ c.in-Ok.owned w.in-Some.size c.self.invariant.ready h.0 h.1 c.requires c.in-Ok.ensures.path (ap (λ p. node_size (tree_view c.self.inside.tree p)) (c.in-Ok.ensures.path ∙ sym h.2.path) ∙ h.2.size ∙ w.in-Some.is)
+      | in-Some+in_ok-writer-in-Some w ↦ subst (λ i. IsOpenedBy c.self.inside.tree c.self.inside.files c.args.path.now (flags_view c.args.flags) i.tree c.match-found.writer) (sym w.self-inside-is) (subst (λ x. IsOpenedBy c.self.inside.tree c.self.inside.files c.args.path.now (flags_view c.args.flags) w.writer_of_existing_file-answer.new.tree x) (sym w.writer-is)
+          (opened_there c.self.inside.tree c.check_open_writer.new.tree w.writer_of_existing_file-answer.new.tree c.self.inside.files c.args.path.now (flags_view c.args.flags) _ c.in-Ok.owned w.in-Some.size c.self.invariant.ready h.0 h.1 c.requires c.in-Ok.ensures.path (ap (λ p. file_size_of_node (tree_view c.self.inside.tree p)) (c.in-Ok.ensures.path ∙ sym h.2.path) ∙ h.2.size ∙ w.in-Some.is)
           w.in_ok-writer-in-Some.ensures.recovered w.in_ok-writer-in-Some.ensures.begun))
-      | in-None+in_ok-writer-in-None w ↦ subst (λ i. IsOpenedBy c.self.inside.tree c.self.inside.files c.args.path.now (flags_view c.args.flags) i.tree c.match-found.writer) (sym w.self-inside-is) (subst (λ x. IsOpenedBy c.self.inside.tree c.self.inside.files c.args.path.now (flags_view c.args.flags) w.begin_new-answer.new.tree x) (sym w.writer-is)
-          (opened_new c.self.inside.tree c.check_open_writer.new.tree w.begin_new-answer.new.tree c.self.inside.files c.args.path.now (flags_view c.args.flags) _ c.in-Ok.owned c.self.invariant.ready h.0 h.1 c.requires c.in-Ok.ensures.path (ap (λ p. node_size (tree_view c.self.inside.tree p)) (c.in-Ok.ensures.path ∙ sym h.2.path) ∙ h.2.size ∙ w.in-None.is)
+      | in-None+in_ok-writer-in-None w ↦ subst (λ i. IsOpenedBy c.self.inside.tree c.self.inside.files c.args.path.now (flags_view c.args.flags) i.tree c.match-found.writer) (sym w.self-inside-is) (subst (λ x. IsOpenedBy c.self.inside.tree c.self.inside.files c.args.path.now (flags_view c.args.flags) w.writer_of_new_file-answer.new.tree x) (sym w.writer-is)
+          (opened_new c.self.inside.tree c.check_open_writer.new.tree w.writer_of_new_file-answer.new.tree c.self.inside.files c.args.path.now (flags_view c.args.flags) _ c.in-Ok.owned c.self.invariant.ready h.0 h.1 c.requires c.in-Ok.ensures.path (ap (λ p. file_size_of_node (tree_view c.self.inside.tree p)) (c.in-Ok.ensures.path ∙ sym h.2.path) ∙ h.2.size ∙ w.in-None.is)
           (w.in_ok-writer-in-None.ensures.made c.args.path.now (flags_view c.args.flags) (sym c.in-Ok.ensures.path) c.requires).0 w.in_ok-writer-in-None.ensures.begun))
     ] in
     let room = (room_made c.self.inside.files c.make_room.new.self c.in-Ok-make_room.number (no_writer c.self.inside.tree c.self.inside.files c.args.path.now (flags_view c.args.flags) c.requires c.in_ok-found.ensures.1) c.in-Ok-make_room.ensures.number c.in-Ok-make_room.ensures.room) in
@@ -129,11 +129,11 @@ returns g c =
     let stay : c.match-found.self-inside.files ≡ c.make_room.new.self = elim c.match-found.branch [ in-Some+in_ok-writer-in-Some w ↦ ap (λ i. i.files) w.self-inside-is | in-None+in_ok-writer-in-None w ↦ ap (λ i. i.files) w.self-inside-is ] in
     let h = c.in_ok-found.ensures in
     let opened : IsOpenedBy c.self.inside.tree c.self.inside.files c.args.path.now (flags_view c.args.flags) c.match-found.self-inside.tree c.match-found.writer = elim c.match-found.branch [
-      | in-Some+in_ok-writer-in-Some w ↦ subst (λ i. IsOpenedBy c.self.inside.tree c.self.inside.files c.args.path.now (flags_view c.args.flags) i.tree c.match-found.writer) (sym w.self-inside-is) (subst (λ x. IsOpenedBy c.self.inside.tree c.self.inside.files c.args.path.now (flags_view c.args.flags) w.begin_existing-answer.new.tree x) (sym w.writer-is)
-          (opened_there c.self.inside.tree c.check_open_writer.new.tree w.begin_existing-answer.new.tree c.self.inside.files c.args.path.now (flags_view c.args.flags) _ c.in-Ok.owned w.in-Some.size c.self.invariant.ready h.0 h.1 c.requires c.in-Ok.ensures.path (ap (λ p. node_size (tree_view c.self.inside.tree p)) (c.in-Ok.ensures.path ∙ sym h.2.path) ∙ h.2.size ∙ w.in-Some.is)
+      | in-Some+in_ok-writer-in-Some w ↦ subst (λ i. IsOpenedBy c.self.inside.tree c.self.inside.files c.args.path.now (flags_view c.args.flags) i.tree c.match-found.writer) (sym w.self-inside-is) (subst (λ x. IsOpenedBy c.self.inside.tree c.self.inside.files c.args.path.now (flags_view c.args.flags) w.writer_of_existing_file-answer.new.tree x) (sym w.writer-is)
+          (opened_there c.self.inside.tree c.check_open_writer.new.tree w.writer_of_existing_file-answer.new.tree c.self.inside.files c.args.path.now (flags_view c.args.flags) _ c.in-Ok.owned w.in-Some.size c.self.invariant.ready h.0 h.1 c.requires c.in-Ok.ensures.path (ap (λ p. file_size_of_node (tree_view c.self.inside.tree p)) (c.in-Ok.ensures.path ∙ sym h.2.path) ∙ h.2.size ∙ w.in-Some.is)
           w.in_ok-writer-in-Some.ensures.recovered w.in_ok-writer-in-Some.ensures.begun))
-      | in-None+in_ok-writer-in-None w ↦ subst (λ i. IsOpenedBy c.self.inside.tree c.self.inside.files c.args.path.now (flags_view c.args.flags) i.tree c.match-found.writer) (sym w.self-inside-is) (subst (λ x. IsOpenedBy c.self.inside.tree c.self.inside.files c.args.path.now (flags_view c.args.flags) w.begin_new-answer.new.tree x) (sym w.writer-is)
-          (opened_new c.self.inside.tree c.check_open_writer.new.tree w.begin_new-answer.new.tree c.self.inside.files c.args.path.now (flags_view c.args.flags) _ c.in-Ok.owned c.self.invariant.ready h.0 h.1 c.requires c.in-Ok.ensures.path (ap (λ p. node_size (tree_view c.self.inside.tree p)) (c.in-Ok.ensures.path ∙ sym h.2.path) ∙ h.2.size ∙ w.in-None.is)
+      | in-None+in_ok-writer-in-None w ↦ subst (λ i. IsOpenedBy c.self.inside.tree c.self.inside.files c.args.path.now (flags_view c.args.flags) i.tree c.match-found.writer) (sym w.self-inside-is) (subst (λ x. IsOpenedBy c.self.inside.tree c.self.inside.files c.args.path.now (flags_view c.args.flags) w.writer_of_new_file-answer.new.tree x) (sym w.writer-is)
+          (opened_new c.self.inside.tree c.check_open_writer.new.tree w.writer_of_new_file-answer.new.tree c.self.inside.files c.args.path.now (flags_view c.args.flags) _ c.in-Ok.owned c.self.invariant.ready h.0 h.1 c.requires c.in-Ok.ensures.path (ap (λ p. file_size_of_node (tree_view c.self.inside.tree p)) (c.in-Ok.ensures.path ∙ sym h.2.path) ∙ h.2.size ∙ w.in-None.is)
           (w.in_ok-writer-in-None.ensures.made c.args.path.now (flags_view c.args.flags) (sym c.in-Ok.ensures.path) c.requires).0 w.in_ok-writer-in-None.ensures.begun))
     ] in
     let room = (room_made c.self.inside.files c.make_room.new.self c.in-Ok-make_room.number (no_writer c.self.inside.tree c.self.inside.files c.args.path.now (flags_view c.args.flags) c.requires c.in_ok-found.ensures.1) c.in-Ok-make_room.ensures.number c.in-Ok-make_room.ensures.room) in
@@ -147,23 +147,23 @@ returns g c =
     ] in
     changed_call c.self.inside.tree c.self.inside.files _ (ops.Open c.args.path.now (flags_view c.args.flags)) ops.Opened (Ok c.in-Ok-make_room.number) _ c.self.view_is c.self.invariant reported refl refl
     (elim c.match-found.branch [
-      | in-Some+in_ok-writer-in-Some w ↦ subst (λ i. LeavesOthers (system_state_of c.args.self.now) (ops.Open c.args.path.now (flags_view c.args.flags)) (system_state_of (session_view_with i.tree []))) (sym w.self-inside-is)
-          (begun_others c.self.inside.tree c.check_open_writer.new.tree w.begin_existing-answer.new.tree c.self.inside.files _ (ops.Open c.args.path.now (flags_view c.args.flags)) c.self.view_is c.self.invariant.ready h.0 w.in_ok-writer-in-Some.ensures.recovered)
-      | in-None+in_ok-writer-in-None w ↦ subst (λ i. LeavesOthers (system_state_of c.args.self.now) (ops.Open c.args.path.now (flags_view c.args.flags)) (system_state_of (session_view_with i.tree []))) (sym w.self-inside-is)
+      | in-Some+in_ok-writer-in-Some w ↦ subst (λ i. LeavesBlocksOfOthersAlone (system_state_of c.args.self.now) (ops.Open c.args.path.now (flags_view c.args.flags)) (system_state_of (session_view_with_files_view i.tree []))) (sym w.self-inside-is)
+          (begun_others c.self.inside.tree c.check_open_writer.new.tree w.writer_of_existing_file-answer.new.tree c.self.inside.files _ (ops.Open c.args.path.now (flags_view c.args.flags)) c.self.view_is c.self.invariant.ready h.0 w.in_ok-writer-in-Some.ensures.recovered)
+      | in-None+in_ok-writer-in-None w ↦ subst (λ i. LeavesBlocksOfOthersAlone (system_state_of c.args.self.now) (ops.Open c.args.path.now (flags_view c.args.flags)) (system_state_of (session_view_with_files_view i.tree []))) (sym w.self-inside-is)
           (let made = w.in_ok-writer-in-None.ensures.made c.args.path.now (flags_view c.args.flags) (sym c.in-Ok.ensures.path) c.requires in
-          rest_others c.self.inside.tree c.check_open_writer.new.tree w.begin_new-answer.new.tree c.self.inside.files _ (ops.Open c.args.path.now (flags_view c.args.flags)) c.self.view_is c.self.invariant.ready h.0 made.0.sound made.1)
+          rest_others c.self.inside.tree c.check_open_writer.new.tree w.writer_of_new_file-answer.new.tree c.self.inside.files _ (ops.Open c.args.path.now (flags_view c.args.flags)) c.self.view_is c.self.invariant.ready h.0 made.0.sound made.1)
     ])
-    (answer_ends (session_view_of c.self.inside.tree c.self.inside.files) _ (ops.Open c.args.path.now (flags_view c.args.flags)) (ops.Opened c.in-Ok-make_room.number) _ c.self.view_is h.1 calm)
+    (answer_ends (session_view_of_tree_and_files c.self.inside.tree c.self.inside.files) _ (ops.Open c.args.path.now (flags_view c.args.flags)) (ops.Opened c.in-Ok-make_room.number) _ c.self.view_is h.1 calm)
     (writer_opened c.self.inside.tree c.match-found.self-inside.tree c.self.inside.files c.put_back.new.self _ c.args.path.now (flags_view c.args.flags) c.match-found.writer c.in-Ok-make_room.number c.self.view_is opened c.requires (no_writer c.self.inside.tree c.self.inside.files c.args.path.now (flags_view c.args.flags) c.requires c.in_ok-found.ensures.1) c.in-Ok-make_room.ensures.number
     (c.put_back.ensures ∙ ap (λ xs. set xs c.in-Ok-make_room.number (Some (file.Writing c.match-found.writer))) stay ∙ room.filled c.match-found.writer))
     (elim c.match-found.branch [
-      | in-Some+in_ok-writer-in-Some w ↦ subst (λ i. SurvivesStops (system_state_of c.args.self.now) (ops.Open c.args.path.now (flags_view c.args.flags)) (system_state_of (session_view_with i.tree []))) (sym w.self-inside-is)
-          (opened_left c.self.inside.tree c.check_open_writer.new.tree w.begin_existing-answer.new.tree c.self.inside.files _ c.args.path.now (flags_view c.args.flags) c.in-Ok.owned _ c.self.view_is c.self.invariant.ready
-          (opening_keeps c.self.inside.tree c.check_open_writer.new.tree c.self.inside.files c.args.path.now (flags_view c.args.flags) c.self.invariant.ready h.0 h.1 c.requires) h.1 c.in-Ok.ensures.path (ap (λ p. node_size (tree_view c.self.inside.tree p)) (c.in-Ok.ensures.path ∙ sym h.2.path) ∙ h.2.size ∙ w.in-Some.is)
-          (w.in_ok-writer-in-Some.ensures.recovered.calls, w.in_ok-writer-in-Some.ensures.recovered.called) w.begin_existing-answer.ensures.survives)
-      | in-None+in_ok-writer-in-None w ↦ subst (λ i. SurvivesStops (system_state_of c.args.self.now) (ops.Open c.args.path.now (flags_view c.args.flags)) (system_state_of (session_view_with i.tree []))) (sym w.self-inside-is)
+      | in-Some+in_ok-writer-in-Some w ↦ subst (λ i. IsOperationSurvivingStops (system_state_of c.args.self.now) (ops.Open c.args.path.now (flags_view c.args.flags)) (system_state_of (session_view_with_files_view i.tree []))) (sym w.self-inside-is)
+          (opened_left c.self.inside.tree c.check_open_writer.new.tree w.writer_of_existing_file-answer.new.tree c.self.inside.files _ c.args.path.now (flags_view c.args.flags) c.in-Ok.owned _ c.self.view_is c.self.invariant.ready
+          (opening_keeps c.self.inside.tree c.check_open_writer.new.tree c.self.inside.files c.args.path.now (flags_view c.args.flags) c.self.invariant.ready h.0 h.1 c.requires) h.1 c.in-Ok.ensures.path (ap (λ p. file_size_of_node (tree_view c.self.inside.tree p)) (c.in-Ok.ensures.path ∙ sym h.2.path) ∙ h.2.size ∙ w.in-Some.is)
+          (w.in_ok-writer-in-Some.ensures.recovered.calls, w.in_ok-writer-in-Some.ensures.recovered.called) w.writer_of_existing_file-answer.ensures.survives)
+      | in-None+in_ok-writer-in-None w ↦ subst (λ i. IsOperationSurvivingStops (system_state_of c.args.self.now) (ops.Open c.args.path.now (flags_view c.args.flags)) (system_state_of (session_view_with_files_view i.tree []))) (sym w.self-inside-is)
           (let made = (w.in_ok-writer-in-None.ensures.made c.args.path.now (flags_view c.args.flags) (sym c.in-Ok.ensures.path) c.requires).0 in
-          created_left c.self.inside.tree c.check_open_writer.new.tree w.begin_new-answer.new.tree c.self.inside.files _ c.args.path.now (flags_view c.args.flags) c.in-Ok.owned c.self.view_is c.self.invariant.ready
-          (opening_keeps c.self.inside.tree c.check_open_writer.new.tree c.self.inside.files c.args.path.now (flags_view c.args.flags) c.self.invariant.ready h.0 h.1 c.requires) h.1 c.requires c.in-Ok.ensures.path (ap (λ p. node_size (tree_view c.self.inside.tree p)) (c.in-Ok.ensures.path ∙ sym h.2.path) ∙ h.2.size ∙ w.in-None.is)
-          (made.calls, made.called) w.begin_new-answer.ensures.survives)
+          created_left c.self.inside.tree c.check_open_writer.new.tree w.writer_of_new_file-answer.new.tree c.self.inside.files _ c.args.path.now (flags_view c.args.flags) c.in-Ok.owned c.self.view_is c.self.invariant.ready
+          (opening_keeps c.self.inside.tree c.check_open_writer.new.tree c.self.inside.files c.args.path.now (flags_view c.args.flags) c.self.invariant.ready h.0 h.1 c.requires) h.1 c.requires c.in-Ok.ensures.path (ap (λ p. file_size_of_node (tree_view c.self.inside.tree p)) (c.in-Ok.ensures.path ∙ sym h.2.path) ∙ h.2.size ∙ w.in-None.is)
+          (made.calls, made.called) w.writer_of_new_file-answer.ensures.survives)
     ])

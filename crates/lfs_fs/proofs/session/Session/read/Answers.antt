@@ -2,11 +2,11 @@ use Rattle.std.proofs.Common.{◌∙◌, ◌+◌, refl, sym, ap, arith}
 use Rattle.std.specs.Option.{option_map}
 use Rattle.lfs_device.specs.declared.error.Error.TheVariants as error
 use Rattle.lfs_model.specs.Operations as ops
-use Rattle.lfs_model.specs.Session.{file_of, put_file}
-use Rattle.lfs_model.specs.Effects.{moved_to}
-use Rattle.lfs_fs.specs.FileView.{open_file_at, files_view, reader_view, written_paths}
-use Rattle.lfs_fs.specs.SessionView.{IsReaderOf, session_view_of}
-use Rattle.lfs_fs.specs.Replies.{reply_in}
+use Rattle.lfs_model.specs.Session.{open_file_of, put_file}
+use Rattle.lfs_model.specs.Effects.{open_file_at_position}
+use Rattle.lfs_fs.specs.FileView.{open_file_at, open_files_view, reader_view, paths_of_writers}
+use Rattle.lfs_fs.specs.SessionView.{IsReaderApartFromWriters, session_view_of_tree_and_files}
+use Rattle.lfs_fs.specs.Replies.{reply_from_result}
 use Rattle.lfs_fs.proofs.OpenReaders.{one_of_all}
 use Rattle.lfs_fs.proofs.Answered.{asked_ready, files_asked, sound_by}
 use Rattle.lfs_fs.proofs.Errors.{given_on}
@@ -20,51 +20,51 @@ use Rattle.lfs_fs.proofs.Ending.{answer_ends, broken_ends, refused_ends}
 use Rattle.lfs_fs.proofs.DeviceLaws.{reported_asked}
 use Rattle.lfs_fs.proofs.session.Session.read.Goals as goal
 
-pub read_from-requires-clause-kept : goal.read_from-requires-clause-kept
-read_from-requires-clause-kept g c =
+pub bytes_for_reader-requires-clause-kept : goal.bytes_for_reader-requires-clause-kept
+bytes_for_reader-requires-clause-kept g c =
     let fs = c.self.inside.files in
-    (written_paths fs, one_of_all (IsReaderOf c.self.inside.tree.pairs (written_paths fs)) fs c.args.fd c.in-Some.reader.now c.in-Some.ensures (c.self.invariant.ready (sym c.if-has_failed.ensures)).read)
+    (paths_of_writers fs, one_of_all (IsReaderApartFromWriters c.self.inside.tree.pairs (paths_of_writers fs)) fs c.args.fd c.in-Some.reader.now c.in-Some.ensures (c.self.invariant.ready (sym c.if-has_failed.ensures)).read)
 
 pub returns-then-has_failed : goal.returns-then-has_failed
 returns-then-has_failed g c =
     kept_asking c.self.inside.tree c.self.inside.files _ (ops.Read c.args.fd c.args.count) _ c.self.view_is c.self.invariant.ready (λ s. refl) refl
-    (refused_ends (session_view_of c.self.inside.tree c.self.inside.files) _ (ops.Read c.args.fd c.args.count) ops.Failed c.self.view_is (failed_by (session_view_of c.self.inside.tree c.self.inside.files) (ops.Read c.args.fd c.args.count) c.if-has_failed.ensures))
-    (refused_kept (session_view_of c.self.inside.tree c.self.inside.files) _ (ops.Read c.args.fd c.args.count) error.Failed c.self.view_is (sound_by c.self.inside.tree c.self.inside.files c.self.invariant.ready) refl (failed_by (session_view_of c.self.inside.tree c.self.inside.files) (ops.Read c.args.fd c.args.count) c.if-has_failed.ensures))
+    (refused_ends (session_view_of_tree_and_files c.self.inside.tree c.self.inside.files) _ (ops.Read c.args.fd c.args.count) ops.Failed c.self.view_is (failed_by (session_view_of_tree_and_files c.self.inside.tree c.self.inside.files) (ops.Read c.args.fd c.args.count) c.if-has_failed.ensures))
+    (refused_kept (session_view_of_tree_and_files c.self.inside.tree c.self.inside.files) _ (ops.Read c.args.fd c.args.count) error.Failed c.self.view_is (sound_by c.self.inside.tree c.self.inside.files c.self.invariant.ready) refl (failed_by (session_view_of_tree_and_files c.self.inside.tree c.self.inside.files) (ops.Read c.args.fd c.args.count) c.if-has_failed.ensures))
 
 pub returns-in_default : goal.returns-in_default
 returns-in_default g c =
     kept_asking c.self.inside.tree c.self.inside.files _ (ops.Read c.args.fd c.args.count) _ c.self.view_is c.self.invariant.ready (λ s. refl) refl
-    (refused_ends (session_view_of c.self.inside.tree c.self.inside.files) _ (ops.Read c.args.fd c.args.count) ops.BadFile c.self.view_is (no_reader (session_view_of c.self.inside.tree c.self.inside.files) c.args.fd c.args.count c.if-has_failed.ensures (none_reader c.self.inside.tree c.self.inside.files c.args.fd c.in_default.ensures)))
-    (refused_kept (session_view_of c.self.inside.tree c.self.inside.files) _ (ops.Read c.args.fd c.args.count) error.BadFile c.self.view_is (sound_by c.self.inside.tree c.self.inside.files c.self.invariant.ready) refl
-    (no_reader (session_view_of c.self.inside.tree c.self.inside.files) c.args.fd c.args.count c.if-has_failed.ensures (none_reader c.self.inside.tree c.self.inside.files c.args.fd c.in_default.ensures)))
+    (refused_ends (session_view_of_tree_and_files c.self.inside.tree c.self.inside.files) _ (ops.Read c.args.fd c.args.count) ops.BadFile c.self.view_is (no_reader (session_view_of_tree_and_files c.self.inside.tree c.self.inside.files) c.args.fd c.args.count c.if-has_failed.ensures (none_reader c.self.inside.tree c.self.inside.files c.args.fd c.in_default.ensures)))
+    (refused_kept (session_view_of_tree_and_files c.self.inside.tree c.self.inside.files) _ (ops.Read c.args.fd c.args.count) error.BadFile c.self.view_is (sound_by c.self.inside.tree c.self.inside.files c.self.invariant.ready) refl
+    (no_reader (session_view_of_tree_and_files c.self.inside.tree c.self.inside.files) c.args.fd c.args.count c.if-has_failed.ensures (none_reader c.self.inside.tree c.self.inside.files c.args.fd c.in_default.ensures)))
 
 pub returns-in_err-bytes : goal.returns-in_err-bytes
 returns-in_err-bytes g c =
     asking_call c.self.inside.tree c.self.inside.files _ (ops.Read c.args.fd c.args.count) _ _ c.self.view_is c.self.invariant.ready (λ s. refl) (λ k. absurd (cc)) (asks_not _ _ _ _ refl)
-    (broken_ends (session_view_of c.self.inside.tree c.self.inside.files) _ (ops.Read c.args.fd c.args.count) (λ v. ops.Bytes v.items) _ c.from_residual.result _ c.self.view_is
-    (a_reader (session_view_of c.self.inside.tree c.self.inside.files) c.args.fd c.args.count (reader_view c.in-Some.reader.now) c.if-has_failed.ensures (some_reader c.self.inside.tree c.self.inside.files c.args.fd c.in-Some.reader.now c.in-Some.ensures)) refl c.in_err-bytes.ensures.errors.errors (given_on _ c.from_residual.result c.from_residual.ensures.1))
-    (files_asked c.args.self.now (ops.Read c.args.fd c.args.count) (reply_in (λ v. ops.Bytes v.items) c.from_residual.result) c.self.inside.tree c.read_from.new.tree c.self.inside.files (λ works. absurd (let k = sym c.in_err-bytes.ensures.broken.failed ∙ works in cc))
-    (read_fails (session_view_of c.self.inside.tree c.self.inside.files) _ (ops.Read c.args.fd c.args.count) (λ v. ops.Bytes v.items) _ c.read_from.new.tree c.from_residual.result c.self.view_is c.if-has_failed.ensures c.in_err-bytes.ensures.broken c.in_err-bytes.ensures.errors
+    (broken_ends (session_view_of_tree_and_files c.self.inside.tree c.self.inside.files) _ (ops.Read c.args.fd c.args.count) (λ v. ops.Bytes v.items) _ c.from_residual.result _ c.self.view_is
+    (a_reader (session_view_of_tree_and_files c.self.inside.tree c.self.inside.files) c.args.fd c.args.count (reader_view c.in-Some.reader.now) c.if-has_failed.ensures (some_reader c.self.inside.tree c.self.inside.files c.args.fd c.in-Some.reader.now c.in-Some.ensures)) refl c.in_err-bytes.ensures.errors.errors (given_on _ c.from_residual.result c.from_residual.ensures.1))
+    (files_asked c.args.self.now (ops.Read c.args.fd c.args.count) (reply_from_result (λ v. ops.Bytes v.items) c.from_residual.result) c.self.inside.tree c.bytes_for_reader.new.tree c.self.inside.files (λ works. absurd (let k = sym c.in_err-bytes.ensures.broken.failed ∙ works in cc))
+    (read_fails (session_view_of_tree_and_files c.self.inside.tree c.self.inside.files) _ (ops.Read c.args.fd c.args.count) (λ v. ops.Bytes v.items) _ c.bytes_for_reader.new.tree c.from_residual.result c.self.view_is c.if-has_failed.ensures c.in_err-bytes.ensures.broken c.in_err-bytes.ensures.errors
     (given_on _ c.from_residual.result c.from_residual.ensures.1)))
-    (only_read (session_view_of c.self.inside.tree c.self.inside.files) _ (ops.Read c.args.fd c.args.count) c.read_from.new.tree c.self.view_is (sound_by c.self.inside.tree c.self.inside.files c.self.invariant.ready) (c.in_err-bytes.ensures.broken.reads))
+    (only_read (session_view_of_tree_and_files c.self.inside.tree c.self.inside.files) _ (ops.Read c.args.fd c.args.count) c.bytes_for_reader.new.tree c.self.view_is (sound_by c.self.inside.tree c.self.inside.files c.self.invariant.ready) (c.in_err-bytes.ensures.broken.reads))
 
 pub invariant_of-self-2 : goal.invariant_of-self-2
 invariant_of-self-2 g c = record {
   ready =
-      moved_ready c.read_from.new.tree c.self.inside.files c.seek.new.self c.args.fd (c.in-Some.reader.now.position + c.len.result)
-      (asked_ready c.self.inside.tree c.read_from.new.tree c.self.inside.files c.self.invariant.ready c.in_ok-bytes.ensures.asked) c.seek.ensures;
-  reported = reported_asked c.self.inside.tree c.read_from.new.tree c.self.invariant.reported c.in_ok-bytes.ensures.asked;
+      moved_ready c.bytes_for_reader.new.tree c.self.inside.files c.seek.new.self c.args.fd (c.in-Some.reader.now.position + c.len.result)
+      (asked_ready c.self.inside.tree c.bytes_for_reader.new.tree c.self.inside.files c.self.invariant.ready c.in_ok-bytes.ensures.asked) c.seek.ensures;
+  reported = reported_asked c.self.inside.tree c.bytes_for_reader.new.tree c.self.invariant.reported c.in_ok-bytes.ensures.asked;
 }
 
 pub returns : goal.returns
 returns g c =
     asking_call c.self.inside.tree c.self.inside.files _ (ops.Read c.args.fd c.args.count) _ _ c.self.view_is c.self.invariant.ready (λ s. refl) (λ k. absurd (cc)) (asks_not _ _ _ _ refl)
-    (answer_ends (session_view_of c.self.inside.tree c.self.inside.files) _ (ops.Read c.args.fd c.args.count) (ops.Bytes c.in_ok-bytes.bytes.items) _ c.self.view_is
-    (a_reader (session_view_of c.self.inside.tree c.self.inside.files) c.args.fd c.args.count (reader_view c.in-Some.reader.now) c.if-has_failed.ensures (some_reader c.self.inside.tree c.self.inside.files c.args.fd c.in-Some.reader.now c.in-Some.ensures)) c.in_ok-bytes.ensures.asked.no_fault)
-    (read_answers (session_view_of c.self.inside.tree c.self.inside.files) _ c.args.fd c.args.count (reader_view c.in-Some.reader.now) c.read_from.new.tree (files_view c.read_from.new.tree c.seek.new.self) c.in_ok-bytes.bytes.items (c.in-Some.reader.now.position + c.len.result)
+    (answer_ends (session_view_of_tree_and_files c.self.inside.tree c.self.inside.files) _ (ops.Read c.args.fd c.args.count) (ops.Bytes c.in_ok-bytes.bytes.items) _ c.self.view_is
+    (a_reader (session_view_of_tree_and_files c.self.inside.tree c.self.inside.files) c.args.fd c.args.count (reader_view c.in-Some.reader.now) c.if-has_failed.ensures (some_reader c.self.inside.tree c.self.inside.files c.args.fd c.in-Some.reader.now c.in-Some.ensures)) c.in_ok-bytes.ensures.asked.no_fault)
+    (read_answers (session_view_of_tree_and_files c.self.inside.tree c.self.inside.files) _ c.args.fd c.args.count (reader_view c.in-Some.reader.now) c.bytes_for_reader.new.tree (open_files_view c.bytes_for_reader.new.tree c.seek.new.self) c.in_ok-bytes.bytes.items (c.in-Some.reader.now.position + c.len.result)
     c.self.view_is (sound_by c.self.inside.tree c.self.inside.files c.self.invariant.ready) c.if-has_failed.ensures c.in_ok-bytes.ensures.asked (some_reader c.self.inside.tree c.self.inside.files c.args.fd c.in-Some.reader.now c.in-Some.ensures)
     c.in_ok-bytes.ensures.bytes
     (omega (arith, c.len.ensures, c.in_ok-bytes.bytes.ok.0))
-    (ap (files_view c.read_from.new.tree) c.seek.ensures ∙ moved_is c.read_from.new.tree c.self.inside.files c.args.fd (c.in-Some.reader.now.position + c.len.result) (reader_there (open_file_at c.self.inside.files c.args.fd) c.in-Some.reader.now c.in-Some.ensures)
-    ∙ ap (λ z. put_file (files_view z c.self.inside.files) c.args.fd (option_map (moved_to (c.in-Some.reader.now.position + c.len.result)) (file_of (files_view z c.self.inside.files) c.args.fd))) c.in_ok-bytes.ensures.asked.same))
-    (only_read (session_view_of c.self.inside.tree c.self.inside.files) _ (ops.Read c.args.fd c.args.count) c.read_from.new.tree c.self.view_is (sound_by c.self.inside.tree c.self.inside.files c.self.invariant.ready) (c.in_ok-bytes.ensures.asked.reads))
+    (ap (open_files_view c.bytes_for_reader.new.tree) c.seek.ensures ∙ moved_is c.bytes_for_reader.new.tree c.self.inside.files c.args.fd (c.in-Some.reader.now.position + c.len.result) (reader_there (open_file_at c.self.inside.files c.args.fd) c.in-Some.reader.now c.in-Some.ensures)
+    ∙ ap (λ z. put_file (open_files_view z c.self.inside.files) c.args.fd (option_map (open_file_at_position (c.in-Some.reader.now.position + c.len.result)) (open_file_of (open_files_view z c.self.inside.files) c.args.fd))) c.in_ok-bytes.ensures.asked.same))
+    (only_read (session_view_of_tree_and_files c.self.inside.tree c.self.inside.files) _ (ops.Read c.args.fd c.args.count) c.bytes_for_reader.new.tree c.self.view_is (sound_by c.self.inside.tree c.self.inside.files c.self.invariant.ready) (c.in_ok-bytes.ensures.asked.reads))

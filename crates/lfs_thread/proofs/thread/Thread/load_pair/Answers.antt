@@ -1,76 +1,76 @@
 use Rattle.std.proofs.Common.{ap, ap₂, sym, subst, ◌∙◌, ◌≡◌, ◌<◌, ◌≤◌, ◌+◌, length}
 use Rattle.std.specs.Prelude.{IsSome, OnOk}
-use Rattle.lfs_device.specs.Shown.{disk_of}
-use Rattle.lfs_model.specs.Cache.{cached}
-use Rattle.lfs_thread.specs.Kept.{IsCurrent, IsKept, State, disk_on, kept_view_on}
+use Rattle.lfs_device.specs.Shown.{disk_of_geometry_and_blocks}
+use Rattle.lfs_model.specs.Cache.{cached_bytes_of_block}
+use Rattle.lfs_thread.specs.Kept.{IsCacheCurrent, IsKeptThreadOnDisk, ThreadView, disk_of_device, kept_thread_of_device}
 use Rattle.lfs_thread.specs.CachedLog.{cached_log, cache_after_load}
 use Rattle.lfs_thread.proofs.CachedLogs.{current_filled, filled_front, filled_there}
 use Rattle.lfs_thread.proofs.Changing.{at_there, kept_read}
 use Rattle.lfs_model.specs.History.{reads}
-use Rattle.lfs_thread.specs.Steps.{HasReported}
+use Rattle.lfs_thread.specs.Steps.{HasReportedIoOrUnwrittenNoMemory}
 use Rattle.lfs_thread.proofs.Reported.{reported_from}
 use Rattle.lfs_thread.proofs.CachedPair.{active_is, active_there, few_reads}
 use Rattle.lfs_thread.proofs.thread.Thread.load_pair.Goals as goal
 
 pub fill-requires : goal.fill-requires
 fill-requires g c =
-    let works = ap (λ (v : State). v.failed) c.self.view_is ∙ c.requires.works in
-    let below = subst (λ (v : State). c.args.index < length v.kept.pairs) (sym c.self.view_is) c.requires.below in
-    let disk = disk_on g.D.BlockDevice c.self.inside.device in
+    let works = ap (λ (v : ThreadView). v.failed) c.self.view_is ∙ c.requires.works in
+    let below = subst (λ (v : ThreadView). c.args.index < length v.kept.pairs) (sym c.self.view_is) c.requires.below in
+    let disk = disk_of_device g.D.BlockDevice c.self.inside.device in
     let a = at_there disk c.self.inside.pairs.items c.args.index c.index.result.now below c.index.ensures in
     active_there disk _ c.self.inside.pairs.items c.self.inside.map c.args.index c.index.result.now a (c.self.invariant works).0 _ (g.met.D.BlockDevice.shape c.self.inside.device).count
 
 pub invariant_of-self : goal.invariant_of-self
 invariant_of-self g c ok =
-    let works = ap (λ (v : State). v.failed) c.self.view_is ∙ c.requires.works in
+    let works = ap (λ (v : ThreadView). v.failed) c.self.view_is ∙ c.requires.works in
     let e = c.fill.ensures in (
-      subst (λ d. IsKept d (g.D.BlockDevice.history c.fill.new.device) c.self.inside.pairs.items c.self.inside.map) (sym (ap₂ disk_of e.device.geometry e.device.same))
+      subst (λ d. IsKeptThreadOnDisk d (g.D.BlockDevice.history c.fill.new.device) c.self.inside.pairs.items c.self.inside.map) (sym (ap₂ disk_of_geometry_and_blocks e.device.geometry e.device.same))
           (kept_read _ _ _ _ c.self.inside.pairs.items c.self.inside.map e.device.reads (c.self.invariant works).0),
-      subst (λ bs. IsCurrent bs c.fill.new.self) (sym e.device.same) (current_filled _ _ _ c.index.result.now.active c.fill.result e.filled e.err (c.self.invariant works).1),
+      subst (λ bs. IsCacheCurrent bs c.fill.new.self) (sym e.device.same) (current_filled _ _ _ c.index.result.now.active c.fill.result e.filled e.err (c.self.invariant works).1),
     )
 
 pub returns-clause-cached_log : goal.returns-clause-cached_log
 returns-clause-cached_log g c =
-    let works = ap (λ (v : State). v.failed) c.self.view_is ∙ c.requires.works in
-    let below = subst (λ (v : State). c.args.index < length v.kept.pairs) (sym c.self.view_is) c.requires.below in
-    let disk = disk_on g.D.BlockDevice c.self.inside.device in
+    let works = ap (λ (v : ThreadView). v.failed) c.self.view_is ∙ c.requires.works in
+    let below = subst (λ (v : ThreadView). c.args.index < length v.kept.pairs) (sym c.self.view_is) c.requires.below in
+    let disk = disk_of_device g.D.BlockDevice c.self.inside.device in
     let a = at_there disk c.self.inside.pairs.items c.args.index c.index.result.now below c.index.ensures in
     let e = c.fill.ensures in
-    let kept = subst (λ d. IsKept d (g.D.BlockDevice.history c.fill.new.device) c.self.inside.pairs.items c.self.inside.map) (sym (ap₂ disk_of e.device.geometry e.device.same))
+    let kept = subst (λ d. IsKeptThreadOnDisk d (g.D.BlockDevice.history c.fill.new.device) c.self.inside.pairs.items c.self.inside.map) (sym (ap₂ disk_of_geometry_and_blocks e.device.geometry e.device.same))
     (kept_read _ _ _ _ c.self.inside.pairs.items c.self.inside.map e.device.reads (c.self.invariant works).0) in
-    subst (λ b. OnOk c.fill.result (IsSome (cached c.fill.new.self b)))
-    (active_is (disk_on g.D.BlockDevice c.fill.new.device) (g.D.BlockDevice.history c.fill.new.device) c.self.inside.pairs.items c.self.inside.map c.args.index c.index.result.now a kept)
+    subst (λ b. OnOk c.fill.result (IsSome (cached_bytes_of_block c.fill.new.self b)))
+    (active_is (disk_of_device g.D.BlockDevice c.fill.new.device) (g.D.BlockDevice.history c.fill.new.device) c.self.inside.pairs.items c.self.inside.map c.args.index c.index.result.now a kept)
     (filled_there _ _ _ c.index.result.now.active c.fill.result e.filled)
 
 pub returns-clause-no_call : goal.returns-clause-no_call
 returns-clause-no_call g c there =
-    let works = ap (λ (v : State). v.failed) c.self.view_is ∙ c.requires.works in
-    let below = subst (λ (v : State). c.args.index < length v.kept.pairs) (sym c.self.view_is) c.requires.below in
-    let disk = disk_on g.D.BlockDevice c.self.inside.device in
+    let works = ap (λ (v : ThreadView). v.failed) c.self.view_is ∙ c.requires.works in
+    let below = subst (λ (v : ThreadView). c.args.index < length v.kept.pairs) (sym c.self.view_is) c.requires.below in
+    let disk = disk_of_device g.D.BlockDevice c.self.inside.device in
     let a = at_there disk c.self.inside.pairs.items c.args.index c.index.result.now below c.index.ensures in
-    let here = subst (λ (v : State). IsSome (cached_log v c.args.index)) (sym c.self.view_is) there in
-    let is = subst (λ b. IsSome (cached c.self.inside.cache b))
+    let here = subst (λ (v : ThreadView). IsSome (cached_log v c.args.index)) (sym c.self.view_is) there in
+    let is = subst (λ b. IsSome (cached_bytes_of_block c.self.inside.cache b))
     (sym (active_is disk (g.D.BlockDevice.history c.self.inside.device) c.self.inside.pairs.items c.self.inside.map c.args.index c.index.result.now a (c.self.invariant works).0)) here in
-    ap (λ d. kept_view_on g.D.BlockDevice d c.self.inside.pairs.items c.self.inside.map) (c.fill.ensures.calls.no_call is) ∙ ap (λ (v : State). v.kept) c.self.view_is
+    ap (λ d. kept_thread_of_device g.D.BlockDevice d c.self.inside.pairs.items c.self.inside.map) (c.fill.ensures.calls.no_call is) ∙ ap (λ (v : ThreadView). v.kept) c.self.view_is
 
 pub returns-clause-few : goal.returns-clause-few
 returns-clause-few g c =
-    subst (λ (v : State). reads (g.D.BlockDevice.history c.fill.new.device) ≤ reads v.kept.history + 1) c.self.view_is
+    subst (λ (v : ThreadView). reads (g.D.BlockDevice.history c.fill.new.device) ≤ reads v.kept.history + 1) c.self.view_is
     (few_reads g.D.BlockDevice _ _ c.self.inside.device c.fill.new.device c.fill.result c.fill.ensures.calls c.fill.ensures.errors)
 
 pub returns-clause-errors : goal.returns-clause-errors
 returns-clause-errors g c =
     let e = c.fill.ensures in
-    subst (λ (v : State). HasReported v.kept (kept_view_on g.D.BlockDevice c.fill.new.device c.self.inside.pairs.items c.self.inside.map) c.fill.result) c.self.view_is
+    subst (λ (v : ThreadView). HasReportedIoOrUnwrittenNoMemory v.kept (kept_thread_of_device g.D.BlockDevice c.fill.new.device c.self.inside.pairs.items c.self.inside.map) c.fill.result) c.self.view_is
     (reported_from g.D.BlockDevice c.self.inside.device c.fill.new.device c.self.inside.pairs.items c.self.inside.pairs.items c.self.inside.map c.self.inside.map c.fill.result (record { errors = e.errors; faults = e.faults; unwritten = λ no. e.device }))
 
 pub returns-clause-recent : goal.returns-clause-recent
 returns-clause-recent g c =
-    let works = ap (λ (v : State). v.failed) c.self.view_is ∙ c.requires.works in
-    let below = subst (λ (v : State). c.args.index < length v.kept.pairs) (sym c.self.view_is) c.requires.below in
-    let disk = disk_on g.D.BlockDevice c.self.inside.device in
+    let works = ap (λ (v : ThreadView). v.failed) c.self.view_is ∙ c.requires.works in
+    let below = subst (λ (v : ThreadView). c.args.index < length v.kept.pairs) (sym c.self.view_is) c.requires.below in
+    let disk = disk_of_device g.D.BlockDevice c.self.inside.device in
     let a = at_there disk c.self.inside.pairs.items c.args.index c.index.result.now below c.index.ensures in
     let kept = (c.self.invariant works).0 in
     let at = active_is disk (g.D.BlockDevice.history c.self.inside.device) c.self.inside.pairs.items c.self.inside.map c.args.index c.index.result.now a kept in
-    subst (λ (v : State). OnOk c.fill.result (c.fill.new.self ≡ cache_after_load v c.args.index)) c.self.view_is
+    subst (λ (v : ThreadView). OnOk c.fill.result (c.fill.new.self ≡ cache_after_load v c.args.index)) c.self.view_is
     (filled_front (g.D.BlockDevice.blocks c.self.inside.device) c.self.inside.cache c.fill.new.self c.index.result.now.active _ c.fill.result at (c.self.invariant works).1 c.fill.ensures.filled)

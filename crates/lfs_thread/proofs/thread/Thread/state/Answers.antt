@@ -1,16 +1,16 @@
 use Rattle.std.proofs.Common.{List, ap, map, ◌∙◌}
 use Rattle.std.specs.List.{fold}
-use Rattle.lfs_model.specs.Slots.{gstate_xor, no_gstate}
+use Rattle.lfs_model.specs.Slots.{gstate_xor, zero_gstate}
 use Rattle.lfs_tag.specs.FieldsView.{move_view}
 use Rattle.lfs_model.specs.Thread.{gstate_of}
-use Rattle.lfs_thread.specs.Kept.{Header, State, disk_on}
+use Rattle.lfs_thread.specs.Kept.{PairHeader, ThreadView, disk_of_device}
 use Rattle.lfs_thread.proofs.GlobalState.{state_is}
 use Rattle.lfs_thread.proofs.thread.Thread.state.Goals as goal
 
 pub returns : goal.returns
 returns g c =
-    let works = ap (λ (v : State). v.failed) c.self.view_is ∙ c.requires.works in
+    let works = ap (λ (v : ThreadView). v.failed) c.self.view_is ∙ c.requires.works in
     let kept = (c.self.invariant works).0 in
-    c.joined_state.ensures ∙ ap (λ (hs : List Header). fold gstate_xor no_gstate (map (λ (p : Header). move_view p.move_state) hs)) c.deref.ensures.value
-    ∙ state_is (disk_on g.D.BlockDevice c.self.inside.device) (g.D.BlockDevice.history c.self.inside.device) c.self.inside.pairs.items kept.each
-    ∙ ap (λ (v : State). gstate_of v.kept.pairs) c.self.view_is
+    c.global_state_of_pairs.ensures ∙ ap (λ (hs : List PairHeader). fold gstate_xor zero_gstate (map (λ (p : PairHeader). move_view p.move_state) hs)) c.deref.ensures.value
+    ∙ state_is (disk_of_device g.D.BlockDevice c.self.inside.device) (g.D.BlockDevice.history c.self.inside.device) c.self.inside.pairs.items kept.each
+    ∙ ap (λ (v : ThreadView). gstate_of v.kept.pairs) c.self.view_is

@@ -3,16 +3,16 @@ use Rattle.std.proofs.lemmas.List.{take_all}
 use Rattle.lfs_tool.specs.Excerpt.{IsBlockExcerpt, padded}
 use Rattle.lfs_tool.proofs.Padded.{cut_excerpt, kept_cut, kept_whole, whole_excerpt}
 use Rattle.lfs_tool.proofs.cutter.Cutter.cut.Goals as goal
-use Rattle.lfs_tool.proofs.cutter.Cutter.cut.Goals.{then-keeps_whole, else-keeps_whole}
+use Rattle.lfs_tool.proofs.cutter.Cutter.cut.Goals.{then-must_keep_whole_block, else-must_keep_whole_block}
 
 pub returns-clause-excerpt : goal.returns-clause-excerpt
 returns-clause-excerpt c =
     let block = c.args.block.now in
     let kept = c.in_ok-bytes.bytes.items in
     let shown = ap₂ padded c.new.ensures.size (ap (λ v. v.items) c.new.ensures.bytes) in
-    subst (IsBlockExcerpt block) (sym shown) (elim c.if-keeps_whole.branch [
-      | then-keeps_whole w ↦ whole_excerpt block kept (c.in_ok-bytes.ensures.items ∙ ap (λ k. take k block) w.len-is ∙ take_all (length block) block (omega arith))
-      | else-keeps_whole w ↦ cut_excerpt block kept (c.in_ok-bytes.ensures.items ∙ ap (λ k. take k block) w.len-is) (omega (arith, c.requires, c.args.self.now.room)) (sym w.if-keeps_whole.ensures.is)
+    subst (IsBlockExcerpt block) (sym shown) (elim c.if-must_keep_whole_block.branch [
+      | then-must_keep_whole_block w ↦ whole_excerpt block kept (c.in_ok-bytes.ensures.items ∙ ap (λ k. take k block) w.len-is ∙ take_all (length block) block (omega arith))
+      | else-must_keep_whole_block w ↦ cut_excerpt block kept (c.in_ok-bytes.ensures.items ∙ ap (λ k. take k block) w.len-is) (omega (arith, c.requires, c.args.self.now.room)) (sym w.if-must_keep_whole_block.ensures.is)
     ])
 
 pub returns-clause-sizes : goal.returns-clause-sizes
@@ -20,8 +20,8 @@ returns-clause-sizes c =
     let block = c.args.block.now in
     let kept = c.in_ok-bytes.bytes.items in (
       c.new.ensures.size,
-      ap (λ v. length v.items) c.new.ensures.bytes ∙ elim c.if-keeps_whole.branch [
-        | then-keeps_whole w ↦ kept_whole block kept (c.in_ok-bytes.ensures.items ∙ ap (λ k. take k block) w.len-is ∙ take_all (length block) block (omega arith)) (sym w.if-keeps_whole.ensures.is)
-        | else-keeps_whole w ↦ kept_cut block kept (c.in_ok-bytes.ensures.items ∙ ap (λ k. take k block) w.len-is) (omega (arith, c.requires, c.args.self.now.room)) (sym w.if-keeps_whole.ensures.is)
+      ap (λ v. length v.items) c.new.ensures.bytes ∙ elim c.if-must_keep_whole_block.branch [
+        | then-must_keep_whole_block w ↦ kept_whole block kept (c.in_ok-bytes.ensures.items ∙ ap (λ k. take k block) w.len-is ∙ take_all (length block) block (omega arith)) (sym w.if-must_keep_whole_block.ensures.is)
+        | else-must_keep_whole_block w ↦ kept_cut block kept (c.in_ok-bytes.ensures.items ∙ ap (λ k. take k block) w.len-is) (omega (arith, c.requires, c.args.self.now.room)) (sym w.if-must_keep_whole_block.ensures.is)
       ],
     )

@@ -1,21 +1,21 @@
 use Rattle.std.proofs.Common.{◌≤◌, ◌+◌, ◌++◌, ◌∷◌, [], subst, sym}
 use Rattle.std.specs.Prelude.{sum_by}
-use Rattle.lfs_model.specs.Frame.{pairs_of_path, parents}
+use Rattle.lfs_model.specs.Frame.{pair_count_of_directory_at, parents}
 use Rattle.lfs_model.specs.History.{reads}
 use Rattle.lfs_tree.specs.TreeState.{TreeState}
-use Rattle.lfs_thread.specs.Kept.{State}
+use Rattle.lfs_thread.specs.Kept.{ThreadView}
 use Rattle.lfs_tree.proofs.Asking.{asking, held, rooted_held}
 use Rattle.lfs_tree.proofs.tree.Tree.look_inside.Goals as goal
 
 pub invariant_of-self : goal.invariant_of-self
 invariant_of-self g c =
-    held c.self.inside.thread c.look_inside_at-inside.new.thread c.self.inside.root c.self.inside.is_writable (rooted_held c.self.inside.thread c.self.inside.root c.self.inside.is_writable c.args.self.now c.self.invariant c.self.view_is c.requires) c.look_inside_at-inside.result c.note_error.new.thread c.note_error.ensures c.look_inside_at-inside.ensures.reading
+    held c.self.inside.thread c.look_inside_at-inside.new.thread c.self.inside.root c.self.inside.is_writable (rooted_held c.self.inside.thread c.self.inside.root c.self.inside.is_writable c.args.self.now c.self.invariant c.self.view_is c.requires) c.look_inside_at-inside.result c.mark_thread_failed_on_error.new.thread c.mark_thread_failed_on_error.ensures c.look_inside_at-inside.ensures.reading
 
 pub returns-clause-asks : goal.returns-clause-asks
 returns-clause-asks g c =
-    asking c.self.inside.thread c.look_inside_at-inside.new.thread c.self.inside.root c.self.inside.is_writable (rooted_held c.self.inside.thread c.self.inside.root c.self.inside.is_writable c.args.self.now c.self.invariant c.self.view_is c.requires) c.args.self.now c.look_inside_at-inside.result c.note_error.new.thread c.self.view_is c.note_error.ensures c.look_inside_at-inside.ensures.reading
+    asking c.self.inside.thread c.look_inside_at-inside.new.thread c.self.inside.root c.self.inside.is_writable (rooted_held c.self.inside.thread c.self.inside.root c.self.inside.is_writable c.args.self.now c.self.invariant c.self.view_is c.requires) c.args.self.now c.look_inside_at-inside.result c.mark_thread_failed_on_error.new.thread c.self.view_is c.mark_thread_failed_on_error.ensures c.look_inside_at-inside.ensures.reading
 
 pub returns-clause-few : goal.returns-clause-few
 returns-clause-few g c =
-    subst (λ (t : State). reads t.kept.history ≤ reads c.args.self.now.history + sum_by (pairs_of_path c.args.self.now.pairs) (parents c.args.path.now ++ c.args.path.now ∷ [])) (sym c.note_error.ensures)
-    (subst (λ (s : TreeState). reads c.look_inside_at-inside.new.thread.kept.history ≤ reads s.history + sum_by (pairs_of_path s.pairs) (parents c.args.path.now ++ c.args.path.now ∷ [])) c.self.view_is c.look_inside_at-inside.ensures.few)
+    subst (λ (t : ThreadView). reads t.kept.history ≤ reads c.args.self.now.history + sum_by (pair_count_of_directory_at c.args.self.now.pairs) (parents c.args.path.now ++ c.args.path.now ∷ [])) (sym c.mark_thread_failed_on_error.ensures)
+    (subst (λ (s : TreeState). reads c.look_inside_at-inside.new.thread.kept.history ≤ reads s.history + sum_by (pair_count_of_directory_at s.pairs) (parents c.args.path.now ++ c.args.path.now ∷ [])) c.self.view_is c.look_inside_at-inside.ensures.few)

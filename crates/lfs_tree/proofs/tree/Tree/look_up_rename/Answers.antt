@@ -1,34 +1,34 @@
 use Rattle.std.proofs.Common.{◌≤◌, ◌+◌, ap, subst, sym, ◌∙◌}
 use Rattle.std.specs.Prelude.{IfOk, IfSome, sum_by}
-use Rattle.lfs_model.specs.Frame.{pairs_of_path}
+use Rattle.lfs_model.specs.Frame.{pair_count_of_directory_at}
 use Rattle.lfs_model.specs.History.{reads}
-use Rattle.lfs_thread.specs.Kept.{State}
-use Rattle.lfs_tree.specs.RootedThreads.{IsRooted}
-use Rattle.lfs_tree.specs.RenamePaths.{AreTargets, directories_of_rename}
+use Rattle.lfs_thread.specs.Kept.{ThreadView}
+use Rattle.lfs_tree.specs.RootedThreads.{IsSoundThreadWithRoot}
+use Rattle.lfs_tree.specs.RenamePaths.{AreRenameTargets, directories_of_rename}
 use Rattle.lfs_tree.specs.TreeState.{TreeState}
 use Rattle.lfs_tree.proofs.Asking.{asking, held, rooted_held}
 use Rattle.lfs_tree.proofs.RenamePaths.{found_since}
 use Rattle.lfs_tree.proofs.tree.Tree.look_up_rename.Goals as goal
 
-pub look_up_both-found-requires : goal.look_up_both-found-requires
-look_up_both-found-requires g c =
-    subst (λ a. IsRooted c.self.inside.thread c.self.inside.root a) (ap (λ (s : TreeState). s.writable) c.self.view_is ∙ c.requires.writable)
+pub look_up_both_rename_paths-found-requires : goal.look_up_both_rename_paths-found-requires
+look_up_both_rename_paths-found-requires g c =
+    subst (λ a. IsSoundThreadWithRoot c.self.inside.thread c.self.inside.root a) (ap (λ (s : TreeState). s.writable) c.self.view_is ∙ c.requires.writable)
     (rooted_held c.self.inside.thread c.self.inside.root c.self.inside.is_writable c.args.self.now c.self.invariant c.self.view_is c.requires.works)
 
 pub invariant_of-self : goal.invariant_of-self
 invariant_of-self g c =
-    held c.self.inside.thread c.look_up_both-found.new.thread c.self.inside.root c.self.inside.is_writable (rooted_held c.self.inside.thread c.self.inside.root c.self.inside.is_writable c.args.self.now c.self.invariant c.self.view_is c.requires.works) c.look_up_both-found.result c.note_error.new.thread c.note_error.ensures c.look_up_both-found.ensures.reading
+    held c.self.inside.thread c.look_up_both_rename_paths-found.new.thread c.self.inside.root c.self.inside.is_writable (rooted_held c.self.inside.thread c.self.inside.root c.self.inside.is_writable c.args.self.now c.self.invariant c.self.view_is c.requires.works) c.look_up_both_rename_paths-found.result c.mark_thread_failed_on_error.new.thread c.mark_thread_failed_on_error.ensures c.look_up_both_rename_paths-found.ensures.reading
 
 pub returns-clause-asks : goal.returns-clause-asks
 returns-clause-asks g c =
-    asking c.self.inside.thread c.look_up_both-found.new.thread c.self.inside.root c.self.inside.is_writable (rooted_held c.self.inside.thread c.self.inside.root c.self.inside.is_writable c.args.self.now c.self.invariant c.self.view_is c.requires.works) c.args.self.now c.look_up_both-found.result c.note_error.new.thread c.self.view_is c.note_error.ensures c.look_up_both-found.ensures.reading
+    asking c.self.inside.thread c.look_up_both_rename_paths-found.new.thread c.self.inside.root c.self.inside.is_writable (rooted_held c.self.inside.thread c.self.inside.root c.self.inside.is_writable c.args.self.now c.self.invariant c.self.view_is c.requires.works) c.args.self.now c.look_up_both_rename_paths-found.result c.mark_thread_failed_on_error.new.thread c.self.view_is c.mark_thread_failed_on_error.ensures c.look_up_both_rename_paths-found.ensures.reading
 
 pub returns-clause-targets : goal.returns-clause-targets
 returns-clause-targets g c =
-    subst (λ (t : State). IfOk c.look_up_both-found.result (λ found. IfSome found.targets (AreTargets t.kept c.args.from.now c.args.to.now))) (sym c.note_error.ensures)
-    (found_since c.self.inside.thread.kept c.look_up_both-found.new.thread.kept c.args.from.now c.args.to.now c.look_up_both-found.result c.look_up_both-found.ensures.reading.only c.look_up_both-found.ensures.targets)
+    subst (λ (t : ThreadView). IfOk c.look_up_both_rename_paths-found.result (λ found. IfSome found.targets (AreRenameTargets t.kept c.args.from.now c.args.to.now))) (sym c.mark_thread_failed_on_error.ensures)
+    (found_since c.self.inside.thread.kept c.look_up_both_rename_paths-found.new.thread.kept c.args.from.now c.args.to.now c.look_up_both_rename_paths-found.result c.look_up_both_rename_paths-found.ensures.reading.only c.look_up_both_rename_paths-found.ensures.targets)
 
 pub returns-clause-few : goal.returns-clause-few
 returns-clause-few g c =
-    subst (λ (t : State). reads t.kept.history ≤ reads c.args.self.now.history + sum_by (pairs_of_path c.args.self.now.pairs) (directories_of_rename c.args.from.now c.args.to.now)) (sym c.note_error.ensures)
-    (subst (λ (s : TreeState). reads c.look_up_both-found.new.thread.kept.history ≤ reads s.history + sum_by (pairs_of_path s.pairs) (directories_of_rename c.args.from.now c.args.to.now)) c.self.view_is c.look_up_both-found.ensures.few)
+    subst (λ (t : ThreadView). reads t.kept.history ≤ reads c.args.self.now.history + sum_by (pair_count_of_directory_at c.args.self.now.pairs) (directories_of_rename c.args.from.now c.args.to.now)) (sym c.mark_thread_failed_on_error.ensures)
+    (subst (λ (s : TreeState). reads c.look_up_both_rename_paths-found.new.thread.kept.history ≤ reads s.history + sum_by (pair_count_of_directory_at s.pairs) (directories_of_rename c.args.from.now c.args.to.now)) c.self.view_is c.look_up_both_rename_paths-found.ensures.few)

@@ -1,7 +1,7 @@
 use Rattle.std.proofs.Common.{refl}
 use Rattle.std.proofs.lemmas.Result.{err_from_is_err_and}
 use Rattle.lfs_model.specs.Operations as ops
-use Rattle.lfs_tree.specs.Permissions.{CanAddImage}
+use Rattle.lfs_tree.specs.Permissions.{CanAddEntryToImage}
 use Rattle.lfs_tree.specs.Calls as call
 use Rattle.lfs_tree.specs.TreeState.{kept_of}
 use Rattle.lfs_tree.proofs.Operated.{plain_mkdir}
@@ -14,20 +14,20 @@ returns-in_err-recover g c =
     let p = err_from_is_err_and c.from_residual.result c.from_residual.ensures.1 in
     recovery_failed c.args.self.now c.recover.new.self (call.Mkdir c.args.path.now) c.recover.result c.from_residual.result _ p.0 c.in_err-recover.was p.1 p.2 c.recover.ensures.does
 
-pub make_at-made-requires-clause-rests : goal.make_at-made-requires-clause-rests
-make_at-made-requires-clause-rests g c = rests_behind c.args.self.now c.recover.new.self c.requires.works c.requires.writable (c.in_ok-recover.ensures.does.done ops.Recover refl) c.in_ok-recover.ensures.settled c.self.inside.thread c.self.inside.root c.self.inside.is_writable c.self.invariant c.self.view_is
+pub make_directory_at-made-requires-clause-rests : goal.make_directory_at-made-requires-clause-rests
+make_directory_at-made-requires-clause-rests g c = rests_behind c.args.self.now c.recover.new.self c.requires.works c.requires.writable (c.in_ok-recover.ensures.does.done ops.Recover refl) c.in_ok-recover.ensures.settled c.self.inside.thread c.self.inside.root c.self.inside.is_writable c.self.invariant c.self.view_is
 
-pub make_at-made-requires-clause-can : goal.make_at-made-requires-clause-can
-make_at-made-requires-clause-can g c =
+pub make_directory_at-made-requires-clause-can : goal.make_directory_at-made-requires-clause-can
+make_directory_at-made-requires-clause-can g c =
     add_after (kept_of c.args.self.now) c.self.inside.thread.kept (settled_here c.args.self.now c.recover.new.self c.requires.works c.requires.writable (c.in_ok-recover.ensures.does.done ops.Recover refl) c.in_ok-recover.ensures.settled c.self.inside.thread c.self.inside.root c.self.inside.is_writable c.self.invariant c.self.view_is) c.args.path.now 4
-    (allowed c.args.self.now c.recover.new.self c.requires.works c.requires.writable (c.in_ok-recover.ensures.does.done ops.Recover refl) c.in_ok-recover.ensures.settled c.self.inside.thread c.self.inside.root c.self.inside.is_writable c.self.invariant c.self.view_is (λ s. CanAddImage s c.args.path.now 4) c.requires)
+    (allowed c.args.self.now c.recover.new.self c.requires.works c.requires.writable (c.in_ok-recover.ensures.does.done ops.Recover refl) c.in_ok-recover.ensures.settled c.self.inside.thread c.self.inside.root c.self.inside.is_writable c.self.invariant c.self.view_is (λ s. CanAddEntryToImage s c.args.path.now 4) c.requires)
 
 pub invariant_of-self : goal.invariant_of-self
 invariant_of-self g c =
     held_noted c.args.self.now c.recover.new.self c.requires.works c.requires.writable (c.in_ok-recover.ensures.does.done ops.Recover refl) c.in_ok-recover.ensures.settled c.self.inside.thread c.self.inside.root c.self.inside.is_writable c.self.invariant c.self.view_is (call.Mkdir c.args.path.now) (plain_mkdir c.args.path.now) c.recover.ensures.does.survives
-    c.make_at-made.new.thread c.note_error.new.thread c.make_at-made.result c.make_at-made.ensures c.note_error.ensures
+    c.make_directory_at-made.new.thread c.mark_thread_failed_on_error.new.thread c.make_directory_at-made.result c.make_directory_at-made.ensures c.mark_thread_failed_on_error.ensures
 
 pub returns : goal.returns
 returns g c =
     operates_noted c.args.self.now c.recover.new.self c.requires.works c.requires.writable (c.in_ok-recover.ensures.does.done ops.Recover refl) c.in_ok-recover.ensures.settled c.self.inside.thread c.self.inside.root c.self.inside.is_writable c.self.invariant c.self.view_is (call.Mkdir c.args.path.now) (plain_mkdir c.args.path.now) c.recover.ensures.does.survives
-    c.make_at-made.new.thread c.note_error.new.thread c.make_at-made.result c.make_at-made.ensures c.note_error.ensures
+    c.make_directory_at-made.new.thread c.mark_thread_failed_on_error.new.thread c.make_directory_at-made.result c.make_directory_at-made.ensures c.mark_thread_failed_on_error.ensures

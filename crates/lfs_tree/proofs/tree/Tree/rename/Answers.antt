@@ -1,7 +1,7 @@
 use Rattle.std.proofs.Common.{ap, refl}
 use Rattle.std.proofs.lemmas.Result.{err_from_is_err_and}
 use Rattle.lfs_model.specs.Operations as ops
-use Rattle.lfs_tree.specs.Permissions.{CanRenameImage}
+use Rattle.lfs_tree.specs.Permissions.{CanRenameInImage}
 use Rattle.lfs_tree.specs.Calls as call
 use Rattle.lfs_tree.specs.TreeState.{kept_of}
 use Rattle.lfs_tree.proofs.Operated.{plain_rename}
@@ -21,7 +21,7 @@ rename_at-renamed-requires-clause-rests g c = rests_behind c.args.self.now c.rec
 pub rename_at-renamed-requires-clause-can : goal.rename_at-renamed-requires-clause-can
 rename_at-renamed-requires-clause-can g c =
     rename_after (kept_of c.args.self.now) c.self.inside.thread.kept (settled_here c.args.self.now c.recover.new.self c.requires.can.works c.requires.can.writable (c.in_ok-recover.ensures.does.done ops.Recover refl) c.in_ok-recover.ensures.settled c.self.inside.thread c.self.inside.root c.self.inside.is_writable c.self.invariant c.self.view_is) c.args.from.now c.args.to.now
-    (allowed c.args.self.now c.recover.new.self c.requires.can.works c.requires.can.writable (c.in_ok-recover.ensures.does.done ops.Recover refl) c.in_ok-recover.ensures.settled c.self.inside.thread c.self.inside.root c.self.inside.is_writable c.self.invariant c.self.view_is (λ s. CanRenameImage s c.args.from.now c.args.to.now) c.requires.can)
+    (allowed c.args.self.now c.recover.new.self c.requires.can.works c.requires.can.writable (c.in_ok-recover.ensures.does.done ops.Recover refl) c.in_ok-recover.ensures.settled c.self.inside.thread c.self.inside.root c.self.inside.is_writable c.self.invariant c.self.view_is (λ s. CanRenameInImage s c.args.from.now c.args.to.now) c.requires.can)
 
 pub rename_at-renamed-requires-clause-known : goal.rename_at-renamed-requires-clause-known
 rename_at-renamed-requires-clause-known g c = known_behind c.args.self.now c.recover.new.self c.self.inside.thread c.args.from.now c.args.to.now c.args.known c.recover.ensures.idle (ap kept_of c.self.view_is) c.requires.known
@@ -29,9 +29,9 @@ rename_at-renamed-requires-clause-known g c = known_behind c.args.self.now c.rec
 pub invariant_of-self : goal.invariant_of-self
 invariant_of-self g c =
     held_noted c.args.self.now c.recover.new.self c.requires.can.works c.requires.can.writable (c.in_ok-recover.ensures.does.done ops.Recover refl) c.in_ok-recover.ensures.settled c.self.inside.thread c.self.inside.root c.self.inside.is_writable c.self.invariant c.self.view_is (call.Rename c.args.from.now c.args.to.now) (plain_rename c.args.from.now c.args.to.now c.requires.apart) c.recover.ensures.does.survives
-    c.rename_at-renamed.new.thread c.note_error.new.thread c.rename_at-renamed.result c.rename_at-renamed.ensures c.note_error.ensures
+    c.rename_at-renamed.new.thread c.mark_thread_failed_on_error.new.thread c.rename_at-renamed.result c.rename_at-renamed.ensures c.mark_thread_failed_on_error.ensures
 
 pub returns : goal.returns
 returns g c =
     operates_noted c.args.self.now c.recover.new.self c.requires.can.works c.requires.can.writable (c.in_ok-recover.ensures.does.done ops.Recover refl) c.in_ok-recover.ensures.settled c.self.inside.thread c.self.inside.root c.self.inside.is_writable c.self.invariant c.self.view_is (call.Rename c.args.from.now c.args.to.now) (plain_rename c.args.from.now c.args.to.now c.requires.apart) c.recover.ensures.does.survives
-    c.rename_at-renamed.new.thread c.note_error.new.thread c.rename_at-renamed.result c.rename_at-renamed.ensures c.note_error.ensures
+    c.rename_at-renamed.new.thread c.mark_thread_failed_on_error.new.thread c.rename_at-renamed.result c.rename_at-renamed.ensures c.mark_thread_failed_on_error.ensures

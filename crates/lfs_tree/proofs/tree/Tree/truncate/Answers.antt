@@ -1,9 +1,9 @@
 use Rattle.std.proofs.Common.{◌∙◌, ◌≤◌, sym, ap, subst}
 use Rattle.std.specs.Prelude.{IfOk}
 use Rattle.lfs_model.specs.Disk.{inline_limit}
-use Rattle.lfs_tree.specs.OpenContents.{CanTruncateOpenFile, IsOver, IsOverFile}
+use Rattle.lfs_tree.specs.OpenContents.{CanTruncateWriterContents, AreWriterContentsOverTreeFile, AreWriterContentsOverKeptFile}
 use Rattle.lfs_tree.specs.TreeState.{TreeState}
-use Rattle.lfs_thread.specs.Kept.{State}
+use Rattle.lfs_thread.specs.Kept.{ThreadView}
 use Rattle.lfs_tree.proofs.Asking.{rooted_held}
 use Rattle.lfs_tree.proofs.BesideWritten.{all_over, can_truncate, held_beside, writing}
 use Rattle.lfs_tree.proofs.tree.Tree.truncate.Goals as goal
@@ -13,21 +13,21 @@ truncate_file-truncated-requires-clause-can g c =
     let held = rooted_held c.self.inside.thread c.self.inside.root c.self.inside.is_writable c.args.self.now c.self.invariant c.self.view_is c.requires.works in
     let size = c.geometry.ensures.block_size ∙ sym (ap (λ (s : TreeState). s.disk.block_size) c.self.view_is) in
     can_truncate c.self.inside.thread.kept c.self.inside.is_writable c.inline_limit-limit.result held.sound (subst (λ n. 1024 ≤ n) size c.geometry.result.valid.no_smaller) (c.inline_limit-limit.ensures ∙ ap inline_limit size)
-    c.self.inside.thread.failed c.args.contents c.args.size (subst (λ (s : TreeState). CanTruncateOpenFile s c.args.contents c.args.size) (sym c.self.view_is) c.requires)
+    c.self.inside.thread.failed c.args.contents c.args.size (subst (λ (s : TreeState). CanTruncateWriterContents s c.args.contents c.args.size) (sym c.self.view_is) c.requires)
 
 pub invariant_of-self : goal.invariant_of-self
 invariant_of-self g c =
     let held = rooted_held c.self.inside.thread c.self.inside.root c.self.inside.is_writable c.args.self.now c.self.invariant c.self.view_is c.requires.works in
-    held_beside c.self.inside.thread c.truncate_file-truncated.new.thread c.self.inside.root c.self.inside.is_writable held c.truncate_file-truncated.ensures.works c.truncate_file-truncated.ensures.leaves c.truncate_file-truncated.result c.note_error.new.thread c.note_error.ensures
+    held_beside c.self.inside.thread c.truncate_file-truncated.new.thread c.self.inside.root c.self.inside.is_writable held c.truncate_file-truncated.ensures.works c.truncate_file-truncated.ensures.leaves c.truncate_file-truncated.result c.mark_thread_failed_on_error.new.thread c.mark_thread_failed_on_error.ensures
 
 pub returns-clause-over : goal.returns-clause-over
 returns-clause-over g c path over =
     let held = rooted_held c.self.inside.thread c.self.inside.root c.self.inside.is_writable c.args.self.now c.self.invariant c.self.view_is c.requires.works in
-    subst (λ (t : State). IfOk c.truncate_file-truncated.result (IsOverFile t.kept path)) (sym c.note_error.ensures)
+    subst (λ (t : ThreadView). IfOk c.truncate_file-truncated.result (AreWriterContentsOverKeptFile t.kept path)) (sym c.mark_thread_failed_on_error.ensures)
     (all_over c.self.inside.thread c.truncate_file-truncated.new.thread c.self.inside.root c.self.inside.is_writable held c.truncate_file-truncated.ensures.works c.truncate_file-truncated.ensures.leaves
-    path c.args.contents _ _ c.truncate_file-truncated.result (subst (λ (s : TreeState). IsOver s path c.args.contents) (sym c.self.view_is) over) c.truncate_file-truncated.ensures.truncated c.truncate_file-truncated.ensures.owned)
+    path c.args.contents _ _ c.truncate_file-truncated.result (subst (λ (s : TreeState). AreWriterContentsOverTreeFile s path c.args.contents) (sym c.self.view_is) over) c.truncate_file-truncated.ensures.truncated c.truncate_file-truncated.ensures.owned)
 
 pub returns-clause-writes : goal.returns-clause-writes
 returns-clause-writes g c =
     let held = rooted_held c.self.inside.thread c.self.inside.root c.self.inside.is_writable c.args.self.now c.self.invariant c.self.view_is c.requires.works in
-    writing c.self.inside.thread c.truncate_file-truncated.new.thread c.self.inside.root c.self.inside.is_writable held c.truncate_file-truncated.ensures.works c.truncate_file-truncated.ensures.leaves c.args.self.now c.truncate_file-truncated.result c.note_error.new.thread c.self.view_is c.note_error.ensures c.truncate_file-truncated.ensures.reports
+    writing c.self.inside.thread c.truncate_file-truncated.new.thread c.self.inside.root c.self.inside.is_writable held c.truncate_file-truncated.ensures.works c.truncate_file-truncated.ensures.leaves c.args.self.now c.truncate_file-truncated.result c.mark_thread_failed_on_error.new.thread c.self.view_is c.mark_thread_failed_on_error.ensures c.truncate_file-truncated.ensures.reports

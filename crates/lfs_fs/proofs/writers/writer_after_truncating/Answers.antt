@@ -1,0 +1,46 @@
+use Rattle.std.proofs.Common.{◌∙◌, Err, ap, refl, subst, sym}
+use Rattle.std.specs.Prelude.{IfErr}
+use Rattle.std.proofs.lemmas.Result.{err_from_is_err_and}
+use Rattle.lfs_tree.specs.TreeState.{IsErrorWithCause}
+use Rattle.lfs_fs.proofs.Questions.{error_either}
+use Rattle.lfs_fs.proofs.Writing.{beside_later, broken_after, can_truncate, has_truncated}
+use Rattle.lfs_fs.proofs.Stopping.{nothing_yet, then_reads}
+use Rattle.lfs_fs.proofs.StoppedCalls.{beside_left}
+use Rattle.lfs_fs.proofs.writers.writer_after_truncating.Goals as goal
+
+pub truncate-requires : goal.truncate-requires
+truncate-requires g c =
+    let k = c.in_ok-contents.ensures in
+    can_truncate c.args.tree.now c.contents_of_writer.new.tree c.args.writer c.args.new_size c.in_ok-contents.contents _ c.requires k.asked k.over refl k.form
+    c.reserved_blocks_suffice_for_calls.ensures.large c.reserved_blocks_suffice_for_calls.ensures.truncate
+
+pub returns-in_err-contents-2-clause-broken : goal.returns-in_err-contents-2-clause-broken
+returns-in_err-contents-2-clause-broken g c = broken_after c.args.tree.now c.contents_of_writer.new.tree c.truncate.new.self c.from_residual-in_err-contents-2.result c.in_ok-contents.ensures.asked c.in_err-contents-2.ensures.writes.broken
+
+pub returns-in_err-contents-2-clause-errors : goal.returns-in_err-contents-2-clause-errors
+returns-in_err-contents-2-clause-errors g c =
+    let p = err_from_is_err_and c.from_residual-in_err-contents-2.result c.from_residual-in_err-contents-2.ensures.1 in
+    subst (λ r. IfErr r (IsErrorWithCause c.args.tree.now c.truncate.new.self)) (sym p.1)
+    (subst (λ r. IfErr r (IsErrorWithCause c.args.tree.now c.truncate.new.self)) (c.in_err-contents-2.was ∙ ap Err (sym p.2))
+    (error_either c.args.tree.now c.contents_of_writer.new.tree c.truncate.new.self c.truncate.result c.in_ok-contents.ensures.asked c.truncate.ensures.writes.errors))
+
+pub returns-clause-written : goal.returns-clause-written
+returns-clause-written g c =
+    let k = c.in_ok-contents.ensures in
+    let l = c.in_ok-contents-2.ensures in
+    has_truncated c.args.tree.now c.contents_of_writer.new.tree c.truncate.new.self c.args.writer c.args.new_size c.is_nonsequential_after_resize-has_turned.result c.last_end_after_resize-last_end.result c.in_ok-contents.contents c.in_ok-contents-2.contents _
+    c.requires k.asked k.over refl k.form k.bytes c.forms_fit_writer.ensures.truncated l.writes.beside l.over l.truncated.bytes l.truncated.form c.is_nonsequential_after_resize-has_turned.ensures c.last_end_after_resize-last_end.ensures
+
+pub returns-clause-beside : goal.returns-clause-beside
+returns-clause-beside g c = beside_later c.args.tree.now c.contents_of_writer.new.tree c.truncate.new.self c.in_ok-contents.ensures.asked c.in_ok-contents-2.ensures.writes.beside
+
+pub returns-in_err-contents-clause-survives : goal.returns-in_err-contents-clause-survives
+returns-in_err-contents-clause-survives g c sound = then_reads c.args.tree.now c.args.tree.now c.contents_of_writer.new.tree.history _ (nothing_yet c.args.tree.now sound c.requires.can.written.writable) c.in_err-contents.ensures.broken.reads
+
+pub returns-in_err-contents-2-clause-survives : goal.returns-in_err-contents-2-clause-survives
+returns-in_err-contents-2-clause-survives g c sound =
+    beside_left c.args.tree.now c.contents_of_writer.new.tree c.truncate.new.self c.in_err-contents-2.ensures.writes.broken.calls sound c.requires.can.written.writable c.in_ok-contents.ensures.asked c.in_err-contents-2.ensures.writes.broken.called c.truncate.ensures.writes.survives
+
+pub returns-clause-survives : goal.returns-clause-survives
+returns-clause-survives g c sound =
+    beside_left c.args.tree.now c.contents_of_writer.new.tree c.truncate.new.self c.in_ok-contents-2.ensures.writes.beside.calls sound c.requires.can.written.writable c.in_ok-contents.ensures.asked c.in_ok-contents-2.ensures.writes.beside.called c.truncate.ensures.writes.survives

@@ -1,7 +1,0 @@
-use Rattle.std.proofs.Common.{◌≡◌, map, take}
-use Rattle.lfs_tag.specs.ContentView.{slot_view}
-use Rattle.lfs_lookup.specs.Items.{items_view, shapes_among}
-use Rattle.lfs_lookup.proofs.items.items_among.Given as goal
-
-abbrev pub invariant-loop-slot : goal.invariant-loop-slot
-invariant-loop-slot l = items_view l.items.items ≡ shapes_among (map slot_view (take l.slot-index l.slots))

@@ -1,0 +1,81 @@
+use Rattle.std.proofs.Common.{ℕ, ◌≡◌, ◌≤◌, ◌+◌, Bool, true, false, List, [], ◌∷◌, length, Option, Some, refl, sym, ap, subst, arith, ◌∙◌, append-nil}
+use Rattle.std.proofs.lemmas.Bool.{lt-ltb}
+use Rattle.std.specs.Prelude.{codes}
+use Rattle.std.proofs.lemmas.List.{append_cancel_right}
+use Rattle.lfs_model.specs.Disk.{block_count}
+use Rattle.lfs_model.specs.Content.{content_of_pair_at}
+use Rattle.lfs_model.specs.History.{programs}
+use Rattle.lfs_model.specs.Tree.{Tree}
+use Rattle.lfs_model.specs.Shown.{tree_on_disk, used_blocks}
+use Rattle.lfs_model.specs.Operations as ops
+use Rattle.lfs_model.specs.Operations.{Reply}
+use Rattle.lfs_model.specs.Run.{IsSessionStep}
+use Rattle.lfs_model.specs.Fresh.{empty_tree}
+use Rattle.lfs_model.specs.Session.{DiskSummary, is_entry_over_charge_limit, lacks_free_blocks}
+use Rattle.lfs_model.specs.State.{Healthy, SessionHealth, answered, mounted}
+use Rattle.lfs_model.specs.Thread.{AreLinkedByTails, Pair, anchor_pair_address}
+use Rattle.lfs_model.specs.examples.Images.{large_fresh_image, small_fresh_image}
+use Rattle.lfs_model.specs.examples.Runs.{large_fresh_system_state, system_state_after_open, reads_of_one_block}
+use Rattle.lfs_model.proofs.Uniqueness.{one_thread}
+use Rattle.lfs_model.proofs.Fresh.{shows}
+use Rattle.lfs_model.proofs.OpenedFile.{op, pair, next, opened, commit, completed, turn, sync_step}
+use Rattle.lfs_model.proofs.runs.open_creates_a_file.Goals as goal
+
+pub returns-clause-turn : goal.returns-clause-turn
+returns-clause-turn c = turn
+
+pub returns-clause-writable : goal.returns-clause-writable
+returns-clause-writable c = (next ∷ [], (completed.accepted, completed.writable))
+
+pub returns-clause-synced : goal.returns-clause-synced
+returns-clause-synced c = sync_step
+
+-- a clean file's sync has no call
+pub returns-clause-no_call : goal.returns-clause-no_call
+returns-clause-no_call c = λ h.
+    let done = h.effect_on_disk refl opened refl (next ∷ []) (next ∷ []) completed.accepted completed.accepted in
+    let none = (done.silent refl).1 in
+    let same = append_cancel_right (reads_of_one_block 1) h.calls system_state_after_open.calls h.called in
+    absurd (let k = same ∙ none in cc)
+
+-- the old disk doesn't show the file
+unwritten : IsSessionStep large_fresh_system_state op (ops.Opened 0) (record system_state_after_open { disk = large_fresh_image }) → ⊥
+unwritten h =
+    let shown = h.agrees in
+    let same = one_thread (content_of_pair_at large_fresh_image) (block_count large_fresh_image) (pair ∷ []) shown.0 commit.accepted.thread shown.1.0.thread in
+    let k = ap (λ (t : Tree). t (codes "b" ∷ [])) (shown.1.1 ∙ sym (ap (tree_on_disk large_fresh_image) same) ∙ shows large_fresh_image) in
+    absurd (cc)
+
+pub returns-clause-not_unwritten : goal.returns-clause-not_unwritten
+returns-clause-not_unwritten c = unwritten
+
+pub returns-clause-no_program : goal.returns-clause-no_program
+returns-clause-no_program c = λ h. absurd (let k = ap programs (h.called ∙ append-nil h.calls) ∙ (h.refused refl).1.0 in cc)
+
+-- two blocks are too few, since one is used
+some_used : (ps : List Pair) → AreLinkedByTails (Some anchor_pair_address) ps → 1 ≤ length (used_blocks small_fresh_image ps)
+some_used [] links = absurd (cc)
+some_used (p ∷ ps) links = omega arith
+
+lacking : (around : DiskSummary) → around.block_count ≡ 2 → 1 ≤ length around.used → lacks_free_blocks around [] 2 ≡ true
+lacking around count some = lt-ltb around.block_count (length around.used + 0 + 2) (omega arith)
+
+abbrev is_opened : Option Reply → Bool
+is_opened (Some (ops.Opened fd)) = true
+is_opened _ = false
+
+refused : (around : DiskSummary) (shown : Option Tree) (after : SessionHealth) → lacks_free_blocks around [] 2 ≡ true → (w : Bool) → around.writable ≡ w → (o : Bool) → is_entry_over_charge_limit around (codes "b") [] ≡ o
+    → answered around shown (Healthy (mounted empty_tree)) op ≡ (Some (ops.Opened 0), after) → ⊥
+refused around shown after lack w is o over e = absurd (let z : false ≡ true = sym (go w is o over) ∙ ap (λ (x : Option Reply × SessionHealth). is_opened x.0) e in cc)
+  where
+    go : (w : Bool) → around.writable ≡ w → (o : Bool) → is_entry_over_charge_limit around (codes "b") [] ≡ o → is_opened (answered around shown (Healthy (mounted empty_tree)) op).0 ≡ false
+    go false f o g = rw f refl
+    go true f true g = rw f (rw g refl)
+    go true f false g = rw f (rw g (rw lack refl))
+
+pub returns-clause-no_space : goal.returns-clause-no_space
+returns-clause-no_space c = λ to h.
+    let a = h.answered in
+    let s = a.surrounds (mounted empty_tree) refl in
+    let some = subst (λ (bs : List ℕ). 1 ≤ length bs) (sym s.1.1.used) (some_used s.0 s.1.0.thread.links) in
+    refused a.around a.shown to.state (lacking a.around s.1.1.block_count some) a.around.writable refl (is_entry_over_charge_limit a.around (codes "b") []) refl a.answers

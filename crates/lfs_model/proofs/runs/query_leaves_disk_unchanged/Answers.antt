@@ -1,0 +1,28 @@
+use Rattle.std.proofs.Common.{◌≡◌, [], ◌∷◌, None, refl, sym, ◌∙◌}
+use Rattle.lfs_model.specs.Fresh.{fresh_pair, empty_tree}
+use Rattle.lfs_model.specs.Operations as ops
+use Rattle.lfs_model.specs.State.{mounted}
+use Rattle.lfs_model.specs.Run.{SystemState, IsSessionStep}
+use Rattle.lfs_model.specs.examples.Images.{small_fresh_image, image_of_two_commits}
+use Rattle.lfs_model.specs.examples.Runs.{fresh_system_state}
+use Rattle.lfs_model.proofs.Fresh.{accepted}
+use Rattle.lfs_model.proofs.Example.{fresh}
+use Rattle.lfs_model.proofs.SessionSteps.{session_step_is_healthy, true_from}
+use Rattle.lfs_model.proofs.FreshSession.{differ}
+use Rattle.lfs_model.proofs.AskedStep.{op, turn}
+use Rattle.lfs_model.proofs.runs.query_leaves_disk_unchanged.Goals as goal
+
+pub returns-clause-answered : goal.returns-clause-answered
+returns-clause-answered c = turn
+
+pub returns-clause-run : goal.returns-clause-run
+returns-clause-run c = (fresh_system_state, (turn, refl))
+
+no_change : (to : SystemState) → to.disk ≡ image_of_two_commits → IsSessionStep fresh_system_state op (ops.StatIs None) to → ⊥
+no_change to e h =
+    let known = true_from to (session_step_is_healthy fresh_system_state to op (ops.StatIs None) h tt) h.agrees in
+    let done = h.effect_on_disk refl (mounted empty_tree) refl (fresh_pair small_fresh_image ∷ []) known.shows.0 (accepted small_fresh_image fresh) known.shows.1.0 in
+    differ (sym (done.asks refl).0 ∙ e)
+
+pub returns-clause-no_change : goal.returns-clause-no_change
+returns-clause-no_change c = no_change

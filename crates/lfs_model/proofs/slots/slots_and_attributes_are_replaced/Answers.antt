@@ -1,0 +1,95 @@
+use Rattle.std.proofs.Common.{ℕ, ◌+◌, ◌≡◌, ◌≤◌, inl, inr, true, List, [], ◌∷◌, length, refl, sym, ap, ◌∙◌, arith}
+use Rattle.std.specs.Prelude.{codes}
+use Rattle.std.proofs.lemmas.Option.{same_Some}
+use Rattle.lfs_model.specs.Slots.{Slot, Struct, Inline, Ctz, Branch}
+use Rattle.lfs_model.specs.Content.{attributes_with_attribute}
+use Rattle.lfs_model.specs.Fresh.{superblock_slot}
+use Rattle.lfs_model.specs.Session.{open_file_of}
+use Rattle.lfs_model.specs.SlotEdits.{new_file_slot, new_directory_slot, ReplacesSlotOfPath, Stores, StoresDirtyWriter}
+use Rattle.lfs_model.specs.Layout.{joined_slots_of_pairs}
+use Rattle.lfs_model.specs.examples.Images.{large_fresh_image}
+use Rattle.lfs_model.specs.examples.Runs.{root_and_directory_with_slots, root_and_directory_of_two_pairs, root_pair_with_file, file_slot_with_long_attribute, session_with_writer_at}
+use Rattle.lfs_model.proofs.Sites.{SomeIn}
+use Rattle.lfs_model.proofs.Spliced.{comes}
+use Rattle.lfs_model.proofs.slots.slots_and_attributes_are_replaced.Goals as goal
+
+abbrev root : List Slot
+root = superblock_slot 4096 16 ∷ new_directory_slot (codes "d") (4, 5) ∷ []
+
+pub returns-clause-onto : goal.returns-clause-onto
+returns-clause-onto c = (
+  refl,
+  (
+    new_file_slot (codes "a"),
+    root_and_directory_with_slots (new_file_slot (codes "e") ∷ []) [],
+    root_and_directory_with_slots [] [],
+    (
+      refl,
+      record { before = _ ∷ []; pair = _; after = _; left = []; right = []; was = refl; held = refl; is = refl },
+      record { before = []; pair = _; after = _; left = root; right = []; was = refl; held = refl; is = refl },
+      record { before = []; pair = _; after = _; left = root; right = []; was = refl; held = refl; is = refl },
+    ),
+  ),
+)
+
+pub returns-clause-set : goal.returns-clause-set
+returns-clause-set c = (refl, (new_file_slot (codes "a"), file_slot_with_long_attribute (codes "a"), (refl, refl, record { before = _ ∷ []; pair = _; after = _; left = []; right = []; was = refl; held = refl; is = refl })))
+
+pub returns-clause-removed : goal.returns-clause-removed
+returns-clause-removed c = (refl, (file_slot_with_long_attribute (codes "a"), new_file_slot (codes "a"), (refl, refl, record { before = _ ∷ []; pair = _; after = _; left = []; right = []; was = refl; held = refl; is = refl })))
+
+pub returns-clause-clean : goal.returns-clause-clean
+returns-clause-clean c = (refl, inl (refl, refl))
+
+-- no slot has an attribute
+unset : ReplacesSlotOfPath (λ u v. v ≡ record u { attributes = attributes_with_attribute 0x41 (codes "x") u.attributes }) root_and_directory_of_two_pairs (codes "d" ∷ codes "a" ∷ []) root_and_directory_of_two_pairs root_and_directory_of_two_pairs → ⊥
+unset (u, v, (at, is, spliced)) = go (comes v (u ∷ []) root_and_directory_of_two_pairs root_and_directory_of_two_pairs spliced)
+  where
+    some : length v.attributes ≡ 1
+    some = ap (λ (s : Slot). length s.attributes) is ∙ sym (ap (λ (s : Slot). length (attributes_with_attribute 0x41 (codes "x") s.attributes)) (same_Some (new_file_slot (codes "a")) u at))
+
+    none : (s : Slot) → length s.attributes ≡ 0 → s ≡ v → ⊥
+    none s e f = absurd (let k = ap (λ (t : Slot). length t.attributes) f in omega (arith, some))
+
+    go : SomeIn (λ s. s ≡ v) (joined_slots_of_pairs root_and_directory_of_two_pairs) → ⊥
+    go (inl e) = none (superblock_slot 4096 16) refl e
+    go (inr (inl e)) = none (new_directory_slot (codes "d") (4, 5)) refl e
+    go (inr (inr (inl e))) = none (new_file_slot (codes "a")) refl e
+    go (inr (inr (inr (inl e)))) = none (new_file_slot (codes "z")) refl e
+    go (inr (inr (inr (inr e)))) = e
+
+pub returns-clause-unset : goal.returns-clause-unset
+returns-clause-unset c = λ h. unset h.1
+
+-- no slot says `hi`
+size : Struct → ℕ
+size (Inline bytes) = length bytes
+size _ = 0
+
+stored : (s : Struct) → Stores large_fresh_image (codes "hi") s → size s ≡ 2
+unfolding size
+stored (Inline own) h = ap length h.0
+stored (Ctz head long) h = absurd (let k : 512 + 1 ≤ 2 = h.2 in omega arith)
+stored (Branch to) h = absurd h
+
+uncommitted : ReplacesSlotOfPath (λ u v. (v ≡ record u { struct = v.struct }) × Stores large_fresh_image (codes "hi") v.struct) (root_pair_with_file (codes "a") []) (codes "a" ∷ []) (root_pair_with_file (codes "a") []) (root_pair_with_file (codes "a") []) → ⊥
+unfolding size
+uncommitted (u, v, (at, (is, said), spliced)) = go (comes v (u ∷ []) (root_pair_with_file (codes "a") []) (root_pair_with_file (codes "a") []) spliced)
+  where
+    two : size v.struct ≡ 2
+    two = stored v.struct said
+
+    other : (s : Slot) (n : ℕ) → size s.struct ≡ n → s ≡ v → n ≡ 2
+    other s n e f = sym e ∙ ap (λ (t : Slot). size t.struct) f ∙ two
+
+    go : SomeIn (λ s. s ≡ v) (joined_slots_of_pairs (root_pair_with_file (codes "a") [])) → ⊥
+    go (inl e) = absurd (let k : 24 ≡ 2 = other (superblock_slot 4096 16) 24 refl e in omega arith)
+    go (inr (inl e)) = absurd (let k : 0 ≡ 2 = other (new_file_slot (codes "a")) 0 refl e in omega arith)
+    go (inr (inr e)) = e
+
+either : StoresDirtyWriter large_fresh_image (root_pair_with_file (codes "a") []) (open_file_of (session_with_writer_at (codes "a" ∷ []) true (codes "hi")).files 0) (root_pair_with_file (codes "a") []) (root_pair_with_file (codes "a") []) → ⊥
+either (inl e) = absurd (let k = e.0 in cc)
+either (inr e) = uncommitted e.1
+
+pub returns-clause-uncommitted : goal.returns-clause-uncommitted
+returns-clause-uncommitted c = λ h. either h.1

@@ -1,0 +1,98 @@
+use Rattle.std.proofs.Common.{refl, ◌≤◌, ◌+◌, ◌++◌, ◌∷◌, [], Err, drop, get_or, sym, ap, ap₂, subst, subst₂, ◌∙◌, arith, false, None}
+use Rattle.std.proofs.lemmas.List.{map-append}
+use Rattle.std.proofs.Math.ListN.{drop_of_length-le}
+use Rattle.std.proofs.lemmas.Result.{err_from_is_err_and}
+use Rattle.lfs_model.specs.History.{reads}
+use Rattle.lfs_thread.specs.Kept.{disk_of_device}
+use Rattle.lfs_mount.specs.Reads.{pair_reads}
+use Rattle.lfs_device.specs.Shown.{disk_of_geometry_and_blocks, ordered}
+use Rattle.lfs_model.specs.Disk.{Disk}
+use Rattle.lfs_model.specs.declared.order.NameOrder.{NameOrder}
+use Rattle.lfs_mount.specs.DirectoryView.{directory_vertex_view, directory_graph_view}
+use Rattle.lfs_mount.specs.KnownView.{directory_scan_view}
+use Rattle.lfs_mount.specs.Reaching.{DirectoryVertex, DirectoryGraph}
+use Rattle.lfs_mount.specs.Taken.{AddsPairToDirectoryScan}
+use Rattle.lfs_mount.specs.declared.pass.Member.{Member}
+use Rattle.lfs_mount.proofs.Called.{same_error, not_read, read_on, quiet, passed_on}
+use Rattle.lfs_mount.proofs.ReadCounts.{pairs_more}
+use Rattle.lfs_mount.proofs.Passing.{IsUnderWay, begun, all_taken, taken_hard, taken_soft, not_taken_at}
+use Rattle.lfs_mount.proofs.pass.scan_pairs_and_mark_lists.Goals as goal
+use Rattle.lfs_mount.proofs.pass.scan_pairs_and_mark_lists.Goals.{then-not-member+in_ok-push, else-not-member}
+
+-- what stands past the end of a list of members
+abbrev none : Member
+none = record { active = 0; is_hard = false; has_superblock = false; moved = None }
+
+pub loop-member-init : goal.loop-member-init
+loop-member-init g c =
+    let disk = disk_of_device g.D.BlockDevice c.args.device.now in
+    record {
+      way = λ order.
+          subst₂ (λ (done : DirectoryGraph) k. IsUnderWay (ordered order disk) c.args.places.now c.args.map.now c.args.members.now done k c.args.map.now c.args.members.now)
+          (sym (ap (directory_graph_view order) c.new-directories.ensures.items)) (sym (c.nothing-known.ensures order))
+          (begun (ordered order disk) c.args.places.now c.args.map.now c.args.members.now);
+      device = not_read g.D.BlockDevice c.args.device.now;
+      quiet = refl;
+      few = omega arith;
+    }
+
+pub returns-in_err-scan_pair_and_mark_lists-clause-corrupt : goal.returns-in_err-scan_pair_and_mark_lists-clause-corrupt
+returns-in_err-scan_pair_and_mark_lists-clause-corrupt g c = λ is order graph end all.
+    let p = err_from_is_err_and c.from_residual.result c.from_residual.ensures.1 in
+    let disk = ordered order (disk_of_device g.D.BlockDevice c.args.device.now) in
+    not_taken_at disk c.args.places.now c.args.map.now c.args.members.now (directory_graph_view order c.loop-member.directories.items) (directory_scan_view order c.loop-member.known) c.loop-member.map
+    c.loop-member.member-index none c.loop-member-test.true (c.loop-member.invariant.way order)
+    (λ new mid takes. c.in_err-scan_pair_and_mark_lists.ensures.corrupt (ap Err (same_error p.1 p.2 is)) order new mid
+    (subst (λ (d : Disk). AddsPairToDirectoryScan (ordered order d) c.args.places.now (get_or c.args.members.now c.loop-member.member-index none) (directory_scan_view order c.loop-member.known) c.loop-member.map new mid) (sym (ap₂ disk_of_geometry_and_blocks c.loop-member.invariant.device.geometry c.loop-member.invariant.device.same)) takes))
+    graph end all
+
+pub returns-in_err-scan_pair_and_mark_lists-clause-device : goal.returns-in_err-scan_pair_and_mark_lists-clause-device
+returns-in_err-scan_pair_and_mark_lists-clause-device g c = read_on g.D.BlockDevice c.loop-member.invariant.device c.in_err-scan_pair_and_mark_lists.ensures.device
+
+pub returns-in_err-scan_pair_and_mark_lists-clause-errors : goal.returns-in_err-scan_pair_and_mark_lists-clause-errors
+returns-in_err-scan_pair_and_mark_lists-clause-errors g c =
+    let p = err_from_is_err_and c.from_residual.result c.from_residual.ensures.1 in
+    passed_on g.D.BlockDevice p.1 p.2 c.loop-member.invariant.quiet c.in_err-scan_pair_and_mark_lists.ensures.errors
+
+pub returns-in_err-push-clause-device : goal.returns-in_err-push-clause-device
+returns-in_err-push-clause-device g c = read_on g.D.BlockDevice c.loop-member.invariant.device c.in_ok-scan_pair_and_mark_lists.ensures.device
+
+pub loop-member-preserved : goal.loop-member-preserved
+loop-member-preserved g c =
+    let disk = disk_of_device g.D.BlockDevice c.args.device.now in
+    let takes : (order : NameOrder) → AddsPairToDirectoryScan (ordered order disk) c.args.places.now (get_or c.args.members.now c.loop-member.member-index none) (directory_scan_view order c.loop-member.known) c.loop-member.map (directory_scan_view order c.scan_pair_and_mark_lists.new.known) c.scan_pair_and_mark_lists.new.map =
+    λ order.
+    subst (λ (d : Disk). AddsPairToDirectoryScan (ordered order d) c.args.places.now (get_or c.args.members.now c.loop-member.member-index none) (directory_scan_view order c.loop-member.known) c.loop-member.map (directory_scan_view order c.scan_pair_and_mark_lists.new.known) c.scan_pair_and_mark_lists.new.map)
+    (ap₂ disk_of_geometry_and_blocks c.loop-member.invariant.device.geometry c.loop-member.invariant.device.same) (c.in_ok-scan_pair_and_mark_lists.ensures.taken order) in
+    record {
+      way = λ order. elim c.if-not-member.branch [
+        | then-not-member+in_ok-push w ↦
+            subst₂ (λ (done : DirectoryGraph) k. IsUnderWay (ordered order disk) c.args.places.now c.args.map.now c.args.members.now done k c.scan_pair_and_mark_lists.new.map (drop (c.loop-member.member-index + 1) c.args.members.now))
+            (sym (ap (λ ds. directory_graph_view order ds.items) w.directories-is ∙ ap (directory_graph_view order) w.in_ok-push.ensures.items ∙ map-append (directory_vertex_view order) c.loop-member.directories.items (w.end.result ∷ [])
+            ∙ ap (λ (v : DirectoryVertex). directory_graph_view order c.loop-member.directories.items ++ v ∷ []) (w.end.ensures.directory order)))
+            (sym (ap (directory_scan_view order) w.known-is ∙ w.end.ensures.nothing order))
+            (taken_soft (ordered order disk) c.args.places.now c.args.map.now c.args.members.now (directory_graph_view order c.loop-member.directories.items) (directory_scan_view order c.loop-member.known) c.loop-member.map
+            c.loop-member.member-index none c.loop-member-test.true (c.loop-member.invariant.way order) (directory_scan_view order c.scan_pair_and_mark_lists.new.known) c.scan_pair_and_mark_lists.new.map (takes order) w.if-not-member.true)
+        | else-not-member w ↦
+            subst₂ (λ (done : DirectoryGraph) k. IsUnderWay (ordered order disk) c.args.places.now c.args.map.now c.args.members.now done k c.scan_pair_and_mark_lists.new.map (drop (c.loop-member.member-index + 1) c.args.members.now))
+            (sym (ap (λ ds. directory_graph_view order ds.items) w.directories-is))
+            (sym (ap (directory_scan_view order) w.known-is))
+            (taken_hard (ordered order disk) c.args.places.now c.args.map.now c.args.members.now (directory_graph_view order c.loop-member.directories.items) (directory_scan_view order c.loop-member.known) c.loop-member.map
+            c.loop-member.member-index none c.loop-member-test.true (c.loop-member.invariant.way order) (directory_scan_view order c.scan_pair_and_mark_lists.new.known) c.scan_pair_and_mark_lists.new.map (takes order) w.if-not-member.false)
+      ];
+      device = read_on g.D.BlockDevice c.loop-member.invariant.device c.in_ok-scan_pair_and_mark_lists.ensures.device;
+      quiet = quiet g.D.BlockDevice c.in_ok-scan_pair_and_mark_lists.ensures.errors.faults ∙ c.loop-member.invariant.quiet;
+      few =
+          let before = c.loop-member.invariant.few in
+          let this = subst (λ (d : Disk). reads (g.D.BlockDevice.history c.scan_pair_and_mark_lists.new.device) ≤ reads (g.D.BlockDevice.history c.loop-member.device) + pair_reads d (get_or c.args.members.now c.loop-member.member-index none))
+          (ap₂ disk_of_geometry_and_blocks c.loop-member.invariant.device.geometry c.loop-member.invariant.device.same) (c.in_ok-scan_pair_and_mark_lists.ensures.few) in
+          let more = pairs_more disk c.args.members.now c.loop-member.member-index none c.loop-member-test.true in
+          omega arith;
+    }
+
+pub returns-clause-taken : goal.returns-clause-taken
+returns-clause-taken g c = λ order.
+    let disk = ordered order (disk_of_device g.D.BlockDevice c.args.device.now) in
+    all_taken disk c.args.places.now c.args.map.now c.args.members.now (directory_graph_view order c.loop-member.directories.items) (directory_scan_view order c.loop-member.known) c.loop-member.map
+    (subst (IsUnderWay disk c.args.places.now c.args.map.now c.args.members.now (directory_graph_view order c.loop-member.directories.items) (directory_scan_view order c.loop-member.known) c.loop-member.map)
+    (drop_of_length-le c.args.members.now (omega arith)) (c.loop-member.invariant.way order))

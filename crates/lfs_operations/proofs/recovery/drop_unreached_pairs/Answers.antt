@@ -1,0 +1,155 @@
+use Rattle.std.proofs.Common.{suc, ◌≡◌, ◌+◌, ◌-◌, ap, sym, subst, ◌∙◌, drop, length, arith, refl, Err}
+use Rattle.std.specs.Prelude.{slice_index_or}
+use Rattle.std.proofs.lemmas.Result.{err_from_is_err_and}
+use Rattle.lfs_tag.specs.FieldsView.{move_view}
+use Rattle.lfs_model.specs.Thread.{blocks_of_pairs, gstate_of}
+use Rattle.lfs_thread.specs.Kept.{Kept}
+use Rattle.lfs_operations.proofs.RecoverEnd.{can_end, end_survives, ends, none_reported, reports_steps}
+use Rattle.lfs_operations.proofs.RecoverUnderWay.{IsUnderWay, begins, can_take, drop_all, indexes, moves_on, next_at, stays_by, survives_on, wanted, way_at, writes_on}
+use Rattle.lfs_operations.proofs.RecoverWrites.{writes_fewer}
+use Rattle.lfs_operations.proofs.UnlinkedSteps.{writes_trans}
+use Rattle.lfs_operations.proofs.recovery.drop_unreached_pairs.Goals as goal
+
+pub loop-dropped-init : goal.loop-dropped-init
+loop-dropped-init g c = record {
+  end = refl;
+  within = omega arith;
+  works = c.requires.works;
+  no_fault = refl;
+  still = λ none. refl;
+  way = begins c.args.thread.now.kept c.args.unreached.now c.requires.can;
+}
+
+pub overflow_sub-behind : goal.overflow_sub-behind
+overflow_sub-behind g c =
+    (indexes c.args.thread.now.kept c.loop-dropped.thread.kept c.loop-dropped.dropped _ _
+    (next_at c.args.thread.now.kept c.loop-dropped.thread.kept c.args.unreached.now c.loop-dropped.dropped c.loop-dropped-test.true c.loop-dropped.invariant.way)).enough
+
+pub overflow_sub-behind-in-loop-dropped : goal.overflow_sub-behind-in-loop-dropped
+overflow_sub-behind-in-loop-dropped g c =
+    (indexes c.args.thread.now.kept c.loop-dropped.thread.kept c.loop-dropped.dropped _ _
+    (next_at c.args.thread.now.kept c.loop-dropped.thread.kept c.args.unreached.now c.loop-dropped.dropped c.loop-dropped-test.true c.loop-dropped.invariant.way)).some
+
+pub drop_behind-requires-clause-can : goal.drop_behind-requires-clause-can
+drop_behind-requires-clause-can g c =
+    let old = c.args.thread.now.kept in
+    let now = c.loop-dropped.thread.kept in
+    let xs = c.args.unreached.now in
+    let d = c.loop-dropped.dropped in
+    let n = next_at old now xs d c.loop-dropped-test.true c.loop-dropped.invariant.way in
+    let i = indexes old now d (slice_index_or xs d 0) (drop (suc d) xs) n in
+    can_take old now d (slice_index_or xs d 0) (drop (suc d) xs) n (move_view c.gstate_wanted_after_pair_drop-wanted.result)
+    (wanted now xs d (move_view c.gstate_wanted_after_pair_drop-wanted.result) c.loop-dropped-test.true c.gstate_wanted_after_pair_drop-wanted.ensures)
+    (slice_index_or xs d 0 - d - 1) (slice_index_or xs d 0 - d) i.next i.sum
+
+pub returns-in_err-drop_behind-clause-errors : goal.returns-in_err-drop_behind-clause-errors
+returns-in_err-drop_behind-clause-errors g c =
+    let p = err_from_is_err_and c.from_residual.result c.from_residual.ensures.1 in
+    reports_steps c.args.thread.now c.loop-dropped.thread c.drop_behind.new.thread p.0 c.drop_behind.result c.from_residual.result c.loop-dropped.invariant.no_fault (c.in_err-drop_behind.was ∙ ap Err (sym p.2)) p.1 c.drop_behind.ensures.errors
+
+pub returns-in_err-drop_behind-clause-device : goal.returns-in_err-drop_behind-clause-device
+returns-in_err-drop_behind-clause-device g c =
+    let old = c.args.thread.now.kept in
+    let now = c.loop-dropped.thread.kept in
+    let xs = c.args.unreached.now in
+    let d = c.loop-dropped.dropped in
+    let n = next_at old now xs d c.loop-dropped-test.true c.loop-dropped.invariant.way in
+    let i = indexes old now d (slice_index_or xs d 0) (drop (suc d) xs) n in
+    writes_on old now d (slice_index_or xs d 0) (drop (suc d) xs) n (move_view c.gstate_wanted_after_pair_drop-wanted.result)
+    (wanted now xs d (move_view c.gstate_wanted_after_pair_drop-wanted.result) c.loop-dropped-test.true c.gstate_wanted_after_pair_drop-wanted.ensures)
+    (slice_index_or xs d 0 - d - 1) (slice_index_or xs d 0 - d) i.next i.sum c.drop_behind.new.thread.kept (way_at old now xs d c.loop-dropped-test.true c.loop-dropped.invariant.way) c.drop_behind.ensures.device
+
+pub returns-in_err-drop_behind-clause-survives : goal.returns-in_err-drop_behind-clause-survives
+returns-in_err-drop_behind-clause-survives g c =
+    let old = c.args.thread.now.kept in
+    let now = c.loop-dropped.thread.kept in
+    let xs = c.args.unreached.now in
+    let d = c.loop-dropped.dropped in
+    let n = next_at old now xs d c.loop-dropped-test.true c.loop-dropped.invariant.way in
+    let i = indexes old now d (slice_index_or xs d 0) (drop (suc d) xs) n in
+    survives_on old now d (slice_index_or xs d 0) (drop (suc d) xs) n (move_view c.gstate_wanted_after_pair_drop-wanted.result)
+    (wanted now xs d (move_view c.gstate_wanted_after_pair_drop-wanted.result) c.loop-dropped-test.true c.gstate_wanted_after_pair_drop-wanted.ensures)
+    (slice_index_or xs d 0 - d - 1) (slice_index_or xs d 0 - d) i.next i.sum c.drop_behind.new.thread.kept (way_at old now xs d c.loop-dropped-test.true c.loop-dropped.invariant.way)
+    c.drop_behind.ensures.words.0 c.drop_behind.ensures.words.1 (stays_by _ now c.drop_behind.new.thread.kept c.drop_behind.ensures.device) c.drop_behind.ensures.stops
+
+pub loop-dropped-preserved : goal.loop-dropped-preserved
+loop-dropped-preserved g c =
+    let old = c.args.thread.now.kept in
+    let now = c.loop-dropped.thread.kept in
+    let xs = c.args.unreached.now in
+    let d = c.loop-dropped.dropped in
+    let low = c.loop-dropped-test.true in
+    let n = next_at old now xs d c.loop-dropped-test.true c.loop-dropped.invariant.way in
+    let i = indexes old now d (slice_index_or xs d 0) (drop (suc d) xs) n in
+    let one : suc d ≡ d + 1 = omega arith in
+    record {
+      end = refl;
+      within = omega arith;
+      works = c.in_ok-drop_behind.ensures.errors.failed;
+      no_fault = c.in_ok-drop_behind.ensures.errors.reported.no_fault (λ e. absurd (let k : _ = e in cc)) ∙ c.loop-dropped.invariant.no_fault;
+      still = λ none. absurd (omega arith);
+      way = subst (λ k. IsUnderWay old c.drop_behind.new.thread.kept k (drop k xs)) one
+          (moves_on old now d (slice_index_or xs d 0) (drop (suc d) xs) n (move_view c.gstate_wanted_after_pair_drop-wanted.result)
+          (wanted now xs d (move_view c.gstate_wanted_after_pair_drop-wanted.result) c.loop-dropped-test.true c.gstate_wanted_after_pair_drop-wanted.ensures)
+          (slice_index_or xs d 0 - d - 1) (slice_index_or xs d 0 - d) i.next i.sum c.drop_behind.new.thread.kept (way_at old now xs d c.loop-dropped-test.true c.loop-dropped.invariant.way)
+          c.drop_behind.ensures.words.0 c.drop_behind.ensures.words.1 c.in_ok-drop_behind.ensures.is_dropped c.drop_behind.ensures.device c.drop_behind.ensures.stops);
+    }
+
+pub clear_sync_bit-requires-clause-can : goal.clear_sync_bit-requires-clause-can
+clear_sync_bit-requires-clause-can g c =
+    let past = c.loop-dropped-test.false in
+    can_end c.args.thread.now.kept c.loop-dropped.thread.kept c.loop-dropped.dropped
+    (subst (IsUnderWay c.args.thread.now.kept c.loop-dropped.thread.kept c.loop-dropped.dropped) (drop_all c.loop-dropped.dropped c.args.unreached.now (omega (arith, past))) c.loop-dropped.invariant.way)
+
+pub returns-in_err-clear_sync_bit-clause-errors : goal.returns-in_err-clear_sync_bit-clause-errors
+returns-in_err-clear_sync_bit-clause-errors g c =
+    let p = err_from_is_err_and c.from_residual-in_err-clear_sync_bit.result c.from_residual-in_err-clear_sync_bit.ensures.1 in
+    reports_steps c.args.thread.now c.loop-dropped.thread c.clear_sync_bit.new.thread p.0 c.clear_sync_bit.result c.from_residual-in_err-clear_sync_bit.result c.loop-dropped.invariant.no_fault (c.in_err-clear_sync_bit.was ∙ ap Err (sym p.2)) p.1 c.clear_sync_bit.ensures.errors
+
+pub returns-in_err-clear_sync_bit-clause-device : goal.returns-in_err-clear_sync_bit-clause-device
+returns-in_err-clear_sync_bit-clause-device g c = writes_trans c.loop-dropped.invariant.way.writes (writes_fewer _ (blocks_of_pairs c.args.thread.now.kept.pairs) c.loop-dropped.invariant.way.fewer c.clear_sync_bit.ensures.device)
+
+pub returns-clause-device : goal.returns-clause-device
+returns-clause-device g c = writes_trans c.loop-dropped.invariant.way.writes (writes_fewer _ (blocks_of_pairs c.args.thread.now.kept.pairs) c.loop-dropped.invariant.way.fewer c.clear_sync_bit.ensures.device)
+
+pub returns-in_err-clear_sync_bit-clause-survives : goal.returns-in_err-clear_sync_bit-clause-survives
+returns-in_err-clear_sync_bit-clause-survives g c =
+    let past = c.loop-dropped-test.false in
+    end_survives c.args.thread.now.kept c.loop-dropped.thread.kept c.loop-dropped.dropped
+    (subst (IsUnderWay c.args.thread.now.kept c.loop-dropped.thread.kept c.loop-dropped.dropped) (drop_all c.loop-dropped.dropped c.args.unreached.now (omega (arith, past))) c.loop-dropped.invariant.way)
+    c.clear_sync_bit.new.thread.kept (stays_by _ c.loop-dropped.thread.kept c.clear_sync_bit.new.thread.kept c.clear_sync_bit.ensures.device) c.clear_sync_bit.ensures.survives
+
+pub returns-clause-recovered : goal.returns-clause-recovered
+returns-clause-recovered g c =
+    let past = c.loop-dropped-test.false in
+    ends c.args.thread.now.kept c.loop-dropped.thread.kept c.loop-dropped.dropped
+    (subst (IsUnderWay c.args.thread.now.kept c.loop-dropped.thread.kept c.loop-dropped.dropped) (drop_all c.loop-dropped.dropped c.args.unreached.now (omega (arith, past))) c.loop-dropped.invariant.way)
+    c.requires.can.writable c.requires.can.large c.clear_sync_bit.new.thread.kept c.args.unreached.now c.requires.can.reported
+    (writes_trans c.loop-dropped.invariant.way.writes (writes_fewer _ (blocks_of_pairs c.args.thread.now.kept.pairs) c.loop-dropped.invariant.way.fewer c.clear_sync_bit.ensures.device)) (stays_by _ c.loop-dropped.thread.kept c.clear_sync_bit.new.thread.kept c.clear_sync_bit.ensures.device) c.in_ok-clear_sync_bit.ensures.is_cleared
+
+pub returns-clause-survives : goal.returns-clause-survives
+returns-clause-survives g c =
+    let past = c.loop-dropped-test.false in
+    end_survives c.args.thread.now.kept c.loop-dropped.thread.kept c.loop-dropped.dropped
+    (subst (IsUnderWay c.args.thread.now.kept c.loop-dropped.thread.kept c.loop-dropped.dropped) (drop_all c.loop-dropped.dropped c.args.unreached.now (omega (arith, past))) c.loop-dropped.invariant.way)
+    c.clear_sync_bit.new.thread.kept (stays_by _ c.loop-dropped.thread.kept c.clear_sync_bit.new.thread.kept c.clear_sync_bit.ensures.device) c.clear_sync_bit.ensures.survives
+
+pub returns-in_err-drop_behind-clause-nothing : goal.returns-in_err-drop_behind-clause-nothing
+returns-in_err-drop_behind-clause-nothing g c recovered =
+    let none = ap length (none_reported c.args.thread.now.kept.pairs c.args.unreached.now recovered c.requires.can.reported) in
+    let low = c.loop-dropped-test.true in
+    absurd (omega arith)
+
+pub returns-in_err-clear_sync_bit-clause-nothing : goal.returns-in_err-clear_sync_bit-clause-nothing
+returns-in_err-clear_sync_bit-clause-nothing g c recovered =
+    let none = ap length (none_reported c.args.thread.now.kept.pairs c.args.unreached.now recovered c.requires.can.reported) in
+    let in_all = c.loop-dropped.invariant.within in
+    let same = c.loop-dropped.invariant.still (omega arith) in
+    c.clear_sync_bit.ensures.nothing (ap (λ (t : Kept). gstate_of t.pairs) same ∙ recovered.gstate) ∙ same
+
+pub returns-clause-nothing : goal.returns-clause-nothing
+returns-clause-nothing g c recovered =
+    let none = ap length (none_reported c.args.thread.now.kept.pairs c.args.unreached.now recovered c.requires.can.reported) in
+    let in_all = c.loop-dropped.invariant.within in
+    let same = c.loop-dropped.invariant.still (omega arith) in
+    c.clear_sync_bit.ensures.nothing (ap (λ (t : Kept). gstate_of t.pairs) same ∙ recovered.gstate) ∙ same

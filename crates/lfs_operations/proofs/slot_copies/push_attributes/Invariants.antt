@@ -1,8 +1,0 @@
-use Rattle.std.proofs.Common.{◌≡◌, ◌++◌, map, take}
-use Rattle.lfs_pair.specs.ChangeView.{changes_view}
-use Rattle.lfs_operations.specs.RenamingView.{attribute_copy_view}
-use Rattle.lfs_operations.specs.RenamingSlots.{attribute_changes}
-use Rattle.lfs_operations.proofs.slot_copies.push_attributes.Given as goal
-
-abbrev pub invariant-loop-attribute : goal.invariant-loop-attribute
-invariant-loop-attribute l = changes_view l.changes.items ≡ changes_view l.fn.changes.items ++ attribute_changes l.id (map attribute_copy_view (take l.attribute-index l.attributes))

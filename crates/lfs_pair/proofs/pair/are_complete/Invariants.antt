@@ -1,8 +1,0 @@
-use Rattle.std.proofs.Common.{◌≡◌, drop, map}
-use Rattle.std.specs.Prelude.{is_some}
-use Rattle.lfs_model.specs.Content.{complete_all}
-use Rattle.lfs_tag.specs.ContentView.{slot_view}
-use Rattle.lfs_pair.proofs.pair.are_complete.Given as goal
-
-abbrev pub invariant-loop-slot : goal.invariant-loop-slot
-invariant-loop-slot l = is_some (complete_all (map slot_view (drop l.slot-index l.slots))) ≡ is_some (complete_all (map slot_view l.slots))

@@ -1,0 +1,78 @@
+use Rattle.std.proofs.lemmas.Result.{err_from_is_err_and}
+use Rattle.std.specs.Prelude.{◌⊎◌, IfErr}
+use Rattle.lfs_device.specs.declared.error.Error.TheVariants.{Corrupt, Io, NoMemory}
+use Rattle.lfs_device.specs.Calls.{ReportsFaults}
+use Rattle.std.proofs.Common.{◌≡◌, ◌+◌, ◌<◌, ◌∙◌, Err, [], ◌∷◌, length, refl, sym, ap, ap₂, subst, arith, rules, length-append}
+use Rattle.std.specs.Option.{option_map}
+use Rattle.lfs_device.specs.Shown.{disk_of_geometry_and_blocks}
+use Rattle.lfs_device.specs.declared.geometry.Geometry.{Geometry}
+use Rattle.lfs_model.specs.Slots.{pair_address_of_array}
+use Rattle.lfs_model.proofs.Histories.{began}
+use Rattle.lfs_thread.specs.Begun.{IsBeginningOfThread}
+use Rattle.lfs_thread.proofs.Begun.{begun_first, begun_next, begun_kept, begun_none_in_flight, begun_few, no_thread, read_on, same_error}
+use Rattle.lfs_thread.proofs.headers.read_thread_headers.Goals as goal
+
+pub loop-init : goal.loop-init
+loop-init g c = record {
+  begun = begun_first _ _ _ _ _ (sym (g.met.D.BlockDevice.shape c.args.device.now).count) c.requires.none c.requires.free;
+  device = record { same = refl; geometry = refl; reads = began };
+  no_fault = refl;
+  count = ap length c.requires.none;
+  few = let none = ap length c.requires.none in omega (arith, none);
+}
+
+pub returns-in-None-clause-kept : goal.returns-in-None-clause-kept
+returns-in-None-clause-kept g c =
+    begun_kept _ _ _ _ (subst (IsBeginningOfThread (disk_of_geometry_and_blocks (g.D.BlockDevice.geometry c.loop.device) (g.D.BlockDevice.blocks c.loop.device)) (g.D.BlockDevice.history c.loop.device) c.loop.pairs.items c.loop.map)
+    (ap (option_map pair_address_of_array) c.in-None.is) c.loop.invariant.begun)
+
+pub returns-in-None-clause-marked : goal.returns-in-None-clause-marked
+returns-in-None-clause-marked g c = (c.loop.invariant.begun.marked, begun_none_in_flight _ _ _ _ _ c.loop.invariant.begun)
+
+pub returns-in_err-pair-in-Some-clause-corrupt : goal.returns-in_err-pair-in-Some-clause-corrupt
+returns-in_err-pair-in-Some-clause-corrupt g c e =
+    let p = err_from_is_err_and c.from_residual.result c.from_residual.ensures.1 in
+    no_thread _ _ _ _ _ _ _ (pair_address_of_array c.in-Some.at) (ap₂ disk_of_geometry_and_blocks c.loop.invariant.device.geometry c.loop.invariant.device.same) (g.met.D.BlockDevice.shape c.args.device.now).count (ap (option_map pair_address_of_array) c.in-Some.is)
+    c.loop.invariant.begun (c.in_err-pair-in-Some.ensures.corrupt (ap Err (same_error p.1 p.2 e)))
+
+pub returns-in_err-pair-in-Some-clause-reported : goal.returns-in_err-pair-in-Some-clause-reported
+returns-in_err-pair-in-Some-clause-reported g c =
+    let reported = c.in_err-pair-in-Some.ensures.reported in
+    let errors : IfErr c.from_residual.result (λ e. (e ≡ Corrupt) ⊎ ((e ≡ Io) ⊎ (e ≡ NoMemory))) = search rules in
+    let faults : ReportsFaults g.D.BlockDevice c.args.device.now c.read_and_mark_pair.new.device c.from_residual.result = search rules in
+    record { device = read_on c.loop.invariant.device reported.device; errors = errors; faults = faults }
+
+pub returns-in_err-push-in-Some-clause-reported : goal.returns-in_err-push-in-Some-clause-reported
+returns-in_err-push-in-Some-clause-reported g c =
+    let reported = c.in_ok-pair-in-Some.ensures.reported in
+    let errors : IfErr c.from_residual-in_err-push-in-Some.result (λ e. (e ≡ Corrupt) ⊎ ((e ≡ Io) ⊎ (e ≡ NoMemory))) = search rules in
+    let full : c.from_residual-in_err-push-in-Some.result ≡ Err NoMemory = search rules in
+    let no_fault = reported.faults.no_fault (λ e. absurd (cc)) ∙ c.loop.invariant.no_fault in
+    record {
+      device = read_on c.loop.invariant.device reported.device;
+      errors = errors;
+      faults = record { fault = λ e. absurd (cc); no_fault = λ _. no_fault };
+    }
+
+pub loop-preserved : goal.loop-preserved
+loop-preserved g c =
+    let read = c.in_ok-pair-in-Some.ensures in
+    let no_fault = read.reported.faults.no_fault (λ e. absurd (cc)) in
+    record {
+      begun = begun_next (disk_of_geometry_and_blocks (g.D.BlockDevice.geometry c.loop.device) (g.D.BlockDevice.blocks c.loop.device)) _ _ _ _ c.loop.pairs.items _ c.loop.map _ (option_map pair_address_of_array c.loop.next) (pair_address_of_array c.in-Some.at) c.in_ok-pair-in-Some.pair (option_map pair_address_of_array c.address_named_by_header_tail-next.result)
+          (ap₂ disk_of_geometry_and_blocks read.reported.device.geometry read.reported.device.same) read.reported.device.reads (ap (option_map pair_address_of_array) c.in-Some.is) c.loop.invariant.begun read.read.header read.read.address read.read.stands c.in_ok-push-in-Some.ensures.items read.read.marked c.address_named_by_header_tail-next.ensures;
+      device = read_on c.loop.invariant.device read.reported.device;
+      no_fault = no_fault ∙ c.loop.invariant.no_fault;
+      few = (let before = c.loop.invariant.few in let two = read.few in let more = ap length c.in_ok-push-in-Some.ensures.items ∙ length-append c.loop.pairs.items (c.in_ok-pair-in-Some.pair ∷ []) in omega (arith, before, two, more));
+      count = ap length c.in_ok-push-in-Some.ensures.items ∙ length-append c.loop.pairs.items (c.in_ok-pair-in-Some.pair ∷ []) ∙ ap (λ n. n + 1) c.loop.invariant.count;
+    }
+
+pub returns-clause-corrupt : goal.returns-clause-corrupt
+returns-clause-corrupt g c _ ps t =
+    let few = begun_few _ _ _ _ _ c.loop.invariant.begun in
+    let count = c.loop.invariant.count in
+    let size = ap length c.loop.invariant.device.same ∙ (g.met.D.BlockDevice.shape c.args.device.now).count in
+    let some = (g.D.BlockDevice.geometry c.args.device.now).valid in
+    let over : ¬ (c.loop.counter < c.geometry-block_count.result.block_count) = search rules in
+    let end = ap (λ (k : Geometry). k.block_count) c.geometry-block_count.ensures in
+    absurd (omega (arith, few, count, size, some.no_fewer, over, end))

@@ -1,5 +1,0 @@
-use Rattle.lfs_tag.specs.FieldsView.{superblock_view}
-use Rattle.lfs_tool.proofs.heads.fields_fault.Goals as goal
-
-pub returns-in-Some : goal.returns-in-Some
-returns-in-Some c disk ps s sizes chained has = (s, (chained, (superblock_view c.args.fields.now, (has, c.in-Some.ensures disk sizes))))

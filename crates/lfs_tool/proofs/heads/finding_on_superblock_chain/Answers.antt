@@ -1,0 +1,12 @@
+use Rattle.std.proofs.Common.{◌∙◌, ap, map, sym}
+use Rattle.lfs_model.specs.Thread.{starts_with_superblock}
+use Rattle.lfs_tool.specs.OwnedSlotView.{owned_slot_view}
+use Rattle.lfs_tool.specs.declared.owned_parts.OwnedPair.{OwnedPair}
+use Rattle.lfs_tool.proofs.RootPlaces.{first_of_root}
+use Rattle.lfs_tool.proofs.heads.finding_on_superblock_chain.Goals as goal
+
+pub returns-then-not-starts_with_superblock : goal.returns-then-not-starts_with_superblock
+returns-then-not-starts_with_superblock c disk sizes =
+    let slots = c.deref.ensures.value ∙ ap (λ (p : OwnedPair). p.slots.items) (sym c.index-pairs-root.is) in
+    ap starts_with_superblock (first_of_root c.args.pairs.now c.args.root c.index-pairs-root.result c.requires.root c.requires.below c.index-pairs-root.is)
+    ∙ ap (λ s. starts_with_superblock (map owned_slot_view s)) (sym slots) ∙ sym c.starts_with_superblock.ensures ∙ c.if-not-starts_with_superblock.true

@@ -1,8 +1,0 @@
-use Rattle.std.proofs.Common.{◌≡◌, drop, map}
-use Rattle.std.specs.Prelude.{is_some}
-use Rattle.lfs_model.specs.Content.{complete_all}
-use Rattle.lfs_tag.specs.ContentView.{slot_view}
-use Rattle.lfs_tool.proofs.owned_slots.first_incomplete.Given as goal
-
-abbrev pub invariant-loop-id : goal.invariant-loop-id
-invariant-loop-id l = is_some (complete_all (map slot_view (drop l.id l.slots))) ≡ is_some (complete_all (map slot_view l.slots))

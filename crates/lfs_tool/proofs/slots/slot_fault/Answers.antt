@@ -1,9 +1,0 @@
-use Rattle.lfs_tool.specs.Entries.{HasFault}
-use Rattle.lfs_tool.specs.OwnedSlotView.{owned_slot_view}
-use Rattle.lfs_tool.proofs.HeldPlaces.{at_place}
-use Rattle.lfs_tool.proofs.slots.slot_fault.Goals as goal
-
-pub returns : goal.returns
-returns c disk ps is =
-    let place = c.in_ok-place.ensures in
-    c.finding_of.ensures disk ps (at_place (λ s. HasFault s c.in-Some.fault) ps c.in_ok-place.place c.args.pair c.args.id (owned_slot_view c.args.slot.now) place.0 place.1 place.2 is c.in-Some.ensures)

@@ -1,0 +1,99 @@
+use Rattle.std.proofs.Common.{◌++◌, ◌∷◌, [], arith, refl, subst, true, ◌≡◌}
+use Rattle.std.proofs.lemmas.Result.{err_from_is_err_and}
+use Rattle.lfs_model.specs.Frame.{pair_count_of_directory_at, parents}
+use Rattle.lfs_model.specs.TreeEdits.{attributes_of_node}
+use Rattle.lfs_model.specs.Tree.{Tree}
+use Rattle.lfs_lookup.specs.AttributeAt.{IsAttributesSize}
+use Rattle.lfs_lookup.specs.Finds.{IsFoundNodeAtPath, has_entry_beneath_path}
+use Rattle.lfs_lookup.proofs.ReadOnly.{only_read}
+use Rattle.lfs_lookup.proofs.Reading.{answered, answers, both, further, passed}
+use Rattle.lfs_tree.proofs.Asking.{rooted}
+use Rattle.lfs_lookup.proofs.ShownFindings.{few_own}
+use Rattle.lfs_tree.proofs.RenamePaths.{few_since, same_tree, sum_of_rename}
+use Rattle.lfs_tree.proofs.rename_paths.show_both_rename_paths.Goals as goal
+
+pub look_inside_at-requires-clause-accepted : goal.look_inside_at-requires-clause-accepted
+look_inside_at-requires-clause-accepted g c = (rooted c.args.thread.now c.find_node_at_path.new.thread c.args.root true c.requires c.find_node_at_path.result c.find_node_at_path.ensures.reading).sound.accepted
+
+pub look_inside_at-requires-clause-root : goal.look_inside_at-requires-clause-root
+look_inside_at-requires-clause-root g c = (rooted c.args.thread.now c.find_node_at_path.new.thread c.args.root true c.requires c.find_node_at_path.result c.find_node_at_path.ensures.reading).root_is
+
+pub attributes_size_at-requires-clause-accepted : goal.attributes_size_at-requires-clause-accepted
+attributes_size_at-requires-clause-accepted g c =
+    (rooted c.find_node_at_path.new.thread c.look_inside_at.new.thread c.args.root true (rooted c.args.thread.now c.find_node_at_path.new.thread c.args.root true c.requires c.find_node_at_path.result c.find_node_at_path.ensures.reading) c.look_inside_at.result c.look_inside_at.ensures.reading).sound.accepted
+
+pub attributes_size_at-requires-clause-root : goal.attributes_size_at-requires-clause-root
+attributes_size_at-requires-clause-root g c =
+    (rooted c.find_node_at_path.new.thread c.look_inside_at.new.thread c.args.root true (rooted c.args.thread.now c.find_node_at_path.new.thread c.args.root true c.requires c.find_node_at_path.result c.find_node_at_path.ensures.reading) c.look_inside_at.result c.look_inside_at.ensures.reading).root_is
+
+pub returns-in_err-entry-clause-few : goal.returns-in_err-entry-clause-few
+returns-in_err-entry-clause-few g c =
+    let one = c.find_node_at_path.ensures.few in
+    let k = sum_of_rename (pair_count_of_directory_at c.args.thread.now.kept.pairs) c.args.from.now c.args.to.now in
+    omega (arith, one, k)
+
+pub returns-in_err-target-clause-few : goal.returns-in_err-target-clause-few
+returns-in_err-target-clause-few g c =
+    let t = c.args.thread.now.kept in
+    let count = pair_count_of_directory_at t.pairs in
+    let one = c.find_node_at_path.ensures.few in
+    let two = few_since t c.find_node_at_path.new.thread.kept (parents c.args.to.now ++ c.args.to.now ∷ []) _ c.find_node_at_path.ensures.reading.only c.look_inside_at.ensures.few in
+    let s = few_own count c.args.to.now in
+    let k = sum_of_rename count c.args.from.now c.args.to.now in
+    omega (arith, one, two, s, k)
+
+pub returns-in_err-attributes_size-clause-few : goal.returns-in_err-attributes_size-clause-few
+returns-in_err-attributes_size-clause-few g c =
+    let t = c.args.thread.now.kept in
+    let count = pair_count_of_directory_at t.pairs in
+    let one = c.find_node_at_path.ensures.few in
+    let two = few_since t c.find_node_at_path.new.thread.kept (parents c.args.to.now ++ c.args.to.now ∷ []) _ c.find_node_at_path.ensures.reading.only c.look_inside_at.ensures.few in
+    let three = few_since t c.look_inside_at.new.thread.kept (parents c.args.from.now) _ (only_read t c.find_node_at_path.new.thread.kept c.look_inside_at.new.thread.kept c.find_node_at_path.ensures.reading.only c.look_inside_at.ensures.reading.only) c.attributes_size_at.ensures.few in
+    let s = few_own count c.args.to.now in
+    let k = sum_of_rename count c.args.from.now c.args.to.now in
+    omega (arith, one, two, three, s, k)
+
+pub returns-in_err-target-clause-reading : goal.returns-in_err-target-clause-reading
+returns-in_err-target-clause-reading g c =
+    let p = err_from_is_err_and c.from_residual-in_err-target.result c.from_residual-in_err-target.ensures.1 in
+    passed _ _ c.look_inside_at.result c.from_residual-in_err-target.result _ p.0 c.in_err-target.was p.1 p.2
+    (further _ _ _ c.look_inside_at.result (answered _ _ c.find_node_at_path.result c.in_ok-entry.entry c.in_ok-entry.was c.find_node_at_path.ensures.reading) c.look_inside_at.ensures.reading)
+
+pub returns-in_err-attributes_size-clause-reading : goal.returns-in_err-attributes_size-clause-reading
+returns-in_err-attributes_size-clause-reading g c =
+    let p = err_from_is_err_and c.from_residual-in_err-attributes_size.result c.from_residual-in_err-attributes_size.ensures.1 in
+    passed _ _ c.attributes_size_at.result c.from_residual-in_err-attributes_size.result _ p.0 c.in_err-attributes_size.was p.1 p.2
+    (further _ _ _ c.attributes_size_at.result
+    (both _ _ _ (answered _ _ c.find_node_at_path.result c.in_ok-entry.entry c.in_ok-entry.was c.find_node_at_path.ensures.reading) (answered _ _ c.look_inside_at.result c.in_ok-target.target c.in_ok-target.was c.look_inside_at.ensures.reading))
+    c.attributes_size_at.ensures.reading)
+
+pub returns-clause-found : goal.returns-clause-found
+returns-clause-found g c =
+    let t = c.args.thread.now.kept in
+    let one = c.find_node_at_path.new.thread.kept in
+    let two = c.look_inside_at.new.thread.kept in
+    let first = c.find_node_at_path.ensures.reading.only in
+    let second = only_read t one two first c.look_inside_at.ensures.reading.only in
+    record {
+      entry = c.in_ok-entry.ensures.found;
+      target = subst (λ (z : Tree). IsFoundNodeAtPath z c.args.to.now c.in_ok-target.target.finding) (same_tree t one first) c.in_ok-target.ensures.found;
+      has = subst (λ (z : Tree). c.in_ok-target.target.has_entries ≡ has_entry_beneath_path z c.args.to.now) (same_tree t one first) c.in_ok-target.ensures.has;
+      size = subst (λ (z : Tree). IsAttributesSize (attributes_of_node (z c.args.from.now)) c.in_ok-attributes_size.attributes_size) (same_tree t two second) c.in_ok-attributes_size.ensures.is;
+    }
+
+pub returns-clause-few : goal.returns-clause-few
+returns-clause-few g c =
+    let t = c.args.thread.now.kept in
+    let count = pair_count_of_directory_at t.pairs in
+    let one = c.find_node_at_path.ensures.few in
+    let two = few_since t c.find_node_at_path.new.thread.kept (parents c.args.to.now ++ c.args.to.now ∷ []) _ c.find_node_at_path.ensures.reading.only c.look_inside_at.ensures.few in
+    let three = few_since t c.look_inside_at.new.thread.kept (parents c.args.from.now) _ (only_read t c.find_node_at_path.new.thread.kept c.look_inside_at.new.thread.kept c.find_node_at_path.ensures.reading.only c.look_inside_at.ensures.reading.only) c.attributes_size_at.ensures.few in
+    let s = few_own count c.args.to.now in
+    let k = sum_of_rename count c.args.from.now c.args.to.now in
+    omega (arith, one, two, three, s, k)
+
+pub returns-clause-reading : goal.returns-clause-reading
+returns-clause-reading g c =
+    answers _ _ _ _ refl
+    (both _ _ _ (both _ _ _ (answered _ _ c.find_node_at_path.result c.in_ok-entry.entry c.in_ok-entry.was c.find_node_at_path.ensures.reading) (answered _ _ c.look_inside_at.result c.in_ok-target.target c.in_ok-target.was c.look_inside_at.ensures.reading))
+    (answered _ _ c.attributes_size_at.result c.in_ok-attributes_size.attributes_size c.in_ok-attributes_size.was c.attributes_size_at.ensures.reading))

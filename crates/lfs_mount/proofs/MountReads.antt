@@ -7,13 +7,16 @@ use Rattle.std.proofs.lemmas.List.Sums.{sum_by-append, sum_by-cons}
 use Rattle.std.proofs.lemmas.Option.{same_Some}
 use Rattle.lfs_device.specs.Bytes.{HasBytes}
 use Rattle.lfs_model.specs.BlockSets.{BlockStateList}
-use Rattle.lfs_model.specs.Disk.{Disk}
+use Rattle.lfs_model.specs.Content.{has_commit}
+use Rattle.lfs_model.specs.Disk.{Disk, block_bytes_on_disk}
 use Rattle.lfs_model.specs.History.{CallEvent}
 use Rattle.lfs_model.specs.Names.{Name}
 use Rattle.lfs_model.specs.Slots.{Branch, Ctz, Gstate, Inline, Slot, Struct, is_superblock}
 use Rattle.lfs_model.specs.Thread.{AreLinkedByTails, Pair, anchor_pair_address, gstate_of, slots_not_moved, entries_not_moved}
 use Rattle.lfs_model.specs.View.{IsAcceptedImage, IsFileOrDirectoryEntry}
+use Rattle.lfs_pair.specs.Pair.{fetch_reads, later_block_first}
 use Rattle.lfs_thread.specs.Kept.{PairHeader, pairs_of_headers}
+use Rattle.lfs_thread.specs.Reading.{header_reads}
 use Rattle.lfs_mount.specs.Described.{ArePairsDescribedByMembers, IsPairDescribedByMember, moved_id_in_pair}
 use Rattle.lfs_mount.specs.Entries.{empty_directory_scan, entry_reference_of_struct}
 use Rattle.lfs_mount.specs.Head.{HasSuperblockChainOfLength}
@@ -119,12 +122,25 @@ pub some_pair : (ps : List Pair) → AreLinkedByTails (Some anchor_pair_address)
 some_pair [] links = absurd (cc)
 some_pair (p ∷ ps) links = omega arith
 
+at_least_three : (b : Bool) → 3 ≤ cond b 3 4
+at_least_three true = omega arith
+at_least_three false = omega arith
+
+-- each header takes at least one read
+pub header_reads-no_fewer : (disk : Disk) (ps : List Pair) → length ps ≤ header_reads disk ps
+header_reads-no_fewer disk [] = omega arith
+header_reads-no_fewer disk (p ∷ ps) =
+    let more = sum_by-cons (λ (p : Pair). fetch_reads disk p.at) p ps in
+    let three = at_least_three (has_commit (block_bytes_on_disk disk (later_block_first disk p.at).0)) in
+    let rest = header_reads-no_fewer disk ps in
+    omega (arith, more, three, rest)
+
 -- the thread is read, and then its image is checked
 pub mount_few : (old disk now : Disk) (items hs : List PairHeader) (ps qs : List Pair) (first mid last : ℕ) → disk ≡ old → now ≡ disk → hs ≡ items → pairs_of_headers disk items ≡ ps → qs ≡ pairs_of_headers now items
-    → mid ≡ first + 2 * length ps → last ≤ mid + check_reads disk (pairs_of_headers disk hs) → last ≤ first + mount_reads old qs
+    → mid ≡ first + header_reads old ps → last ≤ mid + check_reads disk (pairs_of_headers disk hs) → last ≤ first + mount_reads old qs
 mount_few old disk now items hs ps qs first mid last from same is kept shown read check =
     let pairs : qs ≡ pairs_of_headers disk items = shown ∙ ap (λ (d : Disk). pairs_of_headers d items) same in
-    let len : length ps ≡ length qs = ap length (sym kept ∙ sym pairs) in
+    let headers : header_reads old ps ≡ header_reads old qs = ap (header_reads old) (sym kept ∙ sym pairs) in
     let most : check_reads disk (pairs_of_headers disk hs) ≡ check_reads old qs =
     ap (λ (xs : List PairHeader). check_reads disk (pairs_of_headers disk xs)) is ∙ ap (check_reads disk) (sym pairs) ∙ ap (λ (d : Disk). check_reads d qs) from in
-    omega (arith, read, check, len, most)
+    omega (arith, read, check, headers, most)

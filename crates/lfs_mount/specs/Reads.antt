@@ -1,5 +1,5 @@
 -- How many reads the pairs of an image take.
-use Rattle.std.specs.Prelude.{ℕ, ◌+◌, ◌*◌, List, [], length, sum_by}
+use Rattle.std.specs.Prelude.{ℕ, ◌+◌, List, [], length, sum_by}
 use Rattle.std.specs.Option.{option_and_then, option_map_or}
 use Rattle.lfs_model.specs.Content.{content_after_log_entries, empty_raw_content}
 use Rattle.lfs_model.specs.Disk.{Disk, block_bytes_on_disk}
@@ -8,6 +8,7 @@ use Rattle.lfs_model.specs.SkipLists.{list_block_count_for_size}
 use Rattle.lfs_model.specs.Slots.{Branch, Ctz, Inline, Struct}
 use Rattle.lfs_model.specs.Thread.{Pair}
 use Rattle.lfs_model.specs.Log.{log_entries_of_block}
+use Rattle.lfs_thread.specs.Reading.{header_reads}
 use Rattle.lfs_mount.specs.Marking.{file_lists_of_raw_slots}
 use Rattle.lfs_mount.specs.Taken.{entries_of_member}
 use Rattle.lfs_mount.specs.declared.pass.Member.{Member}
@@ -38,6 +39,6 @@ file_reads disk ps = sum_by (λ s. struct_reads disk.block_size s.struct) (all_s
 abbrev pub check_reads : Disk → List Pair → ℕ
 check_reads disk ps = length ps + 2 + file_reads disk ps
 
--- the reads of a mount: both blocks of each pair, and those of the check
+-- the reads of a mount: those of the thread's headers, and those of the check
 abbrev pub mount_reads : Disk → List Pair → ℕ
-mount_reads disk ps = 2 * length ps + check_reads disk ps
+mount_reads disk ps = header_reads disk ps + check_reads disk ps

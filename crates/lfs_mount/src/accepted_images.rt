@@ -45,7 +45,7 @@ pub fn mount<D: BlockDevice>(alloc: Global, device: D) -> Result<Thread<D>, (D, 
     ensures errors { IfErr result (λ e. IsIoCorruptOrNoMemory e.1) }
     ensures back { IfErr result (λ e. GivesDeviceBackWithError D.BlockDevice device e.0 e.1) }
     ensures called { IfOk result (λ t. reads (D.history device) < reads t.kept.history) }
-    // Three reads for each pair, two more, and one for each block of a file's list.
+    // Those of a fetch and one more for each pair, two more, and one for each block of a file's list.
     ensures few { IfOk result (λ t. reads t.kept.history ≤ reads (D.history device) + mount_reads (disk_of_device D.BlockDevice device) t.kept.pairs) }
 {
     let (thread, orders) = read_image(alloc, device)?;

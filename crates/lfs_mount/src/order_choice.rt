@@ -47,7 +47,7 @@ pub fn mount_either<D: BlockDevice>(
     ensures corrupt { IfErr result (λ e. e.1 ≡ Error.Corrupt → (order : NameOrder) (ps : List ThreadPair) → ¬ IsAcceptedImage (ordered order (disk_of_device D.BlockDevice device)) ps) }
     ensures errors { IfErr result (λ e. IsIoCorruptOrNoMemory e.1) }
     ensures back { IfErr result (λ e. ReturnsUnchangedDeviceWithError D.BlockDevice device e.0 e.1) }
-    // Three reads for each pair, two more, and one for each block of a file's list.
+    // Those of a fetch and one more for each pair, two more, and one for each block of a file's list.
     ensures few { IfOk result (HasAtMostMountReads (disk_of_device D.BlockDevice device) (D.history device)) }
 {
     let (thread, orders) = read_image(alloc, device)?;

@@ -1,3 +1,4 @@
+pub mod FetchedBlock
 pub mod Following
 pub mod Holders
 pub mod Tails

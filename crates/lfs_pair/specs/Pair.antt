@@ -48,6 +48,14 @@ pub record HeaderDescribesLog (block : List ℕ) (pair : Pair) (held : RawConten
 abbrev pub is_second_block_active : List ℕ → List ℕ → Bool
 is_second_block_active a b = has_commit b && (not (has_commit a) || is_later_revision (revision_of_block a) (revision_of_block b))
 
+-- a pair's blocks, the one with the later revision first; as they are named where neither is later
+abbrev pub later_block_first : Disk → ℕ × ℕ → ℕ × ℕ
+later_block_first disk at = if is_later_revision (revision_of_block (block_bytes_on_disk disk at.0)) (revision_of_block (block_bytes_on_disk disk at.1)) then (at.1, at.0) else at
+
+-- the reads of a fetch: both revisions, the block with the later one, and the other block where that one has no commit
+abbrev pub fetch_reads : Disk → ℕ × ℕ → ℕ
+fetch_reads disk at = if has_commit (block_bytes_on_disk disk (later_block_first disk at).0) then 3 else 4
+
 -- the active block of two; the first one where neither has a commit
 abbrev pub active_block_at : Disk → ℕ × ℕ → ℕ
 active_block_at disk at = if is_second_block_active (block_bytes_on_disk disk at.0) (block_bytes_on_disk disk at.1) then at.1 else at.0

@@ -1,16 +1,18 @@
 // The header of a pair, read from the device.
 
 ghost use Rattle.std.specs.Prelude.{◌≡◌, ◌≢◌, ◌+◌, ◌≤◌, ◌<◌, ◌⊎◌, true, IfOk, IfErr, IsOk, None, OnOk, Some};
+ghost use Rattle.lfs_model.specs.Blocks.{block_bytes_in};
 ghost use Rattle.lfs_device.specs.Shown.{disk_of_geometry_and_blocks};
 ghost use Rattle.lfs_device.specs.Calls.{ReadsOnly, ReportsFaults};
 ghost use Rattle.lfs_model.specs.History.{reads};
 ghost use Rattle.lfs_model.specs.Slots.{pair_address_of_array};
 ghost use Rattle.lfs_model.specs.Log.{chain_of, log_entries_of_block, revision_of_block};
 ghost use Rattle.lfs_model.specs.Content.{raw_content_of_pair_at, content_after_log_entries, empty_raw_content, RawContent};
-ghost use Rattle.lfs_pair.specs.Pair.{HeaderDescribesLog, FetchFindsPair};
+ghost use Rattle.lfs_pair.specs.Pair.{HeaderDescribesLog, FetchFindsPair, fetch_reads, later_block_first};
 
 use crate::heads::BlockLogEnd;
 use crate::pair::Pair;
+use byteorder::{ByteOrder, LittleEndian};
 use lfs_device::{BlockDevice, Error, read_block};
 use lfs_tag::{Log, Summary, is_later};
 use std::alloc::Global;
@@ -49,11 +51,48 @@ fn header_of(
     })
 }
 
+// Reads the revision of a block.
+fn read_revision<D: BlockDevice>(dev: &mut D, block: u32) -> Result<u32, Error>
+    requires { block < (D.geometry dev.old).block_count }
+    ensures revision { IfOk result (λ revision. revision ≡ revision_of_block (block_bytes_in (D.blocks dev.old) block)) }
+    ensures errors { IfErr result (λ e. e ≡ Error.Io) }
+    ensures faults { ReportsFaults D.BlockDevice dev.old dev.new result }
+    ensures device { ReadsOnly D.BlockDevice dev.old dev.new }
+    ensures once { reads (D.history dev.new) ≡ reads (D.history dev.old) + 1 }
+{
+    let mut bytes = [0; 4];
+    dev.read(block, 0, &mut bytes)?;
+    Ok(LittleEndian::read_u32(&bytes))
+}
+
+// Returns the two indices of a pair's blocks, the one with the later revision first. It is the one
+// that is named first where neither is later.
+fn later_first<D: BlockDevice>(dev: &mut D, blocks: [u32; 2]) -> Result<[u32; 2], Error>
+    requires first { (pair_address_of_array blocks).0 < (D.geometry dev.old).block_count }
+    requires second { (pair_address_of_array blocks).1 < (D.geometry dev.old).block_count }
+    ensures later { IfOk result (λ later. pair_address_of_array later ≡ later_block_first (disk_of_geometry_and_blocks (D.geometry dev.old) (D.blocks dev.old)) (pair_address_of_array blocks)) }
+    ensures errors { IfErr result (λ e. e ≡ Error.Io) }
+    ensures faults { ReportsFaults D.BlockDevice dev.old dev.new result }
+    ensures device { ReadsOnly D.BlockDevice dev.old dev.new }
+    ensures reads { reads (D.history dev.new) ≤ reads (D.history dev.old) + 2 }
+    ensures both { OnOk result (reads (D.history dev.new) ≡ reads (D.history dev.old) + 2) }
+{
+    let [first, second] = blocks;
+    let first_revision = read_revision(dev, first)?;
+    let second_revision = read_revision(dev, second)?;
+    if is_later(first_revision, second_revision) {
+        Ok([second, first])
+    } else {
+        Ok([first, second])
+    }
+}
+
 /// Reads the header of the metadata pair at two blocks (SPEC.md of littlefs, "Metadata pairs"). The
 /// header says which block is active, where its log ends, and what the log comes to without the
 /// slots. The caller's condition is that the two blocks differ and are below the number of blocks.
-/// Each block is read once where the call succeeds, and no checksum is computed twice. The call
-/// takes memory for both blocks and two bytes a slot. Nothing is written.
+/// Both revisions are read first, then the block with the later one. The other block is read where
+/// that one has no commit. The call takes memory for the blocks that it reads and two bytes a slot.
+/// Nothing is written.
 ///
 /// Errors: `Corrupt` exactly where neither block has a commit, or the log of the active block is
 /// malformed. `Io` where a read failed. `NoMemory` where memory for the blocks and the slots isn't
@@ -67,18 +106,19 @@ pub fn fetch<D: BlockDevice>(alloc: Global, dev: &mut D, blocks: [u32; 2]) -> Re
     ensures errors { IfErr result (λ e. (e ≡ Error.Corrupt) ⊎ (e ≡ Error.NoMemory) ⊎ (e ≡ Error.Io)) }
     ensures faults { ReportsFaults D.BlockDevice dev.old dev.new result }
     ensures device { ReadsOnly D.BlockDevice dev.old dev.new }
-    ensures reads { reads (D.history dev.new) ≤ reads (D.history dev.old) + 2 }
-    ensures both { OnOk result (reads (D.history dev.new) ≡ reads (D.history dev.old) + 2) }
+    ensures reads { OnOk result (reads (D.history dev.new) ≡ reads (D.history dev.old) + fetch_reads (disk_of_geometry_and_blocks (D.geometry dev.old) (D.blocks dev.old)) (pair_address_of_array blocks)) }
+    ensures few { reads (D.history dev.new) ≤ reads (D.history dev.old) + 4 }
 {
-    let second_bytes = read_block(alloc, dev, blocks[1])?;
-    let bytes = read_block(alloc, dev, blocks[0])?;
-    let second = BlockLogEnd::of(&second_bytes);
-    let first = BlockLogEnd::of(&bytes);
-    if first.has_commit && !(second.has_commit && is_later(first.revision, second.revision)) {
-        return header_of(alloc, blocks, blocks[0], first, &bytes);
+    let [later, other] = later_first(dev, blocks)?;
+    let bytes = read_block(alloc, dev, later)?;
+    let head = BlockLogEnd::of(&bytes);
+    if head.has_commit {
+        return header_of(alloc, blocks, later, head, &bytes);
     }
-    if !second.has_commit {
+    let other_bytes = read_block(alloc, dev, other)?;
+    let other_head = BlockLogEnd::of(&other_bytes);
+    if !other_head.has_commit {
         return Err(Error::Corrupt);
     }
-    header_of(alloc, blocks, blocks[1], second, &second_bytes)
+    header_of(alloc, blocks, other, other_head, &other_bytes)
 }

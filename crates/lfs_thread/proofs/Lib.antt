@@ -12,3 +12,4 @@ pub mod CachedPair
 pub mod GlobalState
 pub mod Beside
 pub mod ByBlocks
+pub mod HeaderReads

@@ -1,5 +1,5 @@
 -- What a reading of a thread from a device leaves and reports.
-use Rattle.std.specs.Prelude.{ℕ, ◌≡◌, ◌+◌, ◌*◌, ◌⊎◌, false, List, [], length, slice_set, Result, IfErr}
+use Rattle.std.specs.Prelude.{ℕ, ◌≡◌, ◌+◌, ◌⊎◌, false, List, [], slice_set, sum_by, Result, IfErr}
 use Rattle.lfs_device.specs.declared.device.BlockDevice.{Ghosts}
 use Rattle.lfs_device.specs.declared.error.Error.{Error}
 use Rattle.lfs_device.specs.declared.error.Error.TheVariants.{Corrupt, Io, NoMemory}
@@ -8,8 +8,8 @@ use Rattle.lfs_model.specs.BlockSets.{AreExactlyTheInFlightBlocks, AreExactlyThe
 use Rattle.lfs_model.specs.Content.{content_of_pair_at}
 use Rattle.lfs_model.specs.Disk.{Disk}
 use Rattle.lfs_model.specs.History.{CallEvent, AreCallsSinceOnlyReads, faults, reads}
-use Rattle.lfs_model.specs.Thread.{IsThread, blocks_of_pairs}
-use Rattle.lfs_pair.specs.Pair.{address_of_header}
+use Rattle.lfs_model.specs.Thread.{IsThread, Pair, blocks_of_pairs}
+use Rattle.lfs_pair.specs.Pair.{address_of_header, fetch_reads}
 use Rattle.lfs_thread.specs.Begun.{IsPairOnFreeBlocks}
 use Rattle.lfs_thread.specs.Kept.{PairHeader, IsPairHeaderOnDisk, ThreadView, disk_of_device}
 
@@ -26,8 +26,12 @@ pub record IsHeaderReadAt (disk : Disk) (history : List CallEvent) (at : ℕ × 
   pub stands : IsPairOnFreeBlocks disk old at
   pub marked : new ≡ slice_set (slice_set old at.0 Used) at.1 Used
 
--- The thread was read from a device that was only read, each block of a pair once and none with a fault. It works. The blocks of
--- its pairs are used and no others, and none is in flight.
+-- the reads of the headers of a thread's pairs
+abbrev pub header_reads : Disk → List Pair → ℕ
+header_reads disk ps = sum_by (λ p. fetch_reads disk p.at) ps
+
+-- The thread was read from a device that was only read, by one fetch for each pair and none with a fault. It works. The blocks
+-- of its pairs are used and no others, and none is in flight.
 pub record IsThreadReadFrom {D : Type 0} (g : Ghosts D) (device : D) (t : ThreadView) : Type 0 where
   pub works : t.failed ≡ false
   pub thread : IsThread (content_of_pair_at (disk_of_device g device)) (g.geometry device).block_count t.kept.pairs
@@ -36,4 +40,4 @@ pub record IsThreadReadFrom {D : Type 0} (g : Ghosts D) (device : D) (t : Thread
   pub disk : t.kept.disk ≡ disk_of_device g device
   pub only : AreCallsSinceOnlyReads (g.blocks device) (g.history device) t.kept.history
   pub no_fault : faults t.kept.history ≡ faults (g.history device)
-  pub few : reads t.kept.history ≡ reads (g.history device) + 2 * length t.kept.pairs
+  pub few : reads t.kept.history ≡ reads (g.history device) + header_reads (disk_of_device g device) t.kept.pairs

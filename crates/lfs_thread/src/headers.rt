@@ -1,6 +1,6 @@
 // The headers of a thread, read from a device.
 
-ghost use Rattle.std.specs.Prelude.{◌≡◌, ◌+◌, ◌*◌, ℕ, [], length, replicate, IfOk, List, OnOk};
+ghost use Rattle.std.specs.Prelude.{◌≡◌, ◌+◌, [], length, replicate, sum_by, IfOk, List, OnOk};
 ghost use Rattle.std.specs.Option.{option_map};
 ghost use Rattle.lfs_model.specs.Slots.{pair_address_of_array};
 ghost use Rattle.lfs_tag.specs.ContentView.{tail_view};
@@ -9,6 +9,7 @@ ghost use Rattle.lfs_model.specs.BlockSets.BlockState.{Free};
 ghost use Rattle.lfs_model.specs.Content.{content_of_pair_at};
 ghost use Rattle.lfs_model.specs.History.{reads};
 ghost use Rattle.lfs_model.specs.Thread.{IsThread, Pair as ThreadPair, blocks_of_pairs, pair_named_by_tail};
+ghost use Rattle.lfs_pair.specs.Pair.{address_of_header, fetch_reads};
 ghost use Rattle.lfs_thread.specs.Begun.{IsPairOnFreeBlocks};
 ghost use Rattle.lfs_thread.specs.Kept.{IsKeptThreadOnDevice, disk_of_device, pairs_of_headers};
 ghost use Rattle.lfs_thread.specs.Reading.{IsHeaderReadAt, OnlyReadsAndReportsErrors};
@@ -33,7 +34,7 @@ pub(crate) fn read_thread_headers<D: BlockDevice>(
     ensures corrupt { result ≡ Err Error.Corrupt → (ps : List ThreadPair)
         → ¬ IsThread (content_of_pair_at (disk_of_device D.BlockDevice device.old)) (D.geometry device.old).block_count ps }
     ensures reported { OnlyReadsAndReportsErrors D.BlockDevice device.old device.new result }
-    ensures few { OnOk result (reads (D.history device.new) ≡ reads (D.history device.old) + 2 * length pairs.new.items) }
+    ensures few { OnOk result (reads (D.history device.new) ≡ reads (D.history device.old) + sum_by (λ h. fetch_reads (disk_of_device D.BlockDevice device.old) (address_of_header h)) pairs.new.items) }
 {
     let block_count = device.geometry().block_count;
     let mut next = Some([0, 1]);
@@ -73,7 +74,7 @@ fn read_and_mark_pair<D: BlockDevice>(
     ensures read { IfOk result (IsHeaderReadAt (disk_of_device D.BlockDevice device.old) (D.history device.new) (pair_address_of_array at) map.old map.new) }
     ensures corrupt { result ≡ Err Error.Corrupt → ¬ IsPairOnFreeBlocks (disk_of_device D.BlockDevice device.old) map.old (pair_address_of_array at) }
     ensures reported { OnlyReadsAndReportsErrors D.BlockDevice device.old device.new result }
-    ensures few { OnOk result (reads (D.history device.new) ≡ reads (D.history device.old) + 2) }
+    ensures few { OnOk result (reads (D.history device.new) ≡ reads (D.history device.old) + fetch_reads (disk_of_device D.BlockDevice device.old) (pair_address_of_array at)) }
 {
     let [first, second] = at;
     let block_count = device.geometry().block_count;

@@ -11,7 +11,7 @@ use Rattle.lfs_tag.specs.FieldsView.{move_view}
 use Rattle.lfs_thread.specs.Kept.{IsCacheCurrent, Kept, disk_of_device}
 use Rattle.lfs_mount.specs.ReadImage.{in_order}
 use Rattle.lfs_mount.specs.Reads.{mount_reads}
-use Rattle.lfs_mount.proofs.MountReads.{mount_few, some_pair}
+use Rattle.lfs_mount.proofs.MountReads.{header_reads-no_fewer, mount_few, some_pair}
 use Rattle.lfs_mount.proofs.Mounted.{disk_now, given_back, is_mounted, kept_again, ok_reports, read_is}
 use Rattle.std.proofs.lemmas.Result.{err_from_is_err_and}
 use Rattle.lfs_mount.proofs.accepted_images.read_image.Goals as goal
@@ -71,7 +71,7 @@ returns-in-Ok-clause-read g c =
           let since = reads-since device.reads in
           let end = ap (λ (k : Kept). reads k.history) kept in
           record {
-            called = omega (arith, some, begun, same, since, end);
+            called = (let no_fewer = header_reads-no_fewer old c.in_ok-thread.thread.kept.pairs in omega (arith, some, no_fewer, begun, same, since, end));
             few = subst (λ h. reads h ≤ reads first + mount_reads old c.from_parts.result.kept.pairs) (sym (ap (λ (k : Kept). k.history) kept))
                 (mount_few old disk now parts.result.pairs.items c.deref.result.now c.in_ok-thread.thread.kept.pairs c.from_parts.result.kept.pairs (reads first) (reads history) (reads later)
                 from (disk_now device) c.deref.ensures.value (ap (λ (k : Kept). k.pairs) parts.ensures.same) (ap (λ (k : Kept). k.pairs) kept)

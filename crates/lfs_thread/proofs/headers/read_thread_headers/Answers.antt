@@ -8,6 +8,9 @@ use Rattle.lfs_device.specs.Shown.{disk_of_geometry_and_blocks}
 use Rattle.lfs_device.specs.declared.geometry.Geometry.{Geometry}
 use Rattle.lfs_model.specs.Slots.{pair_address_of_array}
 use Rattle.lfs_model.proofs.Histories.{began}
+use Rattle.std.specs.Prelude.{sum_by}
+use Rattle.lfs_pair.specs.Pair.{address_of_header, fetch_reads}
+use Rattle.lfs_thread.proofs.HeaderReads.{more_reads}
 use Rattle.lfs_thread.specs.Begun.{IsBeginningOfThread}
 use Rattle.lfs_thread.proofs.Begun.{begun_first, begun_next, begun_kept, begun_none_in_flight, begun_few, no_thread, read_on, same_error}
 use Rattle.lfs_thread.proofs.headers.read_thread_headers.Goals as goal
@@ -18,7 +21,7 @@ loop-init g c = record {
   device = record { same = refl; geometry = refl; reads = began };
   no_fault = refl;
   count = ap length c.requires.none;
-  few = let none = ap length c.requires.none in omega (arith, none);
+  few = let none = ap (sum_by (λ h. fetch_reads (disk_of_geometry_and_blocks (g.D.BlockDevice.geometry c.args.device.now) (g.D.BlockDevice.blocks c.args.device.now)) (address_of_header h))) c.requires.none in omega (arith, none);
 }
 
 pub returns-in-None-clause-kept : goal.returns-in-None-clause-kept
@@ -63,7 +66,8 @@ loop-preserved g c =
           (ap₂ disk_of_geometry_and_blocks read.reported.device.geometry read.reported.device.same) read.reported.device.reads (ap (option_map pair_address_of_array) c.in-Some.is) c.loop.invariant.begun read.read.header read.read.address read.read.stands c.in_ok-push-in-Some.ensures.items read.read.marked c.address_named_by_header_tail-next.ensures;
       device = read_on c.loop.invariant.device read.reported.device;
       no_fault = no_fault ∙ c.loop.invariant.no_fault;
-      few = (let before = c.loop.invariant.few in let two = read.few in let more = ap length c.in_ok-push-in-Some.ensures.items ∙ length-append c.loop.pairs.items (c.in_ok-pair-in-Some.pair ∷ []) in omega (arith, before, two, more));
+      few = more_reads _ (disk_of_geometry_and_blocks (g.D.BlockDevice.geometry c.args.device.now) (g.D.BlockDevice.blocks c.args.device.now)) c.loop.pairs.items c.in_ok-pair-in-Some.pair _ (pair_address_of_array c.in-Some.at) _ _ _
+          (ap₂ disk_of_geometry_and_blocks c.loop.invariant.device.geometry c.loop.invariant.device.same) read.read.address c.in_ok-push-in-Some.ensures.items c.loop.invariant.few read.few;
       count = ap length c.in_ok-push-in-Some.ensures.items ∙ length-append c.loop.pairs.items (c.in_ok-pair-in-Some.pair ∷ []) ∙ ap (λ n. n + 1) c.loop.invariant.count;
     }
 

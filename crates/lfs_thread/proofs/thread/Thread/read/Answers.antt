@@ -1,11 +1,11 @@
-use Rattle.std.proofs.Common.{◌≡◌, ap₂, arith, refl, subst}
-use Rattle.std.proofs.lemmas.List.{length-map}
+use Rattle.std.proofs.Common.{◌≡◌, ◌+◌, ◌∙◌, ap, ap₂, refl, subst, sym}
 use Rattle.lfs_device.specs.Shown.{disk_of_geometry_and_blocks}
 use Rattle.lfs_model.specs.Content.{content_of_pair_at}
 use Rattle.lfs_model.specs.Disk.{Disk, block_count}
+use Rattle.lfs_model.specs.History.{reads}
 use Rattle.lfs_model.specs.Thread.{IsThread}
-use Rattle.lfs_pair.specs.Pair.{address_of_header}
-use Rattle.lfs_thread.specs.Kept.{disk_of_device, pair_on, pairs_of_headers}
+use Rattle.lfs_thread.specs.Kept.{disk_of_device, pairs_of_headers}
+use Rattle.lfs_thread.proofs.HeaderReads.{header_reads_of}
 use Rattle.lfs_thread.proofs.Keeping.{kept_thread}
 use Rattle.lfs_thread.proofs.thread.Thread.read.Goals as goal
 
@@ -18,7 +18,6 @@ returns-in-Ok-read_thread_headers-clause-read g c =
     let thread : IsThread (content_of_pair_at disk) (g.D.BlockDevice.geometry c.args.device).block_count ps =
     subst (λ k. IsThread (content_of_pair_at disk) k ps) (g.met.D.BlockDevice.shape c.args.device).count
     (subst (λ (d : Disk). IsThread (content_of_pair_at d) (block_count d) ps) same (kept_thread _ _ _ _ c.in-Ok-read_thread_headers.ensures.kept)) in
-    let many = length-map c.read_thread_headers.new.pairs.items (λ h. pair_on (disk_of_device g.D.BlockDevice c.read_thread_headers.new.device) (address_of_header h)) in
     let read = c.in-Ok-read_thread_headers.ensures.few in
     record {
       works = refl;
@@ -28,5 +27,5 @@ returns-in-Ok-read_thread_headers-clause-read g c =
       disk = same;
       only = reported.device.reads;
       no_fault = reported.faults.no_fault (λ e. absurd (cc));
-      few = omega (arith, many, read);
+      few = read ∙ ap (λ n. reads (g.D.BlockDevice.history c.args.device) + n) (sym (header_reads_of (disk_of_device g.D.BlockDevice c.read_thread_headers.new.device) disk c.read_thread_headers.new.pairs.items));
     }

@@ -3,12 +3,12 @@ use Rattle.std.proofs.Common.{ℕ, ◌≡◌, ◌≤◌, ◌+◌, ◌-◌, sym, 
 use Rattle.lfs_device.specs.declared.geometry.Geometry.{Geometry}
 use Rattle.lfs_model.specs.Blocks.{Blocks, HasBlocksOfCountAndSize}
 use Rattle.lfs_model.specs.SkipLists.{AreListBlocks, IsSkipList, list_block_count_for_size}
-use Rattle.lfs_ctz.proofs.Sizes.{list_block_count_for_size-last}
+use Rattle.lfs_ctz.proofs.Sizes.{blocks_for-last}
 
 -- the last index and one more is the number of blocks
 pub last_is : (block_size size n : ℕ) → 1024 ≤ block_size → 1 ≤ size → n ≡ list_block_count_for_size block_size size → n - 1 + 1 ≡ list_block_count_for_size block_size size
 last_is block_size size n large some is =
-    let last = list_block_count_for_size-last block_size size large some in
+    let last = blocks_for-last block_size size large some in
     omega (arith, last.1.0)
 
 -- a list is a chain from its last block

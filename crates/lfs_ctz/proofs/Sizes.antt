@@ -189,9 +189,9 @@ place_before block_size p i j off large is e =
     (cases_lt j i)
 
 -- the last byte is in the last block
-pub list_block_count_for_size-last : (block_size size : ℕ) → 1024 ≤ block_size → 1 ≤ size
+pub blocks_for-last : (block_size size : ℕ) → 1024 ≤ block_size → 1 ≤ size
     → (n : ℕ) × ((list_block_count_for_size block_size size ≡ suc n) × ((bytes_before block_size n < size) × (size ≤ bytes_before block_size n + capacity_of block_size n)))
-list_block_count_for_size-last block_size size large some =
+blocks_for-last block_size size large some =
     let last = placed block_size (size - 1) large in
     let low = last.1.1.from in
     let high = last.1.1.below in
@@ -200,7 +200,7 @@ list_block_count_for_size-last block_size size large some =
 -- more bytes than the blocks before one hold need that one
 pub list_block_count_for_size-above : (block_size total n : ℕ) → 1024 ≤ block_size → bytes_before block_size n < total → n < list_block_count_for_size block_size total
 list_block_count_for_size-above block_size total n large above =
-    let last = list_block_count_for_size-last block_size total large (omega arith) in
+    let last = blocks_for-last block_size total large (omega arith) in
     let count = last.1.0 in
     let within = last.1.1.1 in
     ⊎_elim
@@ -212,7 +212,7 @@ list_block_count_for_size-above block_size total n large above =
 pub list_block_count_for_size-within : (block_size total n : ℕ) → 1024 ≤ block_size → total ≤ bytes_before block_size n → list_block_count_for_size block_size total ≤ n
 list_block_count_for_size-within block_size zero n large within = omega arith
 list_block_count_for_size-within block_size (suc total) n large within =
-    let last = list_block_count_for_size-last block_size (suc total) large (omega arith) in
+    let last = blocks_for-last block_size (suc total) large (omega arith) in
     let count = last.1.0 in
     let above = last.1.1.0 in
     ⊎_elim

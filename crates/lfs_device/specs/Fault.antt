@@ -6,12 +6,12 @@ use Rattle.lfs_device.specs.declared.fault.Extent.{Extent}
 use Rattle.lfs_device.specs.declared.fault.Extent.TheVariants.{Nothing, FirstBytes, Whole}
 use Rattle.lfs_device.specs.declared.fault.PlannedFault.{PlannedFault}
 use Rattle.lfs_model.specs.History.Call.{Read as Read', Program as Program', Erase as Erase'}
-use Rattle.lfs_model.specs.History.{Call, CallEvent, reads, programs, erases}
+use Rattle.lfs_model.specs.History.{Call, CallEvent, reads, program_count_of_history, erases}
 
 abbrev pub count_of_device_calls : Which → List CallEvent → ℕ
-count_of_device_calls Any history = reads history + programs history + erases history
+count_of_device_calls Any history = reads history + program_count_of_history history + erases history
 count_of_device_calls Read history = reads history
-count_of_device_calls Program history = programs history
+count_of_device_calls Program history = program_count_of_history history
 count_of_device_calls Erase history = erases history
 
 abbrev pub is_counted_call : Which → Call → Bool

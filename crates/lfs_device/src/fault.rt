@@ -1,6 +1,6 @@
 ghost use Rattle.std.specs.Prelude.{◌≡◌, ◌≤◌, ◌<◌, ◌+◌, ◌-◌, ◌%◌, ◌^◌, ◌||◌, ℕ, true, false, min, [], length, slice_range, is_err, IfSome, OnOk, OnErr, Some};
 ghost use Rattle.lfs_model.specs.Blocks.{AreBlocksEqualExceptOne, AreBytesEqualOutsideRange, block_bytes_in, programmed};
-ghost use Rattle.lfs_model.specs.History.{reads, programs, erases, faults, unprogrammed, AreBytesUnprogrammed, IsLeftByNewestCall};
+ghost use Rattle.lfs_model.specs.History.{reads, program_count_of_history, erases, faults, unprogrammed, AreBytesUnprogrammed, IsLeftByNewestCall};
 ghost use Rattle.lfs_model.specs.History.Call.{Read, Program, Erase};
 ghost use Rattle.lfs_model.specs.Conformance.{AreConformingCalls};
 ghost use Rattle.lfs_model.specs.Premises.{MeetsPowerLossPremises};
@@ -58,10 +58,10 @@ pub struct FaultDevice<D: BlockDevice> {
     program_calls: u64,
     erase_calls: u64,
     trace: Trace,
-    pub ghost have_due_calls_failed: { have_due_calls_failed fault.which fault.nth fault.stops trace.events ≡ true },
-    pub ghost count_of_undue_faults: { count_of_undue_faults fault.which fault.nth fault.stops trace.events ≤ faults (D.history inner) },
+    pub ghost due_failed: { have_due_calls_failed fault.which fault.nth fault.stops trace.events ≡ true },
+    pub ghost undue_faults: { count_of_undue_faults fault.which fault.nth fault.stops trace.events ≤ faults (D.history inner) },
     ghost reads_counted: { read_calls ≡ min (reads trace.events) (2 ^ 64 - 1) },
-    ghost programs_counted: { program_calls ≡ min (programs trace.events) (2 ^ 64 - 1) },
+    ghost programs_counted: { program_calls ≡ min (program_count_of_history trace.events) (2 ^ 64 - 1) },
     ghost erases_counted: { erase_calls ≡ min (erases trace.events) (2 ^ 64 - 1) },
     ghost newest: { IsLeftByNewestCall trace.events (D.blocks inner) },
     ghost conforms: { AreConformingCalls trace.events },

@@ -36,7 +36,7 @@ pub struct RamDevice {
 }
 
 impl RamDevice {
-    ghost use Rattle.lfs_device.specs.RamDevice.{geometry_of, bytes_of, ram_blocks, erase_effect_of_ram, history_of};
+    ghost use Rattle.lfs_device.specs.RamDevice.{geometry_of, ram_bytes, ram_blocks, erase_effect_of_ram, history_of};
 
     /// Makes a device that holds 0xff in every byte. An erase fills a block with 0xff. Every byte
     /// counts as programmed.
@@ -44,7 +44,7 @@ impl RamDevice {
     /// Errors: `NoMemory` where memory for all bytes isn't granted.
     pub fn blank(alloc: Global, geometry: Geometry) -> Result<RamDevice, Error>
         ensures geometry { IfOk result (λ d. geometry_of d ≡ geometry) }
-        ensures bytes { IfOk result (λ d. bytes_of d ≡ replicate (geometry.block_size * geometry.block_count) 255) }
+        ensures bytes { IfOk result (λ d. ram_bytes d ≡ replicate (geometry.block_size * geometry.block_count) 255) }
         ensures erased { IfOk result (λ d. erase_effect_of_ram d ≡ Erased.Fill 255) }
         ensures no_call { IfOk result (λ d. history_of d ≡ []) }
         ensures err { OnErr result (result ≡ Err Error.NoMemory) }
@@ -65,7 +65,7 @@ impl RamDevice {
     /// Errors: `Invalid` exactly where the number of bytes isn't that of the geometry.
     pub fn from_bytes(geometry: Geometry, bytes: Vec<u8>) -> Result<RamDevice, Error>
         ensures made { MatchResult result
-            (λ d. (geometry_of d ≡ geometry) × (bytes_of d ≡ bytes.items) × (erase_effect_of_ram d ≡ Erased.Fill 255))
+            (λ d. (geometry_of d ≡ geometry) × (ram_bytes d ≡ bytes.items) × (erase_effect_of_ram d ≡ Erased.Fill 255))
             (λ e. (e ≡ Error.Invalid) × (¬ (length bytes.items ≡ geometry.block_size * geometry.block_count))) }
         ensures no_call { IfOk result (λ d. history_of d ≡ []) }
     {
@@ -83,7 +83,7 @@ impl RamDevice {
     /// Returns the same device, in which an erase leaves other bytes from now on.
     pub fn erased_as(self, erased: Erased) -> RamDevice
         ensures geometry { geometry_of result ≡ geometry_of self }
-        ensures bytes { bytes_of result ≡ bytes_of self }
+        ensures bytes { ram_bytes result ≡ ram_bytes self }
         ensures erased { erase_effect_of_ram result ≡ erased }
         ensures history { history_of result ≡ history_of self }
     {
@@ -103,7 +103,7 @@ impl RamDevice {
 
     /// Borrows all bytes of the device, block after block.
     pub fn bytes(&self) -> &[u8]
-        ensures bytes { result.now ≡ bytes_of self.now }
+        ensures bytes { result.now ≡ ram_bytes self.now }
         ensures blocks { ram_blocks self.now ≡ cut (geometry_of self.now).block_size (geometry_of self.now).block_count result.now }
     {
         &self.bytes
@@ -111,7 +111,7 @@ impl RamDevice {
 
     /// Returns all bytes of the device, block after block. The device is dropped.
     pub fn to_bytes(self) -> Vec<u8>
-        ensures bytes { result.items ≡ bytes_of self }
+        ensures bytes { result.items ≡ ram_bytes self }
         ensures blocks { ram_blocks self ≡ cut (geometry_of self).block_size (geometry_of self).block_count result.items }
     {
         self.bytes
@@ -158,7 +158,7 @@ fn erase_at(all: &mut Vec<u8>, at: usize, len: usize, erased: Erased)
 impl BlockDevice for RamDevice {
     ghost use Rattle.lfs_model.proofs.Cuts.{HasBlocksOfCountAndSize-cut};
     ghost use Rattle.lfs_device.specs.ByteLists.{HasBytes-cut};
-    ghost use Rattle.lfs_device.specs.RamDevice.{geometry_of, bytes_of, ram_blocks, erase_effect_of_ram, history_of};
+    ghost use Rattle.lfs_device.specs.RamDevice.{geometry_of, ram_bytes, ram_blocks, erase_effect_of_ram, history_of};
 
     ghost geometry = { geometry_of };
 

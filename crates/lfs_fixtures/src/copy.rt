@@ -1,7 +1,7 @@
 ghost use Rattle.std.specs.Prelude.{◌≡◌, ◌⊎◌, ◌+◌, ◌/◌, ◌<◌, IfErr, OnOk, IsErrOf, slice_set};
 ghost use Rattle.lfs_device.specs.Calls.{ChangesOnlyThisBlock, ReportsFaults};
 ghost use Rattle.lfs_model.specs.Blocks.{block_bytes_in};
-ghost use Rattle.lfs_model.specs.History.{erases, programs};
+ghost use Rattle.lfs_model.specs.History.{erases, program_count_of_history};
 
 use lfs_device::{BlockDevice, Error, read_block};
 use std::alloc::Global;
@@ -22,8 +22,8 @@ pub fn copy_block<D: BlockDevice>(
     ensures copied { OnOk result (D.blocks device.new ≡ slice_set (D.blocks device.old) to (block_bytes_in (D.blocks device.old) from)) }
     ensures device { ChangesOnlyThisBlock D.BlockDevice to device.old device.new }
     ensures erases { OnOk result (erases (D.history device.new) ≡ erases (D.history device.old) + 1) }
-    ensures programs { OnOk result (programs (D.history device.new)
-        ≡ programs (D.history device.old) + (D.geometry device.old).block_size / (D.geometry device.old).page) }
+    ensures programs { OnOk result (program_count_of_history (D.history device.new)
+        ≡ program_count_of_history (D.history device.old) + (D.geometry device.old).block_size / (D.geometry device.old).page) }
     ensures faults { ReportsFaults D.BlockDevice device.old device.new result }
     ensures errors { IfErr result (λ e. (e ≡ Error.Io) ⊎ (e ≡ Error.NoMemory)) }
     ensures no_memory { IsErrOf result Error.NoMemory → D.history device.new ≡ D.history device.old }

@@ -51,13 +51,13 @@ AreDirectoryEntriesPushed ps path first old new =
     (shapes : List NameAndStruct) × (AreSortedByName (entries_of_directory_from ps (Some first)) shapes × (new ≡ old ++ reverse (walked_entries_beneath path shapes)))
 
 -- the entries of a directory are put on top
-abbrev pub AreEntriesOfStructPushed : List Pair → List ℕ → Struct → List PathAndStruct → List PathAndStruct → Type 0
-AreEntriesOfStructPushed ps path (Branch to) old new = (first : ℕ) × (IsPairAtAddress ps to first × AreDirectoryEntriesPushed ps path first old new)
-AreEntriesOfStructPushed ps path (Inline bytes) old new = new ≡ old
-AreEntriesOfStructPushed ps path (Ctz head size) old new = new ≡ old
+abbrev pub AreDirectoryEntriesPushedIfBranch : List Pair → List ℕ → Struct → List PathAndStruct → List PathAndStruct → Type 0
+AreDirectoryEntriesPushedIfBranch ps path (Branch to) old new = (first : ℕ) × (IsPairAtAddress ps to first × AreDirectoryEntriesPushed ps path first old new)
+AreDirectoryEntriesPushedIfBranch ps path (Inline bytes) old new = new ≡ old
+AreDirectoryEntriesPushedIfBranch ps path (Ctz head size) old new = new ≡ old
 
 abbrev pub AreEntriesOfWalkedPushed : List Pair → PathAndStruct → List PathAndStruct → List PathAndStruct → Type 0
-AreEntriesOfWalkedPushed ps place old new = AreEntriesOfStructPushed ps place.path place.struct old new
+AreEntriesOfWalkedPushed ps place old new = AreDirectoryEntriesPushedIfBranch ps place.path place.struct old new
 
 -- ---- the walk
 

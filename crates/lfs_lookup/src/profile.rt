@@ -131,7 +131,11 @@ fn fits_at<D: BlockDevice>(
 
 /// Returns whether a pair continues the directory of the pair before it. The pairs up to the root's
 /// first one, whose number is `root`, don't.
-pub fn follows_at<D: BlockDevice>(thread: &Thread<D>, root: usize, index: usize) -> bool
+pub fn is_pair_after_hard_tail<D: BlockDevice>(
+    thread: &Thread<D>,
+    root: usize,
+    index: usize,
+) -> bool
     requires works { thread.now.failed ≡ false }
     requires below { index < length thread.now.kept.pairs }
     ensures { result ≡ follows_hard_tail_at root thread.now.kept.pairs index }
@@ -162,7 +166,7 @@ pub fn is_writable<D: BlockDevice>(
 {
     let geometry = thread.device().geometry();
     for index in 0..thread.len() {
-        let follows = follows_at(thread, root, index);
+        let follows = is_pair_after_hard_tail(thread, root, index);
         if !fits_at(alloc, thread, &geometry, index, follows)? {
             return Ok(false);
         }

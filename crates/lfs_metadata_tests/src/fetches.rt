@@ -111,14 +111,17 @@ fn the_later_log_holds(rt: HostRuntime) -> Result<(), Fail> {
     Ok(())
 }
 
-// No commit and a malformed log are corrupt. A read that fails is `Io`, and then all is read again.
+// No commit and a malformed log are corrupt. Both revisions are read, then the block with the later
+// one, and the other where that one has no commit. A read that fails is `Io`, and then all is read
+// again.
 #[test]
 fn fetches_fail(rt: HostRuntime) -> Result<(), Fail> {
     for (second, nth, error, calls) in [
-        ((0, NOTHING), 0, Error::Corrupt, 2),
-        ((9, MALFORMED), 0, Error::Corrupt, 2),
+        ((0, NOTHING), 0, Error::Corrupt, 4),
+        ((9, MALFORMED), 0, Error::Corrupt, 3),
         ((9, HELD), 1, Error::Io, 1),
         ((9, HELD), 2, Error::Io, 2),
+        ((9, HELD), 3, Error::Io, 3),
     ] {
         let first = if second.0 == 0 {
             (0, NOTHING)

@@ -178,10 +178,10 @@ fn images_are_mounted(rt: HostRuntime) -> Result<(), Fail> {
     for (number, (image, answer)) in IMAGES.iter().enumerate() {
         assert!(rt; used_on_image(rt.alloc(), *image, 0) == *answer, "{number}");
     }
-    // Each read in turn fails: both blocks of two pairs, the superblock, the slots of two pairs, and
-    // the pointer of a list of two blocks. There is no ninth one.
-    for nth in 1..=9 {
-        let answer = if nth < 9 { Err(Error::Io) } else { Ok(6) };
+    // Each read in turn fails: both revisions and one block of two pairs, the superblock, the slots of
+    // two pairs, and the pointer of a list of two blocks. There is no eleventh one.
+    for nth in 1..=11 {
+        let answer = if nth < 11 { Err(Error::Io) } else { Ok(6) };
         assert!(rt; used_on_image(rt.alloc(), READ, nth) == answer, "{nth}");
     }
     Ok(())

@@ -28,17 +28,18 @@ const ATTRIBUTE: [Change<'static>; 1] = [Change::Attr {
 const COMMITS: [Line; 17] = [(ThreadAction::Change(0, &ATTRIBUTE), Outcome::Done, &[]); 17];
 
 // The first commit behind a mount erases the other block. 15 fill its other pages, and the next one
-// erases again. Both blocks are read once for the thread. Before each commit the pair's block is
-// brought, by one read at most, and the commit takes one read beside: what is cached isn't read again.
+// erases again. The thread takes four reads: both revisions, and both blocks, since the one with the
+// later revision has no commit. Before each commit the pair's block is loaded, by one read at most,
+// and the commit takes one read beside: what is cached isn't read again.
 #[test]
 fn every_sixteenth_commit_erases(rt: HostRuntime) -> Result<(), Fail> {
     for (first, times, erases, revisions, most) in [
-        (1, 0, 0, [1, 7], 2),
-        (1, 1, 1, [1, 2], 4),
-        (1, 16, 1, [1, 2], 34),
-        (1, 17, 2, [3, 2], 36),
-        (0xffff_ffff, 1, 1, [255, 0], 4),
-        (0xffff_ffff, 17, 2, [1, 0], 36),
+        (1, 0, 0, [1, 7], 4),
+        (1, 1, 1, [1, 2], 6),
+        (1, 16, 1, [1, 2], 36),
+        (1, 17, 2, [3, 2], 38),
+        (0xffff_ffff, 1, 1, [255, 0], 6),
+        (0xffff_ffff, 17, 2, [1, 0], 38),
     ] {
         let inner = device(rt.alloc(), Geometry::new(4096, 256, 16)?, first, SUPERBLOCK)?;
         let device = FaultDevice::new(inner, Which::Any, 0, false);

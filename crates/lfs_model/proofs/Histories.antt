@@ -5,7 +5,7 @@ use Rattle.std.proofs.lemmas.Bool.Decides.{nat_tests}
 use Rattle.std.proofs.lemmas.List.{append_cancel_right}
 use Rattle.lfs_model.specs.Blocks.{Blocks}
 use Rattle.lfs_model.specs.Stops.{IsLeftByStopIn, is_left_by_stop_in}
-use Rattle.lfs_model.specs.History.{Call, CallEvent, call_event_with, Read, Program, Erase, read_count_of_call, is_worst_outcome_of_stopped_call, reads, programs, erases, faults, unprogrammed, is_byte_unprogrammed_after_call, AreBytesUnprogrammed, AreBytesStillUnprogrammed, IsTrueOfEachCall, IsTrueOfEachCallSince, IsReadThatKeepsBlocks, AreCallsSinceOnlyReads, IsWorstOutcomeOfStop, IsTrueAfterEachStopSince}
+use Rattle.lfs_model.specs.History.{Call, CallEvent, call_event_with, Read, Program, Erase, read_count_of_call, is_worst_outcome_of_stopped_call, reads, program_count_of_history, erases, faults, unprogrammed, is_byte_unprogrammed_after_call, AreBytesUnprogrammed, AreBytesStillUnprogrammed, IsTrueOfEachCall, IsTrueOfEachCallSince, IsReadThatKeepsBlocks, AreCallsSinceOnlyReads, IsWorstOutcomeOfStop, IsTrueAfterEachStopSince}
 
 -- Calls that all have P: none yet, one more, those of another stretch, and what P implies.
 
@@ -100,12 +100,12 @@ AreCallsSinceOnlyReads-read so_far is was stays = goes_on so_far is (record { re
 pub AreCallsSinceOnlyReads-trans : {blocks same : Blocks} {old mid new : List CallEvent} → AreCallsSinceOnlyReads blocks old mid → AreCallsSinceOnlyReads same mid new → same ≡ blocks → AreCallsSinceOnlyReads blocks old new
 AreCallsSinceOnlyReads-trans {mid = mid} {new = new} first second is = goes_on_by first (subst (λ d. AreCallsSinceOnlyReads d mid new) is second)
 
-writes_in_read : (call : Call) → read_count_of_call call ≡ 1 → (programs (call_event_with call [] [] false ∷ []) ≡ 0) × (erases (call_event_with call [] [] false ∷ []) ≡ 0)
+writes_in_read : (call : Call) → read_count_of_call call ≡ 1 → (program_count_of_history (call_event_with call [] [] false ∷ []) ≡ 0) × (erases (call_event_with call [] [] false ∷ []) ≡ 0)
 writes_in_read (Read block off len) is = (refl, refl)
 writes_in_read (Program block off bytes) is = absurd (cc)
 writes_in_read (Erase block) is = absurd (cc)
 
-programs_in_reads : (blocks : Blocks) (events old : List CallEvent) → IsTrueOfEachCall (IsReadThatKeepsBlocks blocks) events → programs (events ++ old) ≡ programs old
+programs_in_reads : (blocks : Blocks) (events old : List CallEvent) → IsTrueOfEachCall (IsReadThatKeepsBlocks blocks) events → program_count_of_history (events ++ old) ≡ program_count_of_history old
 programs_in_reads blocks [] old each = refl
 programs_in_reads blocks (e ∷ events) old each =
     let here = (writes_in_read e.call each.0.reads).0 in
@@ -128,8 +128,8 @@ unprogrammed_in_reads : (blocks : Blocks) (events old : List CallEvent) (block k
 unprogrammed_in_reads blocks [] old block k each = refl
 unprogrammed_in_reads blocks (e ∷ events) old block k each = unprogrammed_by_read e.call e.failed block k (unprogrammed (events ++ old) block k) each.0.reads ∙ unprogrammed_in_reads blocks events old block k each.1
 
-pub programs-reads : {blocks : Blocks} {old new : List CallEvent} → AreCallsSinceOnlyReads blocks old new → programs new ≡ programs old
-programs-reads {blocks} {old} since = ap programs since.extends ∙ programs_in_reads blocks since.events old since.each
+pub program_count_of_history-reads : {blocks : Blocks} {old new : List CallEvent} → AreCallsSinceOnlyReads blocks old new → program_count_of_history new ≡ program_count_of_history old
+program_count_of_history-reads {blocks} {old} since = ap program_count_of_history since.extends ∙ programs_in_reads blocks since.events old since.each
 
 pub erases-reads : {blocks : Blocks} {old new : List CallEvent} → AreCallsSinceOnlyReads blocks old new → erases new ≡ erases old
 erases-reads {blocks} {old} since = ap erases since.extends ∙ erases_in_reads blocks since.events old since.each

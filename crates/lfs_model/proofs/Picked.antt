@@ -15,7 +15,7 @@ use contract.Monad.{fact_use}
 use contract.Running.{MachineTables, Running, tables, tables_of}
 use sound.WpLaws.{WpFn-mono}
 use types.Kit.{‵, raw, ◌⊛◌, ◌$◌, ◌∵◌, !, qed, move, keep, split, join, fjoin, use0, suffices, done}
-use types.Run.{no_more, returns, find_parent_in_directory}
+use types.Run.{no_more, returns, enter}
 use types.Part.{agg}
 use types.ByLocal.{alloc_all, pass_all, free_all, look_at, sets}
 use denote.RattleType.{RattleType, owns}
@@ -105,7 +105,7 @@ module _ (name : Sym) (row Y Z : RattleType) {M : Type 1} {𝓤 : Ura M} (𝓛 :
         let toks : SProp 𝓤 = alive 𝓛 S z.0.0 z.0.1 in
         let passed : Fml = owns (types_at S.params z.0.0) z.0.3 (p ∷ [], (q ∷ [], tt)) in
         qed 𝓛 ((raw toks ⊛ ‵ passed) ∷ raw ((c z.0.0 z.0.3).requires z.1) ∷ []) ∵ split ! $ keep ! (0 ∷ []) $
-        find_parent_in_directory ! C Λ f (p ∷ q ∷ []) _ $ alloc_all ! (λ l. pass_all ! refl ((tt, tt), ((tt, tt), tt)) $
+        enter ! C Λ f (p ∷ q ∷ []) _ $ alloc_all ! (λ l. pass_all ! refl ((tt, tt), ((tt, tt), tt)) $
         sets ! (agg ! (no_more !)) refl (tt, tt) $
         returns ! (look_at ! 0 refl) $ free_all ! refl $
         use0 𝓛 (raw ((c z.0.0 z.0.3).ensures z.1 r (z.0.3.0, (z.0.3.1.0, tt)))) (reported z.0.0 z.0.3 z.1 _) $

@@ -37,9 +37,9 @@ abbrev pub reads : List CallEvent → ℕ
 reads [] = 0
 reads (e ∷ older) = reads older + read_count_of_call e.call
 
-abbrev pub programs : List CallEvent → ℕ
-programs [] = 0
-programs (e ∷ older) = programs older + program_count_of_call e.call
+abbrev pub program_count_of_history : List CallEvent → ℕ
+program_count_of_history [] = 0
+program_count_of_history (e ∷ older) = program_count_of_history older + program_count_of_call e.call
 
 abbrev pub erases : List CallEvent → ℕ
 erases [] = 0

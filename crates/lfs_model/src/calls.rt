@@ -2,14 +2,14 @@
 
 ghost use Rattle.std.specs.Prelude.{◌≡◌, ℕ, true, false, List, [], ◌∷◌, map};
 ghost use Rattle.lfs_model.specs.Blocks.{Blocks, block_bytes_in};
-ghost use Rattle.lfs_model.specs.History.{CallEvent, Erase, call_event_with, reads, programs, erases, faults, unprogrammed, AreBytesUnprogrammed, AreBytesStillUnprogrammed, IsTrueOfEachCallSince, AreCallsSinceOnlyReads, IsWorstOutcomeOfStop, IsTrueAfterEachStopSince};
+ghost use Rattle.lfs_model.specs.History.{CallEvent, Erase, call_event_with, reads, program_count_of_history, erases, faults, unprogrammed, AreBytesUnprogrammed, AreBytesStillUnprogrammed, IsTrueOfEachCallSince, AreCallsSinceOnlyReads, IsWorstOutcomeOfStop, IsTrueAfterEachStopSince};
 ghost use Rattle.lfs_model.specs.Conformance.{AreConformingCalls};
 ghost use Rattle.lfs_model.specs.examples.Histories.{two_blocks_before_erase, two_blocks_after_erase, two_blocks_after_program, history_after_erase, history_after_program, history_after_read, program_event_without_effect, erase_event_of_other_block};
 
 /// How many reads, programs, erases and faults there were.
 pub fn calls_are_counted()
-    ensures each { reads history_after_read ∷ programs history_after_read ∷ erases history_after_read ∷ faults history_after_read ∷ [] ≡ 1 ∷ 1 ∷ 1 ∷ 1 ∷ [] }
-    ensures fewer { reads history_after_program ∷ faults history_after_program ∷ programs history_after_erase ∷ [] ≡ 0 ∷ 0 ∷ 0 ∷ [] }
+    ensures each { reads history_after_read ∷ program_count_of_history history_after_read ∷ erases history_after_read ∷ faults history_after_read ∷ [] ≡ 1 ∷ 1 ∷ 1 ∷ 1 ∷ [] }
+    ensures fewer { reads history_after_program ∷ faults history_after_program ∷ program_count_of_history history_after_erase ∷ [] ≡ 0 ∷ 0 ∷ 0 ∷ [] }
 {}
 
 /// A byte is unprogrammed from an erase that succeeds to the next program of it.

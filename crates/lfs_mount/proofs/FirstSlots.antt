@@ -13,7 +13,7 @@ use Rattle.lfs_model.specs.View.{HasInlineStruct, IsSuperblockStruct}
 use Rattle.lfs_model.proofs.Completed.{complete_parts}
 use Rattle.lfs_tag.specs.KindView.{is_superblock_name}
 use Rattle.lfs_mount.specs.Checked.{BeginsWithSuperblockSlot}
-use Rattle.lfs_mount.specs.Head.{has_name_bytes, inline_struct_bytes, describes, superblock_struct_if_of_geometry, superblock_struct_in_first_slot, some_true_if_same_bytes, first_slot_repeats_superblock}
+use Rattle.lfs_mount.specs.SuperblockChain.{has_name_bytes, inline_struct_bytes, describes, superblock_struct_if_of_geometry, superblock_struct_in_first_slot, some_true_if_same_bytes, first_slot_repeats_superblock}
 
 -- ---- a slot with a name and a struct
 

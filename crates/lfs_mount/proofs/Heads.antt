@@ -17,7 +17,7 @@ use Rattle.lfs_model.proofs.Superblocks.{meets_first, meets_from, meets_starting
 use Rattle.lfs_tag.specs.ContentView.{tail_view}
 use Rattle.lfs_thread.specs.Kept.{ArePairHeadersOnDisk, PairHeader, pairs_of_headers}
 use Rattle.lfs_mount.specs.Checked.{BeginsWithSuperblockSlot, HasSuperblockSlotAlone, HasAtMostSuperblockSlot}
-use Rattle.lfs_mount.specs.Head.{AreHeadersOfDiskThread, HasSuperblockChainOfLength, IsSuperblockStructInBlock, first_pair_with_slots, leads_on, first_slot_repeats_superblock, block_repeats_superblock, superblock_struct_in_first_slot}
+use Rattle.lfs_mount.specs.SuperblockChain.{AreHeadersOfDiskThread, HasSuperblockChainOfLength, IsSuperblockStructInBlock, first_pair_with_slots, leads_on, first_slot_repeats_superblock, block_repeats_superblock, superblock_struct_in_first_slot}
 use Rattle.lfs_mount.proofs.FirstSlots.{IsFirst, describes_struct, first_found, first_is, repeats_false, repeats_none, repeats_true, struct_described}
 use Rattle.lfs_mount.proofs.Headers.{IsSeen, header_at, pair_at, pair_of, seen_from}
 

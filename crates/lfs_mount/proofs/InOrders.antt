@@ -8,7 +8,7 @@ use Rattle.lfs_model.specs.Slots.{Gstate}
 use Rattle.lfs_model.specs.View.{IsSuperblockStruct}
 use Rattle.lfs_model.specs.declared.order.NameOrder.{NameOrder}
 use Rattle.lfs_thread.specs.Kept.{ArePairHeadersOnDisk, PairHeader, IsPairHeaderOnDisk, IsKeptThreadOnDisk, pairs_of_headers}
-use Rattle.lfs_mount.specs.Head.{AreHeadersOfDiskThread, HasSuperblockChainOfLength}
+use Rattle.lfs_mount.specs.SuperblockChain.{AreHeadersOfDiskThread, HasSuperblockChainOfLength}
 use Rattle.lfs_mount.specs.Members.{IsThreadReadFromDisk}
 
 module _ (order : NameOrder) (disk : Disk) where

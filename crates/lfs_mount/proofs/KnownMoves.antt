@@ -14,7 +14,7 @@ use Rattle.lfs_tag.specs.FieldsView.{move_view}
 use Rattle.lfs_pair.specs.Pair.{address_of_header}
 use Rattle.lfs_thread.specs.Kept.{ArePairHeadersOnDisk, PairHeader, pairs_of_headers}
 use Rattle.lfs_mount.specs.Described.{moved_id_in_pair}
-use Rattle.lfs_mount.specs.Head.{AreHeadersOfDiskThread, HasSuperblockChainOfLength}
+use Rattle.lfs_mount.specs.SuperblockChain.{AreHeadersOfDiskThread, HasSuperblockChainOfLength}
 use Rattle.lfs_mount.specs.Moves.{AreDirectoryHeadersWithGstate, IsEntryAtIdIfSome, IsMovedSlotEntry, gstate_of_headers, move_is_none_or_known, is_pair_among_addresses}
 use Rattle.lfs_mount.proofs.Headers.{pair_of, seen_from}
 

@@ -19,7 +19,7 @@ use Rattle.lfs_pair.specs.Pair.{address_of_header}
 use Rattle.lfs_thread.specs.Kept.{ArePairHeadersOnDisk, PairHeader, pairs_of_headers}
 use Rattle.lfs_mount.specs.Described.{ArePairsDescribedByMembers, IsPairDescribedByMember}
 use Rattle.lfs_mount.specs.Entries.{directory_first_addresses}
-use Rattle.lfs_mount.specs.Head.{HasSuperblockChainOfLength}
+use Rattle.lfs_mount.specs.SuperblockChain.{HasSuperblockChainOfLength}
 use Rattle.lfs_mount.specs.Marking.{HasExactlyUsedBlocks}
 use Rattle.lfs_mount.specs.Members.{AreDirectoryHeadersOfThread, IsThreadReadFromDisk, IsThreadOfDirectoryHeaders, directory_addresses, header_has_hard_tail, member_of_header, members_of_headers}
 use Rattle.lfs_mount.proofs.Accepts.{starts_so}

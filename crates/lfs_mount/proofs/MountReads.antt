@@ -19,7 +19,7 @@ use Rattle.lfs_thread.specs.Kept.{PairHeader, pairs_of_headers}
 use Rattle.lfs_thread.specs.Reading.{header_reads}
 use Rattle.lfs_mount.specs.Described.{ArePairsDescribedByMembers, IsPairDescribedByMember, moved_id_in_pair}
 use Rattle.lfs_mount.specs.Entries.{empty_directory_scan, entry_reference_of_struct}
-use Rattle.lfs_mount.specs.Head.{HasSuperblockChainOfLength}
+use Rattle.lfs_mount.specs.SuperblockChain.{HasSuperblockChainOfLength}
 use Rattle.lfs_mount.specs.Marking.{list_of_entry}
 use Rattle.lfs_mount.specs.Members.{IsThreadReadFromDisk, IsThreadOfDirectoryHeaders, members_of_headers}
 use Rattle.lfs_mount.specs.Passed.{PassesOverDirectoryPairs, directory_scan_after_pair}

@@ -11,7 +11,7 @@ use Rattle.lfs_model.specs.Shown.{used_blocks}
 use Rattle.lfs_model.proofs.Uniqueness.{one_thread}
 use Rattle.lfs_thread.specs.Kept.{PairHeader, pairs_of_headers}
 use Rattle.lfs_mount.specs.Accepted.{HasAcceptedImageIfOrderFits, MapUsesOnlyTheseBlocks, IsAcceptedIfDirectoriesFitOrder}
-use Rattle.lfs_mount.specs.Head.{AreHeadersOfDiskThread, HasSuperblockChainOfLength}
+use Rattle.lfs_mount.specs.SuperblockChain.{AreHeadersOfDiskThread, HasSuperblockChainOfLength}
 use Rattle.lfs_mount.specs.Members.{IsThreadReadFromDisk, IsThreadOfDirectoryHeaders}
 use Rattle.lfs_mount.specs.Moves.{AreDirectoryHeadersWithGstate, IsMovedSlotEntry}
 use Rattle.lfs_mount.proofs.KnownMoves.{directories_behind, joined_global}

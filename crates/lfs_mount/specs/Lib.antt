@@ -17,7 +17,7 @@ pub mod Checked
 pub mod Device
 pub mod Reads
 pub mod Members
-pub mod Head
+pub mod SuperblockChain
 pub mod Moves
 pub mod Accepted
 pub mod ReadImage

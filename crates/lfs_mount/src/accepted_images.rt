@@ -21,10 +21,10 @@ ghost use Rattle.lfs_mount.specs.Reads.{check_reads, mount_reads, pair_reads};
 ghost use Rattle.lfs_mount.specs.Start.{allocation_seed};
 
 use crate::check::check_thread;
-use crate::head::superblock_chain_length;
 use crate::members::{members_of_pair_headers, places_of};
 use crate::moves::check_move;
 use crate::orders::Orders;
+use crate::superblock_chain::superblock_chain_length;
 use lfs_alloc::BlockMap;
 use lfs_device::{BlockDevice, Error};
 use lfs_pair::Pair;

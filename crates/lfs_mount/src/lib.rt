@@ -6,7 +6,6 @@ mod accepted_images;
 mod check;
 mod directory_scan;
 mod entry;
-mod head;
 mod lists;
 mod members;
 mod moves;
@@ -14,6 +13,7 @@ mod order_choice;
 mod orders;
 mod pass;
 mod reachability;
+mod superblock_chain;
 
 pub use accepted_images::mount;
 pub use order_choice::mount_either;

@@ -11,7 +11,7 @@ use Rattle.lfs_model.specs.Slots.{IsContentFittingPair}
 use Rattle.lfs_model.specs.WrittenContent.{IsRawContentFittingPair}
 use Rattle.lfs_model.specs.History.{CallEvent, IsTrueOfEachCallSince, AreCallsSinceOnlyReads}
 use Rattle.lfs_model.specs.Changes.{ContentChange}
-use Rattle.lfs_model.proofs.Histories.{IsTrueOfEachCallSince-behind, erases-reads, programs-reads}
+use Rattle.lfs_model.proofs.Histories.{IsTrueOfEachCallSince-behind, erases-reads, program_count_of_history-reads}
 use Rattle.lfs_pair.specs.declared.pair.Pair.{Pair}
 use Rattle.lfs_pair.specs.Pair.{address_of_header}
 use Rattle.lfs_pair.specs.Commit.{Commits, CommitFails, RefusesCommit, pair_content_after_changes}
@@ -39,7 +39,7 @@ commits_behind {disk = disk} {new = new} {before = before} {mid = mid} {history 
         log = is.log;
         others = is.others;
         erases = is.erases ∙ erases-reads reads;
-        programs = is.programs ∙ ap (λ n. n + 1) (programs-reads reads);
+        programs = is.programs ∙ ap (λ n. n + 1) (program_count_of_history-reads reads);
         kept = is.kept;
       };
       compacted = λ full. let is = c.compacted full in record {
@@ -47,7 +47,7 @@ commits_behind {disk = disk} {new = new} {before = before} {mid = mid} {history 
         anew = record {
           holds = is.anew.holds;
           erases = is.anew.erases ∙ ap (λ n. n + 1) (erases-reads reads);
-          programs = is.anew.programs ∙ ap (λ n. n + 1) (programs-reads reads);
+          programs = is.anew.programs ∙ ap (λ n. n + 1) (program_count_of_history-reads reads);
         };
         end = is.end;
         kept = is.kept;
@@ -67,7 +67,7 @@ fails_behind reads is = record { errors = is.errors; pair = is.pair; no_memory =
 
 pub clears_behind : {count : ℕ} {blocks : Blocks} {before mid history : List CallEvent} {P : CallEvent → Type 0} → AreCallsSinceOnlyReads blocks before mid → IsTrueOfEachCallSince P mid history → WritesBlocksAndClearsOne count mid history → WritesBlocksAndClearsOne count before history
 clears_behind {count} reads since clears =
-    let same = programs-reads reads in
+    let same = program_count_of_history-reads reads in
     record {
       erases = clears.erases ∙ ap (λ n. n + (count + 1)) (erases-reads reads);
       programs = λ logs. clears.programs (IsTrueOfEachCallSince-behind logs reads since) ∙ ap (λ n. n + count) same;

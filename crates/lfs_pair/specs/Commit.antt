@@ -8,7 +8,7 @@ use Rattle.lfs_device.specs.Calls.{ReadsOnly}
 use Rattle.lfs_device.specs.Shown.{disk_of_geometry_and_blocks}
 use Rattle.lfs_model.specs.Blocks.{Blocks, AreBlocksEqualExceptOne, AreBlocksEqualExceptThese, block_bytes_in}
 use Rattle.lfs_model.specs.Disk.{Disk, block_bytes_on_disk, block_count}
-use Rattle.lfs_model.specs.History.{CallEvent, AreBytesStillUnprogrammed, erases, programs}
+use Rattle.lfs_model.specs.History.{CallEvent, AreBytesStillUnprogrammed, erases, program_count_of_history}
 use Rattle.lfs_model.specs.Log.{LogEntry, chain_of, log_entries_of_block, revision_of_block}
 use Rattle.lfs_model.specs.LoggedContent.{AreNamedSlots, IsWellFormedRawContent}
 use Rattle.lfs_model.specs.Slots.{Content, IsContentFittingPair}
@@ -98,7 +98,7 @@ pub record IsCommitAppended (page : ℕ) (was : Pair) (changes : List ContentCha
   pub log : LogHasOneCommitMore page (log_entries_of_changes changes) (block_bytes_in old was.active) (block_bytes_in new was.active)
   pub others : AreBlocksEqualExceptOne was.active old new
   pub erases : erases after ≡ erases before
-  pub programs : programs after ≡ programs before + 1
+  pub programs : program_count_of_history after ≡ program_count_of_history before + 1
   pub kept : take was.end (block_bytes_in new was.active) ≡ take was.end (block_bytes_in old was.active)
 
 -- A compaction erases once, and keeps the block that was active. It writes the content anew into the other block, with the next

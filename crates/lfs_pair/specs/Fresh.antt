@@ -4,7 +4,7 @@ use Rattle.lfs_device.specs.declared.error.Error.{Error}
 use Rattle.lfs_device.specs.declared.error.Error.TheVariants.{Io, NoMemory}
 use Rattle.lfs_model.specs.Blocks.{Blocks, block_bytes_in}
 use Rattle.lfs_model.specs.Disk.{Disk, block_bytes_on_disk}
-use Rattle.lfs_model.specs.History.{Call, Read, Program, Erase, IsTrueOfEachCallSince, CallEvent, erases, programs}
+use Rattle.lfs_model.specs.History.{Call, Read, Program, Erase, IsTrueOfEachCallSince, CallEvent, erases, program_count_of_history}
 use Rattle.lfs_model.specs.LoggedContent.{AreNamedSlots}
 use Rattle.lfs_model.specs.Content.{RawContent, has_commit, empty_raw_content}
 use Rattle.lfs_model.specs.Changes.{ContentChange, content_after_changes}
@@ -35,8 +35,8 @@ EraseEventLeavesNoLog e = EraseLeavesNoLog e.call e.failed e.after
 -- after its erase.
 pub record WritesBlocksAndClearsOne (count : ℕ) (before history : List CallEvent) : Type 0 where
   pub erases : erases history ≡ erases before + (count + 1)
-  pub at_most : programs history ≤ programs before + (count + 1)
-  pub programs : IsTrueOfEachCallSince EraseEventLeavesNoLog before history → programs history ≡ programs before + count
+  pub at_most : program_count_of_history history ≤ program_count_of_history before + (count + 1)
+  pub programs : IsTrueOfEachCallSince EraseEventLeavesNoLog before history → program_count_of_history history ≡ program_count_of_history before + count
 
 -- The first block has that content with revision 1, the second has no log, and the header says so.
 pub record HasContentWithRevisionOne (c : RawContent) (disk : Disk) (at : ℕ × ℕ) (pair : Pair) : Type 0 where

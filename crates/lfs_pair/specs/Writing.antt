@@ -6,7 +6,7 @@ use Rattle.lfs_device.specs.declared.error.Error.TheVariants.{Io}
 use Rattle.lfs_device.specs.Calls.{ChangesOnlyThisBlock, ChangesOnlyTheseBlocks, ReportsFaults}
 use Rattle.lfs_model.specs.Blocks.{Blocks, block_bytes_in, AreBlocksEqualExceptOne}
 use Rattle.lfs_model.specs.Disk.{Disk, block_bytes_on_disk}
-use Rattle.lfs_model.specs.History.{AreBytesUnprogrammed, CallEvent, erases, programs, reads}
+use Rattle.lfs_model.specs.History.{AreBytesUnprogrammed, CallEvent, erases, program_count_of_history, reads}
 use Rattle.lfs_model.specs.Tag.{class_of}
 use Rattle.lfs_model.specs.Log.{LogEntry, chain_of, revision_of_block, log_entries_of_block}
 use Rattle.lfs_model.specs.Content.{RawContent, has_commit, content_after_log_entries, empty_raw_content}
@@ -56,7 +56,7 @@ pub record HasContentInOneCommit (revision : ℕ) (c : RawContent) (block : List
 pub record IsBlockWrittenAnew (revision : ℕ) (c : RawContent) (block : List ℕ) (before after : List CallEvent) : Type 0 where
   pub holds : HasContentInOneCommit revision c block
   pub erases : erases after ≡ erases before + 1
-  pub programs : programs after ≡ programs before + 1
+  pub programs : program_count_of_history after ≡ program_count_of_history before + 1
 
 -- What a stop leaves where a block is erased and a content is written into it: the old log, none, or the content.
 abbrev pub LeavesOldLogOrRewritten : ℕ → RawContent → List ℕ → List ℕ → Type 0

@@ -55,7 +55,7 @@ fn put<'a>(
 }
 
 // Adds an entry that removes an attribute to the content.
-fn put_attribute_removal(
+fn apply_attribute_removal(
     alloc: Global,
     content: &mut Content<'_>,
     id: u16,
@@ -113,7 +113,7 @@ pub(crate) fn apply<'a>(
             Ok(())
         }
         Change::NoAttr { id, attr } => {
-            put_attribute_removal(alloc, content, id, attr)?;
+            apply_attribute_removal(alloc, content, id, attr)?;
             Ok(())
         }
         Change::Tail { hard, pair } => {

@@ -10,7 +10,7 @@ ghost use Rattle.lfs_model.specs.Log.{chain_of, log_entries_of_block, revision_o
 ghost use Rattle.lfs_model.specs.Content.{raw_content_of_pair_at, content_after_log_entries, empty_raw_content, RawContent};
 ghost use Rattle.lfs_pair.specs.Pair.{HeaderDescribesLog, FetchFindsPair, fetch_reads, later_block_first};
 
-use crate::heads::BlockLogEnd;
+use crate::block_logs::BlockLogEnd;
 use crate::pair::Pair;
 use byteorder::{ByteOrder, LittleEndian};
 use lfs_device::{BlockDevice, Error, read_block};

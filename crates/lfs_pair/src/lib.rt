@@ -1,6 +1,7 @@
 //! Metadata pairs: fetched from two blocks, made of two blocks, changed by commits, and split.
 #![tactic(auto)]
 
+mod block_logs;
 mod change;
 mod commits;
 mod contents;
@@ -8,7 +9,6 @@ mod cut;
 mod entries;
 mod fetches;
 mod fresh;
-mod heads;
 mod pair;
 mod programs;
 mod size;

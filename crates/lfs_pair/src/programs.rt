@@ -4,7 +4,7 @@ ghost use Rattle.std.specs.Prelude.{◌≡◌, ◌<◌, ◌≤◌, ◌+◌, ◌%
 ghost use Rattle.lfs_device.specs.Shown.{disk_of_geometry_and_blocks};
 ghost use Rattle.lfs_device.specs.Calls.{ReadsOnly, ReportsFaults};
 ghost use Rattle.lfs_model.specs.Blocks.{block_bytes_in};
-ghost use Rattle.lfs_model.specs.History.{AreBytesUnprogrammed, IsTrueOfEachCallSince, IsTrueAfterEachStopSince, erases, programs, reads};
+ghost use Rattle.lfs_model.specs.History.{AreBytesUnprogrammed, IsTrueOfEachCallSince, IsTrueAfterEachStopSince, erases, program_count_of_history, reads};
 ghost use Rattle.lfs_model.specs.LoggedContent.{AreNamedSlots, IsWellFormedRawContent};
 ghost use Rattle.lfs_model.specs.Commit.{encoded_size_of_log_entries, four_bytes_from_offset, page_aligned_commit_end};
 ghost use Rattle.lfs_model.specs.Stops.{LeavesNoNewLogIfErase, IsLeftByStopIn};
@@ -67,7 +67,7 @@ pub(crate) fn program<D: BlockDevice>(
     ensures written { IfOk result (λ written. LogEndsOnPage (disk_of_geometry_and_blocks (D.geometry dev.new) (D.blocks dev.new)) (D.history dev.new) block written.end written.last) }
     ensures writes { WritesOnlyThisBlock D.BlockDevice 1 block dev.old dev.new result }
     ensures erases { erases (D.history dev.new) ≡ erases (D.history dev.old) }
-    ensures programs { OnOk result (programs (D.history dev.new) ≡ programs (D.history dev.old) + 1) }
+    ensures programs { OnOk result (program_count_of_history (D.history dev.new) ≡ program_count_of_history (D.history dev.old) + 1) }
     ensures stops { IsTrueAfterEachStopSince IsLeftByStopIn (D.history dev.old) (D.history dev.new) (DiffersOnlyInBlock block (LeavesOldLogOrCommit builder.entry at) (D.blocks dev.old)) }
 {
     let end = at + builder.end();

@@ -6,7 +6,7 @@ use Rattle.lfs_model.specs.Slots as slots
 use Rattle.lfs_tag.specs.declared.slot_kind.SlotNameKind.{SlotNameKind}
 use Rattle.lfs_tag.specs.declared.slot_kind.SlotNameKind.TheVariants as variant
 
-abbrev pub kind_view : SlotNameKind → slots.SlotNameKind
+abbrev pub kind_view : SlotNameKind → slots.KindOfSlot
 kind_view variant.File = slots.File
 kind_view variant.Directory = slots.Directory
 kind_view variant.Superblock = slots.Superblock

@@ -170,12 +170,12 @@ fn is_first(same: bool, skip: Option<u16>, id: usize, rank: Option<Ordering>) ->
     ensures { result ≡ is_wanted_slot same skip id rank }
 {
     match rank {
-        Some(rank) => is_wanted(same, rank) && !is_skipped(skip, id),
+        Some(rank) => is_name_rank_wanted(same, rank) && !is_skipped(skip, id),
         None => false,
     }
 }
 
-fn is_wanted(same: bool, rank: Ordering) -> bool
+fn is_name_rank_wanted(same: bool, rank: Ordering) -> bool
     ensures { result ≡ is_wanted_ordering same rank }
 {
     match rank {

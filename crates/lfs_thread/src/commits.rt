@@ -37,7 +37,7 @@ pub(crate) fn commit_with_cache<D: BlockDevice>(
     ensures stops { StopsAfterCleanErasesLeave (D.history device.old) (D.history device.new)
         (LeavesOldOrChangedContent (disk_of_device D.BlockDevice device.old) (address_of_header pair.old) (changes_view changes.now)) }
 {
-    match take_pair_from_cache(cache, pair.blocks, pair.active) {
+    match take_pair_blocks_from_cache(cache, pair.blocks, pair.active) {
         Some(block) => commit_in(alloc, device, pair, &block, changes),
         None => commit(alloc, device, pair, changes),
     }
@@ -63,7 +63,7 @@ pub(crate) fn split_with_cache<D: BlockDevice>(
     ensures stops { StopsAfterCleanErasesLeave (D.history device.old) (D.history device.new)
         (LeavesOldContentOrParts (disk_of_device D.BlockDevice device.old) (address_of_header pair.old) (pair_address_of_array fresh) (changes_view changes.now)) }
 {
-    let held = take_pair_from_cache(cache, pair.blocks, pair.active);
+    let held = take_pair_blocks_from_cache(cache, pair.blocks, pair.active);
     forget_cached_pair(cache, fresh);
     match held {
         Some(block) => split_in(alloc, device, pair, fresh, &block, changes),
@@ -73,7 +73,7 @@ pub(crate) fn split_with_cache<D: BlockDevice>(
 
 // Takes both blocks of a pair out of the cache. Returns the active block's bytes, if they are at
 // hand.
-fn take_pair_from_cache(cache: &mut Cache, blocks: [u32; 2], active: u32) -> Option<Vec<u8>>
+fn take_pair_blocks_from_cache(cache: &mut Cache, blocks: [u32; 2], active: u32) -> Option<Vec<u8>>
     ensures bytes { option_map (λ bytes. bytes.items) result ≡ cached_bytes_of_block cache.old active }
     ensures gone { cache.new ≡ cache_without_block (cache_without_block (cache_without_block cache.old active) (pair_address_of_array blocks).0) (pair_address_of_array blocks).1 }
 {

@@ -16,5 +16,5 @@ mod thread;
 pub use deltas::with_delta;
 pub use pair_numbers::number_of;
 pub use parts::Parts;
-pub use places::Places;
+pub use places::PairAddressList;
 pub use thread::Thread;

@@ -18,7 +18,7 @@ use Rattle.lfs_fs.specs.declared.run.Op.{Op}
 use Rattle.lfs_fs.specs.declared.run.Reply as given
 use Rattle.lfs_lookup.specs.Refusals as refusals
 use Rattle.lfs_lookup.specs.Refusals.{refusal_of_error}
-use Rattle.littlefs_c.specs.Calls.{GivesLastReplyOrRefuses, RefusesOneOperation, IsSessionMountedOnImage, PreventsSessionOnImage, RefusesImageOrOperation, RunsOperationsWithReplies, RunsOperations}
+use Rattle.littlefs_c.specs.Calls.{GivesLastReplyOrRefuses, RefusesOperationAfterOthers, IsSessionMountedOnImage, PreventsSessionOnImage, RefusesImageOrOperation, RunsOperationsWithReplies, RunsOperations}
 use Rattle.littlefs_c.specs.Files.{AreAppliedWithReplies, EndsAfterRepliesWithError, AppliesWithReply, RefusesOrFailsOperation, operations_to_read_file, reading_flags}
 use Rattle.littlefs_c.specs.FirstRefusals.{IsFirstRefusedReply}
 
@@ -91,7 +91,7 @@ pub refused : (block_size page : ℕ) (image : List ℕ) (e : Error) (from to : 
     → RefusesImageOrOperation block_size page image operations e
 refused block_size page image e from to operations m k none others = go (refusals.is_refusal e) refl
   where
-    refusal : refusals.is_refusal e ≡ true → RefusesOneOperation block_size page image operations e
+    refusal : refusals.is_refusal e ≡ true → RefusesOperationAfterOthers block_size page image operations e
     refusal is = record {
       done = k.done;
       next = k.next;

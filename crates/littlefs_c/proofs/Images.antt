@@ -5,7 +5,7 @@ use Rattle.std.specs.Prelude.{Err, IfOk, MatchResult, Ok, Result}
 use Rattle.lfs_device.specs.declared.error.Error.{Error}
 use Rattle.lfs_device.specs.declared.error.Error.TheVariants.{Corrupt, Io, NoMemory}
 use Rattle.lfs_device.specs.declared.geometry.Geometry.{Geometry}
-use Rattle.lfs_device.specs.RamDevice.{ram_blocks, bytes_of, geometry_of, history_of}
+use Rattle.lfs_device.specs.RamDevice.{ram_blocks, ram_bytes, geometry_of, history_of}
 use Rattle.lfs_device.specs.Shown as device
 use Rattle.lfs_device.specs.declared.ram.RamDevice.{RamDevice}
 use Rattle.lfs_model.specs.Blocks.{AreBlocksEqualExceptThese, cut}
@@ -53,7 +53,7 @@ is_image block_size page image g size its_page len =
 
 -- a device that was made of an image's bytes
 pub holds : (block_size page : ℕ) (image items : List ℕ) (g : Geometry) (r : Result RamDevice Error) → (g.block_size ≡ block_size) × (g.page ≡ page) × (g.block_size * g.block_count ≡ length image) → items ≡ image
-    → IfOk r (λ d. (geometry_of d ≡ g) × (bytes_of d ≡ items)) → IfOk r (λ d. history_of d ≡ []) → IfOk r (IsUncalledDeviceWithImage block_size page image)
+    → IfOk r (λ d. (geometry_of d ≡ g) × (ram_bytes d ≡ items)) → IfOk r (λ d. history_of d ≡ []) → IfOk r (IsUncalledDeviceWithImage block_size page image)
 holds block_size page image items g (Err e) sizes same made none = tt
 holds block_size page image items g (Ok d) sizes same made none = record {
   whole = is_image block_size page image g sizes.0 sizes.1 sizes.2;
@@ -63,8 +63,8 @@ holds block_size page image items g (Ok d) sizes same made none = record {
   no_call = none;
 }
 
-pub made_so : (items : List ℕ) (g : Geometry) (erased : RamDevice → Type 0) (bad : Error → Type 0) (r : Result RamDevice Error) → MatchResult r (λ d. (geometry_of d ≡ g) × (bytes_of d ≡ items) × erased d) bad
-    → IfOk r (λ d. (geometry_of d ≡ g) × (bytes_of d ≡ items))
+pub made_so : (items : List ℕ) (g : Geometry) (erased : RamDevice → Type 0) (bad : Error → Type 0) (r : Result RamDevice Error) → MatchResult r (λ d. (geometry_of d ≡ g) × (ram_bytes d ≡ items) × erased d) bad
+    → IfOk r (λ d. (geometry_of d ≡ g) × (ram_bytes d ≡ items))
 made_so items g erased bad (Err e) h = tt
 made_so items g erased bad (Ok d) h = (h.0, h.1)
 
@@ -72,21 +72,21 @@ pub disk_shown : (block_size page : ℕ) (image : List ℕ) (d : RamDevice) (ord
 disk_shown block_size page image d order is =
     let least : 1024 ≤ (geometry_of d).block_size = (geometry_of d).valid.no_smaller in
     let count : (geometry_of d).block_count ≡ length image / block_size =
-    sym (count_of (geometry_of d).block_size (geometry_of d).block_count (length (bytes_of d)) (omega (arith, least)) d.size) ∙ ap₂ (λ n m. n / m) (ap length is.bytes) is.size in
+    sym (count_of (geometry_of d).block_size (geometry_of d).block_count (length (ram_bytes d)) (omega (arith, least)) d.size) ∙ ap₂ (λ n m. n / m) (ap length is.bytes) is.size in
     λ j. record { block_size = is.size j; page = is.its_page j; order = order; blocks = cut (is.size j) (count j) (is.bytes j) }
 
 -- what stands in a device whose disk has the geometry of an image's
 pub kept : (block_size page : ℕ) (order : NameOrder) (old : List ℕ) (to : Disk) (d : RamDevice) → IsImageOfWholeBlocks block_size page old → SameGeometry (disk_of_image block_size page order old) to
     → device.ordered to.order (device.disk_of_geometry_and_blocks (geometry_of d) (ram_blocks d)) ≡ to
-    → (length old ≡ length (bytes_of d)) × (to ≡ disk_of_image block_size page to.order (bytes_of d))
+    → (length old ≡ length (ram_bytes d)) × (to ≡ disk_of_image block_size page to.order (ram_bytes d))
 kept block_size page order old to d whole same shown =
     let size : (geometry_of d).block_size ≡ block_size = ap (λ (k : Disk). k.block_size) shown ∙ same.block_size in
     let its_page : (geometry_of d).page ≡ page = ap (λ (k : Disk). k.page) shown ∙ same.page in
     let count : (geometry_of d).block_count ≡ length old / block_size =
-    sym (length-cut (geometry_of d).block_size (geometry_of d).block_count (bytes_of d)) ∙ ap block_count shown ∙ same.count ∙ length-cut block_size (length old / block_size) old in
-    let len : length (bytes_of d) ≡ length old = d.size ∙ ap₂ (λ x y. x * y) size count ∙ whole_len block_size old whole.whole in
-    let blocks : (geometry_of d).block_count ≡ length (bytes_of d) / block_size = count ∙ ap (λ n. n / block_size) (sym len) in
-    (sym len, sym shown ∙ (λ j. record { block_size = size j; page = its_page j; order = to.order; blocks = cut (size j) (blocks j) (bytes_of d) }))
+    sym (length-cut (geometry_of d).block_size (geometry_of d).block_count (ram_bytes d)) ∙ ap block_count shown ∙ same.count ∙ length-cut block_size (length old / block_size) old in
+    let len : length (ram_bytes d) ≡ length old = d.size ∙ ap₂ (λ x y. x * y) size count ∙ whole_len block_size old whole.whole in
+    let blocks : (geometry_of d).block_count ≡ length (ram_bytes d) / block_size = count ∙ ap (λ n. n / block_size) (sym len) in
+    (sym len, sym shown ∙ (λ j. record { block_size = size j; page = its_page j; order = to.order; blocks = cut (size j) (blocks j) (ram_bytes d) }))
 
 session_steps_geometry : (operations : List Operation) (replies : List Reply) (a b : SystemState) → AreSessionSteps a operations replies b → SameGeometry a.disk b.disk
 session_steps_geometry [] [] a b e = subst (λ (m : SystemState). SameGeometry a.disk m.disk) e (record { block_size = refl; page = refl; order = refl; count = refl })
@@ -99,12 +99,12 @@ session_steps_geometry (op ∷ operations) (reply ∷ replies) a b (next, (turn,
 
 pub run_kept : (block_size page : ℕ) (old : List ℕ) (operations : List Operation) (to : SystemState) (d : RamDevice) → RunsOperations block_size page old operations to
     → device.ordered to.disk.order (device.disk_of_geometry_and_blocks (geometry_of d) (ram_blocks d)) ≡ to.disk
-    → (length old ≡ length (bytes_of d)) × (to.disk ≡ disk_of_image block_size page to.disk.order (bytes_of d))
+    → (length old ≡ length (ram_bytes d)) × (to.disk ≡ disk_of_image block_size page to.disk.order (ram_bytes d))
 run_kept block_size page old operations to d (replies, r) shown =
     kept block_size page r.from.disk.order old to.disk d r.mounts.whole (subst (λ k. SameGeometry k to.disk) r.mounts.disk (session_steps_geometry operations replies r.from to r.session_steps)) shown
 
 pub leaves : (block_size page : ℕ) (old : List ℕ) (operations : List Operation) (to : SystemState) (d : RamDevice) (new : List ℕ) → RunsOperations block_size page old operations to
-    → device.ordered to.disk.order (device.disk_of_geometry_and_blocks (geometry_of d) (ram_blocks d)) ≡ to.disk → new ≡ bytes_of d → LeavesImageAfterOperations block_size page old operations new
+    → device.ordered to.disk.order (device.disk_of_geometry_and_blocks (geometry_of d) (ram_blocks d)) ≡ to.disk → new ≡ ram_bytes d → LeavesImageAfterOperations block_size page old operations new
 leaves block_size page old operations to d new r shown is =
     let k = run_kept block_size page old operations to d r shown in
     record { to = to; runs = r; len = ap length is ∙ sym k.0; disk = k.1 ∙ ap (disk_of_image block_size page to.disk.order) (sym is) }
@@ -141,12 +141,12 @@ none_below n m l none = omega (arith, l, none)
 -- ---- a fresh one
 
 pub fits : (block_size page : ℕ) (order : NameOrder) (old : List ℕ) (d e : RamDevice) (to : Disk) → IsUncalledDeviceWithImage block_size page old d
-    → SameGeometry (device.ordered order (device.disk_of_geometry_and_blocks (geometry_of d) (ram_blocks d))) to → device.ordered to.order (device.disk_of_geometry_and_blocks (geometry_of e) (ram_blocks e)) ≡ to → length old ≡ length (bytes_of e)
+    → SameGeometry (device.ordered order (device.disk_of_geometry_and_blocks (geometry_of d) (ram_blocks d))) to → device.ordered to.order (device.disk_of_geometry_and_blocks (geometry_of e) (ram_blocks e)) ≡ to → length old ≡ length (ram_bytes e)
 fits block_size page order old d e to is same shown = (kept block_size page order old to e is.whole (subst (λ z. SameGeometry z to) (disk_shown block_size page old d order is) same) shown).0
 
 pub formatted : (block_size page : ℕ) (order : NameOrder) (old : List ℕ) (d e : RamDevice) (to : Disk) (new : List ℕ) → IsUncalledDeviceWithImage block_size page old d → IsFreshDisk to
     → SameGeometry (device.ordered order (device.disk_of_geometry_and_blocks (geometry_of d) (ram_blocks d))) to → AreBlocksEqualExceptThese (0 ∷ 1 ∷ []) (ram_blocks d) to.blocks
-    → device.ordered to.order (device.disk_of_geometry_and_blocks (geometry_of e) (ram_blocks e)) ≡ to → new ≡ bytes_of e → IsFormattedImage block_size page order old new
+    → device.ordered to.order (device.disk_of_geometry_and_blocks (geometry_of e) (ram_blocks e)) ≡ to → new ≡ ram_bytes e → IsFormattedImage block_size page order old new
 formatted block_size page order old d e to new is fresh same others shown are =
     let begun = disk_shown block_size page old d order is in
     let k = kept block_size page order old to e is.whole (subst (λ z. SameGeometry z to) begun same) shown in

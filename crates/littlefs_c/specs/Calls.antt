@@ -11,7 +11,7 @@ use Rattle.lfs_model.specs.Thread.{Pair}
 use Rattle.lfs_model.specs.View.{IsAcceptedImage}
 use Rattle.lfs_model.specs.declared.order.NameOrder.{NameOrder}
 use Rattle.lfs_model.specs.declared.order.NameOrder.TheVariants.{LongerFirst, ShorterFirst}
-use Rattle.lfs_device.specs.RamDevice.{bytes_of, geometry_of, history_of}
+use Rattle.lfs_device.specs.RamDevice.{ram_bytes, geometry_of, history_of}
 use Rattle.lfs_device.specs.declared.error.Error.{Error}
 use Rattle.lfs_device.specs.declared.error.Error.TheVariants.{Corrupt, Invalid, NoMemory}
 use Rattle.lfs_device.specs.declared.ram.RamDevice.{RamDevice}
@@ -24,7 +24,7 @@ pub record IsUncalledDeviceWithImage (block_size page : ℕ) (image : List ℕ) 
   pub whole : IsImageOfWholeBlocks block_size page image
   pub size : (geometry_of d).block_size ≡ block_size
   pub its_page : (geometry_of d).page ≡ page
-  pub bytes : bytes_of d ≡ image
+  pub bytes : ram_bytes d ≡ image
   pub no_call : history_of d ≡ []
 
 -- A session as a mount of the image begins it. The image is accepted, in the order with the longer names first where both orders
@@ -67,7 +67,7 @@ abbrev pub RunsOperations : ℕ → ℕ → List ℕ → List Operation → Syst
 RunsOperations block_size page image operations to = (replies : List Reply) × RunsOperationsWithReplies block_size page image operations replies to
 
 -- One of the operations is refused by that error, after others that were accepted.
-pub record RefusesOneOperation (block_size page : ℕ) (image : List ℕ) (operations : List Operation) (e : Error) : Type 0 where
+pub record RefusesOperationAfterOthers (block_size page : ℕ) (image : List ℕ) (operations : List Operation) (e : Error) : Type 0 where
   pub done : List Operation
   pub next : Operation
   pub others : List Operation
@@ -80,7 +80,7 @@ pub record RefusesOneOperation (block_size page : ℕ) (image : List ℕ) (opera
   pub refusal : is_refusal e ≡ true
 
 abbrev pub RefusesImageOrOperation : ℕ → ℕ → List ℕ → List Operation → Error → Type 0
-RefusesImageOrOperation block_size page image operations e = PreventsSessionOnImage block_size page image e ⊎ RefusesOneOperation block_size page image operations e
+RefusesImageOrOperation block_size page image operations e = PreventsSessionOnImage block_size page image e ⊎ RefusesOperationAfterOthers block_size page image operations e
 
 -- ---- results
 

@@ -1,8 +1,8 @@
 use Rattle.std.proofs.Common.{ℕ, ◌≡◌, ◌-◌, ◌*◌, ◌<◌, ◌^◌, ◌++◌, List, length, take, drop, slice_index, refl, ap, subst, ◌∙◌, arith}
 use Rattle.lfs_model.proofs.Overwrites.{AreBlocksEqualExceptOne-trans}
-use Rattle.lfs_model.proofs.Histories.{erases-reads, programs-reads}
+use Rattle.lfs_model.proofs.Histories.{erases-reads, program_count_of_history-reads}
 use Rattle.lfs_model.specs.Blocks.{Blocks, AreBlocksEqualExceptOne, block_bytes_in}
-use Rattle.lfs_model.specs.History.{erases, programs}
+use Rattle.lfs_model.specs.History.{erases, program_count_of_history}
 use Rattle.lfs_model.specs.SkipLists.{list_blocks_from_head, pointers_of, word_at}
 use Rattle.lfs_ctz.proofs.Grown.{chain_grown, grown_back}
 use Rattle.lfs_ctz.proofs.Called.{changes_on, erase_once, only_read, program_once}
@@ -69,5 +69,5 @@ returns-clause-bytes g c =
 pub returns-clause-writes : goal.returns-clause-writes
 returns-clause-writes g c = record {
   erased = omega (arith, ap erases c.in_ok-prog.ensures.history, ap erases c.in_ok-erase.ensures.history, erases-reads c.put_pointers.ensures.device.reads);
-  programmed = omega (arith, ap programs c.in_ok-prog.ensures.history, ap programs c.in_ok-erase.ensures.history, programs-reads c.put_pointers.ensures.device.reads);
+  programmed = omega (arith, ap program_count_of_history c.in_ok-prog.ensures.history, ap program_count_of_history c.in_ok-erase.ensures.history, program_count_of_history-reads c.put_pointers.ensures.device.reads);
 }

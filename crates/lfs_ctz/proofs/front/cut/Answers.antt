@@ -6,14 +6,14 @@ use Rattle.lfs_model.specs.SkipLists.{AreListBlocks, IsSkipList, IsPlaceOfByteIn
 use Rattle.lfs_ctz.specs.Finished.{IsEndedList}
 use Rattle.lfs_ctz.proofs.Geometries.{chain, last_is, shaped, sized}
 use Rattle.lfs_ctz.proofs.Resumed.{front_end}
-use Rattle.lfs_ctz.proofs.Sizes.{list_block_count_for_size-last, place-lt}
+use Rattle.lfs_ctz.proofs.Sizes.{blocks_for-last, place-lt}
 use Rattle.lfs_ctz.proofs.front.cut.Goals as goal
 
 pub overflow_sub-blocks_for : goal.overflow_sub-blocks_for
 overflow_sub-blocks_for g c =
     let some = c.requires.some in
     let within = c.requires.within in
-    let last = list_block_count_for_size-last c.geometry-block_size.result.block_size c.args.size c.geometry-block_size.result.valid.no_smaller (omega arith) in
+    let last = blocks_for-last c.geometry-block_size.result.block_size c.args.size c.geometry-block_size.result.valid.no_smaller (omega arith) in
     omega (arith, last.1.0, c.blocks_for.ensures)
 
 pub find-requires : goal.find-requires

@@ -5,7 +5,7 @@ use Rattle.std.proofs.lemmas.Result.{err_from_is_err_and}
 use Rattle.lfs_device.specs.declared.geometry.Geometry.{Geometry}
 use Rattle.lfs_model.specs.Blocks.{Blocks, HasBlocksOfCountAndSize, block_bytes_in}
 use Rattle.lfs_model.specs.SkipLists.{IsPlaceOfByteInList, pointers_of, list_block_count_for_size, list_blocks_from_head, bytes_of, word_at}
-use Rattle.lfs_ctz.proofs.Sizes.{list_block_count_for_size-last, place-lt, place_unique, place-mono}
+use Rattle.lfs_ctz.proofs.Sizes.{blocks_for-last, place-lt, place_unique, place-mono}
 use Rattle.lfs_ctz.proofs.Gathered.{IsPart, IsReadPass, filled, turn_bytes, turn_rest, turn_before, turn_in_range, turn_index}
 use Rattle.lfs_ctz.proofs.Geometries.{last_is, chain, sized, shaped}
 use Rattle.lfs_ctz.proofs.Called.{list_as, list_io, list_ok, list_on, read_on, quiet, reported_on}
@@ -14,7 +14,7 @@ use Rattle.lfs_ctz.proofs.read.read_at.Goals as goal
 pub overflow_sub-blocks_for : goal.overflow_sub-blocks_for
 overflow_sub-blocks_for g c =
     let large = c.geometry-block_size.result.valid.no_smaller in
-    let last = list_block_count_for_size-last c.geometry-block_size.result.block_size c.args.size large (omega arith) in
+    let last = blocks_for-last c.geometry-block_size.result.block_size c.args.size large (omega arith) in
     omega (arith, last.1.0, c.blocks_for.ensures)
 
 some_room : (len size pos n : ℕ) (empty : Bool) → pos < size → empty ≡ (len == 0) → empty ≡ false → n ≡ min len (size - pos) → (1 ≤ n) × (pos + n ≤ size)
@@ -59,7 +59,7 @@ blocks-2-init g c =
       device = c.find.ensures.reading.device;
       quiet = quiet g.D.BlockDevice c.in_ok-block.ensures.reading.faults;
       few = λ m i last off end le is there.
-          let few = c.in_ok-block.ensures.few m (omega (arith, le, c.blocks_for.ensures, (list_block_count_for_size-last size c.args.size large (omega arith)).1.0)) in
+          let few = c.in_ok-block.ensures.few m (omega (arith, le, c.blocks_for.ensures, (blocks_for-last size c.args.size large (omega arith)).1.0)) in
           omega arith;
     }
 

@@ -12,7 +12,7 @@ use Rattle.std.proofs.lemmas.List.{drop_all}
 use Rattle.lfs_device.specs.declared.geometry.Geometry.{Geometry}
 use Rattle.lfs_model.specs.Blocks.{Blocks, HasBlocksOfCountAndSize, block_bytes_in}
 use Rattle.lfs_model.specs.SkipLists.{AreListBlocks, IsSkipList, list_block_count_for_size, list_blocks_from_head, word_at}
-use Rattle.lfs_ctz.proofs.Sizes.{list_block_count_for_size-last}
+use Rattle.lfs_ctz.proofs.Sizes.{blocks_for-last}
 use Rattle.lfs_ctz.proofs.Chains.{head_of_back, length_back, in_range_at, back-pointer0}
 use Rattle.lfs_ctz.proofs.Geometries.{chain, sized, count_by}
 use Rattle.lfs_ctz.proofs.Called.{list_as, list_corrupt, list_on, quiet, read_on}
@@ -21,13 +21,13 @@ use Rattle.lfs_ctz.proofs.visits.walk.Goals as goal
 
 pub overflow_sub-last : goal.overflow_sub-last
 overflow_sub-last g c =
-    let last = list_block_count_for_size-last c.geometry-geometry.result.block_size c.args.size c.geometry-geometry.result.valid.no_smaller (omega arith) in
-    omega (arith, last.1.0, c.list_block_count_for_size-last.ensures)
+    let last = blocks_for-last c.geometry-geometry.result.block_size c.args.size c.geometry-geometry.result.valid.no_smaller (omega arith) in
+    omega (arith, last.1.0, c.blocks_for-last.ensures)
 
 pub returns-then-last-geometry-clause-corrupt : goal.returns-then-last-geometry-clause-corrupt
 returns-then-last-geometry-clause-corrupt g c is listed =
     let ok = sized _ _ _ _ _ c.geometry-geometry.ensures listed in
-    let fits = chain_fits _ _ _ (chain _ _ _ _ _ c.geometry-geometry.result.valid.no_smaller c.list_block_count_for_size-last.ensures ok) in
+    let fits = chain_fits _ _ _ (chain _ _ _ _ _ c.geometry-geometry.result.valid.no_smaller c.blocks_for-last.ensures ok) in
     let shape = g.met.D.BlockDevice.shape c.args.dev.now in
     omega (arith, fits, shape.count, c.if-last-geometry.true, ap (λ (k : Geometry). k.block_count) c.geometry-geometry.ensures)
 
@@ -39,12 +39,12 @@ pub returns-in_err-first-clause-corrupt : goal.returns-in_err-first-clause-corru
 returns-in_err-first-clause-corrupt g c =
     let p = err_from_is_err_and c.from_residual.result c.from_residual.ensures.1 in
     rw (p.1, p.2) (λ is listed. c.in_err-first.ensures.corrupt (again _ _ is)
-    (chain _ _ _ _ _ c.geometry-geometry.result.valid.no_smaller c.list_block_count_for_size-last.ensures (sized _ _ _ _ _ c.geometry-geometry.ensures listed)))
+    (chain _ _ _ _ _ c.geometry-geometry.result.valid.no_smaller c.blocks_for-last.ensures (sized _ _ _ _ _ c.geometry-geometry.ensures listed)))
 
 pub loop-index-init : goal.loop-index-init
 loop-index-init g c =
     let old : Blocks = g.D.BlockDevice.blocks c.args.dev.now in
-    let last : ℕ = c.list_block_count_for_size-last.result - 1 in
+    let last : ℕ = c.blocks_for-last.result - 1 in
     let none : drop (last + 1) (list_blocks_from_head old (last + 1) c.args.head) ≡ [] = drop_all (last + 1) (list_blocks_from_head old (last + 1) c.args.head) (let l = length_back old (last + 1) c.args.head in omega arith) in
     record {
       low = omega arith;
@@ -93,9 +93,9 @@ returns-in_err-before-clause-corrupt g c =
     let made = c.geometry-geometry.ensures in
     let refused = rw (inv.device.geometry) at c.in_err-before.ensures.corrupt in
     refused (again _ _ is)
-    (in_range_then _ _ _ _ _ _ _ _ made c.list_block_count_for_size-last.ensures shape c.if-last-geometry.false (omega arith) inv.low inv.at listed)
+    (in_range_then _ _ _ _ _ _ _ _ made c.blocks_for-last.ensures shape c.if-last-geometry.false (omega arith) inv.low inv.at listed)
     (named_of_chain _ _ c.args.head _ _ c.loop-index.index _ (few_blocks c.geometry-geometry.result _ c.if-last-geometry.false) inv.checked
-    (chain _ _ _ _ _ c.geometry-geometry.result.valid.no_smaller c.list_block_count_for_size-last.ensures (sized _ _ _ _ _ made listed)) inv.low c.loop-index.block inv.at))
+    (chain _ _ _ _ _ c.geometry-geometry.result.valid.no_smaller c.blocks_for-last.ensures (sized _ _ _ _ _ made listed)) inv.low c.loop-index.block inv.at))
 
 pub returns-in_err-before-clause-reading : goal.returns-in_err-before-clause-reading
 returns-in_err-before-clause-reading g c =
@@ -105,8 +105,8 @@ returns-in_err-before-clause-reading g c =
 pub returns-then-block-first-clause-corrupt : goal.returns-then-block-first-clause-corrupt
 returns-then-block-first-clause-corrupt g c is listed =
     let inv = c.loop-index.invariant in
-    let ok = chain _ _ _ _ _ c.geometry-geometry.result.valid.no_smaller c.list_block_count_for_size-last.ensures (sized _ _ _ _ _ c.geometry-geometry.ensures listed) in
-    first_of_distinct (g.D.BlockDevice.blocks c.args.dev.now) (c.list_block_count_for_size-last.result - 1 + 1) c.args.head ok.distinct c.loop-index.index (omega arith) (omega (arith, inv.low)) (sym inv.at ∙ c.if-block-first.true ∙ c.in_ok-first.ensures.found ok)
+    let ok = chain _ _ _ _ _ c.geometry-geometry.result.valid.no_smaller c.blocks_for-last.ensures (sized _ _ _ _ _ c.geometry-geometry.ensures listed) in
+    first_of_distinct (g.D.BlockDevice.blocks c.args.dev.now) (c.blocks_for-last.result - 1 + 1) c.args.head ok.distinct c.loop-index.index (omega arith) (omega (arith, inv.low)) (sym inv.at ∙ c.if-block-first.true ∙ c.in_ok-first.ensures.found ok)
 
 pub returns-then-block-first-clause-reading : goal.returns-then-block-first-clause-reading
 returns-then-block-first-clause-reading g c =
@@ -118,7 +118,7 @@ pub loop-index-preserved : goal.loop-index-preserved
 loop-index-preserved g c =
     let inv = c.loop-index.invariant in
     let old : Blocks = g.D.BlockDevice.blocks c.args.dev.now in
-    let last : ℕ = c.list_block_count_for_size-last.result - 1 in
+    let last : ℕ = c.blocks_for-last.result - 1 in
     let index : ℕ = c.loop-index.index in
     let bs : List ℕ = list_blocks_from_head old (last + 1) c.args.head in
     let size = length_back old (last + 1) c.args.head in
@@ -156,12 +156,12 @@ loop-index-preserved g c =
 
 pub checked_block_before-requires-clause-way : goal.checked_block_before-requires-clause-way
 checked_block_before-requires-clause-way g c =
-    subst (λ d. HasPointersOfBlocksOnWay d (c.list_block_count_for_size-last.result - 1) 0 c.first_block_noting_way.new.way) (sym c.loop-index.invariant.device.same) c.in_ok-first.ensures.noted.words
+    subst (λ d. HasPointersOfBlocksOnWay d (c.blocks_for-last.result - 1) 0 c.first_block_noting_way.new.way) (sym c.loop-index.invariant.device.same) c.in_ok-first.ensures.noted.words
 
 pub returns-then-block-first-2-clause-corrupt : goal.returns-then-block-first-2-clause-corrupt
 returns-then-block-first-2-clause-corrupt g c is listed =
     let inv = c.loop-index.invariant in
-    let ok = chain _ _ _ _ _ c.geometry-geometry.result.valid.no_smaller c.list_block_count_for_size-last.ensures (sized _ _ _ _ _ c.geometry-geometry.ensures listed) in
+    let ok = chain _ _ _ _ _ c.geometry-geometry.result.valid.no_smaller c.blocks_for-last.ensures (sized _ _ _ _ _ c.geometry-geometry.ensures listed) in
     let none : c.loop-index.index ≡ 0 = omega arith in
     c.if-block-first-2.true (inv.at ∙ ap (slice_index _) none ∙ sym (c.in_ok-first.ensures.found ok))
 
@@ -169,39 +169,39 @@ pub returns-clause-well_formed : goal.returns-clause-well_formed
 returns-clause-well_formed g c =
     let inv = c.loop-index.invariant in
     let old : Blocks = g.D.BlockDevice.blocks c.args.dev.now in
-    let last : ℕ = c.list_block_count_for_size-last.result - 1 in
+    let last : ℕ = c.blocks_for-last.result - 1 in
     let shape = g.met.D.BlockDevice.shape c.args.dev.now in
     let none : c.loop-index.index ≡ 0 = omega arith in
     let first = c.in_ok-first.ensures.in_range in
     let is : slice_index (list_blocks_from_head old (last + 1) c.args.head) 0 ≡ c.in_ok-first.first = ap (slice_index (list_blocks_from_head old (last + 1) c.args.head)) (sym none) ∙ sym inv.at ∙ c.if-block-first-2.false in
-    list_of_walk old c.args.head c.args.size c.list_block_count_for_size-last.result c.in_ok-first.first _ _ c.geometry-geometry.ensures c.list_block_count_for_size-last.ensures shape (omega arith) (omega arith) (omega arith)
+    list_of_walk old c.args.head c.args.size c.blocks_for-last.result c.in_ok-first.first _ _ c.geometry-geometry.ensures c.blocks_for-last.ensures shape (omega arith) (omega arith) (omega arith)
     _ (subst (λ k. IsChecked old last c.args.head c.in_ok-first.first (g.D.BlockDevice.geometry c.args.dev.now).block_count k c.loop-index.words) none inv.checked) is first
     (subst (λ b. IsBlockNamedByLaterPointers c.loop-index.words b 0 last) c.if-block-first-2.false (c.if-not-is_named.ensures.yes refl))
 
 pub returns-clause-few : goal.returns-clause-few
 returns-clause-few g c =
-    let last : ℕ = c.list_block_count_for_size-last.result - 1 in
-    let ok = chain _ _ _ _ _ c.geometry-geometry.result.valid.no_smaller c.list_block_count_for_size-last.ensures (sized _ _ _ _ _ c.geometry-geometry.ensures (returns-clause-well_formed g c)) in
+    let last : ℕ = c.blocks_for-last.result - 1 in
+    let ok = chain _ _ _ _ _ c.geometry-geometry.result.valid.no_smaller c.blocks_for-last.ensures (sized _ _ _ _ _ c.geometry-geometry.ensures (returns-clause-well_formed g c)) in
     let few = c.loop-index.invariant.few ok in
     let none : count_of_indices_on_way last c.loop-index.index ≡ 0 = ap (count_of_indices_on_way last) (let e : c.loop-index.index ≡ 0 = omega arith in e) in
-    let count = count_by (g.D.BlockDevice.geometry c.args.dev.now) c.geometry-geometry.result c.args.size c.list_block_count_for_size-last.result c.geometry-geometry.ensures (omega arith) c.list_block_count_for_size-last.ensures in
+    let count = count_by (g.D.BlockDevice.geometry c.args.dev.now) c.geometry-geometry.result c.args.size c.blocks_for-last.result c.geometry-geometry.ensures (omega arith) c.blocks_for-last.ensures in
     omega (arith, few, none, count)
 
 pub returns-clause-visited : goal.returns-clause-visited
 returns-clause-visited g c =
     let inv = c.loop-index.invariant in
     let old : Blocks = g.D.BlockDevice.blocks c.args.dev.now in
-    let last : ℕ = c.list_block_count_for_size-last.result - 1 in
+    let last : ℕ = c.blocks_for-last.result - 1 in
     let bs : List ℕ = list_blocks_from_head old (last + 1) c.args.head in
     let size = length_back old (last + 1) c.args.head in
     let all = visited_more _ _ _ c.visit-2.new.self bs c.loop-index.index c.loop-index.block 0 (omega (arith, size, inv.low)) inv.at (omega arith) inv.visited (search (rules, of_calls)) in
     subst (λ n. FoldsTo (λ p x q. goal.F-step g p x tt q) c.args.visit.now (reverse (list_blocks_from_head old n c.args.head)) c.visit-2.new.self)
-    (count_by (g.D.BlockDevice.geometry c.args.dev.now) c.geometry-geometry.result c.args.size c.list_block_count_for_size-last.result c.geometry-geometry.ensures (omega arith) c.list_block_count_for_size-last.ensures) all
+    (count_by (g.D.BlockDevice.geometry c.args.dev.now) c.geometry-geometry.result c.args.size c.blocks_for-last.result c.geometry-geometry.ensures (omega arith) c.blocks_for-last.ensures) all
 
 pub returns-then-not-is_named-clause-corrupt : goal.returns-then-not-is_named-clause-corrupt
 returns-then-not-is_named-clause-corrupt g c is listed =
     let inv = c.loop-index.invariant in
-    let ok = chain _ _ _ _ _ c.geometry-geometry.result.valid.no_smaller c.list_block_count_for_size-last.ensures (sized _ _ _ _ _ c.geometry-geometry.ensures listed) in
+    let ok = chain _ _ _ _ _ c.geometry-geometry.result.valid.no_smaller c.blocks_for-last.ensures (sized _ _ _ _ _ c.geometry-geometry.ensures listed) in
     let none : c.loop-index.index ≡ 0 = omega arith in
-    c.if-not-is_named.ensures.no refl (subst (λ k. IsBlockNamedByLaterPointers c.loop-index.words c.loop-index.block k (c.list_block_count_for_size-last.result - 1)) none
+    c.if-not-is_named.ensures.no refl (subst (λ k. IsBlockNamedByLaterPointers c.loop-index.words c.loop-index.block k (c.blocks_for-last.result - 1)) none
     (named_of_chain _ _ c.args.head _ _ c.loop-index.index _ (few_blocks c.geometry-geometry.result _ c.if-last-geometry.false) inv.checked ok inv.low c.loop-index.block inv.at))

@@ -1,7 +1,7 @@
 use Rattle.std.proofs.Common.{◌≡◌, ◌+◌, ◌*◌, take}
 use Rattle.lfs_device.specs.Calls.{ChangesOnlyThisBlock}
 use Rattle.lfs_model.specs.Blocks.{block_bytes_in}
-use Rattle.lfs_model.specs.History.{AreBytesUnprogrammed, erases, programs, faults}
+use Rattle.lfs_model.specs.History.{AreBytesUnprogrammed, erases, program_count_of_history, faults}
 use Rattle.lfs_fixtures.proofs.copy.copy_block.Given as goal
 
 -- the pages so far are copied, and the bytes behind them are unprogrammed
@@ -15,6 +15,6 @@ invariant-loop-page g l =
       front : take (l.page * l.geometry.page) (block_bytes_in (blocks l.device) l.to) ≡ take (l.page * l.geometry.page) (block_bytes_in (blocks old) l.from);
       unprogrammed : AreBytesUnprogrammed (history l.device) l.to (l.page * l.geometry.page) l.geometry.block_size;
       erases : erases (history l.device) ≡ erases (history old) + 1;
-      programs : programs (history l.device) ≡ programs (history old) + l.page;
+      programs : program_count_of_history (history l.device) ≡ program_count_of_history (history old) + l.page;
       no_fault : faults (history l.device) ≡ faults (history old);
     }

@@ -38,8 +38,8 @@ returns-then-not-branch-clause-is g c =
     let ps = c.args.thread.now.kept.pairs in
     let size = ap (λ (x : Geometry). x.block_size) c.geometry-geometry.ensures ∙ ap (λ (d : Disk). d.block_size) c.device.ensures.disk in
     let page = ap (λ (x : Geometry). x.page) c.geometry-geometry.ensures ∙ ap (λ (d : Disk). d.page) c.device.ensures.disk in
-    let is = as_before disk c.args.root c.loop-index.thread.kept.pairs ps c.loop-index.index c.geometry-geometry.result.block_size c.geometry-geometry.result.page c.follows_at-follows.result
-    size page inv.read.only.pairs c.follows_at-follows.ensures c.in_ok-fits_at.field-0 c.in_ok-fits_at.ensures.is in (
+    let is = as_before disk c.args.root c.loop-index.thread.kept.pairs ps c.loop-index.index c.geometry-geometry.result.block_size c.geometry-geometry.result.page c.is_pair_after_hard_tail-follows.result
+    size page inv.read.only.pairs c.is_pair_after_hard_tail-follows.ensures c.in_ok-fits_at.field-0 c.in_ok-fits_at.ensures.is in (
       λ e. absurd (cc),
       λ w.
           let fits = is.1 (subst (λ root. IsAtPair disk root ps c.loop-index.index) (sym c.requires.root) (fits_each disk ps w c.loop-index.index (omega (arith, n, c.loop-index-test.true)))) in
@@ -57,8 +57,8 @@ loop-index-preserved g c =
     let ps = c.args.thread.now.kept.pairs in
     let size = ap (λ (x : Geometry). x.block_size) c.geometry-geometry.ensures ∙ ap (λ (d : Disk). d.block_size) c.device.ensures.disk in
     let page = ap (λ (x : Geometry). x.page) c.geometry-geometry.ensures ∙ ap (λ (d : Disk). d.page) c.device.ensures.disk in
-    let is = as_before disk c.args.root c.loop-index.thread.kept.pairs ps c.loop-index.index c.geometry-geometry.result.block_size c.geometry-geometry.result.page c.follows_at-follows.result
-    size page inv.read.only.pairs c.follows_at-follows.ensures c.in_ok-fits_at.field-0 c.in_ok-fits_at.ensures.is in
+    let is = as_before disk c.args.root c.loop-index.thread.kept.pairs ps c.loop-index.index c.geometry-geometry.result.block_size c.geometry-geometry.result.page c.is_pair_after_hard_tail-follows.result
+    size page inv.read.only.pairs c.is_pair_after_hard_tail-follows.ensures c.in_ok-fits_at.field-0 c.in_ok-fits_at.ensures.is in
     record {
       end = inv.end;
       within = omega (arith, c.loop-index-test.true);

@@ -4,7 +4,7 @@ use Rattle.std.specs.List.{AllByRecursion}
 use Rattle.lfs_model.specs.Slots.{pair_address_of_array, same_pair}
 use Rattle.lfs_thread.specs.Places.{IsSamePairAtPlace}
 use Rattle.lfs_lookup.specs.Items.{structure_view}
-use Rattle.lfs_lookup.specs.Walk.{AreEntriesOfStructPushed, AreDirectoryEntriesPushed, HasFirstPairInThreadIfBranch, tree_items_view}
+use Rattle.lfs_lookup.specs.Walk.{AreDirectoryEntriesPushedIfBranch, AreDirectoryEntriesPushed, HasFirstPairInThreadIfBranch, tree_items_view}
 use Rattle.lfs_lookup.proofs.PairAddresses.{place_begins, place_there}
 use Rattle.lfs_lookup.proofs.walks.push_items_below_entry.Goals as goal
 
@@ -18,7 +18,7 @@ pub returns-in_ok-push_items_of_directory-clause-pushed : goal.returns-in_ok-pus
 returns-in_ok-push_items_of_directory-clause-pushed g c =
     let place = subst (λ xs. IsSamePairAtPlace xs (pair_address_of_array c.in-Branch.to) c.unwrap-first.result) c.requires.all
     (subst (λ o. IfSome o (IsSamePairAtPlace c.args.addresses.now (pair_address_of_array c.in-Branch.to))) c.unwrap-first.ensures c.find.ensures.there) in
-    subst (λ s. AreEntriesOfStructPushed c.args.thread.now.kept.pairs c.args.found.now.path.items (structure_view s) (tree_items_view c.args.pending.now.items) (tree_items_view c.push_items_of_directory.new.pending.items)) (sym c.in-Branch.is) (
+    subst (λ s. AreDirectoryEntriesPushedIfBranch c.args.thread.now.kept.pairs c.args.found.now.path.items (structure_view s) (tree_items_view c.args.pending.now.items) (tree_items_view c.push_items_of_directory.new.pending.items)) (sym c.in-Branch.is) (
       c.unwrap-first.result,
       (
         place_begins c.args.thread.now.kept.pairs (pair_address_of_array c.in-Branch.to) c.unwrap-first.result place,

@@ -4,7 +4,7 @@ use Rattle.std.specs.Prelude.{codes}
 use Rattle.std.proofs.lemmas.List.{append_cancel_right}
 use Rattle.lfs_model.specs.Disk.{block_count}
 use Rattle.lfs_model.specs.Content.{content_of_pair_at}
-use Rattle.lfs_model.specs.History.{programs}
+use Rattle.lfs_model.specs.History.{program_count_of_history}
 use Rattle.lfs_model.specs.Tree.{Tree}
 use Rattle.lfs_model.specs.Shown.{tree_on_disk, used_blocks}
 use Rattle.lfs_model.specs.Operations as ops
@@ -50,7 +50,7 @@ pub returns-clause-not_unwritten : goal.returns-clause-not_unwritten
 returns-clause-not_unwritten c = unwritten
 
 pub returns-clause-no_program : goal.returns-clause-no_program
-returns-clause-no_program c = λ h. absurd (let k = ap programs (h.called ∙ append-nil h.calls) ∙ (h.refused refl).1.0 in cc)
+returns-clause-no_program c = λ h. absurd (let k = ap program_count_of_history (h.called ∙ append-nil h.calls) ∙ (h.refused refl).1.0 in cc)
 
 -- two blocks are too few, since one is used
 some_used : (ps : List Pair) → AreLinkedByTails (Some anchor_pair_address) ps → 1 ≤ length (used_blocks small_fresh_image ps)

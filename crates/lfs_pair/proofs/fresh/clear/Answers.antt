@@ -3,7 +3,7 @@ use Rattle.std.proofs.lemmas.List.{take-replicate}
 use Rattle.lfs_device.specs.declared.geometry.Geometry.{Geometry}
 use Rattle.lfs_model.specs.Blocks.{block_bytes_in}
 use Rattle.lfs_model.specs.Content.{has_commit}
-use Rattle.lfs_model.specs.History.{programs, reads}
+use Rattle.lfs_model.specs.History.{program_count_of_history, reads}
 use Rattle.lfs_model.proofs.Pages.{page_at_least, page_at_most}
 use Rattle.lfs_model.proofs.Zeroed.{no_commit-programmed}
 use Rattle.lfs_model.proofs.Histories.{began, goes_on, IsTrueOfEachCallSince-only, IsTrueOfEachCallSince-until}
@@ -65,9 +65,9 @@ returns-in_ok-prog-clause-clears g c =
     let size = (g.met.D.BlockDevice.shape c.erase.new.self).sizes c.args.block (subst (λ (k : Geometry). c.args.block < k.block_count) (sym c.erase.ensures.geometry) c.requires.in_device) in
     let whole = slice_range_whole (block_bytes_in blocks c.args.block) _ (c.requires.buf ∙ sym (ap (λ (k : Geometry). k.block_size) c.erase.ensures.geometry) ∙ sym size) in
     let read = c.in_ok-read.ensures.bytes ∙ whole in
-    let erased = ap programs c.in_ok-erase.ensures.history in
-    let then = ap programs c.in_ok-read.ensures.history in
-    let last = ap programs c.in_ok-prog.ensures.history in
+    let erased = ap program_count_of_history c.in_ok-erase.ensures.history in
+    let then = ap program_count_of_history c.in_ok-read.ensures.history in
+    let last = ap program_count_of_history c.in_ok-prog.ensures.history in
     record {
       erases = search rules;
       at_most = omega arith;

@@ -3,10 +3,10 @@ use Rattle.std.specs.Prelude.{min, take}
 use Rattle.lfs_device.specs.declared.geometry.Geometry.{Geometry}
 use Rattle.lfs_model.specs.Blocks.{block_bytes_in, bytes_after_overwrite_at, programmed}
 use Rattle.lfs_model.specs.Geometry.{IsValidGeometry}
-use Rattle.lfs_model.specs.History.{AreBytesUnprogrammed, erases, programs, reads}
+use Rattle.lfs_model.specs.History.{AreBytesUnprogrammed, erases, program_count_of_history, reads}
 use Rattle.lfs_tag.specs.Builder.{padded_end}
 use Rattle.lfs_pair.specs.Writing.{LogGetsCommit}
-use Rattle.lfs_model.proofs.Histories.{goes_on, IsTrueAfterEachStopSince-reads, IsLeftByStopIn-read, AreBytesUnprogrammed-reads, AreBytesUnprogrammed-part, unprogrammed-program, erases-reads, programs-reads}
+use Rattle.lfs_model.proofs.Histories.{goes_on, IsTrueAfterEachStopSince-reads, IsLeftByStopIn-read, AreBytesUnprogrammed-reads, AreBytesUnprogrammed-part, unprogrammed-program, erases-reads, program_count_of_history-reads}
 use Rattle.lfs_model.proofs.Overwrites.{AreBlocksEqualExceptOne-refl, block_bytes_in-programmed, take-overwritten}
 use Rattle.lfs_pair.proofs.Committed.{gets_commit, goes_into, left_in_block}
 use Rattle.lfs_pair.proofs.Calls.{block_by_program, block_by_reads, block_trans}
@@ -110,6 +110,6 @@ returns-clause-writes g c = record {
 
 pub returns-clause-programs : goal.returns-clause-programs
 returns-clause-programs g c =
-    let here = ap programs c.prog.ensures.history in
-    let before = programs-reads c.read_next_four_bytes.ensures.device.reads in
+    let here = ap program_count_of_history c.prog.ensures.history in
+    let before = program_count_of_history-reads c.read_next_four_bytes.ensures.device.reads in
     omega arith

@@ -10,7 +10,7 @@ use Rattle.lfs_thread.proofs.CachedLogs.{current_but_two, current_without}
 use Rattle.lfs_thread.proofs.commits.commit_with_cache.Goals as goal
 
 pub returns-in-Some-clause-current : goal.returns-in-Some-clause-current
-returns-in-Some-clause-current g c = current_but_two _ _ _ _ (address_of_header c.args.pair.now) (current_without _ _ c.args.pair.now.active c.requires.current) c.take_pair_from_cache.ensures.gone c.commit_in.ensures.device.only.others
+returns-in-Some-clause-current g c = current_but_two _ _ _ _ (address_of_header c.args.pair.now) (current_without _ _ c.args.pair.now.active c.requires.current) c.take_pair_blocks_from_cache.ensures.gone c.commit_in.ensures.device.only.others
 
 pub returns-in-Some-clause-errors : goal.returns-in-Some-clause-errors
 returns-in-Some-clause-errors g c =
@@ -19,7 +19,7 @@ returns-in-Some-clause-errors g c =
     record { errors = f.errors; faults = e.faults; unwritten = f.unwritten }
 
 pub returns-in-None-clause-current : goal.returns-in-None-clause-current
-returns-in-None-clause-current g c = current_but_two _ _ _ _ (address_of_header c.args.pair.now) (current_without _ _ c.args.pair.now.active c.requires.current) c.take_pair_from_cache.ensures.gone c.commit.ensures.device.only.others
+returns-in-None-clause-current g c = current_but_two _ _ _ _ (address_of_header c.args.pair.now) (current_without _ _ c.args.pair.now.active c.requires.current) c.take_pair_blocks_from_cache.ensures.gone c.commit.ensures.device.only.others
 
 pub returns-in-None-clause-errors : goal.returns-in-None-clause-errors
 returns-in-None-clause-errors g c =
@@ -30,9 +30,9 @@ returns-in-None-clause-errors g c =
 pub returns-in-Some-clause-device : goal.returns-in-Some-clause-device
 returns-in-Some-clause-device g c =
     subst (λ o. ChangesBlocksWithFewReads g.D.BlockDevice (1 + read_count_unless_cached o) (blocks_of_address (address_of_header c.args.pair.now)) c.args.device.now c.commit_in.new.dev)
-    (ap (option_map (λ (bytes : Vec ℕ Global). bytes.items)) (sym c.in-Some.is) ∙ c.take_pair_from_cache.ensures.bytes) c.commit_in.ensures.device
+    (ap (option_map (λ (bytes : Vec ℕ Global). bytes.items)) (sym c.in-Some.is) ∙ c.take_pair_blocks_from_cache.ensures.bytes) c.commit_in.ensures.device
 
 pub returns-in-None-clause-device : goal.returns-in-None-clause-device
 returns-in-None-clause-device g c =
     subst (λ o. ChangesBlocksWithFewReads g.D.BlockDevice (1 + read_count_unless_cached o) (blocks_of_address (address_of_header c.args.pair.now)) c.args.device.now c.commit.new.dev)
-    (ap (option_map (λ (bytes : Vec ℕ Global). bytes.items)) (sym c.in-None.is) ∙ c.take_pair_from_cache.ensures.bytes) c.commit.ensures.device
+    (ap (option_map (λ (bytes : Vec ℕ Global). bytes.items)) (sym c.in-None.is) ∙ c.take_pair_blocks_from_cache.ensures.bytes) c.commit.ensures.device

@@ -12,7 +12,7 @@ use Rattle.lfs_thread.proofs.commits.split_with_cache.Goals as goal
 
 pub returns-in-Some-clause-current : goal.returns-in-Some-clause-current
 returns-in-Some-clause-current g c = current_but_four _ _ _ _ _ (address_of_header c.args.pair.now) (pair_address_of_array c.args.fresh) (current_without _ _ c.args.pair.now.active c.requires.current)
-    c.take_pair_from_cache-held.ensures.gone c.forget_cached_pair.ensures c.split_in.ensures.device.only.others
+    c.take_pair_blocks_from_cache-held.ensures.gone c.forget_cached_pair.ensures c.split_in.ensures.device.only.others
 
 pub returns-in-Some-clause-errors : goal.returns-in-Some-clause-errors
 returns-in-Some-clause-errors g c =
@@ -22,7 +22,7 @@ returns-in-Some-clause-errors g c =
 
 pub returns-in-None-clause-current : goal.returns-in-None-clause-current
 returns-in-None-clause-current g c = current_but_four _ _ _ _ _ (address_of_header c.args.pair.now) (pair_address_of_array c.args.fresh) (current_without _ _ c.args.pair.now.active c.requires.current)
-    c.take_pair_from_cache-held.ensures.gone c.forget_cached_pair.ensures c.split.ensures.device.only.others
+    c.take_pair_blocks_from_cache-held.ensures.gone c.forget_cached_pair.ensures c.split.ensures.device.only.others
 
 pub returns-in-None-clause-errors : goal.returns-in-None-clause-errors
 returns-in-None-clause-errors g c =
@@ -33,9 +33,9 @@ returns-in-None-clause-errors g c =
 pub returns-in-Some-clause-device : goal.returns-in-Some-clause-device
 returns-in-Some-clause-device g c =
     subst (λ o. ChangesBlocksWithFewReads g.D.BlockDevice (3 + read_count_unless_cached o) (blocks_of_two_addresses (address_of_header c.args.pair.now) (pair_address_of_array c.args.fresh)) c.args.device.now c.split_in.new.dev)
-    (ap (option_map (λ (bytes : Vec ℕ Global). bytes.items)) (sym c.in-Some.is) ∙ c.take_pair_from_cache-held.ensures.bytes) c.split_in.ensures.device
+    (ap (option_map (λ (bytes : Vec ℕ Global). bytes.items)) (sym c.in-Some.is) ∙ c.take_pair_blocks_from_cache-held.ensures.bytes) c.split_in.ensures.device
 
 pub returns-in-None-clause-device : goal.returns-in-None-clause-device
 returns-in-None-clause-device g c =
     subst (λ o. ChangesBlocksWithFewReads g.D.BlockDevice (3 + read_count_unless_cached o) (blocks_of_two_addresses (address_of_header c.args.pair.now) (pair_address_of_array c.args.fresh)) c.args.device.now c.split.new.dev)
-    (ap (option_map (λ (bytes : Vec ℕ Global). bytes.items)) (sym c.in-None.is) ∙ c.take_pair_from_cache-held.ensures.bytes) c.split.ensures.device
+    (ap (option_map (λ (bytes : Vec ℕ Global). bytes.items)) (sym c.in-None.is) ∙ c.take_pair_blocks_from_cache-held.ensures.bytes) c.split.ensures.device

@@ -42,8 +42,15 @@ pub returns-in_err-pair-in-Some-clause-reported : goal.returns-in_err-pair-in-So
 returns-in_err-pair-in-Some-clause-reported g c =
     let reported = c.in_err-pair-in-Some.ensures.reported in
     let errors : IfErr c.from_residual.result (λ e. (e ≡ Corrupt) ⊎ ((e ≡ Io) ⊎ (e ≡ NoMemory))) = search rules in
-    let faults : ReportsFaults g.D.BlockDevice c.args.device.now c.read_and_mark_pair.new.device c.from_residual.result = search rules in
-    record { device = read_on c.loop.invariant.device reported.device; errors = errors; faults = faults }
+    let no_fault = c.loop.invariant.no_fault in
+    record {
+      device = read_on c.loop.invariant.device reported.device;
+      errors = errors;
+      faults = record {
+        fault = λ io. (let fault = reported.faults.fault (search rules) in omega (arith, fault, no_fault));
+        no_fault = λ other. reported.faults.no_fault (λ io. other (search rules)) ∙ no_fault;
+      };
+    }
 
 pub returns-in_err-push-in-Some-clause-reported : goal.returns-in_err-push-in-Some-clause-reported
 returns-in_err-push-in-Some-clause-reported g c =

@@ -7,7 +7,7 @@ use Rattle.lfs_device.specs.declared.geometry.Geometry.{Geometry}
 use Rattle.lfs_model.specs.Blocks.{Blocks, HasBlocksOfCountAndSize, block_bytes_in}
 use Rattle.lfs_model.specs.SkipLists.{AreListBlocks, IsSkipList, IsPlaceOfByteInList, pointers_of, bytes_before, list_blocks_from_head, list_block_count_for_size, bytes_of, word_at}
 use Rattle.lfs_ctz.specs.Growing.{data_of_list_blocks, IsRestInSharedBlock}
-use Rattle.lfs_ctz.proofs.Sizes.{list_block_count_for_size-last, place-lt, pointers_of-le, place-le}
+use Rattle.lfs_ctz.proofs.Sizes.{blocks_for-last, place-lt, pointers_of-le, place-le}
 use Rattle.lfs_ctz.proofs.Chains.{in_range_at, back-pointer0}
 use Rattle.lfs_ctz.proofs.Geometries.{last_is, chain, sized, shaped}
 use Rattle.lfs_ctz.proofs.Called.{quiet, read_on, reported_as, reported_on}
@@ -18,7 +18,7 @@ use Rattle.lfs_ctz.proofs.extender.Extender.resume.Goals as goal
 
 pub overflow_sub-blocks_for : goal.overflow_sub-blocks_for
 overflow_sub-blocks_for g c =
-    let last = list_block_count_for_size-last c.geometry-geometry.result.block_size c.args.size c.geometry-geometry.result.valid.no_smaller c.requires.list.size_low in
+    let last = blocks_for-last c.geometry-geometry.result.block_size c.args.size c.geometry-geometry.result.valid.no_smaller c.requires.list.size_low in
     omega (arith, last.1.0, c.blocks_for.ensures)
 
 pub find-requires : goal.find-requires

@@ -6,7 +6,7 @@ usage: deep.py PROGRAM [DEPTH]
 PROGRAM is a built lfs_script. A look-up reads each pair of the directories that it searches once at most: 1,000 for what stands
 in the last of them (the root and 999 others), and as many when it is asked again, since eight blocks are kept. Of directories
 beside each other a look-up searches the root alone, so its pairs are the bound. Eight deep it reads nothing when it is asked
-again. Prints the reads; fails where they are more, or where a mount takes more than four reads a pair and two: three to accept the
+again. Prints the reads; fails where they are more, or where a mount takes more than five reads a pair and two: four to accept the
 image, and one to see whether it is one of those that are written.
 """
 
@@ -36,7 +36,7 @@ def deep(program, most):
         sys.exit(f"other answers: {told}")
     first, again, beyond = (after - before for before, after in zip(reads, reads[1:]))
     print(f"{most} deep: {reads[0]} reads to mount, {first} to look up, {again} again, {beyond} for what isn't there, one deeper")
-    return reads[0] <= 4 * (most + 1) + 2 and max(first, again) <= most and beyond <= most + 1
+    return reads[0] <= 5 * (most + 1) + 2 and max(first, again) <= most and beyond <= most + 1
 
 
 def kept(program):
@@ -60,7 +60,7 @@ def wide(program, most):
         sys.exit(f"other answers: {told}")
     first, again = (after - before for before, after in zip(reads, reads[1:]))
     print(f"{most} beside each other in {pairs} pairs: {reads[0]} reads to mount, {first} to look up the last, {again} then one in the middle")
-    return reads[0] <= 4 * (most + pairs) + 2 and max(first, again) <= pairs
+    return reads[0] <= 5 * (most + pairs) + 2 and max(first, again) <= pairs
 
 
 if __name__ == "__main__":

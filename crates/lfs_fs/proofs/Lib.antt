@@ -46,3 +46,4 @@ pub mod WrittenAlone
 pub mod WriterPaths
 pub mod DeviceLaws
 pub mod Called
+pub mod WritersInPlace

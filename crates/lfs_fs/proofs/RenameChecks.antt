@@ -1,28 +1,30 @@
 -- Checks of a rename.
-use Rattle.std.proofs.Common.{◌≤◌, ℕ, ◌≡◌, ◌&&◌, ◌||◌, Bool, true, false, not, List, [], ◌∷◌, length, nat_lt, Option, Some, None, Result, unwrap_or, refl, sym, ap, ap₂, subst, ◌∙◌}
-use Rattle.std.specs.Prelude.{IfSome}
+use Rattle.std.proofs.Common.{◌≤◌, ℕ, ◌≡◌, ◌&&◌, ◌||◌, Bool, true, false, not, List, [], ◌∷◌, length, nat_lt, Option, Some, None, Result, Err, unwrap_or, refl, sym, ap, ap₂, subst, ◌∙◌}
+use Rattle.std.specs.Prelude.{IfSome, IsSome}
 use Rattle.lfs_device.specs.declared.error.Error.{Error}
 use Rattle.lfs_model.specs.TreeEdits.{attributes_of_node, is_path_beneath, last_name_of_path, names_of_directory_node, same_path}
 use Rattle.lfs_model.specs.BlockSets.{in_flight_count}
 use Rattle.lfs_model.specs.Disk.{block_count}
 use Rattle.lfs_model.specs.Operations as ops
-use Rattle.lfs_model.specs.Operations.{Refusal, path_of_bytes}
+use Rattle.lfs_model.specs.Operations.{Operation, Refusal, path_of_bytes}
 use Rattle.lfs_model.specs.Session.{first_refusal_of, reserved_block_count_of_writers, has_open_file_at, is_entry_over_charge_limit, lacks_free_blocks, refuse_if}
-use Rattle.lfs_model.specs.Slots.{Attributes, attributes_size}
+use Rattle.lfs_model.specs.Slots.{Attributes, attributes_size, zero_gstate}
+use Rattle.lfs_model.specs.Thread.{gstate_of}
 use Rattle.lfs_model.specs.Refusals.{path_or_root, is_root}
 use Rattle.lfs_model.specs.Tree.{Path}
 use Rattle.lfs_tree.specs.Permissions.{CanRenamePath}
-use Rattle.lfs_lookup.specs.AttributeAt.{IsAttributesSize}
 use Rattle.lfs_lookup.specs.Finds.{IsFoundNodeAtPath, has_entry_beneath_path, is_absent, is_directory_node, is_file_node}
-use Rattle.lfs_tree.specs.RenamePaths.{AreRenameTargets}
+use Rattle.lfs_tree.specs.RenamePaths.{AreRenameTargets, HasFoundBothRenamePaths}
 use Rattle.lfs_tree.specs.TreeState.{TreeState, kept_of, disk_summary_of_tree, tree_view, WasTreeOnlyRead}
 use Rattle.lfs_lookup.specs.declared.found_entries.FoundNode.{FoundNode}
-use Rattle.lfs_fs.specs.EntryPaths.{path_of_bytes_unless_root}
-use Rattle.lfs_fs.specs.SessionView.{SessionView, refusal_by_checks, ChecksOperation}
-use Rattle.lfs_fs.specs.RenamePaths.{IsRenamingOfPaths, prevents_rename}
+use Rattle.lfs_tree.specs.declared.rename_paths.RenameFindings.{RenameFindings}
+use Rattle.lfs_fs.specs.FileView.{OpenFiles, open_files_view}
+use Rattle.lfs_fs.specs.SessionView.{SessionView, session_view_of_tree_and_files, refusal_by_checks, ChecksOperation, EndsChecksWithError, PassesChecksWithoutCalls}
+use Rattle.lfs_fs.specs.RenamePaths.{IsRefusedWithAnyFiles, IsRenamingOfPaths, PassesPathChecks, prevents_rename}
 use Rattle.lfs_fs.specs.Replies.{value_unless_refused}
+use Rattle.lfs_fs.specs.declared.rename_checks.RenamePaths.{RenamePaths}
 use Rattle.lfs_fs.specs.declared.rename_checks.Renaming.{Renaming}
-use Rattle.lfs_fs.proofs.Answered.{not_failed, not_refused}
+use Rattle.lfs_fs.proofs.Answered.{not_failed, not_refused, nothing_asked}
 use Rattle.lfs_fs.proofs.Late.{rename_late}
 use Rattle.lfs_fs.proofs.Checked.{both, decided, negated, neither, room_left, unrefused, when}
 use Rattle.lfs_fs.proofs.EntryChecks.{good_root}
@@ -44,31 +46,37 @@ rename_refused : (h : SessionView) (old new : List ℕ) (p q : Path) (entry targ
 rename_refused h old new p q entry target works writable is are one two apart f g =
     rw (works, writable, is, are, one, two, apart, f.parents, g.parents, f.nothing, f.directories, g.files, f.files, g.directories) refl
 
-pub rename_checked : (h : SessionView) (old new : List ℕ) (p q : Path) (entry target : FoundNode) (tree : TreeState) (size len other : ℕ) (same absent one two filled three over four lack busy : Bool)
-    (a b c d e f i j : Option Refusal) (r : Result Renaming Error) → (x : Renaming) →
-    false ≡ h.tree.failed → true ≡ h.tree.writable → Some p ≡ path_of_bytes_unless_root old → Some q ≡ path_of_bytes_unless_root new → is_path_beneath (path_or_root old) (path_or_root new) ≡ false → WasTreeOnlyRead h.tree tree →
-    IsFoundNodeAtPath (tree_view h.tree) p entry → IsFoundNodeAtPath (tree_view h.tree) q target → IsAttributesSize (attributes_of_node (tree_view h.tree p)) size → same ≡ same_path (path_or_root old) (path_or_root new) →
-    len ≡ length (last_name_of_path q) → a ≡ refuse_if (nat_lt 255 len) ops.NameTooLong →
-    absent ≡ is_absent entry.node → b ≡ refuse_if absent ops.NoEnt →
-    one ≡ (not same && is_directory_node entry.node && is_file_node target.node) → c ≡ refuse_if one ops.NotDir →
-    two ≡ (not same && is_file_node entry.node && is_directory_node target.node) → d ≡ refuse_if two ops.IsDir →
-    filled ≡ has_entry_beneath_path (tree_view h.tree) q → three ≡ (not same && filled) → e ≡ refuse_if three ops.NotEmpty →
-    busy ≡ has_open_file_at (prevents_rename (path_or_root old) (path_or_root new)) h.files → f ≡ refuse_if busy ops.Busy →
-    other ≡ length (last_name_of_path q) → ((name : List ℕ) (attributes : Attributes) → length name ≡ other → attributes_size attributes ≡ size → over ≡ is_entry_over_charge_limit (disk_summary_of_tree tree) name attributes) → four ≡ (not same && over) → i ≡ refuse_if four ops.EntryFull →
-    lack ≡ lacks_free_blocks (disk_summary_of_tree tree) h.files 2 → j ≡ refuse_if lack ops.NoSpace →
-    IsRenamingOfPaths tree old new x →
-    r ≡ value_unless_refused (first_refusal_of (entry.fault ∷ target.fault ∷ a ∷ b ∷ c ∷ d ∷ e ∷ f ∷ i ∷ j ∷ [])) x → ChecksOperation h (ops.Rename old new) (IsRenamingOfPaths tree old new) r tree
-rename_checked h old new p q entry target tree size len other same absent one two filled three over four lack busy a b c d e f i j r x
-    works writable is are apart asked found sought sized same_is len_is a_is absent_is b_is one_is c_is two_is d_is filled_is three_is e_is busy_is f_is other_is over_is four_is i_is lack_is j_is x_is r_is =
-    decided h (ops.Rename old new) (IsRenamingOfPaths tree old new) x _ tree r asked (rename_late h old new p q works writable is are apart)
-    (rename_refused h old new p q entry target (sym works) (sym writable) from to (root_false old p is) (root_false new q are) (ap₂ is_path_beneath (sym from_path) (sym to_path) ∙ apart) found sought ∙ ap first_refusal_of (sym lists))
-    (λ none. x_is) r_is
+-- by what is at the two paths, the checks behind the look-up are those
+pub found_refused : (t : TreeState) (files : OpenFiles) (old new : List ℕ) (paths : RenamePaths) (found : RenameFindings) (len : ℕ) (absent one two three over four lack busy : Bool)
+    (a b c d e f i j : Option Refusal) → PassesPathChecks t old new paths → HasFoundBothRenamePaths (tree_view t) paths.from paths.to found →
+    len ≡ length (last_name_of_path paths.to) → a ≡ refuse_if (nat_lt 255 len) ops.NameTooLong →
+    absent ≡ is_absent found.entry.node → b ≡ refuse_if absent ops.NoEnt →
+    one ≡ (not paths.is_same && is_directory_node found.entry.node && is_file_node found.target.finding.node) → c ≡ refuse_if one ops.NotDir →
+    two ≡ (not paths.is_same && is_file_node found.entry.node && is_directory_node found.target.finding.node) → d ≡ refuse_if two ops.IsDir →
+    three ≡ (not paths.is_same && found.target.has_entries) → e ≡ refuse_if three ops.NotEmpty →
+    busy ≡ has_open_file_at (prevents_rename (path_or_root old) (path_or_root new)) (open_files_view t files) → f ≡ refuse_if busy ops.Busy →
+    ((name : List ℕ) (attributes : Attributes) → length name ≡ len → attributes_size attributes ≡ found.attributes_size → over ≡ is_entry_over_charge_limit (disk_summary_of_tree t) name attributes) → four ≡ (not paths.is_same && over) → i ≡ refuse_if four ops.EntryFull →
+    lack ≡ lacks_free_blocks (disk_summary_of_tree t) (open_files_view t files) 2 → j ≡ refuse_if lack ops.NoSpace →
+    first_refusal_of (found.entry.fault ∷ found.target.finding.fault ∷ a ∷ b ∷ c ∷ d ∷ e ∷ f ∷ i ∷ j ∷ []) ≡ refusal_by_checks (session_view_of_tree_and_files t files) (ops.Rename old new)
+found_refused t files old new paths found len absent one two three over four lack busy a b c d e f i j
+    passes there len_is a_is absent_is b_is one_is c_is two_is d_is three_is e_is busy_is f_is over_is four_is i_is lack_is j_is =
+    ap first_refusal_of lists
+    ∙ sym (rename_refused h old new p q found.entry found.target.finding passes.works passes.writable from to (root_false old p (sym passes.from)) (root_false new q (sym passes.to)) (ap₂ is_path_beneath (sym from_path) (sym to_path) ∙ passes.apart) there.entry there.target)
   where
+    h : SessionView
+    h = session_view_of_tree_and_files t files
+
+    p : Path
+    p = paths.from
+
+    q : Path
+    q = paths.to
+
     from : path_of_bytes old ≡ Some p
-    from = (is_entry old p is).0
+    from = (is_entry old p (sym passes.from)).0
 
     to : path_of_bytes new ≡ Some q
-    to = (is_entry new q are).0
+    to = (is_entry new q (sym passes.to)).0
 
     from_path : path_or_root old ≡ p
     from_path = ap (λ o. unwrap_or o []) from
@@ -76,24 +84,42 @@ rename_checked h old new p q entry target tree size len other same absent one tw
     to_path : path_or_root new ≡ q
     to_path = ap (λ o. unwrap_or o []) to
 
-    around : disk_summary_of_tree tree ≡ disk_summary_of_tree h.tree
-    around = ap disk_summary_of_tree asked.same
+    other_is_not : not paths.is_same ≡ not (same_path p q)
+    other_is_not = ap not (passes.same ∙ ap₂ same_path from_path to_path)
 
-    other_is_not : not same ≡ not (same_path p q)
-    other_is_not = ap not (same_is ∙ ap₂ same_path from_path to_path)
-
-    charge : over ≡ is_entry_over_charge_limit (disk_summary_of_tree h.tree) (last_name_of_path q) (attributes_of_node (tree_view h.tree p))
-    charge = over_is (last_name_of_path q) (attributes_of_node (tree_view h.tree p)) (sym other_is) (sym sized.is)
-        ∙ ap (λ z. is_entry_over_charge_limit z (last_name_of_path q) (attributes_of_node (tree_view h.tree p))) around
-
-    lists : (entry.fault ∷ target.fault ∷ a ∷ b ∷ c ∷ d ∷ e ∷ f ∷ i ∷ j ∷ []) ≡ checks_of h p q entry target
+    lists : (found.entry.fault ∷ found.target.finding.fault ∷ a ∷ b ∷ c ∷ d ∷ e ∷ f ∷ i ∷ j ∷ []) ≡ checks_of h p q found.entry found.target.finding
     lists = both refl (both refl (both (when ops.NameTooLong a_is (ap (nat_lt 255) len_is)) (both (when ops.NoEnt b_is absent_is)
-        (both (when ops.NotDir c_is (one_is ∙ ap (λ z. z && is_directory_node entry.node && is_file_node target.node) other_is_not))
-        (both (when ops.IsDir d_is (two_is ∙ ap (λ z. z && is_file_node entry.node && is_directory_node target.node) other_is_not))
-        (both (when ops.NotEmpty e_is (three_is ∙ ap₂ (λ y z. y && z) other_is_not filled_is))
+        (both (when ops.NotDir c_is (one_is ∙ ap (λ z. z && is_directory_node found.entry.node && is_file_node found.target.finding.node) other_is_not))
+        (both (when ops.IsDir d_is (two_is ∙ ap (λ z. z && is_file_node found.entry.node && is_directory_node found.target.finding.node) other_is_not))
+        (both (when ops.NotEmpty e_is (three_is ∙ ap₂ (λ y z. y && z) other_is_not there.has))
         (both (when ops.Busy f_is (busy_is ∙ ap₂ (λ y z. has_open_file_at (prevents_rename y z) h.files) from_path to_path))
-        (both (when ops.EntryFull i_is (four_is ∙ ap₂ (λ y z. y && z) other_is_not charge))
-        (both (when ops.NoSpace j_is (lack_is ∙ ap (λ z. lacks_free_blocks z h.files 2) around)) refl)))))))))
+        (both (when ops.EntryFull i_is (four_is ∙ ap₂ (λ y z. y && z) other_is_not (over_is (last_name_of_path q) (attributes_of_node (tree_view t p)) (sym len_is) (sym there.size.is))))
+        (both (when ops.NoSpace j_is lack_is) refl)))))))))
+
+-- ---- from the first checks to the last
+
+-- they pass on the tree that was read
+pub passes_later : (t tree : TreeState) (old new : List ℕ) (paths : RenamePaths) → WasTreeOnlyRead t tree → PassesPathChecks t old new paths → PassesPathChecks tree old new paths
+passes_later t tree old new paths asked p =
+    subst (λ z. PassesPathChecks z old new paths) (sym asked.same) (record { works = p.works; writable = p.writable; from = p.from; to = p.to; apart = p.apart; same = p.same })
+
+pub passes_late : (t : TreeState) (files : OpenFiles) (old new : List ℕ) (paths : RenamePaths) → PassesPathChecks t old new paths → PassesChecksWithoutCalls (session_view_of_tree_and_files t files) (ops.Rename old new)
+passes_late t files old new paths p = rename_late (session_view_of_tree_and_files t files) old new paths.from paths.to (sym p.works) (sym p.writable) (sym p.from) (sym p.to) p.apart
+
+pub refused_at_once : (t : TreeState) (files : OpenFiles) (op : Operation) (e : Error) (P : Renaming → Type 0) (r : Result Renaming Error) → IsRefusedWithAnyFiles t op e → r ≡ Err e → ChecksOperation (session_view_of_tree_and_files t files) op P r t
+refused_at_once t files op e P r refused is =
+    subst (λ z. ChecksOperation (session_view_of_tree_and_files t files) op P z t) (sym is)
+    (subst (λ b. EndsChecksWithError b (session_view_of_tree_and_files t files) op e t) (sym (refused files).0) (nothing_asked t, (refused files).1, λ once. refl))
+
+alone : (o : Option Refusal) → first_refusal_of (o ∷ []) ≡ o
+alone None = refl
+alone (Some x) = refl
+
+pub rename_checked : (t : TreeState) (files : OpenFiles) (old new : List ℕ) (paths : RenamePaths) (tree : TreeState) (refusal : Option Refusal) (x : Renaming) (r : Result Renaming Error) → PassesPathChecks t old new paths → WasTreeOnlyRead t tree →
+    refusal ≡ refusal_by_checks (session_view_of_tree_and_files tree files) (ops.Rename old new) → IsRenamingOfPaths tree old new x → r ≡ value_unless_refused (first_refusal_of (refusal ∷ [])) x → ChecksOperation (session_view_of_tree_and_files t files) (ops.Rename old new) (IsRenamingOfPaths tree old new) r tree
+rename_checked t files old new paths tree refusal x r passes asked refusal_is x_is r_is =
+    decided (session_view_of_tree_and_files t files) (ops.Rename old new) (IsRenamingOfPaths tree old new) x _ tree r asked (passes_late t files old new paths passes)
+    (sym (alone refusal ∙ refusal_is ∙ ap (λ z. refusal_by_checks (session_view_of_tree_and_files z files) (ops.Rename old new)) asked.same)) (λ none. x_is) r_is
 
 -- ---- what no check refuses
 
@@ -184,12 +210,13 @@ rename_can h old new from to tree idle asked e is are =
       room = can.room;
     })))
 
-pub renaming_is : (t : TreeState) (old new : List ℕ) (p q : Path) (x : Renaming) → Some p ≡ path_of_bytes_unless_root old → Some q ≡ path_of_bytes_unless_root new → x.from ≡ p → x.to ≡ q → x.is_same ≡ same_path (path_or_root old) (path_or_root new) → IfSome x.targets (AreRenameTargets (kept_of t) x.from x.to) → IsRenamingOfPaths t old new x
-renaming_is t old new p q x is are from to same targets = record {
-  from = from ∙ sym (ap (λ o. unwrap_or o []) (is_entry old p is).0);
-  to = to ∙ sym (ap (λ o. unwrap_or o []) (is_entry new q are).0);
-  same = same;
+pub renaming_is : (t tree : TreeState) (old new : List ℕ) (paths : RenamePaths) (x : Renaming) → PassesPathChecks t old new paths → x.from ≡ paths.from → x.to ≡ paths.to → x.is_same ≡ paths.is_same → IfSome x.targets (AreRenameTargets (kept_of tree) x.from x.to) → (gstate_of tree.pairs ≡ zero_gstate → IsSome x.targets) → IsRenamingOfPaths tree old new x
+renaming_is t tree old new paths x passes from to same targets handed_on = record {
+  from = from ∙ sym (ap (λ o. unwrap_or o []) (is_entry old paths.from (sym passes.from)).0);
+  to = to ∙ sym (ap (λ o. unwrap_or o []) (is_entry new paths.to (sym passes.to)).0);
+  same = same ∙ passes.same;
   targets = targets;
+  handed_on = handed_on;
 }
 
 pub three_of : (r inner a b c d e : Bool) → r ≡ (a && inner) → inner ≡ (b && c) → b ≡ d → c ≡ e → r ≡ (a && d && e)

@@ -118,7 +118,7 @@ settle_truncated limit size f v other h = first (size == size_of_contents_form f
 
 -- ---- the contents before
 
-changed_in : (t : TreeState) (w : Writer) (u : UnsavedContents) → AreUnsavedContentsIfSome t w w.unsaved → w.unsaved ≡ Some u → AreUnsavedContentsOfWriter t w u
+pub changed_in : (t : TreeState) (w : Writer) (u : UnsavedContents) → AreUnsavedContentsIfSome t w w.unsaved → w.unsaved ≡ Some u → AreUnsavedContentsOfWriter t w u
 changed_in t w u h e = subst (AreUnsavedContentsIfSome t w) e h
 
 pub kept_by_form : (t : TreeState) (w : Writer) (shape : ContentsForm) → IsWriterOverWritableImage t w → IsFormOfUnsaved t.disk.block_size w.unsaved (length (bytes_of_writer_at_path t w.path w.unsaved)) shape → IsFormOfWriterContents t.disk.block_size shape (writer_view t w)

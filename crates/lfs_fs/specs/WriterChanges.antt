@@ -1,5 +1,5 @@
 -- What calls of a writer need of the tree, and what they do.
-use Rattle.std.specs.Prelude.{ℕ, ◌≡◌, ◌+◌, ◌^◌, ◌≤◌, ◌<◌, Bool, true, false, List, length, Option, Some, None, is_some}
+use Rattle.std.specs.Prelude.{ℕ, ◌≡◌, ◌+◌, ◌^◌, ◌≤◌, ◌<◌, Bool, true, false, List, length, Option, Some, None, is_some, slice_set}
 use Rattle.lfs_model.specs.TreeEdits.{is_file}
 use Rattle.lfs_model.specs.BlockSets.{in_flight_count}
 use Rattle.lfs_model.specs.Disk.{block_count}
@@ -12,8 +12,9 @@ use Rattle.lfs_tree.specs.OpenContents.{IsFormOfOpenedContents, AreWriterContent
 use Rattle.lfs_tree.specs.TreeState.{IsSoundTreeState, TreeState, disk_summary_of_tree, tree_view}
 use Rattle.lfs_writer.specs.Contents.{form_of_contents}
 use Rattle.lfs_writer.specs.Form.{ContentsForm}
-use Rattle.lfs_fs.specs.FileView.{writer_view}
+use Rattle.lfs_fs.specs.FileView.{OpenFiles, writer_view}
 use Rattle.lfs_fs.specs.SessionView.{IsWriterOverWritableImage}
+use Rattle.lfs_fs.specs.declared.files.OpenFile.TheVariants as file
 use Rattle.lfs_fs.specs.declared.files.UnsavedContents.{UnsavedContents}
 use Rattle.lfs_fs.specs.declared.files.Writer.{Writer}
 
@@ -57,6 +58,12 @@ pub record IsChangedWriterSeenAs (t : TreeState) (is : session.Writer) (w : Writ
   pub seen : writer_view t w ≡ is
   pub written : IsWriterOverWritableImage t w
   pub changed : is_some w.unsaved ≡ true
+
+-- Under that number is a writer of which this holds, and nothing else changed among the open files.
+pub record HasOtherWriterAt (files : OpenFiles) (fd : ℕ) (Holds : Writer → Type 0) (later : OpenFiles) : Type 0 where
+  pub writer : Writer
+  pub only : later ≡ slice_set files fd (Some (file.Writing writer))
+  pub holds : Holds writer
 
 -- the writer has changes, which can be saved
 pub record CanSaveWriter (t : TreeState) (w : Writer) : Type 0 where

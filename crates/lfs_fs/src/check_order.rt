@@ -8,7 +8,7 @@ use lfs_device::Error;
 use lfs_lookup::Refusal;
 
 // Returns the refusal of the first check that fails.
-fn first_of(checks: &[Option<Refusal>]) -> Option<Refusal>
+pub(crate) fn first_of(checks: &[Option<Refusal>]) -> Option<Refusal>
     ensures { result ≡ first_refusal_of checks.now }
 {
     for check in checks {

@@ -6,16 +6,21 @@ ghost use Rattle.std.specs.Option.{option_flatten, option_map};
 ghost use Rattle.lfs_model.specs.TreeEdits.{same_path};
 ghost use Rattle.lfs_model.specs.Operations.{path_of_bytes};
 ghost use Rattle.lfs_model.specs.Session.{has_open_file_at};
-ghost use Rattle.lfs_model.specs.Writers.{turns};
+ghost use Rattle.lfs_model.specs.Writers.{turns, writer_after_write};
 ghost use Rattle.lfs_model.specs.Refusals.{path_or_root, is_root_or_invalid_path};
 ghost use Rattle.lfs_fs.specs.RenamePaths.{prevents_rename};
-ghost use Rattle.lfs_tree.specs.TreeState.{TreeState};
-ghost use Rattle.lfs_fs.specs.FileView.{last_end_of_unsaved, open_file_at, open_files_view, is_open_at_path_such_that, is_unsaved_writer, least_free_number, blocks_reserved_by_writers, blocks_reserved_by_writer, blocks_reserved_for_size, open_file_with_position, open_files_with_number_set, open_file_as_reader, readers_among, is_unsaved_nonsequential, open_file_as_writer, writers_among};
+ghost use Rattle.lfs_tree.specs.OpenContents.{WritesUnusedBlocks};
+ghost use Rattle.lfs_tree.specs.TreeState.{IsErrorWithCause, IsFailedTree, IsSoundTreeState, SurvivesStopsInTreeCall, TreeState, tree_view};
+ghost use Rattle.lfs_fs.specs.WriterChanges.{CanWriteByWriter, HasOtherWriterAt, IsChangedWriterSeenAs};
+ghost use Rattle.lfs_fs.specs.declared.files.Writer.{Writer as WriterSeen};
+ghost use Rattle.lfs_fs.specs.FileView.{last_end_of_unsaved, open_file_at, open_files_view, is_open_at_path_such_that, is_unsaved_writer, least_free_number, blocks_reserved_by_writers, blocks_reserved_by_writer, blocks_reserved_for_size, open_file_with_position, open_files_with_number_set, open_file_as_reader, readers_among, is_unsaved_nonsequential, open_file_as_writer, writer_view, writers_among};
 
 use crate::owned_path::OwnedPath;
+use crate::writers::writer_after_writing;
 use lfs_ctz::blocks_for;
-use lfs_device::{Error, Geometry};
+use lfs_device::{BlockDevice, Error, Geometry};
 use lfs_lookup::FileContents;
+use lfs_tree::Tree;
 use lfs_writer::WriterContents;
 use std::alloc::Global;
 use std::marker::Model;
@@ -262,8 +267,6 @@ impl Files {
     }
 
     /// Puts a writer back under the number that it had.
-    // Inlined, a write moves the writer once instead of twice.
-    #[inline(always)]
     pub fn put_back(&mut self, fd: u32, writer: Writer)
         requires inside { fd < length self.old }
         requires free { open_file_at self.old fd ≡ None }
@@ -271,6 +274,27 @@ impl Files {
         ensures { self.new ≡ slice_set self.old fd (Some (OpenFile.Writing writer)) }
     {
         set_file_in_table(&mut self.entries, fd as usize, OpenFile::Writing(writer));
+    }
+
+    // Writes bytes, at least one, by the writer of that number.
+    //
+    // Errors: `Io` where a call of the device failed. `NoMemory` where memory isn't granted. The
+    // tree has failed after either, and the writer is of no use.
+    pub(crate) fn write<D: BlockDevice>(
+        &mut self,
+        alloc: Global,
+        tree: &mut Tree<D>,
+        fd: u32,
+        bytes: &[u8],
+    ) -> Result<(), Error>
+        requires { (w : WriterSeen) × (open_file_at self.old fd ≡ Some (OpenFile.Writing w)) × CanWriteByWriter tree.old w bytes.now }
+        ensures written { (w : WriterSeen) → open_file_at self.old fd ≡ Some (OpenFile.Writing w) → HasOtherWriterAt self.old fd (λ v. OnOk result (IsChangedWriterSeenAs tree.new (writer_after_write (writer_view tree.old w) bytes.now) v)) self.new }
+        ensures beside { OnOk result (WritesUnusedBlocks tree.old tree.new) }
+        ensures broken { OnErr result (IsFailedTree tree.old tree.new) }
+        ensures errors { IfErr result (IsErrorWithCause tree.old tree.new) }
+        ensures survives { IsSoundTreeState tree.old → SurvivesStopsInTreeCall tree.old tree.new (tree_view tree.old) }
+    {
+        write_in(alloc, tree, &mut self.entries, fd as usize, bytes)
     }
 
     pub(crate) fn is_open(&self, fd: u32) -> bool
@@ -356,6 +380,29 @@ fn seek_file_in_table(entries: &mut Vec<Option<OpenFile>>, index: usize, positio
     }
 }
 
+// Writes bytes by the writer in an entry. The writer stays where it is: to move it took a third of
+// a short write's time.
+fn write_in<D: BlockDevice>(
+    alloc: Global,
+    tree: &mut Tree<D>,
+    entries: &mut Vec<Option<OpenFile>>,
+    index: usize,
+    bytes: &[u8],
+) -> Result<(), Error>
+    requires { (w : WriterSeen) × (open_file_at entries.old.items index ≡ Some (OpenFile.Writing w)) × CanWriteByWriter tree.old w bytes.now }
+    ensures written { (w : WriterSeen) → open_file_at entries.old.items index ≡ Some (OpenFile.Writing w) → HasOtherWriterAt entries.old.items index (λ v. OnOk result (IsChangedWriterSeenAs tree.new (writer_after_write (writer_view tree.old w) bytes.now) v)) entries.new.items }
+    ensures len { vec_len entries.new ≡ vec_len entries.old }
+    ensures beside { OnOk result (WritesUnusedBlocks tree.old tree.new) }
+    ensures broken { OnErr result (IsFailedTree tree.old tree.new) }
+    ensures errors { IfErr result (IsErrorWithCause tree.old tree.new) }
+    ensures survives { IsSoundTreeState tree.old → SurvivesStopsInTreeCall tree.old tree.new (tree_view tree.old) }
+{
+    match &mut entries[index] {
+        Some(OpenFile::Writing(writer)) => writer_after_writing(alloc, tree, writer, bytes),
+        _ => unreachable!(),
+    }
+}
+
 fn take_file_out_of_table(entries: &mut Vec<Option<OpenFile>>, index: usize) -> Option<OpenFile>
     requires { index < vec_len entries.old }
     ensures file { result ≡ option_flatten (slice_get entries.old.items index) }
@@ -365,7 +412,6 @@ fn take_file_out_of_table(entries: &mut Vec<Option<OpenFile>>, index: usize) -> 
     entries[index].take()
 }
 
-#[inline(always)]
 fn set_file_in_table(entries: &mut Vec<Option<OpenFile>>, index: usize, file: OpenFile)
     requires { index < vec_len entries.old }
     ensures files { entries.new.items ≡ slice_set entries.old.items index (Some file) }

@@ -1,16 +1,18 @@
 // The paths and the checks of a rename.
 
-ghost use Rattle.std.specs.Prelude.{◌≡◌, ◌&&◌, false, is_some, not, true};
+ghost use Rattle.std.specs.Prelude.{◌≡◌, ◌&&◌, IfErr, IfOk, false, is_some, not, true};
 ghost use Rattle.lfs_model.specs.TreeEdits.{is_path_beneath, path_without_prefix, same_path};
 ghost use Rattle.lfs_model.specs.Operations as ops;
 ghost use Rattle.lfs_model.specs.Operations.{path_of_bytes};
 ghost use Rattle.lfs_model.specs.Refusals.{path_or_root, is_root_or_invalid_path};
 ghost use Rattle.lfs_model.specs.Session.{refuse_if};
 ghost use Rattle.lfs_lookup.specs.Refusals.{is_refusal, refusal_of_error};
-ghost use Rattle.lfs_fs.specs.SessionView.{ChecksOperation, IsSessionReadyForCalls, session_view_of_tree_and_files};
-ghost use Rattle.lfs_fs.specs.RenamePaths.{IsRenamingOfPaths, is_path_prefix};
+ghost use Rattle.lfs_tree.specs.RenamePaths.{HasFoundBothRenamePaths};
+ghost use Rattle.lfs_tree.specs.TreeState.{tree_view};
+ghost use Rattle.lfs_fs.specs.SessionView.{ChecksOperation, IsSessionReadyForCalls, refusal_by_checks, session_view_of_tree_and_files};
+ghost use Rattle.lfs_fs.specs.RenamePaths.{IsRefusedWithAnyFiles, IsRenamingOfPaths, PassesPathChecks, is_path_prefix};
 
-use crate::check_order::{both, value_unless_checks_refuse};
+use crate::check_order::{both, first_of, value_unless_checks_refuse};
 use crate::checks::{is_overcharged_with_attributes, lacks, parse_path_unless_root};
 use crate::files::Files;
 use crate::owned_path::is_same;
@@ -77,16 +79,23 @@ pub struct Renaming<'a> {
     pub targets: Option<RenameTargets>,
 }
 
-/// The two paths of a rename.
-pub fn check_rename<'a, D: BlockDevice>(
-    alloc: Global,
-    tree: &mut Tree<D>,
-    files: &Files,
+/// The two paths of a rename that isn't refused before a look-up.
+#[derive(Drop)]
+pub struct RenamePaths<'a> {
+    from: Path<'a>,
+    to: Path<'a>,
+    // Whether both paths are the same.
+    is_same: bool,
+}
+
+// Returns the two paths of a rename, where no check refuses it that needs no look-up.
+fn check_rename_paths<'a, D: BlockDevice>(
+    tree: &Tree<D>,
     old: &'a [u8],
     new: &'a [u8],
-) -> Result<Renaming<'a>, Error>
-    requires { tree.old.failed ≡ false → IsSessionReadyForCalls tree.old files.now }
-    ensures { ChecksOperation (session_view_of_tree_and_files tree.old files.now) (ops.Rename old.now new.now) (IsRenamingOfPaths tree.new old.now new.now) result tree.new }
+) -> Result<RenamePaths<'a>, Error>
+    ensures passes { IfOk result (PassesPathChecks tree.now old.now new.now) }
+    ensures refused { IfErr result (IsRefusedWithAnyFiles tree.now (ops.Rename old.now new.now)) }
 {
     if tree.has_failed() {
         return Err(Error::Failed);
@@ -103,36 +112,66 @@ pub fn check_rename<'a, D: BlockDevice>(
     if is_beneath(old, new) {
         return Err(Error::Invalid);
     }
-    let found = tree.look_up_rename(alloc, &from, &to)?;
-    let RenameFindings {
-        entry,
-        target,
-        attributes_size,
-        targets,
-    } = found;
     let is_same = is_same_path(old, new);
-    let replaces = target.finding.node;
-    let name_len = to.name_len();
-    let puts_directory = both(entry.node.is_directory(), replaces.is_file());
-    let puts_file = both(entry.node.is_file(), replaces.is_directory());
-    let overfills = is_overcharged_with_attributes(tree, name_len, attributes_size);
+    Ok(RenamePaths { from, to, is_same })
+}
+
+// Returns the refusal of a rename, by what is at its two paths, the open files and the room.
+fn refusal_of_found<D: BlockDevice>(
+    tree: &Tree<D>,
+    files: &Files,
+    old: &[u8],
+    new: &[u8],
+    paths: &RenamePaths<'_>,
+    found: &RenameFindings,
+) -> Option<Refusal>
+    requires ready { IsSessionReadyForCalls tree.now files.now }
+    requires passes { PassesPathChecks tree.now old.now new.now paths.now }
+    requires found { HasFoundBothRenamePaths (tree_view tree.now) paths.now.from paths.now.to found.now }
+    ensures { result ≡ refusal_by_checks (session_view_of_tree_and_files tree.now files.now) (ops.Rename old.now new.now) }
+{
+    let is_same = paths.is_same;
+    let entry = found.entry.node;
+    let replaces = found.target.finding.node;
+    let name_len = paths.to.name_len();
+    let puts_directory = both(entry.is_directory(), replaces.is_file());
+    let puts_file = both(entry.is_file(), replaces.is_directory());
+    let overfills = is_overcharged_with_attributes(tree, name_len, found.attributes_size);
     let checks = [
-        entry.fault,
-        target.finding.fault,
+        found.entry.fault,
+        found.target.finding.fault,
         refuse_if(name_len > Superblock::NAME_MAX as usize, Error::NameTooLong),
-        refuse_if(entry.node.is_nothing(), Error::NoEnt),
+        refuse_if(entry.is_nothing(), Error::NoEnt),
         refuse_replacing(is_same, puts_directory, Error::NotDir),
         refuse_replacing(is_same, puts_file, Error::IsDir),
-        refuse_replacing(is_same, target.has_entries, Error::NotEmpty),
+        refuse_replacing(is_same, found.target.has_entries, Error::NotEmpty),
         refuse_if(files.is_in_the_way(old, new), Error::Busy),
         refuse_replacing(is_same, overfills, Error::EntryFull),
         refuse_if(lacks(tree, files, 2), Error::NoSpace),
     ];
+    first_of(&checks)
+}
+
+/// Checks a rename, and returns where its two paths lead to.
+pub fn check_rename<'a, D: BlockDevice>(
+    alloc: Global,
+    tree: &mut Tree<D>,
+    files: &Files,
+    old: &'a [u8],
+    new: &'a [u8],
+) -> Result<Renaming<'a>, Error>
+    requires { tree.old.failed ≡ false → IsSessionReadyForCalls tree.old files.now }
+    ensures { ChecksOperation (session_view_of_tree_and_files tree.old files.now) (ops.Rename old.now new.now) (IsRenamingOfPaths tree.new old.now new.now) result tree.new }
+{
+    let paths = check_rename_paths(tree, old, new)?;
+    let found = tree.look_up_rename(alloc, &paths.from, &paths.to)?;
+    let refusal = refusal_of_found(tree, files, old, new, &paths, &found);
+    let RenamePaths { from, to, is_same } = paths;
     let renaming = Renaming {
         from,
         to,
         is_same,
-        targets,
+        targets: found.targets,
     };
-    value_unless_checks_refuse(&checks, renaming)
+    value_unless_checks_refuse(&[refusal], renaming)
 }

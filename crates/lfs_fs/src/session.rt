@@ -44,8 +44,7 @@ use crate::reads::bytes_for_reader;
 use crate::rename_checks::check_rename;
 use crate::run::{Op, Reply, bytes, count, done, fd, gstate, items, stat, yes};
 use crate::writers::{
-    writer_after_saving, writer_after_truncating, writer_after_writing, writer_of_existing_file,
-    writer_of_new_file,
+    writer_after_saving, writer_after_truncating, writer_of_existing_file, writer_of_new_file,
 };
 use bitflags::Flags;
 use lfs_device::{BlockDevice, Error, NameOrder, Ordered};
@@ -375,13 +374,9 @@ impl<D: BlockDevice> Session<D> {
         if bytes.is_empty() {
             return Ok(0);
         }
-        let Some(OpenFile::Writing(writer)) = self.files.take(fd) else {
-            unreachable!()
-        };
-        let answer = writer_after_writing(alloc, &mut self.tree, writer, bytes);
+        let answer = self.files.write(alloc, &mut self.tree, fd, bytes);
         device_meets_laws(&self.tree);
-        let writer = answer?;
-        self.files.put_back(fd, writer);
+        answer?;
         Ok(bytes.len() as u32)
     }
 

@@ -46,15 +46,15 @@ fn contents_of_writer<D: BlockDevice>(
     }
 }
 
-// Returns the writer after it wrote bytes, at least one.
+// Writes bytes, at least one, by a writer. After an error the writer is of no use.
 pub(crate) fn writer_after_writing<D: BlockDevice>(
     alloc: Global,
     tree: &mut Tree<D>,
-    writer: Writer,
+    writer: &mut Writer,
     bytes: &[u8],
-) -> Result<Writer, Error>
-    requires { CanWriteByWriter tree.old writer bytes.now }
-    ensures written { IfOk result (IsChangedWriterSeenAs tree.new (writer_after_write (writer_view tree.old writer) bytes.now)) }
+) -> Result<(), Error>
+    requires { CanWriteByWriter tree.old writer.old bytes.now }
+    ensures written { OnOk result (IsChangedWriterSeenAs tree.new (writer_after_write (writer_view tree.old writer.old) bytes.now) writer.new) }
     ensures beside { OnOk result (WritesUnusedBlocks tree.old tree.new) }
     ensures broken { OnErr result (IsFailedTree tree.old tree.new) }
     ensures errors { IfErr result (IsErrorWithCause tree.old tree.new) }
@@ -65,26 +65,16 @@ pub(crate) fn writer_after_writing<D: BlockDevice>(
     let place = writer.place();
     let has_turned = writer.is_nonsequential_after_change_at(place.min(writer.size));
     let end = place + bytes.len() as u32;
-    let Writer {
-        path,
-        size,
-        appends,
-        unsaved,
-        ..
-    } = writer;
-    let contents = contents_of_writer(alloc, tree, &path, unsaved)?;
+    let contents = contents_of_writer(alloc, tree, &writer.path, writer.unsaved.take())?;
     let contents = tree.write(alloc, contents, place, bytes)?;
-    Ok(Writer {
-        path,
-        position: end,
-        size: size.max(end),
-        appends,
-        unsaved: Some(UnsavedContents {
-            contents,
-            has_turned,
-            last_end: Some(end),
-        }),
-    })
+    writer.unsaved = Some(UnsavedContents {
+        contents,
+        has_turned,
+        last_end: Some(end),
+    });
+    writer.position = end;
+    writer.size = writer.size.max(end);
+    Ok(())
 }
 
 // Returns the writer after its contents got another size.

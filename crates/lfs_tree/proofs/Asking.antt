@@ -18,7 +18,7 @@ use Rattle.lfs_tree.specs.RootedThreads.{IsSoundThreadUnlessFailed, IsSoundThrea
 use Rattle.lfs_lookup.specs.Reading.{OnlyReadsThreadAndReportsErrors}
 use Rattle.lfs_tree.specs.TreeState.{TreeState, tree_state_without_cache, WasTreeOnlyRead, IsReadOnlyCall, IsTreeFailedByRead, IsOperationAppliedToTree, IsErrorWithCause, tree_view, LeavesUnconcernedBlocksAlone}
 use Rattle.lfs_tree.proofs.Mounting.{sound_read}
-use Rattle.lfs_lookup.proofs.Reading.{same_error}
+use Rattle.lfs_tree.proofs.SameErrors.{same_error}
 
 abbrev see : Disk → List CallEvent → List Pair → BlockStateList → Bool → Bool → CachedBlocks → TreeState
 see disk history pairs map writable failed cache = record { disk = disk; history = history; pairs = pairs; map = map; writable = writable; failed = failed; cache = cache }
@@ -49,7 +49,7 @@ module _ {X : Type 0} (a b : ThreadView) (root : ℕ) (writable : Bool) (h : IsS
   reported (Err e) k = record {
     errors = k.reported.errors;
     fault = λ io. k.reported.fault (ap Err io);
-    no_fault = λ other. k.reported.no_fault (λ z. other (same_error X e Io z));
+    no_fault = λ other. k.reported.no_fault (λ z. other (same_error e Io z));
   }
 
   pub asking : (now : TreeState) (r : Result X Error) (c : ThreadView) → tree_state_of_thread a writable ≡ now → c ≡ behind b r → OnlyReadsThreadAndReportsErrors a b r → IsReadOnlyCall now r (tree_state_of_thread c writable)

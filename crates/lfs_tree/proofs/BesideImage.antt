@@ -3,6 +3,7 @@ use Rattle.std.proofs.Common.{ℕ, ◌≡◌, ◌≤◌, ◌+◌, ◌∙◌, Lis
 use Rattle.std.specs.Prelude.{All, Contains}
 use Rattle.std.specs.List.{flat_map}
 use Rattle.std.proofs.lemmas.List.Elements.{All-from_recursion, recursion_from_All}
+use Rattle.std.proofs.lemmas.Option.{slice_get_within}
 use Rattle.lfs_model.specs.Content.{content_of_pair_at, current_block_of_pair_at}
 use Rattle.lfs_model.specs.Disk.{Disk, SameGeometry, block_bytes_on_disk}
 use Rattle.lfs_model.specs.Slots.{IsContentFittingPair, Slot}
@@ -19,9 +20,7 @@ use Rattle.lfs_model.proofs.Found.{chain_of_thread}
 use Rattle.lfs_model.proofs.Splices.{IsDevice}
 use Rattle.lfs_model.proofs.Superblocks.{IsChain, first_counted}
 use Rattle.lfs_model.proofs.Unchanged.{accepted_filled, same_follows}
-use Rattle.lfs_lookup.proofs.Directories.{within}
 use Rattle.lfs_lookup.proofs.Roots.{root_begins}
-use Rattle.lfs_model.specs.Thread.{root_directory_of_pairs}
 
 pub writable_on : (disk new : Disk) (ps : List Pair) → SameGeometry disk new → IsWritable disk ps → IsWritable new ps
 writable_on disk new ps g h = record {
@@ -84,7 +83,8 @@ module _ (disk new : Disk) (ps : List Pair) (ok : IsAcceptedImage disk ps) (geom
       go : (behind : List Pair) → pairs_of_all_directories ps ≡ behind → Follows disk ps new ps (λ t. t) (λ d. d)
       go [] e = absurd (
           let c = chain_of_thread ps in
-          let w = within ps (root_directory_of_pairs ps) (pair_count_before_root ps) (root_begins disk ps ok) in
+          let root = root_begins disk ps ok in
+          let w = slice_get_within ps (pair_count_before_root ps) root.pair root.there in
           let l = ap length (c.0 ∙ ap (λ z. take (pair_count_before_root ps) ps ++ z) e) in
           let k : pair_count_before_root ps ≡ length (take (pair_count_before_root ps) ps) = ap pair_count_before_root c.0 ∙ c.1 in
           let n = length-append (take (pair_count_before_root ps) ps) [] in

@@ -28,7 +28,7 @@ use Rattle.lfs_tree.specs.RootedThreads.{IsSoundThreadUnlessFailed, IsSoundThrea
 use Rattle.lfs_tree.specs.OpenContents.{CanTruncateWriterContents, CanWriteWriterContents, AreWriterContentsOverKeptFile, WritesUnusedBlocksOrFails, WritesUnusedBlocks, blocks_named, bytes_of_writer_contents, list_at}
 use Rattle.lfs_tree.specs.TreeState.{IsFailedTree, IsErrorWithCause, IsSoundTreeState, TreeState}
 use Rattle.lfs_tree.proofs.BesideImage.{files_still, geometry_back, still_follows, used_still, writable_on}
-use Rattle.lfs_lookup.proofs.Reading.{same_error}
+use Rattle.lfs_tree.proofs.SameErrors.{same_error}
 use Rattle.lfs_tree.proofs.Asking.{behind}
 use Rattle.lfs_tree.proofs.SlotsHave.{slot_has}
 use Rattle.lfs_tree.proofs.UsedBlocks.{count_is}
@@ -140,7 +140,7 @@ module _ (a b : ThreadView) (root : ℕ) (writable : Bool) (h : IsSoundThreadWit
   reported_beside (Err e) t = record {
     errors = t.errors;
     fault = λ io. t.fault (ap Err io);
-    no_fault = λ other. t.no_fault (λ z. other (same_error WriterContents e Io z));
+    no_fault = λ other. t.no_fault (λ z. other (same_error e Io z));
   }
 
   -- a loss of power on the way leaves the image as it was

@@ -37,6 +37,10 @@ use Rattle.lfs_tree.proofs.KeptFiles.{among_files}
 use Rattle.lfs_writer.specs.Bases.{IsListUnlessEmpty}
 use Rattle.lfs_writer.specs.SettledMaps.{IsMapSettled}
 
+-- a number that isn't in a list
+pub none_there : (b : ℕ) (xs : List ℕ) → count b xs ≤ 0 → Each (λ x. x ≢ b) xs
+none_there b xs never = each_from_counted (λ x. x ≢ b) xs (λ x some e. let k = ap (λ z. count z xs) e in absurd (omega arith))
+
 -- ---- the blocks of a slot's file
 
 pub each_here : (P : Slot → Type 0) (t : Kept) (index id : ℕ) (can : CanEditEntryOfPair t index id) → Each P (all_slots_not_moved t.pairs) → P (slot_of_editable_entry can)
@@ -198,9 +202,6 @@ module _ (t : Kept) (contents : FileStorage) (can : CanFreeListOfFile t contents
       size = settled.count ∙ can.ready.size;
       large = can.ready.large;
     }
-
-    none_there : (b : ℕ) (xs : List ℕ) → count b xs ≤ 0 → Each (λ x. x ≢ b) xs
-    none_there b xs never = each_from_counted (λ x. x ≢ b) xs (λ x some e. let k = ap (λ z. count z xs) e in absurd (omega arith))
 
     -- a block of the list was used, and is free
     flying_here : HasSameBlocksInFlight t.map map

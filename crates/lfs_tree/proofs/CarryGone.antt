@@ -4,7 +4,7 @@ use Rattle.std.specs.Prelude.{nat_lt, IfErr, OnOk, is_err}
 use Rattle.std.specs.Option.{option_and_then}
 use Rattle.std.proofs.lemmas.Bool.{ltb-false}
 use Rattle.std.proofs.lemmas.List.{length-map}
-use Rattle.std.proofs.lemmas.Option.{same_Some}
+use Rattle.std.proofs.lemmas.Option.{same_Some, slice_get_within}
 use Rattle.lfs_device.specs.Bytes.{HasBytes}
 use Rattle.lfs_device.specs.declared.error.Error.{Error}
 use Rattle.lfs_device.specs.declared.error.Error.TheVariants.{Io, NoMemory}
@@ -52,7 +52,6 @@ use Rattle.lfs_tree.proofs.CarryFreed.{shape_geometry, written_pairs}
 use Rattle.lfs_tree.proofs.CarrySurvives.{survives_behind, survives_left}
 use Rattle.lfs_tree.proofs.ReportedFaults.{ReportsFaultsSince}
 use Rattle.lfs_tree.proofs.Operated.{changed, does_remove, quiet_reported, remove_stands}
-use Rattle.lfs_lookup.proofs.Directories.{within}
 use Rattle.lfs_tree.proofs.EmptyDirectories.{at_there, bare_there}
 
 -- ---- what is found
@@ -130,7 +129,7 @@ module _ (t : ThreadView) (root : ℕ) (rests : CanChangeRecoveredImage t root) 
           begins = refl;
           to = there.1.at;
           branch = branch_is there.0.stands.stands.slot.struct there.1.at (sym (ap (option_and_then (λ (f : Slot). branch_address_of_struct f.struct)) there.0.slot) ∙ there.1.leads);
-          below = within t.kept.pairs there.1.at first there.1.begins;
+          below = slice_get_within t.kept.pairs first there.1.begins.pair there.1.begins.there;
           at = at_there t.kept.pairs there.1.at first there.1.begins;
           empty = bare.empty;
           alone = bare.alone;

@@ -2,6 +2,7 @@
 use Rattle.std.proofs.Common.{◌≡◌, ◌∙◌, true, List, [], ◌∷◌, ◌++◌, map, Some, refl, sym, ap, subst}
 use Rattle.std.specs.Prelude.{is_some}
 use Rattle.std.specs.Option.{option_map}
+use Rattle.std.proofs.lemmas.List.{map-append}
 use Rattle.lfs_model.specs.TreeEdits.{last_name_of_path}
 use Rattle.lfs_model.specs.InDirectory.{IsPlaceWhereNameBelongs}
 use Rattle.lfs_model.specs.Names.{Name}
@@ -11,7 +12,6 @@ use Rattle.lfs_model.specs.Tree.{Path, node_of_struct_and_attributes}
 use Rattle.lfs_model.specs.Shown.{skip_list_bytes_on_disk, entries_by_directory_in_thread, tree_on_disk}
 use Rattle.lfs_model.proofs.Paths.{last_is}
 use Rattle.lfs_thread.specs.Kept.{Kept}
-use Rattle.lfs_lookup.proofs.Descended.{names_are}
 use Rattle.lfs_tree.specs.TreeChanges.{IsSpotForNewName, IsSpotOfNothingFound, IsVacantPath, is_nothing_found}
 use Rattle.lfs_lookup.specs.Paths.{PathLeadsToFound}
 use Rattle.lfs_lookup.specs.declared.paths.Found.{Found}
@@ -48,4 +48,4 @@ place_for t path (found.Nothing parent place) name spot v l h e =
     }
 
 pub last_of_map : {A : Type 0} (f : A → Name) (xs above : List A) (x : A) → xs ≡ above ++ x ∷ [] → f x ≡ last_name_of_path (map f xs)
-last_of_map f xs above x e = sym (ap last_name_of_path (names_are f xs above x e) ∙ last_is (map f above) (f x))
+last_of_map f xs above x e = sym (ap last_name_of_path (ap (map f) e ∙ map-append f above (x ∷ [])) ∙ last_is (map f above) (f x))

@@ -2,6 +2,7 @@
 use Rattle.std.proofs.Common.{ℕ, ◌≡◌, ◌<◌, ◌≤◌, inl, inr, ⊎_elim, nat_eq, nat_le, leb-true, Bool, true, false, cond, List, [], length, Option, Some, refl, sym, ap, subst, arith}
 use Rattle.std.specs.Prelude.{Contains}
 use Rattle.std.specs.List.{IsDistinct, flat_map}
+use Rattle.std.proofs.lemmas.Bool.{cases_lt}
 use Rattle.std.proofs.lemmas.List.Elements.{All-contains, All-from_recursion, recursion_from_All}
 use Rattle.lfs_model.specs.BlockSets.{AreExactlyTheUsedBlocks, IsFree, IsInFlight, IsUsed, in_flight_count}
 use Rattle.lfs_model.specs.Disk.{Disk, inline_limit}
@@ -22,7 +23,6 @@ use Rattle.lfs_writer.specs.StructChanges.{CanReplaceFileStruct}
 use Rattle.lfs_writer.specs.SettledFiles.{blocks_of_list_on_thread}
 use Rattle.lfs_writer.specs.ThreadContents.{AreContentsOnThread}
 use Rattle.lfs_writer.proofs.Coming.{inline_comes, list_comes}
-use Rattle.lfs_writer.proofs.Outside.{none_or_some}
 use Rattle.lfs_operations.specs.Making.{HasSoManyFreeBlocks}
 use Rattle.lfs_thread.specs.Kept.{Kept}
 use Rattle.lfs_tree.specs.OpenContents.{AreWriterContentsOverKeptFile, blocks_named, bytes_of_writer_contents}
@@ -127,14 +127,15 @@ module _ (t : Kept) (path : Path) (u : Slot) (ok : IsAcceptedImage t.disk t.pair
 
   pub coming_apart : (c : WriterContents) → AreWriterContentsOverKeptFile t path c → IsFinishedFormWithinLimit (inline_limit t.disk.block_size) (form_of_contents c) → (b : ℕ) → 1 ≤ count b (skip_list_blocks_of_struct t.disk (struct_of_finished_contents c)) → count b (blocks_of_pairs t.pairs) ≡ 0
   coming_apart (InMemory list) over few b some = absurd (omega arith)
-  coming_apart (Finished s) over large b some = ⊎_elim (λ none. none)
+  coming_apart (Finished s) over large b some = ⊎_elim
       (λ is. absurd (
       let e = count_append b (blocks_of_pairs t.pairs) (flat_map (λ (x : Slot). skip_list_blocks_of_struct t.disk x.struct) (all_slots_not_moved t.pairs)) in
       let u_is = (used b).1 (Contains-count (used_blocks t.disk t.pairs) b (omega arith)) in
       let own = subst (λ (o : Option Slot). Contains (blocks_named t.disk o) b) at (over.owned.each b (Contains-count (blocks_of_list_on_thread t s) b some) u_is) in
       let none = list_apart b (count-Contains (skip_list_blocks_of_struct t.disk u.struct) b own) in
       omega arith))
-      (none_or_some (count b (blocks_of_pairs t.pairs)))
+      (λ none. omega arith)
+      (cases_lt 0 (count b (blocks_of_pairs t.pairs)))
   coming_apart (InHand hand) over never b some = absurd never
 
   list_room : (c : WriterContents) → AreWriterContentsOverKeptFile t path c → IsFinishedFormWithinLimit (inline_limit t.disk.block_size) (form_of_contents c) → in_flight_count t.map ≤ ctz_block_count t.disk.block_size (length (bytes_of_writer_contents t c))

@@ -4,6 +4,7 @@ pub mod Recovered
 pub mod RecoveredTwice
 pub mod RecoveredFirst
 pub mod Formatted
+pub mod SameErrors
 pub mod Mounting
 pub mod Carried
 pub mod CarryPlaces

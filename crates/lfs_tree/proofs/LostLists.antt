@@ -20,7 +20,7 @@ use Rattle.lfs_model.specs.View.{IsAcceptedImage, IsListIfCtz}
 use Rattle.lfs_model.specs.Shown.{all_slots_not_moved, skip_list_blocks_of_struct, used_blocks}
 use Rattle.lfs_model.proofs.BlockSets.{Contains-count, count-Contains}
 use Rattle.lfs_model.proofs.Completed.{complete_parts}
-use Rattle.lfs_model.proofs.Counts.{Each, count, count_append, each_append, each_both, each_from_counted}
+use Rattle.lfs_model.proofs.Counts.{Each, count, count_append, each_append, each_both}
 use Rattle.lfs_model.proofs.Changes.{SameFiles, slots_files}
 use Rattle.lfs_model.proofs.Files.{HasSameFile, is_list_same}
 use Rattle.lfs_model.proofs.Global.{HasNoMove}
@@ -33,7 +33,7 @@ use Rattle.lfs_thread.specs.Kept.{Kept}
 use Rattle.lfs_thread.specs.Steps.{no_pair}
 use Rattle.lfs_tree.specs.Removals.{no_list}
 use Rattle.lfs_tree.specs.LostLists.{CanFreeListsOfDroppedSlots, blocks_of_stored_lists, stored_lists_of_struct, stored_lists_of_raw_struct, stored_lists_of_slots, stored_lists_of_raw_slots}
-use Rattle.lfs_tree.proofs.CarryFreed.{beside_is, not_both, not_free, with_map}
+use Rattle.lfs_tree.proofs.CarryFreed.{beside_is, none_there, not_both, not_free, with_map}
 use Rattle.lfs_writer.specs.Bases.{IsListUnlessEmpty}
 use Rattle.lfs_writer.specs.SettledMaps.{IsMapSettled}
 use Rattle.lfs_writer.specs.declared.stored_list.Stored.{Stored}
@@ -203,9 +203,6 @@ module _ (t : Kept) (list : Stored) (rest : List Stored) (can : CanFreeListsOfDr
       once = λ b. let k = both b in let o = can.once b in omega arith;
       stand = can.stand.1;
     }
-
-    none_there : (b : ℕ) (xs : List ℕ) → count b xs ≤ 0 → Each (λ x. x ≢ b) xs
-    none_there b xs never = each_from_counted (λ x. x ≢ b) xs (λ x some e. let k = ap (λ z. count z xs) e in absurd (omega arith))
 
     -- a block of the list was used, and is free
     flying_here : HasSameBlocksInFlight t.map map

@@ -25,7 +25,8 @@ use Rattle.lfs_tree.specs.Formats.{IsFreshlyFormatted, ShowsEmptyRoot}
 use Rattle.lfs_tree.specs.RootedThreads.{IsSoundThreadWithRoot, tree_state_of_kept_thread, tree_state_of_thread}
 use Rattle.lfs_lookup.specs.Reading.{OnlyReadsThreadAndReportsErrors}
 use Rattle.lfs_tree.specs.TreeState.{IsMountedTree, IsSoundTreeState}
-use Rattle.lfs_lookup.proofs.Reading.{HasRead, same_error}
+use Rattle.lfs_lookup.proofs.Reading.{HasRead}
+use Rattle.lfs_tree.proofs.SameErrors.{same_error}
 
 -- what is sound stays so where it was only read
 pub sound_read : (a b : Kept) (writable failed now : Bool) → IsThreadOnlyRead a b → IsSoundTreeState (tree_state_of_kept_thread a writable failed) → IsSoundTreeState (tree_state_of_kept_thread b writable now)
@@ -74,7 +75,7 @@ read_back {X = X} g old back a b r e m is read same later = record {
   disk = same ∙ read.only.disk ∙ m.disk_is;
   reads = subst (λ (h : List CallEvent). AreCallsSinceOnlyReads (g.blocks old) (g.history old) h) (sym later) (AreCallsSinceOnlyReads-trans m.reads read.only.reads (ap (λ (d : Disk). d.blocks) m.disk_is));
   fault = λ io. (let k = read.reported.fault (is ∙ ap Err io) in let n = m.no_fault in let l = ap faults later in omega (arith, k, n, l));
-  no_fault = λ other. ap faults later ∙ read.reported.no_fault (λ z. other (same_error X e Io (sym is ∙ z))) ∙ m.no_fault;
+  no_fault = λ other. ap faults later ∙ read.reported.no_fault (λ z. other (same_error e Io (sym is ∙ z))) ∙ m.no_fault;
 }
 
 -- the same of a device whose names are in an order that was found
@@ -85,7 +86,7 @@ given_back_either {X = X} g old back order a b r e m is read same later = record
   disk = λ other. ap (ordered other) (same ∙ read.only.disk ∙ m.disk_is);
   reads = subst (λ (h : List CallEvent). AreCallsSinceOnlyReads (g.blocks old) (g.history old) h) (sym later) (AreCallsSinceOnlyReads-trans m.reads read.only.reads (ap (λ (d : Disk). d.blocks) m.disk_is));
   fault = λ io. (let k = read.reported.fault (is ∙ ap Err io) in let n = m.no_fault in let l = ap faults later in omega (arith, k, n, l));
-  no_fault = λ other. ap faults later ∙ read.reported.no_fault (λ z. other (same_error X e Io (sym is ∙ z))) ∙ m.no_fault;
+  no_fault = λ other. ap faults later ∙ read.reported.no_fault (λ z. other (same_error e Io (sym is ∙ z))) ∙ m.no_fault;
 }
 
 -- a fresh image as a tree

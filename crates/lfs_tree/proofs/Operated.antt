@@ -23,7 +23,7 @@ use Rattle.lfs_tree.specs.SlotChanges.{tree_with_attributes_changed}
 use Rattle.lfs_tree.specs.RootedThreads.{tree_state_of_kept_thread}
 use Rattle.lfs_tree.specs.TreeState.{disk_summary_of_tree}
 use Rattle.lfs_lookup.specs.Reading.{OnlyReadsThreadAndReportsErrors}
-use Rattle.lfs_lookup.proofs.Reading.{same_error}
+use Rattle.lfs_tree.proofs.SameErrors.{same_error}
 use Rattle.lfs_tree.proofs.Carried.{with_history}
 use Rattle.lfs_tree.proofs.CarrySurvives.{created_shows, survives_reading}
 use Rattle.lfs_tree.proofs.ReportedFaults.{ReportsFaultsSince, called_by_reading, called_by_writing, reports_error}
@@ -143,7 +143,7 @@ only_read_change {X} t root rests mid Done after r e is k =
       works = tt;
       stands = tt;
       called = called_by_reading t.kept mid.kept k.only;
-      errors = record { errors = k.reported.errors; fault = λ io. k.reported.fault (ap Err io); no_fault = λ other. k.reported.no_fault (λ z. other (same_error X e Io z)) };
+      errors = record { errors = k.reported.errors; fault = λ io. k.reported.fault (ap Err io); no_fault = λ other. k.reported.no_fault (λ z. other (same_error e Io z)) };
       survives = survives_reading t root rests mid.kept.history k.only.reads after;
     }
 

@@ -28,7 +28,7 @@ use Rattle.lfs_thread.specs.Kept.{Kept, ThreadView}
 use Rattle.lfs_lookup.specs.Entry.{IsStorageOfStruct}
 use Rattle.lfs_tree.specs.OpenContents.{bytes_of_writer_contents}
 use Rattle.lfs_lookup.specs.Paths.{PathLeadsToFound}
-use Rattle.lfs_tree.specs.Stores.{CanPutFinishedContentsInSlot, IsFileSlotAtPath, IsFileSlotOfFound, IsFinishedFormWithinLimit, is_file_found, stored_list_in_struct, list_named_by_storage, struct_of_finished_contents}
+use Rattle.lfs_tree.specs.Stores.{CanPutFinishedContentsInSlot, IsFileSlotAtPath, IsFileSlotOfFound, IsFinishedFormWithinLimit, is_file_found, stored_list_in_struct, stored_list_in_storage, struct_of_finished_contents}
 use Rattle.lfs_lookup.specs.declared.entry.FileStorage.{FileStorage}
 use Rattle.lfs_lookup.specs.declared.entry.FileStorage.TheVariants as entry
 use Rattle.lfs_lookup.specs.declared.paths.Found.{Found}
@@ -57,7 +57,7 @@ shown_leaf : (contents : FileStorage) (s : Struct) → IsStorageOfStruct content
 shown_leaf (entry.Inline len) s k = ap branch_address_of_struct k.1.0
 shown_leaf (entry.List head size) s k = ap branch_address_of_struct k
 
-shown_list : (contents : FileStorage) (s : Struct) → IsStorageOfStruct contents s → list_named_by_storage contents ≡ stored_list_in_struct s
+shown_list : (contents : FileStorage) (s : Struct) → IsStorageOfStruct contents s → stored_list_in_storage contents ≡ stored_list_in_struct s
 shown_list (entry.Inline len) s k = sym (ap stored_list_in_struct k.1.0)
 shown_list (entry.List head size) s k = sym (ap stored_list_in_struct k)
 
@@ -69,7 +69,7 @@ file_for t path (found.Nothing parent place) file l h = absurd h
 file_for t path (found.Directory parent slot first) file l h = absurd h
 file_for t path (found.File parent slot contents) file l h =
     let there = l.there.there in
-    let same : (let x : FileSlot = record { spot = slot; list = list_named_by_storage contents } in x) ≡ file = λ i. record { spot = sym h.0 i; list = sym h.1 i } in
+    let same : (let x : FileSlot = record { spot = slot; list = stored_list_in_storage contents } in x) ≡ file = λ i. record { spot = sym h.0 i; list = sym h.1 i } in
     subst (IsFileSlotAtPath t.pairs path) same
     (record {
       slot = record { above = l.there.above; name = l.there.name; first = parent; is = l.there.is; stands = there.0 };

@@ -39,7 +39,6 @@ use Rattle.lfs_operations.specs.Ready.{IsImageReadyForChange}
 use Rattle.lfs_operations.specs.Recovering.{AreUnreachedPairNumbers, AreUnreachedPairNumbersFrom, CanDropUnreachedPairs, HasDroppedUnreachedAndRecovered, ReportsOfRecovery}
 use Rattle.lfs_operations.specs.EndingMove.{CanEndMove, HasEndedMove}
 use Rattle.lfs_operations.proofs.RecoverMap.{count_used}
-use Rattle.lfs_operations.proofs.RecoverWrites.{none_there}
 use Rattle.lfs_thread.specs.Kept.{Kept, ThreadView}
 use Rattle.lfs_thread.specs.Steps.{HasReportedIoOrUnwrittenNoMemory, IsThreadOnlyRead, ThreadChangesOnlyTheseBlocks}
 use Rattle.lfs_tree.specs.TreeChanges.{AppliesOperationOnThread, HasFurtherDeviceCalls, SurvivesWithOldOrNewTree, ReportsErrorWithCause}
@@ -47,7 +46,8 @@ use Rattle.lfs_tree.specs.RootedThreads.{IsSoundThreadUnlessFailed, IsSoundThrea
 use Rattle.lfs_tree.specs.Recoveries.{CanDropUnreachedDirectories, HasDroppedUnreachedDirectories}
 use Rattle.lfs_tree.specs.TreeState.{IsOperationAppliedToTree, IsSoundTreeState, KeepsBlocksInFlightUnchanged, TreeState, kept_of, tree_view}
 use Rattle.lfs_tree.proofs.Carried.{all_pairs, keeps_writing, lists_from, read_is, with_history}
-use Rattle.lfs_tree.proofs.CarryFreed.{writes_then}
+use Rattle.lfs_tree.proofs.CarryFreed.{none_there, writes_then}
+use Rattle.lfs_tree.proofs.SameErrors.{same_error}
 use Rattle.lfs_tree.proofs.KeptFiles.{keeps_same, keeps_then}
 
 -- ---- numbers of pairs
@@ -73,7 +73,7 @@ numbers_below ps numbers h j low =
 -- ---- blocks in flight
 
 apart_pairs : (t : Kept) → AreExactlyTheUsedBlocks t.map (used_blocks t.disk t.pairs) → (b : ℕ) → IsInFlight t.map b → All (λ c. c ≢ b) (blocks_of_pairs t.pairs)
-apart_pairs t used b flies = All-from_recursion (λ c. c ≢ b) (blocks_of_pairs t.pairs) (none_there b (blocks_of_pairs t.pairs) (go (count b (blocks_of_pairs t.pairs)) refl))
+apart_pairs t used b flies = All-from_recursion (λ c. c ≢ b) (blocks_of_pairs t.pairs) (none_there b (blocks_of_pairs t.pairs) (let none = go (count b (blocks_of_pairs t.pairs)) refl in omega arith))
   where
     go : (n : ℕ) → count b (blocks_of_pairs t.pairs) ≡ n → n ≡ 0
     go zero e = refl
@@ -245,9 +245,6 @@ recovered_whole t root b c rooted left e w d called quiet =
     }
 
 -- ---- what it tells
-
-same_error : {X : Type 0} (e f : Error) → (let r : Result X Error = Err e in r) ≡ Err f → e ≡ f
-same_error e f h = cc
 
 pub reports_reading : {X : Type 0} (t m : Kept) (r : Result X Error) (e : Error) → r ≡ Err e → HasReportedIoOrUnwrittenNoMemory t m r → ReportsErrorWithCause t m e
 reports_reading {X} t m r e is reported = record {

@@ -1,7 +1,7 @@
 -- What is found at the two paths of a rename.
 use Rattle.std.proofs.Common.{ℕ, ◌≡◌, ◌≤◌, ◌+◌, ◌∙◌, ◌++◌, List, [], ◌∷◌, Option, Some, None, Result, Ok, Err, sym, ap, subst, arith}
 use Rattle.std.specs.Prelude.{IfOk, IfSome, sum_by}
-use Rattle.std.proofs.lemmas.List.Sums.{sum_by-append}
+use Rattle.std.proofs.lemmas.List.Sums.{sum_by-append, sum_by-cons}
 use Rattle.lfs_device.specs.declared.error.Error.{Error}
 use Rattle.lfs_model.specs.Disk.{Disk}
 use Rattle.lfs_model.specs.Frame.{pair_count_of_directory_at, parents}
@@ -22,7 +22,6 @@ use Rattle.lfs_lookup.specs.declared.paths.Found.TheVariants as found
 use Rattle.lfs_lookup.specs.declared.paths.Shown.{Shown}
 use Rattle.lfs_lookup.specs.declared.search.Spot.{Spot}
 use Rattle.lfs_lookup.proofs.Entered.{hiding_none}
-use Rattle.lfs_lookup.proofs.ShownFindings.{few_own}
 use Rattle.lfs_tree.specs.RenamePaths.{AreRenameTargets, directories_of_rename, lookup_result_of_found}
 use Rattle.lfs_tree.specs.TreeState.{TreeState, kept_of}
 use Rattle.lfs_tree.specs.declared.rename_paths.RenameFindings.{RenameFindings}
@@ -104,8 +103,9 @@ pub sum_of_rename : (f : Path → ℕ) (from to : Path) → sum_by f (directorie
 sum_of_rename f from to =
     let a = sum_by-append f (parents from) (parents from ++ (parents to ++ to ∷ [])) in
     let b = sum_by-append f (parents from) (parents to ++ to ∷ []) in
-    let c = few_own f to in
-    omega (arith, a, b, c)
+    let c = sum_by-append f (parents to) (to ∷ []) in
+    let d = sum_by-cons f to [] in
+    omega (arith, a, b, c, d)
 
 pub few_since : (a b : Kept) (paths : List Path) (n : ℕ) → IsThreadOnlyRead a b → n ≤ reads b.history + sum_by (pair_count_of_directory_at b.pairs) paths → n ≤ reads b.history + sum_by (pair_count_of_directory_at a.pairs) paths
 few_since a b paths n only h = subst (λ (ps : List Pair). n ≤ reads b.history + sum_by (pair_count_of_directory_at ps) paths) only.pairs h

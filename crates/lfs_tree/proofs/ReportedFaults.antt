@@ -11,6 +11,7 @@ use Rattle.lfs_thread.specs.Kept.{Kept}
 use Rattle.lfs_thread.specs.Steps.{HasReportedIoOrUnwrittenNoMemory, IsThreadOnlyRead, ThreadChangesOnlyTheseBlocks}
 use Rattle.lfs_tree.specs.TreeChanges.{HasFurtherDeviceCalls, ReportsErrorWithCause}
 use Rattle.lfs_tree.proofs.CarryRooms.{no_room}
+use Rattle.lfs_tree.proofs.SameErrors.{same_error}
 use Rattle.lfs_tree.proofs.Carried.{with_history}
 
 pub called_by_reading : (a b : Kept) → IsThreadOnlyRead a b → HasFurtherDeviceCalls a b
@@ -35,9 +36,6 @@ pub record ReportsFaultsSince {X : Type 0} (old new : List CallEvent) (result : 
 
 pub reported_by_reading : {X : Type 0} (a b : Kept) (result : Result X Error) → HasReportedIoOrUnwrittenNoMemory a b result → ReportsFaultsSince a.history b.history result
 reported_by_reading a b result t = record { errors = t.errors; fault = t.fault; no_fault = t.no_fault }
-
-same_error : {X : Type 0} (e f : Error) → (let r : Result X Error = Err e in r) ≡ Err f → e ≡ f
-same_error e f h = cc
 
 -- there was room, so NoSpace doesn't come
 pub reported_with_room : {X : Type 0} (old new : Kept) (result : Result X Error) → HasSoManyFreeBlocks 2 old.map → ReportsFaultOrNoSpace old new result → ReportsFaultsSince old.history new.history result

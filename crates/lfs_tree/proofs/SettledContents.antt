@@ -1,6 +1,7 @@
 -- What stands behind a commit of contents, before and after their lists are settled.
 use Rattle.std.proofs.Common.{ℕ, ◌≡◌, ◌≢◌, ◌<◌, ◌≤◌, ◌+◌, ◌∙◌, inl, inr, ⊎_elim, List, [], ◌∷◌, ◌++◌, length, None, Some, true, false, refl, sym, ap, subst, arith, append_assoc}
-use Rattle.std.specs.Prelude.{Contains}
+use Rattle.std.specs.Prelude.{All, Contains}
+use Rattle.std.proofs.lemmas.Bool.{cases_lt}
 use Rattle.std.proofs.lemmas.List.Elements.{All-contains, All-from_recursion}
 use Rattle.std.proofs.lemmas.Option.{same_Some}
 use Rattle.lfs_device.specs.Bytes.{HasBytes}
@@ -34,7 +35,6 @@ use Rattle.lfs_model.proofs.Files.{HasSameFile, file_blocks_same, is_list_same}
 use Rattle.lfs_model.proofs.Histories.{IsTrueAfterEachStopSince-reads, IsTrueAfterEachStopSince-trans, IsTrueAfterEachStopSince-weaker, IsTrueAfterEachStopSince-worst, IsLeftByStopIn-read}
 use Rattle.lfs_writer.specs.StructChanges.{CanReplaceFileStruct}
 use Rattle.lfs_writer.specs.SettledFiles.{CanSettleStoredList, ChangesOnlyBlockMap, IsStoredListSettled, blocks_of_list_on_thread}
-use Rattle.lfs_writer.proofs.Outside.{none_or_some, not_there}
 use Rattle.lfs_writer.proofs.Settlement.{settled_exactly}
 use Rattle.lfs_operations.proofs.Held.{here}
 use Rattle.lfs_operations.specs.Changing.{WritesPairAndTwoFreeBlocks}
@@ -50,10 +50,14 @@ use Rattle.lfs_tree.specs.declared.contents_at.FileSlot.{FileSlot}
 use Rattle.lfs_lookup.proofs.AtPaths.{SizedLists}
 use Rattle.lfs_tree.proofs.Carried.{pair_blocks, with_history}
 use Rattle.lfs_tree.proofs.CarryEdited.{can_edit, slot_below}
+use Rattle.lfs_tree.proofs.CarryFreed.{none_there}
 use Rattle.lfs_tree.proofs.CarrySurvives.{survives_behind}
 use Rattle.lfs_tree.proofs.CommitContents.{base_before, base_now, blocks_before_is, blocks_now_is, can_read, coming_apart, coming_taken, distinct_list, flying_in, list_apart, list_there, list_used, may_come, over_read, room_there}
 use Rattle.lfs_tree.proofs.OpenedFiles.{no_flight, not_free}
 use Rattle.lfs_writer.specs.declared.contents.WriterContents.{WriterContents}
+
+not_there : (b : ℕ) (bs : List ℕ) → count b bs ≤ 0 → All (λ x. x ≢ b) bs
+not_there b bs none = All-from_recursion (λ x. x ≢ b) bs (none_there b bs none)
 
 -- ---- the slot gets them
 
@@ -99,12 +103,12 @@ module _ (t : Kept) (path : Path) (u : Slot) (ok : IsAcceptedImage t.disk t.pair
       let f = ap (count b) before_is in
       let g = ap (count b) now_is in
       ⊎_elim
+      (λ k. ⊎_elim (λ was. absurd (let n = list_apart t path u ok used at sized b k in let m = count-Contains (blocks_of_pairs t.pairs) b was in omega arith))
+      (λ free. absurd (was_taken b k free)) (is.places b has))
       (λ none. let k : 1 ≤ count b (skip_list_blocks_of_struct t.disk (struct_of_finished_contents c)) = omega arith in
       ⊎_elim (λ was. absurd (let n = coming_apart t path u ok used at sized c can.over can.finished b k in let m = count-Contains (blocks_of_pairs t.pairs) b was in omega arith))
       (λ free. absurd (now_taken b k free)) (is.places b has))
-      (λ k. ⊎_elim (λ was. absurd (let n = list_apart t path u ok used at sized b k in let m = count-Contains (blocks_of_pairs t.pairs) b was in omega arith))
-      (λ free. absurd (was_taken b k free)) (is.places b has))
-      (none_or_some (count b (skip_list_blocks_of_struct t.disk u.struct)))
+      (cases_lt 0 (count b (skip_list_blocks_of_struct t.disk u.struct)))
 
   pub can_settle : CanSettleStoredList new (stored_list_in_struct u.struct) (stored_list_of_finished_contents c)
   can_settle = record {
@@ -134,13 +138,13 @@ module _ (t : Kept) (path : Path) (u : Slot) (ok : IsAcceptedImage t.disk t.pair
       let l = lists_are b in
       let f = ap (count b) before_is in
       Contains-count (used_blocks new.disk new.pairs) b (⊎_elim
-      (λ none. omega arith)
       (λ was.
       let own = count-Contains is.now.ready.used.owned b ((is.now.ready.used.are b).0 (is.now.stays b (was_taken b was) ∙ list_used t path u ok used at sized b was)) in
       let o = is.once b in
       let once = once_from_distinct (skip_list_blocks_of_struct t.disk u.struct) (distinct_list t.disk u.struct (list_there t path u ok used at sized)) b in
       omega arith)
-      (none_or_some (count b (skip_list_blocks_of_struct t.disk u.struct))))
+      (λ none. omega arith)
+      (cases_lt 0 (count b (skip_list_blocks_of_struct t.disk u.struct))))
 
   module _ (later : Kept) (only : ChangesOnlyBlockMap new later) (settled : IsStoredListSettled new (stored_list_in_struct u.struct) (stored_list_of_finished_contents c) later) where
     on : (P : Disk → List Pair → Type 0) → P new.disk new.pairs → P later.disk later.pairs
@@ -152,16 +156,16 @@ module _ (t : Kept) (path : Path) (u : Slot) (ok : IsAcceptedImage t.disk t.pair
 
     none_later : (b : ℕ) → ¬ (IsInFlight later.map b)
     none_later b flies = ⊎_elim
+        (λ some. absurd (let k : Used ≡ InFlight = same_Some Used InFlight (sym (All-contains (IsUsed later.map) (blocks_of_list_on_thread new (stored_list_of_finished_contents c)) b settled.used (Contains-count (blocks_of_list_on_thread new (stored_list_of_finished_contents c)) b some)) ∙ flies) in cc))
         (λ none. ⊎_elim
+        (λ was. absurd (let k : Free ≡ InFlight = same_Some Free InFlight (sym (settled.freed b (Contains-count (blocks_of_list_on_thread new (stored_list_in_struct u.struct)) b was) (not_there b (blocks_of_list_on_thread new (stored_list_of_finished_contents c)) none)) ∙ flies) in cc))
         (λ never.
         let there = is.now.none_comes b (sym (settled.others b (not_there b (blocks_of_list_on_thread new (stored_list_in_struct u.struct)) never) (not_there b (blocks_of_list_on_thread new (stored_list_of_finished_contents c)) none)) ∙ flies) in
         let some = count-Contains (skip_list_blocks_of_struct t.disk (struct_of_finished_contents c)) b (flying_in t path u ok used at sized c can.over can.finished b there) in
         let g = ap (count b) now_is in
         absurd (omega arith))
-        (λ was. absurd (let k : Free ≡ InFlight = same_Some Free InFlight (sym (settled.freed b (Contains-count (blocks_of_list_on_thread new (stored_list_in_struct u.struct)) b was) (not_there b (blocks_of_list_on_thread new (stored_list_of_finished_contents c)) none)) ∙ flies) in cc))
-        (none_or_some (count b (blocks_of_list_on_thread new (stored_list_in_struct u.struct)))))
-        (λ some. absurd (let k : Used ≡ InFlight = same_Some Used InFlight (sym (All-contains (IsUsed later.map) (blocks_of_list_on_thread new (stored_list_of_finished_contents c)) b settled.used (Contains-count (blocks_of_list_on_thread new (stored_list_of_finished_contents c)) b some)) ∙ flies) in cc))
-        (none_or_some (count b (blocks_of_list_on_thread new (stored_list_of_finished_contents c))))
+        (cases_lt 0 (count b (blocks_of_list_on_thread new (stored_list_in_struct u.struct)))))
+        (cases_lt 0 (count b (blocks_of_list_on_thread new (stored_list_of_finished_contents c))))
 
     pub committed : path ≡ above ++ name ∷ [] → ChangesOnlyPairOfPath t.disk t.pairs path new.disk → HasCommittedBytesOfFile t path (bytes_of_writer_contents t c) later
     committed e alone = record {

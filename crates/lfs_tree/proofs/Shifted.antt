@@ -4,6 +4,7 @@ use Rattle.std.specs.Prelude.{OnOk, is_some}
 use Rattle.std.specs.List.{list_all}
 use Rattle.std.specs.Option.{option_and_then}
 use Rattle.std.proofs.lemmas.Bool.{ltb-false}
+use Rattle.std.proofs.lemmas.Option.{slice_get_within}
 use Rattle.lfs_device.specs.Bytes.{HasBytes}
 use Rattle.lfs_device.specs.declared.error.Error.{Error}
 use Rattle.lfs_model.specs.TreeEdits.{is_path_beneath, last_name_of_path, renamed, path_without_prefix, same_path}
@@ -44,7 +45,6 @@ use Rattle.lfs_tree.proofs.CarryRooms.{last_is_name, room_for}
 use Rattle.lfs_tree.proofs.CarrySurvives.{survives_behind}
 use Rattle.lfs_tree.proofs.ReportedFaults.{ReportsFaultsSince}
 use Rattle.lfs_tree.proofs.Operated.{changed, does_rename, quiet_reported, rename_stands}
-use Rattle.lfs_lookup.proofs.Directories.{within}
 use Rattle.lfs_tree.proofs.EmptyDirectories.{at_there, bare_there}
 use Rattle.lfs_tree.proofs.Mounting.{sound_read}
 
@@ -145,7 +145,7 @@ module _ (t : ThreadView) (root : ℕ) (rests : CanChangeRecoveredImage t root) 
         target = stood.stands;
         at = on.at;
         branch = branch_is stood.stands.stands.slot.struct on.at (sym (ap (option_and_then (λ (s : Slot). branch_address_of_struct s.struct)) stood.slot) ∙ on.leads);
-        below = within t.kept.pairs on.at first on.begins;
+        below = slice_get_within t.kept.pairs first on.begins.pair on.begins.there;
         there = at_there t.kept.pairs on.at first on.begins;
         empty = bare.empty;
         alone = bare.alone;

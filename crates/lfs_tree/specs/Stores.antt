@@ -44,9 +44,9 @@ abbrev pub no_list : Stored
 no_list = record { head = 0; size = 0; in_flight = false }
 
 -- the list that an entry names, or none
-abbrev pub list_named_by_storage : FileStorage → Stored
-list_named_by_storage (entry.Inline len) = no_list
-list_named_by_storage (entry.List head size) = record { head = head; size = size; in_flight = false }
+abbrev pub stored_list_in_storage : FileStorage → Stored
+stored_list_in_storage (entry.Inline len) = no_list
+stored_list_in_storage (entry.List head size) = record { head = head; size = size; in_flight = false }
 
 abbrev pub stored_list_in_struct : Struct → Stored
 stored_list_in_struct (Inline bytes) = no_list
@@ -60,7 +60,7 @@ is_file_found _ = false
 
 -- the slot of a file, and its list
 abbrev pub IsFileSlotOfFound : Found → FileSlot → Type 0
-IsFileSlotOfFound (found.File parent slot contents) file = (file.spot ≡ slot) × (file.list ≡ list_named_by_storage contents)
+IsFileSlotOfFound (found.File parent slot contents) file = (file.spot ≡ slot) × (file.list ≡ stored_list_in_storage contents)
 IsFileSlotOfFound _ file = ⊥
 
 -- the slot of the file at a path, and its list

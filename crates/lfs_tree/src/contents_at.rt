@@ -11,7 +11,7 @@ ghost use Rattle.lfs_operations.specs.Storing.{HasStoredContentsOfFile, tree_wit
 ghost use Rattle.lfs_tree.specs.TreeChanges.{HasFurtherDeviceCalls, CanChangeRecoveredImage, ChangesTreeOrFails, SurvivesWithOldOrNewTree, ReportsErrorWithCause};
 ghost use Rattle.lfs_tree.specs.RootedThreads.{tree_state_of_kept_thread};
 ghost use Rattle.lfs_tree.specs.OpenContents.{CanStoreContentsAt, bytes_of_writer_contents};
-ghost use Rattle.lfs_tree.specs.Stores.{CanCommitContentsAtPath, CanPutFinishedContentsInSlot, HasCommittedBytesOfFile, HasStoredBytesOnThread, IsFileSlotOfFound, is_file_found, stored_list_of_finished_contents, list_named_by_storage, no_list};
+ghost use Rattle.lfs_tree.specs.Stores.{CanCommitContentsAtPath, CanPutFinishedContentsInSlot, HasCommittedBytesOfFile, HasStoredBytesOnThread, IsFileSlotOfFound, is_file_found, stored_list_of_finished_contents, stored_list_in_storage, no_list};
 
 use crate::entries_at::{find_at_path, show_block_facts_to_proof};
 use lfs_device::{BlockDevice, Error};
@@ -43,7 +43,7 @@ fn no_list() -> Stored
 
 // Returns the list that an entry names.
 fn list_named(contents: lfs_lookup::FileStorage) -> Stored
-    ensures { result ≡ list_named_by_storage contents }
+    ensures { result ≡ stored_list_in_storage contents }
 {
     match contents {
         lfs_lookup::FileStorage::Inline { .. } => no_list(),

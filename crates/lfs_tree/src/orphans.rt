@@ -11,7 +11,9 @@ ghost use Rattle.lfs_tree.specs.Orphans.{BranchesBeginInThread, AreMarksOfReache
 ghost use Rattle.lfs_lookup.specs.Walk.{HasFirstPairInThreadIfBranch};
 
 use lfs_device::{BlockDevice, Error};
-use lfs_lookup::{NameAndOwnedStruct, OwnedStruct, directory_items_under_gstate, follows_at};
+use lfs_lookup::{
+    NameAndOwnedStruct, OwnedStruct, directory_items_under_gstate, is_pair_after_hard_tail,
+};
 use lfs_thread::{Thread, number_of};
 use std::alloc::{AllocError, Global};
 
@@ -108,7 +110,7 @@ fn is_pair_reached_at<D: BlockDevice>(
     requires len { length marks.now ≡ length thread.now.kept.pairs }
     ensures { result ≡ (if follows_hard_tail_at root thread.now.kept.pairs index then before else slice_index_or marks.now index false) }
 {
-    if follows_at(thread, root, index) {
+    if is_pair_after_hard_tail(thread, root, index) {
         before
     } else {
         marks[index]

@@ -1,9 +1,11 @@
 // What is at the two paths of a rename, before anything is written.
 
-ghost use Rattle.std.specs.Prelude.{◌≡◌, ◌≤◌, ◌+◌, ◌++◌, true, false, IfOk, IfSome, sum_by};
+ghost use Rattle.std.specs.Prelude.{◌≡◌, ◌≤◌, ◌+◌, ◌++◌, true, false, IfOk, IfSome, IsSome, sum_by};
 ghost use Rattle.lfs_model.specs.Frame.{pair_count_of_directory_at, parents};
 ghost use Rattle.lfs_model.specs.History.{reads};
 ghost use Rattle.lfs_model.specs.Shown.{tree_on_disk};
+ghost use Rattle.lfs_model.specs.Slots.{zero_gstate};
+ghost use Rattle.lfs_model.specs.Thread.{gstate_of};
 ghost use Rattle.lfs_lookup.specs.Finds.{IsFoundNodeAtPath, has_entry_beneath_path};
 ghost use Rattle.lfs_lookup.specs.Paths.{PathLeadsToFound};
 ghost use Rattle.lfs_lookup.specs.Reading.{OnlyReadsThreadAndReportsErrors};
@@ -137,6 +139,7 @@ fn find_both_rename_paths<D: BlockDevice>(
     requires { CanChangeRecoveredImage thread.old root }
     ensures found { IfOk result (HasFoundBothRenamePaths (tree_on_disk thread.old.kept.disk thread.old.kept.pairs) from.now to.now) }
     ensures targets { IfOk result (λ found. IfSome found.targets (AreRenameTargets thread.old.kept from.now to.now)) }
+    ensures handed_on { IfOk result (λ found. IsSome found.targets) }
     ensures few { reads thread.new.kept.history ≤ reads thread.old.kept.history + sum_by (pair_count_of_directory_at thread.old.kept.pairs) (directories_of_rename from.now to.now) }
     ensures reading { OnlyReadsThreadAndReportsErrors thread.old thread.new result }
 {
@@ -189,6 +192,7 @@ fn look_up_both_rename_paths<D: BlockDevice>(
     requires { IsSoundThreadWithRoot thread.old root true }
     ensures found { IfOk result (HasFoundBothRenamePaths (tree_on_disk thread.old.kept.disk thread.old.kept.pairs) from.now to.now) }
     ensures targets { IfOk result (λ found. IfSome found.targets (AreRenameTargets thread.old.kept from.now to.now)) }
+    ensures handed_on { gstate_of thread.old.kept.pairs ≡ zero_gstate → IfOk result (λ found. IsSome found.targets) }
     ensures few { reads thread.new.kept.history ≤ reads thread.old.kept.history + sum_by (pair_count_of_directory_at thread.old.kept.pairs) (directories_of_rename from.now to.now) }
     ensures reading { OnlyReadsThreadAndReportsErrors thread.old thread.new result }
 {
@@ -218,6 +222,7 @@ impl<D: BlockDevice> Tree<D> {
         ensures asks { IsReadOnlyCall self.old result self.new }
         ensures found { IfOk result (HasFoundBothRenamePaths (tree_view self.old) from.now to.now) }
         ensures targets { IfOk result (λ found. IfSome found.targets (AreRenameTargets (kept_of self.new) from.now to.now)) }
+        ensures handed_on { gstate_of self.old.pairs ≡ zero_gstate → IfOk result (λ found. IsSome found.targets) }
         ensures few { reads self.new.history ≤ reads self.old.history + sum_by (pair_count_of_directory_at self.old.pairs) (directories_of_rename from.now to.now) }
     {
         let found = look_up_both_rename_paths(alloc, &mut self.thread, self.root, from, to);

@@ -1,5 +1,6 @@
 use Rattle.std.proofs.Common.{◌≡◌, ◌<◌, ◌∙◌, ◌++◌, ◌∷◌, ◌-◌, [], Err, List, Some, ap, arith, false, length, length-append, refl, subst, subst₂, sym, take}
 use Rattle.std.proofs.lemmas.List.{length-replicate}
+use Rattle.std.proofs.lemmas.Option.{slice_get_within}
 use Rattle.std.proofs.lemmas.Result.{err_from_is_err_and}
 use Rattle.lfs_model.specs.Disk.{Disk}
 use Rattle.lfs_model.specs.Thread.{Pair, gstate_of}
@@ -10,13 +11,13 @@ use Rattle.lfs_tree.specs.Orphans.{BranchesBeginInThread, HasMarkedReachedPairs,
 use Rattle.lfs_tree.proofs.Reached.{IsMarking, first_begin, marked_within, marking_begun, marking_on, next_marked, reach_marks}
 use Rattle.lfs_lookup.proofs.Reading.{answered, answers, begun, both, further, lacks_memory, passed}
 use Rattle.lfs_lookup.proofs.Roots.{root_begins}
-use Rattle.lfs_lookup.proofs.Directories.{within}
 use Rattle.lfs_tree.proofs.orphans.mark_reached_directories.Goals as goal
 
 pub mark-requires : goal.mark-requires
 mark-requires g c =
     let ps = c.args.thread.now.kept.pairs in
-    let l = within ps _ _ (root_begins c.args.thread.now.kept.disk ps c.requires.accepted) in
+    let root = root_begins c.args.thread.now.kept.disk ps c.requires.accepted in
+    let l = slice_get_within ps _ root.pair root.there in
     let e = c.requires.root in
     let s = c.len.ensures in
     let r = ap length c.in_ok-marks.ensures in

@@ -1,11 +1,12 @@
 use Rattle.std.proofs.Common.{ap, arith, length}
+use Rattle.std.proofs.lemmas.Option.{slice_get_within}
 use Rattle.lfs_lookup.proofs.Roots.{root_begins}
-use Rattle.lfs_lookup.proofs.Directories.{within}
 use Rattle.lfs_tree.proofs.orphans.unreached.Goals as goal
 
 pub numbers_of_unmarked_directories-requires-clause-few : goal.numbers_of_unmarked_directories-requires-clause-few
 numbers_of_unmarked_directories-requires-clause-few g c =
-    let l = within c.args.thread.now.kept.pairs _ _ (root_begins c.args.thread.now.kept.disk c.args.thread.now.kept.pairs c.requires.accepted) in
+    let root = root_begins c.args.thread.now.kept.disk c.args.thread.now.kept.pairs c.requires.accepted in
+    let l = slice_get_within c.args.thread.now.kept.pairs _ root.pair root.there in
     let e = c.requires.root in
     let s = ap length c.mark_reached_directories.ensures.reading.only.pairs in
     omega (arith, l, e, s)

@@ -1,4 +1,5 @@
 use Rattle.std.proofs.Common.{◌++◌, ◌∷◌, [], arith, refl, subst, true, ◌≡◌}
+use Rattle.std.proofs.lemmas.List.Sums.{sum_by-append, sum_by-cons}
 use Rattle.std.proofs.lemmas.Result.{err_from_is_err_and}
 use Rattle.lfs_model.specs.Frame.{pair_count_of_directory_at, parents}
 use Rattle.lfs_model.specs.TreeEdits.{attributes_of_node}
@@ -8,7 +9,6 @@ use Rattle.lfs_lookup.specs.Finds.{IsFoundNodeAtPath, has_entry_beneath_path}
 use Rattle.lfs_lookup.proofs.ReadOnly.{only_read}
 use Rattle.lfs_lookup.proofs.Reading.{answered, answers, both, further, passed}
 use Rattle.lfs_tree.proofs.Asking.{rooted}
-use Rattle.lfs_lookup.proofs.ShownFindings.{few_own}
 use Rattle.lfs_tree.proofs.RenamePaths.{few_since, same_tree, sum_of_rename}
 use Rattle.lfs_tree.proofs.rename_paths.show_both_rename_paths.Goals as goal
 
@@ -38,9 +38,10 @@ returns-in_err-target-clause-few g c =
     let count = pair_count_of_directory_at t.pairs in
     let one = c.find_node_at_path.ensures.few in
     let two = few_since t c.find_node_at_path.new.thread.kept (parents c.args.to.now ++ c.args.to.now ∷ []) _ c.find_node_at_path.ensures.reading.only c.look_inside_at.ensures.few in
-    let s = few_own count c.args.to.now in
+    let s = sum_by-append count (parents c.args.to.now) (c.args.to.now ∷ []) in
+    let own = sum_by-cons count c.args.to.now [] in
     let k = sum_of_rename count c.args.from.now c.args.to.now in
-    omega (arith, one, two, s, k)
+    omega (arith, one, two, s, own, k)
 
 pub returns-in_err-attributes_size-clause-few : goal.returns-in_err-attributes_size-clause-few
 returns-in_err-attributes_size-clause-few g c =
@@ -49,9 +50,10 @@ returns-in_err-attributes_size-clause-few g c =
     let one = c.find_node_at_path.ensures.few in
     let two = few_since t c.find_node_at_path.new.thread.kept (parents c.args.to.now ++ c.args.to.now ∷ []) _ c.find_node_at_path.ensures.reading.only c.look_inside_at.ensures.few in
     let three = few_since t c.look_inside_at.new.thread.kept (parents c.args.from.now) _ (only_read t c.find_node_at_path.new.thread.kept c.look_inside_at.new.thread.kept c.find_node_at_path.ensures.reading.only c.look_inside_at.ensures.reading.only) c.attributes_size_at.ensures.few in
-    let s = few_own count c.args.to.now in
+    let s = sum_by-append count (parents c.args.to.now) (c.args.to.now ∷ []) in
+    let own = sum_by-cons count c.args.to.now [] in
     let k = sum_of_rename count c.args.from.now c.args.to.now in
-    omega (arith, one, two, three, s, k)
+    omega (arith, one, two, three, s, own, k)
 
 pub returns-in_err-target-clause-reading : goal.returns-in_err-target-clause-reading
 returns-in_err-target-clause-reading g c =
@@ -88,9 +90,10 @@ returns-clause-few g c =
     let one = c.find_node_at_path.ensures.few in
     let two = few_since t c.find_node_at_path.new.thread.kept (parents c.args.to.now ++ c.args.to.now ∷ []) _ c.find_node_at_path.ensures.reading.only c.look_inside_at.ensures.few in
     let three = few_since t c.look_inside_at.new.thread.kept (parents c.args.from.now) _ (only_read t c.find_node_at_path.new.thread.kept c.look_inside_at.new.thread.kept c.find_node_at_path.ensures.reading.only c.look_inside_at.ensures.reading.only) c.attributes_size_at.ensures.few in
-    let s = few_own count c.args.to.now in
+    let s = sum_by-append count (parents c.args.to.now) (c.args.to.now ∷ []) in
+    let own = sum_by-cons count c.args.to.now [] in
     let k = sum_of_rename count c.args.from.now c.args.to.now in
-    omega (arith, one, two, three, s, k)
+    omega (arith, one, two, three, s, own, k)
 
 pub returns-clause-reading : goal.returns-clause-reading
 returns-clause-reading g c =

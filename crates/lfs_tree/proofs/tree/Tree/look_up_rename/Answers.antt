@@ -2,6 +2,7 @@ use Rattle.std.proofs.Common.{◌≤◌, ◌+◌, ap, subst, sym, ◌∙◌}
 use Rattle.std.specs.Prelude.{IfOk, IfSome, sum_by}
 use Rattle.lfs_model.specs.Frame.{pair_count_of_directory_at}
 use Rattle.lfs_model.specs.History.{reads}
+use Rattle.lfs_model.specs.Thread.{gstate_of}
 use Rattle.lfs_thread.specs.Kept.{ThreadView}
 use Rattle.lfs_tree.specs.RootedThreads.{IsSoundThreadWithRoot}
 use Rattle.lfs_tree.specs.RenamePaths.{AreRenameTargets, directories_of_rename}
@@ -27,6 +28,9 @@ pub returns-clause-targets : goal.returns-clause-targets
 returns-clause-targets g c =
     subst (λ (t : ThreadView). IfOk c.look_up_both_rename_paths-found.result (λ found. IfSome found.targets (AreRenameTargets t.kept c.args.from.now c.args.to.now))) (sym c.mark_thread_failed_on_error.ensures)
     (found_since c.self.inside.thread.kept c.look_up_both_rename_paths-found.new.thread.kept c.args.from.now c.args.to.now c.look_up_both_rename_paths-found.result c.look_up_both_rename_paths-found.ensures.reading.only c.look_up_both_rename_paths-found.ensures.targets)
+
+pub returns-clause-handed_on : goal.returns-clause-handed_on
+returns-clause-handed_on g c = λ settled. c.look_up_both_rename_paths-found.ensures.handed_on (ap (λ (s : TreeState). gstate_of s.pairs) c.self.view_is ∙ settled)
 
 pub returns-clause-few : goal.returns-clause-few
 returns-clause-few g c =

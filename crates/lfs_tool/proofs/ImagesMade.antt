@@ -4,7 +4,7 @@ use Rattle.std.specs.Prelude.{Err, IfErr, IfSome, IsErrAnd, Ok, Result, ◌≢�
 use Rattle.lfs_device.specs.declared.error.Error.{Error}
 use Rattle.lfs_device.specs.declared.error.Error.TheVariants.{NoMemory}
 use Rattle.std.proofs.lemmas.Nat.{div-mul-add, mod-mul-add}
-use Rattle.lfs_device.specs.RamDevice.{ram_blocks, bytes_of, geometry_of}
+use Rattle.lfs_device.specs.RamDevice.{ram_blocks, ram_bytes, geometry_of}
 use Rattle.lfs_device.specs.Shown as device
 use Rattle.lfs_device.specs.declared.geometry.Geometry.{Geometry}
 use Rattle.lfs_device.specs.declared.ram.RamDevice.{RamDevice}
@@ -42,7 +42,7 @@ begins g d h is fresh state same = record {
   block_size = same.block_size ∙ ap (λ (x : Geometry). x.block_size) is;
   page = same.page ∙ ap (λ (x : Geometry). x.page) is;
   order = same.order;
-  count = same.count ∙ length-cut (geometry_of d).block_size (geometry_of d).block_count (bytes_of d) ∙ ap (λ (x : Geometry). x.block_count) is;
+  count = same.count ∙ length-cut (geometry_of d).block_size (geometry_of d).block_count (ram_bytes d) ∙ ap (λ (x : Geometry). x.block_count) is;
   mounts = state;
 }
 
@@ -71,13 +71,13 @@ some_bytes g = let least : 1024 ≤ g.block_size = g.valid.no_smaller in omega (
 -- what the run left in the device
 pub left : (g : Geometry) (from to : SystemState) (es : List SourceEntry) (d : RamDevice) (bytes : List ℕ) → BeginsOnFreshDisk g from → AreOperationsApplied from (copying_operations_of_entries es) to
     → device.ordered to.disk.order (device.disk_of_geometry_and_blocks (geometry_of d) (ram_blocks d)) ≡ to.disk
-    → bytes ≡ bytes_of d → AreImageBytesOfEntries g es bytes
+    → bytes ≡ ram_bytes d → AreImageBytesOfEntries g es bytes
 left g from to es d bytes b c shown is =
     let same = session_steps_geometry (copying_operations_of_entries es) c.replies from to c.session_steps in
     let size : (geometry_of d).block_size ≡ g.block_size = ap (λ (k : Disk). k.block_size) shown ∙ same.block_size ∙ b.block_size in
     let page : (geometry_of d).page ≡ g.page = ap (λ (k : Disk). k.page) shown ∙ same.page ∙ b.page in
     let order : to.disk.order ≡ g.order = same.order ∙ b.order in
-    let count : (geometry_of d).block_count ≡ g.block_count = sym (length-cut (geometry_of d).block_size (geometry_of d).block_count (bytes_of d)) ∙ ap block_count shown ∙ same.count ∙ b.count in
+    let count : (geometry_of d).block_count ≡ g.block_count = sym (length-cut (geometry_of d).block_size (geometry_of d).block_count (ram_bytes d)) ∙ ap block_count shown ∙ same.count ∙ b.count in
     let len : length bytes ≡ g.block_size * g.block_count = ap length is ∙ d.size ∙ ap₂ (λ x y. x * y) size count in
     let blocks : (geometry_of d).block_count ≡ length bytes / g.block_size = count ∙ sym (count_of g.block_size g.block_count bytes (some_bytes g) len) in
     record {
@@ -86,7 +86,7 @@ left g from to es d bytes b c shown is =
       to = to;
       carried = c;
       len = len;
-      disk = sym shown ∙ (λ j. record { block_size = size j; page = page j; order = order j; blocks = cut (size j) (geometry_of d).block_count (bytes_of d) })
+      disk = sym shown ∙ (λ j. record { block_size = size j; page = page j; order = order j; blocks = cut (size j) (geometry_of d).block_count (ram_bytes d) })
           ∙ ap₂ (λ n xs. record { block_size = g.block_size; page = g.page; order = g.order; blocks = cut g.block_size n xs }) blocks (sym is);
     }
 

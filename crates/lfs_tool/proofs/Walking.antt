@@ -111,7 +111,7 @@ kinds_within s folder within w =
 -- ---- the walk
 
 record IsWalked (tree : Tree) (qs : List Path) (es : List SourceEntry) : Type 0 where
-  entries : List listing.Entry
+  entries : List listing.PathAndNode
   walk : IsDepthFirstWalk tree qs entries
   same : flat_map copying_operations_of_entry es ≡ flat_map listing.copy_operations_of_entry entries
 

@@ -19,7 +19,7 @@ use Rattle.lfs_tool.specs.CheckResults.{IsCheckResultOfBytes}
 use Rattle.lfs_tool.specs.CheckedLines.{check_result_text}
 use Rattle.lfs_tool.specs.KnownBytes.{AppendsBeginningOfBytes}
 use Rattle.lfs_tool.specs.Needed.{IsJustEnoughBlocksForEntries}
-use Rattle.lfs_tool.specs.RequestedSizes.{IsErrorOfLineWithoutGeometry}
+use Rattle.lfs_tool.specs.RequestedSizes.{IsErrorWhereNoGeometryHasSizes}
 use Rattle.lfs_tool.specs.RunsAtPaths.{HasFaultAtPath, FailsToReadFolder, IsTrueAtPath, IsTrueForMode}
 use Rattle.lfs_tool.specs.declared.needed_blocks.NeededBlocks.{NeededBlocks}
 use Rattle.lfs_tool.specs.declared.errors.Fault.{Fault}
@@ -119,7 +119,7 @@ FailsToReadImage path_of faults line Output = ⊥
 -- memory isn't granted, no image has the line's sizes, or the folder fails where it is read again
 abbrev pub FailsToCountNeededBlocks : {F : Type 0} → (F → List ℕ) → (F → ℕ) → (F → Option Source) → Line → List ℕ → ToolError → Type 0
 FailsToCountNeededBlocks folder_of faults shown line folder Input = FailsToReadFolder folder_of faults shown folder
-FailsToCountNeededBlocks folder_of faults shown line folder (Fs e) = (e ≡ fs.NoMemory) ⊎ IsErrorOfLineWithoutGeometry line e
+FailsToCountNeededBlocks folder_of faults shown line folder (Fs e) = (e ≡ fs.NoMemory) ⊎ IsErrorWhereNoGeometryHasSizes line e
 FailsToCountNeededBlocks folder_of faults shown line folder Output = ⊥
 
 -- The second error comes in place of an explanation of the first. Only what is read again can fail: an image that is there, or the

@@ -15,6 +15,6 @@ pub record HasSizesOfLine (line : Line) (g : Geometry) : Type 0 where
   pub whole : line.size % line.block_size ≡ 0
 
 -- why no geometry has them
-pub record IsErrorOfLineWithoutGeometry (line : Line) (e : Error) : Type 0 where
+pub record IsErrorWhereNoGeometryHasSizes (line : Line) (e : Error) : Type 0 where
   pub error : e ≡ Invalid
   pub none : line.size % line.block_size ≡ 0 → ¬ IsValidGeometry line.block_size line.page (line.size / line.block_size)

@@ -9,13 +9,13 @@ use Rattle.lfs_tool.specs.Reports.{HasShownOneValue}
 use Rattle.lfs_tool.specs.declared.writer.ToolOutput.{Ghosts}
 
 -- the words are a command line
-abbrev pub AreWordsOfCommandLine : List (List ℕ) → Type 0
-AreWordsOfCommandLine words = ParserTakesWords words × HasOneMode (rows words) × HasValidNameOrder (rows words)
+abbrev pub AreWordsOfValidCommandLine : List (List ℕ) → Type 0
+AreWordsOfValidCommandLine words = ParserTakesWords words × HasOneMode (rows words) × HasValidNameOrder (rows words)
 
 -- a fault that a run of these words may end in: of the line as the parser decides, and of the tool only where there is a line
 abbrev pub IsFailureOfWords : List (List ℕ) → Fault → Type 0
 IsFailureOfWords words (Line e) = IsLineErrorOfWords words e
-IsFailureOfWords words (Tool e) = AreWordsOfCommandLine words
+IsFailureOfWords words (Tool e) = AreWordsOfValidCommandLine words
 
 -- The fault is shown: the run has its status. Unless the writer failed, the fault's own line or the parser's text was written and
 -- flushed. Help is no fault.
@@ -33,5 +33,5 @@ status_without_failure false = 1
 -- the request is done, as it ends then, and no error is written; or a fault is shown, and `follows` says what comes after it
 abbrev pub IsRequestAnswered : {W : Type 0} → Ghosts W → List (List ℕ) → (Bool → Type 0) → (Fault → W → W → Type 0) → ℕ → W → W → Type 0
 IsRequestAnswered g words ends follows code old new =
-    (AreWordsOfCommandLine words × ((accepted : Bool) × ((code ≡ status_without_failure accepted) × ends accepted)) × (new ≡ old))
+    (AreWordsOfValidCommandLine words × ((accepted : Bool) × ((code ≡ status_without_failure accepted) × ends accepted)) × (new ≡ old))
     ⊎ ((f : Fault) × (shown : _) × (IsFailureOfWords words f × IsFailureShown g f code old shown × follows f shown new))

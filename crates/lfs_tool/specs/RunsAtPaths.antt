@@ -14,7 +14,7 @@ use Rattle.lfs_tool_line.specs.declared.line.Line.{Line}
 use Rattle.lfs_tool_line.specs.declared.line.Mode.{Mode}
 use Rattle.lfs_tool_line.specs.declared.line.Mode.TheVariants as mode
 use Rattle.lfs_tool_folders.specs.Entries.{HasOneFaultMoreOr, HasFolderWithBadNames}
-use Rattle.lfs_tool.specs.RequestedSizes.{IsErrorOfLineWithoutGeometry, HasSizesOfLine}
+use Rattle.lfs_tool.specs.RequestedSizes.{IsErrorWhereNoGeometryHasSizes, HasSizesOfLine}
 
 -- this holds of something at the path
 abbrev pub IsTrueAtPath : {X : Type 0} → (X → List ℕ) → List ℕ → (X → Type 0) → Type 0
@@ -71,7 +71,7 @@ RefusesToListAtPath path_of bytes line e = IsTrueAtPath path_of line.image.now (
 -- no image has the line's sizes, or what the folder shows is refused so
 abbrev pub RefusesToMakeImage : {F : Type 0} → (F → List ℕ) → (F → ℕ) → (F → Option Source) → Line → Error → List ℕ → Type 0
 RefusesToMakeImage folder_of limit_of shown line e folder =
-    IsErrorOfLineWithoutGeometry line e ⊎ IsTrueAtPath folder_of folder (λ f. (limit_of f ≡ line.size) × ((g : _) × (HasSizesOfLine line g × RefusesCopyOfSource g (shown f) e)))
+    IsErrorWhereNoGeometryHasSizes line e ⊎ IsTrueAtPath folder_of folder (λ f. (limit_of f ≡ line.size) × ((g : _) × (HasSizesOfLine line g × RefusesCopyOfSource g (shown f) e)))
 
 -- the file or folder at the path fails
 abbrev pub HasFaultAtPath : {X : Type 0} → (X → List ℕ) → (X → ℕ) → List ℕ → Type 0

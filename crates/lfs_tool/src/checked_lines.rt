@@ -207,7 +207,11 @@ fn push_slot_message(
 }
 
 // Adds the words for a slot with a name.
-fn push_named_slot_message(text: &mut Vec<u8>, place: &Place, says: &str) -> Result<(), AllocError>
+fn push_named_slot_message(
+    text: &mut Vec<u8>,
+    place: &NamedSlot,
+    says: &str,
+) -> Result<(), AllocError>
     ensures { OnOk result (text.new.items ≡ text.old.items ++ (named_slot_text place.now ++ says.now)) }
 {
     push_named_slot(text, place)?;

@@ -5,7 +5,7 @@ ghost use Rattle.lfs_tool.specs.MadeImages.{AreImageBytesOfEntries, BeginsOnFres
 ghost use Rattle.lfs_tool_folders.specs.Entries.{AreAllEntriesOfSource};
 
 use crate::source_entries::carry_over;
-use crate::{ToolError, ToolOutput, write_bytes_and_flush};
+use crate::{FollowsProgress, ToolError, ToolOutput, write_bytes_and_flush};
 use lfs_device::{Error, Geometry, RamDevice};
 use lfs_fs::{Session, format_ordered};
 use lfs_tool_folders::{Source, SourceEntry, SourceError, read_tree};
@@ -41,16 +41,17 @@ fn begin(alloc: Global, geometry: Geometry) -> Result<Session<RamDevice>, Error>
 }
 
 // Makes the image that holds these entries.
-pub(crate) fn image_bytes_of_entries(
+pub(crate) fn image_bytes_of_entries<F: FollowsProgress>(
     alloc: Global,
     geometry: Geometry,
     entries: &[SourceEntry],
+    progress: &mut F,
 ) -> Result<Vec<u8>, Error>
     ensures ok { IfOk result (λ v. AreImageBytesOfEntries geometry entries.now v.items) }
     ensures err { IfErr result (λ e. e ≢ Error.NoMemory → RefusesCopyOfEntries geometry entries.now e) }
 {
     let mut session = begin(alloc, geometry)?;
-    carry_over(alloc, &mut session, entries)?;
+    carry_over(alloc, &mut session, entries, progress)?;
     Ok(session.unmount().to_bytes())
 }
 
@@ -58,7 +59,8 @@ pub(crate) fn image_bytes_of_entries(
 /// the geometry's order. All of the source is read first. Its entries are then copied into an empty
 /// file system, depth first and in name order, the shorter names first. A folder is made. A file is
 /// opened to create it, its bytes are written at once, and it is closed. Nothing is written where
-/// one of these operations is refused. The writer is flushed at the end.
+/// one of these operations is refused. The writer is flushed at the end. `progress` is told the files and
+/// bytes of the whole, and of each entry that is copied.
 ///
 /// # Errors
 /// - `Input` where the source couldn't be read, or a name in a folder of it is given twice or isn't
@@ -68,16 +70,17 @@ pub(crate) fn image_bytes_of_entries(
 ///   more than 2147483647.
 /// - `Fs(NoMemory)` where memory isn't granted.
 /// - `Output` where the writer failed. What was written is then a beginning of the image.
-pub fn create<S: Source, W: ToolOutput>(
+pub fn create<S: Source, W: ToolOutput, F: FollowsProgress>(
     alloc: Global,
     source: &mut S,
     geometry: Geometry,
     out: &mut W,
+    progress: &mut F,
 ) -> Result<(), ToolError>
     ensures ok { OnOk result (HasWrittenImageOfSource geometry (S.shown source.old) (W.contents out.old) (W.contents out.new)) }
 
     // The writer isn't called, unless it fails: then a beginning of the image may be written.
-    ensures writer { ReportsWriterFaults W.Writer out.old out.new result }
+    ensures writer { ReportsWriterFaults W.ToolOutput out.old out.new result }
     ensures beginning { IsErrOf result ToolError.Output
         → HasWrittenBeginningOfImage geometry (S.shown source.old) (W.contents out.old) (W.contents out.new) }
 
@@ -86,7 +89,7 @@ pub fn create<S: Source, W: ToolOutput>(
     ensures source { ReportsSourceFaults (S.faults source.old) (S.faults source.new) (S.shown source.old) result }
 {
     let entries = read_source_entries(alloc, source)?;
-    match image_bytes_of_entries(alloc, geometry, entries.as_slice()) {
+    match image_bytes_of_entries(alloc, geometry, entries.as_slice(), progress) {
         Ok(image) => write_bytes_and_flush(out, image.as_slice()),
         Err(error) => Err(ToolError::Fs(error)),
     }

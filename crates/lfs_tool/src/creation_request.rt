@@ -1,9 +1,9 @@
 ghost use Rattle.std.specs.Prelude.{◌≡◌, ◌≢◌, ◌⊎◌, IsErrOf, OnOk};
 ghost use Rattle.lfs_tool.specs.Reports.{ReportsWriterFaults};
 ghost use Rattle.lfs_tool.specs.MadeImages.{RefusesCopyOfSource, HasWrittenBeginningOfImage, HasWrittenImageOfSource, ReportsSourceFaults};
-ghost use Rattle.lfs_tool.specs.RequestedSizes.{IsErrorOfLineWithoutGeometry, HasSizesOfLine};
+ghost use Rattle.lfs_tool.specs.RequestedSizes.{IsErrorWhereNoGeometryHasSizes, HasSizesOfLine};
 
-use crate::{Line, ToolError, ToolOutput, create, geometry_of_image_sizes};
+use crate::{FollowsProgress, Line, ToolError, ToolOutput, create, geometry_of_image_sizes};
 use lfs_device::Error;
 use lfs_tool_folders::Source;
 use std::alloc::Global;
@@ -14,27 +14,28 @@ use std::alloc::Global;
 /// # Errors
 /// - `Fs(Invalid)` where the image isn't a whole number of blocks, or its geometry is out of range.
 /// - Those of `lfs_tool::create`, at the same times.
-pub fn create_for_command_line<S: Source, W: ToolOutput>(
+pub fn create_for_command_line<S: Source, W: ToolOutput, F: FollowsProgress>(
     alloc: Global,
     line: &Line<'_>,
     source: &mut S,
     out: &mut W,
+    progress: &mut F,
 ) -> Result<(), ToolError>
     ensures ok { OnOk result ((g : _) × (HasSizesOfLine line.now g × HasWrittenImageOfSource g (S.shown source.old) (W.contents out.old) (W.contents out.new))) }
 
     // The writer isn't called, unless it fails: then a beginning of the image may be written.
-    ensures writer { ReportsWriterFaults W.Writer out.old out.new result }
+    ensures writer { ReportsWriterFaults W.ToolOutput out.old out.new result }
     ensures beginning { IsErrOf result ToolError.Output
         → (g : _) × (HasSizesOfLine line.now g × HasWrittenBeginningOfImage g (S.shown source.old) (W.contents out.old) (W.contents out.new)) }
 
     // When each other error comes. The source has a fault at `Input` alone.
     ensures refused { (e : _) → IsErrOf result (ToolError.Fs e) → e ≢ Error.NoMemory
-        → IsErrorOfLineWithoutGeometry line.now e ⊎ ((g : _) × (HasSizesOfLine line.now g × RefusesCopyOfSource g (S.shown source.old) e)) }
+        → IsErrorWhereNoGeometryHasSizes line.now e ⊎ ((g : _) × (HasSizesOfLine line.now g × RefusesCopyOfSource g (S.shown source.old) e)) }
     ensures source { ReportsSourceFaults (S.faults source.old) (S.faults source.new) (S.shown source.old) result }
-    ensures unread { IsErrorOfLineWithoutGeometry line.now Error.Invalid → (source.new ≡ source.old) × IsErrOf result (ToolError.Fs Error.Invalid) }
+    ensures unread { IsErrorWhereNoGeometryHasSizes line.now Error.Invalid → (source.new ≡ source.old) × IsErrOf result (ToolError.Fs Error.Invalid) }
 {
     match geometry_of_image_sizes(line.size, line.block_size, line.page) {
-        Ok(geometry) => create(alloc, source, geometry.ordered(line.order), out),
+        Ok(geometry) => create(alloc, source, geometry.ordered(line.order), out, progress),
         Err(error) => Err(ToolError::Fs(error)),
     }
 }

@@ -51,8 +51,8 @@ pub fn report<O: ToolOutput, E: ToolOutput>(fault: &Fault, out: &mut O, err: &mu
     ensures line { E.faults err.new ≡ E.faults err.old → IfSome (standard_error_line_of_failure fault.now) (λ line. Appends (E.contents err.old) (E.contents err.new) line × (E.pending err.new ≡ 0)) }
 
     // The parser's text is shown, and flushed.
-    ensures help { is_failure_for_help fault.now ≡ true → HasShownOneValue O.Writer out.old out.new }
-    ensures text { standard_error_line_of_failure fault.now ≡ None → is_failure_for_help fault.now ≡ false → HasShownOneValue E.Writer err.old err.new }
+    ensures help { is_failure_for_help fault.now ≡ true → HasShownOneValue O.ToolOutput out.old out.new }
+    ensures text { standard_error_line_of_failure fault.now ≡ None → is_failure_for_help fault.now ≡ false → HasShownOneValue E.ToolOutput err.old err.new }
 {
     match fault {
         Fault::Line(LineError::Modes) => say(err, "error: give exactly one of -c, -u, -l\n", 2),

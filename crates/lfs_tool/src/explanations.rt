@@ -167,7 +167,7 @@ fn explain_error<P: Places, E: ToolOutput>(
     error: ToolError,
     err: &mut E,
 )
-    ensures { (err.new ≡ err.old) ⊎ WritesExplanation P.image_path P.Image.remaining P.folder_path P.folder_limit P.Folder.shown E.Writer line.now error err.old err.new }
+    ensures { (err.new ≡ err.old) ⊎ WritesExplanation P.image_path P.Image.remaining P.folder_path P.folder_limit P.Folder.shown E.ToolOutput line.now error err.old err.new }
 {
     let Ok(explanation) = explanation_of_error(alloc, places, line, error) else {
         return;
@@ -186,7 +186,7 @@ pub(crate) fn explain<P: Places, E: ToolOutput>(
     fault: &Fault,
     err: &mut E,
 )
-    ensures { IsFollowed P.image_path P.Image.remaining P.folder_path P.folder_limit P.Folder.shown E.Writer (map string_bytes words.now) fault.now err.old err.new }
+    ensures { IsFollowed P.image_path P.Image.remaining P.folder_path P.folder_limit P.Folder.shown E.ToolOutput (map string_bytes words.now) fault.now err.old err.new }
 {
     let Fault::Tool(error) = fault else {
         return;

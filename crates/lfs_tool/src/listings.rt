@@ -114,7 +114,7 @@ pub fn list<R: ImageInput, W: ToolOutput>(
         (text : _) × (ListsImage block_size page bytes text × Appends (W.contents out.old) (W.contents out.new) text))) }
 
     // The writer isn't called, unless it fails: then a beginning of the lines may be written.
-    ensures writer { ReportsWriterFaults W.Writer out.old out.new result }
+    ensures writer { ReportsWriterFaults W.ToolOutput out.old out.new result }
     ensures beginning { IsErrOf result ToolError.Output → IfSome (R.remaining image.old) (λ bytes.
         (text : _) × (ListsImage block_size page bytes text × AppendsBeginningOfBytes (W.contents out.old) (W.contents out.new) text)) }
 

@@ -19,7 +19,7 @@ fn list_at<P: Places, W: ToolOutput>(
     out: &mut W,
 ) -> Result<(), ToolError>
     ensures listed { OnOk result (ListsImageAtPath P.image_path P.Image.remaining line.now (W.contents out.old) (W.contents out.new)) }
-    ensures writer { ReportsWriterFaults W.Writer out.old out.new result }
+    ensures writer { ReportsWriterFaults W.ToolOutput out.old out.new result }
     ensures refused { (e : _) → IsErrOf result (ToolError.Fs e) → e ≢ Error.NoMemory → RefusesToListAtPath P.image_path P.Image.remaining line.now e }
     ensures input { IsErrOf result ToolError.Input → HasFaultAtPath P.image_path P.Image.faults line.now.image.now }
 {
@@ -37,7 +37,7 @@ fn check_image_at_path<P: Places, W: ToolOutput>(
     out: &mut W,
 ) -> Result<bool, ToolError>
     ensures checked { IfOk result (λ accepted. ChecksImageAtPath P.image_path P.Image.remaining line.now accepted (W.contents out.old) (W.contents out.new)) }
-    ensures writer { ReportsWriterFaults W.Writer out.old out.new result }
+    ensures writer { ReportsWriterFaults W.ToolOutput out.old out.new result }
     ensures refused { (e : _) → IsErrOf result (ToolError.Fs e) → e ≡ Error.NoMemory }
     ensures input { IsErrOf result ToolError.Input → HasFaultAtPath P.image_path P.Image.faults line.now.image.now }
 {
@@ -61,7 +61,8 @@ fn create_image_at_path<P: Places>(
 {
     let mut source = places.folder(folder, line.size)?;
     let mut image = places.new_image(line.image)?;
-    create_for_command_line(alloc, line, &mut source, &mut image)
+    let mut progress = places.progress();
+    create_for_command_line(alloc, line, &mut source, &mut image, &mut progress)
 }
 
 // Unpacks the image into a folder.
@@ -78,7 +79,8 @@ fn unpack_image_at_path<P: Places>(
 {
     let mut image = places.image(line.image)?;
     let mut target = places.new_folder(folder)?;
-    unpack_for_command_line(alloc, line, &mut image, &mut target)
+    let mut progress = places.progress();
+    unpack_for_command_line(alloc, line, &mut image, &mut target, &mut progress)
 }
 
 // Does what a command line requests. Returns false where it is a check, of an image that isn't
@@ -89,7 +91,7 @@ pub(crate) fn carry_out<P: Places, W: ToolOutput>(
     line: &Line<'_>,
     out: &mut W,
 ) -> Result<bool, ToolError>
-    ensures writer { is_mode_that_writes_lines line.now.mode ≡ true → ReportsWriterFaults W.Writer out.old out.new result }
+    ensures writer { is_mode_that_writes_lines line.now.mode ≡ true → ReportsWriterFaults W.ToolOutput out.old out.new result }
     ensures unlisted { is_mode_that_writes_lines line.now.mode ≡ false → out.new ≡ out.old }
     ensures done { IfOk result (λ accepted. IsAcceptedUnlessCheck line.now.mode accepted × IsTrueForMode line.now.mode
         (ListsImageAtPath P.image_path P.Image.remaining line.now (W.contents out.old) (W.contents out.new) × (W.pending out.new ≡ 0))

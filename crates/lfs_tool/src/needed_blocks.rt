@@ -28,7 +28,7 @@ fn has_room_for_entries(
     ensures small { IfOk result (λ has_room_for_entries. has_room_for_entries ≡ false → IsTooFewBlocksForEntries line.now entries.now count) }
 {
     let geometry = Geometry::new(line.block_size, line.page, count)?;
-    match image_bytes_of_entries(alloc, geometry.ordered(line.order), entries) {
+    match image_bytes_of_entries(alloc, geometry.ordered(line.order), entries, &mut ()) {
         Ok(_image) => Ok(true),
         Err(Error::NoSpace) => Ok(false),
         Err(error) => Err(error),

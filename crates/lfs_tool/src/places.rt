@@ -1,6 +1,6 @@
 ghost use Rattle.std.specs.Prelude.{◌≡◌, ℕ, IfErr, IfOk, List};
 
-use crate::{ImageInput, ToolOutput};
+use crate::{FollowsProgress, ImageInput, ToolOutput};
 use lfs_device::Error;
 use lfs_tool_folders::{PathFault, Source, Target};
 
@@ -19,6 +19,9 @@ pub trait Places {
 
     /// A folder into which an image is unpacked.
     type NewFolder: Target + Drop;
+
+    /// What follows how far an image is made or unpacked.
+    type Progress: FollowsProgress + Drop;
 
     // The path of each kind of file and folder.
     ghost image_path: { Self.Image → List ℕ };
@@ -52,6 +55,9 @@ pub trait Places {
     fn new_folder(&self, path: &str) -> Result<Self::NewFolder, Error>
         ensures path { IfOk result (λ f. new_folder_path f ≡ path.now) }
         ensures err { IfErr result (λ e. e ≡ Error.NoMemory) };
+
+    /// Returns what follows how far the work is that begins now.
+    fn progress(&self) -> Self::Progress;
 
     /// Returns the first fault that one of these met since the last call, where one is known, and forgets
     /// it. No contract says which it is.

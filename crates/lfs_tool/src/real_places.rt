@@ -4,13 +4,14 @@ ghost use Rattle.lfs_tool.specs.Paths.{old_path};
 ghost use Rattle.lfs_tool.specs.StandardStreams.{is_standard_stream, is_path_of_standard_stream, path_of_file_or_standard};
 
 use crate::file_or_standard::names_standard;
-use crate::{FileOrStandard, NewImage, Noted, OldImage, Places, Watched};
+use crate::{FileOrStandard, NewImage, Noted, OldImage, Places, Progress, Watched};
 use lfs_device::Error;
 use lfs_tool_folders::{FaultLog, Folder, PathFault, TargetFolder};
 use std::alloc::AllocError;
 use std::cell::Cell;
 use std::io::{BufReader, Read, Write};
 use std::rt::Files;
+use std::time::Clock;
 
 // How many bytes of an image are read at once.
 const READ_AHEAD: usize = 65_536;
@@ -19,27 +20,39 @@ const READ_AHEAD: usize = 65_536;
 /// these two is used once: the image of a second call fails. What files, folders and streams meet is
 /// noted in a log.
 #[derive(Drop)]
-pub struct RealPlaces<'a, R, I, O> {
+pub struct RealPlaces<'a, R, I, O, E, C> {
     rt: &'a R,
     log: &'a FaultLog,
     // The standard streams, until they are used.
     input: Cell<Option<I>>,
     output: Cell<Option<O>>,
+    // A terminal and a clock, if it is told how far the work is.
+    terminal: Option<(E, C)>,
 }
 
-impl<'a, R: Files + AllocGlobal + Clone + Drop, I: Read + Drop, O: Write + Drop> RealPlaces<
-    'a,
-    R,
-    I,
-    O,
-> {
-    /// Makes the places of a runtime, with its standard input and output.
-    pub fn new(rt: &'a R, log: &'a FaultLog, input: I, output: O) -> RealPlaces<'a, R, I, O> {
+impl<'a, R, I, O, E, C> RealPlaces<'a, R, I, O, E, C>
+where
+    R: Files + AllocGlobal + Clone + Drop,
+    I: Read + Drop,
+    O: Write + Drop,
+    E: Write + Copy + Drop,
+    C: Clock + Copy + Drop,
+{
+    /// Makes the places of a runtime, with its standard input and output, and with the terminal and the clock
+    /// of a line that says how far the work is, if there is to be one.
+    pub fn new(
+        rt: &'a R,
+        log: &'a FaultLog,
+        input: I,
+        output: O,
+        terminal: Option<(E, C)>,
+    ) -> RealPlaces<'a, R, I, O, E, C> {
         RealPlaces {
             rt,
             log,
             input: Cell::new(Some(input)),
             output: Cell::new(Some(output)),
+            terminal,
         }
     }
 
@@ -71,8 +84,14 @@ impl<'a, R: Files + AllocGlobal + Clone + Drop, I: Read + Drop, O: Write + Drop>
     }
 }
 
-impl<'a, R: Files + AllocGlobal + Clone + Drop, I: Read + Drop, O: Write + Drop> Places
-    for RealPlaces<'a, R, I, O> {
+impl<'a, R, I, O, E, C> Places for RealPlaces<'a, R, I, O, E, C>
+where
+    R: Files + AllocGlobal + Clone + Drop,
+    I: Read + Drop,
+    O: Write + Drop,
+    E: Write + Copy + Drop,
+    C: Clock + Copy + Drop,
+{
     ghost use Rattle.lfs_tool_folders.specs.Roots.{folder_root, file_size_read_limit, target_root};
     ghost use Rattle.lfs_tool.specs.Paths.{path_of_new_image, path_of_old_image};
 
@@ -83,6 +102,8 @@ impl<'a, R: Files + AllocGlobal + Clone + Drop, I: Read + Drop, O: Write + Drop>
     type Folder = Folder<'a, R>;
 
     type NewFolder = TargetFolder<'a, R>;
+
+    type Progress = Option<Progress<E, C>>;
 
     ghost image_path = { path_of_old_image };
 
@@ -123,6 +144,13 @@ impl<'a, R: Files + AllocGlobal + Clone + Drop, I: Read + Drop, O: Write + Drop>
     fn new_folder(&self, path: &str) -> Result<TargetFolder<'a, R>, Error> {
         let folder = TargetFolder::new(self.rt, self.log, path)?;
         Ok(folder)
+    }
+
+    fn progress(&self) -> Option<Progress<E, C>> {
+        match self.terminal {
+            Some((out, clock)) => Some(Progress::new(out, clock)),
+            None => None,
+        }
     }
 
     fn fault(&self) -> Option<PathFault> {

@@ -9,7 +9,7 @@ ghost use Rattle.lfs_tool.specs.CheckResults.{IsCheckResultOfBytes, is_accepted}
 ghost use Rattle.lfs_tool.specs.CheckedLines.{check_result_text};
 ghost use Rattle.lfs_tool.specs.Reports.{IsReadToEndOrPastImageLimit, IsErrorExactlyWithOneFault, ReportsWriterFaults};
 
-use crate::{ImageInput, Line, ToolError, ToolOutput, check, list, unpack};
+use crate::{FollowsProgress, ImageInput, Line, ToolError, ToolOutput, check, list, unpack};
 use lfs_device::Error;
 use lfs_tool_folders::Target;
 use std::alloc::Global;
@@ -28,7 +28,7 @@ pub fn list_for_command_line<R: ImageInput, W: ToolOutput>(
         (text : _) × (ListsImage line.now.block_size line.now.page bytes text × Appends (W.contents out.old) (W.contents out.new) text))) }
 
     // The writer isn't called, unless it fails: then a beginning of the lines may be written.
-    ensures writer { ReportsWriterFaults W.Writer out.old out.new result }
+    ensures writer { ReportsWriterFaults W.ToolOutput out.old out.new result }
     ensures beginning { IsErrOf result ToolError.Output → IfSome (R.remaining image.old) (λ bytes.
         (text : _) × (ListsImage line.now.block_size line.now.page bytes text × AppendsBeginningOfBytes (W.contents out.old) (W.contents out.new) text)) }
 
@@ -56,7 +56,7 @@ pub fn check_for_command_line<R: ImageInput, W: ToolOutput>(
         (checked : _) × (IsCheckResultOfBytes line.now.block_size line.now.page bytes checked × (accepted ≡ is_accepted checked) × Appends (W.contents out.old) (W.contents out.new) (check_result_text checked)))) }
 
     // The writer isn't called, unless it fails: then a beginning of the lines may be written.
-    ensures writer { ReportsWriterFaults W.Writer out.old out.new result }
+    ensures writer { ReportsWriterFaults W.ToolOutput out.old out.new result }
     ensures beginning { IsErrOf result ToolError.Output → IfSome (R.remaining image.old) (λ bytes.
         (checked : _) × (IsCheckResultOfBytes line.now.block_size line.now.page bytes checked × AppendsBeginningOfBytes (W.contents out.old) (W.contents out.new) (check_result_text checked))) }
 
@@ -72,11 +72,12 @@ pub fn check_for_command_line<R: ImageInput, W: ToolOutput>(
 ///
 /// # Errors
 /// Those of `lfs_tool::unpack`, at the same times.
-pub fn unpack_for_command_line<R: ImageInput, T: Target>(
+pub fn unpack_for_command_line<R: ImageInput, T: Target, F: FollowsProgress>(
     alloc: Global,
     line: &Line<'_>,
     image: &mut R,
     target: &mut T,
+    progress: &mut F,
 ) -> Result<(), ToolError>
     ensures done { OnOk result (IfSome (R.remaining image.old) (λ bytes.
         HasUnpackedImage line.now.block_size line.now.page bytes (T.done target.old) (T.done target.new))) }
@@ -92,5 +93,5 @@ pub fn unpack_for_command_line<R: ImageInput, T: Target>(
     ensures read { ¬ IsErrOf result ToolError.Input → ¬ IsErrOf result (ToolError.Fs Error.NoMemory) → IsReadToEndOrPastImageLimit (R.remaining image.old) (R.remaining image.new) }
     ensures output { IsErrorExactlyWithOneFault ToolError.Output (T.faults target.old) (T.faults target.new) result }
 {
-    unpack(alloc, image, line.block_size, line.page, target)
+    unpack(alloc, image, line.block_size, line.page, target, progress)
 }

@@ -10,10 +10,10 @@ ghost use Rattle.lfs_tool.specs.OwnedSlotView.{owned_pairs_view};
 ghost use Rattle.lfs_tool.specs.PairReads.{IsFollowed};
 
 use crate::findings::Finding;
-use crate::heads::finding_on_superblock_chain;
 use crate::owned_parts::OwnedPair;
 use crate::roots::root_of;
 use crate::slots::finding_on_entry_slots;
+use crate::superblock_checks::finding_on_superblock_chain;
 use crate::thread_walk::{FollowedThread, follow};
 use lfs_device::{BlockDevice, Error, Geometry};
 use std::alloc::{AllocError, Global};

@@ -9,6 +9,7 @@ ghost use Rattle.lfs_fs.specs.FlagsView.{flags_view};
 ghost use Rattle.lfs_fs.specs.SessionView.{system_state_of};
 ghost use Rattle.lfs_tool.specs.AppliedOperations.{AreOperationsApplied, AppliesOperationsUntilError, IsHealthyWithoutOpenFile, IsFirstRefusalAmongOperations, copying_operations_of_entry, copying_operations_of_entries};
 
+use crate::{Amount, FollowsProgress};
 use bitflags::Flags;
 use lfs_device::{Error, RamDevice};
 use lfs_fs::{OpenFlags, Session};
@@ -54,23 +55,46 @@ fn copy_entry_into_session(
     }
 }
 
+// Returns what an entry is of the whole.
+fn amount_of(entry: &SourceEntry) -> Amount {
+    match &entry.bytes {
+        Some(bytes) => Amount {
+            files: 1,
+            bytes: bytes.len(),
+        },
+        None => Amount::none(),
+    }
+}
+
+// Returns the whole of all entries.
+fn amount_of_all(entries: &[SourceEntry]) -> Amount {
+    let mut whole = Amount::none();
+    for entry in entries {
+        whole = whole.plus(amount_of(entry));
+    }
+    whole
+}
+
 // Copies the entries in order, up to the first that is refused.
-pub(crate) fn carry_over(
+pub(crate) fn carry_over<F: FollowsProgress>(
     alloc: Global,
     session: &mut Session<RamDevice>,
     entries: &[SourceEntry],
+    progress: &mut F,
 ) -> Result<(), Error>
     requires fresh { IsFreshDisk (system_state_of session.old).disk }
     requires mounts { (system_state_of session.old).state ≡ Healthy (mounted empty_tree) }
     ensures carried { OnOk result (AreOperationsApplied (system_state_of session.old) (copying_operations_of_entries entries.now) (system_state_of session.new)) }
     ensures refused { IfErr result (λ e. e ≢ Error.NoMemory → IsFirstRefusalAmongOperations (system_state_of session.old) (copying_operations_of_entries entries.now) e) }
 {
+    progress.begin(amount_of_all(entries));
     for entry in entries {
         if let Err(error) = copy_entry_into_session(alloc, session, entry) {
             // The device had no fault, so memory ran out where nothing was refused.
             let _device = session.device();
             return Err(error);
         }
+        progress.add(amount_of(entry));
     }
     Ok(())
 }

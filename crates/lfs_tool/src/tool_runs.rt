@@ -2,7 +2,7 @@ ghost use Rattle.std.specs.Prelude.{◌≡◌, ◌≢◌, IfErr, IfOk, IsErrOf, 
 ghost use Rattle.std.specs.IoError.{error_kind};
 ghost use Rattle.std.specs.String.{string_bytes};
 ghost use Rattle.lfs_tool_line.specs.Matches.{IsLineGivenByRows, requests_check, requests_list, rows};
-ghost use Rattle.lfs_tool.specs.RunEnds.{AreWordsOfCommandLine, IsRequestAnswered, IsFailureOfWords, IsFailureShown};
+ghost use Rattle.lfs_tool.specs.RunEnds.{AreWordsOfValidCommandLine, IsRequestAnswered, IsFailureOfWords, IsFailureShown};
 ghost use Rattle.lfs_tool.specs.Explained.{IsFollowed};
 ghost use Rattle.lfs_tool.specs.RunsAtPaths.{IsTrueForMode, ChecksImageAtPath, IsAcceptedUnlessCheck, HasFaultAtPath, FailsToReadFolder, ListsImageAtPath, MakesImageAtPath, RefusesToListAtPath, RefusesToMakeImage, UnpacksImageAtPath};
 
@@ -28,7 +28,7 @@ pub fn run<P: Places, W: ToolOutput>(
     words: &[String],
     out: &mut W,
 ) -> Result<bool, Fault>
-    ensures line { MatchResult result (λ _. AreWordsOfCommandLine (map string_bytes words.now)) (IsFailureOfWords (map string_bytes words.now)) }
+    ensures line { MatchResult result (λ _. AreWordsOfValidCommandLine (map string_bytes words.now)) (IsFailureOfWords (map string_bytes words.now)) }
 
     // `out` isn't called, but by a listing or a check, unless it fails.
     ensures unlisted { requests_list (rows (map string_bytes words.now)) ≡ false → requests_check (rows (map string_bytes words.now)) ≡ false → out.new ≡ out.old }
@@ -91,24 +91,24 @@ pub fn answer<P: Places, O: ToolOutput, E: ToolOutput>(
     out: &mut O,
     err: &mut E,
 ) -> u8
-    ensures answered { IfOk words (λ all. IsRequestAnswered E.Writer (map string_bytes all.items) (λ accepted. (line : _) × (IsLineGivenByRows (rows (map string_bytes all.items)) line × IsAcceptedUnlessCheck line.mode accepted × IsTrueForMode line.mode
+    ensures answered { IfOk words (λ all. IsRequestAnswered E.ToolOutput (map string_bytes all.items) (λ accepted. (line : _) × (IsLineGivenByRows (rows (map string_bytes all.items)) line × IsAcceptedUnlessCheck line.mode accepted × IsTrueForMode line.mode
         (ListsImageAtPath P.image_path P.Image.remaining line (O.contents out.old) (O.contents out.new) × (O.pending out.new ≡ 0))
         (ChecksImageAtPath P.image_path P.Image.remaining line accepted (O.contents out.old) (O.contents out.new) × (O.pending out.new ≡ 0))
         (MakesImageAtPath P.folder_path P.folder_limit P.Folder.shown P.new_image_path P.NewImage.contents P.NewImage.pending line)
         (UnpacksImageAtPath P.image_path P.Image.remaining P.new_folder_path P.NewFolder.done line)))
-        (IsFollowed P.image_path P.Image.remaining P.folder_path P.folder_limit P.Folder.shown E.Writer (map string_bytes all.items)) result err.old err.new) }
-    ensures unlisted { IfOk words (λ all. AreWordsOfCommandLine (map string_bytes all.items) → requests_list (rows (map string_bytes all.items)) ≡ false → requests_check (rows (map string_bytes all.items)) ≡ false → out.new ≡ out.old) }
+        (IsFollowed P.image_path P.Image.remaining P.folder_path P.folder_limit P.Folder.shown E.ToolOutput (map string_bytes all.items)) result err.old err.new) }
+    ensures unlisted { IfOk words (λ all. AreWordsOfValidCommandLine (map string_bytes all.items) → requests_list (rows (map string_bytes all.items)) ≡ false → requests_check (rows (map string_bytes all.items)) ≡ false → out.new ≡ out.old) }
 
     // With words that are a command line, the status 0 comes where its request is done.
-    ensures done { IfOk words (λ all. AreWordsOfCommandLine (map string_bytes all.items) → result ≡ 0 → (line : _) × (IsLineGivenByRows (rows (map string_bytes all.items)) line × IsTrueForMode line.mode
+    ensures done { IfOk words (λ all. AreWordsOfValidCommandLine (map string_bytes all.items) → result ≡ 0 → (line : _) × (IsLineGivenByRows (rows (map string_bytes all.items)) line × IsTrueForMode line.mode
         (ListsImageAtPath P.image_path P.Image.remaining line (O.contents out.old) (O.contents out.new) × (O.pending out.new ≡ 0))
         (ChecksImageAtPath P.image_path P.Image.remaining line true (O.contents out.old) (O.contents out.new) × (O.pending out.new ≡ 0))
         (MakesImageAtPath P.folder_path P.folder_limit P.Folder.shown P.new_image_path P.NewImage.contents P.NewImage.pending line)
         (UnpacksImageAtPath P.image_path P.Image.remaining P.new_folder_path P.NewFolder.done line))) }
 
     // Without words.
-    ensures no_memory { IfErr words (λ e. error_kind e ≡ ErrorKind.OutOfMemory → IsFailureShown E.Writer (Fault.Tool (ToolError.Fs Error.NoMemory)) result err.old err.new) }
-    ensures not_utf8 { IfErr words (λ e. error_kind e ≢ ErrorKind.OutOfMemory → IsFailureShown E.Writer (Fault.Line LineError.NotUtf8) result err.old err.new) }
+    ensures no_memory { IfErr words (λ e. error_kind e ≡ ErrorKind.OutOfMemory → IsFailureShown E.ToolOutput (Fault.Tool (ToolError.Fs Error.NoMemory)) result err.old err.new) }
+    ensures not_utf8 { IfErr words (λ e. error_kind e ≢ ErrorKind.OutOfMemory → IsFailureShown E.ToolOutput (Fault.Line LineError.NotUtf8) result err.old err.new) }
     ensures kept { OnErr words (out.new ≡ out.old) }
 {
     let words = match words {

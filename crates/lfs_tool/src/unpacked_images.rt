@@ -15,7 +15,7 @@ ghost use Rattle.lfs_tool.specs.Reports.{IsReadToEndOrPastImageLimit, IsErrorExa
 
 use crate::image_devices::{items_in_memory, ram_device_of_image};
 use crate::input::read_image;
-use crate::{ImageInput, ToolError};
+use crate::{Amount, FollowsProgress, ImageInput, ToolError};
 use lfs_device::{Error, Ordered, RamDevice};
 use lfs_lookup::{OwnedStruct, TreeItem, contents_of};
 use lfs_thread::Thread;
@@ -82,12 +82,37 @@ fn put_tree_item<T: Target>(
     }
 }
 
+// Returns what an item is of the whole.
+fn amount_of(item: &TreeItem) -> Amount {
+    match &item.structure {
+        OwnedStruct::Inline(bytes) => Amount {
+            files: 1,
+            bytes: bytes.len(),
+        },
+        OwnedStruct::Ctz { size, .. } => Amount {
+            files: 1,
+            bytes: *size as usize,
+        },
+        OwnedStruct::Branch(_) => Amount::none(),
+    }
+}
+
+// Returns the whole of all items.
+fn amount_of_all(items: &[TreeItem]) -> Amount {
+    let mut whole = Amount::none();
+    for item in items {
+        whole = whole.plus(amount_of(item));
+    }
+    whole
+}
+
 // Does the actions of the items, in order.
-fn put_tree_items<T: Target>(
+fn put_tree_items<T: Target, F: FollowsProgress>(
     alloc: Global,
     thread: &mut Thread<Ordered<RamDevice>>,
     items: &[TreeItem],
     target: &mut T,
+    progress: &mut F,
 ) -> Result<(), ToolError>
     requires works { thread.old.failed ≡ false }
     requires lists { HaveWellFormedSkipLists thread.old.kept.disk (tree_items_view items.now) }
@@ -95,35 +120,39 @@ fn put_tree_items<T: Target>(
     ensures begun { OnErr result (HasDoneBeginningOfActions (T.done target.old) (T.done target.new) (actions_for_places thread.old.kept.disk (tree_items_view items.now))) }
     ensures reports { ReportsTargetFaults (T.faults target.old) (T.faults target.new) result }
 {
+    progress.begin(amount_of_all(items));
     for item in items {
         put_tree_item(alloc, thread, item, target)?;
+        progress.add(amount_of(item));
     }
     Ok(())
 }
 
 // Unpacks a device in memory.
-fn unpack_ram_device<T: Target>(
+fn unpack_ram_device<T: Target, F: FollowsProgress>(
     alloc: Global,
     device: RamDevice,
     target: &mut T,
+    progress: &mut F,
 ) -> Result<(), ToolError>
     ensures done { OnOk result (HasUnpackedDisk (shown (geometry_of device) (ram_blocks device)) (T.done target.old) (T.done target.new)) }
     ensures failed { IfErr result (FailsToUnpackDisk (shown (geometry_of device) (ram_blocks device)) (T.done target.old) (T.done target.new)) }
     ensures output { IsErrorExactlyWithOneFault ToolError.Output (T.faults target.old) (T.faults target.new) result }
 {
     match items_in_memory(alloc, device) {
-        Ok((mut thread, items)) => put_tree_items(alloc, &mut thread, &items, target),
+        Ok((mut thread, items)) => put_tree_items(alloc, &mut thread, &items, target, progress),
         Err(error) => Err(ToolError::Fs(error)),
     }
 }
 
 // Unpacks an image.
-fn unpack_image<T: Target>(
+fn unpack_image<T: Target, F: FollowsProgress>(
     alloc: Global,
     image: Vec<u8>,
     block_size: u32,
     page: u32,
     target: &mut T,
+    progress: &mut F,
 ) -> Result<(), ToolError>
     requires { length image.items < 2 ^ 32 }
     ensures done { OnOk result (HasUnpackedImage block_size page image.items (T.done target.old) (T.done target.new)) }
@@ -131,7 +160,7 @@ fn unpack_image<T: Target>(
     ensures output { IsErrorExactlyWithOneFault ToolError.Output (T.faults target.old) (T.faults target.new) result }
 {
     match ram_device_of_image(image, block_size, page) {
-        Ok(device) => unpack_ram_device(alloc, device, target),
+        Ok(device) => unpack_ram_device(alloc, device, target, progress),
         Err(error) => Err(ToolError::Fs(error)),
     }
 }
@@ -144,7 +173,8 @@ fn unpack_image<T: Target>(
 ///
 /// The image is read to its end, or to the byte past the largest image's size of 268,435,456 bytes.
 /// `block_size` and `page` are in bytes. Nothing is done before the image is known to be good.
-/// After an error the actions that were done are a beginning of those that the image wants.
+/// After an error the actions that were done are a beginning of those that the image wants. `progress` is
+/// told the files and bytes of the whole, and of each entry that is done.
 ///
 /// # Errors
 /// - `Input` where the reader failed.
@@ -152,12 +182,13 @@ fn unpack_image<T: Target>(
 /// - `Fs(Invalid)` where the image isn't a whole number of blocks, or its geometry is out of range.
 /// - `Fs(Corrupt)` where the image is accepted in neither order of names.
 /// - `Output` where the target failed.
-pub fn unpack<R: ImageInput, T: Target>(
+pub fn unpack<R: ImageInput, T: Target, F: FollowsProgress>(
     alloc: Global,
     image: &mut R,
     block_size: u32,
     page: u32,
     target: &mut T,
+    progress: &mut F,
 ) -> Result<(), ToolError>
     ensures done { OnOk result (IfSome (R.remaining image.old) (λ bytes. HasUnpackedImage block_size page bytes (T.done target.old) (T.done target.new))) }
 
@@ -172,5 +203,5 @@ pub fn unpack<R: ImageInput, T: Target>(
     ensures output { IsErrorExactlyWithOneFault ToolError.Output (T.faults target.old) (T.faults target.new) result }
 {
     let bytes = read_image(alloc, image)?;
-    unpack_image(alloc, bytes, block_size, page, target)
+    unpack_image(alloc, bytes, block_size, page, target, progress)
 }

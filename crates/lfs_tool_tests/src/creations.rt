@@ -23,7 +23,7 @@ fn comes_back(
 ) -> Result<bool, Error> {
     let mut source = source;
     let mut out = Watched::new(Vec::new(alloc));
-    let result = create(alloc, &mut source, geometry, &mut out);
+    let result = create(alloc, &mut source, geometry, &mut out, &mut ());
     let image = out.into_inner();
     if result.is_err() {
         return Ok(with_error_line(alloc, image, result)?.as_slice() == lines);
@@ -172,6 +172,7 @@ fn an_image_has_these_bytes(rt: HostRuntime) -> Result<(), Fail> {
         &mut source,
         Geometry::new(4096, 256, 16)?,
         &mut out,
+        &mut (),
     );
     let mut wanted = Vec::from_slice(rt.alloc(), &FRESH)?;
     wanted.resize(65536, 0xff)?;

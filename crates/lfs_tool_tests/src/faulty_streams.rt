@@ -169,6 +169,7 @@ fn write_badly(
             &mut source,
             Geometry::new(4096, 256, 16)?,
             &mut writer,
+            &mut (),
         )
     } else {
         list(alloc, &mut Watched::new(image), 4096, 256, &mut writer)

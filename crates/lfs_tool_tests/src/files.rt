@@ -674,7 +674,13 @@ fn answers<R: Files + AllocGlobal + Clone + Drop>(
     let mut written = Watched::new(Vec::new(rt.alloc()));
     let mut told = Watched::new(Vec::new(rt.alloc()));
     let log = FaultLog::new();
-    let places = RealPlaces::new(rt, &log, io::empty(), io::sink());
+    let places = RealPlaces::new(
+        rt,
+        &log,
+        io::empty(),
+        io::sink(),
+        None::<(io::Stderr, HostRuntime)>,
+    );
     let given = answer(rt.alloc(), &places, words, &mut written, &mut told);
     given == status
         && written.inner().as_slice() == out.as_bytes()

@@ -18,6 +18,8 @@ mod lines;
 #[cfg(test)]
 mod memory;
 #[cfg(test)]
+mod progress;
+#[cfg(test)]
 mod sources;
 #[cfg(test)]
 mod texts;

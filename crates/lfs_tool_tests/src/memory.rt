@@ -77,7 +77,13 @@ fn is_run<R: Files + AllocGlobal + Clone + Drop>(
     let log = FaultLog::new();
     match answer(
         rt.alloc(),
-        &RealPlaces::new(rt, &log, io::empty(), io::sink()),
+        &RealPlaces::new(
+            rt,
+            &log,
+            io::empty(),
+            io::sink(),
+            None::<(io::Stderr, HostRuntime)>,
+        ),
         Ok(words),
         &mut out,
         &mut err,

@@ -91,7 +91,7 @@ pub(crate) fn unpack_text<R: ImageInput>(
     let mut target = MemoryTarget {
         done: Vec::new(alloc),
     };
-    let result = unpack(alloc, image, block_size, page, &mut target);
+    let result = unpack(alloc, image, block_size, page, &mut target, &mut ());
     let mut text = Vec::new(alloc);
     for done in &target.done {
         push_done(&mut text, done)?;

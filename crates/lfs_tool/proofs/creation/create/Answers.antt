@@ -17,7 +17,7 @@ returns-in-Ok-clause-ok g c =
     c.write_bytes_and_flush.ensures.ok
 
 pub returns-in-Ok-clause-writer : goal.returns-in-Ok-clause-writer
-returns-in-Ok-clause-writer g c = reports_written g.W.Writer _ _ c.write_bytes_and_flush.result c.write_bytes_and_flush.ensures.kept c.write_bytes_and_flush.ensures.flushed c.write_bytes_and_flush.ensures.failed
+returns-in-Ok-clause-writer g c = reports_written g.W.ToolOutput _ _ c.write_bytes_and_flush.result c.write_bytes_and_flush.ensures.kept c.write_bytes_and_flush.ensures.flushed c.write_bytes_and_flush.ensures.failed
 
 pub returns-in-Ok-clause-beginning : goal.returns-in-Ok-clause-beginning
 returns-in-Ok-clause-beginning g c = λ _.

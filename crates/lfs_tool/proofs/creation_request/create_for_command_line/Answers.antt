@@ -3,7 +3,7 @@ use Rattle.std.proofs.lemmas.Result.{IfOk-weaker}
 use Rattle.lfs_device.specs.declared.geometry.Geometry.{Geometry}
 use Rattle.lfs_model.specs.Geometry.{IsValidGeometry}
 use Rattle.lfs_tool_line.specs.declared.line.Line.{Line}
-use Rattle.lfs_tool.specs.RequestedSizes.{IsErrorOfLineWithoutGeometry, HasSizesOfLine}
+use Rattle.lfs_tool.specs.RequestedSizes.{IsErrorWhereNoGeometryHasSizes, HasSizesOfLine}
 use Rattle.lfs_tool.proofs.creation_request.create_for_command_line.Goals as goal
 
 sized : (line : Line) (g new : Geometry) → (g.block_size ≡ line.block_size) × (g.page ≡ line.page)
@@ -37,4 +37,4 @@ returns-in-Ok-clause-refused g c = λ e is other.
 pub returns-in-Err-clause-refused : goal.returns-in-Err-clause-refused
 returns-in-Err-clause-refused g c = λ e is other.
     let same : c.in-Err.error ≡ e = cc in
-    inl (subst (IsErrorOfLineWithoutGeometry c.args.line.now) same (record { error = c.in-Err.ensures.err.0; none = c.in-Err.ensures.err.1 }))
+    inl (subst (IsErrorWhereNoGeometryHasSizes c.args.line.now) same (record { error = c.in-Err.ensures.err.0; none = c.in-Err.ensures.err.1 }))

@@ -5,8 +5,8 @@ use Rattle.lfs_tool.proofs.output.write_bytes_and_flush.Given as goal
 abbrev pub invariant-loop-at : goal.invariant-loop-at
 invariant-loop-at g l = record {
   within : l.at ≤ length l.bytes;
-  same : g.W.Writer.faults l.out ≡ g.W.Writer.faults l.initial.out;
-  written : Appends (g.W.Writer.contents l.initial.out) (g.W.Writer.contents l.out) (take l.at l.bytes);
+  same : g.W.ToolOutput.faults l.out ≡ g.W.ToolOutput.faults l.initial.out;
+  written : Appends (g.W.ToolOutput.contents l.initial.out) (g.W.ToolOutput.contents l.out) (take l.at l.bytes);
 }
 
 abbrev pub decreases-loop-at : goal.decreases-loop-at

@@ -2,7 +2,7 @@ use Rattle.std.proofs.Common.{subst, sym}
 use Rattle.lfs_model.specs.Slots.{Inline}
 use Rattle.lfs_tool.specs.BrokenRules.{HasSuperblockFields}
 use Rattle.lfs_lookup.specs.Items.{structure_view}
-use Rattle.lfs_tool.proofs.heads.superblock_fields_of_struct.Goals as goal
+use Rattle.lfs_tool.proofs.superblock_checks.superblock_fields_of_struct.Goals as goal
 
 pub returns-in-Inline-clause-none : goal.returns-in-Inline-clause-none
 returns-in-Inline-clause-none c none fields has =

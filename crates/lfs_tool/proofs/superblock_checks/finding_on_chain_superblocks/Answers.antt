@@ -1,7 +1,7 @@
 use Rattle.std.proofs.Common.{arith}
 use Rattle.lfs_tool.specs.OwnedSlotView.{owned_pairs_view}
 use Rattle.lfs_tool.proofs.HeldPlaces.{pair_there}
-use Rattle.lfs_tool.proofs.heads.finding_on_chain_superblocks.Goals as goal
+use Rattle.lfs_tool.proofs.superblock_checks.finding_on_chain_superblocks.Goals as goal
 
 pub returns-in-Some : goal.returns-in-Some
 returns-in-Some c disk sizes =

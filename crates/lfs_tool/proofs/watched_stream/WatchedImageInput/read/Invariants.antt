@@ -1,6 +1,6 @@
 use Rattle.std.proofs.Common.{◌≡◌}
 use Rattle.std.specs.Io.KnownBytes.{Keeps}
-use Rattle.lfs_tool.proofs.watched_stream.WatchedReader.read.Given as goal
+use Rattle.lfs_tool.proofs.watched_stream.WatchedImageInput.read.Given as goal
 
 abbrev pub invariant-loop : goal.invariant-loop
 invariant-loop g l = record {

@@ -7,7 +7,7 @@ use Rattle.lfs_tool.specs.BrokenRules.{BreaksRuleOfFinding, IsInSuperblockChain}
 use Rattle.lfs_tool.specs.Device.{HasSizesOfGeometry}
 use Rattle.lfs_tool.specs.OwnedSlotView.{owned_slot_view, owned_pair_view}
 use Rattle.lfs_tool.proofs.HeldPlaces.{not_none, slot_there, some_weaker}
-use Rattle.lfs_tool.proofs.heads.pair_fault.Goals as goal
+use Rattle.lfs_tool.proofs.superblock_checks.pair_fault.Goals as goal
 
 pub returns-else-is_empty : goal.returns-else-is_empty
 returns-else-is_empty c =

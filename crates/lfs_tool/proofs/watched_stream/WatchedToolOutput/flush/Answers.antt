@@ -1,6 +1,6 @@
 use Rattle.std.proofs.Common.{refl}
 use Rattle.std.proofs.KnownBytes.{Keeps-refl, Keeps-trans}
-use Rattle.lfs_tool.proofs.watched_stream.WatchedWriter.flush.Goals as goal
+use Rattle.lfs_tool.proofs.watched_stream.WatchedToolOutput.flush.Goals as goal
 
 pub loop-init : goal.loop-init
 loop-init g c = record { kept = Keeps-refl _; shown = refl; same = refl }

@@ -7,7 +7,7 @@ use Rattle.lfs_tool.specs.BrokenRules.{HasSuperblockFields, BreaksRuleOfFinding,
 use Rattle.lfs_tool.specs.Device.{HasSizesOfGeometry}
 use Rattle.lfs_tool.specs.OwnedSlotView.{owned_slot_view}
 use Rattle.lfs_tool.proofs.HeldPlaces.{some_weaker}
-use Rattle.lfs_tool.proofs.heads.finding_on_superblock.Goals as goal
+use Rattle.lfs_tool.proofs.superblock_checks.finding_on_superblock.Goals as goal
 
 pub returns-in-Some : goal.returns-in-Some
 returns-in-Some c =

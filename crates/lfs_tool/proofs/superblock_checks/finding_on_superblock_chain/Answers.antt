@@ -3,7 +3,7 @@ use Rattle.lfs_model.specs.Thread.{starts_with_superblock}
 use Rattle.lfs_tool.specs.OwnedSlotView.{owned_slot_view}
 use Rattle.lfs_tool.specs.declared.owned_parts.OwnedPair.{OwnedPair}
 use Rattle.lfs_tool.proofs.RootPlaces.{first_of_root}
-use Rattle.lfs_tool.proofs.heads.finding_on_superblock_chain.Goals as goal
+use Rattle.lfs_tool.proofs.superblock_checks.finding_on_superblock_chain.Goals as goal
 
 pub returns-then-not-starts_with_superblock : goal.returns-then-not-starts_with_superblock
 returns-then-not-starts_with_superblock c disk sizes =

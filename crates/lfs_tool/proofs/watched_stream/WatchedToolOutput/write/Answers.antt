@@ -1,7 +1,7 @@
 use Rattle.std.proofs.Common.{refl}
 use Rattle.std.proofs.KnownBytes.{Keeps-refl, Keeps-trans}
 use Rattle.lfs_tool.proofs.KnownBytes.{appends_behind, keeps_behind}
-use Rattle.lfs_tool.proofs.watched_stream.WatchedWriter.write.Goals as goal
+use Rattle.lfs_tool.proofs.watched_stream.WatchedToolOutput.write.Goals as goal
 
 pub loop-init : goal.loop-init
 loop-init g c = record { kept = Keeps-refl _; pending = refl; same = refl }

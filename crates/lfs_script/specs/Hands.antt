@@ -6,7 +6,7 @@ use Rattle.lfs_device.specs.Shown.{disk_of_geometry_and_blocks, ordered}
 use Rattle.lfs_device.specs.declared.ram.RamDevice.{RamDevice}
 use Rattle.lfs_fs.specs.SessionView.{SessionView}
 use Rattle.lfs_fs.specs.declared.run.Reply.TheVariants.{Done}
-use Rattle.lfs_model.specs.History.{CallEvent, erases, faults, programs, reads}
+use Rattle.lfs_model.specs.History.{CallEvent, erases, faults, program_count_of_history, reads}
 use Rattle.lfs_script_lines.specs.declared.answer.Answer.{Answer}
 use Rattle.lfs_script_lines.specs.declared.answer.Answer.TheVariants as answer
 use Rattle.lfs_script_lines.specs.declared.answer.Calls as lines
@@ -22,7 +22,7 @@ pub record IsDeviceLeftBySession (session : SessionView) (ram : RamDevice) (call
 abbrev pub call_counts_of_history : List CallEvent → lines.Calls
 call_counts_of_history history = record {
   reads = min (reads history) (2 ^ 64 - 1);
-  programs = min (programs history) (2 ^ 64 - 1);
+  programs = min (program_count_of_history history) (2 ^ 64 - 1);
   erases = min (erases history) (2 ^ 64 - 1);
   faults = min (faults history) (2 ^ 64 - 1);
 }

@@ -3,7 +3,7 @@
 ghost use Rattle.std.specs.Prelude.{◌≡◌, ◌⊎◌, ◌*◌, [], IfErr, IfOk, OnOk, replicate};
 ghost use Rattle.lfs_model.specs.Disk.{IsImageOfWholeBlocks};
 ghost use Rattle.lfs_model.specs.Geometry.{IsValidGeometry};
-ghost use Rattle.lfs_device.specs.RamDevice.{bytes_of, geometry_of, history_of};
+ghost use Rattle.lfs_device.specs.RamDevice.{ram_bytes, geometry_of, history_of};
 
 use lfs_device::{Error, Geometry, RamDevice};
 use std::alloc::Global;
@@ -22,7 +22,7 @@ pub fn blank(
     block_count: u32,
 ) -> Result<RamDevice, Error>
     ensures geometry { IfOk result (λ d. ((geometry_of d).block_size ≡ block_size) × ((geometry_of d).page ≡ page) × ((geometry_of d).block_count ≡ block_count)) }
-    ensures bytes { IfOk result (λ d. bytes_of d ≡ replicate (block_size * block_count) 255) }
+    ensures bytes { IfOk result (λ d. ram_bytes d ≡ replicate (block_size * block_count) 255) }
     ensures no_call { IfOk result (λ d. history_of d ≡ []) }
     ensures errors { IfErr result (λ e. (e ≡ Error.NoMemory) ⊎ ((e ≡ Error.Invalid) × (¬ IsValidGeometry block_size page block_count))) }
 {
@@ -36,7 +36,7 @@ pub fn blank(
 pub fn device_of(bytes: Vec<u8>, block_size: u32, page: u32) -> Result<RamDevice, Error>
     ensures image { OnOk result (IsImageOfWholeBlocks block_size page bytes.items) }
     ensures geometry { IfOk result (λ d. ((geometry_of d).block_size ≡ block_size) × ((geometry_of d).page ≡ page)) }
-    ensures bytes { IfOk result (λ d. bytes_of d ≡ bytes.items) }
+    ensures bytes { IfOk result (λ d. ram_bytes d ≡ bytes.items) }
     ensures no_call { IfOk result (λ d. history_of d ≡ []) }
     ensures err { IfErr result (λ e. (e ≡ Error.Invalid) × (¬ IsImageOfWholeBlocks block_size page bytes.items)) }
 {

@@ -12,19 +12,19 @@ mod script;
 mod script_run;
 
 use help::HELP;
-use script_run::{End, run};
+use script_run::{ScriptEnd, run};
 use std::io::{BufReader, ErrorKind};
 use std::process::ExitCode;
 use std::{env, io};
 
 // Shows why a script ended before its last line, and returns the status. A failed write is ignored.
-fn report_script_end(rt: &HostRuntime, end: End) -> ExitCode {
+fn report_script_end(rt: &HostRuntime, end: ScriptEnd) -> ExitCode {
     let (shown, status) = match end {
-        End::Done => return ExitCode::SUCCESS,
-        End::Line(number, refusal) => (eprintln!(rt; "error: line {number}: {refusal}"), 2),
-        End::NoMemory => (eprintln!(rt; "error: NoMemory (12)"), 1),
-        End::Input => (eprintln!(rt; "error: input"), 3),
-        End::Output => (eprintln!(rt; "error: output"), 3),
+        ScriptEnd::Done => return ExitCode::SUCCESS,
+        ScriptEnd::Line(number, refusal) => (eprintln!(rt; "error: line {number}: {refusal}"), 2),
+        ScriptEnd::NoMemory => (eprintln!(rt; "error: NoMemory (12)"), 1),
+        ScriptEnd::Input => (eprintln!(rt; "error: input"), 3),
+        ScriptEnd::Output => (eprintln!(rt; "error: output"), 3),
     };
     let _ = shown;
     ExitCode::from(status)
@@ -58,7 +58,7 @@ fn words(rt: &HostRuntime) -> io::Result<Vec<String>> {
 fn show_help(rt: &HostRuntime) -> ExitCode {
     match print!(rt; "{HELP}") {
         Ok(()) => ExitCode::SUCCESS,
-        Err(_) => report_script_end(rt, End::Output),
+        Err(_) => report_script_end(rt, ScriptEnd::Output),
     }
 }
 
@@ -71,7 +71,7 @@ fn say_unknown_words(rt: &HostRuntime) -> ExitCode {
 // Performs the lines of standard input, and returns the status.
 fn run_script(rt: &HostRuntime) -> ExitCode {
     let Ok(mut input) = BufReader::new(rt.alloc(), rt.stdin()) else {
-        return report_script_end(rt, End::NoMemory);
+        return report_script_end(rt, ScriptEnd::NoMemory);
     };
     let end = run(rt, &mut input, &mut rt.stdout());
     report_script_end(rt, end)
@@ -82,7 +82,7 @@ fn main(rt: HostRuntime) -> ExitCode {
         Ok(words) => words,
         Err(error) if error.kind() == ErrorKind::OutOfMemory => return report_script_end(
             &rt,
-            End::NoMemory,
+            ScriptEnd::NoMemory,
         ),
         Err(_) => return say_unknown_words(&rt),
     };

@@ -3,7 +3,7 @@ use Rattle.lfs_device.specs.Calls.{ReadsOnly}
 use Rattle.lfs_model.specs.History.{faults, reads}
 use Rattle.lfs_thread.specs.Kept.{disk_of_device, pairs_of_headers}
 use Rattle.lfs_mount.proofs.Heads.{IsWalked}
-use Rattle.lfs_mount.proofs.head.superblock_chain_length.Given as goal
+use Rattle.lfs_mount.proofs.superblock_chain.superblock_chain_length.Given as goal
 
 abbrev pub invariant-loop-index : goal.invariant-loop-index
 invariant-loop-index g l = record {

@@ -8,7 +8,7 @@ use Rattle.lfs_thread.specs.Kept.{PairHeader, disk_of_device}
 use Rattle.lfs_mount.proofs.Heads.{active_within, begun, ends, fails, halts, head_is, last_is, more, passes, refused_first, refused_none, same_block, step_at, within}
 use Rattle.lfs_mount.proofs.InOrders.{has_headers_in}
 use Rattle.lfs_mount.proofs.Reported.{same_error, reports_error, reports_ok, then_reads}
-use Rattle.lfs_mount.proofs.head.superblock_chain_length.Goals as goal
+use Rattle.lfs_mount.proofs.superblock_chain.superblock_chain_length.Goals as goal
 
 pub returns-in_err-first-clause-corrupt : goal.returns-in_err-first-clause-corrupt
 returns-in_err-first-clause-corrupt g c = λ is order a.

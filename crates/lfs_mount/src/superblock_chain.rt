@@ -10,7 +10,7 @@ ghost use Rattle.lfs_model.specs.View.{BeginsWithLogEntry, IsAcceptedImage, supe
 ghost use Rattle.lfs_model.specs.declared.order.NameOrder.{NameOrder};
 ghost use Rattle.lfs_tag.specs.ContentView.{part_view, slot_view};
 ghost use Rattle.lfs_thread.specs.Kept.{disk_of_device, pairs_of_headers};
-ghost use Rattle.lfs_mount.specs.Head.{AreHeadersOfDiskThread, HasSuperblockChainOfLength, IsSuperblockStructInBlock, describes, first_pair_with_slots, inline_struct_bytes, has_name_bytes, leads_on, first_slot_repeats_superblock, block_repeats_superblock, superblock_struct_in_first_slot, superblock_of};
+ghost use Rattle.lfs_mount.specs.SuperblockChain.{AreHeadersOfDiskThread, HasSuperblockChainOfLength, IsSuperblockStructInBlock, describes, first_pair_with_slots, inline_struct_bytes, has_name_bytes, leads_on, first_slot_repeats_superblock, block_repeats_superblock, superblock_struct_in_first_slot, superblock_of};
 
 use lfs_device::{BlockDevice, Error, Geometry, read_block};
 use lfs_pair::Pair;

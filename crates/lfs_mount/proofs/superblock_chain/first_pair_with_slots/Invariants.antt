@@ -1,7 +1,7 @@
 use Rattle.std.proofs.Common.{◌≡◌, ◌+◌, drop, length}
 use Rattle.std.specs.Option.{option_map}
-use Rattle.lfs_mount.specs.Head.{first_pair_with_slots}
-use Rattle.lfs_mount.proofs.head.first_pair_with_slots.Given as goal
+use Rattle.lfs_mount.specs.SuperblockChain.{first_pair_with_slots}
+use Rattle.lfs_mount.proofs.superblock_chain.first_pair_with_slots.Given as goal
 
 abbrev pub invariant-loop-index : goal.invariant-loop-index
 invariant-loop-index l = record {

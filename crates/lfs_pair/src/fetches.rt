@@ -65,8 +65,8 @@ fn read_revision<D: BlockDevice>(dev: &mut D, block: u32) -> Result<u32, Error>
     Ok(LittleEndian::read_u32(&bytes))
 }
 
-// Returns the two indices of a pair's blocks, the one with the later revision first. It is the one
-// that is named first where neither is later.
+// Returns a pair's two blocks, the one with the later revision first. Where neither is later they
+// come as they are named.
 fn later_first<D: BlockDevice>(dev: &mut D, blocks: [u32; 2]) -> Result<[u32; 2], Error>
     requires first { (pair_address_of_array blocks).0 < (D.geometry dev.old).block_count }
     requires second { (pair_address_of_array blocks).1 < (D.geometry dev.old).block_count }

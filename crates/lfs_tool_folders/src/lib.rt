@@ -4,6 +4,7 @@
 
 mod entries;
 mod fault_log;
+mod file_bytes;
 mod full_path;
 mod names;
 mod new_image;

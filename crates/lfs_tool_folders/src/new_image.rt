@@ -7,7 +7,6 @@ ghost use Rattle.lfs_tool_folders.specs.Paths.{image_path};
 
 use crate::temporary_files::{ImagePaths, create_image_file, move_temporary_to_path};
 use std::alloc::{AllocError, Global};
-use std::fs::OpenFile;
 use std::io::{ErrorKind, Write};
 use std::rt::Files;
 use std::{fs, io};
@@ -74,8 +73,7 @@ impl<'a, R: Files> NewImage<'a, R> {
         ensures placed { OnOk result (self.new.is_beside ≡ false) }
         ensures err { IfErr result (λ _. self.new ≡ self.old) }
     {
-        if let (Some(file), true) = (&self.file, self.is_beside) {
-            file.sync_all()?;
+        if self.is_beside {
             move_temporary_to_path(self.files, &self.paths)?;
         }
         self.is_beside = false;

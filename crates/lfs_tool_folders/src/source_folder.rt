@@ -2,12 +2,13 @@ ghost use Rattle.std.specs.Prelude.{◌≡◌, ◌↔◌, IfOk, suc};
 ghost use Rattle.std.specs.IoError.{error_kind};
 ghost use Rattle.lfs_tool_folders.specs.Roots.{folder_root, file_size_read_limit};
 
+use crate::file_bytes::read_at_most;
 use crate::full_path::{full_path, joined_path};
 use crate::zeros::{zero_count_for_long_file, zeros};
 use crate::{FaultLog, Listed, Source, SourceError, SourceKind, Tally};
 use std::alloc::{AllocError, Global};
 use std::fs::{File, FileType, OpenFile};
-use std::io::{ErrorKind, Read};
+use std::io::ErrorKind;
 use std::rt::Files;
 use std::{fs, io};
 
@@ -116,13 +117,14 @@ impl<'a, R: Files + AllocGlobal + Clone + Drop> Folder<'a, R> {
 
     fn bytes(&self, path: &[u8]) -> io::Result<Vec<u8>> {
         let full = full_path(self.rt.alloc(), self.root.as_str(), path)?;
-        let mut file = File::open(self.rt, full.as_str())?;
-        if let Some(len) = zero_count_for_long_file(file.metadata()?.len(), self.size) {
-            return Ok(zeros(self.rt.alloc(), len)?);
+        let file = File::open(self.rt, full.as_str())?;
+        let len = file.metadata()?.len();
+        if let Some(count) = zero_count_for_long_file(len, self.size) {
+            return Ok(zeros(self.rt.alloc(), count)?);
         }
-        let mut bytes = Vec::new(self.rt.alloc());
-        file.read_to_end(&mut bytes)?;
-        Ok(bytes)
+        // A file that has become longer meanwhile is too long, too.
+        let most = self.size.saturating_add(1);
+        read_at_most(self.rt.alloc(), file, len as usize, most)
     }
 
     // Returns the source's error for an error of std.

@@ -4,8 +4,9 @@ use lfs_tool_folders::{
     FaultLog, Folder, MemorySource, MemorySourceEntry, Source, SourceError, read_tree,
 };
 use std::alloc::{AllocError, Global};
-use std::fs;
+use std::rt::Files;
 use std::test::Fail;
+use std::{fs, io};
 
 // What stands at paths: a file's bytes, and none for a folder.
 pub(crate) type Items<'a> = &'a [(&'a [u8], Option<&'a [u8]>)];
@@ -114,5 +115,48 @@ fn real_folders_fault(rt: HostRuntime) -> Result<(), Fail> {
     }
     assert!(rt; matches!(folder.read(rt.alloc(), b"/d"), Err(SourceError::Fault)));
     fs::remove_dir_all(&rt, "source_folder")?;
+    Ok(())
+}
+
+// Lengths of files, about those of single reads.
+const LENGTHS: [usize; 8] = [0, 1, 511, 512, 8191, 8192, 8193, 100_000];
+
+// Whether a folder gives a file of so many bytes.
+fn is_read_whole<R: Files + AllocGlobal + Clone + Drop>(
+    rt: &R,
+    folder: &mut Folder<'_, R>,
+    len: usize,
+) -> io::Result<bool> {
+    let mut bytes = Vec::from_elem(rt.alloc(), b'x', len)?;
+    if let Some(last) = bytes.last_mut() {
+        *last = b'y';
+    }
+    fs::write(rt, "source_files/a", bytes.as_slice())?;
+    Ok(folder.read(rt.alloc(), b"/a") == Ok(bytes))
+}
+
+#[test]
+fn real_files_are_read_whole(rt: HostRuntime) -> Result<(), Fail> {
+    fs::create_dir_all(&rt, "source_files")?;
+    let log = FaultLog::new();
+    let mut folder = Folder::new(&rt, &log, "source_files")?;
+    for len in LENGTHS {
+        assert!(rt; is_read_whole(&rt, &mut folder, len)?, "{len}");
+    }
+    fs::remove_dir_all(&rt, "source_files")?;
+    Ok(())
+}
+
+// A file that says that it has no bytes, and gives what it has to the first read alone.
+#[test]
+fn files_of_no_stated_length_are_read(rt: HostRuntime) -> Result<(), Fail> {
+    let log = FaultLog::new();
+    let mut folder = Folder::new(&rt, &log, "/proc/sys/kernel")?;
+    if fs::exists(&rt, "/proc/sys/kernel/ostype")? {
+        assert_eq!(rt;
+            folder.read(rt.alloc(), b"/ostype"),
+            Ok(b"Linux\n".to_vec(rt.alloc())?)
+        );
+    }
     Ok(())
 }

@@ -1,7 +1,6 @@
 -- The cause for which a command line wasn't carried out, and its lines.
 use Rattle.std.specs.Prelude.{◌≡◌, ◌++◌, ◌⊎◌, ◌/◌, ℕ, [], true, List, Option, Some, None, IfSome, codes, length, take}
 use Rattle.std.specs.Fmt.{decimal}
-use Rattle.std.specs.Io.KnownBytes.{Appends}
 use Rattle.lfs_model.specs.Listing.{escaped_text, newline}
 use Rattle.lfs_device.specs.declared.error.Error.TheVariants as fs
 use Rattle.lfs_model.specs.Source.{Source}
@@ -17,8 +16,8 @@ use Rattle.lfs_tool_line.specs.declared.sizes.SizeRule.{SizeRule}
 use Rattle.lfs_tool_line.specs.declared.sizes.Sizes.{Sizes}
 use Rattle.lfs_tool.specs.CheckResults.{IsCheckResultOfBytes}
 use Rattle.lfs_tool.specs.CheckedLines.{check_result_text}
-use Rattle.lfs_tool.specs.KnownBytes.{AppendsBeginningOfBytes}
 use Rattle.lfs_tool.specs.Needed.{IsJustEnoughBlocksForEntries}
+use Rattle.lfs_tool.specs.Reports.{WritesTextOrFails}
 use Rattle.lfs_tool.specs.RequestedSizes.{IsErrorWhereNoGeometryHasSizes}
 use Rattle.lfs_tool.specs.RunsAtPaths.{HasFaultAtPath, FailsToReadFolder, IsTrueAtPath, IsTrueForMode}
 use Rattle.lfs_tool.specs.declared.needed_blocks.NeededBlocks.{NeededBlocks}
@@ -135,11 +134,6 @@ IsErrorInsteadOfExplanation path_of faults folder_of folder_faults shown line In
 IsErrorInsteadOfExplanation path_of faults folder_of folder_faults shown line Output e = ⊥
 
 -- ---- what is said
-
--- what explains the error is written and flushed, or the writer fails and a beginning of it is written
-pub record WritesTextOrFails {W : Type 0} (g : Ghosts W) (text : List ℕ) (old new : W) : Type 0 where
-  pub beginning : AppendsBeginningOfBytes (g.contents old) (g.contents new) text
-  pub whole : g.faults new ≡ g.faults old → Appends (g.contents old) (g.contents new) text × (g.pending new ≡ 0)
 
 -- what explains the line's error is said
 abbrev pub WritesExplanation : {I F W : Type 0} → (I → List ℕ) → (I → Option (List ℕ)) → (F → List ℕ) → (F → ℕ) → (F → Option Source) → Ghosts W → Line → ToolError → W → W → Type 0

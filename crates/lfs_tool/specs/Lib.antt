@@ -33,3 +33,4 @@ pub mod AppliedOperations
 pub mod MadeImages
 pub mod CheckResults
 pub mod CheckedLines
+pub mod ProgressLines

@@ -1,6 +1,7 @@
 -- What a result means for the reader and the writer that were used.
 use Rattle.std.specs.Prelude.{◌≡◌, ◌<◌, ◌⊎◌, ℕ, suc, List, Option, Result, Ok, Err, IsErrOf, length}
-use Rattle.std.specs.Io.KnownBytes.{Consumes, IsAtEnd}
+use Rattle.std.specs.Io.KnownBytes.{Appends, Consumes, IsAtEnd}
+use Rattle.lfs_tool.specs.KnownBytes.{AppendsBeginningOfBytes}
 use Rattle.lfs_tool.specs.declared.errors.ToolError.{ToolError}
 use Rattle.lfs_tool.specs.declared.errors.ToolError.TheVariants.{Output}
 use Rattle.lfs_tool.specs.declared.writer.ToolOutput.{Ghosts}
@@ -19,6 +20,11 @@ ReportsWriterFaults g old new (Err e) = new ≡ old
 -- unless it failed, it has shown one value more, which was flushed
 abbrev pub HasShownOneValue : {W : Type 0} → Ghosts W → W → W → Type 0
 HasShownOneValue g old new = g.faults new ≡ g.faults old → (g.shown new ≡ suc (g.shown old)) × (g.pending new ≡ 0)
+
+-- a text is written and flushed, or the writer fails and a beginning of it is written
+pub record WritesTextOrFails {W : Type 0} (g : Ghosts W) (text : List ℕ) (old new : W) : Type 0 where
+  pub beginning : AppendsBeginningOfBytes (g.contents old) (g.contents new) text
+  pub whole : g.faults new ≡ g.faults old → Appends (g.contents old) (g.contents new) text × (g.pending new ≡ 0)
 
 -- known bytes were read to their end, or more of them than an image may have
 abbrev pub IsReadToEndOrPastImageLimit : Option (List ℕ) → Option (List ℕ) → Type 0

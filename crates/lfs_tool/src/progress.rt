@@ -1,9 +1,13 @@
-ghost use Rattle.std.specs.Prelude.{◌≡◌, ◌≤◌, ◌+◌, ◌-◌, ◌^◌, min};
+ghost use Rattle.std.specs.Prelude.{◌≡◌, ◌≤◌, ◌<◌, ◌+◌, ◌++◌, ◌⊎◌, false, length, true};
 ghost use Rattle.std.specs.Duration.{as_nanos};
+ghost use Rattle.std.specs.Fmt.{decimal};
+ghost use Rattle.arrayvec.specs.ArrayString.{array_string_len};
+ghost use Rattle.lfs_tool.specs.Reports.{WritesTextOrFails};
+ghost use Rattle.lfs_tool.specs.ProgressLines.{no_amount, part_of_whole, progress_line, sum_of_amounts};
 
+use crate::{ToolOutput, write_bytes_and_flush};
 use arrayvec::ArrayString;
-use std::fmt::Write as _;
-use std::io::Write;
+use itoa::Buffer;
 use std::time::{Clock, Duration, Instant};
 
 // What takes the line away: a return to its beginning, and an erasure to its end.
@@ -22,15 +26,14 @@ pub struct Amount {
 impl Amount {
     /// Returns no files and no bytes.
     pub fn none() -> Amount
-        ensures { result ≡ record { files = 0; bytes = 0 } }
+        ensures { result ≡ no_amount }
     {
         Amount { files: 0, bytes: 0 }
     }
 
     /// Returns both together, up to the greatest `usize`.
     pub fn plus(self, more: Amount) -> Amount
-        ensures files { result.files ≡ min (self.files + more.files) (2 ^ 64 - 1) }
-        ensures bytes { result.bytes ≡ min (self.bytes + more.bytes) (2 ^ 64 - 1) }
+        ensures { result ≡ sum_of_amounts self more }
     {
         Amount {
             files: self.files.saturating_add(more.files),
@@ -71,7 +74,7 @@ impl<F: FollowsProgress> FollowsProgress for Option<F> {
 /// A line at a terminal that says how far a work is. It is shown once more than a second has gone by, and
 /// written anew in its place from then on. It is taken away at the end, when this is dropped. Where the
 /// clock or a write fails, no more is written.
-pub struct Progress<W: Write + Drop, C: Clock + Drop> {
+pub struct Progress<W: ToolOutput + Drop, C: Clock + Drop> {
     out: W,
     clock: C,
     // When the work began. There is nothing more to write where this is gone.
@@ -84,7 +87,7 @@ pub struct Progress<W: Write + Drop, C: Clock + Drop> {
     ghost late: { 1_000_000_000 ≤ as_nanos next },
 }
 
-impl<W: Write + Drop, C: Clock + Drop> Drop for Progress<W, C> {
+impl<W: ToolOutput + Drop, C: Clock + Drop> Drop for Progress<W, C> {
     fn drop(self) {
         let Progress {
             out,
@@ -97,26 +100,53 @@ impl<W: Write + Drop, C: Clock + Drop> Drop for Progress<W, C> {
         } = self;
         let mut out = out;
         if is_shown {
-            let _ = out.write_all(ERASURE.as_bytes());
+            let _ = write_bytes_and_flush(&mut out, ERASURE.as_bytes());
         }
     }
 }
 
+// The line, made without memory.
+type ProgressLine = ArrayString<160>;
+
+// Adds a number.
+fn push_number(line: &mut ProgressLine, number: usize)
+    requires { array_string_len line.old + 20 ≤ 160 }
+    ensures decimal { line.new.bytes ≡ line.old.bytes ++ decimal number }
+    ensures len { array_string_len line.new ≤ array_string_len line.old + 20 }
+{
+    let mut digits = Buffer::new();
+    line.push_str(digits.format(number));
+}
+
+// Adds how much of a whole is done, and of what.
+fn push_part_of_whole(line: &mut ProgressLine, done: usize, whole: usize, unit: &str)
+    requires { array_string_len line.old + length unit.now + 44 ≤ 160 }
+    ensures part { line.new.bytes ≡ line.old.bytes ++ part_of_whole done whole unit.now }
+    ensures len { array_string_len line.new ≤ array_string_len line.old + length unit.now + 44 }
+{
+    push_number(line, done);
+    line.push_str(" of ");
+    push_number(line, whole);
+    line.push_str(unit);
+}
+
 // Returns the text of the line.
-fn line_of(done: Amount, whole: Amount) -> ArrayString<160> {
-    let mut line = ArrayString::new();
-    let _ = write!(
-        line,
-        "{ERASURE}{} of {} files, {} of {} bytes",
-        done.files, whole.files, done.bytes, whole.bytes
-    );
+fn line_of(done: Amount, whole: Amount) -> ProgressLine
+    ensures { result.bytes ≡ progress_line done whole }
+{
+    let mut line = ProgressLine::new();
+    line.push_str(ERASURE);
+    push_part_of_whole(&mut line, done.files, whole.files, " files, ");
+    push_part_of_whole(&mut line, done.bytes, whole.bytes, " bytes");
     line
 }
 
-impl<W: Write + Drop, C: Clock + Drop> Progress<W, C> {
+impl<W: ToolOutput + Drop, C: Clock + Drop> Progress<W, C> {
     /// Makes the line of a work that begins now. Nothing is written.
     pub fn new(out: W, clock: C) -> Progress<W, C>
-        ensures { result.out ≡ out }
+        ensures out { (result.out ≡ out) × (result.is_shown ≡ false) }
+        ensures amounts { (result.whole ≡ no_amount) × (result.done ≡ no_amount) }
+        ensures next { as_nanos result.next ≡ 1_000_000_000 }
     {
         let began = Instant::now(&clock).ok();
         Progress {
@@ -132,21 +162,28 @@ impl<W: Write + Drop, C: Clock + Drop> Progress<W, C> {
 
     // Writes the line, where it is time so long after the beginning.
     fn show_after(&mut self, gone: Duration)
-        ensures quiet { as_nanos gone ≤ 1_000_000_000 → self.new.out ≡ self.old.out }
+        ensures amounts { (self.new.whole ≡ self.old.whole) × (self.new.done ≡ self.old.done) }
+        ensures early { as_nanos gone ≤ as_nanos self.old.next → self.new ≡ self.old }
+        ensures line { as_nanos self.old.next < as_nanos gone → WritesTextOrFails W.ToolOutput (progress_line self.old.done self.old.whole) self.old.out self.new.out }
+        ensures shown { as_nanos self.old.next < as_nanos gone → self.new.is_shown ≡ true }
+        ensures later { as_nanos self.old.next < as_nanos gone → as_nanos gone ≤ as_nanos self.new.next }
     {
-        if gone <= self.next {
+        if gone.as_nanos() <= self.next.as_nanos() {
             return;
         }
         self.next = gone.saturating_add(Duration::from_millis(PAUSE));
         let line = line_of(self.done, self.whole);
         self.is_shown = true;
-        if self.out.write_all(line.as_str().as_bytes()).is_err() {
+        if write_bytes_and_flush(&mut self.out, line.as_str().as_bytes()).is_err() {
             self.began = None;
         }
     }
 
     // Writes the line, where it is time.
-    fn show(&mut self) {
+    fn show(&mut self)
+        ensures amounts { (self.new.whole ≡ self.old.whole) × (self.new.done ≡ self.old.done) }
+        ensures line { (self.new.out ≡ self.old.out) ⊎ WritesTextOrFails W.ToolOutput (progress_line self.old.done self.old.whole) self.old.out self.new.out }
+    {
         let Some(began) = self.began else {
             return;
         };
@@ -157,13 +194,19 @@ impl<W: Write + Drop, C: Clock + Drop> Progress<W, C> {
     }
 }
 
-impl<W: Write + Drop, C: Clock + Drop> FollowsProgress for Progress<W, C> {
-    fn begin(&mut self, whole: Amount) {
+impl<W: ToolOutput + Drop, C: Clock + Drop> FollowsProgress for Progress<W, C> {
+    fn begin(&mut self, whole: Amount)
+        ensures amounts { (self.new.whole ≡ whole) × (self.new.done ≡ self.old.done) }
+        ensures line { (self.new.out ≡ self.old.out) ⊎ WritesTextOrFails W.ToolOutput (progress_line self.new.done self.new.whole) self.old.out self.new.out }
+    {
         self.whole = whole;
         self.show();
     }
 
-    fn add(&mut self, more: Amount) {
+    fn add(&mut self, more: Amount)
+        ensures amounts { (self.new.whole ≡ self.old.whole) × (self.new.done ≡ sum_of_amounts self.old.done more) }
+        ensures line { (self.new.out ≡ self.old.out) ⊎ WritesTextOrFails W.ToolOutput (progress_line self.new.done self.new.whole) self.old.out self.new.out }
+    {
         self.done = self.done.plus(more);
         self.show();
     }

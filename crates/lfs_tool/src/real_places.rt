@@ -103,7 +103,7 @@ where
 
     type NewFolder = TargetFolder<'a, R>;
 
-    type Progress = Option<Progress<E, C>>;
+    type Progress = Option<Progress<Watched<E>, C>>;
 
     ghost image_path = { path_of_old_image };
 
@@ -146,9 +146,9 @@ where
         Ok(folder)
     }
 
-    fn progress(&self) -> Option<Progress<E, C>> {
+    fn progress(&self) -> Option<Progress<Watched<E>, C>> {
         match self.terminal {
-            Some((out, clock)) => Some(Progress::new(out, clock)),
+            Some((out, clock)) => Some(Progress::new(Watched::new(out), clock)),
             None => None,
         }
     }

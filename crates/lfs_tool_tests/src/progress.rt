@@ -99,7 +99,7 @@ fn follow(rt: &HostRuntime, path: &str, row: (u64, usize, usize)) -> io::Result<
     let (step, files, room) = row;
     let file = File::create(rt, path)?;
     let out = Output { file: &file, room };
-    let mut progress = Progress::new(out, clock_of(step));
+    let mut progress = Progress::new(Watched::new(out), clock_of(step));
     progress.begin(Amount {
         files,
         bytes: files.saturating_mul(4),

@@ -37,7 +37,10 @@ Sizes:
 Order:
   Names stand by their bytes. Where one begins another, as a and ab, either the
   longer or the shorter comes first: ORDER is longer-first, as in images of
-  littlefs itself, or shorter-first. -l, -u and --check read both.";
+  littlefs itself, or shorter-first. -l, -u and --check read both.
+
+Progress:
+  At a terminal -c and -u show how much is done, once a second has gone by.";
 
 fn folder_arg<'a>(alloc: Global, id: &'a str, short: char, help: &'a str) -> Arg<'a>
     ensures rule { rule_of result ≡ folder id.entry.now short }

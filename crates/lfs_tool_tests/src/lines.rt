@@ -184,6 +184,9 @@ Order:
   Names stand by their bytes. Where one begins another, as a and ab, either the
   longer or the shorter comes first: ORDER is longer-first, as in images of
   littlefs itself, or shorter-first. -l, -u and --check read both.
+
+Progress:
+  At a terminal -c and -u show how much is done, once a second has gone by.
 ";
 
 // Words that are no line: the status, what goes to `out`, and what to `err`, if that isn't the parser's

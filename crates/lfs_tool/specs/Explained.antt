@@ -1,5 +1,5 @@
 -- The cause for which a command line wasn't carried out, and its lines.
-use Rattle.std.specs.Prelude.{◌≡◌, ◌++◌, ◌⊎◌, ◌/◌, ℕ, [], true, List, Option, Some, None, IfSome, codes, length, take}
+use Rattle.std.specs.Prelude.{◌≡◌, ◌++◌, ◌⊎◌, ◌/◌, ℕ, [], List, Option, Some, None, IfSome, MatchBool, codes, length, take}
 use Rattle.std.specs.Fmt.{decimal}
 use Rattle.lfs_model.specs.Listing.{escaped_text, newline}
 use Rattle.lfs_device.specs.declared.error.Error.TheVariants as fs
@@ -7,7 +7,6 @@ use Rattle.lfs_model.specs.Source.{Source}
 use Rattle.lfs_tool_folders.specs.Entries.{AreAllEntriesOfSource}
 use Rattle.lfs_tool_folders.specs.declared.entries.SourceEntry.{SourceEntry}
 use Rattle.lfs_tool_folders.specs.declared.fault_log.PathFault.{PathFault}
-use Rattle.lfs_tool_line.specs.Matches.{IsLineGivenByRows, requests_explanation, rows}
 use Rattle.lfs_tool_line.specs.Sizes.{Fits, IsFirstBrokenSizeRule, broken_size_rule_line}
 use Rattle.lfs_tool_line.specs.declared.line.Line.{Line}
 use Rattle.lfs_tool_line.specs.declared.line.Mode.{Mode}
@@ -16,13 +15,12 @@ use Rattle.lfs_tool_line.specs.declared.sizes.SizeRule.{SizeRule}
 use Rattle.lfs_tool_line.specs.declared.sizes.Sizes.{Sizes}
 use Rattle.lfs_tool.specs.CheckResults.{IsCheckResultOfBytes}
 use Rattle.lfs_tool.specs.CheckedLines.{check_result_text}
+use Rattle.lfs_tool.specs.Errors.{tool_error_line}
 use Rattle.lfs_tool.specs.Needed.{IsJustEnoughBlocksForEntries}
 use Rattle.lfs_tool.specs.Reports.{WritesTextOrFails}
 use Rattle.lfs_tool.specs.RequestedSizes.{IsErrorWhereNoGeometryHasSizes}
 use Rattle.lfs_tool.specs.RunsAtPaths.{HasFaultAtPath, FailsToReadFolder, IsTrueAtPath, IsTrueForMode}
 use Rattle.lfs_tool.specs.declared.needed_blocks.NeededBlocks.{NeededBlocks}
-use Rattle.lfs_tool.specs.declared.errors.Fault.{Fault}
-use Rattle.lfs_tool.specs.declared.errors.Fault.TheVariants as fault
 use Rattle.lfs_tool.specs.declared.errors.ToolError.{ToolError}
 use Rattle.lfs_tool.specs.declared.errors.ToolError.TheVariants.{Fs, Input, Output}
 use Rattle.lfs_tool.specs.declared.explanation.Explanation.{Explanation}
@@ -133,6 +131,14 @@ IsErrorInsteadOfExplanation path_of faults folder_of folder_faults shown line (F
 IsErrorInsteadOfExplanation path_of faults folder_of folder_faults shown line Input e = ⊥
 IsErrorInsteadOfExplanation path_of faults folder_of folder_faults shown line Output e = ⊥
 
+-- the same, or memory isn't granted for the lines of the explanation
+abbrev pub IsErrorInsteadOfLines : {I F : Type 0} → (I → List ℕ) → (I → ℕ) → (F → List ℕ) → (F → ℕ) → (F → Option Source) → Line → ToolError → ToolError → Type 0
+IsErrorInsteadOfLines path_of faults folder_of folder_faults shown line error e =
+    (e ≡ Fs fs.NoMemory) ⊎ IsErrorInsteadOfExplanation path_of faults folder_of folder_faults shown line error e
+
+abbrev pub unexplained_text : ToolError → List ℕ
+unexplained_text e = codes "not explained: " ++ tool_error_line e
+
 -- ---- what is said
 
 -- what explains the line's error is said
@@ -140,9 +146,17 @@ abbrev pub WritesExplanation : {I F W : Type 0} → (I → List ℕ) → (I → 
 WritesExplanation path_of bytes folder_of limit_of shown g line error old new =
     (e : Explanation) × (ExplainsError path_of bytes folder_of limit_of shown line error e × WritesTextOrFails g (explanation_text e) old new)
 
--- After the line of a fault nothing follows, unless the words request it and the fault is the tool's. Then nothing follows where
--- memory isn't granted, or what is read again can't be.
-abbrev pub IsFollowed : {I F W : Type 0} → (I → List ℕ) → (I → Option (List ℕ)) → (F → List ℕ) → (F → ℕ) → (F → Option Source) → Ghosts W → List (List ℕ) → Fault → W → W → Type 0
-IsFollowed path_of bytes folder_of limit_of shown g words (fault.Line error) old new = new ≡ old
-IsFollowed path_of bytes folder_of limit_of shown g words (fault.Tool error) old new =
-    (new ≡ old) ⊎ ((requests_explanation (rows words) ≡ true) × ((line : Line) × (IsLineGivenByRows (rows words) line × WritesExplanation path_of bytes folder_of limit_of shown g line error old new)))
+-- which error comes in place of an explanation is said
+abbrev pub WritesErrorInstead : {I F W : Type 0} → (I → List ℕ) → (I → ℕ) → (F → List ℕ) → (F → ℕ) → (F → Option Source) → Ghosts W → Line → ToolError → W → W → Type 0
+WritesErrorInstead path_of faults folder_of folder_faults shown g line error old new =
+    (e : ToolError) × (IsErrorInsteadOfLines path_of faults folder_of folder_faults shown line error e × WritesTextOrFails g (unexplained_text e) old new)
+
+-- what explains the line's error is said, or which error comes in its place
+abbrev pub WritesWhy : {I F W : Type 0} → (I → List ℕ) → (I → Option (List ℕ)) → (I → ℕ) → (F → List ℕ) → (F → ℕ) → (F → ℕ) → (F → Option Source) → Ghosts W → Line → ToolError → W → W → Type 0
+WritesWhy path_of bytes faults folder_of limit_of folder_faults shown g line error old new =
+    WritesExplanation path_of bytes folder_of limit_of shown g line error old new ⊎ WritesErrorInstead path_of faults folder_of folder_faults shown g line error old new
+
+-- after the line of an error why it came is said where the command line requests it, and else nothing follows
+abbrev pub IsErrorFollowed : {I F W : Type 0} → (I → List ℕ) → (I → Option (List ℕ)) → (I → ℕ) → (F → List ℕ) → (F → ℕ) → (F → ℕ) → (F → Option Source) → Ghosts W → Line → ToolError → W → W → Type 0
+IsErrorFollowed path_of bytes faults folder_of limit_of folder_faults shown g line error old new =
+    MatchBool line.explain (WritesWhy path_of bytes faults folder_of limit_of folder_faults shown g line error old new) (new ≡ old)

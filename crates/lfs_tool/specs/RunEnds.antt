@@ -1,21 +1,19 @@
 -- How a run of the program ends, and what it shows then.
 use Rattle.std.specs.Prelude.{ℕ, ◌≡◌, ◌⊎◌, Bool, true, false, List, None, IfSome}
 use Rattle.std.specs.Io.KnownBytes.{Appends}
-use Rattle.lfs_tool_line.specs.Matches.{HasOneMode, HasValidNameOrder, IsLineErrorOfWords, ParserTakesWords, rows}
+use Rattle.lfs_tool_line.specs.Matches.{HasOneMode, HasValidNameOrder, IsLineErrorOfWords, IsLineGivenByRows, ParserTakesWords, rows}
+use Rattle.lfs_tool_line.specs.declared.line.Line.{Line}
+use Rattle.lfs_tool_line.specs.declared.line.LineError.{LineError}
 use Rattle.lfs_tool.specs.ExitStatus.{standard_error_line_of_failure, is_failure_for_help, exit_status_of_failure}
 use Rattle.lfs_tool.specs.declared.errors.Fault.{Fault}
-use Rattle.lfs_tool.specs.declared.errors.Fault.TheVariants.{Line, Tool}
+use Rattle.lfs_tool.specs.declared.errors.Fault.TheVariants as fault
+use Rattle.lfs_tool.specs.declared.errors.ToolError.{ToolError}
 use Rattle.lfs_tool.specs.Reports.{HasShownOneValue}
 use Rattle.lfs_tool.specs.declared.writer.ToolOutput.{Ghosts}
 
 -- the words are a command line
 abbrev pub AreWordsOfValidCommandLine : List (List ℕ) → Type 0
 AreWordsOfValidCommandLine words = ParserTakesWords words × HasOneMode (rows words) × HasValidNameOrder (rows words)
-
--- a fault that a run of these words may end in: of the line as the parser decides, and of the tool only where there is a line
-abbrev pub IsFailureOfWords : List (List ℕ) → Fault → Type 0
-IsFailureOfWords words (Line e) = IsLineErrorOfWords words e
-IsFailureOfWords words (Tool e) = AreWordsOfValidCommandLine words
 
 -- The fault is shown: the run has its status. Unless the writer failed, the fault's own line or the parser's text was written and
 -- flushed. Help is no fault.
@@ -30,8 +28,15 @@ abbrev pub status_without_failure : Bool → ℕ
 status_without_failure true = 0
 status_without_failure false = 1
 
--- the request is done, as it ends then, and no error is written; or a fault is shown, and `follows` says what comes after it
-abbrev pub IsRequestAnswered : {W : Type 0} → Ghosts W → List (List ℕ) → (Bool → Type 0) → (Fault → W → W → Type 0) → ℕ → W → W → Type 0
+-- the request of a line is done, as it ends then, and no error is written; or an error is shown, and `follows` says what comes
+-- after it
+abbrev pub IsLineAnswered : {W : Type 0} → Ghosts W → (Bool → Type 0) → (ToolError → W → W → Type 0) → ℕ → W → W → Type 0
+IsLineAnswered g ends follows code old new =
+    (((accepted : Bool) × ((code ≡ status_without_failure accepted) × ends accepted)) × (new ≡ old))
+    ⊎ ((e : ToolError) × (shown : _) × (IsFailureShown g (fault.Tool e) code old shown × follows e shown new))
+
+-- the words are a command line, and that is answered; or they are none, and why is shown
+abbrev pub IsRequestAnswered : {W : Type 0} → Ghosts W → List (List ℕ) → (Line → Bool → Type 0) → (Line → ToolError → W → W → Type 0) → ℕ → W → W → Type 0
 IsRequestAnswered g words ends follows code old new =
-    (AreWordsOfValidCommandLine words × ((accepted : Bool) × ((code ≡ status_without_failure accepted) × ends accepted)) × (new ≡ old))
-    ⊎ ((f : Fault) × (shown : _) × (IsFailureOfWords words f × IsFailureShown g f code old shown × follows f shown new))
+    ((line : Line) × (ParserTakesWords words × IsLineGivenByRows (rows words) line × IsLineAnswered g (ends line) (follows line) code old new))
+    ⊎ ((e : LineError) × (IsLineErrorOfWords words e × IsFailureShown g (fault.Line e) code old new))

@@ -1,10 +1,8 @@
 // The cause for which a command line wasn't carried out.
 
-ghost use Rattle.std.specs.Prelude.{◌≡◌, ◌⊎◌, IfErr, IfOk, IfSome, length, map, take};
-ghost use Rattle.std.specs.Io.KnownBytes.{Appends};
-ghost use Rattle.std.specs.String.{string_bytes};
-ghost use Rattle.lfs_tool.specs.Explained.{FailsToCountNeededBlocks, FailsToReadImage, ExplainsTooFewBlocks, ExplainsBrokenSizeRule, ExplainsByCheck, IsImageSizeOfLine, WritesExplanation, ExplainsError, IsPathFaultOrNothing, IsFollowed, IsErrorInsteadOfExplanation, ExplainsNeededBlocksOfFolder};
-ghost use Rattle.lfs_tool.specs.KnownBytes.{AppendsBeginningOfBytes};
+ghost use Rattle.std.specs.Prelude.{◌≡◌, IfErr, IfOk, IfSome, length, take};
+ghost use Rattle.lfs_tool.specs.Explained.{FailsToCountNeededBlocks, FailsToReadImage, ExplainsTooFewBlocks, ExplainsBrokenSizeRule, ExplainsByCheck, IsImageSizeOfLine, ExplainsError, IsPathFaultOrNothing, IsErrorFollowed, IsErrorInsteadOfExplanation, IsErrorInsteadOfLines, ExplainsNeededBlocksOfFolder, WritesWhy, explanation_text, unexplained_text};
+ghost use Rattle.lfs_tool.specs.Reports.{WritesTextOrFails};
 ghost use Rattle.lfs_tool.specs.RunsAtPaths.{IsTrueAtPath, IsTrueForMode};
 
 use crate::creation::read_source_entries;
@@ -12,12 +10,13 @@ use crate::explanation::{Explanation, explanation_lines};
 use crate::input::{IMAGE_MAX, read_image};
 use crate::needed_blocks::{NeededBlocks, enough_block_count_for_entries};
 use crate::{
-    Fault, Line, Mode, Places, ToolError, ToolOutput, check_result_of_image,
-    geometry_of_image_sizes, read_line, write_bytes_and_flush,
+    Line, Mode, Places, ToolError, ToolOutput, check_result_of_image, geometry_of_image_sizes,
+    write_bytes_and_flush,
 };
+use arrayvec::ArrayString;
 use lfs_device::Error;
 use lfs_tool_line::Sizes;
-use std::alloc::Global;
+use std::alloc::{AllocError, Global};
 
 // Returns the size in bytes of the image at a line's path.
 #[tactic(auto, using(crate::proofs::Placing::image_fails))]
@@ -151,15 +150,44 @@ pub fn explanation_of_error<P: Places>(
     }
 }
 
+// Returns the lines that explain the error in which a command line ended.
+fn explanation_lines_of_error<P: Places>(
+    alloc: Global,
+    places: &P,
+    line: &Line<'_>,
+    error: ToolError,
+) -> Result<Vec<u8>, ToolError>
+    ensures ok { IfOk result (λ text. (e : _) × (ExplainsError P.image_path P.Image.remaining P.folder_path P.folder_limit P.Folder.shown line.now error e × (text.items ≡ explanation_text e))) }
+    ensures err { IfErr result (IsErrorInsteadOfLines P.image_path P.Image.faults P.folder_path P.Folder.faults P.Folder.shown line.now error) }
+{
+    let explanation = match explanation_of_error(alloc, places, line, error) {
+        Ok(explanation) => explanation,
+        Err(error) => return Err(error),
+    };
+    match explanation_lines(alloc, &explanation) {
+        Ok(text) => Ok(text),
+        Err(AllocError) => Err(ToolError::Fs(Error::NoMemory)),
+    }
+}
+
 // Writes lines. A failed write is ignored.
 fn write_explanation_lines<E: ToolOutput>(err: &mut E, lines: &[u8])
-    ensures beginning { AppendsBeginningOfBytes (E.contents err.old) (E.contents err.new) lines.now }
-    ensures whole { E.faults err.new ≡ E.faults err.old → Appends (E.contents err.old) (E.contents err.new) lines.now × (E.pending err.new ≡ 0) }
+    ensures { WritesTextOrFails E.ToolOutput lines.now err.old err.new }
 {
     let _ = write_bytes_and_flush(err, lines);
 }
 
-// Writes the cause for which a line ended in this error. Nothing is written where it isn't found out.
+// Writes which error comes in place of an explanation, without memory.
+fn write_error_instead<E: ToolOutput>(err: &mut E, error: ToolError)
+    ensures { WritesTextOrFails E.ToolOutput (unexplained_text error) err.old err.new }
+{
+    let mut text = ArrayString::<64>::new();
+    text.push_str("not explained: ");
+    text.push_str(error.line().as_str());
+    write_explanation_lines(err, text.as_str().as_bytes());
+}
+
+// Writes the cause for which a line ended in this error, or the error that comes in place of it.
 fn explain_error<P: Places, E: ToolOutput>(
     alloc: Global,
     places: &P,
@@ -167,34 +195,25 @@ fn explain_error<P: Places, E: ToolOutput>(
     error: ToolError,
     err: &mut E,
 )
-    ensures { (err.new ≡ err.old) ⊎ WritesExplanation P.image_path P.Image.remaining P.folder_path P.folder_limit P.Folder.shown E.ToolOutput line.now error err.old err.new }
+    ensures { WritesWhy P.image_path P.Image.remaining P.Image.faults P.folder_path P.folder_limit P.Folder.faults P.Folder.shown E.ToolOutput line.now error err.old err.new }
 {
-    let Ok(explanation) = explanation_of_error(alloc, places, line, error) else {
-        return;
-    };
-    let Ok(text) = explanation_lines(alloc, &explanation) else {
-        return;
-    };
-    write_explanation_lines(err, text.as_slice());
+    match explanation_lines_of_error(alloc, places, line, error) {
+        Ok(text) => write_explanation_lines(err, text.as_slice()),
+        Err(error) => write_error_instead(err, error),
+    }
 }
 
-// Writes the cause after the line of a fault, where the words request it.
+// Writes the cause after the line of an error, where the command line requests it.
 pub(crate) fn explain<P: Places, E: ToolOutput>(
     alloc: Global,
     places: &P,
-    words: &[String],
-    fault: &Fault,
+    line: &Line<'_>,
+    error: ToolError,
     err: &mut E,
 )
-    ensures { IsFollowed P.image_path P.Image.remaining P.folder_path P.folder_limit P.Folder.shown E.ToolOutput (map string_bytes words.now) fault.now err.old err.new }
+    ensures { IsErrorFollowed P.image_path P.Image.remaining P.Image.faults P.folder_path P.folder_limit P.Folder.faults P.Folder.shown E.ToolOutput line.now error err.old err.new }
 {
-    let Fault::Tool(error) = fault else {
-        return;
-    };
-    let Ok(line) = read_line(alloc, words) else {
-        return;
-    };
     if line.explain {
-        explain_error(alloc, places, &line, *error, err);
+        explain_error(alloc, places, line, error, err);
     }
 }

@@ -74,6 +74,7 @@ pub use judgement::judge;
 pub use lfs_tool_folders::{FaultLog, NewImage};
 pub use lfs_tool_line::{Line, LineError, Mode, read_line};
 pub use listings::list;
+pub use modes::carry_out;
 pub use needed_blocks::NeededBlocks;
 pub use noted_files::Noted;
 pub use old_image::OldImage;
@@ -86,7 +87,7 @@ pub use requests::{check_for_command_line, list_for_command_line, unpack_for_com
 pub use searches::find;
 pub use sizes::geometry_of_image_sizes;
 pub use superblocks::wrong_superblock_number_in_image;
-pub use tool_runs::{answer, run};
+pub use tool_runs::answer;
 pub use unpacked_images::unpack;
 pub use verdict::{AcceptedOrders, ImageSummary, Verdict};
 pub use watched_stream::Watched;

@@ -83,9 +83,13 @@ fn unpack_image_at_path<P: Places>(
     unpack_for_command_line(alloc, line, &mut image, &mut target, &mut progress)
 }
 
-// Does what a command line requests. Returns false where it is a check, of an image that isn't
-// accepted.
-pub(crate) fn carry_out<P: Places, W: ToolOutput>(
+/// Does what a command line requests, at the places of its paths. The lines of a listing and of a check
+/// are written to `out`. Returns false where an image was checked that isn't accepted, and else true.
+///
+/// # Errors
+/// Those of `lfs_tool::list`, `lfs_tool::check`, `lfs_tool::unpack` or `create_for_command_line`, at the
+/// same times. `Fs(NoMemory)` also where memory isn't granted for what is at a path.
+pub fn carry_out<P: Places, W: ToolOutput>(
     alloc: Global,
     places: &P,
     line: &Line<'_>,

@@ -720,7 +720,7 @@ fn all_hold<R: Files + AllocGlobal + Clone + Drop>(rt: &R, runs: &[Run]) -> io::
 const CORRUPT: &str = "error: Corrupt (84)\ncorrupt\npair 0 1: no commit with a right checksum\n";
 
 // Words of runs that end in an error, the status, and what is told.
-const EXPLAINED: [(&[&str], u8, &str); 18] = [
+const EXPLAINED: [(&[&str], u8, &str); 19] = [
     // without the option nothing more
     (&["-l", "runs/none"], 3, "error: input\n"),
     // the path of a file or a folder, and the system's words
@@ -754,6 +754,12 @@ const EXPLAINED: [(&[&str], u8, &str); 18] = [
         &["--explain", "-u", "runs/held", "runs/good"],
         3,
         "error: output\nruns/held/a: something else than a file stands there\n",
+    ),
+    // standard input isn't read again
+    (
+        &["--explain", "-l", "-"],
+        1,
+        "error: Invalid (22)\nnot explained: error: input\n",
     ),
     // what a check says
     (&["--explain", "-l", "runs/zeros"], 1, CORRUPT),

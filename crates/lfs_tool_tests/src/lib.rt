@@ -22,6 +22,8 @@ mod progress;
 #[cfg(test)]
 mod sources;
 #[cfg(test)]
+mod streams;
+#[cfg(test)]
 mod texts;
 #[cfg(test)]
 mod whole_images;

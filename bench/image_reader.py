@@ -21,7 +21,11 @@ LARGEST_FILE = 2147483647
 
 
 class Refused(Exception):
-    """The image isn't listed; the text is the error's name."""
+    """The image isn't listed; the text is the error's name, and `rule` is what it breaks."""
+
+    def __init__(self, error, rule):
+        super().__init__(error)
+        self.rule = rule
 
 
 @dataclass
@@ -40,9 +44,9 @@ class Pair:
     move: bytes
 
 
-def accept(fact):
+def accept(fact, rule):
     if not fact:
-        raise Refused("Corrupt")
+        raise Refused("Corrupt", rule)
 
 
 def word(data, at=0):
@@ -86,9 +90,9 @@ def fold(entries):
         if kind >> 8 == 5:
             continue
         attribute = kind >> 8 == 3
-        accept(attribute or kind in OF_ANY_LENGTH or kind in FIXED)
-        accept(attribute or length != NONE)
-        accept(length == FIXED.get(kind, length))
+        accept(attribute or kind in OF_ANY_LENGTH or kind in FIXED, "entry")
+        accept(attribute or length != NONE, "entry")
+        accept(length == FIXED.get(kind, length), "entry")
         if kind >> 8 == 6:
             address = words(data)
             tail = (kind == 0x601, None if address == (NULL, NULL) else address)
@@ -101,30 +105,34 @@ def fold(entries):
 
 def change(slots, kind, ident, data):
     """One entry of a slot. Attributes count for the rules alone; they are never listed."""
-    accept(ident != NONE)
+    accept(ident != NONE, "entry")
     if kind >> 8 == 0:
         slots.extend(Slot() for _ in range(len(slots), ident + 1))
         slots[ident].kind, slots[ident].name = kind, data
         return
-    accept(ident < len(slots) or kind == CREATE and ident == len(slots))
+    accept(ident < len(slots) or kind == CREATE and ident == len(slots), "entry")
     if kind == CREATE:
         slots.insert(ident, Slot())
     elif kind == DELETE:
         del slots[ident]
     else:
-        accept(slots[ident].kind is not None)
+        accept(slots[ident].kind is not None, "entry")
         if kind >> 8 == 2:
             slots[ident].struct = (kind, data)
 
 
-def read_pair(blocks, address):
+def held_log(blocks, address):
+    """The log of the block that holds, or None where neither has a commit."""
     one, other = (read_log(blocks[block]) for block in address)
-    accept(one or other)
     if one and other:
         later = (other[0] - one[0]) % 2**32
-        held = other if 0 < later < 2**31 else one
-    else:
-        held = one or other
+        return other if 0 < later < 2**31 else one
+    return one or other
+
+
+def read_pair(blocks, address):
+    held = held_log(blocks, address)
+    accept(held, "commit")
     return Pair(address, held[1][0], *fold(held[1]))
 
 
@@ -132,7 +140,8 @@ def read_thread(blocks):
     pairs, seen, address = [], set(), (0, 1)
     while address is not None:
         for block in address:
-            accept(block < len(blocks) and block not in seen)
+            accept(block < len(blocks), "range")
+            accept(block not in seen, "repeat")
             seen.add(block)
         pairs.append(read_pair(blocks, address))
         address = pairs[-1].tail[1]
@@ -148,21 +157,21 @@ def trailing_zeros(number):
 
 def list_blocks(blocks, head, size):
     """The blocks of a well-formed list, from its first."""
-    accept(1 <= size <= LARGEST_FILE)
+    accept(1 <= size <= LARGEST_FILE, "list")
     count, held = 1, len(blocks[0])
     while held < size:
         held += len(blocks[0]) - 4 * (trailing_zeros(count) + 1)
         count += 1
-        accept(count <= len(blocks))
+        accept(count <= len(blocks), "list")
     found, block = [], head
     for index in range(count):
-        accept(block < len(blocks))
+        accept(block < len(blocks), "list")
         found.append(block)
         block = word(blocks[block])
     found.reverse()
     for index in range(1, count):
         for pointer in range(1, trailing_zeros(index) + 1):
-            accept(word(blocks[found[index]], 4 * pointer) == found[index - 2**pointer])
+            accept(word(blocks[found[index]], 4 * pointer) == found[index - 2**pointer], "list")
     return found
 
 
@@ -181,13 +190,29 @@ def longer_first(one, other):
     return one < other
 
 
+def last_superblock(pairs):
+    """Superblocks may stand alone in their pairs, each with a hard tail to the next one. A pair in front may have no slot at all."""
+    root, index = 0, 0
+    while index < len(pairs):
+        slots, hard = pairs[index].slots, pairs[index].tail[0]
+        headed = bool(slots) and slots[0].kind == SUPERBLOCK
+        if headed:
+            root = index
+        elif slots:
+            break
+        if len(slots) > 1 or not hard:
+            break
+        index += 1
+    return root
+
+
 class Image:
     """The thread of an image, which of its pairs begins the root, and what the move names."""
 
     def __init__(self, blocks):
         self.blocks = blocks
         self.pairs = read_thread(blocks)
-        self.root = self.last_superblock()
+        self.root = last_superblock(self.pairs)
         self.rising = {shorter_first, longer_first}  # the orders in which all names seen so far rise
         self.moved = None  # (index of the pair, id)
         state = bytes(12)
@@ -196,42 +221,28 @@ class Image:
         self.sync = state[3] >> 7 == 1
         self.check_move(word(state) >> 20 & 0x7ff, word(state) >> 10 & 0x3ff, words(state[4:]))
 
-    def last_superblock(self):
-        """Superblocks may stand alone in their pairs, each with a hard tail to the next one. A pair in front may have no slot at all."""
-        root, index = 0, 0
-        while index < len(self.pairs):
-            slots, hard = self.pairs[index].slots, self.pairs[index].tail[0]
-            headed = bool(slots) and slots[0].kind == SUPERBLOCK
-            if headed:
-                root = index
-            elif slots:
-                break
-            if len(slots) > 1 or not hard:
-                break
-            index += 1
-        return root
-
     def check_move(self, kind, ident, address):
         if kind == 0:
-            accept(ident == 0 and address == (0, 0))
+            accept(ident == 0 and address == (0, 0), "move")
             return
-        accept(kind == SET_MOVE)
+        accept(kind == SET_MOVE, "move")
         known = {frozenset(pair.address): index for index, pair in enumerate(self.pairs)}
         index = known.get(frozenset(address))
-        accept(index is not None and ident < len(self.pairs[index].slots))
-        accept(self.pairs[index].slots[ident].kind != SUPERBLOCK)
+        accept(index is not None and ident < len(self.pairs[index].slots), "move")
+        accept(self.pairs[index].slots[ident].kind != SUPERBLOCK, "move")
         self.moved = (index, ident)
 
     def check_superblocks(self, block_size):
         chain = [pair for pair in self.pairs[: self.root + 1] if pair.slots]
-        accept(chain and chain[0].first == (SUPERBLOCK, 0, 8, b"littlefs") and chain[0].slots[0].name == b"littlefs")
+        accept(chain and chain[0].first == (SUPERBLOCK, 0, 8, b"littlefs"), "first entry")
+        accept(chain[0].slots[0].name == b"littlefs", "superblock's name")
         fields = chain[0].slots[0].struct[1]
-        accept(len(fields) == 24 and words(fields)[:3] == (0x00020000, block_size, len(self.blocks)))
+        accept(len(fields) == 24 and words(fields)[:3] == (0x00020000, block_size, len(self.blocks)), "fields")
         for pair in chain:
-            accept(pair.slots[0].kind == SUPERBLOCK and pair.slots[0].struct == (INLINE, fields))
+            accept(pair.slots[0].kind == SUPERBLOCK and pair.slots[0].struct == (INLINE, fields), "same fields")
         for index, pair in enumerate(self.pairs):
             others = pair.slots[1:] if index <= self.root else pair.slots
-            accept(all(slot.kind != SUPERBLOCK for slot in others))
+            accept(all(slot.kind != SUPERBLOCK for slot in others), "second superblock")
 
     def check_slots(self):
         structs = {FILE: (INLINE, LIST), FOLDER: (PAIR_STRUCT,)}
@@ -239,9 +250,9 @@ class Image:
             for slot in pair.slots:
                 if slot.kind == SUPERBLOCK:
                     continue
-                accept(slot.struct[0] in structs.get(slot.kind, ()))
-                accept(1 <= len(slot.name) <= 255 and slot.name not in (b".", b".."))
-                accept(b"\0" not in slot.name and b"/" not in slot.name)
+                accept(slot.struct[0] in structs.get(slot.kind, ()), "struct")
+                accept(1 <= len(slot.name) <= 255 and slot.name not in (b".", b".."), "name")
+                accept(b"\0" not in slot.name and b"/" not in slot.name, "name")
 
     def check_blocks(self):
         owned = {block for pair in self.pairs for block in pair.address}
@@ -249,7 +260,7 @@ class Image:
             for ident, slot in enumerate(pair.slots):
                 if slot.struct[0] == LIST and (index, ident) != self.moved:
                     for block in list_blocks(self.blocks, *words(slot.struct[1])):
-                        accept(block not in owned)
+                        accept(block not in owned, "owned")
                         owned.add(block)
 
     def lines(self):
@@ -262,20 +273,20 @@ class Image:
             path, slot = stack.pop()
             if slot.kind == FOLDER:
                 index = begins.get(frozenset(words(slot.struct[1])))
-                accept(index is not None)
+                accept(index is not None, "directory")
                 stack += self.below(path, index, reached)
                 lines.append(b"d 0 %s\n" % escaped(path))
             else:
                 size = word(slot.struct[1], 4) if slot.struct[0] == LIST else len(slot.struct[1])
                 lines.append(b"f %d %s\n" % (size, escaped(path)))
-        accept(self.sync or len(reached) == len(self.pairs))
+        accept(self.sync or len(reached) == len(self.pairs), "unreached")
         return b"".join(lines)
 
     def below(self, path, index, reached):
         """The entries of the directory that begins at a pair, the last one first."""
         entries = []
         while True:
-            accept(index not in reached)
+            accept(index not in reached, "directory")
             reached.add(index)
             for ident, slot in enumerate(self.pairs[index].slots):
                 if slot.kind != SUPERBLOCK and (index, ident) != self.moved:
@@ -285,7 +296,7 @@ class Image:
             index += 1
         names = [slot.name for slot in entries]
         self.rising = {order for order in self.rising if all(order(a, b) for a, b in zip(names, names[1:]))}
-        accept(self.rising)
+        accept(self.rising, "order")
         return [(path + b"/" + slot.name, slot) for slot in sorted(entries, key=lambda slot: slot.name, reverse=True)]
 
 
@@ -299,13 +310,22 @@ def check_geometry(length, block_size, page):
     valid = valid and page & (page - 1) == 0 and block_size % page == 0
     valid = valid and length % block_size == 0 and 2 <= length // block_size <= 65536
     if not valid or length > 268435456:
-        raise Refused("Invalid")
+        raise Refused("Invalid", "sizes")
 
 
-def listing(image, block_size=4096, page=256):
+def blocks_of(image, block_size):
+    return [image[at : at + block_size] for at in range(0, len(image), block_size)]
+
+
+def listed_image(image, block_size, page):
+    """The image as it is read, and its lines."""
     check_geometry(len(image), block_size, page)
-    image = Image([image[at : at + block_size] for at in range(0, len(image), block_size)])
+    image = Image(blocks_of(image, block_size))
     image.check_superblocks(block_size)
     image.check_slots()
     image.check_blocks()
-    return image.lines()
+    return image, image.lines()
+
+
+def listing(image, block_size=4096, page=256):
+    return listed_image(image, block_size, page)[1]

@@ -1,0 +1,249 @@
+"""What `mklittlefs --check` may print of an image, worked out by the plain reader of image_reader.py.
+
+`known_of(image, (block size, page))` gives what is known: all lines of an image that the reader accepts; and of any other one
+each line that is true of it, in the parts in which the program looks for one.
+"""
+
+import collections
+from dataclasses import dataclass
+
+import image_reader
+from image_reader import CREATE, DELETE, FILE, FOLDER, INLINE, LIST, NONE, PAIR_STRUCT, SUPERBLOCK
+
+VERSION = 0x00020000
+LIMITS = (255, 2147483647, 1022)
+LARGEST_IMAGE = 268435456
+STRUCTS = {FILE: (INLINE, LIST), FOLDER: (PAIR_STRUCT,)}
+NO_RULE = "no single rule was found"
+
+# For rules of the reader the kinds of lines for them. Where it stops at one of the first rules such a line is true. At one of
+# the second it may have none. All other rules have no lines of their own.
+LINES_OF = {
+    "sizes": {"sizes"},
+    "range": {"out of range"},
+    "repeat": {"one block twice", "in two pairs"},
+    "commit": {"no commit"},
+    "entry": {"malformed"},
+    "fields": {"no superblock", "no fields", "other fields"},
+    "second superblock": {"second superblock"},
+    "struct": {"other struct"},
+    "name": {"bad name"},
+}
+PARTLY = {"first entry": {"no superblock"}, "superblock's name": {"no superblock"}, "same fields": {"no fields", "other fields"}}
+INCOMPLETE = {"no name", "no struct"}  # the reader looks for these behind the thread; the search doesn't go on there
+
+
+@dataclass
+class Known:
+    """What is known of an image without the program."""
+
+    rule: str  # at which the reader stops; None where it accepts the image
+    summary: str  # the output for an accepted image
+    parts: list  # of lines (kind, text) that are true if the image isn't accepted, in the order of the search
+
+    def first(self):
+        """The true lines of the first part that has any: text to kind."""
+        part = next((part for part in self.parts if part), [("no rule", NO_RULE)])
+        return {text: kind for kind, text in part}
+
+
+# The lines of an accepted image
+
+
+def attribute_sizes(entries):
+    """For each slot the lengths of its attributes by their types."""
+    slots = []
+    for kind, ident, length, _ in entries:
+        if kind >> 8 == 0:
+            slots.extend({} for _ in range(len(slots), ident + 1))
+        elif kind == CREATE:
+            slots.insert(ident, {})
+        elif kind == DELETE:
+            del slots[ident]
+        elif kind >> 8 == 3 and length == NONE:
+            slots[ident].pop(kind, None)
+        elif kind >> 8 == 3:
+            slots[ident][kind] = length
+    return [sum(4 + length for length in slot.values()) for slot in slots]
+
+
+def fits(slot, attributes, block_size, page):
+    """Whether a slot is within what is written."""
+    if slot.kind == SUPERBLOCK:
+        return image_reader.words(slot.struct[1])[3:] == LIMITS
+    inline = min(block_size // 8, 1022)
+    charge = 4 + len(slot.name) + 4 + inline + attributes
+    return charge <= (block_size - 39 - page) // 2 and (slot.struct[0] != INLINE or len(slot.struct[1]) <= inline)
+
+
+def is_writable(read, block_size, page):
+    """Whether an accepted image is in the writing profile of docs/FORMAT.md."""
+    for index, pair in enumerate(read.pairs):
+        attributes = attribute_sizes(image_reader.held_log(read.blocks, pair.address)[1])
+        size = sum(8 + len(slot.name) + len(slot.struct[1]) for slot in pair.slots) + sum(attributes)
+        if size > block_size - 39 - page or len(pair.slots) > 1000:
+            return False
+        if not all(fits(slot, its, block_size, page) for slot, its in zip(pair.slots, attributes)):
+            return False
+        if index > read.root and read.pairs[index - 1].tail[0] and not pair.slots:
+            return False
+    return True
+
+
+def used_blocks(read):
+    used = {block for pair in read.pairs for block in pair.address}
+    for index, pair in enumerate(read.pairs):
+        for ident, slot in enumerate(pair.slots):
+            if slot.struct[0] == LIST and (index, ident) != read.moved:
+                used.update(image_reader.list_blocks(read.blocks, *image_reader.words(slot.struct[1])))
+    return len(used)
+
+
+def summary(read, listing, block_size, page):
+    kinds = collections.Counter(line[:1] for line in listing.splitlines())
+    used, count = used_blocks(read), len(read.blocks)
+    orders = {image_reader.longer_first: "longer-first", image_reader.shorter_first: "shorter-first"}
+    order = "either" if len(read.rising) == 2 else orders[next(iter(read.rising))]
+    recover = "yes" if read.sync or read.moved else "no"
+    writable = "yes" if is_writable(read, block_size, page) else "no: beyond what this library writes"
+    return (f"ok\nfiles {kinds[b'f']}\ndirectories {kinds[b'd']}\nused {used} of {count} blocks\nfree {count - used}\n"
+            f"order {order}\nrecover {recover}\nwritable {writable}\n")
+
+
+# The lines that are true of any other one
+
+
+def wrong_numbers(fields, block_size, count):
+    """What a superblock's 24 bytes say that isn't so."""
+    version, size, blocks = image_reader.words(fields)[:3]
+    if size != block_size:
+        yield f"superblock: block size {size}, given {block_size}"
+    if blocks != count:
+        yield f"superblock: block count {blocks}, given {count}"
+    if version != VERSION:
+        yield f"superblock: version {version >> 16}.{version & 0xffff}"
+
+
+def wrong_by_place(image, block_size):
+    """The numbers of what seems a superblock in block 0 or 1. None are known of a file past the largest image."""
+    if block_size == 0 or len(image) > LARGEST_IMAGE:
+        return
+    for at in 0, block_size:
+        start = image[at : at + 44]
+        if len(start) == 44 and start[8:16] == b"littlefs":
+            for text in wrong_numbers(start[20:], block_size, len(image) // block_size):
+                yield "by place", text
+
+
+def wrong_sizes(image, block_size, page):
+    try:
+        image_reader.check_geometry(len(image), block_size, page)
+    except image_reader.Refused:
+        yield "sizes", f"no image of blocks of {block_size} bytes and pages of {page}"
+
+
+def place(address, ident, slot):
+    return 'pair %d %d, slot %d: "%s"' % (*address, ident, image_reader.escaped(slot.name).decode())
+
+
+def wrong_log(blocks, address):
+    """What is wrong with a pair whose blocks are in the image."""
+    held = image_reader.held_log(blocks, address)
+    if not held:
+        yield "no commit", "pair %d %d: no commit with a right checksum" % address
+        return
+    try:
+        slots = image_reader.fold(held[1])[0]
+    except image_reader.Refused:
+        yield "malformed", "pair %d %d: its log has an entry that may not stand there" % address
+        return
+    for ident, slot in enumerate(slots):
+        if slot.kind is None:
+            yield "no name", "pair %d %d, slot %d: no name" % (*address, ident)
+        elif slot.struct[0] is None:
+            yield "no struct", place(address, ident, slot) + " has no struct"
+
+
+def wrong_pair(blocks, pairs, address):
+    """What is wrong with the pair at the address that the thread names after these pairs."""
+    outside = [block for block in address if block >= len(blocks)]
+    for block in outside:
+        yield "out of range", "pair %d %d: block %d isn't in the image" % (*address, block)
+    if address[0] == address[1]:
+        yield "one block twice", "pair %d %d: one block twice" % address
+    for other in pairs:
+        for block in set(other.address) & set(address):
+            yield "in two pairs", "block %d: in two pairs, %d %d and %d %d" % (block, *other.address, *address)
+    if not outside:
+        yield from wrong_log(blocks, address)
+
+
+def follow(blocks):
+    """The pairs of the thread, up to the first with which something is wrong, and what that is."""
+    pairs, address = [], (0, 1)
+    while address is not None:
+        wrong = list(wrong_pair(blocks, pairs, address))
+        if wrong:
+            return pairs, wrong
+        pairs.append(image_reader.read_pair(blocks, address))
+        address = pairs[-1].tail[1]
+    return pairs, []
+
+
+def is_headed(pair):
+    return bool(pair.slots) and pair.slots[0].kind == SUPERBLOCK
+
+
+def wrong_chain(pairs, root, block_size, count):
+    """What is wrong with slot 0 of the pairs of the superblock's chain."""
+    if not is_headed(pairs[root]):
+        yield "no superblock", "superblock: the root directory doesn't begin with one"
+        return
+    for pair in filter(is_headed, pairs[: root + 1]):
+        struct, data = pair.slots[0].struct
+        if struct != INLINE or len(data) != 24:
+            yield "no fields", "pair %d %d, slot 0: no superblock's struct" % pair.address
+        else:
+            for text in wrong_numbers(data, block_size, count):
+                yield "other fields", "pair %d %d, %s" % (*pair.address, text)
+
+
+def is_name(name):
+    return 1 <= len(name) <= 255 and name not in (b".", b"..") and not set(name) & set(b"\0/")
+
+
+def wrong_slots(pairs, root):
+    """What is wrong with all slots but slot 0 of the pairs of the superblock's chain."""
+    for index, pair in enumerate(pairs):
+        for ident, slot in enumerate(pair.slots):
+            if ident == 0 and index <= root:
+                continue
+            where = place(pair.address, ident, slot)
+            if slot.kind == SUPERBLOCK:
+                yield "second superblock", where + " is a second superblock"
+            elif slot.struct[0] not in STRUCTS[slot.kind]:
+                yield "other struct", where + " has another kind's struct"
+            if not is_name(slot.name):
+                yield "bad name", where + " is no name"
+
+
+def true_lines(image, block_size, page):
+    """The parts in the order of the search, each with the lines that are true. What is behind a broken thread isn't known."""
+    parts = [list(wrong_by_place(image, block_size)), list(wrong_sizes(image, block_size, page))]
+    if parts[1]:
+        return parts
+    blocks = image_reader.blocks_of(image, block_size)
+    pairs, wrong = follow(blocks)
+    if wrong:
+        return parts + [wrong]
+    root = image_reader.last_superblock(pairs)
+    return parts + [list(wrong_chain(pairs, root, block_size, len(blocks))), list(wrong_slots(pairs, root))]
+
+
+def known_of(image, geometry):
+    parts = true_lines(image, *geometry)
+    try:
+        read, listing = image_reader.listed_image(image, *geometry)
+    except image_reader.Refused as refused:
+        return Known(refused.rule, None, parts)
+    return Known(None, summary(read, listing, *geometry), parts)

@@ -35,6 +35,10 @@ def logs(plan):
     return [what for what in plan.blocks.values() if isinstance(what, Log)]
 
 
+def some_log(rnd, plan):
+    return rnd.choice(logs(plan) or [Log(1, [Commit([])])])
+
+
 def some_entry(rnd, plan, *kinds):
     """An entry of one of the kinds (of any, without them); one of no log, where there is none."""
     found = [entry for log in logs(plan) for commit in log.commits for entry in commit.entries if not kinds or entry.kind in kinds]
@@ -118,11 +122,11 @@ def moves(rnd, plan):
     if entry.kind == 0x7ff and rnd.random() < 0.5:
         entry.data = bytes(a ^ b for a, b in zip(entry.data, state))
     else:
-        rnd.choice(rnd.choice(logs(plan)).commits).entries.append(Entry(0x7ff, 0x3ff, state))
+        rnd.choice(some_log(rnd, plan).commits).entries.append(Entry(0x7ff, 0x3ff, state))
 
 
 def checksum(rnd, plan):
-    commit = rnd.choice(rnd.choice(logs(plan)).commits)
+    commit = rnd.choice(some_log(rnd, plan).commits)
     field = rnd.randrange(3)
     if field == 0:
         commit.length = rnd.choice([0, 3, 4, 5, 8, 1022, REMOVED, rnd.randrange(1024)])
@@ -144,12 +148,12 @@ def head(rnd, plan):
 
 
 def revision(rnd, plan):
-    log = rnd.choice(logs(plan))
+    log = some_log(rnd, plan)
     log.revision = (log.revision + rnd.choice([1, -1, 2**31, 2**31 - 1, 2**30])) & NULL
 
 
 def entries(rnd, plan):
-    commit = rnd.choice(rnd.choice(logs(plan)).commits)
+    commit = rnd.choice(some_log(rnd, plan).commits)
     some = commit.entries
     at, how = rnd.randrange(len(some) + 1), rnd.randrange(5)
     if how == 0:

@@ -1,6 +1,8 @@
 // Entries at paths that get another one, in a thread that has nothing to recover.
 
-ghost use Rattle.std.specs.Prelude.{◌≡◌, ◌≢◌, false, true, IfSome, OnOk};
+ghost use Rattle.std.specs.Prelude.{◌≡◌, ◌≢◌, false, true, IfSome, IsSome, OnOk};
+ghost use Rattle.lfs_model.specs.Slots.{zero_gstate};
+ghost use Rattle.lfs_model.specs.Thread.{gstate_of};
 ghost use Rattle.lfs_model.specs.TreeEdits.{renamed, same_path};
 ghost use Rattle.lfs_model.specs.Tree.{Path};
 ghost use Rattle.lfs_model.specs.Shown.{tree_on_disk};
@@ -205,8 +207,9 @@ impl<D: BlockDevice> Tree<D> {
     /// Gives an entry another path. At that path is no entry, a file, or an empty directory, which
     /// is replaced. The entries beneath a directory move with it.
     ///
-    /// A recovery comes first. The paths are looked up then, unless
-    /// [`look_up_rename`](Tree::look_up_rename) has just found where they lead to.
+    /// `known` is where the paths lead to, as [`look_up_rename`](Tree::look_up_rename) has just found it.
+    /// It is None where something is to recover: a recovery comes first then, and the paths are looked
+    /// up again after it.
     ///
     /// Errors: `Io` where a call of the device failed. `NoMemory` where memory isn't granted. The
     /// tree has failed after either.
@@ -220,6 +223,7 @@ impl<D: BlockDevice> Tree<D> {
         requires can { CanRenamePath self.old from.now to.now }
         requires apart { same_path from.now to.now ≡ false }
         requires known { IfSome known (AreRenameTargets (kept_of self.old) from.now to.now) }
+        requires looked_up { gstate_of self.old.pairs ≡ zero_gstate → IsSome known }
         ensures { AppliesCallOrFails self.old (call.Rename from.now to.now) result self.new }
     {
         self.recover(alloc)?;

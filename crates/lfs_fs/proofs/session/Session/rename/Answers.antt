@@ -28,6 +28,9 @@ rename-answer-requires-clause-apart g c =
 pub rename-answer-requires-clause-known : goal.rename-answer-requires-clause-known
 rename-answer-requires-clause-known g c = c.in_ok-renaming.ensures.2.targets
 
+pub rename-answer-requires-clause-looked_up : goal.rename-answer-requires-clause-looked_up
+rename-answer-requires-clause-looked_up g c = c.in_ok-renaming.ensures.2.handed_on
+
 pub invariant_of-self : goal.invariant_of-self
 invariant_of-self g c = between_checked c.self.inside.tree c.self.inside.files (ops.Rename c.args.from.now c.args.to.now) _ c.check_rename.result c.check_rename.new.tree c.self.invariant c.check_rename.ensures
 

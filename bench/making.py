@@ -5,8 +5,9 @@ usage: making.py PROGRAM
 
 Needs Debian's mtd-utils and genext2fs. Makes the folder, checks that what PROGRAM makes of it and unpacks again is the same,
 and prints the least of several times of `mklittlefs -c`, of `mkfs.jffs2` without compression and of `genext2fs`, and of
-`mklittlefs -u` and `cp -r`, with the ratios. Fails where making an image takes more than twice as long as the faster of the
-other two, or unpacking more than twice as long as `cp -r`.
+`mklittlefs -u` and `cp -r`, with the ratios. The images are of 14 MiB, into which the files just fit, and of 24 MiB:
+`mklittlefs` writes all of an image, `genext2fs` what isn't zero, and `mkfs.jffs2` only what is in it. Fails where making an
+image takes more than twice as long as the faster of the other two, or unpacking more than twice as long as `cp -r`.
 """
 
 import filecmp
@@ -20,7 +21,7 @@ import time
 
 FOLDERS, FILES = 50, 40
 BYTES = 8 * 1024 * 1024
-IMAGE = 24 * 1024 * 1024
+TIGHT, LARGE = 14 * 1024 * 1024, 24 * 1024 * 1024
 RUNS = 7
 MOST = 2
 
@@ -64,25 +65,35 @@ def least_times(*calls):
     return least
 
 
+def making_times(program, size):
+    """Of each of the three, for an image of so many bytes. `mkfs.jffs2` makes one as long as what is in it."""
+    return least_times(
+        ("image", f"{program} -c files -s {size} image"),
+        ("jffs2", "mkfs.jffs2 -m none -r files -o jffs2"),
+        ("ext2", f"genext2fs -d files -b {size // 1024} ext2"),
+    )
+
+
+def show_making(size, making, jffs2, ext2):
+    times = f"mklittlefs -c: {making:.0f} ms, mkfs.jffs2: {jffs2:.0f} ms, genext2fs: {ext2:.0f} ms"
+    print(f"{size >> 20} MiB: {times}, ratios {making / jffs2:.2f}, {making / ext2:.2f}")
+
+
 def main(program):
     program = os.path.abspath(program)
     with tempfile.TemporaryDirectory() as room:
         os.chdir(room)
         make_folder()
-        create = f"{program} -c files -s {IMAGE} image"
+        making, jffs2, ext2 = making_times(program, TIGHT)
+        large = making_times(program, LARGE)
         unpack = f"{program} -u back image"
-        making, jffs2, ext2 = least_times(
-            ("image", create),
-            ("jffs2", "mkfs.jffs2 -m none -r files -o jffs2"),
-            ("ext2", f"genext2fs -d files -b {IMAGE // 1024} ext2"),
-        )
         unpacking, copying = least_times(("back", unpack), ("copy", "cp -r files copy"))
         if not is_same("files", "back"):
             sys.exit("what is unpacked isn't what the image was made of")
-    fastest = min(jffs2, ext2)
-    print(f"mklittlefs -c: {making:.0f} ms, mkfs.jffs2: {jffs2:.0f} ms, genext2fs: {ext2:.0f} ms, ratio to the faster {making / fastest:.2f}")
+    show_making(TIGHT, making, jffs2, ext2)
+    show_making(LARGE, *large)
     print(f"mklittlefs -u: {unpacking:.0f} ms, cp -r: {copying:.0f} ms, ratio {unpacking / copying:.2f}")
-    return making > MOST * fastest or unpacking > MOST * copying
+    return making > MOST * min(jffs2, ext2) or unpacking > MOST * copying
 
 
 if __name__ == "__main__":

@@ -37,7 +37,7 @@ fn main(rt: HostRuntime) -> io::Result<()> {
         )?,
         Err(error) => println!(rt; "error {error:?} {}", error.number())?,
     }
-    own_device::show(&rt)?;
-    recovery::show(&rt)?;
-    operations::show(&rt)
+    own_device::print_used_blocks_on_chip(&rt)?;
+    recovery::print_paths_after_rename_stops(&rt)?;
+    operations::print_example_replies(&rt)
 }

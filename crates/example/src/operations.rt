@@ -6,7 +6,7 @@ use std::alloc::Global;
 use std::io;
 
 // The replies to operations on a new file system, a refusal among them.
-fn replies(alloc: Global) -> Result<Vec<Reply>, Error> {
+fn replies_to_example_operations(alloc: Global) -> Result<Vec<Reply>, Error> {
     let device = RamDevice::blank(alloc, Geometry::new(4096, 256, 16)?)?;
     let mut session = format(alloc, device).map_err(|(_, error)| error)?;
     let operations = [
@@ -32,8 +32,8 @@ fn show_reply(rt: &HostRuntime, reply: &Reply) -> io::Result<()> {
 }
 
 /// Shows each reply in a line.
-pub fn show(rt: &HostRuntime) -> io::Result<()> {
-    match replies(rt.alloc()) {
+pub fn print_example_replies(rt: &HostRuntime) -> io::Result<()> {
+    match replies_to_example_operations(rt.alloc()) {
         Ok(replies) => {
             for reply in &replies {
                 show_reply(rt, reply)?;

@@ -2,9 +2,9 @@
 
 ghost use Rattle.std.specs.Prelude.{◌≡◌, ◌≤◌, ◌<◌, ◌+◌, ◌*◌, length, replicate};
 ghost use Rattle.lfs_model.specs.Blocks.{cut, bytes_after_overwrite_at};
-ghost use Rattle.lfs_model.specs.Conformance.{AreConformingCalls};
-ghost use Rattle.lfs_model.specs.History.{IsLeftByNewestCall};
-ghost use Rattle.lfs_device.specs.Bytes.{AreBytes};
+ghost use Rattle.lfs_model.specs.Conformance.{AreConformingDeviceCalls};
+ghost use Rattle.lfs_model.specs.History.{AreBlocksLeftByNewestCall};
+ghost use Rattle.lfs_device.specs.Bytes.{AreAllNumbersBytes};
 
 use lfs_device::{BlockDevice, Error, Geometry, Trace};
 use lfs_fs::format;
@@ -17,10 +17,10 @@ struct Chip {
     geometry: Geometry,
     bytes: Vec<u8>,
     trace: Trace,
-    ghost are_bytes: { AreBytes bytes.items },
+    ghost are_bytes: { AreAllNumbersBytes bytes.items },
     ghost size: { length bytes.items ≡ geometry.block_size * geometry.block_count },
-    ghost newest: { IsLeftByNewestCall trace.events (cut geometry.block_size geometry.block_count bytes.items) },
-    ghost conforms: { AreConformingCalls trace.events },
+    ghost newest: { AreBlocksLeftByNewestCall trace.events (cut geometry.block_size geometry.block_count bytes.items) },
+    ghost conforms: { AreConformingDeviceCalls trace.events },
 }
 
 impl Chip {
@@ -31,7 +31,7 @@ impl Chip {
         Ok(Chip {
             geometry,
             bytes,
-            trace: Trace::from_proof(&geometry, &()),
+            trace: Trace::with_history_chosen_by_proof(&geometry, &()),
         })
     }
 
@@ -46,7 +46,7 @@ impl Chip {
 }
 
 // Writes bytes over those from an offset on.
-fn overwrite(all: &mut Vec<u8>, at: usize, bytes: &[u8])
+fn overwrite_chip_bytes_at_offset(all: &mut Vec<u8>, at: usize, bytes: &[u8])
     requires { at + length bytes.now ≤ length all.old.items }
     ensures { all.new.items ≡ bytes_after_overwrite_at all.old.items at bytes.now }
 {
@@ -54,10 +54,10 @@ fn overwrite(all: &mut Vec<u8>, at: usize, bytes: &[u8])
 }
 
 // Leaves 0xff in so many bytes from an offset on.
-fn fill(all: &mut Vec<u8>, at: usize, len: usize)
+fn fill_with_erased_bytes(all: &mut Vec<u8>, at: usize, len: usize)
     requires { at + len ≤ length all.old.items }
     ensures filled { all.new.items ≡ bytes_after_overwrite_at all.old.items at (replicate len 255) }
-    ensures are_bytes { AreBytes all.old.items → AreBytes all.new.items }
+    ensures are_bytes { AreAllNumbersBytes all.old.items → AreAllNumbersBytes all.new.items }
 {
     all[at..at + len].fill(0xff);
 }
@@ -87,29 +87,29 @@ impl BlockDevice for Chip {
     fn read(&mut self, block: u32, off: u32, buf: &mut [u8]) -> Result<(), Error> {
         let start = self.position(block, off);
         buf.copy_from_slice(&self.bytes[start..start + buf.len()]);
-        self.trace = Trace::from_proof(self, &(block, off, buf.len()));
+        self.trace = Trace::with_history_chosen_by_proof(self, &(block, off, buf.len()));
         Ok(())
     }
 
     fn prog(&mut self, block: u32, off: u32, bytes: &[u8]) -> Result<(), Error> {
-        let trace = Trace::from_proof(self, &(block, off, bytes));
+        let trace = Trace::with_history_chosen_by_proof(self, &(block, off, bytes));
         let start = self.position(block, off);
-        overwrite(&mut self.bytes, start, bytes);
+        overwrite_chip_bytes_at_offset(&mut self.bytes, start, bytes);
         self.trace = trace;
         Ok(())
     }
 
     fn erase(&mut self, block: u32) -> Result<(), Error> {
-        let trace = Trace::from_proof(self, &block);
+        let trace = Trace::with_history_chosen_by_proof(self, &block);
         let start = self.position(block, 0);
-        fill(&mut self.bytes, start, self.geometry.block_size as usize);
+        fill_with_erased_bytes(&mut self.bytes, start, self.geometry.block_size as usize);
         self.trace = trace;
         Ok(())
     }
 }
 
 // How many blocks are used on a chip with a directory.
-fn used_on_chip(alloc: Global) -> Result<u32, Error> {
+fn used_block_count_on_chip(alloc: Global) -> Result<u32, Error> {
     let chip = Chip::new(alloc, Geometry::new(4096, 256, 16)?)?;
     let mut session = format(alloc, chip).map_err(|(_, error)| error)?;
     session.mkdir(alloc, b"/log")?;
@@ -117,8 +117,8 @@ fn used_on_chip(alloc: Global) -> Result<u32, Error> {
 }
 
 /// Shows how many there are.
-pub fn show(rt: &HostRuntime) -> io::Result<()> {
-    match used_on_chip(rt.alloc()) {
+pub fn print_used_blocks_on_chip(rt: &HostRuntime) -> io::Result<()> {
+    match used_block_count_on_chip(rt.alloc()) {
         Ok(count) => println!(rt; "a device of one's own: {count} blocks used"),
         Err(error) => println!(rt; "error {error:?}"),
     }

@@ -1,16 +1,16 @@
 // A loss of power in a rename, and the recovery.
 
-use lfs_device::{Error, FaultDevice, Geometry, RamDevice, Which};
+use lfs_device::{CountedCalls, Error, FaultDevice, Geometry, RamDevice};
 use lfs_fs::{format, mount};
 use std::alloc::Global;
 use std::io;
 
 // What a device holds that stopped at a program of a rename, the how manieth `nth` says.
-fn stopped_at(alloc: Global, nth: u64) -> Result<RamDevice, Error> {
+fn device_stopped_in_rename(alloc: Global, nth: u64) -> Result<RamDevice, Error> {
     let device = RamDevice::blank(alloc, Geometry::new(4096, 256, 16)?)?;
     let mut session = format(alloc, device).map_err(|(_, error)| error)?;
     session.mkdir(alloc, b"/draft")?;
-    let device = FaultDevice::new(session.unmount(), Which::Program, nth, true);
+    let device = FaultDevice::new(session.unmount(), CountedCalls::Program, nth, true);
     let mut session = mount(alloc, device).map_err(|(_, error)| error)?;
     // It answers `Io` where the device stops, and that is no error of this function.
     let _ = session.rename(alloc, b"/draft", b"/final");
@@ -18,8 +18,8 @@ fn stopped_at(alloc: Global, nth: u64) -> Result<RamDevice, Error> {
 }
 
 // The path that is there after the stop, a mount and a recovery: the old one or the new one.
-fn path_after(alloc: Global, nth: u64) -> Result<&'static str, Error> {
-    let device = stopped_at(alloc, nth)?;
+fn path_after_rename_recovery(alloc: Global, nth: u64) -> Result<&'static str, Error> {
+    let device = device_stopped_in_rename(alloc, nth)?;
     let mut session = mount(alloc, device).map_err(|(_, error)| error)?;
     session.recover(alloc)?;
     let is_old = session.stat(alloc, b"/draft").is_ok();
@@ -27,9 +27,9 @@ fn path_after(alloc: Global, nth: u64) -> Result<&'static str, Error> {
 }
 
 /// Shows it for stops at the first programs.
-pub fn show(rt: &HostRuntime) -> io::Result<()> {
+pub fn print_paths_after_rename_stops(rt: &HostRuntime) -> io::Result<()> {
     for nth in 1..4u64 {
-        match path_after(rt.alloc(), nth) {
+        match path_after_rename_recovery(rt.alloc(), nth) {
             Ok(path) => println!(rt; "power lost at program {nth}: {path}")?,
             Err(error) => println!(rt; "error {error:?}")?,
         }

@@ -6,11 +6,11 @@ use Rattle.std.proofs.lemmas.List.{get_or-set_same, get_or-set_other, length-set
 use Rattle.std.proofs.lemmas.List.Sums.{sum_by-set, count_by-le-length}
 use Rattle.std.proofs.lemmas.List.FromFn.{length-map-range_with_len, get_or-map-range_with_len, fill_by_all}
 use Rattle.std.proofs.lemmas.Option.{slice_get-get_or, slice_get_within, same_Some}
-use Rattle.lfs_model.specs.BlockSets.{BlockState, IsFree, is_used, used_count}
+use Rattle.lfs_model.specs.BlockSets.{BlockState, IsBlockFree, is_used, used_count}
 use Rattle.lfs_model.specs.BlockSets.BlockState.{Free}
 use Rattle.lfs_alloc.specs.declared.marks.Marks.{Marks}
 use Rattle.lfs_alloc.specs.Marks.{block_state_at_bit}
-use Rattle.lfs_alloc.specs.BlockMap.{MarksCoverBlocksAndCountUsed, marks_of_free_blocks, state_of_block_in_marks, block_states_of_marks}
+use Rattle.lfs_alloc.specs.BlockMap.{MarksCoverBlocksAndCountUsed, marks_with_all_blocks_free, state_of_block_in_marks, block_states_of_marks}
 
 pub length-block_states_of_marks : (marks : List Marks) (n : ℕ) → length (block_states_of_marks marks n) ≡ n
 length-block_states_of_marks marks n = length-map-range_with_len (state_of_block_in_marks marks) 0 n
@@ -22,17 +22,17 @@ pub slice_get-block_states_of_marks : (marks : List Marks) (n b : ℕ) → b < n
 slice_get-block_states_of_marks marks n b lt =
     slice_get-get_or (block_states_of_marks marks n) b Free (omega (arith, length-block_states_of_marks marks n)) ∙ ap Some (get_or-block_states_of_marks marks n b Free lt)
 
-pub IsFree-block_states_of_marks : (marks : List Marks) (n b : ℕ) → IsFree (block_states_of_marks marks n) b → (b < n) × (state_of_block_in_marks marks b ≡ Free)
-IsFree-block_states_of_marks marks n b free =
+pub IsBlockFree-block_states_of_marks : (marks : List Marks) (n b : ℕ) → IsBlockFree (block_states_of_marks marks n) b → (b < n) × (state_of_block_in_marks marks b ≡ Free)
+IsBlockFree-block_states_of_marks marks n b free =
     let lt : b < n = omega (arith, slice_get_within (block_states_of_marks marks n) b Free free, length-block_states_of_marks marks n) in
     (lt, same_Some (state_of_block_in_marks marks b) Free (sym (slice_get-block_states_of_marks marks n b lt) ∙ free))
 
 -- a block by the marks that it is in, and its place there
-pub state_of_block_in_marks-place : (marks : List Marks) (q k : ℕ) → k < 64 → state_of_block_in_marks marks (q * 64 + k) ≡ block_state_at_bit (get_or marks q marks_of_free_blocks) k
+pub state_of_block_in_marks-place : (marks : List Marks) (q k : ℕ) → k < 64 → state_of_block_in_marks marks (q * 64 + k) ≡ block_state_at_bit (get_or marks q marks_with_all_blocks_free) k
 state_of_block_in_marks-place marks q k lt =
     let word : (q * 64 + k) / 64 ≡ q = omega arith in
     let place : (q * 64 + k) % 64 ≡ k = omega arith in
-    ap (λ i. block_state_at_bit (get_or marks i marks_of_free_blocks) ((q * 64 + k) % 64)) word ∙ ap (block_state_at_bit (get_or marks q marks_of_free_blocks)) place
+    ap (λ i. block_state_at_bit (get_or marks i marks_with_all_blocks_free) ((q * 64 + k) % 64)) word ∙ ap (block_state_at_bit (get_or marks q marks_with_all_blocks_free)) place
 
 -- a count after one element changed
 pub count_by-set : {X : Type 0} (p : X → Bool) (xs : List X) (i : ℕ) (y d : X) → i < length xs → count_by p (set xs i y) + cond (p (get_or xs i d)) 1 0 ≡ count_by p xs + cond (p y) 1 0
@@ -50,24 +50,24 @@ pub record IsChange (marks : List Marks) (n b : ℕ) (m : Marks) (st : BlockStat
   pub within : b < n
   pub covered : n ≤ 64 * length marks
   pub here : block_state_at_bit m (b % 64) ≡ st
-  pub others : (other : ℕ) → other < 64 → other ≢ b % 64 → block_state_at_bit m other ≡ block_state_at_bit (get_or marks (b / 64) marks_of_free_blocks) other
+  pub others : (other : ℕ) → other < 64 → other ≢ b % 64 → block_state_at_bit m other ≡ block_state_at_bit (get_or marks (b / 64) marks_with_all_blocks_free) other
 
 module _ (marks : List Marks) (n b : ℕ) (m : Marks) (st : BlockState) (change : IsChange marks n b m st) where
   in_marks : b / 64 < length marks
   in_marks = omega (arith, change.within, change.covered)
 
   here_is : state_of_block_in_marks (set marks (b / 64) m) b ≡ st
-  here_is = ap (λ w. block_state_at_bit w (b % 64)) (get_or-set_same marks (b / 64) m marks_of_free_blocks in_marks) ∙ change.here
+  here_is = ap (λ w. block_state_at_bit w (b % 64)) (get_or-set_same marks (b / 64) m marks_with_all_blocks_free in_marks) ∙ change.here
 
   same_marks : (k : ℕ) → k ≢ b → k / 64 ≡ b / 64 → state_of_block_in_marks (set marks (b / 64) m) k ≡ state_of_block_in_marks marks k
   same_marks k ne word =
-      ap (λ i. block_state_at_bit (get_or (set marks (b / 64) m) i marks_of_free_blocks) (k % 64)) word
-      ∙ ap (λ w. block_state_at_bit w (k % 64)) (get_or-set_same marks (b / 64) m marks_of_free_blocks in_marks)
+      ap (λ i. block_state_at_bit (get_or (set marks (b / 64) m) i marks_with_all_blocks_free) (k % 64)) word
+      ∙ ap (λ w. block_state_at_bit w (k % 64)) (get_or-set_same marks (b / 64) m marks_with_all_blocks_free in_marks)
       ∙ change.others (k % 64) (omega arith) (λ same. ne (omega arith))
-      ∙ ap (λ i. block_state_at_bit (get_or marks i marks_of_free_blocks) (k % 64)) (sym word)
+      ∙ ap (λ i. block_state_at_bit (get_or marks i marks_with_all_blocks_free) (k % 64)) (sym word)
 
   other_marks : (k : ℕ) → k / 64 ≢ b / 64 → state_of_block_in_marks (set marks (b / 64) m) k ≡ state_of_block_in_marks marks k
-  other_marks k ne = ap (λ w. block_state_at_bit w (k % 64)) (get_or-set_other marks (b / 64) (k / 64) m marks_of_free_blocks ne)
+  other_marks k ne = ap (λ w. block_state_at_bit w (k % 64)) (get_or-set_other marks (b / 64) (k / 64) m marks_with_all_blocks_free ne)
 
   other_is : (k : ℕ) → k ≢ b → state_of_block_in_marks (set marks (b / 64) m) k ≡ state_of_block_in_marks marks k
   other_is k ne = ⊎_elim (same_marks k ne) (other_marks k) (cases_eq (k / 64) (b / 64))
@@ -109,7 +109,7 @@ module _ (marks : List Marks) (n b : ℕ) (m : Marks) (st : BlockState) (change 
 
 module _ (n size : ℕ) (none : Marks) (clear : (place : ℕ) → block_state_at_bit none place ≡ Free) (covered : n ≤ 64 * size) where
   state_of_block_in_marks-replicate : (b : ℕ) → b < n → state_of_block_in_marks (replicate size none) b ≡ Free
-  state_of_block_in_marks-replicate b lt = ap (λ m. block_state_at_bit m (b % 64)) (get_or-replicate size (b / 64) none marks_of_free_blocks (omega arith)) ∙ clear (b % 64)
+  state_of_block_in_marks-replicate b lt = ap (λ m. block_state_at_bit m (b % 64)) (get_or-replicate size (b / 64) none marks_with_all_blocks_free (omega arith)) ∙ clear (b % 64)
 
   pub sets_of-replicate : block_states_of_marks (replicate size none) n ≡ replicate n Free
   sets_of-replicate = sym (fill_by_all (state_of_block_in_marks (replicate size none)) (replicate n Free) n Free (length-replicate n Free)
@@ -129,17 +129,17 @@ module _ (n size : ℕ) (none : Marks) (clear : (place : ℕ) → block_state_at
 -- ---- a search for a free block
 
 -- a block by the marks that it is in, at a place
-pub free_at : (marks : List Marks) (n q k : ℕ) → k < 64 → q * 64 + k < n → block_state_at_bit (get_or marks q marks_of_free_blocks) k ≡ Free → IsFree (block_states_of_marks marks n) (q * 64 + k)
+pub free_at : (marks : List Marks) (n q k : ℕ) → k < 64 → q * 64 + k < n → block_state_at_bit (get_or marks q marks_with_all_blocks_free) k ≡ Free → IsBlockFree (block_states_of_marks marks n) (q * 64 + k)
 free_at marks n q k lt within free =
     slice_get-block_states_of_marks marks n (q * 64 + k) within ∙ ap Some (state_of_block_in_marks-place marks q k lt ∙ free)
 
 -- none is free before the marks that the search has come to, nor there before the place that it found
 pub none_free_before : (marks : List Marks) (n start q place found : ℕ) → found < 64
     → ((b : ℕ) → start ≤ b → b < q * 64 + place → state_of_block_in_marks marks b ≢ Free)
-    → ((k : ℕ) → place ≤ k → k < found → block_state_at_bit (get_or marks q marks_of_free_blocks) k ≢ Free)
-    → (b : ℕ) → start ≤ b → b < q * 64 + found → ¬ (IsFree (block_states_of_marks marks n) b)
+    → ((k : ℕ) → place ≤ k → k < found → block_state_at_bit (get_or marks q marks_with_all_blocks_free) k ≢ Free)
+    → (b : ℕ) → start ≤ b → b < q * 64 + found → ¬ (IsBlockFree (block_states_of_marks marks n) b)
 none_free_before marks n start q place found lt passed first b from below free =
-    let here = IsFree-block_states_of_marks marks n b free in
+    let here = IsBlockFree-block_states_of_marks marks n b free in
     ⊎_elim (λ before. passed b from before here.1)
     (λ behind.
     let place_of : ℕ = b - q * 64 in

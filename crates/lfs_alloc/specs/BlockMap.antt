@@ -5,12 +5,12 @@ use Rattle.lfs_model.specs.BlockSets.{BlockState, BlockStateList, used_count as 
 use Rattle.lfs_alloc.specs.declared.marks.Marks.{Marks}
 use Rattle.lfs_alloc.specs.Marks.{block_state_at_bit}
 
-abbrev pub marks_of_free_blocks : Marks
-marks_of_free_blocks = record { used = 0; in_flight = 0 }
+abbrev pub marks_with_all_blocks_free : Marks
+marks_with_all_blocks_free = record { used = 0; in_flight = 0 }
 
 -- the state of a block
 abbrev pub state_of_block_in_marks : List Marks → ℕ → BlockState
-state_of_block_in_marks marks b = block_state_at_bit (slice_index_or marks (b / 64) marks_of_free_blocks) (b % 64)
+state_of_block_in_marks marks b = block_state_at_bit (slice_index_or marks (b / 64) marks_with_all_blocks_free) (b % 64)
 
 -- the states of so many blocks
 abbrev pub block_states_of_marks : List Marks → ℕ → BlockStateList

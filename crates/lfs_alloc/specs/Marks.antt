@@ -7,10 +7,10 @@ use Rattle.lfs_alloc.specs.declared.marks.Marks.{Marks}
 use Rattle.lfs_alloc.specs.declared.marks.BlockUse.{BlockUse}
 use Rattle.lfs_alloc.specs.declared.marks.BlockUse.TheVariants as state
 
-abbrev pub block_state_view : BlockUse → BlockState
-block_state_view state.Free = Free
-block_state_view state.InFlight = InFlight
-block_state_view state.Used = Used
+abbrev pub block_state_of_block_use : BlockUse → BlockState
+block_state_of_block_use state.Free = Free
+block_state_of_block_use state.InFlight = InFlight
+block_state_of_block_use state.Used = Used
 
 -- the state of the block at a place
 abbrev pub block_state_at_bit : Marks → ℕ → BlockState

@@ -1,9 +1,9 @@
 //! The states of 64 blocks in two words.
 
 ghost use Rattle.std.specs.Prelude.{◌≡◌, ◌≢◌, ℕ, ◌<◌, ◌≤◌, IfNone, IfSome};
-ghost use Rattle.lfs_model.specs.BlockSets.{is_in_flight, is_used};
+ghost use Rattle.lfs_model.specs.BlockSets.{is_block_state_in_flight, is_used};
 ghost use Rattle.lfs_model.specs.BlockSets.BlockState.{Free};
-ghost use Rattle.lfs_alloc.specs.Marks.{block_state_view, block_state_at_bit};
+ghost use Rattle.lfs_alloc.specs.Marks.{block_state_of_block_use, block_state_at_bit};
 
 /// The state of a block in the map.
 #[derive(Clone, Copy, PartialEq, Eq)]
@@ -15,13 +15,13 @@ pub enum BlockUse {
 
 impl BlockUse {
     pub fn is_used(self) -> bool
-        ensures { result ≡ is_used (block_state_view self) }
+        ensures { result ≡ is_used (block_state_of_block_use self) }
     {
         matches!(self, BlockUse::Used)
     }
 
     pub fn is_in_flight(self) -> bool
-        ensures { result ≡ is_in_flight (block_state_view self) }
+        ensures { result ≡ is_block_state_in_flight (block_state_of_block_use self) }
     {
         matches!(self, BlockUse::InFlight)
     }
@@ -36,7 +36,7 @@ pub struct Marks {
 
 impl Marks {
     /// Makes marks of 64 free blocks.
-    pub fn none() -> Marks
+    pub fn with_all_blocks_free() -> Marks
         ensures { (place : ℕ) → block_state_at_bit result place ≡ Free }
     {
         Marks {
@@ -47,7 +47,7 @@ impl Marks {
 
     pub fn state(self, place: u32) -> BlockUse
         requires { place < 64 }
-        ensures { block_state_view result ≡ block_state_at_bit self place }
+        ensures { block_state_of_block_use result ≡ block_state_at_bit self place }
     {
         let bit = 1u64 << place;
         if self.used & bit != 0 {
@@ -60,9 +60,9 @@ impl Marks {
     }
 
     /// Returns the same marks with one block in another state.
-    pub fn with(self, place: u32, state: BlockUse) -> Marks
+    pub fn with_state_at_bit(self, place: u32, state: BlockUse) -> Marks
         requires { place < 64 }
-        ensures here { block_state_at_bit result place ≡ block_state_view state }
+        ensures here { block_state_at_bit result place ≡ block_state_of_block_use state }
         ensures others { (other : ℕ) → other < 64 → other ≢ place → block_state_at_bit result other ≡ block_state_at_bit self other }
     {
         let bit = 1u64 << place;

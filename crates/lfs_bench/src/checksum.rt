@@ -7,7 +7,7 @@ use std::time::Instant;
 const BLOCK: usize = 65536;
 
 // Fills the block with bytes that have no pattern which a table would favour.
-fn fill(block: &mut [u8]) {
+fn fill_with_pseudorandom_bytes(block: &mut [u8]) {
     let mut state = 1u32;
     for byte in block.iter_mut() {
         state = state.wrapping_mul(1_103_515_245).wrapping_add(12345);
@@ -15,7 +15,7 @@ fn fill(block: &mut [u8]) {
     }
 }
 
-fn rounds_over(block: &[u8], rounds: u32) -> u32 {
+fn checksum_of_repeated_block(block: &[u8], rounds: u32) -> u32 {
     let mut sum = 0xffff_ffff;
     for _ in 0..rounds {
         sum = crc(sum, block);
@@ -25,11 +25,11 @@ fn rounds_over(block: &[u8], rounds: u32) -> u32 {
 
 /// Computes the checksum `rounds` times, each time from the last result on. Prints the result, and
 /// on standard error the nanoseconds that it took (bench/crc.py compares them).
-pub fn show(rt: &HostRuntime, rounds: u32) -> io::Result<()> {
+pub fn benchmark_checksum(rt: &HostRuntime, rounds: u32) -> io::Result<()> {
     let mut block = [0u8; BLOCK];
-    fill(&mut block);
+    fill_with_pseudorandom_bytes(&mut block);
     let start = Instant::now(rt)?;
-    let sum = rounds_over(&block, rounds);
+    let sum = checksum_of_repeated_block(&block, rounds);
     let took = start.elapsed(rt)?;
     println!(rt; "{sum}")?;
     eprintln!(rt; "{}", took.as_nanos())

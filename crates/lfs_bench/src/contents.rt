@@ -1,45 +1,45 @@
 // Contents of files that the rows beside littlefs's own code write and read.
 
-use crate::files::{Measured, file_path, put};
+use crate::files::{Measured, file_path, write_new_file};
 use lfs_device::Error;
 use lfs_fs::OpenFlags;
 use std::alloc::Global;
 
-fn to_append() -> OpenFlags {
+fn append_open_flags() -> OpenFlags {
     OpenFlags::WRITE | OpenFlags::CREATE | OpenFlags::APPEND
 }
 
-fn to_replace() -> OpenFlags {
+fn replace_open_flags() -> OpenFlags {
     OpenFlags::WRITE | OpenFlags::CREATE | OpenFlags::TRUNCATE
 }
 
 /// Appends bytes to a file, which is made where it isn't there.
-pub fn append(
+pub fn append_bytes_to_file(
     alloc: Global,
     session: &mut Measured,
     path: &[u8],
     bytes: &[u8],
 ) -> Result<(), Error> {
-    let fd = session.open(alloc, path, to_append())?;
+    let fd = session.open(alloc, path, append_open_flags())?;
     session.write(alloc, fd, bytes)?;
     session.close(alloc, fd)
 }
 
 /// Gives a file new contents, or makes it.
-pub fn replace(
+pub fn replace_file_contents(
     alloc: Global,
     session: &mut Measured,
     path: &[u8],
     bytes: &[u8],
 ) -> Result<(), Error> {
-    let fd = session.open(alloc, path, to_replace())?;
+    let fd = session.open(alloc, path, replace_open_flags())?;
     session.write(alloc, fd, bytes)?;
     session.close(alloc, fd)
 }
 
 /// Appends 100 bytes to an open file and syncs it, so often.
 pub fn append_and_sync(alloc: Global, session: &mut Measured, count: u32) -> Result<(), Error> {
-    let fd = session.open(alloc, b"/log", to_append())?;
+    let fd = session.open(alloc, b"/log", append_open_flags())?;
     for _ in 0..count {
         session.write(alloc, fd, &[b'y'; 100])?;
         session.sync(alloc, fd)?;
@@ -50,13 +50,13 @@ pub fn append_and_sync(alloc: Global, session: &mut Measured, count: u32) -> Res
 /// Opens a file, appends 100 bytes and closes it, so often.
 pub fn open_and_append(alloc: Global, session: &mut Measured, count: u32) -> Result<(), Error> {
     for _ in 0..count {
-        append(alloc, session, b"/log", &[b'y'; 100])?;
+        append_bytes_to_file(alloc, session, b"/log", &[b'y'; 100])?;
     }
     Ok(())
 }
 
 /// Writes a file of so many pieces of 4,096 bytes.
-pub fn write_pieces(
+pub fn write_file_in_pieces(
     alloc: Global,
     session: &mut Measured,
     path: &[u8],
@@ -71,7 +71,7 @@ pub fn write_pieces(
 }
 
 /// Reads so many pieces of a file.
-pub fn read_pieces(
+pub fn read_file_in_pieces(
     alloc: Global,
     session: &mut Measured,
     path: &[u8],
@@ -86,7 +86,11 @@ pub fn read_pieces(
 }
 
 /// Reads 100 bytes at places of a file of 1 MiB that a generator picks, so often.
-pub fn read_anywhere(alloc: Global, session: &mut Measured, count: u32) -> Result<(), Error> {
+pub fn read_at_random_positions(
+    alloc: Global,
+    session: &mut Measured,
+    count: u32,
+) -> Result<(), Error> {
     let fd = session.open(alloc, b"/big", OpenFlags::READ)?;
     let mut state = 1u32;
     for _ in 0..count {
@@ -98,7 +102,11 @@ pub fn read_anywhere(alloc: Global, session: &mut Measured, count: u32) -> Resul
 }
 
 /// Changes ten bytes near the beginning of a file of 1 MiB, so often.
-pub fn overwrite(alloc: Global, session: &mut Measured, count: u32) -> Result<(), Error> {
+pub fn overwrite_bytes_repeatedly(
+    alloc: Global,
+    session: &mut Measured,
+    count: u32,
+) -> Result<(), Error> {
     for _ in 0..count {
         let fd = session.open(alloc, b"/big", OpenFlags::WRITE)?;
         session.seek(fd, 10)?;
@@ -109,27 +117,35 @@ pub fn overwrite(alloc: Global, session: &mut Measured, count: u32) -> Result<()
 }
 
 /// Gives a file four other bytes, so often.
-pub fn replace_small(alloc: Global, session: &mut Measured, count: u32) -> Result<(), Error> {
+pub fn replace_small_file_repeatedly(
+    alloc: Global,
+    session: &mut Measured,
+    count: u32,
+) -> Result<(), Error> {
     let mut bytes = [b'a'; 4];
     for number in 0..count {
         bytes[0] = (number & 255) as u8;
-        replace(alloc, session, b"/f90000", &bytes)?;
+        replace_file_contents(alloc, session, b"/f90000", &bytes)?;
     }
     Ok(())
 }
 
 /// Fills the root's pair nearly with seven files of 512 bytes.
-pub fn make_near_full(alloc: Global, session: &mut Measured) -> Result<(), Error> {
-    put(alloc, session, b"/f90000", b"hell")?;
+pub fn fill_root_pair_nearly(alloc: Global, session: &mut Measured) -> Result<(), Error> {
+    write_new_file(alloc, session, b"/f90000", b"hell")?;
     for number in 0..7 {
         let path = file_path(alloc, number, 0)?;
-        put(alloc, session, path.as_slice(), &[b'x'; 512])?;
+        write_new_file(alloc, session, path.as_slice(), &[b'x'; 512])?;
     }
     Ok(())
 }
 
 /// Writes ten bytes to an open file, so often.
-pub fn write_tiny(alloc: Global, session: &mut Measured, count: u32) -> Result<(), Error> {
+pub fn write_ten_bytes_repeatedly(
+    alloc: Global,
+    session: &mut Measured,
+    count: u32,
+) -> Result<(), Error> {
     let fd = session.open(alloc, b"/tiny", OpenFlags::WRITE | OpenFlags::CREATE)?;
     for _ in 0..count {
         session.write(alloc, fd, b"0123456789")?;

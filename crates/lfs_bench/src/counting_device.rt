@@ -41,7 +41,7 @@ impl Counts {
 
 // The calls that were made, and their order.
 #[derive(Clone, Copy)]
-struct Turns {
+struct CallSequence {
     counts: Counts,
     // The block that was erased last, until it is programmed.
     erased: Option<u32>,
@@ -49,18 +49,18 @@ struct Turns {
     last: Option<u32>,
 }
 
-impl Turns {
-    fn take_read(&mut self, bytes: usize) {
+impl CallSequence {
+    fn count_read_call(&mut self, bytes: usize) {
         self.counts.reads = self.counts.reads.saturating_add(1);
         self.counts.read_bytes = self.counts.read_bytes.saturating_add(bytes as u64);
     }
 
-    fn take_erase(&mut self, block: u32) {
+    fn count_erase_call(&mut self, block: u32) {
         self.counts.erases = self.counts.erases.saturating_add(1);
         self.erased = Some(block);
     }
 
-    fn take_program(&mut self, block: u32, off: u32, bytes: usize) {
+    fn count_program_call(&mut self, block: u32, off: u32, bytes: usize) {
         self.counts.programs = self.counts.programs.saturating_add(1);
         self.counts.program_bytes = self.counts.program_bytes.saturating_add(bytes as u64);
         let is_later = match self.last {
@@ -79,21 +79,21 @@ impl Turns {
 #[derive(Drop)]
 pub struct CountingDevice<D: BlockDevice> {
     inner: D,
-    turns: Turns,
+    turns: CallSequence,
     // How often each block was erased. Blocks past its end aren't counted.
     erased: Vec<u32>,
 }
 
 impl<D: BlockDevice> CountingDevice<D> {
     pub fn new(alloc: Global, inner: D) -> CountingDevice<D> {
-        CountingDevice::with_blocks(inner, Vec::new(alloc))
+        CountingDevice::with_erase_counts(inner, Vec::new(alloc))
     }
 
     /// Makes a device with the numbers with which the counts of each block's erases begin.
-    pub fn with_blocks(inner: D, erased: Vec<u32>) -> CountingDevice<D> {
+    pub fn with_erase_counts(inner: D, erased: Vec<u32>) -> CountingDevice<D> {
         CountingDevice {
             inner,
-            turns: Turns {
+            turns: CallSequence {
                 counts: Counts::NONE,
                 erased: None,
                 last: None,
@@ -132,17 +132,17 @@ impl<D: BlockDevice> BlockDevice for CountingDevice<D> {
     }
 
     fn read(&mut self, block: u32, off: u32, buf: &mut [u8]) -> Result<(), Error> {
-        self.turns.take_read(buf.len());
+        self.turns.count_read_call(buf.len());
         self.inner.read(block, off, buf)
     }
 
     fn prog(&mut self, block: u32, off: u32, bytes: &[u8]) -> Result<(), Error> {
-        self.turns.take_program(block, off, bytes.len());
+        self.turns.count_program_call(block, off, bytes.len());
         self.inner.prog(block, off, bytes)
     }
 
     fn erase(&mut self, block: u32) -> Result<(), Error> {
-        self.turns.take_erase(block);
+        self.turns.count_erase_call(block);
         if let Some(count) = self.erased.get_mut(block as usize) {
             *count = count.saturating_add(1);
         }

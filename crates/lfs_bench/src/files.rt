@@ -9,7 +9,7 @@ use std::alloc::Global;
 pub type Measured = Session<CountingDevice<RamDevice>>;
 
 /// Returns the error in place of one that only says that memory isn't there.
-pub fn lacks<T: Drop>(_: T) -> Error {
+pub fn no_memory_error<T: Drop>(_: T) -> Error {
     Error::NoMemory
 }
 
@@ -26,7 +26,7 @@ pub fn directory_path(alloc: Global, number: u32) -> Result<Vec<u8>, Error> {
         digit(number / 10),
         digit(number),
     ];
-    Vec::from_slice(alloc, &name).map_err(lacks)
+    Vec::from_slice(alloc, &name).map_err(no_memory_error)
 }
 
 /// Returns the path of a file by its number below 100,000. The file is in the root where there are
@@ -45,12 +45,17 @@ pub fn file_path(alloc: Global, number: u32, directories: u32) -> Result<Vec<u8>
         digit(number / 10),
         digit(number),
     ];
-    path.extend_from_slice(&name).map_err(lacks)?;
+    path.extend_from_slice(&name).map_err(no_memory_error)?;
     Ok(path)
 }
 
 /// Writes a new file.
-pub fn put(alloc: Global, session: &mut Measured, path: &[u8], bytes: &[u8]) -> Result<(), Error> {
+pub fn write_new_file(
+    alloc: Global,
+    session: &mut Measured,
+    path: &[u8],
+    bytes: &[u8],
+) -> Result<(), Error> {
     let fd = session.open(alloc, path, OpenFlags::WRITE | OpenFlags::CREATE)?;
     session.write(alloc, fd, bytes)?;
     session.close(alloc, fd)
@@ -75,7 +80,7 @@ pub fn make_files(
     let bytes = [b'x'; 100];
     for number in 0..count {
         let path = file_path(alloc, number, directories)?;
-        put(alloc, session, path.as_slice(), &bytes)?;
+        write_new_file(alloc, session, path.as_slice(), &bytes)?;
     }
     Ok(())
 }
@@ -133,7 +138,11 @@ pub fn rename_often(
 }
 
 /// Sets an attribute of 16 bytes, so often.
-pub fn set_often(alloc: Global, session: &mut Measured, count: u32) -> Result<(), Error> {
+pub fn set_attribute_repeatedly(
+    alloc: Global,
+    session: &mut Measured,
+    count: u32,
+) -> Result<(), Error> {
     let mut bytes = [b'a'; 16];
     for number in 0..count {
         bytes[0] = (number & 255) as u8;
@@ -143,18 +152,22 @@ pub fn set_often(alloc: Global, session: &mut Measured, count: u32) -> Result<()
 }
 
 /// Makes a file beneath 12 directories.
-pub fn make_deep(alloc: Global, session: &mut Measured) -> Result<(), Error> {
+pub fn make_deeply_nested_file(alloc: Global, session: &mut Measured) -> Result<(), Error> {
     let mut path = Vec::new(alloc);
     for _ in 0..12 {
-        path.extend_from_slice(b"/dd").map_err(lacks)?;
+        path.extend_from_slice(b"/dd").map_err(no_memory_error)?;
         session.mkdir(alloc, path.as_slice())?;
     }
-    path.extend_from_slice(b"/f").map_err(lacks)?;
-    put(alloc, session, path.as_slice(), b"hello")
+    path.extend_from_slice(b"/f").map_err(no_memory_error)?;
+    write_new_file(alloc, session, path.as_slice(), b"hello")
 }
 
 /// Queries the size of that file, so often.
-pub fn stat_deep(alloc: Global, session: &mut Measured, count: u32) -> Result<(), Error> {
+pub fn stat_deeply_nested_file(
+    alloc: Global,
+    session: &mut Measured,
+    count: u32,
+) -> Result<(), Error> {
     for _ in 0..count {
         session.stat(alloc, b"/dd/dd/dd/dd/dd/dd/dd/dd/dd/dd/dd/dd/f")?;
     }

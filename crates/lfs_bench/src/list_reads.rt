@@ -2,7 +2,7 @@
 // of a walk back by each block's first pointer.
 
 use lfs_ctz::read_at;
-use lfs_device::{BlockDevice, Error, FaultDevice, Geometry, RamDevice, Which};
+use lfs_device::{BlockDevice, CountedCalls, Error, FaultDevice, Geometry, RamDevice};
 use std::alloc::Global;
 use std::io;
 
@@ -15,14 +15,14 @@ const SHOWN: [u32; 6] = [0, 1, 500, 512, 998, 999];
 // How many reads it took to read the first byte of a block of the list: by all pointers, and by
 // first pointers alone.
 #[derive(Clone, Copy)]
-struct Reads {
+struct ReadsOfListBlock {
     block: u32,
     ours: u64,
     plain: u64,
 }
 
 // Makes a device whose block i is block i of the list. Returns it with the list's size.
-fn device(alloc: Global) -> Result<(RamDevice, u32), Error> {
+fn device_with_skip_list(alloc: Global) -> Result<(RamDevice, u32), Error> {
     let mut bytes = Vec::new(alloc);
     let mut size = 0u32;
     for block in 0..BLOCKS {
@@ -42,7 +42,11 @@ fn device(alloc: Global) -> Result<(RamDevice, u32), Error> {
 }
 
 // Reads a byte of the block that is `steps` first pointers back from the head.
-fn read_plainly<D: BlockDevice>(dev: &mut D, head: u32, steps: u32) -> Result<(), Error> {
+fn read_along_first_pointers<D: BlockDevice>(
+    dev: &mut D,
+    head: u32,
+    steps: u32,
+) -> Result<(), Error> {
     let mut block = head;
     for _step in 0..steps {
         if block >= dev.geometry().block_count {
@@ -60,22 +64,22 @@ fn read_plainly<D: BlockDevice>(dev: &mut D, head: u32, steps: u32) -> Result<()
 }
 
 // Reads the first byte of each block both ways, and counts the reads.
-fn measure(alloc: Global) -> Result<Vec<Reads>, Error> {
-    let (device, size) = device(alloc)?;
-    let mut device = FaultDevice::new(device, Which::Read, 0, false);
+fn measure_skip_list_reads(alloc: Global) -> Result<Vec<ReadsOfListBlock>, Error> {
+    let (device, size) = device_with_skip_list(alloc)?;
+    let mut device = FaultDevice::new(device, CountedCalls::Read, 0, false);
     let mut all = Vec::new(alloc);
     let mut pos = 0u32;
     for block in 0..BLOCKS {
-        let before = device.calls(Which::Read);
+        let before = device.calls(CountedCalls::Read);
         let mut byte = [0];
         read_at(&mut device, BLOCKS - 1, size, pos, &mut byte)?;
         if byte[0] as u32 != block % 256 {
             return Err(Error::Corrupt);
         }
-        let between = device.calls(Which::Read);
-        read_plainly(&mut device, BLOCKS - 1, BLOCKS - 1 - block)?;
-        let after = device.calls(Which::Read);
-        all.push(Reads {
+        let between = device.calls(CountedCalls::Read);
+        read_along_first_pointers(&mut device, BLOCKS - 1, BLOCKS - 1 - block)?;
+        let after = device.calls(CountedCalls::Read);
+        all.push(ReadsOfListBlock {
             block,
             ours: between.saturating_sub(before),
             plain: after.saturating_sub(between),
@@ -92,8 +96,8 @@ fn measure(alloc: Global) -> Result<Vec<Reads>, Error> {
 
 /// Prints both counts for some of the blocks, and the most and the sum over all of them
 /// (bench/ctz_reads.py judges them).
-pub fn show(rt: &HostRuntime) -> io::Result<()> {
-    let all = match measure(rt.alloc()) {
+pub fn print_skip_list_read_counts(rt: &HostRuntime) -> io::Result<()> {
+    let all = match measure_skip_list_reads(rt.alloc()) {
         Ok(all) => all,
         Err(error) => return eprintln!(rt; "{error:?}"),
     };

@@ -13,21 +13,21 @@ const BLOCK: usize = 65536;
 const FILES: u32 = 1000;
 
 // Returns the name of a file. Names fall as the numbers rise.
-fn name_of(number: u32) -> [u8; 4] {
+fn file_name_of_number(number: u32) -> [u8; 4] {
     u32::MAX.wrapping_sub(number).to_be_bytes()
 }
 
 // Writes the files' names into the block, in one commit.
-fn fill(block: &mut [u8]) {
+fn fill_block_with_log(block: &mut [u8]) {
     let mut commit = CommitBuilder::new(512, block, Tag::from_bits(0xffff_ffff), Some(1));
     for number in 0..FILES {
         commit.push(Tag::new(CREATE, 0, 0), b"");
-        commit.push(Tag::new(FILE_NAME, 0, 4), &name_of(number));
+        commit.push(Tag::new(FILE_NAME, 0, 4), &file_name_of_number(number));
     }
     let _finished = commit.finish(Some([0xff; 4]));
 }
 
-fn id_of(lookup: Lookup) -> u32 {
+fn id_of_lookup(lookup: Lookup) -> u32 {
     match lookup {
         Lookup::Found(id) => u32::from(id),
         Lookup::Place(id) => 65536 + u32::from(id),
@@ -35,7 +35,7 @@ fn id_of(lookup: Lookup) -> u32 {
 }
 
 // Reads the log `rounds` times, and returns the sum of the ends that were found.
-fn read_often(block: &[u8], rounds: u32) -> u64 {
+fn read_log_repeatedly(block: &[u8], rounds: u32) -> u64 {
     let mut sum = 0u64;
     for _ in 0..rounds {
         sum = sum.wrapping_add(Log::read(block).end() as u64);
@@ -44,27 +44,33 @@ fn read_often(block: &[u8], rounds: u32) -> u64 {
 }
 
 // Takes the log by its known end `rounds` times, and returns the sum of the ends.
-fn know_often(block: &[u8], rounds: u32) -> u64 {
+fn make_known_log_repeatedly(block: &[u8], rounds: u32) -> u64 {
     let log = Log::read(block);
-    let (end, last) = (log.end(), log.last());
+    let (end, last) = (log.end(), log.last_tag_of_log());
     let mut sum = 0u64;
     for _ in 0..rounds {
-        sum = sum.wrapping_add(Log::known(block, end, last).end() as u64);
+        sum = sum.wrapping_add(Log::with_known_end(block, end, last).end() as u64);
     }
     sum
 }
 
-fn find_often(alloc: Global, log: &Log<'_>, rounds: u32) -> u64 {
+fn find_names_repeatedly(alloc: Global, log: &Log<'_>, rounds: u32) -> u64 {
     let mut sum = 0u64;
     for round in 0..rounds {
-        if let Ok(found) = find(alloc, log, NameOrder::ShorterFirst, &name_of(round), None) {
-            sum = sum.wrapping_add(u64::from(id_of(found)));
+        if let Ok(found) = find(
+            alloc,
+            log,
+            NameOrder::ShorterFirst,
+            &file_name_of_number(round),
+            None,
+        ) {
+            sum = sum.wrapping_add(u64::from(id_of_lookup(found)));
         }
     }
     sum
 }
 
-fn content_often(alloc: Global, log: &Log<'_>, rounds: u32) -> u64 {
+fn read_log_content_repeatedly(alloc: Global, log: &Log<'_>, rounds: u32) -> u64 {
     let mut sum = 0u64;
     for _ in 0..rounds {
         if let Ok(content) = Content::read(alloc, log) {
@@ -77,24 +83,30 @@ fn content_often(alloc: Global, log: &Log<'_>, rounds: u32) -> u64 {
 /// Prints the ids of two names. On standard error it prints the nanoseconds of `rounds` readings of
 /// the log, logs known by their end, look-ups of a name, and readings of the content
 /// (bench/lookups.py judges them).
-pub fn show(rt: &HostRuntime, rounds: u32) -> io::Result<()> {
+pub fn benchmark_log_lookups(rt: &HostRuntime, rounds: u32) -> io::Result<()> {
     let mut block = [0xffu8; BLOCK];
-    fill(&mut block);
+    fill_block_with_log(&mut block);
     let log = Log::read(&block);
-    let last = find(rt.alloc(), &log, NameOrder::ShorterFirst, &name_of(0), None)?;
+    let last = find(
+        rt.alloc(),
+        &log,
+        NameOrder::ShorterFirst,
+        &file_name_of_number(0),
+        None,
+    )?;
     let none = find(rt.alloc(), &log, NameOrder::ShorterFirst, b"\0", None)?;
-    println!(rt; "{} {}", id_of(last), id_of(none))?;
+    println!(rt; "{} {}", id_of_lookup(last), id_of_lookup(none))?;
     let start = Instant::now(rt)?;
-    let read = read_often(&block, rounds);
+    let read = read_log_repeatedly(&block, rounds);
     let reading = start.elapsed(rt)?;
     let start = Instant::now(rt)?;
-    let known = know_often(&block, rounds);
+    let known = make_known_log_repeatedly(&block, rounds);
     let knowing = start.elapsed(rt)?;
     let start = Instant::now(rt)?;
-    let found = find_often(rt.alloc(), &log, rounds);
+    let found = find_names_repeatedly(rt.alloc(), &log, rounds);
     let finding = start.elapsed(rt)?;
     let start = Instant::now(rt)?;
-    let contents = content_often(rt.alloc(), &log, rounds);
+    let contents = read_log_content_repeatedly(rt.alloc(), &log, rounds);
     let whole = start.elapsed(rt)?;
     eprintln!(rt; "{read} {known} {found} {contents}")?;
     eprintln!(rt;

@@ -20,15 +20,15 @@ use std::{env, io};
 // How many pieces are written where no number is given.
 const PIECES: u32 = 12;
 
-fn show_all(rt: &HostRuntime) -> io::Result<()> {
-    checksum::show(rt, 1)?;
-    look_ups::show(rt, 1)?;
-    list_reads::show(rt)?;
-    writes::show(rt, PIECES)
+fn run_all_benchmarks(rt: &HostRuntime) -> io::Result<()> {
+    checksum::benchmark_checksum(rt, 1)?;
+    look_ups::benchmark_log_lookups(rt, 1)?;
+    list_reads::print_skip_list_read_counts(rt)?;
+    writes::benchmark_file_writes(rt, PIECES)
 }
 
 // The word of that place as a number, or another number where it is none.
-fn number_or(words: &[String], place: usize, otherwise: u32) -> u32 {
+fn argument_number_or(words: &[String], place: usize, otherwise: u32) -> u32 {
     match words.get(place) {
         Some(word) => word.as_str().parse::<u32>().unwrap_or(otherwise),
         None => otherwise,
@@ -36,29 +36,29 @@ fn number_or(words: &[String], place: usize, otherwise: u32) -> u32 {
 }
 
 // The row that the words name.
-fn show_row(rt: &HostRuntime, words: &[String]) -> io::Result<()> {
+fn run_row_of_arguments(rt: &HostRuntime, words: &[String]) -> io::Result<()> {
     let Some(row) = words.get(2) else {
         return eprintln!(rt; "row NAME BLOCKS COUNT");
     };
-    c_rows::show(
+    c_rows::run_benchmark_row(
         rt,
         row.as_str(),
-        number_or(words, 3, 0),
-        number_or(words, 4, 0),
+        argument_number_or(words, 3, 0),
+        argument_number_or(words, 4, 0),
     )
 }
 
 fn main(rt: HostRuntime) -> io::Result<()> {
     let words: Vec<String> = env::args(&rt)?.collect(rt.alloc())?;
     let Some(figure) = words.get(1) else {
-        return show_all(&rt);
+        return run_all_benchmarks(&rt);
     };
     match figure.as_str() {
-        "checksum" => checksum::show(&rt, number_or(&words, 2, 1)),
-        "look_ups" => look_ups::show(&rt, number_or(&words, 2, 1)),
-        "list_reads" => list_reads::show(&rt),
-        "row" => show_row(&rt, &words),
-        "writes" => writes::show(&rt, number_or(&words, 2, PIECES)),
+        "checksum" => checksum::benchmark_checksum(&rt, argument_number_or(&words, 2, 1)),
+        "look_ups" => look_ups::benchmark_log_lookups(&rt, argument_number_or(&words, 2, 1)),
+        "list_reads" => list_reads::print_skip_list_read_counts(&rt),
+        "row" => run_row_of_arguments(&rt, &words),
+        "writes" => writes::benchmark_file_writes(&rt, argument_number_or(&words, 2, PIECES)),
         _ => eprintln!(rt; "checksum, look_ups, list_reads, writes or row"),
     }
 }

@@ -1,6 +1,6 @@
 // How a device wears that is mounted many times.
 
-use crate::contents::{append, replace};
+use crate::contents::{append_bytes_to_file, replace_file_contents};
 use crate::files::{Measured, file_path, make_directories};
 use lfs_device::Error;
 use std::alloc::Global;
@@ -9,7 +9,7 @@ const FILE: [u8; 700] = [b'x'; 700];
 
 // Appends to a log, which is removed after it has more than 40,000 bytes.
 fn append_log(alloc: Global, session: &mut Measured, bytes: &[u8]) -> Result<(), Error> {
-    append(alloc, session, b"/log", bytes)?;
+    append_bytes_to_file(alloc, session, b"/log", bytes)?;
     if session.stat(alloc, b"/log")?.size > 40000 {
         session.remove(alloc, b"/log")?;
     }
@@ -18,12 +18,16 @@ fn append_log(alloc: Global, session: &mut Measured, bytes: &[u8]) -> Result<(),
 
 // Performs one operation that the generator's state picks: a file is written anew, a log is
 // appended to, or a file is removed, where it is there.
-fn operate(alloc: Global, session: &mut Measured, state: u32) -> Result<(), Error> {
+fn perform_pseudorandom_operation(
+    alloc: Global,
+    session: &mut Measured,
+    state: u32,
+) -> Result<(), Error> {
     let path = file_path(alloc, (state >> 8) % 12, 3)?;
     let kind = (state >> 16) % 10;
     if kind < 5 {
         let size = (state >> 20) as usize % 700;
-        return replace(alloc, session, path.as_slice(), &FILE[..size]);
+        return replace_file_contents(alloc, session, path.as_slice(), &FILE[..size]);
     }
     if kind < 9 {
         return append_log(alloc, session, &FILE[..64]);
@@ -35,12 +39,16 @@ fn operate(alloc: Global, session: &mut Measured, state: u32) -> Result<(), Erro
 }
 
 /// Performs so many operations, with a mount after each 20.
-pub fn operate_often(alloc: Global, session: &mut Measured, count: u32) -> Result<(), Error> {
+pub fn perform_pseudorandom_operations(
+    alloc: Global,
+    session: &mut Measured,
+    count: u32,
+) -> Result<(), Error> {
     make_directories(alloc, session, 3)?;
     let mut state = 1u32;
     for number in 0..count {
         state = state.wrapping_mul(1_103_515_245).wrapping_add(12345);
-        operate(alloc, session, state)?;
+        perform_pseudorandom_operation(alloc, session, state)?;
         if number % 20 == 19 {
             session.remount(alloc)?;
         }
@@ -49,7 +57,11 @@ pub fn operate_often(alloc: Global, session: &mut Measured, count: u32) -> Resul
 }
 
 /// Mounts so often, each time with 100 bytes appended to a log.
-pub fn log_at_mounts(alloc: Global, session: &mut Measured, count: u32) -> Result<(), Error> {
+pub fn append_log_after_each_mount(
+    alloc: Global,
+    session: &mut Measured,
+    count: u32,
+) -> Result<(), Error> {
     for _ in 0..count {
         session.remount(alloc)?;
         append_log(alloc, session, &FILE[..100])?;
@@ -58,10 +70,14 @@ pub fn log_at_mounts(alloc: Global, session: &mut Measured, count: u32) -> Resul
 }
 
 /// Mounts so often, each time with a counter that is written anew.
-pub fn count_mounts(alloc: Global, session: &mut Measured, count: u32) -> Result<(), Error> {
+pub fn write_counter_after_each_mount(
+    alloc: Global,
+    session: &mut Measured,
+    count: u32,
+) -> Result<(), Error> {
     for _ in 0..count {
         session.remount(alloc)?;
-        replace(alloc, session, b"/count", b"1234")?;
+        replace_file_contents(alloc, session, b"/count", b"1234")?;
     }
     Ok(())
 }

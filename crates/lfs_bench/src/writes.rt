@@ -15,7 +15,7 @@ const PIECE: u32 = 4096;
 type Writing = Session<CountingDevice<RamDevice>>;
 
 // Returns the piece that is written again and again.
-fn piece() -> [u8; PIECE as usize] {
+fn pseudorandom_file_piece() -> [u8; PIECE as usize] {
     let mut state = 1u32;
     let mut piece = [0; PIECE as usize];
     for byte in piece.iter_mut() {
@@ -38,8 +38,13 @@ fn open_new_file(alloc: Global, pieces: u32) -> Result<(Writing, u32), Error> {
 }
 
 // Writes the pieces, and closes the file.
-fn write_pieces(alloc: Global, session: &mut Writing, fd: u32, pieces: u32) -> Result<(), Error> {
-    let piece = piece();
+fn write_pieces_and_close(
+    alloc: Global,
+    session: &mut Writing,
+    fd: u32,
+    pieces: u32,
+) -> Result<(), Error> {
+    let piece = pseudorandom_file_piece();
     for _ in 0..pieces {
         session.write(alloc, fd, &piece)?;
     }
@@ -47,8 +52,8 @@ fn write_pieces(alloc: Global, session: &mut Writing, fd: u32, pieces: u32) -> R
 }
 
 // Returns whether the file has `pieces` pieces.
-fn has_pieces(alloc: Global, session: &mut Writing, pieces: u32) -> Result<bool, Error> {
-    let piece = piece();
+fn has_file_all_pieces(alloc: Global, session: &mut Writing, pieces: u32) -> Result<bool, Error> {
+    let piece = pseudorandom_file_piece();
     let fd = session.open(alloc, b"/file", OpenFlags::READ)?;
     for _ in 0..pieces {
         if session.read(alloc, fd, PIECE)?.as_slice() != piece.as_slice() {
@@ -59,7 +64,7 @@ fn has_pieces(alloc: Global, session: &mut Writing, pieces: u32) -> Result<bool,
     Ok(is_end)
 }
 
-fn show_counts(rt: &HostRuntime, pieces: u32, counts: Counts) -> io::Result<()> {
+fn print_write_call_counts(rt: &HostRuntime, pieces: u32, counts: Counts) -> io::Result<()> {
     println!(rt;
         "{} blocks, {} erases, {} programs, {} of them in turn",
         blocks_for(BLOCK, pieces.saturating_mul(PIECE)),
@@ -72,17 +77,18 @@ fn show_counts(rt: &HostRuntime, pieces: u32, counts: Counts) -> io::Result<()> 
 /// Writes `pieces` pieces. Prints how many blocks the file has, how many erases and programs its
 /// writing and closing took, and whether it is read as it was written. On standard error it prints
 /// the nanoseconds (bench/writes.py judges them).
-pub fn show(rt: &HostRuntime, pieces: u32) -> io::Result<()> {
+pub fn benchmark_file_writes(rt: &HostRuntime, pieces: u32) -> io::Result<()> {
     let (mut session, fd) = match open_new_file(rt.alloc(), pieces) {
         Ok(open_new_file) => open_new_file,
         Err(error) => return println!(rt; "{error:?}"),
     };
     let before = session.device().counts();
     let start = Instant::now(rt)?;
-    let written = write_pieces(rt.alloc(), &mut session, fd, pieces);
+    let written = write_pieces_and_close(rt.alloc(), &mut session, fd, pieces);
     let time = start.elapsed(rt)?;
-    show_counts(rt, pieces, session.device().counts().since(&before))?;
-    let is_read = written.is_ok() && has_pieces(rt.alloc(), &mut session, pieces) == Ok(true);
+    print_write_call_counts(rt, pieces, session.device().counts().since(&before))?;
+    let is_read = written.is_ok()
+        && has_file_all_pieces(rt.alloc(), &mut session, pieces) == Ok(true);
     println!(rt; "read as written: {is_read}")?;
     eprintln!(rt; "{}", time.as_nanos())
 }

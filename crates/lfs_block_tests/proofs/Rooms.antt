@@ -4,7 +4,7 @@ use Rattle.std.specs.Prelude.{nat_lt, ◌==◌}
 use Rattle.lfs_model.specs.SkipLists.{list_block_count_for_size}
 use Rattle.lfs_model.proofs.ListSizes.{list_block_count_for_size-more}
 use Rattle.lfs_writer.specs.Contents.{block_room_for_finish, block_room_for_truncation, block_room_for_write}
-use Rattle.lfs_writer.specs.Form.{ContentsForm, InMemory, Finished, InHand, size_of_contents_form}
+use Rattle.lfs_writer.specs.Form.{ContentsStorageForm, InMemory, Finished, InHand, contents_size_of_storage_form}
 
 some_of : (t : Bool) (n : ℕ) → (if t then n else 0) ≤ n
 some_of true n = omega arith
@@ -14,7 +14,7 @@ one_of : (t : Bool) (a b most : ℕ) → a ≤ most → b ≤ most → (if t the
 one_of true a b most first second = first
 one_of false a b most first second = second
 
-pub room_for_write : (block_size place count : ℕ) (form : ContentsForm) → block_room_for_write block_size place count form ≤ 2 * list_block_count_for_size block_size (max (size_of_contents_form form) (place + count))
+pub room_for_write : (block_size place count : ℕ) (form : ContentsStorageForm) → block_room_for_write block_size place count form ≤ 2 * list_block_count_for_size block_size (max (contents_size_of_storage_form form) (place + count))
 room_for_write block_size place count (InMemory size) = omega (arith, list_block_count_for_size-more block_size (place + count) (max size (place + count)) (omega arith))
 room_for_write block_size place count (Finished size flying) =
     omega (arith, list_block_count_for_size-more block_size (place + count) (max size (place + count)) (omega arith), list_block_count_for_size-more block_size size (max size (place + count)) (omega arith), some_of flying (list_block_count_for_size block_size size))
@@ -24,7 +24,7 @@ room_for_write block_size place count (InHand stop base flying) =
     (omega (arith, list_block_count_for_size-more block_size (place + count) most (omega arith), list_block_count_for_size-more block_size base most (omega arith), some_of flying (list_block_count_for_size block_size base)))
     (omega arith)
 
-pub room_for_size : (block_size size : ℕ) (form : ContentsForm) → block_room_for_truncation block_size size form ≤ 2 * list_block_count_for_size block_size (max (size_of_contents_form form) size)
+pub room_for_size : (block_size size : ℕ) (form : ContentsStorageForm) → block_room_for_truncation block_size size form ≤ 2 * list_block_count_for_size block_size (max (contents_size_of_storage_form form) size)
 room_for_size block_size size (InMemory old) = omega (arith, list_block_count_for_size-more block_size size (max old size) (omega arith))
 room_for_size block_size size (Finished old flying) =
     omega (arith, list_block_count_for_size-more block_size size (max old size) (omega arith), list_block_count_for_size-more block_size old (max old size) (omega arith), some_of flying (list_block_count_for_size block_size old))
@@ -38,7 +38,7 @@ room_for_size block_size size (InHand stop base flying) =
     (one_of (stop == max stop base) (list_block_count_for_size block_size size + (if flying then list_block_count_for_size block_size base else 0)) (2 * list_block_count_for_size block_size size) (2 * list_block_count_for_size block_size most) (omega arith) (omega arith))
     (omega arith)
 
-pub room_for_end : (block_size : ℕ) (form : ContentsForm) → block_room_for_finish block_size form ≤ 2 * list_block_count_for_size block_size (size_of_contents_form form)
+pub room_for_end : (block_size : ℕ) (form : ContentsStorageForm) → block_room_for_finish block_size form ≤ 2 * list_block_count_for_size block_size (contents_size_of_storage_form form)
 room_for_end block_size (InMemory size) = omega arith
 room_for_end block_size (Finished size flying) = omega arith
 room_for_end block_size (InHand stop base flying) = omega (arith, list_block_count_for_size-more block_size base (max stop base) (omega arith), some_of flying (list_block_count_for_size block_size base))

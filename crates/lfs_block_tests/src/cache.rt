@@ -1,7 +1,7 @@
 use crate::cache::CacheAction::{Fill, Forget, Take};
-use crate::devices::faulty;
+use crate::devices::device_with_failing_call;
 use lfs_cache::Cache;
-use lfs_device::{BlockDevice, Error, Extent, Which};
+use lfs_device::{BlockDevice, CountedCalls, Error, FaultExtent};
 use std::alloc::Global;
 use std::test::Fail;
 
@@ -13,7 +13,7 @@ enum CacheAction {
 }
 
 // Does it, and says how many bytes were taken.
-fn carry_out<D: BlockDevice>(
+fn perform_cache_action<D: BlockDevice>(
     cache: &mut Cache,
     device: &mut D,
     step: &CacheAction,
@@ -36,16 +36,22 @@ fn carry_out<D: BlockDevice>(
 
 // What the last step answers where one read fails, how many reads there were, and the first byte of
 // each cached block.
-fn play(
+fn run_cache_actions(
     alloc: Global,
     nth: u64,
     steps: &[CacheAction],
 ) -> Result<(Result<usize, Error>, u64, Vec<u8>), Error> {
-    let mut device = faulty(alloc, Which::Read, nth, false, Extent::Nothing)?;
+    let mut device = device_with_failing_call(
+        alloc,
+        CountedCalls::Read,
+        nth,
+        false,
+        FaultExtent::Nothing,
+    )?;
     let mut cache = Cache::new(alloc)?;
     let mut answer = Ok(0);
     for step in steps {
-        answer = carry_out(&mut cache, &mut device, step);
+        answer = perform_cache_action(&mut cache, &mut device, step);
     }
     let mut bytes = Vec::new(alloc);
     for block in 0..10 {
@@ -53,7 +59,7 @@ fn play(
             bytes.extend_from_slice(lent.get(..1).unwrap_or_default())?;
         }
     }
-    Ok((answer, device.calls(Which::Any), bytes))
+    Ok((answer, device.calls(CountedCalls::Any), bytes))
 }
 
 const TWICE: [CacheAction; 2] = [Fill(0), Fill(0)];
@@ -100,7 +106,7 @@ const FAILED_AND_AT_HAND: [CacheAction; 3] = [Fill(6), Fill(7), Fill(6)];
 const FAILED_AND_FILLED: [CacheAction; 4] = [Fill(6), Fill(7), Fill(6), Fill(7)];
 
 #[test]
-fn blocks_are_kept(rt: HostRuntime) -> Result<(), Fail> {
+fn cached_blocks_are_kept(rt: HostRuntime) -> Result<(), Fail> {
     for (nth, steps, answer, reads, cached_log) in [
         (0, TWICE.as_slice(), Ok(0), 1, [1].as_slice()),
         (0, &EIGHT, Ok(0), 8, &[1, 2, 3, 4, 5, 6, 7, 8]),
@@ -113,7 +119,7 @@ fn blocks_are_kept(rt: HostRuntime) -> Result<(), Fail> {
         (2, &FAILED_AND_AT_HAND, Ok(0), 2, &[7]),
         (2, &FAILED_AND_FILLED, Ok(0), 3, &[7, 8]),
     ] {
-        let found = play(rt.alloc(), nth, steps)?;
+        let found = run_cache_actions(rt.alloc(), nth, steps)?;
         assert_eq!(rt;
             (found.0, found.1, found.2.as_slice()),
             (answer, reads, cached_log)

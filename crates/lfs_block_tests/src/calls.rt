@@ -3,16 +3,16 @@
 ghost use Rattle.std.specs.Prelude.{◌≡◌, ◌≤◌, ◌<◌, ◌+◌, ◌*◌, ◌^◌, true, max, length, IfOk};
 ghost use Rattle.lfs_model.specs.BlockSets.{used_count};
 ghost use Rattle.lfs_model.specs.SkipLists.{list_block_count_for_size};
-ghost use Rattle.lfs_writer.specs.Contents.{ExceedsInlineLimitIfInFlight, AreContentsOnDisk, form_of_contents};
-ghost use Rattle.lfs_writer.specs.Form.{size_of_contents_form};
+ghost use Rattle.lfs_writer.specs.Contents.{ExceedsInlineLimitIfInFlight, AreContentsConsistentWithMapAndDisk, storage_form_of_contents};
+ghost use Rattle.lfs_writer.specs.Form.{contents_size_of_storage_form};
 
-use crate::plain::content;
+use crate::plain::patterned_bytes;
 use lfs_alloc::BlockMap;
 use lfs_ctz::{blocks_for, read_at, walk};
 use lfs_device::{BlockDevice, Error};
 use lfs_writer::{
-    Stored, WriterContents, finish, in_memory, release_all_blocks_in_flight, settle_list,
-    truncate_contents, write_contents,
+    StoredList, WriterContents, finish_contents, make_contents_in_memory,
+    release_all_blocks_in_flight, settle_list, truncate_contents, write_contents,
 };
 use std::alloc::Global;
 
@@ -24,20 +24,23 @@ pub enum Call {
 }
 
 /// No bytes, and a map of blocks that are all free.
-pub fn start<D: BlockDevice>(alloc: Global, dev: &D) -> Result<(BlockMap, WriterContents), Error>
-    ensures stands { IfOk result (λ r. AreContentsOnDisk r.0 (D.blocks dev.now) (D.geometry dev.now) r.1) }
+pub fn start_empty_writer_contents<D: BlockDevice>(
+    alloc: Global,
+    dev: &D,
+) -> Result<(BlockMap, WriterContents), Error>
+    ensures stands { IfOk result (λ r. AreContentsConsistentWithMapAndDisk r.0 (D.blocks dev.now) (D.geometry dev.now) r.1) }
 {
     let geometry = dev.geometry();
     let mut map = BlockMap::new(alloc, geometry.block_count)?;
     release_all_blocks_in_flight(&mut map);
-    let contents = in_memory(alloc, geometry, &[])?;
+    let contents = make_contents_in_memory(alloc, geometry, &[])?;
     Ok((map, contents))
 }
 
 // How many bytes the contents have.
-fn length<D: BlockDevice>(dev: &D, map: &BlockMap, contents: &WriterContents) -> u32
-    requires { AreContentsOnDisk map.now (D.blocks dev.now) (D.geometry dev.now) contents.now }
-    ensures { result ≡ size_of_contents_form (form_of_contents contents.now) }
+fn writer_contents_size<D: BlockDevice>(dev: &D, map: &BlockMap, contents: &WriterContents) -> u32
+    requires { AreContentsConsistentWithMapAndDisk map.now (D.blocks dev.now) (D.geometry dev.now) contents.now }
+    ensures { result ≡ contents_size_of_storage_form (storage_form_of_contents contents.now) }
 {
     match contents {
         WriterContents::InMemory(list) => list.size(),
@@ -47,19 +50,23 @@ fn length<D: BlockDevice>(dev: &D, map: &BlockMap, contents: &WriterContents) ->
 }
 
 // Whether contents in a list that are in flight are past the limit, and those in memory are not.
-fn is_large<D: BlockDevice>(dev: &D, map: &BlockMap, contents: &WriterContents) -> bool
-    requires { AreContentsOnDisk map.now (D.blocks dev.now) (D.geometry dev.now) contents.now }
-    ensures { result ≡ true → ExceedsInlineLimitIfInFlight 128 (form_of_contents contents.now) }
+fn is_over_inline_limit_if_in_flight<D: BlockDevice>(
+    dev: &D,
+    map: &BlockMap,
+    contents: &WriterContents,
+) -> bool
+    requires { AreContentsConsistentWithMapAndDisk map.now (D.blocks dev.now) (D.geometry dev.now) contents.now }
+    ensures { result ≡ true → ExceedsInlineLimitIfInFlight 128 (storage_form_of_contents contents.now) }
 {
     match contents {
-        WriterContents::InMemory(list) => list.held().len() <= 128,
+        WriterContents::InMemory(list) => list.buffered_content().len() <= 128,
         WriterContents::Finished(stored) => !stored.in_flight || stored.size > 128,
         WriterContents::InHand(hand) => hand.list.size().max(hand.base.size) > 128,
     }
 }
 
 // Whether there is room for two lists of so many bytes.
-fn has_room<D: BlockDevice>(dev: &D, map: &BlockMap, size: u32) -> bool
+fn has_room_for_two_lists<D: BlockDevice>(dev: &D, map: &BlockMap, size: u32) -> bool
     ensures { result ≡ true → used_count map.now + 2 * list_block_count_for_size (D.geometry dev.now).block_size size ≤ length map.now }
 {
     let blocks = blocks_for(dev.geometry().block_size, size);
@@ -68,7 +75,7 @@ fn has_room<D: BlockDevice>(dev: &D, map: &BlockMap, size: u32) -> bool
 }
 
 // Writes bytes at a place. Invalid where there may be no room for them.
-fn write<D: BlockDevice>(
+fn write_to_writer_contents<D: BlockDevice>(
     alloc: Global,
     dev: &mut D,
     map: &mut BlockMap,
@@ -76,14 +83,16 @@ fn write<D: BlockDevice>(
     place: u32,
     bytes: &[u8],
 ) -> Result<WriterContents, Error>
-    requires stands { AreContentsOnDisk map.old (D.blocks dev.old) (D.geometry dev.old) contents }
-    ensures stands { IfOk result (λ c. AreContentsOnDisk map.new (D.blocks dev.new) (D.geometry dev.new) c) }
+    requires stands { AreContentsConsistentWithMapAndDisk map.old (D.blocks dev.old) (D.geometry dev.old) contents }
+    ensures stands { IfOk result (λ c. AreContentsConsistentWithMapAndDisk map.new (D.blocks dev.new) (D.geometry dev.new) c) }
 {
     if bytes.is_empty() || bytes.len() > 65536 || place > 65536 {
         return Err(Error::Invalid);
     }
-    let most = length(dev, map, &contents).max(place + bytes.len() as u32);
-    if !is_large(dev, map, &contents) || !has_room(dev, map, most) {
+    let most = writer_contents_size(dev, map, &contents).max(place + bytes.len() as u32);
+    if !is_over_inline_limit_if_in_flight(dev, map, &contents)
+        || !has_room_for_two_lists(dev, map, most)
+    {
         return Err(Error::Invalid);
     }
     let written = write_contents(alloc, dev, map, contents, 128, place, bytes)?;
@@ -98,11 +107,14 @@ fn truncate<D: BlockDevice>(
     contents: WriterContents,
     size: u32,
 ) -> Result<WriterContents, Error>
-    requires stands { AreContentsOnDisk map.old (D.blocks dev.old) (D.geometry dev.old) contents }
-    ensures stands { IfOk result (λ c. AreContentsOnDisk map.new (D.blocks dev.new) (D.geometry dev.new) c) }
+    requires stands { AreContentsConsistentWithMapAndDisk map.old (D.blocks dev.old) (D.geometry dev.old) contents }
+    ensures stands { IfOk result (λ c. AreContentsConsistentWithMapAndDisk map.new (D.blocks dev.new) (D.geometry dev.new) c) }
 {
-    let most = length(dev, map, &contents).max(size);
-    if size > 65536 || !is_large(dev, map, &contents) || !has_room(dev, map, most) {
+    let most = writer_contents_size(dev, map, &contents).max(size);
+    if size > 65536
+        || !is_over_inline_limit_if_in_flight(dev, map, &contents)
+        || !has_room_for_two_lists(dev, map, most)
+    {
         return Err(Error::Invalid);
     }
     let truncated = truncate_contents(alloc, dev, map, contents, 128, size)?;
@@ -110,40 +122,40 @@ fn truncate<D: BlockDevice>(
 }
 
 /// Carries out a call. Invalid where there may be no room for it.
-pub fn carry_out<D: BlockDevice>(
+pub fn perform_contents_call<D: BlockDevice>(
     alloc: Global,
     dev: &mut D,
     map: &mut BlockMap,
     contents: WriterContents,
     call: Call,
 ) -> Result<WriterContents, Error>
-    requires stands { AreContentsOnDisk map.old (D.blocks dev.old) (D.geometry dev.old) contents }
-    ensures stands { IfOk result (λ c. AreContentsOnDisk map.new (D.blocks dev.new) (D.geometry dev.new) c) }
+    requires stands { AreContentsConsistentWithMapAndDisk map.old (D.blocks dev.old) (D.geometry dev.old) contents }
+    ensures stands { IfOk result (λ c. AreContentsConsistentWithMapAndDisk map.new (D.blocks dev.new) (D.geometry dev.new) c) }
 {
     match call {
         Call::Write(place, count) => {
-            let bytes = content(alloc, count, 0x55)?;
-            write(alloc, dev, map, contents, place, bytes.as_slice())
+            let bytes = patterned_bytes(alloc, count, 0x55)?;
+            write_to_writer_contents(alloc, dev, map, contents, place, bytes.as_slice())
         }
         Call::Truncate(size) => truncate(alloc, dev, map, contents, size),
     }
 }
 
 /// Ends the contents. Invalid where there may be no room for it.
-pub fn end<D: BlockDevice>(
+pub fn end_writer_contents<D: BlockDevice>(
     alloc: Global,
     dev: &mut D,
     map: &mut BlockMap,
     contents: WriterContents,
 ) -> Result<WriterContents, Error>
-    requires stands { AreContentsOnDisk map.old (D.blocks dev.old) (D.geometry dev.old) contents }
-    ensures stands { IfOk result (λ c. AreContentsOnDisk map.new (D.blocks dev.new) (D.geometry dev.new) c) }
+    requires stands { AreContentsConsistentWithMapAndDisk map.old (D.blocks dev.old) (D.geometry dev.old) contents }
+    ensures stands { IfOk result (λ c. AreContentsConsistentWithMapAndDisk map.new (D.blocks dev.new) (D.geometry dev.new) c) }
 {
-    let most = length(dev, map, &contents);
-    if !has_room(dev, map, most) {
+    let most = writer_contents_size(dev, map, &contents);
+    if !has_room_for_two_lists(dev, map, most) {
         return Err(Error::Invalid);
     }
-    let finished = finish(alloc, dev, map, contents)?;
+    let finished = finish_contents(alloc, dev, map, contents)?;
     Ok(finished)
 }
 
@@ -153,9 +165,9 @@ pub fn settle<D: BlockDevice>(
     map: &mut BlockMap,
     contents: &WriterContents,
 ) -> Result<(), Error>
-    requires { AreContentsOnDisk map.old (D.blocks dev.old) (D.geometry dev.old) contents.now }
+    requires { AreContentsConsistentWithMapAndDisk map.old (D.blocks dev.old) (D.geometry dev.old) contents.now }
 {
-    let before = Stored {
+    let before = StoredList {
         head: 0,
         size: 0,
         in_flight: false,
@@ -168,16 +180,16 @@ pub fn settle<D: BlockDevice>(
 }
 
 /// The bytes of contents that are ended, from a list that is well formed.
-pub fn read<D: BlockDevice>(
+pub fn read_ended_writer_contents<D: BlockDevice>(
     alloc: Global,
     dev: &mut D,
     map: &BlockMap,
     contents: &WriterContents,
 ) -> Result<Vec<u8>, Error>
-    requires { AreContentsOnDisk map.now (D.blocks dev.old) (D.geometry dev.old) contents.now }
+    requires { AreContentsConsistentWithMapAndDisk map.now (D.blocks dev.old) (D.geometry dev.old) contents.now }
 {
     match contents {
-        WriterContents::InMemory(list) => Ok(Vec::from_slice(alloc, list.held())?),
+        WriterContents::InMemory(list) => Ok(Vec::from_slice(alloc, list.buffered_content())?),
         WriterContents::Finished(stored) => {
             walk(dev, stored.head, stored.size, &mut |_block| {})?;
             let mut bytes = Vec::from_elem(alloc, 0xeeu8, stored.size as usize)?;

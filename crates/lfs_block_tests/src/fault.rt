@@ -1,13 +1,13 @@
-use crate::devices::{faulty, rewrite, runs};
-use lfs_device::{BlockDevice, Error, Extent, Which};
+use crate::devices::{bytes_of_equal_runs, device_with_failing_call, erase_and_program_block};
+use lfs_device::{BlockDevice, CountedCalls, Error, FaultExtent};
 use std::test::Fail;
 
 // Whether each of three rewrites of a block succeeds.
-fn rewrites_succeed<D: BlockDevice>(device: &mut D) -> [Result<(), Error>; 3] {
+fn outcomes_of_three_block_rewrites<D: BlockDevice>(device: &mut D) -> [Result<(), Error>; 3] {
     [
-        rewrite(device, 1, &[5; 64]),
-        rewrite(device, 1, &[5; 64]),
-        rewrite(device, 1, &[5; 64]),
+        erase_and_program_block(device, 1, &[5; 64]),
+        erase_and_program_block(device, 1, &[5; 64]),
+        erase_and_program_block(device, 1, &[5; 64]),
     ]
 }
 
@@ -20,111 +20,127 @@ const IO: Result<(), Error> = Err(Error::Io);
 fn the_nth_call_fails(rt: HostRuntime) -> Result<(), Fail> {
     for (which, nth, stops, extent, answers, calls, stored) in [
         (
-            Which::Any,
+            CountedCalls::Any,
             0,
             false,
-            Extent::Nothing,
+            FaultExtent::Nothing,
             [DONE, DONE, DONE],
             6,
             64,
         ),
         (
-            Which::Any,
+            CountedCalls::Any,
             1,
             false,
-            Extent::Nothing,
+            FaultExtent::Nothing,
             [IO, DONE, DONE],
             5,
             64,
         ),
         (
-            Which::Any,
+            CountedCalls::Any,
             4,
             false,
-            Extent::Nothing,
+            FaultExtent::Nothing,
             [DONE, IO, DONE],
             6,
             64,
         ),
         (
-            Which::Erase,
+            CountedCalls::Erase,
             3,
             false,
-            Extent::Nothing,
+            FaultExtent::Nothing,
             [DONE, DONE, IO],
             5,
             64,
         ),
         (
-            Which::Program,
+            CountedCalls::Program,
             2,
             false,
-            Extent::Nothing,
+            FaultExtent::Nothing,
             [DONE, IO, DONE],
             6,
             64,
         ),
         (
-            Which::Read,
+            CountedCalls::Read,
             1,
             false,
-            Extent::Nothing,
+            FaultExtent::Nothing,
             [DONE, DONE, DONE],
             6,
             64,
         ),
-        (Which::Program, 1, true, Extent::Nothing, [IO, IO, IO], 4, 0),
         (
-            Which::Program,
+            CountedCalls::Program,
             1,
             true,
-            Extent::FirstBytes(0),
+            FaultExtent::Nothing,
             [IO, IO, IO],
             4,
             0,
         ),
         (
-            Which::Program,
+            CountedCalls::Program,
             1,
             true,
-            Extent::FirstBytes(16),
+            FaultExtent::FirstBytes(0),
+            [IO, IO, IO],
+            4,
+            0,
+        ),
+        (
+            CountedCalls::Program,
+            1,
+            true,
+            FaultExtent::FirstBytes(16),
             [IO, IO, IO],
             4,
             16,
         ),
         (
-            Which::Program,
+            CountedCalls::Program,
             1,
             true,
-            Extent::FirstBytes(21),
+            FaultExtent::FirstBytes(21),
             [IO, IO, IO],
             4,
             21,
         ),
         (
-            Which::Program,
+            CountedCalls::Program,
             1,
             true,
-            Extent::FirstBytes(64),
+            FaultExtent::FirstBytes(64),
             [IO, IO, IO],
             4,
             64,
         ),
         (
-            Which::Program,
+            CountedCalls::Program,
             1,
             true,
-            Extent::FirstBytes(65),
+            FaultExtent::FirstBytes(65),
             [IO, IO, IO],
             4,
             64,
         ),
-        (Which::Program, 1, true, Extent::Whole, [IO, IO, IO], 4, 64),
+        (
+            CountedCalls::Program,
+            1,
+            true,
+            FaultExtent::Whole,
+            [IO, IO, IO],
+            4,
+            64,
+        ),
     ] {
-        let mut device = faulty(rt.alloc(), which, nth, stops, extent)?;
-        let found = rewrites_succeed(&mut device);
-        assert_eq!(rt; (found, device.calls(Which::Any)), (answers, calls));
-        let expected = runs(
+        let mut device = device_with_failing_call(rt.alloc(), which, nth, stops, extent)?;
+        let found = outcomes_of_three_block_rewrites(&mut device);
+        assert_eq!(rt; (found, device.calls(CountedCalls::Any)), (answers, calls));
+        let expected = bytes_of_equal_runs(
             rt.alloc(),
             &[
                 (1024, 1),

@@ -40,7 +40,7 @@ fn a_geometry_limits_pairs_and_entries(rt: HostRuntime) -> Result<(), Fail> {
         let geometry = Geometry::new(block_size, page, 2)?;
         let limits = (
             geometry.pair_capacity(),
-            geometry.entry_limit(),
+            geometry.entry_size_limit(),
             geometry.inline_limit(),
             geometry.slot_limit(),
         );

@@ -1,5 +1,8 @@
-use crate::hand_made_list::image;
-use crate::lists::{List, blank, changed_blocks, content, extend, holds, write};
+use crate::hand_made_list::image_with_hand_made_list;
+use crate::lists::{
+    List, blank_device_of_blocks, changed_blocks, extend_first_bytes_of_list,
+    is_list_with_these_bytes, patterned_file_bytes, write_list_from_block,
+};
 use lfs_device::{BlockDevice, Error, RamDevice};
 use std::alloc::Global;
 use std::test::Fail;
@@ -7,11 +10,11 @@ use std::test::Fail;
 #[test]
 fn a_list_is_written(rt: HostRuntime) -> Result<(), Fail> {
     let alloc = rt.alloc();
-    let content = content(alloc, 2045, 0)?;
-    let by_hand = image(alloc, &content, 5, [6, 5])?;
+    let content = patterned_file_bytes(alloc, 2045, 0)?;
+    let by_hand = image_with_hand_made_list(alloc, &content, 5, [6, 5])?;
     for step in [1, 7, 1020, 1024, 1025, 2045] {
-        let mut device = blank(alloc, 16)?;
-        let list = write(alloc, &mut device, 5, &content, step)?;
+        let mut device = blank_device_of_blocks(alloc, 16)?;
+        let list = write_list_from_block(alloc, &mut device, 5, &content, step)?;
         assert_eq!(rt; (list.head, list.size, list.next), (7, 2045, 8));
         assert_eq!(rt; device.bytes(), by_hand.as_slice());
     }
@@ -29,17 +32,17 @@ fn extend_list(
     n: usize,
     step: usize,
 ) -> Result<Extended, Error> {
-    let bytes = content(alloc, 2045, 0)?;
-    let more = content(alloc, n, 0x55)?;
-    let list = write(alloc, device, 5, &bytes, 100)?;
+    let bytes = patterned_file_bytes(alloc, 2045, 0)?;
+    let more = patterned_file_bytes(alloc, n, 0x55)?;
+    let list = write_list_from_block(alloc, device, 5, &bytes, 100)?;
     let was = Vec::from_slice(alloc, device.bytes())?;
-    let longer = extend(alloc, device, list, keep, &more, step)?;
+    let longer = extend_first_bytes_of_list(alloc, device, list, keep, &more, step)?;
     let changed_blocks = changed_blocks(&was, device.bytes());
-    let old_holds = holds(alloc, device, list, &bytes)?;
+    let old_holds = is_list_with_these_bytes(alloc, device, list, &bytes)?;
     let mut all = bytes;
     all.truncate(keep as usize);
     all.extend_from_slice(&more)?;
-    let new_holds = holds(alloc, device, longer, &all)?;
+    let new_holds = is_list_with_these_bytes(alloc, device, longer, &all)?;
     Ok((longer, changed_blocks, old_holds, new_holds))
 }
 
@@ -61,7 +64,7 @@ fn a_list_is_extended(rt: HostRuntime) -> Result<(), Fail> {
         (2045, 2100, 4145, 10),
     ] {
         for step in [7, n] {
-            let mut device = blank(alloc, 16)?;
+            let mut device = blank_device_of_blocks(alloc, 16)?;
             let (list, changed_blocks, old, new) = extend_list(alloc, &mut device, keep, n, step)?;
             assert_eq!(rt; (list.head, list.size, old, new), (head, size, true, true));
             assert_eq!(rt; changed_blocks, Some((8, head as usize)));

@@ -1,16 +1,16 @@
-use crate::hand_made_list::device;
-use crate::list_clients::is_list;
-use crate::lists::{content, visited_blocks};
-use lfs_ctz::{cut, head_before, read_at};
-use lfs_device::{BlockDevice, Error, Which};
+use crate::hand_made_list::device_with_hand_made_list;
+use crate::list_clients::is_well_formed_skip_list;
+use crate::lists::{patterned_file_bytes, visited_blocks};
+use lfs_ctz::{head_of_list_before_block, list_head_for_first_bytes, read_at};
+use lfs_device::{BlockDevice, CountedCalls, Error};
 use std::test::Fail;
 
 // So many bytes are read into a buffer, whose own stay behind them.
 #[test]
-fn bytes_are_read(rt: HostRuntime) -> Result<(), Fail> {
+fn list_bytes_are_read(rt: HostRuntime) -> Result<(), Fail> {
     let alloc = rt.alloc();
-    let content = content(alloc, 2045, 0)?;
-    let mut device = device(alloc, &content, 5, [6, 5], 0)?;
+    let content = patterned_file_bytes(alloc, 2045, 0)?;
+    let mut device = device_with_hand_made_list(alloc, &content, 5, [6, 5], 0)?;
     for (pos, room, len) in [
         (0, 2045, 2045),
         (0, 3000, 2045),
@@ -49,9 +49,9 @@ fn bytes_are_read(rt: HostRuntime) -> Result<(), Fail> {
 // A walk visits the blocks from the last on, by a read for each but the first. Malformed lists are
 // corrupt.
 #[test]
-fn lists_are_told_apart(rt: HostRuntime) -> Result<(), Fail> {
+fn malformed_lists_are_corrupt(rt: HostRuntime) -> Result<(), Fail> {
     let alloc = rt.alloc();
-    let content = content(alloc, 2045, 0)?;
+    let content = patterned_file_bytes(alloc, 2045, 0)?;
     for (second, third, head, size, blocks) in [
         (5, [6, 5], 7, 2045, Some([0, 7, 6, 5])),
         // wrong pointers 1 in the third block
@@ -70,20 +70,23 @@ fn lists_are_told_apart(rt: HostRuntime) -> Result<(), Fail> {
         (5, [6, 5], 7, 0, None),
         (5, [6, 5], 7, 0x8000_0000, None),
     ] {
-        let mut device = device(alloc, &content, second, third, 0)?;
+        let mut device = device_with_hand_made_list(alloc, &content, second, third, 0)?;
         let walked = visited_blocks(&mut device, head, size);
         let wanted = blocks.map_or(Err(Error::Corrupt), |blocks| Ok((3, blocks)));
         assert_eq!(rt; (third, head, size, walked), (third, head, size, wanted));
-        assert!(rt; blocks.is_none() || device.calls(Which::Any) == 2);
-        assert_eq!(rt; is_list(&mut device, head, size), Ok(blocks.is_some()));
+        assert!(rt; blocks.is_none() || device.calls(CountedCalls::Any) == 2);
+        assert_eq!(rt;
+            is_well_formed_skip_list(&mut device, head, size),
+            Ok(blocks.is_some())
+        );
     }
     Ok(())
 }
 
 // The last block of the list's first bytes.
 #[test]
-fn a_list_is_cut(rt: HostRuntime) -> Result<(), Fail> {
-    let content = content(rt.alloc(), 2045, 0)?;
+fn last_block_of_front_is_found(rt: HostRuntime) -> Result<(), Fail> {
+    let content = patterned_file_bytes(rt.alloc(), 2045, 0)?;
     for (second, third, keep, head) in [
         (5, [6, 5], 1, Ok(5)),
         (5, [6, 5], 1023, Ok(5)),
@@ -95,9 +98,12 @@ fn a_list_is_cut(rt: HostRuntime) -> Result<(), Fail> {
         (5, [6, 16], 1024, Err(Error::Corrupt)),
         (5, [16, 5], 1025, Err(Error::Corrupt)),
     ] {
-        let mut device = device(rt.alloc(), &content, second, third, 0)?;
+        let mut device = device_with_hand_made_list(rt.alloc(), &content, second, third, 0)?;
         assert!(rt; keep > 0 && keep <= 2045);
-        assert_eq!(rt; (keep, cut(&mut device, 7, 2045, keep)), (keep, head));
+        assert_eq!(rt;
+            (keep, list_head_for_first_bytes(&mut device, 7, 2045, keep)),
+            (keep, head)
+        );
     }
     Ok(())
 }
@@ -105,7 +111,7 @@ fn a_list_is_cut(rt: HostRuntime) -> Result<(), Fail> {
 // The last of so many blocks before one.
 #[test]
 fn the_block_before_is_found(rt: HostRuntime) -> Result<(), Fail> {
-    let content = content(rt.alloc(), 2045, 0)?;
+    let content = patterned_file_bytes(rt.alloc(), 2045, 0)?;
     for (second, block, count, head) in [
         (5, 7, 2, Ok(6)),
         (5, 6, 1, Ok(5)),
@@ -114,10 +120,10 @@ fn the_block_before_is_found(rt: HostRuntime) -> Result<(), Fail> {
         (16, 6, 1, Err(Error::Corrupt)),
         (16, 6, 0, Ok(0)),
     ] {
-        let mut device = device(rt.alloc(), &content, second, [6, 5], 0)?;
+        let mut device = device_with_hand_made_list(rt.alloc(), &content, second, [6, 5], 0)?;
         assert!(rt; block < device.geometry().block_count);
         assert_eq!(rt;
-            (block, head_before(&mut device, block, count)),
+            (block, head_of_list_before_block(&mut device, block, count)),
             (block, head)
         );
     }

@@ -1,6 +1,9 @@
-use crate::calls::{Call, carry_out, end, read, settle, start};
+use crate::calls::{
+    Call, end_writer_contents, perform_contents_call, read_ended_writer_contents, settle,
+    start_empty_writer_contents,
+};
 use crate::devices::erased_device;
-use crate::plain::after;
+use crate::plain::bytes_after_call;
 use lfs_alloc::BlockMap;
 use lfs_device::{BlockDevice, Error};
 use std::alloc::Global;
@@ -20,7 +23,7 @@ const SIZES: [(u32, u32); 8] = [
 ];
 
 // How many blocks are in flight.
-fn in_flight(map: &BlockMap) -> u32 {
+fn count_blocks_in_flight(map: &BlockMap) -> u32 {
     let mut count: u32 = 0;
     for block in 0..map.block_count() {
         if map.is_in_flight(block) {
@@ -37,24 +40,27 @@ pub fn bytes_after_writes<D: BlockDevice>(
     calls: [Call; 3],
 ) -> Result<(Vec<u8>, u32), Error> {
     let [first, second, third] = calls;
-    let (map, contents) = start(alloc, dev)?;
+    let (map, contents) = start_empty_writer_contents(alloc, dev)?;
     let mut map = map;
-    let contents = carry_out(alloc, dev, &mut map, contents, first)?;
-    let contents = carry_out(alloc, dev, &mut map, contents, second)?;
-    let contents = carry_out(alloc, dev, &mut map, contents, third)?;
-    let contents = end(alloc, dev, &mut map, contents)?;
-    let bytes = read(alloc, dev, &map, &contents)?;
-    Ok((bytes, in_flight(&map)))
+    let contents = perform_contents_call(alloc, dev, &mut map, contents, first)?;
+    let contents = perform_contents_call(alloc, dev, &mut map, contents, second)?;
+    let contents = perform_contents_call(alloc, dev, &mut map, contents, third)?;
+    let contents = end_writer_contents(alloc, dev, &mut map, contents)?;
+    let bytes = read_ended_writer_contents(alloc, dev, &map, &contents)?;
+    Ok((bytes, count_blocks_in_flight(&map)))
 }
 
 /// Whether they are those of a plain vector, and how many blocks are in flight.
-pub fn compare_with_vector(alloc: Global, calls: [Call; 3]) -> Result<(bool, u32), Error> {
+pub fn compare_list_writes_with_vector(
+    alloc: Global,
+    calls: [Call; 3],
+) -> Result<(bool, u32), Error> {
     let mut dev = erased_device(alloc)?;
     let (bytes, blocks) = bytes_after_writes(alloc, &mut dev, calls)?;
     let [first, second, third] = calls;
-    let wanted = after(alloc, Vec::new(alloc), first)?;
-    let wanted = after(alloc, wanted, second)?;
-    let wanted = after(alloc, wanted, third)?;
+    let wanted = bytes_after_call(alloc, Vec::new(alloc), first)?;
+    let wanted = bytes_after_call(alloc, wanted, second)?;
+    let wanted = bytes_after_call(alloc, wanted, third)?;
     Ok((bytes == wanted, blocks))
 }
 
@@ -70,14 +76,14 @@ fn bytes_are_written_at_a_place(rt: HostRuntime) -> Result<(), Fail> {
                     Call::Write(place, 2),
                     Call::Truncate(last),
                 ];
-                let cut = compare_with_vector(rt.alloc(), cut)?;
+                let cut = compare_list_writes_with_vector(rt.alloc(), cut)?;
                 assert!(rt; cut == (true, most), "{first}, {place}, {last}");
                 let twice = [
                     Call::Write(0, first),
                     Call::Write(place - 1, 1),
                     Call::Write(last - 1, 1),
                 ];
-                let twice = compare_with_vector(rt.alloc(), twice)?;
+                let twice = compare_list_writes_with_vector(rt.alloc(), twice)?;
                 let blocks = few.max(more).max(most);
                 assert!(rt; twice == (true, blocks), "{first}, {place}, {last}");
             }
@@ -87,7 +93,7 @@ fn bytes_are_written_at_a_place(rt: HostRuntime) -> Result<(), Fail> {
                 Call::Write(2047, 1),
             ];
             assert!(rt;
-                compare_with_vector(rt.alloc(), turned)? == (true, 3),
+                compare_list_writes_with_vector(rt.alloc(), turned)? == (true, 3),
                 "{first}, {place}"
             );
         }
@@ -96,17 +102,17 @@ fn bytes_are_written_at_a_place(rt: HostRuntime) -> Result<(), Fail> {
 }
 
 // How many blocks are used, and how many in flight, once contents of so many bytes are settled.
-fn count_after_settle<D: BlockDevice>(
+fn block_counts_after_settle<D: BlockDevice>(
     alloc: Global,
     dev: &mut D,
     size: u32,
 ) -> Result<(u32, u32), Error> {
-    let (map, contents) = start(alloc, dev)?;
+    let (map, contents) = start_empty_writer_contents(alloc, dev)?;
     let mut map = map;
-    let contents = carry_out(alloc, dev, &mut map, contents, Call::Truncate(size))?;
-    let contents = end(alloc, dev, &mut map, contents)?;
+    let contents = perform_contents_call(alloc, dev, &mut map, contents, Call::Truncate(size))?;
+    let contents = end_writer_contents(alloc, dev, &mut map, contents)?;
     settle(dev, &mut map, &contents)?;
-    Ok((map.used_count(), in_flight(&map)))
+    Ok((map.used_count(), count_blocks_in_flight(&map)))
 }
 
 #[test]
@@ -114,7 +120,7 @@ fn a_settled_list_is_used(rt: HostRuntime) -> Result<(), Fail> {
     for (size, blocks) in SIZES {
         let mut dev = erased_device(rt.alloc())?;
         assert!(rt;
-            count_after_settle(rt.alloc(), &mut dev, size)? == (blocks, 0),
+            block_counts_after_settle(rt.alloc(), &mut dev, size)? == (blocks, 0),
             "{size}"
         );
     }

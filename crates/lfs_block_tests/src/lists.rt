@@ -19,7 +19,7 @@ pub struct List {
 }
 
 // The numbers from `first` on, up to another.
-fn numbers(alloc: Global, first: u32, end: u32) -> Result<Vec<u32>, Error>
+fn block_numbers_in_range(alloc: Global, first: u32, end: u32) -> Result<Vec<u32>, Error>
     requires { first ≤ end }
     ensures { IfOk result (λ v. v.items ≡ range_with_len first (end - first)) }
 {
@@ -31,7 +31,7 @@ fn numbers(alloc: Global, first: u32, end: u32) -> Result<Vec<u32>, Error>
 }
 
 // Appends bytes, in the blocks from `next` on, and answers the one behind them.
-fn append<D: BlockDevice>(
+fn append_piece_to_list<D: BlockDevice>(
     alloc: Global,
     dev: &mut D,
     extender: &mut Extender,
@@ -50,13 +50,13 @@ fn append<D: BlockDevice>(
     if next > block_count || count > block_count - next {
         return Err(Error::NoSpace);
     }
-    let blocks = numbers(alloc, next, next + count)?;
+    let blocks = block_numbers_in_range(alloc, next, next + count)?;
     extender.push(dev, bytes, blocks.as_slice())?;
     Ok(next + count)
 }
 
 /// Appends bytes, so many at a time.
-pub fn append_all<D: BlockDevice>(
+pub fn append_bytes_in_pieces<D: BlockDevice>(
     alloc: Global,
     dev: &mut D,
     extender: &mut Extender,
@@ -76,14 +76,18 @@ pub fn append_all<D: BlockDevice>(
     let mut done = 0;
     while done < bytes.len() {
         let n = step.min(bytes.len() - done);
-        next = append(alloc, dev, extender, next, &bytes[done..done + n])?;
+        next = append_piece_to_list(alloc, dev, extender, next, &bytes[done..done + n])?;
         done += n;
     }
     Ok(next)
 }
 
 /// Ends a list whose blocks are all its own.
-pub fn end<D: BlockDevice>(dev: &mut D, extender: Extender, next: u32) -> Result<List, Error>
+pub fn end_list_in_own_blocks<D: BlockDevice>(
+    dev: &mut D,
+    extender: Extender,
+    next: u32,
+) -> Result<List, Error>
     requires below { IsListBelowBlock (D.blocks dev.old) (D.geometry dev.old) extender next }
     requires own { IsListInOwnBlocks (D.blocks dev.old) extender }
     requires some { 1 ≤ size_of_growing_list extender }
@@ -95,7 +99,7 @@ pub fn end<D: BlockDevice>(dev: &mut D, extender: Extender, next: u32) -> Result
 }
 
 /// Writes a list of bytes, in pushes of `step`, in the blocks from `first` on.
-pub fn write<D: BlockDevice>(
+pub fn write_list_from_block<D: BlockDevice>(
     alloc: Global,
     dev: &mut D,
     first: u32,
@@ -108,13 +112,13 @@ pub fn write<D: BlockDevice>(
     if step == 0 || bytes.is_empty() || bytes.len() > 0x7fff_ffff {
         return Err(Error::Invalid);
     }
-    let mut extender = Extender::start(alloc, dev.geometry())?;
-    let next = append_all(alloc, dev, &mut extender, first, bytes, step)?;
-    end(dev, extender, next)
+    let mut extender = Extender::start_with_empty_list(alloc, dev.geometry())?;
+    let next = append_bytes_in_pieces(alloc, dev, &mut extender, first, bytes, step)?;
+    end_list_in_own_blocks(dev, extender, next)
 }
 
 /// Writes the list of the first `keep` bytes of a list and more, in pushes of `step`.
-pub fn extend<D: BlockDevice>(
+pub fn extend_first_bytes_of_list<D: BlockDevice>(
     alloc: Global,
     dev: &mut D,
     list: List,
@@ -136,12 +140,12 @@ pub fn extend<D: BlockDevice>(
         return Err(Error::Invalid);
     }
     let mut extender = Extender::resume(alloc, dev, list.head, list.size, keep)?;
-    let next = append_all(alloc, dev, &mut extender, list.next, bytes, step)?;
-    end(dev, extender, next)
+    let next = append_bytes_in_pieces(alloc, dev, &mut extender, list.next, bytes, step)?;
+    end_list_in_own_blocks(dev, extender, next)
 }
 
 /// Bytes of a file, other ones for another seed.
-pub fn content(alloc: Global, len: usize, seed: u8) -> Result<Vec<u8>, Error> {
+pub fn patterned_file_bytes(alloc: Global, len: usize, seed: u8) -> Result<Vec<u8>, Error> {
     let mut bytes = Vec::with_capacity(alloc, len)?;
     for pos in 0..len {
         bytes.push((pos % 251) as u8 ^ (pos / 1021 % 256) as u8 ^ seed)?;
@@ -150,12 +154,12 @@ pub fn content(alloc: Global, len: usize, seed: u8) -> Result<Vec<u8>, Error> {
 }
 
 /// A blank device of so many blocks of 1,024 bytes.
-pub fn blank(alloc: Global, block_count: u32) -> Result<RamDevice, Error> {
+pub fn blank_device_of_blocks(alloc: Global, block_count: u32) -> Result<RamDevice, Error> {
     RamDevice::blank(alloc, Geometry::new(1024, 128, block_count)?)
 }
 
 /// Whether a list is well formed and holds these bytes.
-pub fn holds<D: BlockDevice>(
+pub fn is_list_with_these_bytes<D: BlockDevice>(
     alloc: Global,
     dev: &mut D,
     list: List,

@@ -12,7 +12,7 @@ enum Call {
 }
 
 // What the call gives: the block taken, or the one marked where it was free.
-fn carry_out(map: &mut BlockMap, call: Call) -> Option<u32>
+fn perform_map_call(map: &mut BlockMap, call: Call) -> Option<u32>
     ensures { length map.new ≡ length map.old }
 {
     match call {
@@ -28,7 +28,7 @@ fn carry_out(map: &mut BlockMap, call: Call) -> Option<u32>
 }
 
 // Whether a block is used and whether it is in flight.
-fn state(map: &BlockMap, block: u32) -> (bool, bool) {
+fn is_used_and_in_flight(map: &BlockMap, block: u32) -> (bool, bool) {
     if block >= map.block_count() {
         return (false, false);
     }
@@ -36,7 +36,7 @@ fn state(map: &BlockMap, block: u32) -> (bool, bool) {
 }
 
 #[test]
-fn two_blocks(rt: HostRuntime) -> Result<(), Fail> {
+fn calls_change_map_of_two_blocks(rt: HostRuntime) -> Result<(), Fail> {
     let mut map = BlockMap::new(rt.alloc(), 2)?;
     let free = (false, false);
     let in_flight = (false, true);
@@ -54,8 +54,15 @@ fn two_blocks(rt: HostRuntime) -> Result<(), Fail> {
         (Call::Take, Some(0), (in_flight, in_flight), 0),
         (Call::Take, None, (in_flight, in_flight), 0),
     ] {
-        let answer = carry_out(&mut map, next);
-        let seen = (answer, (state(&map, 0), state(&map, 1)), map.used_count());
+        let answer = perform_map_call(&mut map, next);
+        let seen = (
+            answer,
+            (
+                is_used_and_in_flight(&map, 0),
+                is_used_and_in_flight(&map, 1),
+            ),
+            map.used_count(),
+        );
         assert_eq!(rt; seen, (given, states, used_count));
     }
     Ok(())

@@ -2,7 +2,7 @@
 // (bench/fail_alloc.py).
 
 use crate::calls::Call;
-use crate::list_writes::compare_with_vector;
+use crate::list_writes::compare_list_writes_with_vector;
 use lfs_device::Error;
 use std::alloc::Global;
 use std::test::Fail;
@@ -36,8 +36,8 @@ const CALLS: [([Call; 3], u32); 3] = [
 ];
 
 // Whether the bytes are those of a plain vector, or memory ran out.
-fn holds(alloc: Global, calls: [Call; 3], blocks: u32) -> bool {
-    match compare_with_vector(alloc, calls) {
+fn is_written_unless_without_memory(alloc: Global, calls: [Call; 3], blocks: u32) -> bool {
+    match compare_list_writes_with_vector(alloc, calls) {
         Ok(answer) => answer == (true, blocks),
         Err(error) => error == Error::NoMemory,
     }
@@ -46,7 +46,7 @@ fn holds(alloc: Global, calls: [Call; 3], blocks: u32) -> bool {
 #[test]
 fn contents_are_whole_or_refused(rt: HostRuntime) -> Result<(), Fail> {
     for (calls, blocks) in CALLS {
-        assert!(rt; holds(rt.alloc(), calls, blocks));
+        assert!(rt; is_written_unless_without_memory(rt.alloc(), calls, blocks));
     }
     Ok(())
 }

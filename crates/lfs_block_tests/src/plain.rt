@@ -5,7 +5,7 @@ use lfs_device::Error;
 use std::alloc::Global;
 
 /// So many bytes that differ from their neighbours.
-pub fn content(alloc: Global, len: u32, seed: u8) -> Result<Vec<u8>, Error> {
+pub fn patterned_bytes(alloc: Global, len: u32, seed: u8) -> Result<Vec<u8>, Error> {
     let mut bytes = Vec::new(alloc);
     for pos in 0..len {
         bytes.push((pos % 251) as u8 ^ seed)?;
@@ -14,7 +14,7 @@ pub fn content(alloc: Global, len: u32, seed: u8) -> Result<Vec<u8>, Error> {
 }
 
 /// What a call makes of the bytes.
-pub fn after(alloc: Global, bytes: Vec<u8>, call: Call) -> Result<Vec<u8>, Error> {
+pub fn bytes_after_call(alloc: Global, bytes: Vec<u8>, call: Call) -> Result<Vec<u8>, Error> {
     let mut bytes = bytes;
     match call {
         Call::Truncate(size) => bytes.resize(size as usize, 0)?,
@@ -22,7 +22,7 @@ pub fn after(alloc: Global, bytes: Vec<u8>, call: Call) -> Result<Vec<u8>, Error
             if bytes.len() < place as usize {
                 bytes.resize(place as usize, 0)?;
             }
-            let more = content(alloc, len, 0x55)?;
+            let more = patterned_bytes(alloc, len, 0x55)?;
             for (pos, byte) in more.iter().enumerate() {
                 match bytes.get_mut((place as usize).saturating_add(pos)) {
                     Some(old) => *old = *byte,

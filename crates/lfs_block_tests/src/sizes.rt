@@ -1,7 +1,7 @@
 use lfs_ctz::{blocks_for, place};
 
 #[test]
-fn sizes_and_places(rt: HostRuntime) {
+fn list_block_counts_and_byte_positions(rt: HostRuntime) {
     for (size, blocks) in [
         (0, 0),
         (1, 1),

@@ -11,7 +11,7 @@ use Rattle.std.proofs.lemmas.Map.Keys.{IsDistinct-cons}
 use Rattle.std.proofs.lemmas.Map.Made.{IsDistinct-keys_filter}
 use Rattle.lru.specs.LruCache.{LruCache, lru_cache, promoted, put_entries}
 use Rattle.lfs_model.specs.Cache.{cached_block_limit, cached_bytes_of_block, cache_with_block_first, cache_without_block}
-use Rattle.lfs_cache.specs.Cache.{IsCache, cached_blocks_view}
+use Rattle.lfs_cache.specs.Cache.{HasAtMostEightDistinctBlocks, cached_blocks_view}
 
 module _ {V : Type 0} (b : ℕ) where
   -- the entries of other blocks
@@ -122,17 +122,17 @@ shown-rest (e ∷ es) b = go (not (nat_eq b e.0)) (shown-rest es b)
 
 -- ---- what is kept
 
-pub IsCache-rest : (recent : LruCache ℕ (Vec ℕ Global)) (b : ℕ) → IsCache recent → IsCache (lru_cache (rest b recent.entries) recent.cap)
-IsCache-rest recent b cache = record {
+pub HasAtMostEightDistinctBlocks-rest : (recent : LruCache ℕ (Vec ℕ Global)) (b : ℕ) → HasAtMostEightDistinctBlocks recent → HasAtMostEightDistinctBlocks (lru_cache (rest b recent.entries) recent.cap)
+HasAtMostEightDistinctBlocks-rest recent b cache = record {
   capacity = cache.capacity;
   few = omega (arith, cache.few, length-rest-le b recent.entries);
   distinct = IsDistinct-keys_filter nat_eq (λ e. not (nat_eq b e.0)) recent.entries cache.distinct;
 }
 
 -- without a block it is one too
-pub IsCache-none : (recent : LruCache ℕ (Vec ℕ Global)) → IsCache recent → IsCache (lru_cache [] recent.cap)
+pub HasAtMostEightDistinctBlocks-none : (recent : LruCache ℕ (Vec ℕ Global)) → HasAtMostEightDistinctBlocks recent → HasAtMostEightDistinctBlocks (lru_cache [] recent.cap)
 unfolding IsDistinct
-IsCache-none recent cache = record { capacity = cache.capacity; few = omega (arith); distinct = tt }
+HasAtMostEightDistinctBlocks-none recent cache = record { capacity = cache.capacity; few = omega (arith); distinct = tt }
 
 -- ---- a block that is made the most recent
 
@@ -148,7 +148,7 @@ is_some-option_map : {X Y : Type 0} (f : X → Y) (o : Option X) → is_some (op
 is_some-option_map f None = refl
 is_some-option_map f (Some x) = refl
 
-module _ (recent : LruCache ℕ (Vec ℕ Global)) (b : ℕ) (cache : IsCache recent) where
+module _ (recent : LruCache ℕ (Vec ℕ Global)) (b : ℕ) (cache : HasAtMostEightDistinctBlocks recent) where
   pub is_some-cached : is_some (cached_bytes_of_block (cached_blocks_view recent.entries) b) ≡ is_some (lookup (nat_eq b) recent.entries)
   is_some-cached = ap is_some (cached_bytes_of_block-shown recent.entries b) ∙ is_some-option_map (λ v. v.items) (lookup (nat_eq b) recent.entries)
 
@@ -162,7 +162,7 @@ module _ (recent : LruCache ℕ (Vec ℕ Global)) (b : ℕ) (cache : IsCache rec
     few-found : length ((b, v) ∷ rest b recent.entries) ≤ cached_block_limit
     few-found = omega (arith, length-rest b recent.entries v cache.distinct has, cache.few)
 
-    IsCache-found : IsCache (lru_cache (promoted (nat_eq b) recent.entries) recent.cap)
+    IsCache-found : HasAtMostEightDistinctBlocks (lru_cache (promoted (nat_eq b) recent.entries) recent.cap)
     IsCache-found = record {
       capacity = cache.capacity;
       few = rw promoted-found few-found;
@@ -187,8 +187,8 @@ module _ (recent : LruCache ℕ (Vec ℕ Global)) (b : ℕ) (cache : IsCache rec
         ap (λ o. option_map_or (λ e. (e.0, v) ∷ remove_entry (nat_eq b) recent.entries) o ((b, v) ∷ take (recent.cap - 1) recent.entries)) (lookup_entry-none b recent.entries none)
         ∙ ap (λ n. (b, v) ∷ take (n - 1) recent.entries) cache.capacity
 
-    IsCache-new : (v : Vec ℕ Global) → IsCache (lru_cache (put_entries nat_eq recent b v) recent.cap)
-    IsCache-new v = record {
+    HasAtMostEightDistinctBlocks-new : (v : Vec ℕ Global) → HasAtMostEightDistinctBlocks (lru_cache (put_entries nat_eq recent b v) recent.cap)
+    HasAtMostEightDistinctBlocks-new v = record {
       capacity = cache.capacity;
       few = rw (put_entries-none v) (omega (arith, length-take 7 recent.entries));
       distinct = rw (put_entries-none v) (IsDistinct-cons nat_eq b (keys_of (take 7 recent.entries))
@@ -203,10 +203,10 @@ module _ (recent : LruCache ℕ (Vec ℕ Global)) (b : ℕ) (cache : IsCache rec
         ∙ ap (λ r. take cached_block_limit ((b, v.items) ∷ r)) (shown-rest recent.entries b)
 
   -- after `promote`
-  pub IsCache-promoted : IsCache (lru_cache (promoted (nat_eq b) recent.entries) recent.cap)
+  pub IsCache-promoted : HasAtMostEightDistinctBlocks (lru_cache (promoted (nat_eq b) recent.entries) recent.cap)
   IsCache-promoted = go (is_some (lookup (nat_eq b) recent.entries)) refl
     where
-      go : (r : Bool) → is_some (lookup (nat_eq b) recent.entries) ≡ r → IsCache (lru_cache (promoted (nat_eq b) recent.entries) recent.cap)
+      go : (r : Bool) → is_some (lookup (nat_eq b) recent.entries) ≡ r → HasAtMostEightDistinctBlocks (lru_cache (promoted (nat_eq b) recent.entries) recent.cap)
       go true is = let there = found (lookup (nat_eq b) recent.entries) is in IsCache-found there.0 there.1
       go false is = rw (promoted-none (not_found (lookup (nat_eq b) recent.entries) is)) cache
 
@@ -219,16 +219,16 @@ module _ (recent : LruCache ℕ (Vec ℕ Global)) (b : ℕ) (cache : IsCache rec
   shown-not_promoted true is = tt
   shown-not_promoted false is = ap cached_blocks_view (promoted-none (not_found (lookup (nat_eq b) recent.entries) (sym is)))
 
-  -- after `put` of a block that isn't there
+  -- after `add_uncached_block` of a block that isn't there
   module _ (none : cached_bytes_of_block (cached_blocks_view recent.entries) b ≡ None) (v : Vec ℕ Global) where
     lookup-none : lookup (nat_eq b) recent.entries ≡ None
     lookup-none = not_found (lookup (nat_eq b) recent.entries) (sym is_some-cached ∙ ap is_some none)
 
-    pub IsCache-put : IsCache (lru_cache (put_entries nat_eq recent b v) recent.cap)
-    IsCache-put = IsCache-new lookup-none v
+    pub IsCache-put : HasAtMostEightDistinctBlocks (lru_cache (put_entries nat_eq recent b v) recent.cap)
+    IsCache-put = HasAtMostEightDistinctBlocks-new lookup-none v
 
     pub shown-put : cached_blocks_view (put_entries nat_eq recent b v) ≡ cache_with_block_first (cached_blocks_view recent.entries) b v.items
     shown-put = shown-new lookup-none v
 
-pub few-shown : (recent : LruCache ℕ (Vec ℕ Global)) → IsCache recent → length (cached_blocks_view recent.entries) ≤ cached_block_limit
+pub few-shown : (recent : LruCache ℕ (Vec ℕ Global)) → HasAtMostEightDistinctBlocks recent → length (cached_blocks_view recent.entries) ≤ cached_block_limit
 few-shown recent cache = omega (arith, cache.few, length-shown recent.entries)

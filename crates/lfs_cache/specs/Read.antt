@@ -4,12 +4,12 @@ use Rattle.lfs_device.specs.declared.device.BlockDevice.{Ghosts}
 use Rattle.lfs_device.specs.declared.error.Error.{Error}
 use Rattle.lfs_device.specs.declared.error.Error.TheVariants.{Io, NoMemory}
 use Rattle.lfs_model.specs.Blocks.{Blocks}
-use Rattle.lfs_model.specs.History.{CallEvent, call_event_with}
-use Rattle.lfs_model.specs.History.Call.{Read}
+use Rattle.lfs_model.specs.History.{DeviceCallEvent, device_call_event_with_blocks}
+use Rattle.lfs_model.specs.History.DeviceCall.{Read}
 
 -- the event of a read of a whole block
-abbrev pub whole_block_read_event : ℕ → Blocks → ℕ → Bool → CallEvent
-whole_block_read_event block_size blocks block failed = call_event_with (Read block 0 block_size) blocks blocks failed
+abbrev pub whole_block_read_event : ℕ → Blocks → ℕ → Bool → DeviceCallEvent
+whole_block_read_event block_size blocks block failed = device_call_event_with_blocks (Read block 0 block_size) blocks blocks failed
 
 -- A fill of a cached block makes no call of the device, and takes no memory. A fill of another block takes one read, unless
 -- there is no memory for its bytes.

@@ -1,6 +1,6 @@
 ghost use Rattle.std.specs.Prelude.{◌≡◌, ◌⊎◌, ◌<◌, ◌≤◌, ℕ, List, ◌∷◌, [], is_some, true, false, length, unwrap_or, IfErr, IfOk, IsErrOf, IsOk, IsSome, None, OnErr, OnOk, option_copied, option_map};
 ghost use Rattle.std.specs.Bool.{OnFalse, OnTrue};
-ghost use Rattle.lfs_model.specs.Blocks.{block_bytes_in};
+ghost use Rattle.lfs_model.specs.Blocks.{block_bytes_by_number};
 ghost use Rattle.lfs_model.specs.Cache.{cached_block_limit, cached_bytes_of_block, cache_with_block_first, cache_without_block};
 ghost use Rattle.lfs_device.specs.Calls.{ReadsOnly, ReportsFaults};
 ghost use Rattle.lfs_cache.specs.Read.{ReadsBlockUnlessCached};
@@ -24,13 +24,13 @@ pub struct Cache {
 
 impl Model for Cache {
     ghost use Rattle.std.specs.Prelude.{ℕ, List};
-    ghost use Rattle.lfs_cache.specs.Cache.{IsCache, cached_blocks_view};
+    ghost use Rattle.lfs_cache.specs.Cache.{HasAtMostEightDistinctBlocks, cached_blocks_view};
 
     ghost Value = { List (ℕ × List ℕ) };
 
     ghost view = { λ cache. cached_blocks_view cache.recent.entries };
 
-    ghost invariant = { λ cache. IsCache cache.recent };
+    ghost invariant = { λ cache. HasAtMostEightDistinctBlocks cache.recent };
 }
 
 impl Cache {
@@ -56,7 +56,7 @@ impl Cache {
     pub fn fill<D: BlockDevice>(&mut self, device: &mut D, block: u32) -> Result<(), Error>
         requires { block < (D.geometry device.old).block_count }
         ensures filled { OnOk result (self.new
-            ≡ cache_with_block_first self.old block (unwrap_or (cached_bytes_of_block self.old block) (block_bytes_in (D.blocks device.old) block))) }
+            ≡ cache_with_block_first self.old block (unwrap_or (cached_bytes_of_block self.old block) (block_bytes_by_number (D.blocks device.old) block))) }
         ensures err { OnErr result (self.new ≡ self.old) }
         ensures few { length self.new ≤ cached_block_limit }
         ensures calls { ReadsBlockUnlessCached D.BlockDevice (cached_bytes_of_block self.old block) block device.old device.new result }
@@ -68,7 +68,7 @@ impl Cache {
             return Ok(());
         }
         let bytes = read_block(self.alloc, device, block)?;
-        self.put(block, bytes)?;
+        self.add_uncached_block(block, bytes)?;
         Ok(())
     }
 
@@ -122,7 +122,7 @@ impl Cache {
 
     // Adds a block that isn't cached as the most recent one. The least recent block is dropped
     // where there were eight.
-    fn put(&mut self, block: u32, bytes: Vec<u8>) -> Result<(), Error>
+    fn add_uncached_block(&mut self, block: u32, bytes: Vec<u8>) -> Result<(), Error>
         requires { cached_bytes_of_block self.old block ≡ None }
         ensures first { OnOk result (self.new ≡ cache_with_block_first self.old block bytes.items) }
         ensures err { OnErr result (self.new ≡ self.old) }

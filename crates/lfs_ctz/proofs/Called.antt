@@ -6,9 +6,9 @@ use Rattle.lfs_device.specs.Calls.{ReadsOnly, ChangesOnlyThisBlock, ChangesOnlyT
 use Rattle.lfs_device.specs.declared.device.BlockDevice.{Ghosts}
 use Rattle.lfs_device.specs.declared.error.Error.{Error}
 use Rattle.lfs_model.specs.Blocks.{AreBlocksEqualExceptOne}
-use Rattle.lfs_model.specs.History.{call_event_with, faults}
-use Rattle.lfs_model.specs.History.Call.{Read, Program, Erase}
-use Rattle.lfs_model.proofs.Histories.{began, goes_on, goes_on_by, IsTrueOfEachCallSince-weaker, AreCallsSinceOnlyReads-trans, AreBytesStillUnprogrammed-erase, AreBytesStillUnprogrammed-program, AreBytesStillUnprogrammed-reads, AreBytesStillUnprogrammed-refl, AreBytesStillUnprogrammed-trans}
+use Rattle.lfs_model.specs.History.{device_call_event_with_blocks, fault_count_of_history}
+use Rattle.lfs_model.specs.History.DeviceCall.{Read, Program, Erase}
+use Rattle.lfs_model.proofs.Histories.{began, goes_on, goes_on_by, IsTrueOfEachCallSince-weaker, AreCallsSinceOnlyReads-trans, AreBytesStillUnprogrammed-erase, AreBytesStillUnprogrammed-program, AreBytesStillUnprogrammed-read_count_of_history, AreBytesStillUnprogrammed-refl, AreBytesStillUnprogrammed-trans}
 use Rattle.lfs_model.proofs.Overwrites.{AreBlocksEqualExceptOne-refl, AreBlocksEqualExceptOne-trans, AreBlocksEqualExceptThese-one, AreBlocksEqualExceptThese-refl}
 use Rattle.lfs_ctz.proofs.Pushing.{stays_one}
 use Rattle.lfs_ctz.proofs.Readings.{reads_stop}
@@ -24,19 +24,19 @@ module _ {D : Type 0} (g : Ghosts D) where
     reads = AreCallsSinceOnlyReads-trans first.reads second.reads first.same;
   }
 
-  pub read_once : {old new : D} {block off len : ℕ} {failed : Bool} → g.history new ≡ call_event_with (Read block off len) (g.blocks old) (g.blocks new) failed ∷ g.history old
+  pub read_once : {old new : D} {block off len : ℕ} {failed : Bool} → g.history new ≡ device_call_event_with_blocks (Read block off len) (g.blocks old) (g.blocks new) failed ∷ g.history old
       → g.blocks new ≡ g.blocks old → g.geometry new ≡ g.geometry old → ReadsOnly g old new
   read_once called same geometry = record { same = same; geometry = geometry; reads = goes_on began called (record { reads = refl; before = refl; after = same }) }
 
   pub only_read : {old new : D} (b : ℕ) → ReadsOnly g old new → ChangesOnlyThisBlock g b old new
   only_read {old} b read = record {
     others = subst (AreBlocksEqualExceptOne b (g.blocks old)) (sym read.same) (AreBlocksEqualExceptOne-refl b (g.blocks old));
-    elsewhere = AreBytesStillUnprogrammed-reads (b ∷ []) read.reads;
+    elsewhere = AreBytesStillUnprogrammed-read_count_of_history (b ∷ []) read.reads;
     geometry = read.geometry;
     at_worst = reads_stop (g.blocks old) b _ _ read.reads;
   }
 
-  pub erase_once : {old new : D} {block : ℕ} {failed : Bool} → g.history new ≡ call_event_with (Erase block) (g.blocks old) (g.blocks new) failed ∷ g.history old
+  pub erase_once : {old new : D} {block : ℕ} {failed : Bool} → g.history new ≡ device_call_event_with_blocks (Erase block) (g.blocks old) (g.blocks new) failed ∷ g.history old
       → AreBlocksEqualExceptOne block (g.blocks old) (g.blocks new) → g.geometry new ≡ g.geometry old → ChangesOnlyThisBlock g block old new
   erase_once called others geometry = record {
     others = others;
@@ -45,7 +45,7 @@ module _ {D : Type 0} (g : Ghosts D) where
     at_worst = goes_on began called (λ left stop. stop);
   }
 
-  pub program_once : {old new : D} {block off : ℕ} {bytes : List ℕ} {failed : Bool} → g.history new ≡ call_event_with (Program block off bytes) (g.blocks old) (g.blocks new) failed ∷ g.history old
+  pub program_once : {old new : D} {block off : ℕ} {bytes : List ℕ} {failed : Bool} → g.history new ≡ device_call_event_with_blocks (Program block off bytes) (g.blocks old) (g.blocks new) failed ∷ g.history old
       → AreBlocksEqualExceptOne block (g.blocks old) (g.blocks new) → g.geometry new ≡ g.geometry old → ChangesOnlyThisBlock g block old new
   program_once called others geometry = record {
     others = others;
@@ -80,18 +80,18 @@ module _ {D : Type 0} (g : Ghosts D) where
   }
 
   -- a call that succeeds has no fault
-  pub quiet : {X : Type 0} {old new : D} {x : X} → ReportsFaults g old new (Ok x) → faults (g.history new) ≡ faults (g.history old)
+  pub quiet : {X : Type 0} {old new : D} {x : X} → ReportsFaults g old new (Ok x) → fault_count_of_history (g.history new) ≡ fault_count_of_history (g.history old)
   quiet reported = reported.no_fault (λ is. absurd (cc))
 
   -- after calls without a fault
-  pub reported_on : {X : Type 0} {old mid new : D} {result : Result X Error} → faults (g.history mid) ≡ faults (g.history old) → ReportsFaults g mid new result → ReportsFaults g old new result
+  pub reported_on : {X : Type 0} {old mid new : D} {result : Result X Error} → fault_count_of_history (g.history mid) ≡ fault_count_of_history (g.history old) → ReportsFaults g mid new result → ReportsFaults g old new result
   reported_on none reported = record {
     fault = λ is. (let more = reported.fault is in omega arith);
     no_fault = λ other. reported.no_fault other ∙ none;
   }
 
   -- and neither has a list that isn't right
-  pub reported_corrupt : {X : Type 0} {old new : D} → faults (g.history new) ≡ faults (g.history old) → ReportsFaults {X = X} g old new (Err Error.Corrupt)
+  pub reported_corrupt : {X : Type 0} {old new : D} → fault_count_of_history (g.history new) ≡ fault_count_of_history (g.history old) → ReportsFaults {X = X} g old new (Err Error.Corrupt)
   reported_corrupt none = record { fault = λ is. absurd (cc); no_fault = λ other. none }
 
   -- the same error of a call with another result
@@ -108,7 +108,7 @@ module _ {D : Type 0} (g : Ghosts D) where
       back {f} is = let same : e ≡ f = cc in subst (λ z. ◌≡◌ {A = Result Y Error} (Err e) (Err z)) same refl
 
   -- after reads without a fault a list is read
-  pub list_on : {X : Type 0} {old mid new : D} {result : Result X Error} → ReadsOnly g old mid → faults (g.history mid) ≡ faults (g.history old) → OnlyReadsAndReportsIoOrCorrupt g mid new result → OnlyReadsAndReportsIoOrCorrupt g old new result
+  pub list_on : {X : Type 0} {old mid new : D} {result : Result X Error} → ReadsOnly g old mid → fault_count_of_history (g.history mid) ≡ fault_count_of_history (g.history old) → OnlyReadsAndReportsIoOrCorrupt g mid new result → OnlyReadsAndReportsIoOrCorrupt g old new result
   list_on read none reported = record { device = read_on read reported.device; faults = reported_on none reported.faults; errors = reported.errors }
 
   -- the same error of a reading with another result
@@ -120,9 +120,9 @@ module _ {D : Type 0} (g : Ghosts D) where
   list_io read reported is = record { device = read; faults = reported_as reported; errors = inl is }
 
   -- a list was read and isn't right
-  pub list_corrupt : {X : Type 0} {old new : D} → ReadsOnly g old new → faults (g.history new) ≡ faults (g.history old) → OnlyReadsAndReportsIoOrCorrupt {X = X} g old new (Err Error.Corrupt)
+  pub list_corrupt : {X : Type 0} {old new : D} → ReadsOnly g old new → fault_count_of_history (g.history new) ≡ fault_count_of_history (g.history old) → OnlyReadsAndReportsIoOrCorrupt {X = X} g old new (Err Error.Corrupt)
   list_corrupt read none = record { device = read; faults = reported_corrupt none; errors = inr refl }
 
   -- a list was read
-  pub list_ok : {X : Type 0} {old new : D} {x : X} → ReadsOnly g old new → faults (g.history new) ≡ faults (g.history old) → OnlyReadsAndReportsIoOrCorrupt g old new (Ok x)
+  pub list_ok : {X : Type 0} {old new : D} {x : X} → ReadsOnly g old new → fault_count_of_history (g.history new) ≡ fault_count_of_history (g.history old) → OnlyReadsAndReportsIoOrCorrupt g old new (Ok x)
   list_ok read none = record { device = read; faults = record { fault = λ is. absurd (cc); no_fault = λ other. none }; errors = tt }

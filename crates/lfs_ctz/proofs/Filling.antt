@@ -4,15 +4,15 @@ use Rattle.std.specs.Prelude.{All}
 use Rattle.std.specs.List.{IsDistinct}
 use Rattle.std.proofs.lemmas.List.{append-nil, take_at, take_all, take-take, drop-append-le, drop-take, length-take-le}
 use Rattle.std.proofs.Math.Seq.{take-append-add}
-use Rattle.lfs_model.specs.Blocks.{Blocks, HasBlocksOfCountAndSize, AreBlocksEqualExceptOne, block_bytes_in, bytes_after_overwrite_at}
-use Rattle.lfs_model.specs.SkipLists.{pointers_of, capacity_of, bytes_before, list_blocks_from_head, list_block_count_for_size, AreListBlocks, data_of_list_block}
+use Rattle.lfs_model.specs.Blocks.{Blocks, HasBlocksOfCountAndSize, AreBlocksEqualExceptOne, block_bytes_by_number, bytes_after_overwrite_at}
+use Rattle.lfs_model.specs.SkipLists.{pointer_count_of_list_block, data_capacity_of_list_block, byte_count_before_list_block, list_blocks_from_head, list_block_count_for_size, AreListBlocks, data_of_list_block}
 use Rattle.lfs_model.proofs.Files.{data_same}
-use Rattle.lfs_ctz.specs.Finished.{IsEndedList}
-use Rattle.lfs_ctz.specs.Growing.{data_of_list_blocks, IsRestForUnwrittenBlock, IsRestInSharedBlock}
+use Rattle.lfs_ctz.specs.Finished.{IsSkipListWithBytesAndBlocks}
+use Rattle.lfs_ctz.specs.Growing.{data_of_list_blocks, AreLastBytesForUnwrittenBlock, AreLastBytesInSharedBlock}
 use Rattle.lfs_ctz.proofs.Chains.{length_back}
 use Rattle.lfs_ctz.proofs.Grown.{same_apart}
 use Rattle.lfs_ctz.proofs.Joined.{joined-append, length-joined}
-use Rattle.lfs_ctz.proofs.Sizes.{capacity_of-pos, list_block_count_for_size-above, list_block_count_for_size-within}
+use Rattle.lfs_ctz.proofs.Sizes.{data_capacity_of_list_block-pos, list_block_count_for_size-above, list_block_count_for_size-within}
 
 -- no blocks are a chain
 pub none_chain : (d : Blocks) (head : ℕ) → AreListBlocks d 0 head
@@ -50,11 +50,11 @@ joined_grown d e full head block back same apart =
 
 -- of a whole block
 pub joined_full : (d e : Blocks) (full head block size : ℕ) (bytes : List ℕ) → list_blocks_from_head e (full + 1) block ≡ list_blocks_from_head d full head ++ block ∷ [] → AreBlocksEqualExceptOne block d e
-    → All (λ c. c ≢ block) (list_blocks_from_head d full head) → length (block_bytes_in e block) ≡ size → take (size - 4 * pointers_of full) (drop (4 * pointers_of full) (block_bytes_in e block)) ≡ bytes
+    → All (λ c. c ≢ block) (list_blocks_from_head d full head) → length (block_bytes_by_number e block) ≡ size → take (size - 4 * pointer_count_of_list_block full) (drop (4 * pointer_count_of_list_block full) (block_bytes_by_number e block)) ≡ bytes
     → data_of_list_blocks e (list_blocks_from_head e (full + 1) block) ≡ data_of_list_blocks d (list_blocks_from_head d full head) ++ bytes
 joined_full d e full head block size bytes back same apart sized is =
     joined_grown d e full head block back same apart
-    ∙ ap (λ (l : List ℕ). data_of_list_blocks d (list_blocks_from_head d full head) ++ l) (sym (take_all (size - 4 * pointers_of full) (data_of_list_block e (full, block)) (omega (arith, length-drop (4 * pointers_of full) (block_bytes_in e block)))) ∙ is)
+    ∙ ap (λ (l : List ℕ). data_of_list_blocks d (list_blocks_from_head d full head) ++ l) (sym (take_all (size - 4 * pointer_count_of_list_block full) (data_of_list_block e (full, block)) (omega (arith, length-drop (4 * pointer_count_of_list_block full) (block_bytes_by_number e block)))) ∙ is)
 
 -- ---- the end
 
@@ -68,15 +68,15 @@ joined_back d full head block back =
     ∙ ap (λ k. data_of_list_blocks d (list_blocks_from_head d full head) ++ data_of_list_block d (k, block)) (let len = length_back d full head in omega arith)
 
 -- the full blocks hold what they have room for
-pub length-full : (d : Blocks) (block_size count full head : ℕ) → 1024 ≤ block_size → HasBlocksOfCountAndSize block_size count d → AreListBlocks d full head → length (data_of_list_blocks d (list_blocks_from_head d full head)) ≡ bytes_before block_size full
+pub length-full : (d : Blocks) (block_size count full head : ℕ) → 1024 ≤ block_size → HasBlocksOfCountAndSize block_size count d → AreListBlocks d full head → length (data_of_list_blocks d (list_blocks_from_head d full head)) ≡ byte_count_before_list_block block_size full
 length-full d block_size count full head large shape chain =
     let all = length-joined d block_size 0 (list_blocks_from_head d full head) large (λ k x l. shape.sizes (get_or (list_blocks_from_head d full head) k x) (let lt = chain.in_range k x l in omega (arith, lt, shape.count))) in
     let len = length_back d full head in
-    omega (arith, all, ap (bytes_before block_size) (let s : 0 + length (list_blocks_from_head d full head) ≡ full = omega arith in s))
+    omega (arith, all, ap (byte_count_before_list_block block_size) (let s : 0 + length (list_blocks_from_head d full head) ≡ full = omega arith in s))
 
 -- a list of so many blocks
 at_end : (d : Blocks) (block_size head size n : ℕ) (content : List ℕ) → 1 ≤ size → size < 2 ^ 31 → list_block_count_for_size block_size size ≡ n → AreListBlocks d n head → take size (data_of_list_blocks d (list_blocks_from_head d n head)) ≡ content
-    → IsEndedList d block_size head size content (list_blocks_from_head d n head)
+    → IsSkipListWithBytesAndBlocks d block_size head size content (list_blocks_from_head d n head)
 at_end d block_size head size n content low high count chain is =
     let whole : AreListBlocks d (list_block_count_for_size block_size size) head = subst (λ k. AreListBlocks d k head) (sym count) chain in
     record {
@@ -86,11 +86,11 @@ at_end d block_size head size n content low high count chain is =
     }
 
 -- with nothing after the full blocks
-pub end_closed : (d : Blocks) (block_size count full head size : ℕ) → 1024 ≤ block_size → HasBlocksOfCountAndSize block_size count d → AreListBlocks d full head → 1 ≤ size → size < 2 ^ 31 → size ≡ bytes_before block_size full
-    → IsEndedList d block_size head size (data_of_list_blocks d (list_blocks_from_head d full head)) (list_blocks_from_head d full head)
+pub end_closed : (d : Blocks) (block_size count full head size : ℕ) → 1024 ≤ block_size → HasBlocksOfCountAndSize block_size count d → AreListBlocks d full head → 1 ≤ size → size < 2 ^ 31 → size ≡ byte_count_before_list_block block_size full
+    → IsSkipListWithBytesAndBlocks d block_size head size (data_of_list_blocks d (list_blocks_from_head d full head)) (list_blocks_from_head d full head)
 end_closed d block_size count zero head size large shape chain low high is = absurd (omega arith)
 end_closed d block_size count (suc full) head size large shape chain low high is =
-    let one = capacity_of-pos block_size full large in
+    let one = data_capacity_of_list_block-pos block_size full large in
     let above = list_block_count_for_size-above block_size size full large (omega arith) in
     let within = list_block_count_for_size-within block_size size (suc full) large (omega arith) in
     at_end d block_size head size (suc full) (data_of_list_blocks d (list_blocks_from_head d (suc full) head)) low high (omega arith) chain
@@ -99,8 +99,8 @@ end_closed d block_size count (suc full) head size large shape chain low high is
 -- with a block after them that begins with the rest
 pub end_open : (d e : Blocks) (block_size count full head block size : ℕ) (rest : List ℕ) → 1024 ≤ block_size → HasBlocksOfCountAndSize block_size count d → AreListBlocks d full head → AreListBlocks e (full + 1) block
     → data_of_list_blocks e (list_blocks_from_head e (full + 1) block) ≡ data_of_list_blocks d (list_blocks_from_head d full head) ++ data_of_list_block e (full, block) → take (length rest) (data_of_list_block e (full, block)) ≡ rest
-    → 1 ≤ length rest → length rest ≤ capacity_of block_size full → size < 2 ^ 31 → size ≡ bytes_before block_size full + length rest
-    → IsEndedList e block_size block size (data_of_list_blocks d (list_blocks_from_head d full head) ++ rest) (list_blocks_from_head e (full + 1) block)
+    → 1 ≤ length rest → length rest ≤ data_capacity_of_list_block block_size full → size < 2 ^ 31 → size ≡ byte_count_before_list_block block_size full + length rest
+    → IsSkipListWithBytesAndBlocks e block_size block size (data_of_list_blocks d (list_blocks_from_head d full head) ++ rest) (list_blocks_from_head e (full + 1) block)
 end_open d e block_size count full head block size rest large shape chain more bytes begins some short high is =
     let all = length-full d block_size count full head large shape chain in
     let above = list_block_count_for_size-above block_size size full large (omega arith) in
@@ -114,7 +114,7 @@ end_open d e block_size count full head block size rest large shape chain more b
 
 -- the ends of a list that grows
 pub closed_end : (d : Blocks) (block_size count full head size : ℕ) (rest : List ℕ) → 1024 ≤ block_size → HasBlocksOfCountAndSize block_size count d → AreListBlocks d full head → rest ≡ []
-    → 1 ≤ size → size < 2 ^ 31 → size ≡ bytes_before block_size full + length rest → IsEndedList d block_size head size (data_of_list_blocks d (list_blocks_from_head d full head) ++ rest) (list_blocks_from_head d full head ++ [])
+    → 1 ≤ size → size < 2 ^ 31 → size ≡ byte_count_before_list_block block_size full + length rest → IsSkipListWithBytesAndBlocks d block_size head size (data_of_list_blocks d (list_blocks_from_head d full head) ++ rest) (list_blocks_from_head d full head ++ [])
 closed_end d block_size count full head size rest large shape chain none low high is =
     let end = end_closed d block_size count full head size large shape chain low high (omega (arith, is, ap length none)) in
     record {
@@ -123,17 +123,17 @@ closed_end d block_size count full head size rest large shape chain none low hig
       blocks = end.blocks ∙ sym (append-nil (list_blocks_from_head d full head));
     }
 
-pub shared_end : (d : Blocks) (block_size count full head block size : ℕ) (rest : List ℕ) → 1024 ≤ block_size → HasBlocksOfCountAndSize block_size count d → AreListBlocks d full head → IsRestInSharedBlock d full head rest block
-    → length rest ≤ capacity_of block_size full → size < 2 ^ 31 → size ≡ bytes_before block_size full + length rest
-    → IsEndedList d block_size block size (data_of_list_blocks d (list_blocks_from_head d full head) ++ rest) (list_blocks_from_head d full head ++ block ∷ [])
+pub shared_end : (d : Blocks) (block_size count full head block size : ℕ) (rest : List ℕ) → 1024 ≤ block_size → HasBlocksOfCountAndSize block_size count d → AreListBlocks d full head → AreLastBytesInSharedBlock d full head rest block
+    → length rest ≤ data_capacity_of_list_block block_size full → size < 2 ^ 31 → size ≡ byte_count_before_list_block block_size full + length rest
+    → IsSkipListWithBytesAndBlocks d block_size block size (data_of_list_blocks d (list_blocks_from_head d full head) ++ rest) (list_blocks_from_head d full head ++ block ∷ [])
 shared_end d block_size count full head block size rest large shape chain shared short high is =
     let end = end_open d d block_size count full head block size rest large shape chain shared.chain (joined_back d full head block shared.back) shared.begins shared.some short high is in
     record { list = end.list; bytes = end.bytes; blocks = end.blocks ∙ shared.back }
 
-pub handed_end : (d e : Blocks) (block_size count full head block size : ℕ) (rest : List ℕ) → 1024 ≤ block_size → HasBlocksOfCountAndSize block_size count d → AreListBlocks d full head → IsRestForUnwrittenBlock d full head rest block
+pub handed_end : (d e : Blocks) (block_size count full head block size : ℕ) (rest : List ℕ) → 1024 ≤ block_size → HasBlocksOfCountAndSize block_size count d → AreListBlocks d full head → AreLastBytesForUnwrittenBlock d full head rest block
     → AreListBlocks e (full + 1) block → list_blocks_from_head e (full + 1) block ≡ list_blocks_from_head d full head ++ block ∷ [] → AreBlocksEqualExceptOne block d e → take (length rest) (data_of_list_block e (full, block)) ≡ rest
-    → length rest ≤ capacity_of block_size full → size < 2 ^ 31 → size ≡ bytes_before block_size full + length rest
-    → IsEndedList e block_size block size (data_of_list_blocks d (list_blocks_from_head d full head) ++ rest) (list_blocks_from_head d full head ++ block ∷ [])
+    → length rest ≤ data_capacity_of_list_block block_size full → size < 2 ^ 31 → size ≡ byte_count_before_list_block block_size full + length rest
+    → IsSkipListWithBytesAndBlocks e block_size block size (data_of_list_blocks d (list_blocks_from_head d full head) ++ rest) (list_blocks_from_head d full head ++ block ∷ [])
 handed_end d e block_size count full head block size rest large shape chain handed more back same begins short high is =
     let end = end_open d e block_size count full head block size rest large shape chain more (joined_grown d e full head block back same handed.apart) begins handed.some short high is in
     record { list = end.list; bytes = end.bytes; blocks = end.blocks ∙ back }

@@ -2,9 +2,9 @@
 use Rattle.std.proofs.Common.{ℕ, zero, suc, ◌≡◌, ◌+◌, ◌*◌, ◌<◌, ◌≤◌, List, [], ◌∷◌, ◌++◌, length, take, slice_index, sym, ap, ◌∙◌, arith, add-one, append_assoc, length-append, length-drop, flat_map}
 use Rattle.std.specs.List.{enumerate_from}
 use Rattle.std.proofs.lemmas.List.{take_more}
-use Rattle.lfs_model.specs.Blocks.{Blocks, block_bytes_in}
-use Rattle.lfs_model.specs.SkipLists.{pointers_of, capacity_of, bytes_before, list_blocks_from_head, data_of_list_block}
-use Rattle.lfs_ctz.proofs.Sizes.{pointers_of-le}
+use Rattle.lfs_model.specs.Blocks.{Blocks, block_bytes_by_number}
+use Rattle.lfs_model.specs.SkipLists.{pointer_count_of_list_block, data_capacity_of_list_block, byte_count_before_list_block, list_blocks_from_head, data_of_list_block}
+use Rattle.lfs_ctz.proofs.Sizes.{pointer_count_of_list_block-le}
 use Rattle.lfs_ctz.proofs.Chains.{length_back, back-pointer0}
 use Rattle.lfs_model.proofs.ListSizes.{AllSized}
 
@@ -20,14 +20,14 @@ joined-append d start (x ∷ xs) ys =
     ∙ ap (λ k. joined_from d start (x ∷ xs) ++ joined_from d k ys) (let s : start + 1 + length xs ≡ start + suc (length xs) = omega arith in s)
 
 -- they are as long as the blocks have room
-pub length-joined : (d : Blocks) (block_size start : ℕ) (bs : List ℕ) → 1024 ≤ block_size → AllSized d block_size bs → bytes_before block_size start + length (joined_from d start bs) ≡ bytes_before block_size (start + length bs)
-length-joined d block_size start [] large sized = omega (arith, ap (bytes_before block_size) (let s : start + 0 ≡ start = omega arith in s))
+pub length-joined : (d : Blocks) (block_size start : ℕ) (bs : List ℕ) → 1024 ≤ block_size → AllSized d block_size bs → byte_count_before_list_block block_size start + length (joined_from d start bs) ≡ byte_count_before_list_block block_size (start + length bs)
+length-joined d block_size start [] large sized = omega (arith, ap (byte_count_before_list_block block_size) (let s : start + 0 ≡ start = omega arith in s))
 length-joined d block_size start (b ∷ bs) large sized =
-    let few = pointers_of-le start in
-    let here : length (data_of_list_block d (start, b)) ≡ capacity_of block_size start = omega (arith, length-drop (4 * pointers_of start) (block_bytes_in d b), sized 0 0 (omega arith)) in
+    let few = pointer_count_of_list_block-le start in
+    let here : length (data_of_list_block d (start, b)) ≡ data_capacity_of_list_block block_size start = omega (arith, length-drop (4 * pointer_count_of_list_block start) (block_bytes_by_number d b), sized 0 0 (omega arith)) in
     let next = length-joined d block_size (start + 1) bs large (λ k x l. sized (suc k) x (omega arith)) in
     let all = length-append (data_of_list_block d (start, b)) (joined_from d (start + 1) bs) in
-    omega (arith, here, next, all, ap (bytes_before block_size) (add-one start), ap (bytes_before block_size) (let s : start + 1 + length bs ≡ start + suc (length bs) = omega arith in s))
+    omega (arith, here, next, all, ap (byte_count_before_list_block block_size) (add-one start), ap (byte_count_before_list_block block_size) (let s : start + 1 + length bs ≡ start + suc (length bs) = omega arith in s))
 
 -- the blocks before one are a list's, too
 pub back_prefix : (d : Blocks) (n head m : ℕ) → m < n → list_blocks_from_head d (m + 1) (slice_index (list_blocks_from_head d n head) m) ≡ take (m + 1) (list_blocks_from_head d n head)

@@ -4,13 +4,13 @@ use Rattle.std.proofs.lemmas.Bool.{cases_lt}
 use Rattle.std.proofs.lemmas.List.{append-nil, take_at, drop_all, drop-take, take-append-le, take-append-drop, take-take, length-replicate, length-take-le}
 use Rattle.std.proofs.Math.Seq.{take-append-add}
 use Rattle.lfs_model.specs.Blocks.{bytes_after_overwrite_at}
-use Rattle.lfs_model.specs.SkipLists.{pointers_of}
+use Rattle.lfs_model.specs.SkipLists.{pointer_count_of_list_block}
 use Rattle.lfs_model.specs.Writers.{contents_after_write as with_bytes}
 
 -- after no full block the rest stands where the buffer begins
-pub rest_at : (items : List ℕ) (full filled : ℕ) → full ≡ 0 → take (filled - 4 * pointers_of full) (drop (4 * pointers_of full) items) ≡ take filled items
+pub rest_at : (items : List ℕ) (full filled : ℕ) → full ≡ 0 → take (filled - 4 * pointer_count_of_list_block full) (drop (4 * pointer_count_of_list_block full) items) ≡ take filled items
 rest_at items full filled none =
-    ap (λ k. take (filled - 4 * pointers_of k) (drop (4 * pointers_of k) items)) none ∙ ap (λ k. take k items) (let all : filled - 4 * pointers_of 0 ≡ filled = omega arith in all)
+    ap (λ k. take (filled - 4 * pointer_count_of_list_block k) (drop (4 * pointer_count_of_list_block k) items)) none ∙ ap (λ k. take k items) (let all : filled - 4 * pointer_count_of_list_block 0 ≡ filled = omega arith in all)
 
 -- bytes that were written over the first ones
 pub held_front : (items new bytes : List ℕ) → new ≡ bytes_after_overwrite_at items 0 bytes → take (length bytes - 4 * 0) (drop (4 * 0) new) ≡ bytes

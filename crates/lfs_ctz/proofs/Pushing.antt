@@ -7,17 +7,17 @@ use Rattle.std.proofs.lemmas.List.{append-nil, get_or_append_left, get_or-append
 use Rattle.std.proofs.lemmas.List.Elements.{All-cons, All-nil}
 use Rattle.std.proofs.lemmas.Map.Keys.{apart_from_distinct}
 use Rattle.lfs_model.specs.Blocks.{Blocks}
-use Rattle.lfs_model.specs.History.{CallEvent, AreBytesStillUnprogrammed}
+use Rattle.lfs_model.specs.History.{DeviceCallEvent, AreBytesStillUnprogrammed}
 use Rattle.lfs_model.proofs.Histories.{AreBytesStillUnprogrammed-trans, AreBytesStillUnprogrammed-wider}
-use Rattle.lfs_model.specs.SkipLists.{capacity_of, list_blocks_from_head, list_block_count_for_size}
+use Rattle.lfs_model.specs.SkipLists.{data_capacity_of_list_block, list_blocks_from_head, list_block_count_for_size}
 use Rattle.lfs_ctz.specs.declared.rest.RestLocation.{RestLocation}
 use Rattle.lfs_ctz.specs.declared.rest.RestLocation.TheVariants.{Closed, Shared, Handed, Held}
-use Rattle.lfs_ctz.specs.Growing.{GrowingList, unwritten_block_of_rest, block_of_rest, is_list_only_in_buffer, is_rest_in_buffer, unwritten_block_of_list, blocks_kept_when_growing, blocks_of_growing_list, list_size_by_block_size, block_for_next_bytes, IsRestAtItsLocation, HasGrowingListOnDisk}
+use Rattle.lfs_ctz.specs.Growing.{GrowingList, unwritten_block_after_full_blocks, block_after_full_blocks, are_last_bytes_of_list_only_in_buffer, are_last_bytes_only_in_buffer, unwritten_block_of_list, blocks_kept_when_growing, blocks_of_growing_list, growing_list_size_with_block_size, block_for_next_bytes_with_used_count, AreLastBytesAtLocation, HasGrowingListOnDisk}
 use Rattle.lfs_ctz.proofs.Sizes.{list_block_count_for_size-above, list_block_count_for_size-within}
 use Rattle.lfs_ctz.proofs.Chains.{length_back}
 
 -- one of the blocks is written
-pub stays_one : (bs : List ℕ) (block : ℕ) (old mid new : List CallEvent) → ((other : ℕ) → All (λ b. b ≢ other) bs → block ≢ other) → AreBytesStillUnprogrammed bs old mid → AreBytesStillUnprogrammed (block ∷ []) mid new → AreBytesStillUnprogrammed bs old new
+pub stays_one : (bs : List ℕ) (block : ℕ) (old mid new : List DeviceCallEvent) → ((other : ℕ) → All (λ b. b ≢ other) bs → block ≢ other) → AreBytesStillUnprogrammed bs old mid → AreBytesStillUnprogrammed (block ∷ []) mid new → AreBytesStillUnprogrammed bs old new
 stays_one bs block old mid new among first second =
     AreBytesStillUnprogrammed-trans first (AreBytesStillUnprogrammed-wider bs (λ other apart. All-cons (λ b. b ≢ other) block [] (among other apart) (All-nil (λ b. b ≢ other))) second)
 
@@ -27,8 +27,8 @@ among_handed pending blocks used lt other apart is =
     apart (length pending + used) 0 (omega (arith, length-append pending blocks)) (get_or-append-add pending blocks used 0 ∙ is)
 
 -- the block that takes the next bytes is among them
-pub next_among : (t : RestLocation) (handed pending blocks : List ℕ) (used : ℕ) → handed ≡ pending ++ blocks → (unwritten_block_of_rest t ≡ [] → used < length blocks)
-    → ((other : ℕ) → All (λ b. b ≢ other) handed → All (λ b. b ≢ other) (unwritten_block_of_rest t)) → (other : ℕ) → All (λ b. b ≢ other) handed → (block_for_next_bytes t blocks used).0 ≢ other
+pub next_among : (t : RestLocation) (handed pending blocks : List ℕ) (used : ℕ) → handed ≡ pending ++ blocks → (unwritten_block_after_full_blocks t ≡ [] → used < length blocks)
+    → ((other : ℕ) → All (λ b. b ≢ other) handed → All (λ b. b ≢ other) (unwritten_block_after_full_blocks t)) → (other : ℕ) → All (λ b. b ≢ other) handed → (block_for_next_bytes_with_used_count t blocks used).0 ≢ other
 next_among Closed handed pending blocks used is some among other apart = among_handed pending blocks used (some refl) other (subst (All (λ b. b ≢ other)) is apart)
 next_among (Shared b) handed pending blocks used is some among other apart = among_handed pending blocks used (some refl) other (subst (All (λ b. b ≢ other)) is apart)
 next_among (Handed b) handed pending blocks used is some among other apart = among other apart 0 0 (omega arith)
@@ -50,8 +50,8 @@ apart_before back front blocks used lt is distinct apart k x l e =
     eqb-false (get_or blocks i x) (get_or blocks used x) (apart_from_distinct nat_eq blocks i used x distinct (omega arith) lt) (sym there ∙ e ∙ get_or_default blocks used 0 x lt))
     (cases_lt k (length front))
 
-pub next_apart : (d : Blocks) (full head : ℕ) (rest : List ℕ) (t : RestLocation) (front blocks : List ℕ) (used : ℕ) → IsRestAtItsLocation d full head rest t → (unwritten_block_of_rest t ≡ [] → used < length blocks)
-    → list_blocks_from_head d full head ++ unwritten_block_of_rest t ≡ front ++ take used blocks → IsDistinct nat_eq blocks → All (λ b. All (λ c. c ≢ b) front) blocks → All (λ c. c ≢ (block_for_next_bytes t blocks used).0) (list_blocks_from_head d full head)
+pub next_apart : (d : Blocks) (full head : ℕ) (rest : List ℕ) (t : RestLocation) (front blocks : List ℕ) (used : ℕ) → AreLastBytesAtLocation d full head rest t → (unwritten_block_after_full_blocks t ≡ [] → used < length blocks)
+    → list_blocks_from_head d full head ++ unwritten_block_after_full_blocks t ≡ front ++ take used blocks → IsDistinct nat_eq blocks → All (λ b. All (λ c. c ≢ b) front) blocks → All (λ c. c ≢ (block_for_next_bytes_with_used_count t blocks used).0) (list_blocks_from_head d full head)
 next_apart d full head rest Closed front blocks used stand some is distinct apart = apart_before (list_blocks_from_head d full head) front blocks used (some refl) (sym (append-nil (list_blocks_from_head d full head)) ∙ is) distinct apart
 next_apart d full head rest (Shared b) front blocks used stand some is distinct apart =
     apart_before (list_blocks_from_head d full head) front blocks used (some refl) (sym (append-nil (list_blocks_from_head d full head)) ∙ is) distinct apart
@@ -60,14 +60,14 @@ next_apart d full head rest Held front blocks used stand some is distinct apart 
     apart_before (list_blocks_from_head d full head) front blocks used (some refl) (sym (append-nil (list_blocks_from_head d full head)) ∙ is) distinct apart
 
 -- and it is on the device
-pub next_inside : (d : Blocks) (full head : ℕ) (rest : List ℕ) (t : RestLocation) (blocks : List ℕ) (used n : ℕ) → length d ≡ n → IsRestAtItsLocation d full head rest t → (unwritten_block_of_rest t ≡ [] → used < length blocks) → All (λ b. b < n) blocks
-    → (block_for_next_bytes t blocks used).0 < n
+pub next_inside : (d : Blocks) (full head : ℕ) (rest : List ℕ) (t : RestLocation) (blocks : List ℕ) (used n : ℕ) → length d ≡ n → AreLastBytesAtLocation d full head rest t → (unwritten_block_after_full_blocks t ≡ [] → used < length blocks) → All (λ b. b < n) blocks
+    → (block_for_next_bytes_with_used_count t blocks used).0 < n
 next_inside d full head rest Closed blocks used n count stand some inside = inside used 0 (some refl)
 next_inside d full head rest (Shared b) blocks used n count stand some inside = inside used 0 (some refl)
 next_inside d full head rest (Handed b) blocks used n count stand some inside = omega (arith, stand.in_range, count)
 next_inside d full head rest Held blocks used n count stand some inside = inside used 0 (some refl)
 
-pub next_some : (t : RestLocation) (blocks : List ℕ) (used : ℕ) → (unwritten_block_of_rest t ≡ [] → used < length blocks) → used ≤ length blocks → (block_for_next_bytes t blocks used).1 ≤ length blocks
+pub next_some : (t : RestLocation) (blocks : List ℕ) (used : ℕ) → (unwritten_block_after_full_blocks t ≡ [] → used < length blocks) → used ≤ length blocks → (block_for_next_bytes_with_used_count t blocks used).1 ≤ length blocks
 next_some Closed blocks used some le = let lt = some refl in omega arith
 next_some (Shared b) blocks used some le = let lt = some refl in omega arith
 next_some (Handed b) blocks used some le = le
@@ -79,8 +79,8 @@ one_used back front blocks used lt is =
     ∙ append_assoc front (take used blocks) (slice_index blocks used ∷ [])
     ∙ ap (λ (l : List ℕ). front ++ l) (sym (take_more blocks used 0 lt))
 
-pub next_kept : (t : RestLocation) (back front blocks : List ℕ) (used : ℕ) → (unwritten_block_of_rest t ≡ [] → used < length blocks) → back ++ unwritten_block_of_rest t ≡ front ++ take used blocks
-    → back ++ (block_for_next_bytes t blocks used).0 ∷ [] ≡ front ++ take (block_for_next_bytes t blocks used).1 blocks
+pub next_kept : (t : RestLocation) (back front blocks : List ℕ) (used : ℕ) → (unwritten_block_after_full_blocks t ≡ [] → used < length blocks) → back ++ unwritten_block_after_full_blocks t ≡ front ++ take used blocks
+    → back ++ (block_for_next_bytes_with_used_count t blocks used).0 ∷ [] ≡ front ++ take (block_for_next_bytes_with_used_count t blocks used).1 blocks
 next_kept Closed back front blocks used some is = one_used back front blocks used (some refl) is
 next_kept (Shared b) back front blocks used some is = one_used back front blocks used (some refl) is
 next_kept (Handed b) back front blocks used some is = is
@@ -105,28 +105,28 @@ kept_count d e was now blocks used le is =
 
 -- while bytes are left and no block is pending there is one to take
 pub still_some : (d e : Blocks) (block_size : ℕ) (was now : GrowingList) (blocks : List ℕ) (used done total : ℕ) → 1024 ≤ block_size → used ≤ length blocks → blocks_kept_when_growing e now ≡ blocks_kept_when_growing d was ++ take used blocks
-    → length blocks ≡ list_block_count_for_size block_size (list_size_by_block_size block_size was + total) - (was.full + length (unwritten_block_of_list was)) → list_size_by_block_size block_size now ≡ list_size_by_block_size block_size was + done → done < total → unwritten_block_of_list now ≡ [] → used < length blocks
+    → length blocks ≡ list_block_count_for_size block_size (growing_list_size_with_block_size block_size was + total) - (was.full + length (unwritten_block_of_list was)) → growing_list_size_with_block_size block_size now ≡ growing_list_size_with_block_size block_size was + done → done < total → unwritten_block_of_list now ≡ [] → used < length blocks
 still_some d e block_size was now blocks used done total large le is count sum less none =
     let counted = kept_count d e was now blocks used le is in
-    let more = list_block_count_for_size-above block_size (list_size_by_block_size block_size was + total) now.full large (omega arith) in
+    let more = list_block_count_for_size-above block_size (growing_list_size_with_block_size block_size was + total) now.full large (omega arith) in
     omega (arith, counted, more, count, ap length none)
 
 -- at the end all are used
-size_fits : (d : Blocks) (block_size : ℕ) (g : GrowingList) → 1024 ≤ block_size → HasGrowingListOnDisk d g → length g.rest < capacity_of block_size g.full → blocks_of_growing_list d g ≡ blocks_kept_when_growing d g → is_list_only_in_buffer g ≡ false
-    → list_block_count_for_size block_size (list_size_by_block_size block_size g) ≤ g.full + length (unwritten_block_of_list g)
+size_fits : (d : Blocks) (block_size : ℕ) (g : GrowingList) → 1024 ≤ block_size → HasGrowingListOnDisk d g → length g.rest < data_capacity_of_list_block block_size g.full → blocks_of_growing_list d g ≡ blocks_kept_when_growing d g → are_last_bytes_of_list_only_in_buffer g ≡ false
+    → list_block_count_for_size block_size (growing_list_size_with_block_size block_size g) ≤ g.full + length (unwritten_block_of_list g)
 size_fits d block_size g large held short own listed = go g.stand held.stand listed own
   where
-    go : (t : RestLocation) → IsRestAtItsLocation d g.full g.head g.rest t → is_rest_in_buffer t ≡ false → list_blocks_from_head d g.full g.head ++ block_of_rest t ≡ list_blocks_from_head d g.full g.head ++ unwritten_block_of_rest t
-        → list_block_count_for_size block_size (list_size_by_block_size block_size g) ≤ g.full + length (unwritten_block_of_rest t)
-    go Closed none out e = let w = list_block_count_for_size-within block_size (list_size_by_block_size block_size g) g.full large (omega (arith, ap length none)) in omega arith
+    go : (t : RestLocation) → AreLastBytesAtLocation d g.full g.head g.rest t → are_last_bytes_only_in_buffer t ≡ false → list_blocks_from_head d g.full g.head ++ block_after_full_blocks t ≡ list_blocks_from_head d g.full g.head ++ unwritten_block_after_full_blocks t
+        → list_block_count_for_size block_size (growing_list_size_with_block_size block_size g) ≤ g.full + length (unwritten_block_after_full_blocks t)
+    go Closed none out e = let w = list_block_count_for_size-within block_size (growing_list_size_with_block_size block_size g) g.full large (omega (arith, ap length none)) in omega arith
     go (Shared b) shared out e =
         absurd (omega (arith, ap length e, length-append (list_blocks_from_head d g.full g.head) (b ∷ []), length-append (list_blocks_from_head d g.full g.head) []))
-    go (Handed b) handed out e = let w = list_block_count_for_size-within block_size (list_size_by_block_size block_size g) (suc g.full) large (omega arith) in omega arith
+    go (Handed b) handed out e = let w = list_block_count_for_size-within block_size (growing_list_size_with_block_size block_size g) (suc g.full) large (omega arith) in omega arith
     go Held none out e = absurd (cc)
 
 pub all_used : (d e : Blocks) (block_size : ℕ) (was now : GrowingList) (blocks : List ℕ) (used total : ℕ) → 1024 ≤ block_size → used ≤ length blocks → blocks_kept_when_growing e now ≡ blocks_kept_when_growing d was ++ take used blocks
-    → length blocks ≡ list_block_count_for_size block_size (list_size_by_block_size block_size was + total) - (was.full + length (unwritten_block_of_list was)) → list_size_by_block_size block_size now ≡ list_size_by_block_size block_size was + total → HasGrowingListOnDisk e now → length now.rest < capacity_of block_size now.full → blocks_of_growing_list e now ≡ blocks_kept_when_growing e now
-    → is_list_only_in_buffer now ≡ false → length blocks ≤ used
+    → length blocks ≡ list_block_count_for_size block_size (growing_list_size_with_block_size block_size was + total) - (was.full + length (unwritten_block_of_list was)) → growing_list_size_with_block_size block_size now ≡ growing_list_size_with_block_size block_size was + total → HasGrowingListOnDisk e now → length now.rest < data_capacity_of_list_block block_size now.full → blocks_of_growing_list e now ≡ blocks_kept_when_growing e now
+    → are_last_bytes_of_list_only_in_buffer now ≡ false → length blocks ≤ used
 all_used d e block_size was now blocks used total large le is count sum held short own listed =
     let counted = kept_count d e was now blocks used le is in
     let fits = size_fits e block_size now large held short own listed in

@@ -5,20 +5,20 @@ use Rattle.std.proofs.lemmas.List.Elements.{All-from_recursion, recursion_from_A
 use Rattle.lfs_device.specs.declared.geometry.Geometry.{Geometry}
 use Rattle.lfs_model.proofs.Counts.{each_left, each_right}
 use Rattle.lfs_model.proofs.Files.{Same, back_same, chain_same, data_same}
-use Rattle.lfs_model.specs.Blocks.{Blocks, HasBlocksOfCountAndSize, block_bytes_in}
-use Rattle.lfs_model.specs.SkipLists.{AreListBlocks, bytes_before, list_blocks_from_head, pointers_of, word_at}
+use Rattle.lfs_model.specs.Blocks.{Blocks, HasBlocksOfCountAndSize, block_bytes_by_number}
+use Rattle.lfs_model.specs.SkipLists.{AreListBlocks, byte_count_before_list_block, list_blocks_from_head, pointer_count_of_list_block, word_at_offset}
 use Rattle.lfs_ctz.specs.declared.rest.RestLocation.{RestLocation}
 use Rattle.lfs_ctz.specs.declared.rest.RestLocation.TheVariants.{Closed, Shared, Handed, Held}
-use Rattle.lfs_ctz.specs.Extended.{ListHasBytesAndBlocks}
-use Rattle.lfs_ctz.specs.Extending.{HasBytesInBuffer}
-use Rattle.lfs_ctz.specs.Growing.{GrowingList, HasGrowingListOnDisk, HasAllBytesInBuffer, IsRestAtItsLocation, IsRestShorterThanBlock, IsSameListOnLaterDisk, blocks_of_growing_list, content_of, is_rest_in_buffer, data_of_list_blocks, blocks_kept_when_growing, block_of_rest, unwritten_block_of_rest, list_size_by_block_size}
+use Rattle.lfs_ctz.specs.Extended.{GrowingListHasBytesAndBlocks}
+use Rattle.lfs_ctz.specs.Extending.{HasTheseBytesOnlyInBuffer}
+use Rattle.lfs_ctz.specs.Growing.{GrowingList, HasGrowingListOnDisk, HasAllBytesInBuffer, AreLastBytesAtLocation, AreLastBytesShorterThanBlock, IsSameListOnLaterDisk, blocks_of_growing_list, bytes_of_growing_list, are_last_bytes_only_in_buffer, data_of_list_blocks, blocks_kept_when_growing, block_after_full_blocks, unwritten_block_after_full_blocks, growing_list_size_with_block_size}
 use Rattle.lfs_ctz.proofs.Filling.{length-full, none_chain}
 
 module _ (d later : Blocks) (count : length later ≡ length d) where
   abbrev IsSame : ℕ → Type 0
-  IsSame b = block_bytes_in later b ≡ block_bytes_in d b
+  IsSame b = block_bytes_by_number later b ≡ block_bytes_by_number d b
 
-  rest_same : (full head : ℕ) (rest : List ℕ) (t : RestLocation) → Same d later (list_blocks_from_head d full head ++ block_of_rest t) → IsRestAtItsLocation d full head rest t → IsRestAtItsLocation later full head rest t
+  rest_same : (full head : ℕ) (rest : List ℕ) (t : RestLocation) → Same d later (list_blocks_from_head d full head ++ block_after_full_blocks t) → AreLastBytesAtLocation d full head rest t → AreLastBytesAtLocation later full head rest t
   rest_same full head rest Closed same is = is
   rest_same full head rest (Shared b) same is =
       let all : Same d later (list_blocks_from_head d (full + 1) b) = subst (Same d later) (sym is.back) same in
@@ -27,7 +27,7 @@ module _ (d later : Blocks) (count : length later ≡ length d) where
         some = is.some;
         chain = chain_same d later (full + 1) b count all is.chain;
         back = back_same d later (full + 1) b all ∙ is.back ∙ ap (λ (l : List ℕ). l ++ b ∷ []) (sym (back_same d later full head front));
-        begins = ap (λ (l : List ℕ). take (length rest) (drop (4 * pointers_of full) l)) (each_right IsSame (list_blocks_from_head d full head) (b ∷ []) same).0 ∙ is.begins;
+        begins = ap (λ (l : List ℕ). take (length rest) (drop (4 * pointer_count_of_list_block full) l)) (each_right IsSame (list_blocks_from_head d full head) (b ∷ []) same).0 ∙ is.begins;
       }
   rest_same full head rest (Handed b) same is =
       let front = each_left IsSame (list_blocks_from_head d full head) (b ∷ []) same in
@@ -40,20 +40,20 @@ module _ (d later : Blocks) (count : length later ≡ length d) where
 
   pub still : (g : GrowingList) → All IsSame (blocks_of_growing_list d g) → HasGrowingListOnDisk d g → IsSameListOnLaterDisk d later g
   still g same is =
-      let each : Same d later (list_blocks_from_head d g.full g.head ++ block_of_rest g.stand) = recursion_from_All IsSame (blocks_of_growing_list d g) same in
-      let front = each_left IsSame (list_blocks_from_head d g.full g.head) (block_of_rest g.stand) each in
+      let each : Same d later (list_blocks_from_head d g.full g.head ++ block_after_full_blocks g.stand) = recursion_from_All IsSame (blocks_of_growing_list d g) same in
+      let front = each_left IsSame (list_blocks_from_head d g.full g.head) (block_after_full_blocks g.stand) each in
       let back = back_same d later g.full g.head front in
       record {
         growing = record { chain = chain_same d later g.full g.head count front is.chain; stand = rest_same g.full g.head g.rest g.stand each is.stand };
         content = ap (λ (l : List ℕ). l ++ g.rest) (ap (data_of_list_blocks later) back ∙ data_same d later 0 (list_blocks_from_head d g.full g.head) front);
-        kept = ap (λ (l : List ℕ). l ++ unwritten_block_of_rest g.stand) back;
-        blocks = ap (λ (l : List ℕ). l ++ block_of_rest g.stand) back;
+        kept = ap (λ (l : List ℕ). l ++ unwritten_block_after_full_blocks g.stand) back;
+        blocks = ap (λ (l : List ℕ). l ++ block_after_full_blocks g.stand) back;
       }
 
 -- what a list shows, from what doesn't follow
 pub is_grown : (divided : Geometry) (d : Blocks) (e : GrowingList) (bytes : List ℕ) (size count : ℕ) (own all : List ℕ) → HasBlocksOfCountAndSize divided.block_size count d → e.geometry ≡ divided
-    → IsRestShorterThanBlock e.geometry.block_size e → HasGrowingListOnDisk d e → content_of d e ≡ bytes → list_size_by_block_size divided.block_size e ≡ size → blocks_kept_when_growing d e ≡ own → blocks_of_growing_list d e ≡ all
-    → ListHasBytesAndBlocks divided d e bytes size own all
+    → AreLastBytesShorterThanBlock e.geometry.block_size e → HasGrowingListOnDisk d e → bytes_of_growing_list d e ≡ bytes → growing_list_size_with_block_size divided.block_size e ≡ size → blocks_kept_when_growing d e ≡ own → blocks_of_growing_list d e ≡ all
+    → GrowingListHasBytesAndBlocks divided d e bytes size own all
 is_grown divided d e bytes size count own all shape geometry short growing content sum kept blocks =
     let full = length-full d divided.block_size count e.full e.head divided.valid.no_smaller shape growing.chain in
     record {
@@ -64,52 +64,52 @@ is_grown divided d e bytes size count own all shape geometry short growing conte
       whole = omega (arith, ap length content, full, sum, length-append (data_of_list_blocks d (list_blocks_from_head d e.full e.head)) e.rest);
       kept = kept;
       blocks = blocks;
-      short = subst (λ (k : Geometry). length e.rest < k.block_size - 4 * pointers_of e.full) geometry short;
-      stays = λ later count same. still d later count e (subst (All (λ b. block_bytes_in later b ≡ block_bytes_in d b)) (sym blocks) same) growing;
+      short = subst (λ (k : Geometry). length e.rest < k.block_size - 4 * pointer_count_of_list_block e.full) geometry short;
+      stays = λ later count same. still d later count e (subst (All (λ b. block_bytes_by_number later b ≡ block_bytes_by_number d b)) (sym blocks) same) growing;
     }
 
 -- all bytes in memory
-pub stands_held : (t : RestLocation) → is_rest_in_buffer t ≡ true → t ≡ Held
+pub stands_held : (t : RestLocation) → are_last_bytes_only_in_buffer t ≡ true → t ≡ Held
 stands_held Closed is = absurd (cc)
 stands_held (Shared b) is = absurd (cc)
 stands_held (Handed b) is = absurd (cc)
 stands_held Held is = refl
 
-module _ (divided : Geometry) (e : GrowingList) (bytes : List ℕ) (size : ℕ) (geometry : e.geometry ≡ divided) (none : e.full ≡ 0) (short : IsRestShorterThanBlock e.geometry.block_size e) (rest : e.rest ≡ bytes) (long : length bytes ≡ size) where
+module _ (divided : Geometry) (e : GrowingList) (bytes : List ℕ) (size : ℕ) (geometry : e.geometry ≡ divided) (none : e.full ≡ 0) (short : AreLastBytesShorterThanBlock e.geometry.block_size e) (rest : e.rest ≡ bytes) (long : length bytes ≡ size) where
   nothing : (d : Blocks) → list_blocks_from_head d e.full e.head ≡ []
   nothing d = ap (λ k. list_blocks_from_head d k e.head) none
 
-  alone : (d : Blocks) → HasGrowingListOnDisk d e → blocks_kept_when_growing d e ≡ [] → blocks_of_growing_list d e ≡ [] → ListHasBytesAndBlocks divided d e bytes size [] []
+  alone : (d : Blocks) → HasGrowingListOnDisk d e → blocks_kept_when_growing d e ≡ [] → blocks_of_growing_list d e ≡ [] → GrowingListHasBytesAndBlocks divided d e bytes size [] []
   alone d growing kept blocks = record {
     geometry = geometry;
     growing = growing;
     content = ap (λ (l : List ℕ). data_of_list_blocks d l ++ e.rest) (nothing d) ∙ rest;
-    sum = omega (arith, ap (bytes_before divided.block_size) none, ap length rest, long);
+    sum = omega (arith, ap (byte_count_before_list_block divided.block_size) none, ap length rest, long);
     whole = long;
     kept = kept;
     blocks = blocks;
-    short = subst (λ (k : Geometry). length e.rest < k.block_size - 4 * pointers_of e.full) geometry short;
-    stays = λ later count same. still d later count e (subst (All (λ b. block_bytes_in later b ≡ block_bytes_in d b)) (sym blocks) same) growing;
+    short = subst (λ (k : Geometry). length e.rest < k.block_size - 4 * pointer_count_of_list_block e.full) geometry short;
+    stays = λ later count same. still d later count e (subst (All (λ b. block_bytes_by_number later b ≡ block_bytes_by_number d b)) (sym blocks) same) growing;
   }
 
   chained : (d : Blocks) → AreListBlocks d e.full e.head
   chained d = subst (λ k. AreListBlocks d k e.head) (sym none) (none_chain d e.head)
 
-  pub grown_held : e.stand ≡ Held → (d : Blocks) → ListHasBytesAndBlocks divided d e bytes size [] []
+  pub grown_held : e.stand ≡ Held → (d : Blocks) → GrowingListHasBytesAndBlocks divided d e bytes size [] []
   grown_held is d =
       alone d
-      (record { chain = chained d; stand = subst (IsRestAtItsLocation d e.full e.head e.rest) (sym is) none })
-      (ap₂ (λ (x y : List ℕ). x ++ y) (nothing d) (ap unwritten_block_of_rest is))
-      (ap₂ (λ (x y : List ℕ). x ++ y) (nothing d) (ap block_of_rest is))
+      (record { chain = chained d; stand = subst (AreLastBytesAtLocation d e.full e.head e.rest) (sym is) none })
+      (ap₂ (λ (x y : List ℕ). x ++ y) (nothing d) (ap unwritten_block_after_full_blocks is))
+      (ap₂ (λ (x y : List ℕ). x ++ y) (nothing d) (ap block_after_full_blocks is))
 
-  pub grown_closed : e.stand ≡ Closed → bytes ≡ [] → (d : Blocks) → ListHasBytesAndBlocks divided d e bytes size [] []
+  pub grown_closed : e.stand ≡ Closed → bytes ≡ [] → (d : Blocks) → GrowingListHasBytesAndBlocks divided d e bytes size [] []
   grown_closed is empty d =
       alone d
-      (record { chain = chained d; stand = subst (IsRestAtItsLocation d e.full e.head e.rest) (sym is) (rest ∙ empty) })
-      (ap₂ (λ (x y : List ℕ). x ++ y) (nothing d) (ap unwritten_block_of_rest is))
-      (ap₂ (λ (x y : List ℕ). x ++ y) (nothing d) (ap block_of_rest is))
+      (record { chain = chained d; stand = subst (AreLastBytesAtLocation d e.full e.head e.rest) (sym is) (rest ∙ empty) })
+      (ap₂ (λ (x y : List ℕ). x ++ y) (nothing d) (ap unwritten_block_after_full_blocks is))
+      (ap₂ (λ (x y : List ℕ). x ++ y) (nothing d) (ap block_after_full_blocks is))
 
-pub is_holding : (divided : Geometry) (e : GrowingList) (bytes : List ℕ) → e.geometry ≡ divided → IsRestShorterThanBlock e.geometry.block_size e → e.rest ≡ bytes → HasAllBytesInBuffer e → HasBytesInBuffer divided e bytes
+pub is_holding : (divided : Geometry) (e : GrowingList) (bytes : List ℕ) → e.geometry ≡ divided → AreLastBytesShorterThanBlock e.geometry.block_size e → e.rest ≡ bytes → HasAllBytesInBuffer e → HasTheseBytesOnlyInBuffer divided e bytes
 is_holding divided e bytes geometry short rest held = record {
   held = held;
   rest = rest;

@@ -4,33 +4,33 @@ use Rattle.std.specs.List.{IsDistinct}
 use Rattle.lfs_device.specs.declared.device.BlockDevice.{Ghosts}
 use Rattle.lfs_device.specs.declared.geometry.Geometry.{Geometry}
 use Rattle.lfs_model.specs.Blocks.{Blocks}
-use Rattle.lfs_model.specs.SkipLists.{AreListBlocks, IsSkipList, list_blocks_from_head, list_block_count_for_size, bytes_of}
-use Rattle.lfs_ctz.specs.Extended.{ListHasBytesAndBlocks}
-use Rattle.lfs_ctz.specs.Growing.{GrowingList, HasGrowingListOnDisk, HasAllBytesInBuffer, HasUnwrittenBlockAmong, content_of, size_of_growing_list, is_list_only_in_buffer, blocks_kept_when_growing, count_of_blocks_to_append, unwritten_block_of_list}
+use Rattle.lfs_model.specs.SkipLists.{AreListBlocks, IsSkipList, list_blocks_from_head, list_block_count_for_size, bytes_of_skip_list}
+use Rattle.lfs_ctz.specs.Extended.{GrowingListHasBytesAndBlocks}
+use Rattle.lfs_ctz.specs.Growing.{GrowingList, HasGrowingListOnDisk, HasAllBytesInBuffer, HasUnwrittenBlockAmongTheseBlocks, bytes_of_growing_list, size_of_growing_list, are_last_bytes_of_list_only_in_buffer, blocks_kept_when_growing, count_of_blocks_to_append, unwritten_block_of_list}
 
 -- an empty list of a device
 pub record IsStartedEmptyList (divided : Geometry) (list : GrowingList) : Type 0 where
-  pub grown : (disk : Blocks) → ListHasBytesAndBlocks divided disk list [] 0 [] []
-  pub listed : is_list_only_in_buffer list ≡ false
+  pub grown : (disk : Blocks) → GrowingListHasBytesAndBlocks divided disk list [] 0 [] []
+  pub listed : are_last_bytes_of_list_only_in_buffer list ≡ false
 
 -- a well-formed list has so many bytes, at least one
-pub record CanResumeListFromSize (disk : Blocks) (block_size head size keep : ℕ) : Type 0 where
+pub record CanResumeListAfterFirstBytes (disk : Blocks) (block_size head size keep : ℕ) : Type 0 where
   pub list : IsSkipList disk block_size head size
   pub some : 1 ≤ keep
   pub within : keep ≤ size
 
 -- The first bytes of a list, in its blocks. The full blocks stay the list's when it grows.
 pub record IsResumedList (disk : Blocks) (divided : Geometry) (head size keep : ℕ) (list : GrowingList) : Type 0 where
-  pub grown : ListHasBytesAndBlocks divided disk list (take keep (bytes_of disk divided.block_size head size)) keep
+  pub grown : GrowingListHasBytesAndBlocks divided disk list (take keep (bytes_of_skip_list disk divided.block_size head size)) keep
       (take list.full (list_blocks_from_head disk (list_block_count_for_size divided.block_size size) head))
       (take (list_block_count_for_size divided.block_size keep) (list_blocks_from_head disk (list_block_count_for_size divided.block_size size) head))
-  pub waits : HasUnwrittenBlockAmong [] list
+  pub waits : HasUnwrittenBlockAmongTheseBlocks [] list
 
 -- all its bytes are these, in memory and in no block
-pub record HasBytesInBuffer (divided : Geometry) (list : GrowingList) (bytes : List ℕ) : Type 0 where
+pub record HasTheseBytesOnlyInBuffer (divided : Geometry) (list : GrowingList) (bytes : List ℕ) : Type 0 where
   pub held : HasAllBytesInBuffer list
   pub rest : list.rest ≡ bytes
-  pub holds : (disk : Blocks) → ListHasBytesAndBlocks divided disk list bytes (length bytes) [] []
+  pub holds : (disk : Blocks) → GrowingListHasBytesAndBlocks divided disk list bytes (length bytes) [] []
 
 -- the device holds a list as it was left
 pub record IsGrowingListOnDevice {D : Type 0} (g : Ghosts D) (dev : D) (list : GrowingList) : Type 0 where
@@ -38,7 +38,7 @@ pub record IsGrowingListOnDevice {D : Type 0} (g : Ghosts D) (dev : D) (list : G
   pub geometry : g.geometry dev ≡ list.geometry
 
 -- a block of the device can follow the full ones of a list, and is none of them
-pub record CanBlockFollowFullBlocks {D : Type 0} (g : Ghosts D) (dev : D) (full head block : ℕ) : Type 0 where
+pub record IsDeviceBlockOutsideFullBlocksOfList {D : Type 0} (g : Ghosts D) (dev : D) (full head block : ℕ) : Type 0 where
   pub chain : AreListBlocks (g.blocks dev) full head
   pub in_device : block < (g.geometry dev).block_count
   pub apart : All (λ c. c ≢ block) (list_blocks_from_head (g.blocks dev) full head)
@@ -55,12 +55,12 @@ pub record CanPushBytesToList {D : Type 0} (g : Ghosts D) (dev : D) (list : Grow
 
 -- the bytes were appended, and the blocks are the list's
 pub record HasPushedBytesToList (disk : Blocks) (list : GrowingList) (bytes blocks : List ℕ) (later : Blocks) (longer : GrowingList) : Type 0 where
-  pub grown : ListHasBytesAndBlocks list.geometry later longer (content_of disk list ++ bytes) (size_of_growing_list list + length bytes)
+  pub grown : GrowingListHasBytesAndBlocks list.geometry later longer (bytes_of_growing_list disk list ++ bytes) (size_of_growing_list list + length bytes)
       (blocks_kept_when_growing disk list ++ blocks) (blocks_kept_when_growing disk list ++ blocks)
-  pub waits : HasUnwrittenBlockAmong (unwritten_block_of_list list ++ blocks) longer
+  pub waits : HasUnwrittenBlockAmongTheseBlocks (unwritten_block_of_list list ++ blocks) longer
 
 -- a list has a byte, and its bytes don't all stand in memory for no block
-pub record CanEndList {D : Type 0} (g : Ghosts D) (dev : D) (list : GrowingList) : Type 0 where
+pub record CanFinishGrowingList {D : Type 0} (g : Ghosts D) (dev : D) (list : GrowingList) : Type 0 where
   pub stands : IsGrowingListOnDevice g dev list
   pub some : 1 ≤ size_of_growing_list list
-  pub listed : is_list_only_in_buffer list ≡ false
+  pub listed : are_last_bytes_of_list_only_in_buffer list ≡ false

@@ -1,8 +1,8 @@
 -- A list that grows, as contracts see it.
 use Rattle.std.specs.Prelude.{ℕ, Bool, true, false, ◌≡◌, ◌≢◌, ◌≤◌, ◌<◌, ◌+◌, ◌-◌, ◌*◌, List, [], ◌∷◌, ◌++◌, length, take, drop, slice_index, All}
 use Rattle.std.specs.List.{flat_map, enumerate_from}
-use Rattle.lfs_model.specs.Blocks.{Blocks, block_bytes_in}
-use Rattle.lfs_model.specs.SkipLists.{pointers_of, bytes_before, capacity_of, list_blocks_from_head, list_block_count_for_size, AreListBlocks, data_of_list_block}
+use Rattle.lfs_model.specs.Blocks.{Blocks, block_bytes_by_number}
+use Rattle.lfs_model.specs.SkipLists.{pointer_count_of_list_block, byte_count_before_list_block, data_capacity_of_list_block, list_blocks_from_head, list_block_count_for_size, AreListBlocks, data_of_list_block}
 use Rattle.lfs_device.specs.declared.geometry.Geometry.{Geometry}
 use Rattle.lfs_ctz.specs.declared.rest.RestLocation.{RestLocation}
 use Rattle.lfs_ctz.specs.declared.rest.RestLocation.TheVariants.{Closed, Shared, Handed, Held}
@@ -18,31 +18,31 @@ pub record GrowingList : Type 0 where
   pub stand : RestLocation
 
 -- the block that was handed in for the rest and isn't written yet
-abbrev pub unwritten_block_of_rest : RestLocation → List ℕ
-unwritten_block_of_rest Closed = []
-unwritten_block_of_rest (Shared b) = []
-unwritten_block_of_rest (Handed b) = b ∷ []
-unwritten_block_of_rest Held = []
+abbrev pub unwritten_block_after_full_blocks : RestLocation → List ℕ
+unwritten_block_after_full_blocks Closed = []
+unwritten_block_after_full_blocks (Shared b) = []
+unwritten_block_after_full_blocks (Handed b) = b ∷ []
+unwritten_block_after_full_blocks Held = []
 
 -- the block that has the rest, or will have it
-abbrev pub block_of_rest : RestLocation → List ℕ
-block_of_rest Closed = []
-block_of_rest (Shared b) = b ∷ []
-block_of_rest (Handed b) = b ∷ []
-block_of_rest Held = []
+abbrev pub block_after_full_blocks : RestLocation → List ℕ
+block_after_full_blocks Closed = []
+block_after_full_blocks (Shared b) = b ∷ []
+block_after_full_blocks (Handed b) = b ∷ []
+block_after_full_blocks Held = []
 
 -- the rest is in memory for no block
-abbrev pub is_rest_in_buffer : RestLocation → Bool
-is_rest_in_buffer Closed = false
-is_rest_in_buffer (Shared b) = false
-is_rest_in_buffer (Handed b) = false
-is_rest_in_buffer Held = true
+abbrev pub are_last_bytes_only_in_buffer : RestLocation → Bool
+are_last_bytes_only_in_buffer Closed = false
+are_last_bytes_only_in_buffer (Shared b) = false
+are_last_bytes_only_in_buffer (Handed b) = false
+are_last_bytes_only_in_buffer Held = true
 
-abbrev pub is_list_only_in_buffer : GrowingList → Bool
-is_list_only_in_buffer g = is_rest_in_buffer g.stand
+abbrev pub are_last_bytes_of_list_only_in_buffer : GrowingList → Bool
+are_last_bytes_of_list_only_in_buffer g = are_last_bytes_only_in_buffer g.stand
 
 abbrev pub unwritten_block_of_list : GrowingList → List ℕ
-unwritten_block_of_list g = unwritten_block_of_rest g.stand
+unwritten_block_of_list g = unwritten_block_after_full_blocks g.stand
 
 -- the blocks that stay the list's when it grows: full ones, and the pending one
 abbrev pub blocks_kept_when_growing : Blocks → GrowingList → List ℕ
@@ -50,74 +50,74 @@ blocks_kept_when_growing disk g = list_blocks_from_head disk g.full g.head ++ un
 
 -- the blocks of the list as it is
 abbrev pub blocks_of_growing_list : Blocks → GrowingList → List ℕ
-blocks_of_growing_list disk g = list_blocks_from_head disk g.full g.head ++ block_of_rest g.stand
+blocks_of_growing_list disk g = list_blocks_from_head disk g.full g.head ++ block_after_full_blocks g.stand
 
 abbrev pub data_of_list_blocks : Blocks → List ℕ → List ℕ
 data_of_list_blocks disk bs = flat_map (data_of_list_block disk) (enumerate_from 0 bs)
 
 -- the bytes of the list
-abbrev pub content_of : Blocks → GrowingList → List ℕ
-content_of disk g = data_of_list_blocks disk (list_blocks_from_head disk g.full g.head) ++ g.rest
+abbrev pub bytes_of_growing_list : Blocks → GrowingList → List ℕ
+bytes_of_growing_list disk g = data_of_list_blocks disk (list_blocks_from_head disk g.full g.head) ++ g.rest
 
-abbrev pub list_size_by_block_size : ℕ → GrowingList → ℕ
-list_size_by_block_size block_size g = bytes_before block_size g.full + length g.rest
+abbrev pub growing_list_size_with_block_size : ℕ → GrowingList → ℕ
+growing_list_size_with_block_size block_size g = byte_count_before_list_block block_size g.full + length g.rest
 
 -- how many bytes the list has
 abbrev pub size_of_growing_list : GrowingList → ℕ
-size_of_growing_list g = list_size_by_block_size g.geometry.block_size g
+size_of_growing_list g = growing_list_size_with_block_size g.geometry.block_size g
 
 -- the rest does not fill a block, so that no other blocks are full
-abbrev pub IsRestShorterThanBlock : ℕ → GrowingList → Type 0
-IsRestShorterThanBlock block_size g = length g.rest < capacity_of block_size g.full
+abbrev pub AreLastBytesShorterThanBlock : ℕ → GrowingList → Type 0
+AreLastBytesShorterThanBlock block_size g = length g.rest < data_capacity_of_list_block block_size g.full
 
 -- how many blocks the list needs for so many bytes more
 abbrev pub count_of_blocks_to_append : GrowingList → ℕ → ℕ
 count_of_blocks_to_append g n = list_block_count_for_size g.geometry.block_size (size_of_growing_list g + n) - (g.full + length (unwritten_block_of_list g))
 
 -- the rest is in a block that was handed in for it
-pub record IsRestForUnwrittenBlock (disk : Blocks) (full head : ℕ) (rest : List ℕ) (b : ℕ) : Type 0 where
+pub record AreLastBytesForUnwrittenBlock (disk : Blocks) (full head : ℕ) (rest : List ℕ) (b : ℕ) : Type 0 where
   pub some : 1 ≤ length rest
   pub in_range : b < length disk
   pub apart : All (λ c. c ≢ b) (list_blocks_from_head disk full head)
 
 -- the rest is the beginning of a block that follows the full ones
-pub record IsRestInSharedBlock (disk : Blocks) (full head : ℕ) (rest : List ℕ) (b : ℕ) : Type 0 where
+pub record AreLastBytesInSharedBlock (disk : Blocks) (full head : ℕ) (rest : List ℕ) (b : ℕ) : Type 0 where
   pub some : 1 ≤ length rest
   pub chain : AreListBlocks disk (full + 1) b
   pub back : list_blocks_from_head disk (full + 1) b ≡ list_blocks_from_head disk full head ++ b ∷ []
-  pub begins : take (length rest) (drop (4 * pointers_of full) (block_bytes_in disk b)) ≡ rest
+  pub begins : take (length rest) (drop (4 * pointer_count_of_list_block full) (block_bytes_by_number disk b)) ≡ rest
 
-abbrev pub IsRestAtItsLocation : Blocks → ℕ → ℕ → List ℕ → RestLocation → Type 0
-IsRestAtItsLocation disk full head rest Closed = rest ≡ []
-IsRestAtItsLocation disk full head rest (Shared b) = IsRestInSharedBlock disk full head rest b
-IsRestAtItsLocation disk full head rest (Handed b) = IsRestForUnwrittenBlock disk full head rest b
-IsRestAtItsLocation disk full head rest Held = full ≡ 0
+abbrev pub AreLastBytesAtLocation : Blocks → ℕ → ℕ → List ℕ → RestLocation → Type 0
+AreLastBytesAtLocation disk full head rest Closed = rest ≡ []
+AreLastBytesAtLocation disk full head rest (Shared b) = AreLastBytesInSharedBlock disk full head rest b
+AreLastBytesAtLocation disk full head rest (Handed b) = AreLastBytesForUnwrittenBlock disk full head rest b
+AreLastBytesAtLocation disk full head rest Held = full ≡ 0
 
 -- the disk holds the list's full blocks as they are
 pub record HasGrowingListOnDisk (disk : Blocks) (g : GrowingList) : Type 0 where
   pub chain : AreListBlocks disk g.full g.head
-  pub stand : IsRestAtItsLocation disk g.full g.head g.rest g.stand
+  pub stand : AreLastBytesAtLocation disk g.full g.head g.rest g.stand
 
 -- the block that takes the next bytes, and how many of the blocks that were handed in are used then
-abbrev pub block_for_next_bytes : RestLocation → List ℕ → ℕ → ℕ × ℕ
-block_for_next_bytes Closed blocks used = (slice_index blocks used, used + 1)
-block_for_next_bytes (Shared b) blocks used = (slice_index blocks used, used + 1)
-block_for_next_bytes (Handed b) blocks used = (b, used)
-block_for_next_bytes Held blocks used = (slice_index blocks used, used + 1)
+abbrev pub block_for_next_bytes_with_used_count : RestLocation → List ℕ → ℕ → ℕ × ℕ
+block_for_next_bytes_with_used_count Closed blocks used = (slice_index blocks used, used + 1)
+block_for_next_bytes_with_used_count (Shared b) blocks used = (slice_index blocks used, used + 1)
+block_for_next_bytes_with_used_count (Handed b) blocks used = (b, used)
+block_for_next_bytes_with_used_count Held blocks used = (slice_index blocks used, used + 1)
 
 -- the list on a disk that has the same bytes in its blocks
 pub record IsSameListOnLaterDisk (disk later : Blocks) (g : GrowingList) : Type 0 where
   pub growing : HasGrowingListOnDisk later g
-  pub content : content_of later g ≡ content_of disk g
+  pub content : bytes_of_growing_list later g ≡ bytes_of_growing_list disk g
   pub kept : blocks_kept_when_growing later g ≡ blocks_kept_when_growing disk g
   pub blocks : blocks_of_growing_list later g ≡ blocks_of_growing_list disk g
 
 -- all bytes are in memory, and none in a block
 pub record HasAllBytesInBuffer (g : GrowingList) : Type 0 where
-  pub held : is_list_only_in_buffer g ≡ true
+  pub held : are_last_bytes_of_list_only_in_buffer g ≡ true
   pub none : g.full ≡ 0
 
 -- the list can be ended, and the block that waits for more bytes is one of these
-pub record HasUnwrittenBlockAmong (bs : List ℕ) (g : GrowingList) : Type 0 where
-  pub listed : is_list_only_in_buffer g ≡ false
+pub record HasUnwrittenBlockAmongTheseBlocks (bs : List ℕ) (g : GrowingList) : Type 0 where
+  pub listed : are_last_bytes_of_list_only_in_buffer g ≡ false
   pub pending : (other : ℕ) → All (λ b. b ≢ other) bs → All (λ b. b ≢ other) (unwritten_block_of_list g)

@@ -2,13 +2,13 @@ ghost use Rattle.std.specs.Prelude.{[], ◌∷◌, ◌≡◌, ◌≢◌, ◌≤�
 ghost use Rattle.byteorder.specs.Endian.{little_bytes};
 ghost use Rattle.lfs_ctz.specs.Appended.{IsBlockAppendedToList};
 ghost use Rattle.lfs_ctz.specs.Calls.{ReportsNoErrorButIo};
-ghost use Rattle.lfs_ctz.specs.Counts.{WritesBlocksOnceEach};
-ghost use Rattle.lfs_ctz.specs.Extending.{CanBlockFollowFullBlocks};
+ghost use Rattle.lfs_ctz.specs.Counts.{AddsOneEraseAndProgramPerBlock};
+ghost use Rattle.lfs_ctz.specs.Extending.{IsDeviceBlockOutsideFullBlocksOfList};
 ghost use Rattle.lfs_device.specs.Calls.{ChangesOnlyThisBlock, ReadsOnly, ReportsFaults};
-ghost use Rattle.lfs_model.specs.Blocks.{block_bytes_in};
-ghost use Rattle.lfs_model.specs.SkipLists.{AreListBlocks, list_blocks_from_head, pointers_of, word_at};
+ghost use Rattle.lfs_model.specs.Blocks.{block_bytes_by_number};
+ghost use Rattle.lfs_model.specs.SkipLists.{AreListBlocks, list_blocks_from_head, pointer_count_of_list_block, word_at_offset};
 
-use crate::read::pointer;
+use crate::read::read_block_pointer;
 use byteorder::{ByteOrder, LittleEndian};
 use lfs_device::{BlockDevice, Error};
 
@@ -22,7 +22,7 @@ fn put_word(buf: &mut [u8], at: usize, word: u32)
 
 // Writes the pointers of a list's block at that index to the beginning of the buffer. The blocks
 // before it end at `head`.
-fn put_pointers<D: BlockDevice>(
+fn write_pointers_of_block_to_buffer<D: BlockDevice>(
     dev: &mut D,
     head: u32,
     index: u32,
@@ -30,8 +30,8 @@ fn put_pointers<D: BlockDevice>(
 ) -> Result<(), Error>
     requires chain { AreListBlocks (D.blocks dev.old) index head }
     requires room { 1024 ≤ length buf.old }
-    ensures pointers { OnOk result ((k : ℕ) → k < pointers_of index → word_at buf.new (4 * k) ≡ slice_index (list_blocks_from_head (D.blocks dev.old) index head) (index - 2 ^ k)) }
-    ensures rest { drop (4 * pointers_of index) buf.new ≡ drop (4 * pointers_of index) buf.old }
+    ensures pointers { OnOk result ((k : ℕ) → k < pointer_count_of_list_block index → word_at_offset buf.new (4 * k) ≡ slice_index (list_blocks_from_head (D.blocks dev.old) index head) (index - 2 ^ k)) }
+    ensures rest { drop (4 * pointer_count_of_list_block index) buf.new ≡ drop (4 * pointer_count_of_list_block index) buf.old }
     ensures device { ReadsOnly D.BlockDevice dev.old dev.new }
     ensures faults { ReportsFaults D.BlockDevice dev.old dev.new result }
     ensures errors { IfErr result (λ e. e ≡ Error.Io) }
@@ -42,7 +42,7 @@ fn put_pointers<D: BlockDevice>(
     let mut to = head;
     put_word(buf, 0, to);
     for k in 0..index.trailing_zeros() {
-        to = pointer(dev, to, k)?;
+        to = read_block_pointer(dev, to, k)?;
         put_word(buf, 4 * (k + 1) as usize, to);
     }
     Ok(())
@@ -58,20 +58,20 @@ pub(crate) fn write_block<D: BlockDevice>(
     buf: &mut [u8],
     end: u32,
 ) -> Result<(), Error>
-    requires follows { CanBlockFollowFullBlocks D.BlockDevice dev.old index head block }
+    requires follows { IsDeviceBlockOutsideFullBlocksOfList D.BlockDevice dev.old index head block }
     requires size { length buf.old ≡ (D.geometry dev.old).block_size }
     requires large { 1024 ≤ length buf.old }
     requires pages { end % (D.geometry dev.old).page ≡ 0 }
     requires room { end ≤ (D.geometry dev.old).block_size }
-    requires pointers { 4 * pointers_of index ≤ end }
+    requires pointers { 4 * pointer_count_of_list_block index ≤ end }
     ensures appended { OnOk result (IsBlockAppendedToList (D.blocks dev.old) (D.blocks dev.new) index head block) }
-    ensures bytes { OnOk result (take (end - 4 * pointers_of index) (drop (4 * pointers_of index) (block_bytes_in (D.blocks dev.new) block))
-        ≡ take (end - 4 * pointers_of index) (drop (4 * pointers_of index) buf.old)) }
-    ensures writes { OnOk result (WritesBlocksOnceEach 0 1 (D.history dev.old) (D.history dev.new)) }
+    ensures bytes { OnOk result (take (end - 4 * pointer_count_of_list_block index) (drop (4 * pointer_count_of_list_block index) (block_bytes_by_number (D.blocks dev.new) block))
+        ≡ take (end - 4 * pointer_count_of_list_block index) (drop (4 * pointer_count_of_list_block index) buf.old)) }
+    ensures writes { OnOk result (AddsOneEraseAndProgramPerBlock 0 1 (D.history dev.old) (D.history dev.new)) }
     ensures device { ChangesOnlyThisBlock D.BlockDevice block dev.old dev.new }
     ensures io { ReportsNoErrorButIo D.BlockDevice dev.old dev.new result }
 {
-    put_pointers(dev, head, index, buf)?;
+    write_pointers_of_block_to_buffer(dev, head, index, buf)?;
     dev.erase(block)?;
     dev.prog(block, 0, &buf[..end as usize])?;
     Ok(())

@@ -1,18 +1,21 @@
 ghost use Rattle.std.specs.Prelude.{◌≡◌, ◌≤◌, ◌<◌, ◌+◌, ◌-◌, ◌*◌, ◌^◌, ◌++◌, ◌∷◌, [], length, take, drop, replicate, OnOk, IfOk, IfErr};
 ghost use Rattle.lfs_ctz.specs.Appended.{IsBlockAppendedToList};
 ghost use Rattle.lfs_ctz.specs.Calls.{ReportsNoErrorButIo, ReportsIoOrNoMemory};
-ghost use Rattle.lfs_ctz.specs.Counts.{WritesBlocksOnceEach};
-ghost use Rattle.lfs_ctz.specs.Extended.{ListHasBytesAndBlocks};
-ghost use Rattle.lfs_ctz.specs.Extending.{CanEndList, CanBlockFollowFullBlocks, CanPushBytesToList, CanResumeListFromSize, HasBytesInBuffer, HasPushedBytesToList, IsResumedList, IsStartedEmptyList};
-ghost use Rattle.lfs_ctz.specs.Finished.{IsEndedList};
-ghost use Rattle.lfs_ctz.specs.Growing.{HasAllBytesInBuffer, HasUnwrittenBlockAmong, blocks_of_growing_list, content_of, size_of_growing_list, count_of_blocks_to_append, block_for_next_bytes, unwritten_block_of_list};
+ghost use Rattle.lfs_ctz.specs.Counts.{AddsOneEraseAndProgramPerBlock};
+ghost use Rattle.lfs_ctz.specs.Extended.{GrowingListHasBytesAndBlocks};
+ghost use Rattle.lfs_ctz.specs.Extending.{CanFinishGrowingList, IsDeviceBlockOutsideFullBlocksOfList, CanPushBytesToList, CanResumeListAfterFirstBytes, HasTheseBytesOnlyInBuffer, HasPushedBytesToList, IsResumedList, IsStartedEmptyList};
+ghost use Rattle.lfs_ctz.specs.Finished.{IsSkipListWithBytesAndBlocks};
+ghost use Rattle.lfs_ctz.specs.Growing.{HasAllBytesInBuffer, HasUnwrittenBlockAmongTheseBlocks, blocks_of_growing_list, bytes_of_growing_list, size_of_growing_list, count_of_blocks_to_append, block_for_next_bytes_with_used_count, unwritten_block_of_list};
 ghost use Rattle.lfs_device.specs.Calls.{ChangesOnlyThisBlock, ChangesOnlyTheseBlocks, ReadsOnly};
-ghost use Rattle.lfs_model.specs.Blocks.{block_bytes_in, bytes_after_overwrite_at};
+ghost use Rattle.lfs_model.specs.Blocks.{block_bytes_by_number, bytes_after_overwrite_at};
 ghost use Rattle.lfs_model.specs.Writers.{contents_after_write as with_bytes};
-ghost use Rattle.lfs_model.specs.SkipLists.{list_blocks_from_head, list_block_count_for_size, pointers_of};
+ghost use Rattle.lfs_model.specs.SkipLists.{list_blocks_from_head, list_block_count_for_size, pointer_count_of_list_block};
 
 use crate::block::write_block;
-use crate::read::{find, head_before, pointers, read_part_into_buffer};
+use crate::read::{
+    find_block_at_index, head_of_list_before_block, pointer_count_at_index,
+    read_block_bytes_into_buffer_range,
+};
 use crate::{RestLocation, blocks_for, place};
 use lfs_device::{BlockDevice, Error, Geometry};
 use std::alloc::Global;
@@ -21,8 +24,9 @@ use std::marker::Model;
 /// Appends bytes to a skip list, in blocks that the caller hands in, and writes a block as it fills
 /// (DESIGN.md of littlefs, "CTZ skip-lists").
 ///
-/// An extender has one block of bytes in memory. Contents without a block can be in memory alone:
-/// `hold`, `put` and `cut` change them, and a `push` moves them into blocks.
+/// An extender has one block of bytes in memory. Contents without a block can be in memory alone.
+/// `replace_buffered_content`, `write_buffered_content_at` and `truncate_buffered_content` change them,
+/// and a `push` moves them into blocks.
 ///
 /// A contract sees the list that grows: its full blocks, and the bytes after them.
 #[derive(Drop)]
@@ -41,15 +45,15 @@ impl Model for Extender {
 
     ghost Value = { GrowingList };
 
-    ghost use Rattle.lfs_ctz.specs.Fields.{HasBufferOfOneBlock, growing_list_view};
+    ghost use Rattle.lfs_ctz.specs.Fields.{HasOneBlockBufferAndConsistentNumbers, growing_list_view};
 
     ghost view = { growing_list_view };
 
-    ghost invariant = { HasBufferOfOneBlock };
+    ghost invariant = { HasOneBlockBufferAndConsistentNumbers };
 }
 
 // Writes bytes over those from a place on.
-fn overwrite(all: &mut Vec<u8>, at: usize, bytes: &[u8])
+fn overwrite_buffer_bytes(all: &mut Vec<u8>, at: usize, bytes: &[u8])
     requires { at + length bytes.now ≤ length all.old.items }
     ensures { all.new.items ≡ bytes_after_overwrite_at all.old.items at bytes.now }
 {
@@ -57,7 +61,7 @@ fn overwrite(all: &mut Vec<u8>, at: usize, bytes: &[u8])
 }
 
 // Fills the places from one to another with a byte.
-fn pad(all: &mut Vec<u8>, at: usize, end: usize, byte: u8)
+fn fill_buffer_range_with_byte(all: &mut Vec<u8>, at: usize, end: usize, byte: u8)
     requires order { at ≤ end }
     requires within { end ≤ length all.old.items }
     ensures { all.new.items ≡ bytes_after_overwrite_at all.old.items at (replicate (end - at) byte) }
@@ -69,7 +73,7 @@ impl Extender {
     /// Makes an extender of an empty list.
     ///
     /// Errors: `NoMemory` where memory for a block isn't granted.
-    pub fn start(alloc: Global, geometry: Geometry) -> Result<Extender, Error>
+    pub fn start_with_empty_list(alloc: Global, geometry: Geometry) -> Result<Extender, Error>
         ensures started { IfOk result (IsStartedEmptyList geometry) }
         ensures errors { IfErr result (λ e. e ≡ Error.NoMemory) }
     {
@@ -96,7 +100,7 @@ impl Extender {
         size: u32,
         keep: u32,
     ) -> Result<Extender, Error>
-        requires { CanResumeListFromSize (D.blocks dev.old) (D.geometry dev.old).block_size head size keep }
+        requires { CanResumeListAfterFirstBytes (D.blocks dev.old) (D.geometry dev.old).block_size head size keep }
         ensures resumed { IfOk result (IsResumedList (D.blocks dev.old) (D.geometry dev.old) head size keep) }
         ensures device { ReadsOnly D.BlockDevice dev.old dev.new }
         ensures reports { ReportsIoOrNoMemory D.BlockDevice dev.old dev.new result }
@@ -105,20 +109,20 @@ impl Extender {
         let block_size = geometry.block_size;
         let mut buffer = Vec::from_elem(alloc, 0u8, block_size as usize)?;
         let (index, off) = place(block_size, keep - 1);
-        let block = find(dev, head, blocks_for(block_size, size) - 1, index)?;
+        let block = find_block_at_index(dev, head, blocks_for(block_size, size) - 1, index)?;
         if off + 1 == block_size {
             return Ok(Extender {
                 geometry,
                 buffer,
                 full: index + 1,
                 head: block,
-                filled: 4 * pointers(index + 1),
+                filled: 4 * pointer_count_at_index(index + 1),
                 size: keep,
                 stand: RestLocation::Closed,
             });
         }
-        let head = head_before(dev, block, index)?;
-        read_part_into_buffer(dev, block, 0, buffer.as_mut_slice(), 0, off + 1)?;
+        let head = head_of_list_before_block(dev, block, index)?;
+        read_block_bytes_into_buffer_range(dev, block, 0, buffer.as_mut_slice(), 0, off + 1)?;
         Ok(Extender {
             geometry,
             buffer,
@@ -134,11 +138,11 @@ impl Extender {
     /// before is dropped.
     ///
     /// The caller's condition is that there are fewer bytes than a block has.
-    pub fn hold(&mut self, bytes: &[u8])
+    pub fn replace_buffered_content(&mut self, bytes: &[u8])
         requires { length bytes.now < self.old.geometry.block_size }
-        ensures { HasBytesInBuffer self.old.geometry self.new bytes.now }
+        ensures { HasTheseBytesOnlyInBuffer self.old.geometry self.new bytes.now }
     {
-        overwrite(&mut self.buffer, 0, bytes);
+        overwrite_buffer_bytes(&mut self.buffer, 0, bytes);
         self.full = 0;
         self.head = 0;
         self.filled = bytes.len() as u32;
@@ -147,7 +151,7 @@ impl Extender {
     }
 
     /// Returns the contents, which are all in memory and none in a block.
-    pub fn held(&self) -> &[u8]
+    pub fn buffered_content(&self) -> &[u8]
         requires { HasAllBytesInBuffer self.now }
         ensures { result.now ≡ self.now.rest }
     {
@@ -158,14 +162,14 @@ impl Extender {
     /// memory and none in a block. Zeros fill the gap where the place is past the end.
     ///
     /// The caller's condition is that there are fewer bytes than a block has afterwards.
-    pub fn put(&mut self, at: u32, bytes: &[u8])
+    pub fn write_buffered_content_at(&mut self, at: u32, bytes: &[u8])
         requires held { HasAllBytesInBuffer self.old }
         requires room { at + length bytes.now < self.old.geometry.block_size }
-        ensures { HasBytesInBuffer self.old.geometry self.new (with_bytes self.old.rest at bytes.now) }
+        ensures { HasTheseBytesOnlyInBuffer self.old.geometry self.new (with_bytes self.old.rest at bytes.now) }
     {
         let from = self.filled.max(at);
-        pad(&mut self.buffer, self.filled as usize, from as usize, 0);
-        overwrite(&mut self.buffer, at as usize, bytes);
+        fill_buffer_range_with_byte(&mut self.buffer, self.filled as usize, from as usize, 0);
+        overwrite_buffer_bytes(&mut self.buffer, at as usize, bytes);
         self.filled = self.filled.max(at + bytes.len() as u32);
         self.size = self.filled;
     }
@@ -173,10 +177,10 @@ impl Extender {
     /// Keeps the first `len` bytes of contents that are all in memory and none in a block.
     ///
     /// The caller's condition is that there are at least so many.
-    pub fn cut(&mut self, len: u32)
+    pub fn truncate_buffered_content(&mut self, len: u32)
         requires held { HasAllBytesInBuffer self.old }
         requires within { len ≤ length self.old.rest }
-        ensures { HasBytesInBuffer self.old.geometry self.new (take len self.old.rest) }
+        ensures { HasTheseBytesOnlyInBuffer self.old.geometry self.new (take len self.old.rest) }
     {
         self.filled = len;
         self.size = len;
@@ -190,7 +194,7 @@ impl Extender {
     }
 
     /// Returns how many blocks are full and on the device.
-    pub fn full(&self) -> u32
+    pub fn full_block_count(&self) -> u32
         ensures { result ≡ self.now.full }
     {
         self.full
@@ -220,9 +224,9 @@ impl Extender {
 
     // Returns the block that takes the next bytes, and how many of the blocks that were handed in
     // are used then.
-    fn next_block(&self, blocks: &[u32], used: usize) -> (u32, usize)
+    fn block_and_used_count_for_next_bytes(&self, blocks: &[u32], used: usize) -> (u32, usize)
         requires { unwritten_block_of_list self.now ≡ [] → used < length blocks.now }
-        ensures { result ≡ block_for_next_bytes self.now.stand blocks.now used }
+        ensures { result ≡ block_for_next_bytes_with_used_count self.now.stand blocks.now used }
     {
         match self.stand {
             RestLocation::Handed(block) => (block, used),
@@ -232,30 +236,30 @@ impl Extender {
 
     // Takes as many bytes as the current block still has room for, and writes that block if it is
     // full then. Returns how many bytes were taken.
-    fn fill<D: BlockDevice>(
+    fn fill_current_block<D: BlockDevice>(
         &mut self,
         dev: &mut D,
         bytes: &[u8],
         block: u32,
     ) -> Result<usize, Error>
-        requires follows { CanBlockFollowFullBlocks D.BlockDevice dev.old self.old.full self.old.head block }
+        requires follows { IsDeviceBlockOutsideFullBlocksOfList D.BlockDevice dev.old self.old.full self.old.head block }
         requires geometry { D.geometry dev.old ≡ self.old.geometry }
         requires some { 1 ≤ length bytes.now }
         requires room { size_of_growing_list self.old + length bytes.now < 2 ^ 31 }
         ensures count { IfOk result (λ n. (1 ≤ n) × (n ≤ length bytes.now)) }
-        ensures filled { IfOk result (λ n. ListHasBytesAndBlocks self.old.geometry (D.blocks dev.new) self.new
-            (content_of (D.blocks dev.old) self.old ++ take n bytes.now) (size_of_growing_list self.old + n)
+        ensures filled { IfOk result (λ n. GrowingListHasBytesAndBlocks self.old.geometry (D.blocks dev.new) self.new
+            (bytes_of_growing_list (D.blocks dev.old) self.old ++ take n bytes.now) (size_of_growing_list self.old + n)
             (list_blocks_from_head (D.blocks dev.old) self.old.full self.old.head ++ block ∷ [])
             (list_blocks_from_head (D.blocks dev.old) self.old.full self.old.head ++ block ∷ [])) }
-        ensures waits { OnOk result (HasUnwrittenBlockAmong (block ∷ []) self.new) }
-        ensures writes { OnOk result (WritesBlocksOnceEach self.old.full self.new.full (D.history dev.old) (D.history dev.new)) }
+        ensures waits { OnOk result (HasUnwrittenBlockAmongTheseBlocks (block ∷ []) self.new) }
+        ensures writes { OnOk result (AddsOneEraseAndProgramPerBlock self.old.full self.new.full (D.history dev.old) (D.history dev.new)) }
         ensures device { ChangesOnlyThisBlock D.BlockDevice block dev.old dev.new }
         ensures io { ReportsNoErrorButIo D.BlockDevice dev.old dev.new result }
     {
         let block_size = self.geometry.block_size;
         let start = self.filled as usize;
         let n = bytes.len().min(block_size as usize - start);
-        overwrite(&mut self.buffer, start, &bytes[..n]);
+        overwrite_buffer_bytes(&mut self.buffer, start, &bytes[..n]);
         if start + n < block_size as usize {
             self.filled += n as u32;
             self.size += n as u32;
@@ -266,7 +270,7 @@ impl Extender {
         write_block(dev, self.head, self.full, block, buffer, block_size)?;
         self.full += 1;
         self.head = block;
-        self.filled = 4 * pointers(self.full);
+        self.filled = 4 * pointer_count_at_index(self.full);
         self.size += n as u32;
         self.stand = RestLocation::Closed;
         Ok(n)
@@ -290,15 +294,15 @@ impl Extender {
         requires { CanPushBytesToList D.BlockDevice dev.old self.old bytes.now blocks.now }
         ensures pushed { OnOk result (HasPushedBytesToList (D.blocks dev.old) self.old bytes.now blocks.now (D.blocks dev.new) self.new) }
         // A block that fills is erased once and programmed once.
-        ensures writes { OnOk result (WritesBlocksOnceEach self.old.full self.new.full (D.history dev.old) (D.history dev.new)) }
+        ensures writes { OnOk result (AddsOneEraseAndProgramPerBlock self.old.full self.new.full (D.history dev.old) (D.history dev.new)) }
         ensures device { ChangesOnlyTheseBlocks D.BlockDevice (unwritten_block_of_list self.old ++ blocks.now) dev.old dev.new }
         ensures io { ReportsNoErrorButIo D.BlockDevice dev.old dev.new result }
     {
         let mut done = 0;
         let mut used = 0;
         while done < bytes.len() {
-            let (block, taken) = self.next_block(blocks, used);
-            done += self.fill(dev, &bytes[done..], block)?;
+            let (block, taken) = self.block_and_used_count_for_next_bytes(blocks, used);
+            done += self.fill_current_block(dev, &bytes[done..], block)?;
             used = taken;
         }
         Ok(())
@@ -306,16 +310,16 @@ impl Extender {
 
     // Pads the current block to whole pages, and writes it.
     fn write_last_block<D: BlockDevice>(&mut self, dev: &mut D, block: u32) -> Result<(), Error>
-        requires follows { CanBlockFollowFullBlocks D.BlockDevice dev.old self.old.full self.old.head block }
+        requires follows { IsDeviceBlockOutsideFullBlocksOfList D.BlockDevice dev.old self.old.full self.old.head block }
         requires geometry { D.geometry dev.old ≡ self.old.geometry }
         ensures appended { OnOk result (IsBlockAppendedToList (D.blocks dev.old) (D.blocks dev.new) self.old.full self.old.head block) }
-        ensures bytes { OnOk result (take (length self.old.rest) (drop (4 * pointers_of self.old.full) (block_bytes_in (D.blocks dev.new) block)) ≡ self.old.rest) }
-        ensures writes { OnOk result (WritesBlocksOnceEach 0 1 (D.history dev.old) (D.history dev.new)) }
+        ensures bytes { OnOk result (take (length self.old.rest) (drop (4 * pointer_count_of_list_block self.old.full) (block_bytes_by_number (D.blocks dev.new) block)) ≡ self.old.rest) }
+        ensures writes { OnOk result (AddsOneEraseAndProgramPerBlock 0 1 (D.history dev.old) (D.history dev.new)) }
         ensures device { ChangesOnlyThisBlock D.BlockDevice block dev.old dev.new }
         ensures io { ReportsNoErrorButIo D.BlockDevice dev.old dev.new result }
     {
         let end = self.filled.next_multiple_of(self.geometry.page);
-        pad(&mut self.buffer, self.filled as usize, end as usize, 0xff);
+        fill_buffer_range_with_byte(&mut self.buffer, self.filled as usize, end as usize, 0xff);
         let buffer = self.buffer.as_mut_slice();
         write_block(dev, self.head, self.full, block, buffer, end)?;
         Ok(())
@@ -330,11 +334,11 @@ impl Extender {
     ///
     /// Errors: `Io` where the device failed.
     pub fn finish<D: BlockDevice>(mut self, dev: &mut D) -> Result<(u32, u32), Error>
-        requires { CanEndList D.BlockDevice dev.old self }
-        ensures finished { IfOk result (λ r. IsEndedList (D.blocks dev.new) self.geometry.block_size r.0 r.1 (content_of (D.blocks dev.old) self) (blocks_of_growing_list (D.blocks dev.old) self)) }
+        requires { CanFinishGrowingList D.BlockDevice dev.old self }
+        ensures finished { IfOk result (λ r. IsSkipListWithBytesAndBlocks (D.blocks dev.new) self.geometry.block_size r.0 r.1 (bytes_of_growing_list (D.blocks dev.old) self) (blocks_of_growing_list (D.blocks dev.old) self)) }
         ensures size { IfOk result (λ r. r.1 ≡ size_of_growing_list self) }
         ensures no_call { unwritten_block_of_list self ≡ [] → (D.history dev.new ≡ D.history dev.old) × (D.blocks dev.new ≡ D.blocks dev.old) }
-        ensures writes { OnOk result (WritesBlocksOnceEach 0 (length (unwritten_block_of_list self)) (D.history dev.old) (D.history dev.new)) }
+        ensures writes { OnOk result (AddsOneEraseAndProgramPerBlock 0 (length (unwritten_block_of_list self)) (D.history dev.old) (D.history dev.new)) }
         ensures device { ChangesOnlyTheseBlocks D.BlockDevice (unwritten_block_of_list self) dev.old dev.new }
         ensures io { ReportsNoErrorButIo D.BlockDevice dev.old dev.new result }
     {

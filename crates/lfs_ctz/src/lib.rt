@@ -11,8 +11,8 @@ mod visits;
 mod way;
 
 pub use extender::Extender;
-pub use front::cut;
-pub use read::{head_before, read_at};
+pub use front::list_head_for_first_bytes;
+pub use read::{head_of_list_before_block, read_at};
 pub use rest::RestLocation;
 pub use size::{blocks_for, place};
 pub use visits::walk;

@@ -1,22 +1,26 @@
 ghost use Rattle.std.specs.Prelude.{◌≡◌, ◌≤◌, ◌<◌, ◌+◌, ◌*◌, ◌^◌, ℕ, ◌-◌, ◌++◌, min, length, take, drop, OnOk, IfOk, IfErr, IsErrOf, slice_index, slice_range};
-ghost use Rattle.lfs_model.specs.Blocks.{block_bytes_in};
+ghost use Rattle.lfs_model.specs.Blocks.{block_bytes_by_number};
 ghost use Rattle.lfs_device.specs.Calls.{ReadsOnly, ReportsFaults};
-ghost use Rattle.lfs_model.specs.History.{reads};
+ghost use Rattle.lfs_model.specs.History.{read_count_of_history};
 ghost use Rattle.lfs_ctz.specs.Calls.{OnlyReadsAndReportsIoOrCorrupt};
-ghost use Rattle.lfs_model.specs.SkipLists.{AreListBlocks, IsSkipList, IsPlaceOfByteInList, list_blocks_from_head, list_block_count_for_size, bytes_of, pointers_of, word_at};
+ghost use Rattle.lfs_model.specs.SkipLists.{AreListBlocks, IsSkipList, IsPlaceOfByteInList, list_blocks_from_head, list_block_count_for_size, bytes_of_skip_list, pointer_count_of_list_block, word_at_offset};
 
 use crate::{blocks_for, place};
 use byteorder::{ByteOrder, LittleEndian};
 use lfs_device::{BlockDevice, Error};
 
 // Reads pointer k of a block that a list names. Returns `Corrupt` where there is no such block.
-pub(crate) fn pointer<D: BlockDevice>(dev: &mut D, block: u32, k: u32) -> Result<u32, Error>
+pub(crate) fn read_block_pointer<D: BlockDevice>(
+    dev: &mut D,
+    block: u32,
+    k: u32,
+) -> Result<u32, Error>
     requires { k ≤ 32 }
-    ensures word { IfOk result (λ word. word ≡ word_at (block_bytes_in (D.blocks dev.old) block) (4 * k)) }
+    ensures word { IfOk result (λ word. word ≡ word_at_offset (block_bytes_by_number (D.blocks dev.old) block) (4 * k)) }
     ensures in_range { OnOk result (block < (D.geometry dev.old).block_count) }
     ensures corrupt { IsErrOf result Error.Corrupt → (D.geometry dev.old).block_count ≤ block }
     ensures reading { OnlyReadsAndReportsIoOrCorrupt D.BlockDevice dev.old dev.new result }
-    ensures few { reads (D.history dev.new) ≤ reads (D.history dev.old) + 1 }
+    ensures few { read_count_of_history (D.history dev.new) ≤ read_count_of_history (D.history dev.old) + 1 }
 {
     if block >= dev.geometry().block_count {
         return Err(Error::Corrupt);
@@ -28,7 +32,7 @@ pub(crate) fn pointer<D: BlockDevice>(dev: &mut D, block: u32, k: u32) -> Result
 
 // Returns the block at an index of a list, from the head at another. Each step uses the highest
 // pointer that does not overshoot.
-pub(crate) fn find<D: BlockDevice>(
+pub(crate) fn find_block_at_index<D: BlockDevice>(
     dev: &mut D,
     head: u32,
     last: u32,
@@ -39,13 +43,13 @@ pub(crate) fn find<D: BlockDevice>(
     ensures in_range { IfOk result (λ b. b < (D.geometry dev.old).block_count) }
     ensures corrupt { IsErrOf result Error.Corrupt → ¬ AreListBlocks (D.blocks dev.old) (last + 1) head }
     ensures reading { OnlyReadsAndReportsIoOrCorrupt D.BlockDevice dev.old dev.new result }
-    ensures few { (m : ℕ) → last < 2 ^ m → OnOk result (reads (D.history dev.new) ≤ reads (D.history dev.old) + 2 * m) }
+    ensures few { (m : ℕ) → last < 2 ^ m → OnOk result (read_count_of_history (D.history dev.new) ≤ read_count_of_history (D.history dev.old) + 2 * m) }
 {
     let mut block = head;
     let mut at = last;
     while at > index {
         let skip = at.trailing_zeros().min((at - index).ilog2());
-        block = pointer(dev, block, skip)?;
+        block = read_block_pointer(dev, block, skip)?;
         at -= 1 << skip;
     }
     if block >= dev.geometry().block_count {
@@ -56,15 +60,15 @@ pub(crate) fn find<D: BlockDevice>(
 
 // Returns the block that pointer 0 of a block names. Returns `Corrupt` where there is no such
 // block.
-fn before<D: BlockDevice>(dev: &mut D, block: u32) -> Result<u32, Error>
+fn read_block_before<D: BlockDevice>(dev: &mut D, block: u32) -> Result<u32, Error>
     requires { block < (D.geometry dev.old).block_count }
-    ensures word { IfOk result (λ word. word ≡ word_at (block_bytes_in (D.blocks dev.old) block) 0) }
+    ensures word { IfOk result (λ word. word ≡ word_at_offset (block_bytes_by_number (D.blocks dev.old) block) 0) }
     ensures in_range { IfOk result (λ b. b < (D.geometry dev.old).block_count) }
-    ensures corrupt { IsErrOf result Error.Corrupt → (D.geometry dev.old).block_count ≤ word_at (block_bytes_in (D.blocks dev.old) block) 0 }
+    ensures corrupt { IsErrOf result Error.Corrupt → (D.geometry dev.old).block_count ≤ word_at_offset (block_bytes_by_number (D.blocks dev.old) block) 0 }
     ensures reading { OnlyReadsAndReportsIoOrCorrupt D.BlockDevice dev.old dev.new result }
-    ensures few { reads (D.history dev.new) ≤ reads (D.history dev.old) + 1 }
+    ensures few { read_count_of_history (D.history dev.new) ≤ read_count_of_history (D.history dev.old) + 1 }
 {
-    let word = pointer(dev, block, 0)?;
+    let word = read_block_pointer(dev, block, 0)?;
     if word >= dev.geometry().block_count {
         return Err(Error::Corrupt);
     }
@@ -76,24 +80,28 @@ fn before<D: BlockDevice>(dev: &mut D, block: u32) -> Result<u32, Error>
 ///
 /// Errors: `Corrupt` where the block's pointer 0 leads out of the device. `Io` where the device
 /// failed.
-pub fn head_before<D: BlockDevice>(dev: &mut D, block: u32, count: u32) -> Result<u32, Error>
+pub fn head_of_list_before_block<D: BlockDevice>(
+    dev: &mut D,
+    block: u32,
+    count: u32,
+) -> Result<u32, Error>
     requires { block < (D.geometry dev.old).block_count }
-    ensures word { IfOk result (λ word. 0 < count → word ≡ word_at (block_bytes_in (D.blocks dev.old) block) 0) }
+    ensures word { IfOk result (λ word. 0 < count → word ≡ word_at_offset (block_bytes_by_number (D.blocks dev.old) block) 0) }
     ensures in_range { IfOk result (λ b. b < (D.geometry dev.old).block_count) }
-    ensures corrupt { IsErrOf result Error.Corrupt → (0 < count) × ((D.geometry dev.old).block_count ≤ word_at (block_bytes_in (D.blocks dev.old) block) 0) }
+    ensures corrupt { IsErrOf result Error.Corrupt → (0 < count) × ((D.geometry dev.old).block_count ≤ word_at_offset (block_bytes_by_number (D.blocks dev.old) block) 0) }
     ensures reading { OnlyReadsAndReportsIoOrCorrupt D.BlockDevice dev.old dev.new result }
-    ensures few { reads (D.history dev.new) ≤ reads (D.history dev.old) + 1 }
+    ensures few { read_count_of_history (D.history dev.new) ≤ read_count_of_history (D.history dev.old) + 1 }
 {
     if count == 0 {
         return Ok(0);
     }
-    let head = before(dev, block)?;
+    let head = read_block_before(dev, block)?;
     Ok(head)
 }
 
 // Returns with how many pointers a block begins.
-pub(crate) fn pointers(index: u32) -> u32
-    ensures { result ≡ pointers_of index }
+pub(crate) fn pointer_count_at_index(index: u32) -> u32
+    ensures { result ≡ pointer_count_of_list_block index }
 {
     if index == 0 {
         0
@@ -103,7 +111,7 @@ pub(crate) fn pointers(index: u32) -> u32
 }
 
 // Reads so many bytes of a block into the buffer, over those from `start` on.
-pub(crate) fn read_part_into_buffer<D: BlockDevice>(
+pub(crate) fn read_block_bytes_into_buffer_range<D: BlockDevice>(
     dev: &mut D,
     block: u32,
     off: u32,
@@ -114,11 +122,11 @@ pub(crate) fn read_part_into_buffer<D: BlockDevice>(
     requires in_device { block < (D.geometry dev.old).block_count }
     requires in_block { off + len ≤ (D.geometry dev.old).block_size }
     requires in_buffer { start + len ≤ length buf.old }
-    ensures bytes { OnOk result (buf.new ≡ take start buf.old ++ (take len (drop off (block_bytes_in (D.blocks dev.old) block)) ++ drop (start + len) buf.old)) }
+    ensures bytes { OnOk result (buf.new ≡ take start buf.old ++ (take len (drop off (block_bytes_by_number (D.blocks dev.old) block)) ++ drop (start + len) buf.old)) }
     ensures device { ReadsOnly D.BlockDevice dev.old dev.new }
     ensures faults { ReportsFaults D.BlockDevice dev.old dev.new result }
     ensures errors { IfErr result (λ e. e ≡ Error.Io) }
-    ensures few { reads (D.history dev.new) ≡ reads (D.history dev.old) + 1 }
+    ensures few { read_count_of_history (D.history dev.new) ≡ read_count_of_history (D.history dev.old) + 1 }
 {
     dev.read(block, off, &mut buf[start..start + len as usize])?;
     Ok(())
@@ -142,7 +150,7 @@ pub fn read_at<D: BlockDevice>(
 ) -> Result<usize, Error>
     ensures count { IfOk result (λ n. (n ≡ min (length buf.old) (size - pos)) × (drop n buf.new ≡ drop n buf.old)) }
     ensures bytes { IsSkipList (D.blocks dev.old) (D.geometry dev.old).block_size head size →
-        IfOk result (λ n. take n buf.new ≡ slice_range (bytes_of (D.blocks dev.old) (D.geometry dev.old).block_size head size) pos (pos + n)) }
+        IfOk result (λ n. take n buf.new ≡ slice_range (bytes_of_skip_list (D.blocks dev.old) (D.geometry dev.old).block_size head size) pos (pos + n)) }
     ensures corrupt { IsErrOf result Error.Corrupt → ¬ IsSkipList (D.blocks dev.old) (D.geometry dev.old).block_size head size }
     ensures reading { OnlyReadsAndReportsIoOrCorrupt D.BlockDevice dev.old dev.new result }
     // The number of steps to the last block is at most the logarithm of the list's length. Each
@@ -150,7 +158,7 @@ pub fn read_at<D: BlockDevice>(
     ensures few { (m first last off end : ℕ) → list_block_count_for_size (D.geometry dev.old).block_size size ≤ 2 ^ m
         → IsPlaceOfByteInList (D.geometry dev.old).block_size pos first off
         → IsPlaceOfByteInList (D.geometry dev.old).block_size (pos + min (length buf.old) (size - pos) - 1) last end
-        → OnOk result (reads (D.history dev.new) ≤ reads (D.history dev.old) + 2 * m + 2 * (last - first) + 1) }
+        → OnOk result (read_count_of_history (D.history dev.new) ≤ read_count_of_history (D.history dev.old) + 2 * m + 2 * (last - first) + 1) }
 {
     let block_size = dev.geometry().block_size;
     if pos >= size || buf.is_empty() {
@@ -159,15 +167,15 @@ pub fn read_at<D: BlockDevice>(
     let len = buf.len().min((size - pos) as usize);
     let mut left = len as u32;
     let (index, _) = place(block_size, pos + left - 1);
-    let mut block = find(dev, head, blocks_for(block_size, size) - 1, index)?;
+    let mut block = find_block_at_index(dev, head, blocks_for(block_size, size) - 1, index)?;
     'blocks: loop {
         let (index, off) = place(block_size, pos + left - 1);
-        let part = left.min(off + 1 - 4 * pointers(index));
+        let part = left.min(off + 1 - 4 * pointer_count_at_index(index));
         left -= part;
-        read_part_into_buffer(dev, block, off + 1 - part, buf, left as usize, part)?;
+        read_block_bytes_into_buffer_range(dev, block, off + 1 - part, buf, left as usize, part)?;
         if left == 0 {
             return Ok(len);
         }
-        block = before(dev, block)?;
+        block = read_block_before(dev, block)?;
     }
 }

@@ -6,7 +6,7 @@ use Rattle.lfs_device.specs.declared.device.BlockDevice.{Ghosts}
 use Rattle.lfs_device.specs.declared.error.Error.{Error}
 use Rattle.lfs_device.specs.declared.error.Error.TheVariants.{Io}
 use Rattle.lfs_model.specs.Blocks.{AreBlocksEqualExceptOne, AreBlocksEqualExceptThese}
-use Rattle.lfs_model.specs.History.{IsWorstOutcomeOfStop, IsTrueAfterEachStopSince, AreCallsSinceOnlyReads, AreBytesStillUnprogrammed, faults}
+use Rattle.lfs_model.specs.History.{ArePossibleBlocksAfterPowerLossInCall, IsTrueAfterAnyPowerLossSince, AreCallsSinceOnlyReads, AreBytesStillUnprogrammed, fault_count_of_history}
 
 -- The device is only read: its blocks stay, and so does what a loss of power may leave.
 pub record ReadsOnly {D : Type 0} (g : Ghosts D) (old new : D) : Type 0 where
@@ -20,16 +20,16 @@ pub record ChangesOnlyThisBlock {D : Type 0} (g : Ghosts D) (b : ℕ) (old new :
   pub others : AreBlocksEqualExceptOne b (g.blocks old) (g.blocks new)
   pub elsewhere : AreBytesStillUnprogrammed (b ∷ []) (g.history old) (g.history new)
   pub geometry : g.geometry new ≡ g.geometry old
-  pub at_worst : IsTrueAfterEachStopSince IsWorstOutcomeOfStop (g.history old) (g.history new) (AreBlocksEqualExceptOne b (g.blocks old))
+  pub at_worst : IsTrueAfterAnyPowerLossSince ArePossibleBlocksAfterPowerLossInCall (g.history old) (g.history new) (AreBlocksEqualExceptOne b (g.blocks old))
 
 -- the same of several blocks
 pub record ChangesOnlyTheseBlocks {D : Type 0} (g : Ghosts D) (bs : List ℕ) (old new : D) : Type 0 where
   pub others : AreBlocksEqualExceptThese bs (g.blocks old) (g.blocks new)
   pub elsewhere : AreBytesStillUnprogrammed bs (g.history old) (g.history new)
   pub geometry : g.geometry new ≡ g.geometry old
-  pub at_worst : IsTrueAfterEachStopSince IsWorstOutcomeOfStop (g.history old) (g.history new) (AreBlocksEqualExceptThese bs (g.blocks old))
+  pub at_worst : IsTrueAfterAnyPowerLossSince ArePossibleBlocksAfterPowerLossInCall (g.history old) (g.history new) (AreBlocksEqualExceptThese bs (g.blocks old))
 
 -- `Io` comes with a fault of the device, and any other result without one.
 pub record ReportsFaults {D X : Type 0} (g : Ghosts D) (old new : D) (result : Result X Error) : Type 0 where
-  pub fault : IsErrOf result Io → faults (g.history old) < faults (g.history new)
-  pub no_fault : (IsErrOf result Io → ⊥) → faults (g.history new) ≡ faults (g.history old)
+  pub fault : IsErrOf result Io → fault_count_of_history (g.history old) < fault_count_of_history (g.history new)
+  pub no_fault : (IsErrOf result Io → ⊥) → fault_count_of_history (g.history new) ≡ fault_count_of_history (g.history old)

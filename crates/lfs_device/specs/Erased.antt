@@ -15,9 +15,9 @@ block_bytes_after_erase (Fill byte) block = replicate (length block) byte
 block_bytes_after_erase Keep block = block
 
 -- so many bytes from an offset on, after an erase
-abbrev pub bytes_after_erase_of_part : Erased → List ℕ → ℕ → ℕ → List ℕ
-bytes_after_erase_of_part (Fill byte) bytes at len = bytes_after_overwrite_at bytes at (replicate len byte)
-bytes_after_erase_of_part Keep bytes at len = bytes
+abbrev pub device_bytes_after_erase_of_range : Erased → List ℕ → ℕ → ℕ → List ℕ
+device_bytes_after_erase_of_range (Fill byte) bytes at len = bytes_after_overwrite_at bytes at (replicate len byte)
+device_bytes_after_erase_of_range Keep bytes at len = bytes
 
 -- all blocks, after an erase of one of them
 abbrev pub blocks_after_erase : Erased → ℕ → Blocks → ℕ → Blocks

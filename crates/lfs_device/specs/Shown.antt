@@ -8,5 +8,5 @@ abbrev pub disk_of_geometry_and_blocks : Geometry → Blocks → Disk
 disk_of_geometry_and_blocks geometry blocks = record { block_size = geometry.block_size; page = geometry.page; order = geometry.order; blocks = blocks }
 
 -- the same disk, with its names in that order
-abbrev pub ordered : NameOrder → Disk → Disk
-ordered order disk = record disk { order = order }
+abbrev pub disk_with_name_order : NameOrder → Disk → Disk
+disk_with_name_order order disk = record disk { order = order }

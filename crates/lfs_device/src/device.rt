@@ -1,10 +1,10 @@
 ghost use Rattle.std.specs.Prelude.{◌≡◌, ◌≤◌, ◌<◌, ℕ, ◌+◌, ◌%◌, List, ◌∷◌, length, slice_range, is_err, IfErr, OnOk, OnErr};
-ghost use Rattle.lfs_model.specs.Blocks.{Blocks, HasBlocksOfCountAndSize, AreBlocksEqualExceptOne, AreBytesEqualOutsideRange, block_bytes_in, programmed};
-ghost use Rattle.lfs_model.specs.History.{CallEvent, call_event_with, AreBytesUnprogrammed, IsLeftByNewestCall};
-ghost use Rattle.lfs_model.specs.History.Call.{Read, Program, Erase};
-ghost use Rattle.lfs_model.specs.Conformance.{AreConformingCalls};
+ghost use Rattle.lfs_model.specs.Blocks.{Blocks, HasBlocksOfCountAndSize, AreBlocksEqualExceptOne, AreBytesEqualOutsideRange, block_bytes_by_number, programmed};
+ghost use Rattle.lfs_model.specs.History.{DeviceCallEvent, device_call_event_with_blocks, AreBytesUnprogrammed, AreBlocksLeftByNewestCall};
+ghost use Rattle.lfs_model.specs.History.DeviceCall.{Read, Program, Erase};
+ghost use Rattle.lfs_model.specs.Conformance.{AreConformingDeviceCalls};
 ghost use Rattle.lfs_device.specs.declared.geometry.Geometry.{Geometry};
-ghost use Rattle.lfs_device.specs.Bytes.{HasBytes};
+ghost use Rattle.lfs_device.specs.Bytes.{AreAllBlockElementsBelow256};
 
 use crate::{Error, Geometry};
 
@@ -25,7 +25,7 @@ pub trait BlockDevice {
     ghost blocks: { Self → Blocks };
 
     /// The calls so far, the newest first.
-    ghost history: { Self → List CallEvent };
+    ghost history: { Self → List DeviceCallEvent };
 
     /// Returns the geometry: the sizes of blocks and pages in bytes, the number of blocks, and the
     /// order of names.
@@ -39,10 +39,10 @@ pub trait BlockDevice {
     fn read(&mut self, block: u32, off: u32, buf: &mut [u8]) -> Result<(), Error>
         requires in_device { block < (geometry self.old).block_count }
         requires in_block { off + length buf.old ≤ (geometry self.old).block_size }
-        ensures bytes { OnOk result (buf.new ≡ slice_range (block_bytes_in (blocks self.old) block) off (off + length buf.old)) }
+        ensures bytes { OnOk result (buf.new ≡ slice_range (block_bytes_by_number (blocks self.old) block) off (off + length buf.old)) }
         ensures same { blocks self.new ≡ blocks self.old }
         ensures geometry { geometry self.new ≡ geometry self.old }
-        ensures history { history self.new ≡ call_event_with (Read block off (length buf.old)) (blocks self.old) (blocks self.new) (is_err result) ∷ history self.old }
+        ensures history { history self.new ≡ device_call_event_with_blocks (Read block off (length buf.old)) (blocks self.old) (blocks self.new) (is_err result) ∷ history self.old }
         ensures error { IfErr result (λ e. e ≡ Error.Io) };
 
     /// Programs whole pages of a block, from the offset `off` on. Offset and length are multiples
@@ -57,10 +57,10 @@ pub trait BlockDevice {
         requires ends { (off + length bytes.now) % (geometry self.old).page ≡ 0 }
         requires unprogrammed { AreBytesUnprogrammed (history self.old) block off (off + length bytes.now) }
         ensures ok { OnOk result (blocks self.new ≡ programmed (blocks self.old) block off bytes.now) }
-        ensures err { OnErr result (AreBytesEqualOutsideRange off (off + length bytes.now) (block_bytes_in (blocks self.old) block) (block_bytes_in (blocks self.new) block)) }
+        ensures err { OnErr result (AreBytesEqualOutsideRange off (off + length bytes.now) (block_bytes_by_number (blocks self.old) block) (block_bytes_by_number (blocks self.new) block)) }
         ensures others { AreBlocksEqualExceptOne block (blocks self.old) (blocks self.new) }
         ensures geometry { geometry self.new ≡ geometry self.old }
-        ensures history { history self.new ≡ call_event_with (Program block off bytes.now) (blocks self.old) (blocks self.new) (is_err result) ∷ history self.old }
+        ensures history { history self.new ≡ device_call_event_with_blocks (Program block off bytes.now) (blocks self.old) (blocks self.new) (is_err result) ∷ history self.old }
         ensures error { IfErr result (λ e. e ≡ Error.Io) };
 
     /// Erases a block. After the call the block may hold any bytes, all of them unprogrammed.
@@ -71,19 +71,19 @@ pub trait BlockDevice {
         requires { block < (geometry self.old).block_count }
         ensures others { AreBlocksEqualExceptOne block (blocks self.old) (blocks self.new) }
         ensures geometry { geometry self.new ≡ geometry self.old }
-        ensures history { history self.new ≡ call_event_with (Erase block) (blocks self.old) (blocks self.new) (is_err result) ∷ history self.old }
+        ensures history { history self.new ≡ device_call_event_with_blocks (Erase block) (blocks self.old) (blocks self.new) (is_err result) ∷ history self.old }
         ensures error { IfErr result (λ e. e ≡ Error.Io) };
 
     /// The device has as many blocks as its geometry says, each of that size.
     ghost shape: { (d : Self) → HasBlocksOfCountAndSize (geometry d).block_size (geometry d).block_count (blocks d) };
 
     /// A block holds bytes: numbers below 256.
-    ghost bytes: { (d : Self) → HasBytes (blocks d) };
+    ghost bytes: { (d : Self) → AreAllBlockElementsBelow256 (blocks d) };
 
     /// The newest call, if there was one, left the blocks as they are.
-    ghost newest: { (d : Self) → IsLeftByNewestCall (history d) (blocks d) };
+    ghost newest: { (d : Self) → AreBlocksLeftByNewestCall (history d) (blocks d) };
 
     /// Each call that didn't fail conforms: it did what the call is for, and changed no other
     /// block.
-    ghost conforms: { (d : Self) → AreConformingCalls (history d) };
+    ghost conforms: { (d : Self) → AreConformingDeviceCalls (history d) };
 }

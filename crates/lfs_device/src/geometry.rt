@@ -1,5 +1,5 @@
 ghost use Rattle.std.specs.Prelude.{◌≡◌, MatchResult};
-ghost use Rattle.lfs_model.specs.Disk.{pair_capacity, entry_charge_limit, inline_limit, slots_per_pair_limit};
+ghost use Rattle.lfs_model.specs.Disk.{pair_capacity, charged_entry_size_limit_in_pair, inline_limit, slots_per_pair_limit};
 ghost use Rattle.lfs_model.specs.Geometry.{IsValidGeometry};
 ghost use Rattle.lfs_model.specs.declared.order.NameOrder.TheVariants.{LongerFirst};
 
@@ -58,7 +58,7 @@ impl Geometry {
     }
 
     /// Returns the same geometry with that order of names.
-    pub fn ordered(self, order: NameOrder) -> Geometry
+    pub fn with_name_order(self, order: NameOrder) -> Geometry
         ensures { result ≡ record self { order = order } }
     {
         Geometry {
@@ -80,8 +80,8 @@ impl Geometry {
 
     /// Returns how many bytes a name and its attributes may take, with their tags: half of the
     /// bytes of a pair's slots.
-    pub fn entry_limit(self) -> u32
-        ensures { result ≡ entry_charge_limit self.block_size self.page }
+    pub fn entry_size_limit(self) -> u32
+        ensures { result ≡ charged_entry_size_limit_in_pair self.block_size self.page }
     {
         self.pair_capacity() / 2
     }

@@ -60,7 +60,7 @@ impl<D: BlockDevice> BlockDevice for Ordered<D> {
     ghost conforms = { λ d. D.conforms d.inner };
 
     fn geometry(&self) -> Geometry {
-        self.inner.geometry().ordered(self.order)
+        self.inner.geometry().with_name_order(self.order)
     }
 
     fn read(&mut self, block: u32, off: u32, buf: &mut [u8]) -> Result<(), Error> {

@@ -1,35 +1,35 @@
 ghost use Rattle.std.specs.Prelude.{◌≡◌, ◌≤◌, ◌<◌, ◌+◌, ◌%◌, ℕ, true, length, take, slice_range, is_err, IfSome, IfErr, OnOk, OnErr, Some};
-ghost use Rattle.lfs_model.specs.Blocks.{AreBlocksEqualExceptOne, AreBytesEqualOutsideRange, block_bytes_in, programmed};
-ghost use Rattle.lfs_model.specs.History.{faults, unprogrammed, is_byte_unprogrammed_after_call, AreBytesUnprogrammed};
-ghost use Rattle.lfs_model.specs.History.Call.{Read, Program, Erase};
+ghost use Rattle.lfs_model.specs.Blocks.{AreBlocksEqualExceptOne, AreBytesEqualOutsideRange, block_bytes_by_number, programmed};
+ghost use Rattle.lfs_model.specs.History.{fault_count_of_history, is_byte_unprogrammed, is_byte_unprogrammed_after_call, AreBytesUnprogrammed};
+ghost use Rattle.lfs_model.specs.History.DeviceCall.{Read, Program, Erase};
 ghost use Rattle.lfs_device.specs.Calls.{ReadsOnly};
-ghost use Rattle.lfs_device.specs.CallsBelow.{HasNoFaultBelow, CarriesOutCallBelow, stored};
+ghost use Rattle.lfs_device.specs.CallsBelow.{AddsNoFaultInDeviceBelow, PassesCallOrFailsAtPlannedExtent, program_bytes_stored_with_fault_extent};
 ghost use Rattle.lfs_device.specs.Partial.{ChangesOnlyPartOfBlock};
 
-use crate::fault::Extent;
+use crate::fault::FaultExtent;
 use crate::{BlockDevice, Error};
 
 /// Reads, or does the part of the read that is due and fails.
-pub(crate) fn carry_out_read<D: BlockDevice>(
+pub(crate) fn read_or_fail_as_planned<D: BlockDevice>(
     device: &mut D,
-    due: Option<Extent>,
+    due: Option<FaultExtent>,
     block: u32,
     off: u32,
     buf: &mut [u8],
 ) -> Result<(), Error>
     requires in_device { block < (D.geometry device.old).block_count }
     requires in_block { off + length buf.old ≤ (D.geometry device.old).block_size }
-    ensures carried { CarriesOutCallBelow ⟦<D as BlockDevice>⟧ due (Read block off (length buf.old)) (is_err result) device.old device.new }
-    ensures whole { due ≡ Some Extent.Whole → HasNoFaultBelow ⟦<D as BlockDevice>⟧ device.old device.new
-        → buf.new ≡ slice_range (block_bytes_in (D.blocks device.old) block) off (off + length buf.old) }
-    ensures bytes { OnOk result (buf.new ≡ slice_range (block_bytes_in (D.blocks device.old) block) off (off + length buf.old)) }
+    ensures carried { PassesCallOrFailsAtPlannedExtent ⟦<D as BlockDevice>⟧ due (Read block off (length buf.old)) (is_err result) device.old device.new }
+    ensures whole { due ≡ Some FaultExtent.Whole → AddsNoFaultInDeviceBelow ⟦<D as BlockDevice>⟧ device.old device.new
+        → buf.new ≡ slice_range (block_bytes_by_number (D.blocks device.old) block) off (off + length buf.old) }
+    ensures bytes { OnOk result (buf.new ≡ slice_range (block_bytes_by_number (D.blocks device.old) block) off (off + length buf.old)) }
     ensures device { ReadsOnly D.BlockDevice device.old device.new }
     ensures error { IfErr result (λ e. e ≡ Error.Io) }
-    ensures faults { faults (D.history device.old) ≤ faults (D.history device.new) }
+    ensures faults { fault_count_of_history (D.history device.old) ≤ fault_count_of_history (D.history device.new) }
 {
     match due {
         None => device.read(block, off, buf),
-        Some(Extent::Whole) => {
+        Some(FaultExtent::Whole) => {
             let _ = device.read(block, off, buf);
             Err(Error::Io)
         }
@@ -38,9 +38,9 @@ pub(crate) fn carry_out_read<D: BlockDevice>(
 }
 
 /// Programs, or does the part of the program that is due and fails.
-pub(crate) fn carry_out_program<D: BlockDevice>(
+pub(crate) fn program_or_fail_as_planned<D: BlockDevice>(
     device: &mut D,
-    due: Option<Extent>,
+    due: Option<FaultExtent>,
     block: u32,
     off: u32,
     bytes: &[u8],
@@ -50,21 +50,21 @@ pub(crate) fn carry_out_program<D: BlockDevice>(
     requires begins { off % (D.geometry device.old).page ≡ 0 }
     requires ends { (off + length bytes.now) % (D.geometry device.old).page ≡ 0 }
     requires unprogrammed { AreBytesUnprogrammed (D.history device.old) block off (off + length bytes.now) }
-    ensures carried { CarriesOutCallBelow ⟦<D as BlockDevice>⟧ due (Program block off bytes.now) (is_err result) device.old device.new }
-    ensures stored { IfSome due (λ extent. HasNoFaultBelow ⟦<D as BlockDevice>⟧ device.old device.new
-        → D.blocks device.new ≡ programmed (D.blocks device.old) block off (stored extent bytes.now)) }
+    ensures carried { PassesCallOrFailsAtPlannedExtent ⟦<D as BlockDevice>⟧ due (Program block off bytes.now) (is_err result) device.old device.new }
+    ensures stored { IfSome due (λ extent. AddsNoFaultInDeviceBelow ⟦<D as BlockDevice>⟧ device.old device.new
+        → D.blocks device.new ≡ programmed (D.blocks device.old) block off (program_bytes_stored_with_fault_extent extent bytes.now)) }
     ensures ok { OnOk result (D.blocks device.new ≡ programmed (D.blocks device.old) block off bytes.now) }
     ensures part { ChangesOnlyPartOfBlock D.BlockDevice block off (off + length bytes.now) device.old device.new }
     ensures error { IfErr result (λ e. e ≡ Error.Io) }
 {
     match due {
         None => device.prog(block, off, bytes),
-        Some(Extent::Nothing) => Err(Error::Io),
-        Some(Extent::FirstBytes(k)) => {
+        Some(FaultExtent::Nothing) => Err(Error::Io),
+        Some(FaultExtent::FirstBytes(k)) => {
             let _ = program_first_bytes(device, block, off, bytes, k);
             Err(Error::Io)
         }
-        Some(Extent::Whole) => {
+        Some(FaultExtent::Whole) => {
             let _ = device.prog(block, off, bytes);
             Err(Error::Io)
         }
@@ -72,22 +72,22 @@ pub(crate) fn carry_out_program<D: BlockDevice>(
 }
 
 /// Erases, or does the part of the erase that is due and fails.
-pub(crate) fn carry_out_erase<D: BlockDevice>(
+pub(crate) fn erase_or_fail_as_planned<D: BlockDevice>(
     device: &mut D,
-    due: Option<Extent>,
+    due: Option<FaultExtent>,
     block: u32,
 ) -> Result<(), Error>
     requires { block < (D.geometry device.old).block_count }
-    ensures carried { CarriesOutCallBelow ⟦<D as BlockDevice>⟧ due (Erase block) (is_err result) device.old device.new }
+    ensures carried { PassesCallOrFailsAtPlannedExtent ⟦<D as BlockDevice>⟧ due (Erase block) (is_err result) device.old device.new }
     ensures others { AreBlocksEqualExceptOne block (D.blocks device.old) (D.blocks device.new) }
     ensures geometry { D.geometry device.new ≡ D.geometry device.old }
     ensures error { IfErr result (λ e. e ≡ Error.Io) }
-    ensures faults { faults (D.history device.old) ≤ faults (D.history device.new) }
-    ensures keeps { (b k : ℕ) → is_byte_unprogrammed_after_call (Erase block) (is_err result) b k (unprogrammed (D.history device.old) b k) ≡ true → unprogrammed (D.history device.new) b k ≡ true }
+    ensures faults { fault_count_of_history (D.history device.old) ≤ fault_count_of_history (D.history device.new) }
+    ensures keeps { (b k : ℕ) → is_byte_unprogrammed_after_call (Erase block) (is_err result) b k (is_byte_unprogrammed (D.history device.old) b k) ≡ true → is_byte_unprogrammed (D.history device.new) b k ≡ true }
 {
     match due {
         None => device.erase(block),
-        Some(Extent::Whole) => {
+        Some(FaultExtent::Whole) => {
             let _ = device.erase(block);
             Err(Error::Io)
         }
@@ -111,7 +111,7 @@ pub(crate) fn program_first_bytes<D: BlockDevice>(
     requires unprogrammed { AreBytesUnprogrammed (D.history device.old) block off (off + length bytes.now) }
     ensures ok { OnOk result (D.blocks device.new ≡ programmed (D.blocks device.old) block off (take k bytes.now)) }
     ensures part { ChangesOnlyPartOfBlock D.BlockDevice block off (off + length bytes.now) device.old device.new }
-    ensures err { OnErr result (faults (D.history device.old) < faults (D.history device.new)) }
+    ensures err { OnErr result (fault_count_of_history (D.history device.old) < fault_count_of_history (D.history device.new)) }
 {
     let stored = (k as usize).min(bytes.len());
     let page = device.geometry().page as usize;
@@ -137,7 +137,7 @@ fn program_beginning_of_page<D: BlockDevice>(
     requires unprogrammed { AreBytesUnprogrammed (D.history device.old) block off (off + (D.geometry device.old).page) }
     ensures ok { OnOk result (D.blocks device.new ≡ programmed (D.blocks device.old) block off bytes.now) }
     ensures part { ChangesOnlyPartOfBlock D.BlockDevice block off (off + (D.geometry device.old).page) device.old device.new }
-    ensures err { OnErr result (faults (D.history device.old) < faults (D.history device.new)) }
+    ensures err { OnErr result (fault_count_of_history (D.history device.old) < fault_count_of_history (D.history device.new)) }
 {
     let mut buffer = [0u8; 512];
     let page = &mut buffer[..device.geometry().page as usize];

@@ -1,12 +1,12 @@
 ghost use Rattle.std.specs.Prelude.{◌≡◌, ◌≤◌, ◌<◌, ◌+◌, ◌*◌, ◌%◌, [], ◌∷◌, false, length, replicate, slice_range, IsOk, IfOk, IfErr, OnErr, MatchResult};
-ghost use Rattle.lfs_model.specs.Blocks.{AreBlocksEqualExceptOne, block_bytes_in, cut, bytes_after_overwrite_at, programmed};
-ghost use Rattle.lfs_model.specs.History.{call_event_with, faults, AreBytesUnprogrammed, IsLeftByNewestCall};
-ghost use Rattle.lfs_model.specs.History.Call.{Read, Program, Erase};
-ghost use Rattle.lfs_model.specs.Conformance.{AreConformingCalls};
-ghost use Rattle.lfs_model.specs.Premises.{MeetsPowerLossPremises};
-ghost use Rattle.lfs_device.specs.Bytes.{AreBytes};
-ghost use Rattle.lfs_device.specs.Premises.{AreAllDevicesReliable};
-ghost use Rattle.lfs_device.specs.Erased.{ErasedFillIsByte, block_bytes_after_erase, bytes_after_erase_of_part};
+ghost use Rattle.lfs_model.specs.Blocks.{AreBlocksEqualExceptOne, block_bytes_by_number, cut, bytes_after_overwrite_at, programmed};
+ghost use Rattle.lfs_model.specs.History.{device_call_event_with_blocks, fault_count_of_history, AreBytesUnprogrammed, AreBlocksLeftByNewestCall};
+ghost use Rattle.lfs_model.specs.History.DeviceCall.{Read, Program, Erase};
+ghost use Rattle.lfs_model.specs.Conformance.{AreConformingDeviceCalls};
+ghost use Rattle.lfs_model.specs.Premises.{IsHistoryMeetingPowerLossPremises};
+ghost use Rattle.lfs_device.specs.Bytes.{AreAllNumbersBytes};
+ghost use Rattle.lfs_device.specs.Premises.{DevicesOfTypeNeverFailAndMeetPremises};
+ghost use Rattle.lfs_device.specs.Erased.{ErasedFillIsByte, block_bytes_after_erase, device_bytes_after_erase_of_range};
 
 use crate::{BlockDevice, Error, Geometry, Trace};
 use std::alloc::Global;
@@ -27,26 +27,26 @@ pub struct RamDevice {
     bytes: Vec<u8>,
     erased: Erased,
     trace: Trace,
-    ghost are_bytes: { AreBytes bytes.items },
+    ghost are_bytes: { AreAllNumbersBytes bytes.items },
     ghost size: { length bytes.items ≡ geometry.block_size * geometry.block_count },
-    pub ghost no_fault: { faults trace.events ≡ 0 },
-    ghost newest: { IsLeftByNewestCall trace.events (cut geometry.block_size geometry.block_count bytes.items) },
-    ghost conforms: { AreConformingCalls trace.events },
-    pub ghost premises: { ∥ MeetsPowerLossPremises trace.events ∥₁ },
+    pub ghost no_fault: { fault_count_of_history trace.events ≡ 0 },
+    ghost newest: { AreBlocksLeftByNewestCall trace.events (cut geometry.block_size geometry.block_count bytes.items) },
+    ghost conforms: { AreConformingDeviceCalls trace.events },
+    pub ghost premises: { ∥ IsHistoryMeetingPowerLossPremises trace.events ∥₁ },
 }
 
 impl RamDevice {
-    ghost use Rattle.lfs_device.specs.RamDevice.{geometry_of, ram_bytes, ram_blocks, erase_effect_of_ram, history_of};
+    ghost use Rattle.lfs_device.specs.RamDevice.{geometry_of_ram_device, ram_bytes, ram_blocks, erase_effect_of_ram, history_of_ram_device};
 
     /// Makes a device that holds 0xff in every byte. An erase fills a block with 0xff. Every byte
     /// counts as programmed.
     ///
     /// Errors: `NoMemory` where memory for all bytes isn't granted.
     pub fn blank(alloc: Global, geometry: Geometry) -> Result<RamDevice, Error>
-        ensures geometry { IfOk result (λ d. geometry_of d ≡ geometry) }
+        ensures geometry { IfOk result (λ d. geometry_of_ram_device d ≡ geometry) }
         ensures bytes { IfOk result (λ d. ram_bytes d ≡ replicate (geometry.block_size * geometry.block_count) 255) }
         ensures erased { IfOk result (λ d. erase_effect_of_ram d ≡ Erased.Fill 255) }
-        ensures no_call { IfOk result (λ d. history_of d ≡ []) }
+        ensures no_call { IfOk result (λ d. history_of_ram_device d ≡ []) }
         ensures err { OnErr result (result ≡ Err Error.NoMemory) }
     {
         let len = geometry.block_size as usize * geometry.block_count as usize;
@@ -55,7 +55,7 @@ impl RamDevice {
             geometry,
             bytes,
             erased: Erased::Fill(0xff),
-            trace: Trace::from_proof(&geometry, &()),
+            trace: Trace::with_history_chosen_by_proof(&geometry, &()),
         })
     }
 
@@ -65,9 +65,9 @@ impl RamDevice {
     /// Errors: `Invalid` exactly where the number of bytes isn't that of the geometry.
     pub fn from_bytes(geometry: Geometry, bytes: Vec<u8>) -> Result<RamDevice, Error>
         ensures made { MatchResult result
-            (λ d. (geometry_of d ≡ geometry) × (ram_bytes d ≡ bytes.items) × (erase_effect_of_ram d ≡ Erased.Fill 255))
+            (λ d. (geometry_of_ram_device d ≡ geometry) × (ram_bytes d ≡ bytes.items) × (erase_effect_of_ram d ≡ Erased.Fill 255))
             (λ e. (e ≡ Error.Invalid) × (¬ (length bytes.items ≡ geometry.block_size * geometry.block_count))) }
-        ensures no_call { IfOk result (λ d. history_of d ≡ []) }
+        ensures no_call { IfOk result (λ d. history_of_ram_device d ≡ []) }
     {
         if bytes.len() != geometry.block_size as usize * geometry.block_count as usize {
             return Err(Error::Invalid);
@@ -76,16 +76,16 @@ impl RamDevice {
             geometry,
             bytes,
             erased: Erased::Fill(0xff),
-            trace: Trace::from_proof(&geometry, &()),
+            trace: Trace::with_history_chosen_by_proof(&geometry, &()),
         })
     }
 
     /// Returns the same device, in which an erase leaves other bytes from now on.
     pub fn erased_as(self, erased: Erased) -> RamDevice
-        ensures geometry { geometry_of result ≡ geometry_of self }
+        ensures geometry { geometry_of_ram_device result ≡ geometry_of_ram_device self }
         ensures bytes { ram_bytes result ≡ ram_bytes self }
         ensures erased { erase_effect_of_ram result ≡ erased }
-        ensures history { history_of result ≡ history_of self }
+        ensures history { history_of_ram_device result ≡ history_of_ram_device self }
     {
         let RamDevice {
             geometry,
@@ -104,7 +104,7 @@ impl RamDevice {
     /// Borrows all bytes of the device, block after block.
     pub fn bytes(&self) -> &[u8]
         ensures bytes { result.now ≡ ram_bytes self.now }
-        ensures blocks { ram_blocks self.now ≡ cut (geometry_of self.now).block_size (geometry_of self.now).block_count result.now }
+        ensures blocks { ram_blocks self.now ≡ cut (geometry_of_ram_device self.now).block_size (geometry_of_ram_device self.now).block_count result.now }
     {
         &self.bytes
     }
@@ -112,13 +112,13 @@ impl RamDevice {
     /// Returns all bytes of the device, block after block. The device is dropped.
     pub fn to_bytes(self) -> Vec<u8>
         ensures bytes { result.items ≡ ram_bytes self }
-        ensures blocks { ram_blocks self ≡ cut (geometry_of self).block_size (geometry_of self).block_count result.items }
+        ensures blocks { ram_blocks self ≡ cut (geometry_of_ram_device self).block_size (geometry_of_ram_device self).block_count result.items }
     {
         self.bytes
     }
 
     // Returns where a byte of a block is among all bytes.
-    fn position(&self, block: u32, off: u32) -> usize
+    fn byte_index_of_block_offset(&self, block: u32, off: u32) -> usize
         requires in_device { block < self.now.geometry.block_count }
         requires in_block { off ≤ self.now.geometry.block_size }
         ensures { result ≡ self.now.geometry.block_size * block + off }
@@ -130,12 +130,12 @@ impl RamDevice {
 /// Shows a proof the premises of contracts about a loss of power. Devices in memory meet them: an
 /// erase leaves no log or the one that was there, and no call fails. The call does nothing at run
 /// time.
-pub fn ram_devices_are_reliable()
-    ensures { AreAllDevicesReliable ⟦<RamDevice as BlockDevice>⟧ }
+pub fn prove_ram_devices_never_fail_and_meet_premises()
+    ensures { DevicesOfTypeNeverFailAndMeetPremises ⟦<RamDevice as BlockDevice>⟧ }
 {}
 
 // Writes bytes over those from an offset on.
-fn overwrite(all: &mut Vec<u8>, at: usize, bytes: &[u8])
+fn overwrite_device_bytes(all: &mut Vec<u8>, at: usize, bytes: &[u8])
     requires { at + length bytes.now ≤ length all.old.items }
     ensures { all.new.items ≡ bytes_after_overwrite_at all.old.items at bytes.now }
 {
@@ -143,10 +143,10 @@ fn overwrite(all: &mut Vec<u8>, at: usize, bytes: &[u8])
 }
 
 // Fills the bytes from an offset on with what an erase leaves.
-fn erase_at(all: &mut Vec<u8>, at: usize, len: usize, erased: Erased)
+fn fill_range_as_erased(all: &mut Vec<u8>, at: usize, len: usize, erased: Erased)
     requires { at + len ≤ length all.old.items }
-    ensures erased { all.new.items ≡ bytes_after_erase_of_part erased all.old.items at len }
-    ensures are_bytes { AreBytes all.old.items → AreBytes all.new.items }
+    ensures erased { all.new.items ≡ device_bytes_after_erase_of_range erased all.old.items at len }
+    ensures are_bytes { AreAllNumbersBytes all.old.items → AreAllNumbersBytes all.new.items }
     ensures by_byte { ErasedFillIsByte erased }
 {
     match erased {
@@ -158,13 +158,13 @@ fn erase_at(all: &mut Vec<u8>, at: usize, len: usize, erased: Erased)
 impl BlockDevice for RamDevice {
     ghost use Rattle.lfs_model.proofs.Cuts.{HasBlocksOfCountAndSize-cut};
     ghost use Rattle.lfs_device.specs.ByteLists.{HasBytes-cut};
-    ghost use Rattle.lfs_device.specs.RamDevice.{geometry_of, ram_bytes, ram_blocks, erase_effect_of_ram, history_of};
+    ghost use Rattle.lfs_device.specs.RamDevice.{geometry_of_ram_device, ram_bytes, ram_blocks, erase_effect_of_ram, history_of_ram_device};
 
-    ghost geometry = { geometry_of };
+    ghost geometry = { geometry_of_ram_device };
 
     ghost blocks = { ram_blocks };
 
-    ghost history = { history_of };
+    ghost history = { history_of_ram_device };
 
     ghost shape = { λ d. HasBlocksOfCountAndSize-cut d.geometry.block_size d.geometry.block_count d.bytes.items d.size };
 
@@ -179,54 +179,54 @@ impl BlockDevice for RamDevice {
     }
 
     fn read(&mut self, block: u32, off: u32, buf: &mut [u8]) -> Result<(), Error>
-        requires in_device { block < (geometry_of self.old).block_count }
-        requires in_block { off + length buf.old ≤ (geometry_of self.old).block_size }
+        requires in_device { block < (geometry_of_ram_device self.old).block_count }
+        requires in_block { off + length buf.old ≤ (geometry_of_ram_device self.old).block_size }
         ensures ok { IsOk result }
-        ensures bytes { buf.new ≡ slice_range (block_bytes_in (ram_blocks self.old) block) off (off + length buf.old) }
+        ensures bytes { buf.new ≡ slice_range (block_bytes_by_number (ram_blocks self.old) block) off (off + length buf.old) }
         ensures same { ram_blocks self.new ≡ ram_blocks self.old }
-        ensures geometry { geometry_of self.new ≡ geometry_of self.old }
+        ensures geometry { geometry_of_ram_device self.new ≡ geometry_of_ram_device self.old }
         ensures erased { erase_effect_of_ram self.new ≡ erase_effect_of_ram self.old }
-        ensures history { history_of self.new ≡ call_event_with (Read block off (length buf.old)) (ram_blocks self.old) (ram_blocks self.new) false ∷ history_of self.old }
+        ensures history { history_of_ram_device self.new ≡ device_call_event_with_blocks (Read block off (length buf.old)) (ram_blocks self.old) (ram_blocks self.new) false ∷ history_of_ram_device self.old }
     {
-        let start = self.position(block, off);
+        let start = self.byte_index_of_block_offset(block, off);
         buf.copy_from_slice(&self.bytes[start..start + buf.len()]);
-        self.trace = Trace::from_proof(self, &(block, off, buf.len()));
+        self.trace = Trace::with_history_chosen_by_proof(self, &(block, off, buf.len()));
         Ok(())
     }
 
     fn prog(&mut self, block: u32, off: u32, bytes: &[u8]) -> Result<(), Error>
-        requires in_device { block < (geometry_of self.old).block_count }
-        requires in_block { off + length bytes.now ≤ (geometry_of self.old).block_size }
-        requires begins { off % (geometry_of self.old).page ≡ 0 }
-        requires ends { (off + length bytes.now) % (geometry_of self.old).page ≡ 0 }
-        requires unprogrammed { AreBytesUnprogrammed (history_of self.old) block off (off + length bytes.now) }
+        requires in_device { block < (geometry_of_ram_device self.old).block_count }
+        requires in_block { off + length bytes.now ≤ (geometry_of_ram_device self.old).block_size }
+        requires begins { off % (geometry_of_ram_device self.old).page ≡ 0 }
+        requires ends { (off + length bytes.now) % (geometry_of_ram_device self.old).page ≡ 0 }
+        requires unprogrammed { AreBytesUnprogrammed (history_of_ram_device self.old) block off (off + length bytes.now) }
         ensures ok { IsOk result }
         ensures bytes { ram_blocks self.new ≡ programmed (ram_blocks self.old) block off bytes.now }
         ensures others { AreBlocksEqualExceptOne block (ram_blocks self.old) (ram_blocks self.new) }
-        ensures geometry { geometry_of self.new ≡ geometry_of self.old }
+        ensures geometry { geometry_of_ram_device self.new ≡ geometry_of_ram_device self.old }
         ensures erased { erase_effect_of_ram self.new ≡ erase_effect_of_ram self.old }
-        ensures history { history_of self.new ≡ call_event_with (Program block off bytes.now) (ram_blocks self.old) (ram_blocks self.new) false ∷ history_of self.old }
+        ensures history { history_of_ram_device self.new ≡ device_call_event_with_blocks (Program block off bytes.now) (ram_blocks self.old) (ram_blocks self.new) false ∷ history_of_ram_device self.old }
     {
-        let trace = Trace::from_proof(self, &(block, off, bytes));
-        let start = self.position(block, off);
-        overwrite(&mut self.bytes, start, bytes);
+        let trace = Trace::with_history_chosen_by_proof(self, &(block, off, bytes));
+        let start = self.byte_index_of_block_offset(block, off);
+        overwrite_device_bytes(&mut self.bytes, start, bytes);
         self.trace = trace;
         Ok(())
     }
 
     fn erase(&mut self, block: u32) -> Result<(), Error>
-        requires { block < (geometry_of self.old).block_count }
+        requires { block < (geometry_of_ram_device self.old).block_count }
         ensures ok { IsOk result }
-        ensures bytes { block_bytes_in (ram_blocks self.new) block ≡ block_bytes_after_erase (erase_effect_of_ram self.old) (block_bytes_in (ram_blocks self.old) block) }
+        ensures bytes { block_bytes_by_number (ram_blocks self.new) block ≡ block_bytes_after_erase (erase_effect_of_ram self.old) (block_bytes_by_number (ram_blocks self.old) block) }
         ensures others { AreBlocksEqualExceptOne block (ram_blocks self.old) (ram_blocks self.new) }
-        ensures geometry { geometry_of self.new ≡ geometry_of self.old }
+        ensures geometry { geometry_of_ram_device self.new ≡ geometry_of_ram_device self.old }
         ensures erased { erase_effect_of_ram self.new ≡ erase_effect_of_ram self.old }
-        ensures history { history_of self.new ≡ call_event_with (Erase block) (ram_blocks self.old) (ram_blocks self.new) false ∷ history_of self.old }
+        ensures history { history_of_ram_device self.new ≡ device_call_event_with_blocks (Erase block) (ram_blocks self.old) (ram_blocks self.new) false ∷ history_of_ram_device self.old }
     {
-        let trace = Trace::from_proof(self, &block);
-        let start = self.position(block, 0);
+        let trace = Trace::with_history_chosen_by_proof(self, &block);
+        let start = self.byte_index_of_block_offset(block, 0);
         let size = self.geometry.block_size as usize;
-        erase_at(&mut self.bytes, start, size, self.erased);
+        fill_range_as_erased(&mut self.bytes, start, size, self.erased);
         self.trace = trace;
         Ok(())
     }

@@ -107,7 +107,7 @@ pub enum BlockFilling<'a> {
     Bytes(&'a [u8]),
 }
 
-fn put(image: &mut [u8], block: usize, bytes: &[u8]) {
+fn put_bytes_in_image_block(image: &mut [u8], block: usize, bytes: &[u8]) {
     let start = block.saturating_mul(4096);
     let end = start.saturating_add(bytes.len());
     if let Some(place) = image.get_mut(start..end) {
@@ -122,12 +122,12 @@ fn put_block_content(
     held: BlockFilling<'_>,
 ) -> Result<(), AllocError> {
     match held {
-        BlockFilling::Commit(entries) => put(
+        BlockFilling::Commit(entries) => put_bytes_in_image_block(
             image,
             block,
             block_of_one_commit(alloc, entries)?.as_slice(),
         ),
-        BlockFilling::Bytes(bytes) => put(image, block, bytes),
+        BlockFilling::Bytes(bytes) => put_bytes_in_image_block(image, block, bytes),
     }
     Ok(())
 }
@@ -139,7 +139,7 @@ pub fn image_with_second_commit(
     others: &[(usize, BlockFilling<'_>)],
 ) -> Result<Vec<u8>, AllocError> {
     let first = block_with_superblock_and_entries(alloc, 1, entries)?;
-    let mut image = image_of_two_blocks(alloc, first.as_slice(), &[])?;
+    let mut image = image_with_first_two_blocks(alloc, first.as_slice(), &[])?;
     for (block, held) in others {
         put_block_content(alloc, image.as_mut_slice(), *block, *held)?;
     }
@@ -147,7 +147,7 @@ pub fn image_with_second_commit(
 }
 
 /// Makes an image of which these are the first two blocks.
-pub fn image_of_two_blocks(
+pub fn image_with_first_two_blocks(
     alloc: Global,
     first: &[u8],
     second: &[u8],

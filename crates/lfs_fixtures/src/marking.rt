@@ -9,7 +9,7 @@ use lfs_device::{BlockDevice, Error};
 ///
 /// Errors: `Corrupt` where the list isn't well formed. `Io` where a read failed. Some blocks may be
 /// marked then.
-pub fn mark_list<D: BlockDevice>(
+pub fn mark_list_blocks_used<D: BlockDevice>(
     device: &mut D,
     map: &mut BlockMap,
     head: u32,

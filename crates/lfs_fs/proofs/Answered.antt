@@ -3,53 +3,53 @@ use Rattle.std.proofs.Common.{◌∷◌, length, Option, inl, inr, ℕ, ◌≡�
 use Rattle.std.proofs.lemmas.Bool.Decides.{nat_tests}
 use Rattle.std.proofs.lemmas.Option.{same_Some}
 use Rattle.lfs_model.specs.Cache.{CachedBlocks}
-use Rattle.lfs_model.specs.History.{CallEvent}
+use Rattle.lfs_model.specs.History.{DeviceCallEvent}
 use Rattle.lfs_model.specs.Operations as ops
-use Rattle.lfs_model.specs.Operations.{Operation, Reply, Refusal, Flags, Failed}
-use Rattle.lfs_model.specs.Session.{Files, Session, DiskSummary, Reading, Writing, free_file_number, put_file}
+use Rattle.lfs_model.specs.Operations.{Operation, Reply, Refusal, FlagsOfOpen, Failed}
+use Rattle.lfs_model.specs.Session.{OpenFilesByNumber, Session, DiskSummary, Reading, Writing, free_file_number, open_files_with_file_at_number}
 use Rattle.lfs_model.specs.Writers.{writer_after_open}
-use Rattle.lfs_model.specs.Refusals.{path_or_root, refusal_of_operation}
+use Rattle.lfs_model.specs.Refusals.{path_of_bytes_or_root, refusal_of_operation}
 use Rattle.lfs_model.specs.Effects.{effect_of_operation}
 use Rattle.lfs_model.specs.State.{Healthy, is_remount_operation}
-use Rattle.lfs_model.specs.Recovery.{recovers}
-use Rattle.lfs_model.specs.Run.{IsSessionStep, is_read_only_operation, opens_existing_file, is_write_or_truncate, needs_no_device_call, renames_to_itself, changes_slot_layout}
+use Rattle.lfs_model.specs.Recovery.{operation_recovers_first}
+use Rattle.lfs_model.specs.Run.{IsSessionStep, is_read_only_operation, opens_existing_file, is_write_or_truncate, needs_no_device_call, renames_to_itself, edits_slots_in_pairs}
 use Rattle.lfs_model.proofs.StepsMade.{IsOver, idle_step, refused_step, completed_step, asked_step, failed_step}
 use Rattle.std.specs.Prelude.{◌⊎◌, ◌||◌, OnOk, OnErr, IfOk, IfErr, is_err, is_none, is_some, not, if◌then◌else◌}
 use Rattle.lfs_model.specs.Tree.{FileNode}
-use Rattle.lfs_model.specs.TreeEdits.{tree_after_creation as add_file, bytes_at, is_file}
+use Rattle.lfs_model.specs.TreeEdits.{tree_after_creation as add_file, file_bytes_of_node, is_file}
 use Rattle.lfs_device.specs.declared.error.Error.{Error}
 use Rattle.lfs_device.specs.declared.error.Error.TheVariants.{Io, NoMemory}
-use Rattle.lfs_model.specs.Headline.{is_query_without_file}
+use Rattle.lfs_model.specs.Headline.{is_query_needing_no_open_file}
 use Rattle.lfs_model.proofs.SessionSteps.{not_remount}
 use Rattle.lfs_lookup.specs.Refusals.{is_refusal, refusal_of_error}
 use Rattle.lfs_fs.specs.Replies.{reply_from_result}
-use Rattle.lfs_tree.specs.TreeState.{TreeState, tree_view, disk_summary_of_tree, IsSoundTreeState, WasTreeOnlyRead, IsFailedTree, IsErrorWithCause, IsOperationAppliedToTree}
-use Rattle.lfs_model.specs.BlockSets.{IsInFlight}
+use Rattle.lfs_tree.specs.TreeState.{TreeState, tree_view, disk_summary_of_tree, IsSoundTreeState, WasTreeOnlyRead, IsFailedTree, IsIoWithFaultOrNoMemory, IsOperationAppliedToTree}
+use Rattle.lfs_model.specs.BlockSets.{IsBlockInFlight}
 use Rattle.lfs_model.proofs.BlockCounts.{few_flying, in_flight-freed}
-use Rattle.lfs_fs.specs.FileView.{OpenFiles, bytes_of_writer_at_path, open_files_view, has_unsaved_writer, reader_view, readers_among, writer_view, writers_among, paths_of_writers}
+use Rattle.lfs_fs.specs.FileView.{RuntimeOpenFilesByNumber, unsaved_or_tree_bytes_of_writer, open_files_view, has_unsaved_writer, reader_view, readers_among, writer_view, writers_among, paths_of_writers}
 use Rattle.lfs_fs.specs.declared.files.OpenFile.TheVariants as file
-use Rattle.lfs_model.specs.Keeping.{removes_or_moves_path}
-use Rattle.lfs_fs.specs.OpenFilesStay.{OpenFilesStaySameAndReady, AppliedOperationsKeepOpenFiles, KeepsFilesOfWriters, SparesOpenFiles}
+use Rattle.lfs_model.specs.Keeping.{removes_or_moves_path_or_ancestor}
+use Rattle.lfs_fs.specs.OpenFilesStay.{OpenFilesStaySameAndReady, AppliedOperationsKeepOpenFiles, KeepsFilesOfWriters, OperationConcernsNoOpenFileAndHasRoom}
 use Rattle.lfs_model.specs.Slots.{zero_gstate}
-use Rattle.lfs_model.specs.Thread.{gstate_of}
+use Rattle.lfs_model.specs.Thread.{gstate_of_pairs}
 use Rattle.lfs_model.specs.Tree.{Path}
 use Rattle.lfs_fs.specs.declared.files.Writer.{Writer}
 use Rattle.lfs_fs.specs.declared.files.UnsavedContents.{UnsavedContents}
 use Rattle.std.specs.List.{AllByRecursion, list_any}
-use Rattle.lfs_fs.specs.SessionView.{SessionView, IsSessionReadyForCalls, AreUnsavedContentsIfSome, IsWriterOverWritableImage, session_view_of_tree_and_files, session_view_with_files_view, session_of, system_state_of, refusal_by_checks, EndsChecksWithError, ChecksOperation, FailsByError, IsSessionStepOrFailure}
+use Rattle.lfs_fs.specs.SessionView.{SessionView, IsSessionReadyForCalls, AreOptionalUnsavedContentsOfWriter, IsWriterOverWritableImage, session_view_of_tree_and_files, session_view_of_tree_and_files_view, session_of_session_view, system_state_of_session_view, refusal_by_checks, EndsChecksWithError, IsResultOfOperationChecks, SessionFailsByError, IsSessionStepOrFailure}
 use Rattle.lfs_fs.proofs.Failing.{reads_write_nothing, nothing_written, failed_system, healthy_system, asking_fails, broken_fails, memory_fails}
 use Rattle.lfs_fs.proofs.Calls.{still_called}
 use Rattle.lfs_fs.proofs.OpenReaders.{none_read, read_carried}
 
 -- the tree, further on by some calls
-later : TreeState → List CallEvent → CachedBlocks → TreeState
+later : TreeState → List DeviceCallEvent → CachedBlocks → TreeState
 later t events cache = record t { history = events ++ t.history; cache = cache }
 
 asked_later : (old new : TreeState) (asked : WasTreeOnlyRead old new) → new ≡ later old asked.reads.events new.cache
 unfolding later
 asked_later old new asked = asked.same ∙ ap (λ history. record old { history = history; cache = new.cache }) asked.reads.extends
 
-pub is_over : (t : TreeState) (files : Files) → IsSoundTreeState t → IsOver t.disk t.pairs (record { tree = tree_view t; files = files }) (disk_summary_of_tree t)
+pub is_over : (t : TreeState) (files : OpenFilesByNumber) → IsSoundTreeState t → IsOver t.disk t.pairs (record { tree = tree_view t; files = files }) (disk_summary_of_tree t)
 is_over t files sound = record {
   accepted = sound.accepted;
   surrounds = record { block_size = refl; page = refl; block_count = refl; used = refl; gstate = refl; writable = (sound.fits, sound.is_kept) };
@@ -59,23 +59,23 @@ is_over t files sound = record {
 -- ---- a refusal
 
 pub refused_answer : (old : SessionView) (op : Operation) (refusal : Refusal) (tree : TreeState) → (old.tree.failed ≡ false → IsSoundTreeState old.tree) → is_remount_operation op ≡ false →
-    WasTreeOnlyRead old.tree tree → refusal_by_checks old op ≡ Some refusal → IsSessionStep (system_state_of old) op (ops.Refused refusal) (system_state_of (session_view_with_files_view tree old.files))
+    WasTreeOnlyRead old.tree tree → refusal_by_checks old op ≡ Some refusal → IsSessionStep (system_state_of_session_view old) op (ops.Refused refusal) (system_state_of_session_view (session_view_of_tree_and_files_view tree old.files))
 unfolding later
 refused_answer old op refusal tree sound other asked e = go old.tree.failed refl
   where
-    go : (b : Bool) → old.tree.failed ≡ b → IsSessionStep (system_state_of old) op (ops.Refused refusal) (system_state_of (session_view_with_files_view tree old.files))
+    go : (b : Bool) → old.tree.failed ≡ b → IsSessionStep (system_state_of_session_view old) op (ops.Refused refusal) (system_state_of_session_view (session_view_of_tree_and_files_view tree old.files))
     go true f =
-        let is : Failed ≡ refusal = same_Some Failed refusal (sym (ap (λ b. cond b (Some Failed) (refusal_of_operation (disk_summary_of_tree old.tree) (session_of old) op)) f) ∙ e) in
-        subst (λ z. IsSessionStep (system_state_of old) op (ops.Refused z) (system_state_of (session_view_with_files_view tree old.files))) is
-        (subst (λ t. IsSessionStep (system_state_of old) op (ops.Refused Failed) (system_state_of (session_view_with_files_view t old.files))) (sym (asked.failed f))
+        let is : Failed ≡ refusal = same_Some Failed refusal (sym (ap (λ b. cond b (Some Failed) (refusal_of_operation (disk_summary_of_tree old.tree) (session_of_session_view old) op)) f) ∙ e) in
+        subst (λ z. IsSessionStep (system_state_of_session_view old) op (ops.Refused z) (system_state_of_session_view (session_view_of_tree_and_files_view tree old.files))) is
+        (subst (λ t. IsSessionStep (system_state_of_session_view old) op (ops.Refused Failed) (system_state_of_session_view (session_view_of_tree_and_files_view t old.files))) (sym (asked.failed f))
         (subst (λ m. IsSessionStep m op (ops.Refused Failed) m) (sym (failed_system old f)) (failed_step old.tree.disk (disk_summary_of_tree old.tree) op old.tree.history other)))
     go false f =
-        let is : refusal_of_operation (disk_summary_of_tree old.tree) (session_of old) op ≡ Some refusal = sym (ap (λ b. cond b (Some Failed) (refusal_of_operation (disk_summary_of_tree old.tree) (session_of old) op)) f) ∙ e in
-        let new = session_view_with_files_view (later old.tree asked.reads.events tree.cache) old.files in
-        subst (λ t. IsSessionStep (system_state_of old) op (ops.Refused refusal) (system_state_of (session_view_with_files_view t old.files))) (sym (asked_later old.tree tree asked))
-        (subst (λ m. IsSessionStep m op (ops.Refused refusal) (system_state_of new)) (sym (healthy_system old f))
-        (subst (λ m. IsSessionStep (record { disk = old.tree.disk; calls = old.tree.history; state = Healthy (session_of old) }) op (ops.Refused refusal) m) (sym (healthy_system new f))
-        (refused_step old.tree.disk old.tree.pairs (session_of old) (disk_summary_of_tree old.tree) op refusal asked.reads.events old.tree.history (is_over old.tree old.files (sound f)) other is (reads_write_nothing old.tree.disk.blocks asked.reads.events asked.reads.each))))
+        let is : refusal_of_operation (disk_summary_of_tree old.tree) (session_of_session_view old) op ≡ Some refusal = sym (ap (λ b. cond b (Some Failed) (refusal_of_operation (disk_summary_of_tree old.tree) (session_of_session_view old) op)) f) ∙ e in
+        let new = session_view_of_tree_and_files_view (later old.tree asked.reads.events tree.cache) old.files in
+        subst (λ t. IsSessionStep (system_state_of_session_view old) op (ops.Refused refusal) (system_state_of_session_view (session_view_of_tree_and_files_view t old.files))) (sym (asked_later old.tree tree asked))
+        (subst (λ m. IsSessionStep m op (ops.Refused refusal) (system_state_of_session_view new)) (sym (healthy_system old f))
+        (subst (λ m. IsSessionStep (record { disk = old.tree.disk; calls = old.tree.history; state = Healthy (session_of_session_view old) }) op (ops.Refused refusal) m) (sym (healthy_system new f))
+        (refused_step old.tree.disk old.tree.pairs (session_of_session_view old) (disk_summary_of_tree old.tree) op refusal asked.reads.events old.tree.history (is_over old.tree old.files (sound f)) other is (reads_write_nothing old.tree.disk.blocks asked.reads.events asked.reads.each))))
 
 -- ---- an accepted operation
 
@@ -84,62 +84,62 @@ not_failed h op e = go h.tree.failed refl
   where
     go : (b : Bool) → h.tree.failed ≡ b → h.tree.failed ≡ false
     go false f = f
-    go true f = absurd (let k : Some Failed ≡ None = sym (ap (λ b. cond b (Some Failed) (refusal_of_operation (disk_summary_of_tree h.tree) (session_of h) op)) f) ∙ e in cc)
+    go true f = absurd (let k : Some Failed ≡ None = sym (ap (λ b. cond b (Some Failed) (refusal_of_operation (disk_summary_of_tree h.tree) (session_of_session_view h) op)) f) ∙ e in cc)
 
-pub not_refused : (h : SessionView) (op : Operation) → refusal_by_checks h op ≡ None → refusal_of_operation (disk_summary_of_tree h.tree) (session_of h) op ≡ None
-not_refused h op e = sym (ap (λ b. cond b (Some Failed) (refusal_of_operation (disk_summary_of_tree h.tree) (session_of h) op)) (not_failed h op e)) ∙ e
+pub not_refused : (h : SessionView) (op : Operation) → refusal_by_checks h op ≡ None → refusal_of_operation (disk_summary_of_tree h.tree) (session_of_session_view h) op ≡ None
+not_refused h op e = sym (ap (λ b. cond b (Some Failed) (refusal_of_operation (disk_summary_of_tree h.tree) (session_of_session_view h) op)) (not_failed h op e)) ∙ e
 
 -- by reads alone, where there is nothing to do
-pub idle_answer : (old : SessionView) (op : Operation) (tree : TreeState) (files : Files) → (old.tree.failed ≡ false → IsSoundTreeState old.tree) → (asked : WasTreeOnlyRead old.tree tree) → refusal_by_checks old op ≡ None →
-    is_remount_operation op ≡ false → (effect_of_operation (disk_summary_of_tree old.tree) (session_of old) op).1 ≡ record { tree = tree_view old.tree; files = files } →
-    recovers op ≡ false → changes_slot_layout (session_of old) op ≡ false → (needs_no_device_call (session_of old) op ≡ true → asked.reads.events ≡ []) →
-    IsSessionStep (system_state_of old) op (effect_of_operation (disk_summary_of_tree old.tree) (session_of old) op).0 (system_state_of (session_view_with_files_view tree files))
+pub idle_answer : (old : SessionView) (op : Operation) (tree : TreeState) (files : OpenFilesByNumber) → (old.tree.failed ≡ false → IsSoundTreeState old.tree) → (asked : WasTreeOnlyRead old.tree tree) → refusal_by_checks old op ≡ None →
+    is_remount_operation op ≡ false → (effect_of_operation (disk_summary_of_tree old.tree) (session_of_session_view old) op).1 ≡ record { tree = tree_view old.tree; files = files } →
+    operation_recovers_first op ≡ false → edits_slots_in_pairs (session_of_session_view old) op ≡ false → (needs_no_device_call (session_of_session_view old) op ≡ true → asked.reads.events ≡ []) →
+    IsSessionStep (system_state_of_session_view old) op (effect_of_operation (disk_summary_of_tree old.tree) (session_of_session_view old) op).0 (system_state_of_session_view (session_view_of_tree_and_files_view tree files))
 unfolding later
 idle_answer old op tree files sound asked e other same none still silent =
     let works = not_failed old op e in
     let events = asked.reads.events in
-    let to = healthy_system (session_view_with_files_view (later old.tree events tree.cache) files) works
+    let to = healthy_system (session_view_of_tree_and_files_view (later old.tree events tree.cache) files) works
     ∙ ap (λ (s : Session). record { disk = old.tree.disk; calls = events ++ old.tree.history; state = Healthy s }) (sym same) in
-    subst (λ t. IsSessionStep (system_state_of old) op (effect_of_operation (disk_summary_of_tree old.tree) (session_of old) op).0 (system_state_of (session_view_with_files_view t files))) (sym (asked_later old.tree tree asked))
-    (subst (λ m. IsSessionStep m op (effect_of_operation (disk_summary_of_tree old.tree) (session_of old) op).0 (system_state_of (session_view_with_files_view (later old.tree events tree.cache) files))) (sym (healthy_system old works))
-    (subst (λ m. IsSessionStep (record { disk = old.tree.disk; calls = old.tree.history; state = Healthy (session_of old) }) op (effect_of_operation (disk_summary_of_tree old.tree) (session_of old) op).0 m) (sym to)
-    (idle_step old.tree.disk old.tree.pairs (session_of old) (disk_summary_of_tree old.tree) op events old.tree.history (is_over old.tree old.files (sound works)) (not_refused old op e) other
+    subst (λ t. IsSessionStep (system_state_of_session_view old) op (effect_of_operation (disk_summary_of_tree old.tree) (session_of_session_view old) op).0 (system_state_of_session_view (session_view_of_tree_and_files_view t files))) (sym (asked_later old.tree tree asked))
+    (subst (λ m. IsSessionStep m op (effect_of_operation (disk_summary_of_tree old.tree) (session_of_session_view old) op).0 (system_state_of_session_view (session_view_of_tree_and_files_view (later old.tree events tree.cache) files))) (sym (healthy_system old works))
+    (subst (λ m. IsSessionStep (record { disk = old.tree.disk; calls = old.tree.history; state = Healthy (session_of_session_view old) }) op (effect_of_operation (disk_summary_of_tree old.tree) (session_of_session_view old) op).0 m) (sym to)
+    (idle_step old.tree.disk old.tree.pairs (session_of_session_view old) (disk_summary_of_tree old.tree) op events old.tree.history (is_over old.tree old.files (sound works)) (not_refused old op e) other
     (ap (λ (s : Session). s.tree) same) none still (reads_write_nothing old.tree.disk.blocks events asked.reads.each) silent)))
 
 -- by reads alone
-pub asked_answer : (old : SessionView) (op : Operation) (tree : TreeState) (files : Files) → (old.tree.failed ≡ false → IsSoundTreeState old.tree) → (asked : WasTreeOnlyRead old.tree tree) → refusal_by_checks old op ≡ None →
-    is_remount_operation op ≡ false → is_read_only_operation (session_of old) op ≡ true → (effect_of_operation (disk_summary_of_tree old.tree) (session_of old) op).1 ≡ record { tree = tree_view old.tree; files = files } →
-    recovers op ≡ false → changes_slot_layout (session_of old) op ≡ false → (needs_no_device_call (session_of old) op ≡ true → asked.reads.events ≡ []) →
-    IsSessionStep (system_state_of old) op (effect_of_operation (disk_summary_of_tree old.tree) (session_of old) op).0 (system_state_of (session_view_with_files_view tree files))
+pub asked_answer : (old : SessionView) (op : Operation) (tree : TreeState) (files : OpenFilesByNumber) → (old.tree.failed ≡ false → IsSoundTreeState old.tree) → (asked : WasTreeOnlyRead old.tree tree) → refusal_by_checks old op ≡ None →
+    is_remount_operation op ≡ false → is_read_only_operation (session_of_session_view old) op ≡ true → (effect_of_operation (disk_summary_of_tree old.tree) (session_of_session_view old) op).1 ≡ record { tree = tree_view old.tree; files = files } →
+    operation_recovers_first op ≡ false → edits_slots_in_pairs (session_of_session_view old) op ≡ false → (needs_no_device_call (session_of_session_view old) op ≡ true → asked.reads.events ≡ []) →
+    IsSessionStep (system_state_of_session_view old) op (effect_of_operation (disk_summary_of_tree old.tree) (session_of_session_view old) op).0 (system_state_of_session_view (session_view_of_tree_and_files_view tree files))
 unfolding later
 asked_answer old op tree files sound asked e other asks same none still silent =
     let works = not_failed old op e in
     let events = asked.reads.events in
-    let to = healthy_system (session_view_with_files_view (later old.tree events tree.cache) files) works
+    let to = healthy_system (session_view_of_tree_and_files_view (later old.tree events tree.cache) files) works
     ∙ ap (λ (s : Session). record { disk = old.tree.disk; calls = events ++ old.tree.history; state = Healthy s }) (sym same) in
-    subst (λ t. IsSessionStep (system_state_of old) op (effect_of_operation (disk_summary_of_tree old.tree) (session_of old) op).0 (system_state_of (session_view_with_files_view t files))) (sym (asked_later old.tree tree asked))
-    (subst (λ m. IsSessionStep m op (effect_of_operation (disk_summary_of_tree old.tree) (session_of old) op).0 (system_state_of (session_view_with_files_view (later old.tree events tree.cache) files))) (sym (healthy_system old works))
-    (subst (λ m. IsSessionStep (record { disk = old.tree.disk; calls = old.tree.history; state = Healthy (session_of old) }) op (effect_of_operation (disk_summary_of_tree old.tree) (session_of old) op).0 m) (sym to)
-    (asked_step old.tree.disk old.tree.pairs (session_of old) (disk_summary_of_tree old.tree) op events old.tree.history (is_over old.tree old.files (sound works)) (not_refused old op e) other asks
+    subst (λ t. IsSessionStep (system_state_of_session_view old) op (effect_of_operation (disk_summary_of_tree old.tree) (session_of_session_view old) op).0 (system_state_of_session_view (session_view_of_tree_and_files_view t files))) (sym (asked_later old.tree tree asked))
+    (subst (λ m. IsSessionStep m op (effect_of_operation (disk_summary_of_tree old.tree) (session_of_session_view old) op).0 (system_state_of_session_view (session_view_of_tree_and_files_view (later old.tree events tree.cache) files))) (sym (healthy_system old works))
+    (subst (λ m. IsSessionStep (record { disk = old.tree.disk; calls = old.tree.history; state = Healthy (session_of_session_view old) }) op (effect_of_operation (disk_summary_of_tree old.tree) (session_of_session_view old) op).0 m) (sym to)
+    (asked_step old.tree.disk old.tree.pairs (session_of_session_view old) (disk_summary_of_tree old.tree) op events old.tree.history (is_over old.tree old.files (sound works)) (not_refused old op e) other asks
     (ap (λ (s : Session). s.tree) same) none still (reads_write_nothing old.tree.disk.blocks events asked.reads.each) silent)))
 
 -- the tree carries it out
-pub carried_answer : (old : SessionView) (op : Operation) (mid new : TreeState) (files : Files) → (old.tree.failed ≡ false → IsSoundTreeState old.tree) → WasTreeOnlyRead old.tree mid → refusal_by_checks old op ≡ None →
-    IsOperationAppliedToTree mid op new → is_remount_operation op ≡ false → is_read_only_operation (session_of old) op ≡ false → is_write_or_truncate op ≡ false → opens_existing_file (session_of old) op ≡ false → needs_no_device_call (session_of old) op ≡ false →
-    (effect_of_operation (disk_summary_of_tree old.tree) (session_of old) op).1.files ≡ files →
-    IsSessionStep (system_state_of old) op (effect_of_operation (disk_summary_of_tree old.tree) (session_of old) op).0 (system_state_of (session_view_with_files_view new files))
+pub carried_answer : (old : SessionView) (op : Operation) (mid new : TreeState) (files : OpenFilesByNumber) → (old.tree.failed ≡ false → IsSoundTreeState old.tree) → WasTreeOnlyRead old.tree mid → refusal_by_checks old op ≡ None →
+    IsOperationAppliedToTree mid op new → is_remount_operation op ≡ false → is_read_only_operation (session_of_session_view old) op ≡ false → is_write_or_truncate op ≡ false → opens_existing_file (session_of_session_view old) op ≡ false → needs_no_device_call (session_of_session_view old) op ≡ false →
+    (effect_of_operation (disk_summary_of_tree old.tree) (session_of_session_view old) op).1.files ≡ files →
+    IsSessionStep (system_state_of_session_view old) op (effect_of_operation (disk_summary_of_tree old.tree) (session_of_session_view old) op).0 (system_state_of_session_view (session_view_of_tree_and_files_view new files))
 unfolding later
 carried_answer old op mid new files sound asked e carried other asks fill creates silent opened =
     let works = not_failed old op e in
     let events = asked.reads.events in
     let c = subst (λ t. IsOperationAppliedToTree t op new) (asked_later old.tree mid asked) carried in
-    let is : record { tree = tree_view new; files = files } ≡ (effect_of_operation (disk_summary_of_tree old.tree) (session_of old) op).1 = ap₂ (λ t f. record { tree = t; files = f }) (c.shows (disk_summary_of_tree old.tree) old.files) (sym opened) in
-    let to = healthy_system (session_view_with_files_view new files) c.works
-    ∙ ap₂ (λ (calls : List CallEvent) (s : Session). record { disk = new.disk; calls = calls; state = Healthy s }) (c.called ∙ sym (append_assoc c.calls events old.tree.history)) is in
+    let is : record { tree = tree_view new; files = files } ≡ (effect_of_operation (disk_summary_of_tree old.tree) (session_of_session_view old) op).1 = ap₂ (λ t f. record { tree = t; files = f }) (c.shows (disk_summary_of_tree old.tree) old.files) (sym opened) in
+    let to = healthy_system (session_view_of_tree_and_files_view new files) c.works
+    ∙ ap₂ (λ (calls : List DeviceCallEvent) (s : Session). record { disk = new.disk; calls = calls; state = Healthy s }) (c.called ∙ sym (append_assoc c.calls events old.tree.history)) is in
     let writes = reads_write_nothing old.tree.disk.blocks events asked.reads.each in
-    subst (λ m. IsSessionStep m op (effect_of_operation (disk_summary_of_tree old.tree) (session_of old) op).0 (system_state_of (session_view_with_files_view new files))) (sym (healthy_system old works))
-    (subst (λ m. IsSessionStep (record { disk = old.tree.disk; calls = old.tree.history; state = Healthy (session_of old) }) op (effect_of_operation (disk_summary_of_tree old.tree) (session_of old) op).0 m) (sym to)
-    (completed_step old.tree.disk old.tree.pairs (session_of old) (disk_summary_of_tree old.tree) op new.disk new.pairs (c.calls ++ events) old.tree.history (is_over old.tree old.files (sound works)) (not_refused old op e)
+    subst (λ m. IsSessionStep m op (effect_of_operation (disk_summary_of_tree old.tree) (session_of_session_view old) op).0 (system_state_of_session_view (session_view_of_tree_and_files_view new files))) (sym (healthy_system old works))
+    (subst (λ m. IsSessionStep (record { disk = old.tree.disk; calls = old.tree.history; state = Healthy (session_of_session_view old) }) op (effect_of_operation (disk_summary_of_tree old.tree) (session_of_session_view old) op).0 m) (sym to)
+    (completed_step old.tree.disk old.tree.pairs (session_of_session_view old) (disk_summary_of_tree old.tree) op new.disk new.pairs (c.calls ++ events) old.tree.history (is_over old.tree old.files (sound works)) (not_refused old op e)
     (record {
       geometry = c.geometry;
       other = other;
@@ -156,23 +156,23 @@ carried_answer old op mid new files sound asked e carried other asks fill create
 
 -- checks that ended in an error
 pub ended : (old : SessionView) (op : Operation) (e : Error) (tree : TreeState) → (old.tree.failed ≡ false → IsSoundTreeState old.tree) → is_remount_operation op ≡ false → EndsChecksWithError (is_refusal e) old op e tree →
-    IsSessionStepOrFailure old op (cond (is_refusal e) (Ok (ops.Refused (refusal_of_error e))) (Err e)) (session_view_with_files_view tree old.files)
+    IsSessionStepOrFailure old op (cond (is_refusal e) (Ok (ops.Refused (refusal_of_error e))) (Err e)) (session_view_of_tree_and_files_view tree old.files)
 ended old op e tree sound other h = go (is_refusal e) h
   where
-    go : (b : Bool) → EndsChecksWithError b old op e tree → IsSessionStepOrFailure old op (cond b (Ok (ops.Refused (refusal_of_error e))) (Err e)) (session_view_with_files_view tree old.files)
+    go : (b : Bool) → EndsChecksWithError b old op e tree → IsSessionStepOrFailure old op (cond b (Ok (ops.Refused (refusal_of_error e))) (Err e)) (session_view_of_tree_and_files_view tree old.files)
     go true k = refused_answer old op (refusal_of_error e) tree sound other k.0 k.1
     go false k = asking_fails e old op tree old.files k.1 k.0 k.2
 
 -- the same of a call that gives the error on
 pub ended_call : {B : Type 0} (old now : SessionView) (op : Operation) (reply : B → Reply) (e : Error) (tree : TreeState) (r : Result B Error) → old ≡ now → (old.tree.failed ≡ false → IsSoundTreeState old.tree) →
-    is_remount_operation op ≡ false → EndsChecksWithError (is_refusal e) old op e tree → r ≡ Err e → IsSessionStepOrFailure now op (reply_from_result reply r) (session_view_with_files_view tree old.files)
+    is_remount_operation op ≡ false → EndsChecksWithError (is_refusal e) old op e tree → r ≡ Err e → IsSessionStepOrFailure now op (reply_from_result reply r) (session_view_of_tree_and_files_view tree old.files)
 ended_call old now op reply e tree r same sound other h is =
-    subst (λ z. IsSessionStepOrFailure z op (reply_from_result reply r) (session_view_with_files_view tree old.files)) same
-    (subst (λ z. IsSessionStepOrFailure old op (reply_from_result reply z) (session_view_with_files_view tree old.files)) (sym is) (ended old op e tree sound other h))
+    subst (λ z. IsSessionStepOrFailure z op (reply_from_result reply r) (session_view_of_tree_and_files_view tree old.files)) same
+    (subst (λ z. IsSessionStepOrFailure old op (reply_from_result reply z) (session_view_of_tree_and_files_view tree old.files)) (sym is) (ended old op e tree sound other h))
 
 -- ---- questions
 
-pub question_only_asks : (s : Session) (op : Operation) → is_query_without_file op ≡ true → is_read_only_operation s op ≡ true
+pub question_only_asks : (s : Session) (op : Operation) → is_query_needing_no_open_file op ≡ true → is_read_only_operation s op ≡ true
 question_only_asks s (ops.ListAll path) e = refl
 question_only_asks s (ops.Stat path) e = refl
 question_only_asks s (ops.GetAttr path kind) e = refl
@@ -181,7 +181,7 @@ question_only_asks s (ops.IsUsed block) e = refl
 question_only_asks s ops.UsedCount e = refl
 question_only_asks s _ e = absurd (cc)
 
-pub question_keeps : (around : DiskSummary) (s : Session) (op : Operation) → is_query_without_file op ≡ true → (effect_of_operation around s op).1 ≡ s
+pub question_keeps : (around : DiskSummary) (s : Session) (op : Operation) → is_query_needing_no_open_file op ≡ true → (effect_of_operation around s op).1 ≡ s
 question_keeps around s (ops.ListAll path) e = refl
 question_keeps around s (ops.Stat path) e = refl
 question_keeps around s (ops.GetAttr path kind) e = refl
@@ -190,7 +190,7 @@ question_keeps around s (ops.IsUsed block) e = refl
 question_keeps around s ops.UsedCount e = refl
 question_keeps around s _ e = absurd (cc)
 
-pub question_recovers_nothing : (op : Operation) → is_query_without_file op ≡ true → recovers op ≡ false
+pub question_recovers_nothing : (op : Operation) → is_query_needing_no_open_file op ≡ true → operation_recovers_first op ≡ false
 question_recovers_nothing (ops.ListAll path) e = refl
 question_recovers_nothing (ops.Stat path) e = refl
 question_recovers_nothing (ops.GetAttr path kind) e = refl
@@ -199,7 +199,7 @@ question_recovers_nothing (ops.IsUsed block) e = refl
 question_recovers_nothing ops.UsedCount e = refl
 question_recovers_nothing _ e = absurd (cc)
 
-pub question_lays_nothing : (s : Session) (op : Operation) → is_query_without_file op ≡ true → changes_slot_layout s op ≡ false
+pub question_lays_nothing : (s : Session) (op : Operation) → is_query_needing_no_open_file op ≡ true → edits_slots_in_pairs s op ≡ false
 question_lays_nothing s (ops.ListAll path) e = refl
 question_lays_nothing s (ops.Stat path) e = refl
 question_lays_nothing s (ops.GetAttr path kind) e = refl
@@ -210,12 +210,12 @@ question_lays_nothing s _ e = absurd (cc)
 
 -- a question that reads alone answer
 pub question_answers : {A : Type 0} (old : SessionView) (op : Operation) (reply : A → Reply) (P : A → Type 0) (checked : Result A Error) (tree : TreeState) → (old.tree.failed ≡ false → IsSoundTreeState old.tree) →
-    is_query_without_file op ≡ true → needs_no_device_call (session_of old) op ≡ false → ((x : A) → P x → reply x ≡ (effect_of_operation (disk_summary_of_tree old.tree) (session_of old) op).0) →
-    ChecksOperation old op P checked tree → IsSessionStepOrFailure old op (reply_from_result reply checked) (session_view_with_files_view tree old.files)
+    is_query_needing_no_open_file op ≡ true → needs_no_device_call (session_of_session_view old) op ≡ false → ((x : A) → P x → reply x ≡ (effect_of_operation (disk_summary_of_tree old.tree) (session_of_session_view old) op).0) →
+    IsResultOfOperationChecks old op P checked tree → IsSessionStepOrFailure old op (reply_from_result reply checked) (session_view_of_tree_and_files_view tree old.files)
 question_answers old op reply P (Err e) tree sound asks silent answer h = ended old op e tree sound (not_remount op asks) h
 question_answers old op reply P (Ok x) tree sound asks silent answer h =
-    subst (λ r. IsSessionStep (system_state_of old) op r (system_state_of (session_view_with_files_view tree old.files))) (sym (answer x h.2))
-    (asked_answer old op tree old.files sound h.0 h.1 (not_remount op asks) (question_only_asks (session_of old) op asks) (question_keeps (disk_summary_of_tree old.tree) (session_of old) op asks) (question_recovers_nothing op asks) (question_lays_nothing (session_of old) op asks) (λ k. absurd (let l = sym silent ∙ k in cc)))
+    subst (λ r. IsSessionStep (system_state_of_session_view old) op r (system_state_of_session_view (session_view_of_tree_and_files_view tree old.files))) (sym (answer x h.2))
+    (asked_answer old op tree old.files sound h.0 h.1 (not_remount op asks) (question_only_asks (session_of_session_view old) op asks) (question_keeps (disk_summary_of_tree old.tree) (session_of_session_view old) op asks) (question_recovers_nothing op asks) (question_lays_nothing (session_of_session_view old) op asks) (λ k. absurd (let l = sym silent ∙ k in cc)))
 
 pub sound_later : (old new : TreeState) → IsSoundTreeState old → WasTreeOnlyRead old new → IsSoundTreeState new
 sound_later old new h asked =
@@ -224,7 +224,7 @@ sound_later old new h asked =
     again : IsSoundTreeState old → IsSoundTreeState (record old { history = new.history; cache = new.cache })
     again h = record { accepted = h.accepted; fits = h.fits; is_kept = h.is_kept; used = h.used; size = h.size }
 
-unsaved_later : (t : TreeState) (history : List CallEvent) (cache : CachedBlocks) (w : Writer) (u : Option UnsavedContents) → AreUnsavedContentsIfSome t w u → AreUnsavedContentsIfSome (record t { history = history; cache = cache }) w u
+unsaved_later : (t : TreeState) (history : List DeviceCallEvent) (cache : CachedBlocks) (w : Writer) (u : Option UnsavedContents) → AreOptionalUnsavedContentsOfWriter t w u → AreOptionalUnsavedContentsOfWriter (record t { history = history; cache = cache }) w u
 unsaved_later t history cache w None h = tt
 unsaved_later t history cache w (Some u) h = record {
   over = record {
@@ -237,15 +237,15 @@ unsaved_later t history cache w (Some u) h = record {
   room = h.room;
 }
 
-written_later : (t : TreeState) (history : List CallEvent) (cache : CachedBlocks) (ws : List Writer) → AllByRecursion (IsWriterOverWritableImage t) ws → AllByRecursion (IsWriterOverWritableImage (record t { history = history; cache = cache })) ws
+written_later : (t : TreeState) (history : List DeviceCallEvent) (cache : CachedBlocks) (ws : List Writer) → AllByRecursion (IsWriterOverWritableImage t) ws → AllByRecursion (IsWriterOverWritableImage (record t { history = history; cache = cache })) ws
 written_later t history cache [] h = h
 written_later t history cache (w ∷ ws) h = (record { writable = h.0.writable; settled = h.0.settled; there = h.0.there; size = same w.unsaved (h.0.size); changed = unsaved_later t history cache w w.unsaved h.0.changed }, written_later t history cache ws h.1)
   where
-    same : (u : Option UnsavedContents) → length (bytes_of_writer_at_path t w.path u) ≡ w.size → length (bytes_of_writer_at_path (record t { history = history; cache = cache }) w.path u) ≡ w.size
+    same : (u : Option UnsavedContents) → length (unsaved_or_tree_bytes_of_writer t w.path u) ≡ w.size → length (unsaved_or_tree_bytes_of_writer (record t { history = history; cache = cache }) w.path u) ≡ w.size
     same None e = e
     same (Some u) e = e
 
-pub ready_later : (old new : TreeState) (files : OpenFiles) → IsSessionReadyForCalls old files → WasTreeOnlyRead old new → IsSessionReadyForCalls new files
+pub ready_later : (old new : TreeState) (files : RuntimeOpenFilesByNumber) → IsSessionReadyForCalls old files → WasTreeOnlyRead old new → IsSessionReadyForCalls new files
 ready_later old new files h asked =
     subst (λ t. IsSessionReadyForCalls t files) (sym asked.same) (again h)
   where
@@ -259,14 +259,14 @@ ready_later old new files h asked =
       read = h.read;
     }
 
-pub asked_ready : (old new : TreeState) (files : OpenFiles) → (old.failed ≡ false → IsSessionReadyForCalls old files) → WasTreeOnlyRead old new → new.failed ≡ false → IsSessionReadyForCalls new files
+pub asked_ready : (old new : TreeState) (files : RuntimeOpenFilesByNumber) → (old.failed ≡ false → IsSessionReadyForCalls old files) → WasTreeOnlyRead old new → new.failed ≡ false → IsSessionReadyForCalls new files
 asked_ready old new files ready asked f = ready_later old new files (ready (sym (ap (λ (t : TreeState). t.failed) asked.same) ∙ f)) asked
 
-pub sound_by : (t : TreeState) (files : OpenFiles) → (t.failed ≡ false → IsSessionReadyForCalls t files) → t.failed ≡ false → IsSoundTreeState t
+pub sound_by : (t : TreeState) (files : RuntimeOpenFilesByNumber) → (t.failed ≡ false → IsSessionReadyForCalls t files) → t.failed ≡ false → IsSoundTreeState t
 sound_by t files ready f = (ready f).sound
 
 -- the checks leave a tree that is ready, or a broken one
-pub checked_ready : {A : Type 0} (t : TreeState) (files : OpenFiles) (op : Operation) (P : A → Type 0) (r : Result A Error) (tree : TreeState) → (t.failed ≡ false → IsSessionReadyForCalls t files) → ChecksOperation (session_view_of_tree_and_files t files) op P r tree →
+pub checked_ready : {A : Type 0} (t : TreeState) (files : RuntimeOpenFilesByNumber) (op : Operation) (P : A → Type 0) (r : Result A Error) (tree : TreeState) → (t.failed ≡ false → IsSessionReadyForCalls t files) → IsResultOfOperationChecks (session_view_of_tree_and_files t files) op P r tree →
     tree.failed ≡ false → IsSessionReadyForCalls tree files
 checked_ready t files op P (Ok x) tree ready h f = asked_ready t tree files ready h.0 f
 checked_ready t files op P (Err e) tree ready h f = go (is_refusal e) h
@@ -278,21 +278,21 @@ checked_ready t files op P (Err e) tree ready h f = go (is_refusal e) h
 -- ---- the open files over a tree that was only asked
 
 -- a session that failed has no files
-pub with_files : (old : SessionView) (op : Operation) (r : Result Reply Error) (tree : TreeState) (f g : Files) → (tree.failed ≡ false → f ≡ g) → IsSessionStepOrFailure old op r (session_view_with_files_view tree f) → IsSessionStepOrFailure old op r (session_view_with_files_view tree g)
+pub with_files : (old : SessionView) (op : Operation) (r : Result Reply Error) (tree : TreeState) (f g : OpenFilesByNumber) → (tree.failed ≡ false → f ≡ g) → IsSessionStepOrFailure old op r (session_view_of_tree_and_files_view tree f) → IsSessionStepOrFailure old op r (session_view_of_tree_and_files_view tree g)
 with_files old op r tree f g same h = go tree.failed refl
   where
-    moved : (r : Result Reply Error) → system_state_of (session_view_with_files_view tree f) ≡ system_state_of (session_view_with_files_view tree g) → IsSessionStepOrFailure old op r (session_view_with_files_view tree f) → IsSessionStepOrFailure old op r (session_view_with_files_view tree g)
-    moved (Ok reply) e k = subst (λ m. IsSessionStep (system_state_of old) op reply m) e k
-    moved (Err x) e k = subst (λ m. FailsByError x (system_state_of old) op m) e k
+    moved : (r : Result Reply Error) → system_state_of_session_view (session_view_of_tree_and_files_view tree f) ≡ system_state_of_session_view (session_view_of_tree_and_files_view tree g) → IsSessionStepOrFailure old op r (session_view_of_tree_and_files_view tree f) → IsSessionStepOrFailure old op r (session_view_of_tree_and_files_view tree g)
+    moved (Ok reply) e k = subst (λ m. IsSessionStep (system_state_of_session_view old) op reply m) e k
+    moved (Err x) e k = subst (λ m. SessionFailsByError x (system_state_of_session_view old) op m) e k
 
-    go : (b : Bool) → tree.failed ≡ b → IsSessionStepOrFailure old op r (session_view_with_files_view tree g)
-    go false e = subst (λ z. IsSessionStepOrFailure old op r (session_view_with_files_view tree z)) (same e) h
-    go true e = moved r (failed_system (session_view_with_files_view tree f) e ∙ sym (failed_system (session_view_with_files_view tree g) e)) h
+    go : (b : Bool) → tree.failed ≡ b → IsSessionStepOrFailure old op r (session_view_of_tree_and_files_view tree g)
+    go false e = subst (λ z. IsSessionStepOrFailure old op r (session_view_of_tree_and_files_view tree z)) (same e) h
+    go true e = moved r (failed_system (session_view_of_tree_and_files_view tree f) e ∙ sym (failed_system (session_view_of_tree_and_files_view tree g) e)) h
 
-pub files_asked : (old : SessionView) (op : Operation) (r : Result Reply Error) (t tree : TreeState) (files : OpenFiles) → (tree.failed ≡ false → WasTreeOnlyRead t tree) → IsSessionStepOrFailure old op r (session_view_with_files_view tree (open_files_view t files)) → IsSessionStepOrFailure old op r (session_view_of_tree_and_files tree files)
+pub files_asked : (old : SessionView) (op : Operation) (r : Result Reply Error) (t tree : TreeState) (files : RuntimeOpenFilesByNumber) → (tree.failed ≡ false → WasTreeOnlyRead t tree) → IsSessionStepOrFailure old op r (session_view_of_tree_and_files_view tree (open_files_view t files)) → IsSessionStepOrFailure old op r (session_view_of_tree_and_files tree files)
 files_asked old op r t tree files asked h = with_files old op r tree (open_files_view t files) (open_files_view tree files) (λ e. sym (ap (λ z. open_files_view z files) (asked e).same)) h
 
-pub asked_by_checks : {A : Type 0} (t : TreeState) (files : OpenFiles) (op : Operation) (P : A → Type 0) (r : Result A Error) (tree : TreeState) → ChecksOperation (session_view_of_tree_and_files t files) op P r tree → tree.failed ≡ false → WasTreeOnlyRead t tree
+pub asked_by_checks : {A : Type 0} (t : TreeState) (files : RuntimeOpenFilesByNumber) (op : Operation) (P : A → Type 0) (r : Result A Error) (tree : TreeState) → IsResultOfOperationChecks (session_view_of_tree_and_files t files) op P r tree → tree.failed ≡ false → WasTreeOnlyRead t tree
 asked_by_checks t files op P (Ok x) tree h f = h.0
 asked_by_checks t files op P (Err e) tree h f = go (is_refusal e) h
   where
@@ -305,38 +305,38 @@ no_refusal_io e (inl h) = ap is_refusal h
 no_refusal_io e (inr h) = ap is_refusal h
 
 -- an error that is no refusal
-pub error_answers : (old : SessionView) (op : Operation) (e : Error) (new : SessionView) (reply : Reply) → (e ≡ Io) ⊎ (e ≡ NoMemory) → FailsByError e (system_state_of old) op (system_state_of new) →
+pub error_answers : (old : SessionView) (op : Operation) (e : Error) (new : SessionView) (reply : Reply) → (e ≡ Io) ⊎ (e ≡ NoMemory) → SessionFailsByError e (system_state_of_session_view old) op (system_state_of_session_view new) →
     IsSessionStepOrFailure old op (cond (is_refusal e) (Ok reply) (Err e)) new
 error_answers old op e new reply is fails = subst (λ b. IsSessionStepOrFailure old op (cond b (Ok reply) (Err e)) new) (sym (no_refusal_io e is)) fails
 
 -- an operation that the tree carries out once no check refuses it
 pub done_answers : (K : Type 0) (old now : SessionView) (op : Operation) (mid new : TreeState) (r : Result (Unit {0}) Error) → old ≡ now → (old.tree.failed ≡ false → IsSoundTreeState old.tree) → WasTreeOnlyRead old.tree mid → refusal_by_checks old op ≡ None →
-    is_remount_operation op ≡ false → is_read_only_operation (session_of old) op ≡ false → is_write_or_truncate op ≡ false → opens_existing_file (session_of old) op ≡ false → needs_no_device_call (session_of old) op ≡ false →
-    (effect_of_operation (disk_summary_of_tree old.tree) (session_of old) op).0 ≡ ops.Done → (effect_of_operation (disk_summary_of_tree old.tree) (session_of old) op).1.files ≡ old.files → renames_to_itself op ≡ false → old.tree.writable ≡ true →
-    OnOk r K → (K → IsOperationAppliedToTree mid op new) → OnErr r (IsFailedTree mid new) → IfErr r (IsErrorWithCause mid new) → IsSessionStepOrFailure now op (reply_from_result (λ u. ops.Done) r) (session_view_with_files_view new old.files)
+    is_remount_operation op ≡ false → is_read_only_operation (session_of_session_view old) op ≡ false → is_write_or_truncate op ≡ false → opens_existing_file (session_of_session_view old) op ≡ false → needs_no_device_call (session_of_session_view old) op ≡ false →
+    (effect_of_operation (disk_summary_of_tree old.tree) (session_of_session_view old) op).0 ≡ ops.Done → (effect_of_operation (disk_summary_of_tree old.tree) (session_of_session_view old) op).1.files ≡ old.files → renames_to_itself op ≡ false → old.tree.writable ≡ true →
+    OnOk r K → (K → IsOperationAppliedToTree mid op new) → OnErr r (IsFailedTree mid new) → IfErr r (IsIoWithFaultOrNoMemory mid new) → IsSessionStepOrFailure now op (reply_from_result (λ u. ops.Done) r) (session_view_of_tree_and_files_view new old.files)
 done_answers K old now op mid new r is sound asked e other asks fill creates silent done files itself writable carried from broken errors =
-    subst (λ h. IsSessionStepOrFailure h op (reply_from_result (λ u. ops.Done) r) (session_view_with_files_view new old.files)) is (go r carried broken errors)
+    subst (λ h. IsSessionStepOrFailure h op (reply_from_result (λ u. ops.Done) r) (session_view_of_tree_and_files_view new old.files)) is (go r carried broken errors)
   where
-    go : (r : Result (Unit {0}) Error) → OnOk r K → OnErr r (IsFailedTree mid new) → IfErr r (IsErrorWithCause mid new) → IsSessionStepOrFailure old op (reply_from_result (λ u. ops.Done) r) (session_view_with_files_view new old.files)
+    go : (r : Result (Unit {0}) Error) → OnOk r K → OnErr r (IsFailedTree mid new) → IfErr r (IsIoWithFaultOrNoMemory mid new) → IsSessionStepOrFailure old op (reply_from_result (λ u. ops.Done) r) (session_view_of_tree_and_files_view new old.files)
     go (Ok u) k broken errors =
-        subst (λ r. IsSessionStep (system_state_of old) op r (system_state_of (session_view_with_files_view new old.files))) done (carried_answer old op mid new old.files sound asked e (from k) other asks fill creates silent files)
+        subst (λ r. IsSessionStep (system_state_of_session_view old) op r (system_state_of_session_view (session_view_of_tree_and_files_view new old.files))) done (carried_answer old op mid new old.files sound asked e (from k) other asks fill creates silent files)
     go (Err error) k broken errors =
         error_answers old op error _ (ops.Refused (refusal_of_error error)) errors.errors (broken_fails error old op mid new old.files (not_failed old op e) other asks itself (sound (not_failed old op e)) writable asked broken errors)
 
 -- a question's call
 pub question_call : {A : Type 0} (old now : SessionView) (op : Operation) (reply : A → Reply) (P : A → Type 0) (checked : Result A Error) (tree : TreeState) → old ≡ now →
-    (old.tree.failed ≡ false → IsSoundTreeState old.tree) → is_query_without_file op ≡ true → needs_no_device_call (session_of old) op ≡ false → ((x : A) → P x → reply x ≡ (effect_of_operation (disk_summary_of_tree old.tree) (session_of old) op).0) →
-    ChecksOperation old op P checked tree → IsSessionStepOrFailure now op (reply_from_result reply checked) (session_view_with_files_view tree old.files)
+    (old.tree.failed ≡ false → IsSoundTreeState old.tree) → is_query_needing_no_open_file op ≡ true → needs_no_device_call (session_of_session_view old) op ≡ false → ((x : A) → P x → reply x ≡ (effect_of_operation (disk_summary_of_tree old.tree) (session_of_session_view old) op).0) →
+    IsResultOfOperationChecks old op P checked tree → IsSessionStepOrFailure now op (reply_from_result reply checked) (session_view_of_tree_and_files_view tree old.files)
 question_call old now op reply P checked tree same sound asks silent answer h =
-    subst (λ z. IsSessionStepOrFailure z op (reply_from_result reply checked) (session_view_with_files_view tree old.files)) same (question_answers old op reply P checked tree sound asks silent answer h)
+    subst (λ z. IsSessionStepOrFailure z op (reply_from_result reply checked) (session_view_of_tree_and_files_view tree old.files)) same (question_answers old op reply P checked tree sound asks silent answer h)
 
 -- an operation by reads alone that changes the open files
-pub files_answers : (old now : SessionView) (op : Operation) (tree : TreeState) (files : Files) (reply : Reply) → old ≡ now → (old.tree.failed ≡ false → IsSoundTreeState old.tree) → WasTreeOnlyRead old.tree tree → refusal_by_checks old op ≡ None →
-    is_remount_operation op ≡ false → is_read_only_operation (session_of old) op ≡ true → recovers op ≡ false → changes_slot_layout (session_of old) op ≡ false → needs_no_device_call (session_of old) op ≡ false →
-    effect_of_operation (disk_summary_of_tree old.tree) (session_of old) op ≡ (reply, record { tree = tree_view old.tree; files = files }) → IsSessionStepOrFailure now op (Ok reply) (session_view_with_files_view tree files)
+pub files_answers : (old now : SessionView) (op : Operation) (tree : TreeState) (files : OpenFilesByNumber) (reply : Reply) → old ≡ now → (old.tree.failed ≡ false → IsSoundTreeState old.tree) → WasTreeOnlyRead old.tree tree → refusal_by_checks old op ≡ None →
+    is_remount_operation op ≡ false → is_read_only_operation (session_of_session_view old) op ≡ true → operation_recovers_first op ≡ false → edits_slots_in_pairs (session_of_session_view old) op ≡ false → needs_no_device_call (session_of_session_view old) op ≡ false →
+    effect_of_operation (disk_summary_of_tree old.tree) (session_of_session_view old) op ≡ (reply, record { tree = tree_view old.tree; files = files }) → IsSessionStepOrFailure now op (Ok reply) (session_view_of_tree_and_files_view tree files)
 files_answers old now op tree files reply same sound asked e other asks none still silent is =
-    subst (λ z. IsSessionStepOrFailure z op (Ok reply) (session_view_with_files_view tree files)) same
-    (subst (λ r. IsSessionStep (system_state_of old) op r (system_state_of (session_view_with_files_view tree files))) (ap (λ (z : Reply × Session). z.0) is)
+    subst (λ z. IsSessionStepOrFailure z op (Ok reply) (session_view_of_tree_and_files_view tree files)) same
+    (subst (λ r. IsSessionStep (system_state_of_session_view old) op r (system_state_of_session_view (session_view_of_tree_and_files_view tree files))) (ap (λ (z : Reply × Session). z.0) is)
     (asked_answer old op tree files sound asked e other asks (ap (λ (z : Reply × Session). z.1) is) none still (λ k. absurd (let l = sym silent ∙ k in cc))))
 
 abbrev pub nothing_asked : (t : TreeState) → WasTreeOnlyRead t t
@@ -351,61 +351,61 @@ ended_kept old now op reply e r same sound other h is =
     (ended old op e old.tree sound other (subst (λ b. EndsChecksWithError b old op e old.tree) (sym h.0) (nothing_asked old.tree, h.1, λ k. refl))))
 
 -- an operation without a call that changes the open files
-pub files_kept : (old now : SessionView) (op : Operation) (files : Files) (reply : Reply) → old ≡ now → (old.tree.failed ≡ false → IsSoundTreeState old.tree) → refusal_by_checks old op ≡ None →
-    is_remount_operation op ≡ false → is_read_only_operation (session_of old) op ≡ true → recovers op ≡ false → changes_slot_layout (session_of old) op ≡ false → needs_no_device_call (session_of old) op ≡ false →
-    effect_of_operation (disk_summary_of_tree old.tree) (session_of old) op ≡ (reply, record { tree = tree_view old.tree; files = files }) → IsSessionStepOrFailure now op (Ok reply) (session_view_with_files_view old.tree files)
+pub files_kept : (old now : SessionView) (op : Operation) (files : OpenFilesByNumber) (reply : Reply) → old ≡ now → (old.tree.failed ≡ false → IsSoundTreeState old.tree) → refusal_by_checks old op ≡ None →
+    is_remount_operation op ≡ false → is_read_only_operation (session_of_session_view old) op ≡ true → operation_recovers_first op ≡ false → edits_slots_in_pairs (session_of_session_view old) op ≡ false → needs_no_device_call (session_of_session_view old) op ≡ false →
+    effect_of_operation (disk_summary_of_tree old.tree) (session_of_session_view old) op ≡ (reply, record { tree = tree_view old.tree; files = files }) → IsSessionStepOrFailure now op (Ok reply) (session_view_of_tree_and_files_view old.tree files)
 files_kept old now op files reply same sound e = files_answers old now op old.tree files reply same sound (nothing_asked old.tree) e
 
 -- a file opened for reading
-pub reader_answers : (old now : SessionView) (bytes : List ℕ) (flags : Flags) (tree : TreeState) (files : Files) (r : Result ℕ Error) → old ≡ now → (old.tree.failed ≡ false → IsSoundTreeState old.tree) → flags.write ≡ false →
-    WasTreeOnlyRead old.tree tree → refusal_by_checks old (ops.Open bytes flags) ≡ None → is_none (tree_view old.tree (path_or_root bytes)) ≡ false →
-    false ≡ is_err r → IfOk r (λ fd. fd ≡ free_file_number old.files) → OnOk r (files ≡ put_file old.files (free_file_number old.files) (Some (Reading (record { path = path_or_root bytes; position = 0 })))) →
-    IsSessionStepOrFailure now (ops.Open bytes flags) (reply_from_result ops.Opened r) (session_view_with_files_view tree files)
+pub reader_answers : (old now : SessionView) (bytes : List ℕ) (flags : FlagsOfOpen) (tree : TreeState) (files : OpenFilesByNumber) (r : Result ℕ Error) → old ≡ now → (old.tree.failed ≡ false → IsSoundTreeState old.tree) → flags.write ≡ false →
+    WasTreeOnlyRead old.tree tree → refusal_by_checks old (ops.Open bytes flags) ≡ None → is_none (tree_view old.tree (path_of_bytes_or_root bytes)) ≡ false →
+    false ≡ is_err r → IfOk r (λ fd. fd ≡ free_file_number old.files) → OnOk r (files ≡ open_files_with_file_at_number old.files (free_file_number old.files) (Some (Reading (record { path = path_of_bytes_or_root bytes; position = 0 })))) →
+    IsSessionStepOrFailure now (ops.Open bytes flags) (reply_from_result ops.Opened r) (session_view_of_tree_and_files_view tree files)
 reader_answers old now bytes flags tree files (Err e) same sound write asked e' there ok number added = absurd (cc)
 reader_answers old now bytes flags tree files (Ok fd) same sound write asked e there ok number added =
     files_answers old now (ops.Open bytes flags) tree files (ops.Opened fd) same sound asked e refl (ap not write) write write refl
     (ap₂ (λ n s. (ops.Opened n, s)) (sym number) (ap₂ (λ t f. record { tree = t; files = f }) kept (sym brought)))
   where
-    kept : (if is_none (tree_view old.tree (path_or_root bytes)) then add_file (path_or_root bytes) (FileNode [] []) (tree_view old.tree) else tree_view old.tree) ≡ tree_view old.tree
-    kept = ap (λ b. if b then add_file (path_or_root bytes) (FileNode [] []) (tree_view old.tree) else tree_view old.tree) there
+    kept : (if is_none (tree_view old.tree (path_of_bytes_or_root bytes)) then add_file (path_of_bytes_or_root bytes) (FileNode [] []) (tree_view old.tree) else tree_view old.tree) ≡ tree_view old.tree
+    kept = ap (λ b. if b then add_file (path_of_bytes_or_root bytes) (FileNode [] []) (tree_view old.tree) else tree_view old.tree) there
 
-    brought : files ≡ put_file old.files (free_file_number old.files) (Some (if flags.write then Writing (writer_after_open (path_or_root bytes) flags (bytes_at (tree_view old.tree (path_or_root bytes)))) else Reading (record { path = path_or_root bytes; position = 0 })))
+    brought : files ≡ open_files_with_file_at_number old.files (free_file_number old.files) (Some (if flags.write then Writing (writer_after_open (path_of_bytes_or_root bytes) flags (file_bytes_of_node (tree_view old.tree (path_of_bytes_or_root bytes)))) else Reading (record { path = path_of_bytes_or_root bytes; position = 0 })))
     brought = added
-        ∙ ap (λ b. put_file old.files (free_file_number old.files) (Some (if b then Writing (writer_after_open (path_or_root bytes) flags (bytes_at (tree_view old.tree (path_or_root bytes)))) else Reading (record { path = path_or_root bytes; position = 0 })))) (sym write)
+        ∙ ap (λ b. open_files_with_file_at_number old.files (free_file_number old.files) (Some (if b then Writing (writer_after_open (path_of_bytes_or_root bytes) flags (file_bytes_of_node (tree_view old.tree (path_of_bytes_or_root bytes)))) else Reading (record { path = path_of_bytes_or_root bytes; position = 0 })))) (sym write)
 
 -- no memory is found for it
-pub reader_fails : (old now : SessionView) (bytes : List ℕ) (flags : Flags) (tree left : TreeState) (files : Files) (r : Result ℕ Error) → old ≡ now → WasTreeOnlyRead old.tree tree → refusal_by_checks old (ops.Open bytes flags) ≡ None →
-    true ≡ is_err r → IfErr r (λ e. e ≡ NoMemory) → left ≡ record tree { failed = true } → IsSessionStepOrFailure now (ops.Open bytes flags) (reply_from_result ops.Opened r) (session_view_with_files_view left files)
+pub reader_fails : (old now : SessionView) (bytes : List ℕ) (flags : FlagsOfOpen) (tree left : TreeState) (files : OpenFilesByNumber) (r : Result ℕ Error) → old ≡ now → WasTreeOnlyRead old.tree tree → refusal_by_checks old (ops.Open bytes flags) ≡ None →
+    true ≡ is_err r → IfErr r (λ e. e ≡ NoMemory) → left ≡ record tree { failed = true } → IsSessionStepOrFailure now (ops.Open bytes flags) (reply_from_result ops.Opened r) (session_view_of_tree_and_files_view left files)
 reader_fails old now bytes flags tree left files (Ok fd) same asked e ok error is = absurd (cc)
 reader_fails old now bytes flags tree left files (Err x) same asked e ok error is =
-    subst (λ z. IsSessionStepOrFailure z (ops.Open bytes flags) (cond (is_refusal x) (Ok (ops.Refused (refusal_of_error x))) (Err x)) (session_view_with_files_view left files)) same
-    (subst (λ z. IsSessionStepOrFailure old (ops.Open bytes flags) (cond (is_refusal z) (Ok (ops.Refused (refusal_of_error z))) (Err z)) (session_view_with_files_view left files)) (sym error)
-    (subst (λ t. FailsByError NoMemory (system_state_of old) (ops.Open bytes flags) (system_state_of (session_view_with_files_view t files))) (sym is)
+    subst (λ z. IsSessionStepOrFailure z (ops.Open bytes flags) (cond (is_refusal x) (Ok (ops.Refused (refusal_of_error x))) (Err x)) (session_view_of_tree_and_files_view left files)) same
+    (subst (λ z. IsSessionStepOrFailure old (ops.Open bytes flags) (cond (is_refusal z) (Ok (ops.Refused (refusal_of_error z))) (Err z)) (session_view_of_tree_and_files_view left files)) (sym error)
+    (subst (λ t. SessionFailsByError NoMemory (system_state_of_session_view old) (ops.Open bytes flags) (system_state_of_session_view (session_view_of_tree_and_files_view t files))) (sym is)
     (memory_fails old (ops.Open bytes flags) tree files (not_failed old (ops.Open bytes flags) e) asked)))
 
 pub few_readers : (n : ℕ) → nat_le 16 n ≡ false → n < 16
 few_readers n e = grind (arith, nat_tests)
 
 -- an operation that makes no call and leaves the tree
-pub kept_answer : (old now : SessionView) (op : Operation) (files : Files) (reply : Reply) → old ≡ now → (old.tree.failed ≡ false → IsSoundTreeState old.tree) → refusal_by_checks old op ≡ None →
-    is_remount_operation op ≡ false → recovers op ≡ false → changes_slot_layout (session_of old) op ≡ false →
-    effect_of_operation (disk_summary_of_tree old.tree) (session_of old) op ≡ (reply, record { tree = tree_view old.tree; files = files }) → IsSessionStepOrFailure now op (Ok reply) (session_view_with_files_view old.tree files)
+pub kept_answer : (old now : SessionView) (op : Operation) (files : OpenFilesByNumber) (reply : Reply) → old ≡ now → (old.tree.failed ≡ false → IsSoundTreeState old.tree) → refusal_by_checks old op ≡ None →
+    is_remount_operation op ≡ false → operation_recovers_first op ≡ false → edits_slots_in_pairs (session_of_session_view old) op ≡ false →
+    effect_of_operation (disk_summary_of_tree old.tree) (session_of_session_view old) op ≡ (reply, record { tree = tree_view old.tree; files = files }) → IsSessionStepOrFailure now op (Ok reply) (session_view_of_tree_and_files_view old.tree files)
 kept_answer old now op files reply same sound e other none still is =
     let works = not_failed old op e in
-    let to = healthy_system (session_view_with_files_view old.tree files) works
+    let to = healthy_system (session_view_of_tree_and_files_view old.tree files) works
     ∙ ap (λ (s : Session). record { disk = old.tree.disk; calls = old.tree.history; state = Healthy s }) (sym (ap (λ (z : Reply × Session). z.1) is)) in
-    subst (λ z. IsSessionStepOrFailure z op (Ok reply) (session_view_with_files_view old.tree files)) same
-    (subst (λ r. IsSessionStep (system_state_of old) op r (system_state_of (session_view_with_files_view old.tree files))) (ap (λ (z : Reply × Session). z.0) is)
-    (subst (λ m. IsSessionStep m op (effect_of_operation (disk_summary_of_tree old.tree) (session_of old) op).0 (system_state_of (session_view_with_files_view old.tree files))) (sym (healthy_system old works))
-    (subst (λ m. IsSessionStep (record { disk = old.tree.disk; calls = old.tree.history; state = Healthy (session_of old) }) op (effect_of_operation (disk_summary_of_tree old.tree) (session_of old) op).0 m) (sym to)
-    (idle_step old.tree.disk old.tree.pairs (session_of old) (disk_summary_of_tree old.tree) op [] old.tree.history (is_over old.tree old.files (sound works)) (not_refused old op e) other
+    subst (λ z. IsSessionStepOrFailure z op (Ok reply) (session_view_of_tree_and_files_view old.tree files)) same
+    (subst (λ r. IsSessionStep (system_state_of_session_view old) op r (system_state_of_session_view (session_view_of_tree_and_files_view old.tree files))) (ap (λ (z : Reply × Session). z.0) is)
+    (subst (λ m. IsSessionStep m op (effect_of_operation (disk_summary_of_tree old.tree) (session_of_session_view old) op).0 (system_state_of_session_view (session_view_of_tree_and_files_view old.tree files))) (sym (healthy_system old works))
+    (subst (λ m. IsSessionStep (record { disk = old.tree.disk; calls = old.tree.history; state = Healthy (session_of_session_view old) }) op (effect_of_operation (disk_summary_of_tree old.tree) (session_of_session_view old) op).0 m) (sym to)
+    (idle_step old.tree.disk old.tree.pairs (session_of_session_view old) (disk_summary_of_tree old.tree) op [] old.tree.history (is_over old.tree old.files (sound works)) (not_refused old op e) other
     (ap (λ (z : Reply × Session). z.1.tree) is) none still (refl, refl) (λ k. refl)))))
 
 -- ---- files while the tree changes
 
 -- every file is
 abbrev pub KeepsFiles : TreeState → TreeState → Type 0
-KeepsFiles t s = (p : Path) → is_file (tree_view t p) ≡ true → (is_file (tree_view s p) ≡ true) × (bytes_at (tree_view s p) ≡ bytes_at (tree_view t p))
+KeepsFiles t s = (p : Path) → is_file (tree_view t p) ≡ true → (is_file (tree_view s p) ≡ true) × (file_bytes_of_node (tree_view s p) ≡ file_bytes_of_node (tree_view t p))
 
 unsaved_none : (u : Option UnsavedContents) (b : Bool) → (is_some u || b) ≡ false → (u ≡ None) × (b ≡ false)
 unsaved_none None b e = (refl, e)
@@ -415,7 +415,7 @@ pub keeps_writers : (t s : TreeState) (ws : List Writer) → KeepsFiles t s → 
 keeps_writers t s [] keeps h = tt
 keeps_writers t s (w ∷ ws) keeps h = (keeps w.path h.0.there, keeps_writers t s ws keeps h.1)
 
-pub kept_files : (t s : TreeState) (files : OpenFiles) → has_unsaved_writer files ≡ false → KeepsFilesOfWriters t s (writers_among files) → open_files_view t files ≡ open_files_view s files
+pub kept_files : (t s : TreeState) (files : RuntimeOpenFilesByNumber) → has_unsaved_writer files ≡ false → KeepsFilesOfWriters t s (writers_among files) → open_files_view t files ≡ open_files_view s files
 kept_files t s [] e k = refl
 kept_files t s (None ∷ fs) e k = ap (λ z. None ∷ z) (kept_files t s fs e k)
 kept_files t s (Some (file.Reading r) ∷ fs) e k = ap (λ z. Some (Reading (reader_view r)) ∷ z) (kept_files t s fs e k)
@@ -426,18 +426,18 @@ kept_files t s (Some (file.Writing w) ∷ fs) e k =
     one : (u : Option UnsavedContents) → w.unsaved ≡ None → writer_view t w ≡ writer_view s w
     one u n = rw n (ap (λ (bytes : List ℕ). record { path = w.path; contents = bytes; position = w.position; append = w.appends; dirty = false; turned = false; last_end = None }) (sym k.0.1))
 
-written_still : (t s : TreeState) (ws : List Writer) → list_any (λ w. is_some w.unsaved) ws ≡ false → s.writable ≡ true → gstate_of s.pairs ≡ zero_gstate → KeepsFilesOfWriters t s ws →
+written_still : (t s : TreeState) (ws : List Writer) → list_any (λ w. is_some w.unsaved) ws ≡ false → s.writable ≡ true → gstate_of_pairs s.pairs ≡ zero_gstate → KeepsFilesOfWriters t s ws →
     AllByRecursion (IsWriterOverWritableImage t) ws → AllByRecursion (IsWriterOverWritableImage s) ws
 written_still t s [] e writable settled k h = tt
 written_still t s (w ∷ ws) e writable settled k h =
     let u = unsaved_none w.unsaved (list_any (λ w. is_some w.unsaved) ws) e in
-    (record { writable = writable; settled = settled; there = k.0.0; size = same u.0; changed = subst (AreUnsavedContentsIfSome s w) (sym u.0) tt }, written_still t s ws u.1 writable settled k.1 h.1)
+    (record { writable = writable; settled = settled; there = k.0.0; size = same u.0; changed = subst (AreOptionalUnsavedContentsOfWriter s w) (sym u.0) tt }, written_still t s ws u.1 writable settled k.1 h.1)
   where
-    same : w.unsaved ≡ None → length (bytes_of_writer_at_path s w.path w.unsaved) ≡ w.size
-    same n = ap (λ z. length (bytes_of_writer_at_path s w.path z)) n ∙ ap (λ bs. length bs) k.0.1 ∙ sym (ap (λ z. length (bytes_of_writer_at_path t w.path z)) n) ∙ h.0.size
+    same : w.unsaved ≡ None → length (unsaved_or_tree_bytes_of_writer s w.path w.unsaved) ≡ w.size
+    same n = ap (λ z. length (unsaved_or_tree_bytes_of_writer s w.path z)) n ∙ ap (λ bs. length bs) k.0.1 ∙ sym (ap (λ z. length (unsaved_or_tree_bytes_of_writer t w.path z)) n) ∙ h.0.size
 
 -- an operation leaves a session ready without a changed writer
-pub carried_ready : (old new : TreeState) (files : OpenFiles) (op : Operation) → ((p : Path) → removes_or_moves_path op p ≡ false) → IsSessionReadyForCalls old files → has_unsaved_writer files ≡ false → KeepsFilesOfWriters old new (writers_among files) → IsOperationAppliedToTree old op new → IsSessionReadyForCalls new files
+pub carried_ready : (old new : TreeState) (files : RuntimeOpenFilesByNumber) (op : Operation) → ((p : Path) → removes_or_moves_path_or_ancestor op p ≡ false) → IsSessionReadyForCalls old files → has_unsaved_writer files ≡ false → KeepsFilesOfWriters old new (writers_among files) → IsOperationAppliedToTree old op new → IsSessionReadyForCalls new files
 carried_ready old new files op off ready e keeps carried = record {
   sound = carried.sound;
   called = still_called old.history new.history carried.calls carried.called ready.called;
@@ -447,20 +447,20 @@ carried_ready old new files op off ready e keeps carried = record {
   read = read_carried old new op (paths_of_writers files) (readers_among files) carried (none_read op off (readers_among files)) ready.read;
 }
   where
-    never : (b : ℕ) → IsInFlight old.map b → ⊥
+    never : (b : ℕ) → IsBlockInFlight old.map b → ⊥
     never b h = let k = in_flight-freed old.map b h in let none = ready.idle e in absurd (omega (arith, k, none))
 
 -- what an operation spares, it does later
-spares_later : (old new : TreeState) (op : Operation) (files : OpenFiles) → WasTreeOnlyRead old new → SparesOpenFiles old op files → SparesOpenFiles new op files
+spares_later : (old new : TreeState) (op : Operation) (files : RuntimeOpenFilesByNumber) → WasTreeOnlyRead old new → OperationConcernsNoOpenFileAndHasRoom old op files → OperationConcernsNoOpenFileAndHasRoom new op files
 spares_later old new op files asked h =
-    subst (λ t. SparesOpenFiles t op files) (sym asked.same) (again h)
+    subst (λ t. OperationConcernsNoOpenFileAndHasRoom t op files) (sym asked.same) (again h)
   where
-    again : SparesOpenFiles old op files → SparesOpenFiles (record old { history = new.history; cache = new.cache }) op files
+    again : OperationConcernsNoOpenFileAndHasRoom old op files → OperationConcernsNoOpenFileAndHasRoom (record old { history = new.history; cache = new.cache }) op files
     again h = record { apart = h.apart; unread = h.unread; room = h.room }
 
 -- what an operation leaves once no check refuses it
-pub done_left : (K : Type 0) (old mid new : TreeState) (files : OpenFiles) (op : Operation) (r : Result (Unit {0}) Error) → AppliedOperationsKeepOpenFiles → (old.failed ≡ false → IsSessionReadyForCalls old files) → WasTreeOnlyRead old mid → refusal_by_checks (session_view_of_tree_and_files old files) op ≡ None →
-    (IsSessionReadyForCalls old files → SparesOpenFiles old op files) → (IsSessionReadyForCalls mid files → IsOperationAppliedToTree mid op new → KeepsFilesOfWriters mid new (writers_among files)) → OnOk r K → (K → IsOperationAppliedToTree mid op new) → OnErr r (IsFailedTree mid new) → new.failed ≡ false → OpenFilesStaySameAndReady old new files
+pub done_left : (K : Type 0) (old mid new : TreeState) (files : RuntimeOpenFilesByNumber) (op : Operation) (r : Result (Unit {0}) Error) → AppliedOperationsKeepOpenFiles → (old.failed ≡ false → IsSessionReadyForCalls old files) → WasTreeOnlyRead old mid → refusal_by_checks (session_view_of_tree_and_files old files) op ≡ None →
+    (IsSessionReadyForCalls old files → OperationConcernsNoOpenFileAndHasRoom old op files) → (IsSessionReadyForCalls mid files → IsOperationAppliedToTree mid op new → KeepsFilesOfWriters mid new (writers_among files)) → OnOk r K → (K → IsOperationAppliedToTree mid op new) → OnErr r (IsFailedTree mid new) → new.failed ≡ false → OpenFilesStaySameAndReady old new files
 done_left K old mid new files op (Ok u) stay ready asked e spares keeps k carried broken works =
     let was = ready (not_failed (session_view_of_tree_and_files old files) op e) in
     let now = ready_later old mid files was asked in
@@ -469,6 +469,6 @@ done_left K old mid new files op (Ok u) stay ready asked e spares keeps k carrie
 done_left K old mid new files op (Err x) stay ready asked e spares keeps k carried broken works = absurd (let l = sym broken.failed ∙ works in cc)
 
 -- it is about no writer's file
-pub none_concerned : (op : Operation) → ((p : Path) → removes_or_moves_path op p ≡ false) → (ws : List Writer) → AllByRecursion (λ w. removes_or_moves_path op w.path ≡ false) ws
+pub none_concerned : (op : Operation) → ((p : Path) → removes_or_moves_path_or_ancestor op p ≡ false) → (ws : List Writer) → AllByRecursion (λ w. removes_or_moves_path_or_ancestor op w.path ≡ false) ws
 none_concerned op h [] = tt
 none_concerned op h (w ∷ ws) = (h w.path, none_concerned op h ws)

@@ -4,17 +4,17 @@ use Rattle.std.specs.Prelude.{◌⊎◌, OnOk, IfErr, is_err}
 use Rattle.std.proofs.lemmas.Option.{same_Some}
 use Rattle.lfs_device.specs.declared.error.Error.{Error}
 use Rattle.lfs_device.specs.declared.error.Error.TheVariants.{Io, NoMemory}
-use Rattle.lfs_model.specs.History.{faults}
+use Rattle.lfs_model.specs.History.{fault_count_of_history}
 use Rattle.lfs_model.specs.Operations as ops
 use Rattle.lfs_model.specs.Operations.{Failed, Operation, Refusal, Reply}
 use Rattle.lfs_model.specs.Refusals.{refusal_of_operation}
-use Rattle.lfs_model.specs.Session.{Files}
+use Rattle.lfs_model.specs.Session.{OpenFilesByNumber}
 use Rattle.lfs_lookup.specs.Refusals.{is_refusal, refusal_of_error}
-use Rattle.lfs_tree.specs.TreeState.{WasTreeOnlyRead, IsErrorWithCause, IsMountErrorWithCause, IsMountedTree, TreeState, disk_summary_of_tree}
+use Rattle.lfs_tree.specs.TreeState.{WasTreeOnlyRead, IsIoWithFaultOrNoMemory, IsMountErrorWithCause, IsMountedTree, TreeState, disk_summary_of_tree}
 use Rattle.lfs_model.specs.Frame.{refusal_needs_no_look_up, needs_no_device_or_memory}
 use Rattle.lfs_fs.specs.CallEnds.{MeetsReplyRules}
-use Rattle.lfs_fs.specs.FileView.{OpenFiles}
-use Rattle.lfs_fs.specs.SessionView.{ChecksOperation, PassesChecksWithoutCalls, EndsChecksWithError, SessionView, session_view_of_tree_and_files, session_view_with_files_view, refusal_by_checks, session_of}
+use Rattle.lfs_fs.specs.FileView.{RuntimeOpenFilesByNumber}
+use Rattle.lfs_fs.specs.SessionView.{IsResultOfOperationChecks, PassesChecksWithoutDeviceCalls, EndsChecksWithError, SessionView, session_view_of_tree_and_files, session_view_of_tree_and_files_view, refusal_by_checks, session_of_session_view}
 use Rattle.lfs_fs.specs.Replies.{reply_from_result}
 use Rattle.lfs_fs.proofs.Answered.{no_refusal_io, not_failed}
 use Rattle.lfs_fs.proofs.Remounting.{no_refusal}
@@ -22,16 +22,16 @@ use Rattle.lfs_fs.proofs.Stopping.{session_at}
 
 -- a check that refuses in a failed session is that of a failed session
 failed_first : (h : SessionView) (op : Operation) (r : Refusal) → refusal_by_checks h op ≡ Some r → h.tree.failed ≡ true → r ≡ Failed
-failed_first h op r e f = sym (same_Some Failed r (sym (ap (λ b. cond b (Some Failed) (refusal_of_operation (disk_summary_of_tree h.tree) (session_of h) op)) f) ∙ e))
+failed_first h op r e f = sym (same_Some Failed r (sym (ap (λ b. cond b (Some Failed) (refusal_of_operation (disk_summary_of_tree h.tree) (session_of_session_view h) op)) f) ∙ e))
 
 -- no check refuses it
-unrefused_late : (old : SessionView) (op : Operation) → refusal_by_checks old op ≡ None → PassesChecksWithoutCalls old op
+unrefused_late : (old : SessionView) (op : Operation) → refusal_by_checks old op ≡ None → PassesChecksWithoutDeviceCalls old op
 unrefused_late old op e r f = absurd (let k : None ≡ Some r = sym e ∙ f in cc)
 
 -- ---- the session worked
 
-at_work : (old now : SessionView) (op : Operation) (r : Result Reply Error) (new : SessionView) → old ≡ now → old.tree.failed ≡ false → PassesChecksWithoutCalls old op → (is_err r ≡ false → faults new.tree.history ≡ faults old.tree.history) →
-    (needs_no_device_or_memory (session_of old) op ≡ true → is_err r ≡ false) → MeetsReplyRules now op r new
+at_work : (old now : SessionView) (op : Operation) (r : Result Reply Error) (new : SessionView) → old ≡ now → old.tree.failed ≡ false → PassesChecksWithoutDeviceCalls old op → (is_err r ≡ false → fault_count_of_history new.tree.history ≡ fault_count_of_history old.tree.history) →
+    (needs_no_device_or_memory (session_of_session_view old) op ≡ true → is_err r ≡ false) → MeetsReplyRules now op r new
 at_work old now op r new same works late calm quiet = subst (λ z. MeetsReplyRules z op r new) same (record {
   failed = λ f other. absurd (let k = sym works ∙ f in cc);
   no_fault = calm;
@@ -40,40 +40,40 @@ at_work old now op r new same works late calm quiet = subst (λ z. MeetsReplyRul
 })
 
 -- it answers
-pub answer_ends : (old now : SessionView) (op : Operation) (reply : Reply) (new : SessionView) → old ≡ now → refusal_by_checks old op ≡ None → faults new.tree.history ≡ faults old.tree.history → MeetsReplyRules now op (Ok reply) new
+pub answer_ends : (old now : SessionView) (op : Operation) (reply : Reply) (new : SessionView) → old ≡ now → refusal_by_checks old op ≡ None → fault_count_of_history new.tree.history ≡ fault_count_of_history old.tree.history → MeetsReplyRules now op (Ok reply) new
 answer_ends old now op reply new same e calm = at_work old now op (Ok reply) new same (not_failed old op e) (unrefused_late old op e) (λ k. calm) (λ k. refl)
 
 -- an error takes the reply's place
-error_late : (old now : SessionView) (op : Operation) (e : Error) (new : SessionView) → old ≡ now → old.tree.failed ≡ false → PassesChecksWithoutCalls old op → needs_no_device_or_memory (session_of old) op ≡ false → MeetsReplyRules now op (Err e) new
+error_late : (old now : SessionView) (op : Operation) (e : Error) (new : SessionView) → old ≡ now → old.tree.failed ≡ false → PassesChecksWithoutDeviceCalls old op → needs_no_device_or_memory (session_of_session_view old) op ≡ false → MeetsReplyRules now op (Err e) new
 error_late old now op e new same works late takes = at_work old now op (Err e) new same works late (λ k. absurd (cc)) (λ k. absurd (let l = sym takes ∙ k in cc))
 
-pub error_ends : (old now : SessionView) (op : Operation) (e : Error) (new : SessionView) → old ≡ now → refusal_by_checks old op ≡ None → needs_no_device_or_memory (session_of old) op ≡ false → MeetsReplyRules now op (Err e) new
+pub error_ends : (old now : SessionView) (op : Operation) (e : Error) (new : SessionView) → old ≡ now → refusal_by_checks old op ≡ None → needs_no_device_or_memory (session_of_session_view old) op ≡ false → MeetsReplyRules now op (Err e) new
 error_ends old now op e new same passed takes = error_late old now op e new same (not_failed old op passed) (unrefused_late old op passed) takes
 
 -- either of them, and an error is none of the refusals
-pub result_ends : {A : Type 0} (old now : SessionView) (op : Operation) (reply : A → Reply) (r : Result A Error) (new : SessionView) → old ≡ now → refusal_by_checks old op ≡ None → needs_no_device_or_memory (session_of old) op ≡ false →
-    OnOk r (faults new.tree.history ≡ faults old.tree.history) → IfErr r (λ e. is_refusal e ≡ false) → MeetsReplyRules now op (reply_from_result reply r) new
+pub result_ends : {A : Type 0} (old now : SessionView) (op : Operation) (reply : A → Reply) (r : Result A Error) (new : SessionView) → old ≡ now → refusal_by_checks old op ≡ None → needs_no_device_or_memory (session_of_session_view old) op ≡ false →
+    OnOk r (fault_count_of_history new.tree.history ≡ fault_count_of_history old.tree.history) → IfErr r (λ e. is_refusal e ≡ false) → MeetsReplyRules now op (reply_from_result reply r) new
 result_ends old now op reply (Ok x) new same passed takes calm errors = answer_ends old now op (reply x) new same passed calm
 result_ends old now op reply (Err e) new same passed takes calm errors =
     subst (λ b. MeetsReplyRules now op (cond b (Ok (ops.Refused (refusal_of_error e))) (Err e)) new) (sym errors) (error_ends old now op e new same passed takes)
 
 -- a call of the tree failed
-pub broken_ends : {A : Type 0} (old now : SessionView) (op : Operation) (reply : A → Reply) (e : Error) (r : Result A Error) (new : SessionView) → old ≡ now → refusal_by_checks old op ≡ None → needs_no_device_or_memory (session_of old) op ≡ false →
+pub broken_ends : {A : Type 0} (old now : SessionView) (op : Operation) (reply : A → Reply) (e : Error) (r : Result A Error) (new : SessionView) → old ≡ now → refusal_by_checks old op ≡ None → needs_no_device_or_memory (session_of_session_view old) op ≡ false →
     (e ≡ Io) ⊎ (e ≡ NoMemory) → r ≡ Err e → MeetsReplyRules now op (reply_from_result reply r) new
 broken_ends old now op reply e r new same passed takes error is =
     subst (λ z. MeetsReplyRules now op (reply_from_result reply z) new) (sym is) (result_ends old now op reply (Err e) new same passed takes tt (no_refusal_io e error))
 
-no_refusals : {A : Type 0} (old new : TreeState) (r : Result A Error) → IfErr r (IsErrorWithCause old new) → IfErr r (λ e. is_refusal e ≡ false)
+no_refusals : {A : Type 0} (old new : TreeState) (r : Result A Error) → IfErr r (IsIoWithFaultOrNoMemory old new) → IfErr r (λ e. is_refusal e ≡ false)
 no_refusals old new (Ok x) errors = tt
 no_refusals old new (Err e) errors = no_refusal_io e errors.errors
 
 -- behind reads, a call of the tree came last
-pub carried_ends : {A K : Type 0} (old now : SessionView) (op : Operation) (reply : A → Reply) (mid new : TreeState) (files : Files) (r : Result A Error) → old ≡ now → refusal_by_checks old op ≡ None → needs_no_device_or_memory (session_of old) op ≡ false → WasTreeOnlyRead old.tree mid →
-    OnOk r K → (K → faults new.history ≡ faults mid.history) → IfErr r (IsErrorWithCause mid new) → MeetsReplyRules now op (reply_from_result reply r) (session_view_with_files_view new files)
+pub carried_ends : {A K : Type 0} (old now : SessionView) (op : Operation) (reply : A → Reply) (mid new : TreeState) (files : OpenFilesByNumber) (r : Result A Error) → old ≡ now → refusal_by_checks old op ≡ None → needs_no_device_or_memory (session_of_session_view old) op ≡ false → WasTreeOnlyRead old.tree mid →
+    OnOk r K → (K → fault_count_of_history new.history ≡ fault_count_of_history mid.history) → IfErr r (IsIoWithFaultOrNoMemory mid new) → MeetsReplyRules now op (reply_from_result reply r) (session_view_of_tree_and_files_view new files)
 carried_ends {A} {K} old now op reply mid new files r same e takes asked done calm errors =
-    result_ends old now op reply r (session_view_with_files_view new files) same e takes (go r done) (no_refusals mid new r errors)
+    result_ends old now op reply r (session_view_of_tree_and_files_view new files) same e takes (go r done) (no_refusals mid new r errors)
   where
-    go : (r : Result A Error) → OnOk r K → OnOk r (faults new.history ≡ faults old.tree.history)
+    go : (r : Result A Error) → OnOk r K → OnOk r (fault_count_of_history new.history ≡ fault_count_of_history old.tree.history)
     go (Ok x) k = calm k ∙ asked.no_fault
     go (Err x) k = tt
 
@@ -82,17 +82,17 @@ memory_refuses_not : {A : Type 0} (r : Result A Error) → IfErr r (λ e. e ≡ 
 memory_refuses_not (Ok x) errors = tt
 memory_refuses_not (Err e) errors = ap is_refusal errors
 
-pub granted_ends : {A : Type 0} (old now : SessionView) (op : Operation) (reply : A → Reply) (r : Result A Error) (new : SessionView) → old ≡ now → refusal_by_checks old op ≡ None → needs_no_device_or_memory (session_of old) op ≡ false →
-    faults new.tree.history ≡ faults old.tree.history → IfErr r (λ e. e ≡ NoMemory) → MeetsReplyRules now op (reply_from_result reply r) new
+pub granted_ends : {A : Type 0} (old now : SessionView) (op : Operation) (reply : A → Reply) (r : Result A Error) (new : SessionView) → old ≡ now → refusal_by_checks old op ≡ None → needs_no_device_or_memory (session_of_session_view old) op ≡ false →
+    fault_count_of_history new.tree.history ≡ fault_count_of_history old.tree.history → IfErr r (λ e. e ≡ NoMemory) → MeetsReplyRules now op (reply_from_result reply r) new
 granted_ends {A} old now op reply r new same e takes calm errors = result_ends old now op reply r new same e takes (go r) (memory_refuses_not r errors)
   where
-    go : (r : Result A Error) → OnOk r (faults new.tree.history ≡ faults old.tree.history)
+    go : (r : Result A Error) → OnOk r (fault_count_of_history new.tree.history ≡ fault_count_of_history old.tree.history)
     go (Ok x) = calm
     go (Err x) = tt
 
 -- ---- a refusal, or checks that ended
 
-refusal_ends : (old now : SessionView) (op : Operation) (refusal : Refusal) (new : SessionView) → old ≡ now → refusal_by_checks old op ≡ Some refusal → faults new.tree.history ≡ faults old.tree.history →
+refusal_ends : (old now : SessionView) (op : Operation) (refusal : Refusal) (new : SessionView) → old ≡ now → refusal_by_checks old op ≡ Some refusal → fault_count_of_history new.tree.history ≡ fault_count_of_history old.tree.history →
     (refusal_needs_no_look_up op refusal ≡ true → new ≡ old) → MeetsReplyRules now op (Ok (ops.Refused refusal)) new
 refusal_ends old now op refusal new same e calm stays = subst (λ z. MeetsReplyRules z op (Ok (ops.Refused refusal)) new) same (record {
   failed = λ f other. ap (λ (z : Refusal). let k : Result Reply Error = Ok (ops.Refused z) in k) (failed_first old op refusal e f);
@@ -103,13 +103,13 @@ refusal_ends old now op refusal new same e calm stays = subst (λ z. MeetsReplyR
 
 -- without a call
 pub refused_ends : (old now : SessionView) (op : Operation) (refusal : Refusal) → old ≡ now → refusal_by_checks old op ≡ Some refusal → MeetsReplyRules now op (Ok (ops.Refused refusal)) now
-refused_ends old now op refusal same e = refusal_ends old now op refusal now same e (ap (λ (h : SessionView). faults h.tree.history) (sym same)) (λ once. sym same)
+refused_ends old now op refusal same e = refusal_ends old now op refusal now same e (ap (λ (h : SessionView). fault_count_of_history h.tree.history) (sym same)) (λ once. sym same)
 
 -- a question without a call
 pub kept_ends : (old now : SessionView) (op : Operation) (reply : Reply) → old ≡ now → refusal_by_checks old op ≡ None → MeetsReplyRules now op (Ok reply) now
-kept_ends old now op reply same e = answer_ends old now op reply now same e (ap (λ (h : SessionView). faults h.tree.history) (sym same))
+kept_ends old now op reply same e = answer_ends old now op reply now same e (ap (λ (h : SessionView). fault_count_of_history h.tree.history) (sym same))
 
-checks_end : (t : TreeState) (fs : OpenFiles) (now : SessionView) (op : Operation) (e : Error) (tree : TreeState) → session_view_of_tree_and_files t fs ≡ now → needs_no_device_or_memory (session_of (session_view_of_tree_and_files t fs)) op ≡ false → EndsChecksWithError (is_refusal e) (session_view_of_tree_and_files t fs) op e tree →
+checks_end : (t : TreeState) (fs : RuntimeOpenFilesByNumber) (now : SessionView) (op : Operation) (e : Error) (tree : TreeState) → session_view_of_tree_and_files t fs ≡ now → needs_no_device_or_memory (session_of_session_view (session_view_of_tree_and_files t fs)) op ≡ false → EndsChecksWithError (is_refusal e) (session_view_of_tree_and_files t fs) op e tree →
     MeetsReplyRules now op (cond (is_refusal e) (Ok (ops.Refused (refusal_of_error e))) (Err e)) (session_view_of_tree_and_files tree fs)
 checks_end t fs now op e tree same takes h = go (is_refusal e) h
   where
@@ -118,13 +118,13 @@ checks_end t fs now op e tree same takes h = go (is_refusal e) h
     go false k = error_late (session_view_of_tree_and_files t fs) now op e (session_view_of_tree_and_files tree fs) same k.1 k.3 takes
 
 -- checks by reads
-pub checked_ends : {A : Type 0} (t : TreeState) (fs : OpenFiles) (now : SessionView) (op : Operation) (reply : A → Reply) (P : A → Type 0) (r : Result A Error) (tree : TreeState) → session_view_of_tree_and_files t fs ≡ now → needs_no_device_or_memory (session_of (session_view_of_tree_and_files t fs)) op ≡ false →
-    ChecksOperation (session_view_of_tree_and_files t fs) op P r tree → MeetsReplyRules now op (reply_from_result reply r) (session_view_of_tree_and_files tree fs)
+pub checked_ends : {A : Type 0} (t : TreeState) (fs : RuntimeOpenFilesByNumber) (now : SessionView) (op : Operation) (reply : A → Reply) (P : A → Type 0) (r : Result A Error) (tree : TreeState) → session_view_of_tree_and_files t fs ≡ now → needs_no_device_or_memory (session_of_session_view (session_view_of_tree_and_files t fs)) op ≡ false →
+    IsResultOfOperationChecks (session_view_of_tree_and_files t fs) op P r tree → MeetsReplyRules now op (reply_from_result reply r) (session_view_of_tree_and_files tree fs)
 checked_ends t fs now op reply P (Ok x) tree same takes h = answer_ends (session_view_of_tree_and_files t fs) now op (reply x) (session_view_of_tree_and_files tree fs) same h.1 h.0.no_fault
 checked_ends t fs now op reply P (Err e) tree same takes h = checks_end t fs now op e tree same takes h
 
 -- the same of a call that gives the error on
-pub ended_ends : {A : Type 0} (t : TreeState) (fs : OpenFiles) (now : SessionView) (op : Operation) (reply : A → Reply) (e : Error) (tree : TreeState) (r : Result A Error) → session_view_of_tree_and_files t fs ≡ now → needs_no_device_or_memory (session_of (session_view_of_tree_and_files t fs)) op ≡ false →
+pub ended_ends : {A : Type 0} (t : TreeState) (fs : RuntimeOpenFilesByNumber) (now : SessionView) (op : Operation) (reply : A → Reply) (e : Error) (tree : TreeState) (r : Result A Error) → session_view_of_tree_and_files t fs ≡ now → needs_no_device_or_memory (session_of_session_view (session_view_of_tree_and_files t fs)) op ≡ false →
     EndsChecksWithError (is_refusal e) (session_view_of_tree_and_files t fs) op e tree → r ≡ Err e → MeetsReplyRules now op (reply_from_result reply r) (session_view_of_tree_and_files tree fs)
 ended_ends t fs now op reply e tree r same takes h is = subst (λ z. MeetsReplyRules now op (reply_from_result reply z) (session_view_of_tree_and_files tree fs)) (sym is) (checks_end t fs now op e tree same takes h)
 
@@ -141,9 +141,9 @@ pub remount_refuses_not : {A : Type 0} (old new : TreeState) (r : Result A Error
 remount_refuses_not old new (Ok x) errors = tt
 remount_refuses_not old new (Err e) errors = no_refusal e errors.errors
 
-pub remount_ends : (old now : SessionView) (new : TreeState) (files : Files) (r : Result (Unit {0}) Error) → old ≡ now → OnOk r (IsMountedTree old.tree.disk old.tree.history new) → IfErr r (λ e. is_refusal e ≡ false) →
-    MeetsReplyRules now ops.Remount (reply_from_result (λ u. ops.Done) r) (session_view_with_files_view new files)
-remount_ends old now new files r same mounted errors = subst (λ z. MeetsReplyRules z ops.Remount (reply_from_result (λ u. ops.Done) r) (session_view_with_files_view new files)) same (record {
+pub remount_ends : (old now : SessionView) (new : TreeState) (files : OpenFilesByNumber) (r : Result (Unit {0}) Error) → old ≡ now → OnOk r (IsMountedTree old.tree.disk old.tree.history new) → IfErr r (λ e. is_refusal e ≡ false) →
+    MeetsReplyRules now ops.Remount (reply_from_result (λ u. ops.Done) r) (session_view_of_tree_and_files_view new files)
+remount_ends old now new files r same mounted errors = subst (λ z. MeetsReplyRules z ops.Remount (reply_from_result (λ u. ops.Done) r) (session_view_of_tree_and_files_view new files)) same (record {
   failed = λ f other. absurd (cc);
   no_fault = calm r mounted errors;
   answered = λ s at e. absurd (cc);
@@ -155,6 +155,6 @@ remount_ends old now new files r same mounted errors = subst (λ z. MeetsReplyRu
     never_at_once true e is = ap (refusal_needs_no_look_up ops.Remount) (sym (same_Some Failed e is))
     never_at_once false e is = absurd (cc)
 
-    calm : (r : Result (Unit {0}) Error) → OnOk r (IsMountedTree old.tree.disk old.tree.history new) → IfErr r (λ e. is_refusal e ≡ false) → is_err (reply_from_result (λ u. ops.Done) r) ≡ false → faults new.history ≡ faults old.tree.history
+    calm : (r : Result (Unit {0}) Error) → OnOk r (IsMountedTree old.tree.disk old.tree.history new) → IfErr r (λ e. is_refusal e ≡ false) → is_err (reply_from_result (λ u. ops.Done) r) ≡ false → fault_count_of_history new.history ≡ fault_count_of_history old.tree.history
     calm (Ok u) m errors k = m.no_fault
     calm (Err e) m errors k = absurd (let l = sym (ap (λ b. is_err (cond b (let z : Result Reply Error = Ok (ops.Refused (refusal_of_error e)) in z) (Err e))) errors) ∙ k in cc)

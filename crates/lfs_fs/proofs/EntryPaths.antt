@@ -1,7 +1,7 @@
 -- Bytes that are the path of an entry, and bytes that are not.
 use Rattle.std.proofs.Common.{ℕ, ◌≡◌, true, false, cond, List, [], ◌∷◌, Option, Some, None, refl, sym, ap, ◌∙◌}
 use Rattle.lfs_model.specs.Operations.{path_of_bytes}
-use Rattle.lfs_model.specs.Refusals.{is_root_or_invalid_path, is_root}
+use Rattle.lfs_model.specs.Refusals.{is_root_or_invalid_path, is_root_path}
 use Rattle.lfs_model.specs.Tree.{Path}
 use Rattle.lfs_fs.specs.EntryPaths.{path_of_bytes_unless_root}
 
@@ -21,5 +21,5 @@ no_entry bytes e = bad_if_none (path_of_bytes bytes) e
 pub is_entry : (bytes : List ℕ) (p : Path) → Some p ≡ path_of_bytes_unless_root bytes → (path_of_bytes bytes ≡ Some p) × (is_root_or_invalid_path (path_of_bytes bytes) ≡ false)
 is_entry bytes p e = good_if_some (path_of_bytes bytes) p e
 
-pub root_false : (bytes : List ℕ) (p : Path) → Some p ≡ path_of_bytes_unless_root bytes → is_root p ≡ false
+pub root_false : (bytes : List ℕ) (p : Path) → Some p ≡ path_of_bytes_unless_root bytes → is_root_path p ≡ false
 root_false bytes p e = let k = is_entry bytes p e in sym (ap is_root_or_invalid_path k.0) ∙ k.1

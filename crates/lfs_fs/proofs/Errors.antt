@@ -4,7 +4,7 @@ use Rattle.std.specs.Result.{IsErrAnd}
 use Rattle.lfs_device.specs.declared.error.Error.{Error}
 use Rattle.lfs_model.specs.Operations as ops
 use Rattle.lfs_model.specs.Operations.{Refusal}
-use Rattle.lfs_lookup.specs.Refusals.{error_refusal_round_trip, error_of_refusal, is_refusal, refusal_of_error}
+use Rattle.lfs_lookup.specs.Refusals.{error_survives_conversion_to_refusal_and_back, error_of_refusal, is_refusal, refusal_of_error}
 
 pub error_refuses : (r : Refusal) → is_refusal (error_of_refusal r) ≡ true
 error_refuses ops.NoEnt = refl
@@ -46,4 +46,4 @@ given_on e (Ok x) h = absurd h
 given_on e (Err x) h = ap (λ z. Err z) h
 
 pub passed_on : (r : Refusal) (e : Error) → refusal_of_error e ≡ r → is_refusal e ≡ true → e ≡ error_of_refusal r
-passed_on r e is refuses = sym (error_refusal_round_trip e refuses) ∙ ap error_of_refusal is
+passed_on r e is refuses = sym (error_survives_conversion_to_refusal_and_back e refuses) ∙ ap error_of_refusal is

@@ -6,14 +6,14 @@ use Rattle.lfs_model.specs.declared.order.NameOrder.TheVariants.{ShorterFirst}
 use Rattle.lfs_model.specs.TreeEdits.{is_file, names_of_directory_node, path_without_prefix, same_path}
 use Rattle.lfs_model.specs.Slots.{Slot, Struct, Inline, Ctz, Branch}
 use Rattle.lfs_model.specs.Tree.{EntriesByDirectory, Path, branch_address_of_struct, node_of_struct_and_attributes, root_slot, slot_at_path, tree_beneath_slot}
-use Rattle.lfs_model.specs.Thread.{root_directory_of_pairs}
+use Rattle.lfs_model.specs.Thread.{root_directory_address_of_pairs}
 use Rattle.lfs_model.specs.Shown.{skip_list_bytes_on_disk, entries_by_directory_in_thread}
 use Rattle.lfs_model.proofs.Paths.{path_itself, rest_from}
 use Rattle.lfs_model.proofs.Walks.{IsLeaf, leaf_walk, walk_append}
 use Rattle.std.specs.List.{AllByRecursion}
-use Rattle.lfs_model.specs.Session.{has_open_file_at}
+use Rattle.lfs_model.specs.Session.{has_open_file_with_path_satisfying}
 use Rattle.lfs_tree.specs.TreeState.{TreeState, tree_view}
-use Rattle.lfs_fs.specs.FileView.{OpenFiles, open_files_view, readers_among}
+use Rattle.lfs_fs.specs.FileView.{RuntimeOpenFilesByNumber, open_files_view, readers_among}
 use Rattle.lfs_fs.specs.declared.files.OpenFile.TheVariants as file
 
 -- ---- nothing is beneath what has no names
@@ -44,7 +44,7 @@ not_some true x e = absurd (cc)
 not_some false x e = refl
 
 -- where no file is open at such a path, no reader is
-pub no_reader_at : (t : TreeState) (files : OpenFiles) (p : Path → Bool) → has_open_file_at p (open_files_view t files) ≡ false → AllByRecursion (λ r. p r.path ≡ false) (readers_among files)
+pub no_reader_at : (t : TreeState) (files : RuntimeOpenFilesByNumber) (p : Path → Bool) → has_open_file_with_path_satisfying p (open_files_view t files) ≡ false → AllByRecursion (λ r. p r.path ≡ false) (readers_among files)
 no_reader_at t [] p e = tt
 no_reader_at t (None ∷ fs) p e = no_reader_at t fs p e
 no_reader_at t (Some (file.Reading r) ∷ fs) p e = let k = or_false _ _ e in (not_some _ _ k.0, no_reader_at t fs p k.1)
@@ -62,4 +62,4 @@ beside t q x bare there apart = go (path_without_prefix q x) refl
     go None e = refl
     go (Some []) e = absurd (let k = sym apart ∙ ap (same_path q) (rest_from q x [] e ∙ append-nil q) ∙ path_itself q in cc)
     go (Some (m ∷ r)) e =
-        absurd (let k = sym there ∙ ap (λ y. is_file (tree_view t y)) (rest_from q x (m ∷ r) e) ∙ ap is_file (bare_beneath (skip_list_bytes_on_disk t.disk) (entries_by_directory_in_thread t.pairs) (root_slot (root_directory_of_pairs t.pairs)) q m r bare) in cc)
+        absurd (let k = sym there ∙ ap (λ y. is_file (tree_view t y)) (rest_from q x (m ∷ r) e) ∙ ap is_file (bare_beneath (skip_list_bytes_on_disk t.disk) (entries_by_directory_in_thread t.pairs) (root_slot (root_directory_address_of_pairs t.pairs)) q m r bare) in cc)

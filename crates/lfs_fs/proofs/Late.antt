@@ -6,16 +6,16 @@ use Rattle.lfs_model.specs.Content.{attribute_bytes_of_type, attributes_with_att
 use Rattle.lfs_model.specs.Frame.{refusal_needs_no_look_up}
 use Rattle.lfs_model.specs.Disk.{attribute_size_limit}
 use Rattle.lfs_model.specs.Operations as ops
-use Rattle.lfs_model.specs.Operations.{Flags, Operation, Refusal, path_of_bytes}
-use Rattle.lfs_model.specs.Refusals.{path_or_root}
+use Rattle.lfs_model.specs.Operations.{FlagsOfOpen, Operation, Refusal, path_of_bytes}
+use Rattle.lfs_model.specs.Refusals.{path_of_bytes_or_root}
 use Rattle.lfs_model.specs.Run.{is_write_or_truncate}
-use Rattle.lfs_model.specs.Session.{refusal_unless_directory, first_refusal_of, are_flags_allowed, has_too_long_name, has_open_file_at, is_entry_over_charge_limit, lacks_free_blocks, overfills_disk, refusal_of_parents, readers, refuse_if, writers}
+use Rattle.lfs_model.specs.Session.{refusal_unless_directory, first_refusal_in_list, are_flags_allowed, has_too_long_last_name, has_open_file_with_path_satisfying, is_entry_over_charge_limit, lacks_free_blocks, overfills_disk, refusal_unless_parents_are_directories, readers_of_open_files, refuse_if, writers_of_open_files}
 use Rattle.lfs_model.specs.Tree.{Node, FileNode, DirectoryNode, Path, Tree}
-use Rattle.lfs_model.specs.TreeEdits.{attributes_of_node, bytes_at, is_path_beneath, is_directory, is_file, last_name_of_path, names_of_directory_node, path_without_prefix, same_path}
+use Rattle.lfs_model.specs.TreeEdits.{attributes_of_node, file_bytes_of_node, is_path_beneath, is_directory, is_file, last_name_of_path, names_of_directory_node, path_without_prefix, same_path}
 use Rattle.lfs_model.specs.Writers.{writer_after_open}
 use Rattle.lfs_tree.specs.TreeState.{disk_summary_of_tree, tree_view}
 use Rattle.lfs_fs.specs.EntryPaths.{path_of_bytes_unless_root}
-use Rattle.lfs_fs.specs.SessionView.{PassesChecksWithoutCalls, SessionView, refusal_by_checks}
+use Rattle.lfs_fs.specs.SessionView.{PassesChecksWithoutDeviceCalls, SessionView, refusal_by_checks}
 use Rattle.lfs_fs.proofs.EntryPaths.{is_entry, root_false}
 
 -- refusals, those of them that are any, that don't come at once
@@ -27,7 +27,7 @@ abbrev AreLate : Operation → List (Option Refusal) → Type 0
 AreLate op [] = Unit {0}
 AreLate op (r ∷ rs) = IsLate op r × AreLate op rs
 
-first_late : (op : Operation) (rs : List (Option Refusal)) → AreLate op rs → IsLate op (first_refusal_of rs)
+first_late : (op : Operation) (rs : List (Option Refusal)) → AreLate op rs → IsLate op (first_refusal_in_list rs)
 first_late op [] h = tt
 first_late op (None ∷ rs) h = first_late op rs h.1
 first_late op (Some r ∷ rs) h = h.0
@@ -38,91 +38,91 @@ late op true e h = h
 late op false e h = tt
 
 -- and the check of a path's parents
-parents : (op : Operation) (t : Tree) (above p : Path) → is_write_or_truncate op ≡ false → IsLate op (refusal_of_parents t above p)
+parents : (op : Operation) (t : Tree) (above p : Path) → is_write_or_truncate op ≡ false → IsLate op (refusal_unless_parents_are_directories t above p)
 parents op t above [] h = tt
 parents op t above (name ∷ []) h = tt
 parents op t above (name ∷ next ∷ rest) h = go (t (above ++ name ∷ [])) (parents op t (above ++ name ∷ []) (next ∷ rest) h)
   where
-    go : (n : Option Node) → IsLate op (refusal_of_parents t (above ++ name ∷ []) (next ∷ rest)) → IsLate op (option_or (refusal_unless_directory n) (refusal_of_parents t (above ++ name ∷ []) (next ∷ rest)))
+    go : (n : Option Node) → IsLate op (refusal_unless_parents_are_directories t (above ++ name ∷ []) (next ∷ rest)) → IsLate op (option_or (refusal_unless_directory n) (refusal_unless_parents_are_directories t (above ++ name ∷ []) (next ∷ rest)))
     go None k = h
     go (Some (FileNode attributes bytes)) k = h
     go (Some (DirectoryNode attributes names)) k = k
 
-told_late : (h : SessionView) (op : Operation) (rs : List (Option Refusal)) → refusal_by_checks h op ≡ first_refusal_of rs → AreLate op rs → PassesChecksWithoutCalls h op
+told_late : (h : SessionView) (op : Operation) (rs : List (Option Refusal)) → refusal_by_checks h op ≡ first_refusal_in_list rs → AreLate op rs → PassesChecksWithoutDeviceCalls h op
 told_late h op rs are late r e = subst (IsLate op) (sym are ∙ e) (first_late op rs late)
 
 -- ---- questions
 
-pub stat_late : (h : SessionView) (bytes : List ℕ) (p : Path) → false ≡ h.tree.failed → Some p ≡ path_of_bytes bytes → PassesChecksWithoutCalls h (ops.Stat bytes)
+pub stat_late : (h : SessionView) (bytes : List ℕ) (p : Path) → false ≡ h.tree.failed → Some p ≡ path_of_bytes bytes → PassesChecksWithoutDeviceCalls h (ops.Stat bytes)
 stat_late h bytes p works is = let op = ops.Stat bytes in
     told_late h op
-    (refusal_of_parents (tree_view h.tree) [] p ∷ refuse_if (is_none (tree_view h.tree p)) ops.NoEnt ∷ [])
+    (refusal_unless_parents_are_directories (tree_view h.tree) [] p ∷ refuse_if (is_none (tree_view h.tree p)) ops.NoEnt ∷ [])
     (rw (sym works, sym is) refl)
     (parents op (tree_view h.tree) [] p refl, (late op _ _ refl, tt))
 
-pub list_late : (h : SessionView) (bytes : List ℕ) (p : Path) → false ≡ h.tree.failed → Some p ≡ path_of_bytes bytes → PassesChecksWithoutCalls h (ops.ListAll bytes)
+pub list_late : (h : SessionView) (bytes : List ℕ) (p : Path) → false ≡ h.tree.failed → Some p ≡ path_of_bytes bytes → PassesChecksWithoutDeviceCalls h (ops.ListAll bytes)
 list_late h bytes p works is = let op = ops.ListAll bytes in
     told_late h op
-    (refusal_of_parents (tree_view h.tree) [] p ∷ refuse_if (is_none (tree_view h.tree p)) ops.NoEnt ∷ refuse_if (is_file (tree_view h.tree p)) ops.NotDir ∷ [])
+    (refusal_unless_parents_are_directories (tree_view h.tree) [] p ∷ refuse_if (is_none (tree_view h.tree p)) ops.NoEnt ∷ refuse_if (is_file (tree_view h.tree p)) ops.NotDir ∷ [])
     (rw (sym works, sym is) refl)
     (parents op (tree_view h.tree) [] p refl, (late op _ _ refl, (late op _ _ refl, tt)))
 
-pub get_late : (h : SessionView) (bytes : List ℕ) (kind : ℕ) (p : Path) → false ≡ h.tree.failed → Some p ≡ path_of_bytes_unless_root bytes → PassesChecksWithoutCalls h (ops.GetAttr bytes kind)
+pub get_late : (h : SessionView) (bytes : List ℕ) (kind : ℕ) (p : Path) → false ≡ h.tree.failed → Some p ≡ path_of_bytes_unless_root bytes → PassesChecksWithoutDeviceCalls h (ops.GetAttr bytes kind)
 get_late h bytes kind p works is = let op = ops.GetAttr bytes kind in
     told_late h op
-    (refusal_of_parents (tree_view h.tree) [] p ∷ refuse_if (is_none (tree_view h.tree p)) ops.NoEnt ∷ refuse_if (is_none (attribute_bytes_of_type kind (attributes_of_node (tree_view h.tree p)))) ops.NoAttr ∷ [])
+    (refusal_unless_parents_are_directories (tree_view h.tree) [] p ∷ refuse_if (is_none (tree_view h.tree p)) ops.NoEnt ∷ refuse_if (is_none (attribute_bytes_of_type kind (attributes_of_node (tree_view h.tree p)))) ops.NoAttr ∷ [])
     (rw (sym works, (is_entry bytes p is).0, root_false bytes p is) refl)
     (parents op (tree_view h.tree) [] p refl, (late op _ _ refl, (late op _ _ refl, tt)))
 
 -- ---- changes
 
-pub mkdir_late : (h : SessionView) (bytes : List ℕ) (p : Path) → false ≡ h.tree.failed → true ≡ h.tree.writable → Some p ≡ path_of_bytes bytes → PassesChecksWithoutCalls h (ops.Mkdir bytes)
+pub mkdir_late : (h : SessionView) (bytes : List ℕ) (p : Path) → false ≡ h.tree.failed → true ≡ h.tree.writable → Some p ≡ path_of_bytes bytes → PassesChecksWithoutDeviceCalls h (ops.Mkdir bytes)
 mkdir_late h bytes p works writable is = let op = ops.Mkdir bytes in
     told_late h op
-    (refusal_of_parents (tree_view h.tree) [] p ∷ refuse_if (has_too_long_name p) ops.NameTooLong ∷ refuse_if (is_some (tree_view h.tree p)) ops.Exist ∷ refuse_if (is_entry_over_charge_limit (disk_summary_of_tree h.tree) (last_name_of_path p) []) ops.EntryFull ∷ refuse_if (lacks_free_blocks (disk_summary_of_tree h.tree) h.files 4) ops.NoSpace ∷ [])
+    (refusal_unless_parents_are_directories (tree_view h.tree) [] p ∷ refuse_if (has_too_long_last_name p) ops.NameTooLong ∷ refuse_if (is_some (tree_view h.tree p)) ops.Exist ∷ refuse_if (is_entry_over_charge_limit (disk_summary_of_tree h.tree) (last_name_of_path p) []) ops.EntryFull ∷ refuse_if (lacks_free_blocks (disk_summary_of_tree h.tree) h.files 4) ops.NoSpace ∷ [])
     (rw (sym works, sym writable, sym is) refl)
     (parents op (tree_view h.tree) [] p refl, (late op _ _ refl, (late op _ _ refl, (late op _ _ refl, (late op _ _ refl, tt)))))
 
-pub remove_late : (h : SessionView) (bytes : List ℕ) (p : Path) → false ≡ h.tree.failed → true ≡ h.tree.writable → Some p ≡ path_of_bytes_unless_root bytes → PassesChecksWithoutCalls h (ops.Remove bytes)
+pub remove_late : (h : SessionView) (bytes : List ℕ) (p : Path) → false ≡ h.tree.failed → true ≡ h.tree.writable → Some p ≡ path_of_bytes_unless_root bytes → PassesChecksWithoutDeviceCalls h (ops.Remove bytes)
 remove_late h bytes p works writable is = let op = ops.Remove bytes in
     told_late h op
-    (refusal_of_parents (tree_view h.tree) [] p ∷ refuse_if (is_none (tree_view h.tree p)) ops.NoEnt ∷ refuse_if (nat_lt 0 (length (names_of_directory_node (tree_view h.tree p)))) ops.NotEmpty ∷ refuse_if (has_open_file_at (same_path p) h.files) ops.Busy ∷ [])
+    (refusal_unless_parents_are_directories (tree_view h.tree) [] p ∷ refuse_if (is_none (tree_view h.tree p)) ops.NoEnt ∷ refuse_if (nat_lt 0 (length (names_of_directory_node (tree_view h.tree p)))) ops.NotEmpty ∷ refuse_if (has_open_file_with_path_satisfying (same_path p) h.files) ops.Busy ∷ [])
     (rw (sym works, sym writable, (is_entry bytes p is).0, root_false bytes p is) refl)
     (parents op (tree_view h.tree) [] p refl, (late op _ _ refl, (late op _ _ refl, (late op _ _ refl, tt))))
 
-pub set_late : (h : SessionView) (bytes : List ℕ) (kind : ℕ) (value : List ℕ) (p : Path) → false ≡ h.tree.failed → true ≡ h.tree.writable → Some p ≡ path_of_bytes_unless_root bytes → PassesChecksWithoutCalls h (ops.SetAttr bytes kind value)
+pub set_late : (h : SessionView) (bytes : List ℕ) (kind : ℕ) (value : List ℕ) (p : Path) → false ≡ h.tree.failed → true ≡ h.tree.writable → Some p ≡ path_of_bytes_unless_root bytes → PassesChecksWithoutDeviceCalls h (ops.SetAttr bytes kind value)
 set_late h bytes kind value p works writable is = let op = ops.SetAttr bytes kind value in
     told_late h op
-    (refusal_of_parents (tree_view h.tree) [] p ∷ refuse_if (is_none (tree_view h.tree p)) ops.NoEnt ∷ refuse_if (nat_lt attribute_size_limit (length value)) ops.TooBig ∷ refuse_if (is_entry_over_charge_limit (disk_summary_of_tree h.tree) (last_name_of_path p) (attributes_with_attribute kind value (attributes_of_node (tree_view h.tree p)))) ops.EntryFull ∷ refuse_if (lacks_free_blocks (disk_summary_of_tree h.tree) h.files 2) ops.NoSpace ∷ [])
+    (refusal_unless_parents_are_directories (tree_view h.tree) [] p ∷ refuse_if (is_none (tree_view h.tree p)) ops.NoEnt ∷ refuse_if (nat_lt attribute_size_limit (length value)) ops.TooBig ∷ refuse_if (is_entry_over_charge_limit (disk_summary_of_tree h.tree) (last_name_of_path p) (attributes_with_attribute kind value (attributes_of_node (tree_view h.tree p)))) ops.EntryFull ∷ refuse_if (lacks_free_blocks (disk_summary_of_tree h.tree) h.files 2) ops.NoSpace ∷ [])
     (rw (sym works, sym writable, (is_entry bytes p is).0, root_false bytes p is) refl)
     (parents op (tree_view h.tree) [] p refl, (late op _ _ refl, (late op _ _ refl, (late op _ _ refl, (late op _ _ refl, tt)))))
 
-pub remove_attr_late : (h : SessionView) (bytes : List ℕ) (kind : ℕ) (p : Path) → false ≡ h.tree.failed → true ≡ h.tree.writable → Some p ≡ path_of_bytes_unless_root bytes → PassesChecksWithoutCalls h (ops.RemoveAttr bytes kind)
+pub remove_attr_late : (h : SessionView) (bytes : List ℕ) (kind : ℕ) (p : Path) → false ≡ h.tree.failed → true ≡ h.tree.writable → Some p ≡ path_of_bytes_unless_root bytes → PassesChecksWithoutDeviceCalls h (ops.RemoveAttr bytes kind)
 remove_attr_late h bytes kind p works writable is = let op = ops.RemoveAttr bytes kind in
     told_late h op
-    (refusal_of_parents (tree_view h.tree) [] p ∷ refuse_if (is_none (tree_view h.tree p)) ops.NoEnt ∷ refuse_if (is_none (attribute_bytes_of_type kind (attributes_of_node (tree_view h.tree p)))) ops.NoAttr ∷ [])
+    (refusal_unless_parents_are_directories (tree_view h.tree) [] p ∷ refuse_if (is_none (tree_view h.tree p)) ops.NoEnt ∷ refuse_if (is_none (attribute_bytes_of_type kind (attributes_of_node (tree_view h.tree p)))) ops.NoAttr ∷ [])
     (rw (sym works, sym writable, (is_entry bytes p is).0, root_false bytes p is) refl)
     (parents op (tree_view h.tree) [] p refl, (late op _ _ refl, (late op _ _ refl, tt)))
 
-pub rename_late : (h : SessionView) (old new : List ℕ) (p q : Path) → false ≡ h.tree.failed → true ≡ h.tree.writable → Some p ≡ path_of_bytes_unless_root old → Some q ≡ path_of_bytes_unless_root new → is_path_beneath (path_or_root old) (path_or_root new) ≡ false → PassesChecksWithoutCalls h (ops.Rename old new)
+pub rename_late : (h : SessionView) (old new : List ℕ) (p q : Path) → false ≡ h.tree.failed → true ≡ h.tree.writable → Some p ≡ path_of_bytes_unless_root old → Some q ≡ path_of_bytes_unless_root new → is_path_beneath (path_of_bytes_or_root old) (path_of_bytes_or_root new) ≡ false → PassesChecksWithoutDeviceCalls h (ops.Rename old new)
 rename_late h old new p q works writable from to apart = let op = ops.Rename old new in
     told_late h op
-    (refusal_of_parents (tree_view h.tree) [] (path_or_root old) ∷ refusal_of_parents (tree_view h.tree) [] (path_or_root new) ∷ refuse_if (has_too_long_name (path_or_root new)) ops.NameTooLong ∷ refuse_if (is_none (tree_view h.tree (path_or_root old))) ops.NoEnt ∷ refuse_if (not (same_path (path_or_root old) (path_or_root new)) && is_directory (tree_view h.tree (path_or_root old)) && is_file (tree_view h.tree (path_or_root new))) ops.NotDir ∷ refuse_if (not (same_path (path_or_root old) (path_or_root new)) && is_file (tree_view h.tree (path_or_root old)) && is_directory (tree_view h.tree (path_or_root new))) ops.IsDir ∷ refuse_if (not (same_path (path_or_root old) (path_or_root new)) && nat_lt 0 (length (names_of_directory_node (tree_view h.tree (path_or_root new))))) ops.NotEmpty ∷ refuse_if (has_open_file_at (λ x. is_some (path_without_prefix (path_or_root old) x) || same_path (path_or_root new) x) h.files) ops.Busy ∷ refuse_if (not (same_path (path_or_root old) (path_or_root new)) && is_entry_over_charge_limit (disk_summary_of_tree h.tree) (last_name_of_path (path_or_root new)) (attributes_of_node (tree_view h.tree (path_or_root old)))) ops.EntryFull ∷ refuse_if (lacks_free_blocks (disk_summary_of_tree h.tree) h.files 2) ops.NoSpace ∷ [])
+    (refusal_unless_parents_are_directories (tree_view h.tree) [] (path_of_bytes_or_root old) ∷ refusal_unless_parents_are_directories (tree_view h.tree) [] (path_of_bytes_or_root new) ∷ refuse_if (has_too_long_last_name (path_of_bytes_or_root new)) ops.NameTooLong ∷ refuse_if (is_none (tree_view h.tree (path_of_bytes_or_root old))) ops.NoEnt ∷ refuse_if (not (same_path (path_of_bytes_or_root old) (path_of_bytes_or_root new)) && is_directory (tree_view h.tree (path_of_bytes_or_root old)) && is_file (tree_view h.tree (path_of_bytes_or_root new))) ops.NotDir ∷ refuse_if (not (same_path (path_of_bytes_or_root old) (path_of_bytes_or_root new)) && is_file (tree_view h.tree (path_of_bytes_or_root old)) && is_directory (tree_view h.tree (path_of_bytes_or_root new))) ops.IsDir ∷ refuse_if (not (same_path (path_of_bytes_or_root old) (path_of_bytes_or_root new)) && nat_lt 0 (length (names_of_directory_node (tree_view h.tree (path_of_bytes_or_root new))))) ops.NotEmpty ∷ refuse_if (has_open_file_with_path_satisfying (λ x. is_some (path_without_prefix (path_of_bytes_or_root old) x) || same_path (path_of_bytes_or_root new) x) h.files) ops.Busy ∷ refuse_if (not (same_path (path_of_bytes_or_root old) (path_of_bytes_or_root new)) && is_entry_over_charge_limit (disk_summary_of_tree h.tree) (last_name_of_path (path_of_bytes_or_root new)) (attributes_of_node (tree_view h.tree (path_of_bytes_or_root old)))) ops.EntryFull ∷ refuse_if (lacks_free_blocks (disk_summary_of_tree h.tree) h.files 2) ops.NoSpace ∷ [])
     (rw (sym works, sym writable, (is_entry old p from).1, (is_entry new q to).1, apart) refl)
-    (parents op (tree_view h.tree) [] (path_or_root old) refl, (parents op (tree_view h.tree) [] (path_or_root new) refl, (late op _ _ refl, (late op _ _ refl, (late op _ _ refl, (late op _ _ refl, (late op _ _ refl, (late op _ _ refl, (late op _ _ refl, (late op _ _ refl, tt))))))))))
+    (parents op (tree_view h.tree) [] (path_of_bytes_or_root old) refl, (parents op (tree_view h.tree) [] (path_of_bytes_or_root new) refl, (late op _ _ refl, (late op _ _ refl, (late op _ _ refl, (late op _ _ refl, (late op _ _ refl, (late op _ _ refl, (late op _ _ refl, (late op _ _ refl, tt))))))))))
 
 -- ---- opens
 
-pub reader_late : (h : SessionView) (bytes : List ℕ) (p : Path) (flags : Flags) → false ≡ h.tree.failed → Some p ≡ path_of_bytes bytes → flags.write ≡ false → true ≡ are_flags_allowed flags → PassesChecksWithoutCalls h (ops.Open bytes flags)
+pub reader_late : (h : SessionView) (bytes : List ℕ) (p : Path) (flags : FlagsOfOpen) → false ≡ h.tree.failed → Some p ≡ path_of_bytes bytes → flags.write ≡ false → true ≡ are_flags_allowed flags → PassesChecksWithoutDeviceCalls h (ops.Open bytes flags)
 reader_late h bytes p flags works is write allowed = let op = ops.Open bytes flags in
     told_late h op
-    (refusal_of_parents (tree_view h.tree) [] p ∷ refuse_if (is_none (tree_view h.tree p) && flags.create && has_too_long_name p) ops.NameTooLong ∷ refuse_if (is_none (tree_view h.tree p) && not flags.create) ops.NoEnt ∷ refuse_if (is_some (tree_view h.tree p) && flags.exclusive) ops.Exist ∷ refuse_if (is_directory (tree_view h.tree p)) ops.IsDir ∷ refuse_if (list_any (λ w. same_path p w.path) (writers h.files) || nat_le 16 (length (readers h.files))) ops.Busy ∷ refuse_if (is_none (tree_view h.tree p) && is_entry_over_charge_limit (disk_summary_of_tree h.tree) (last_name_of_path p) []) ops.EntryFull ∷ refuse_if (is_none (tree_view h.tree p) && lacks_free_blocks (disk_summary_of_tree h.tree) h.files 2) ops.NoSpace ∷ refuse_if (flags.truncate && overfills_disk (disk_summary_of_tree h.tree) (writer_after_open p flags (bytes_at (tree_view h.tree p)))) ops.NoSpace ∷ [])
+    (refusal_unless_parents_are_directories (tree_view h.tree) [] p ∷ refuse_if (is_none (tree_view h.tree p) && flags.create && has_too_long_last_name p) ops.NameTooLong ∷ refuse_if (is_none (tree_view h.tree p) && not flags.create) ops.NoEnt ∷ refuse_if (is_some (tree_view h.tree p) && flags.exclusive) ops.Exist ∷ refuse_if (is_directory (tree_view h.tree p)) ops.IsDir ∷ refuse_if (list_any (λ w. same_path p w.path) (writers_of_open_files h.files) || nat_le 16 (length (readers_of_open_files h.files))) ops.Busy ∷ refuse_if (is_none (tree_view h.tree p) && is_entry_over_charge_limit (disk_summary_of_tree h.tree) (last_name_of_path p) []) ops.EntryFull ∷ refuse_if (is_none (tree_view h.tree p) && lacks_free_blocks (disk_summary_of_tree h.tree) h.files 2) ops.NoSpace ∷ refuse_if (flags.truncate && overfills_disk (disk_summary_of_tree h.tree) (writer_after_open p flags (file_bytes_of_node (tree_view h.tree p)))) ops.NoSpace ∷ [])
     (rw (sym works, sym is, sym allowed, write) refl)
     (parents op (tree_view h.tree) [] p refl, (late op _ _ refl, (late op _ _ refl, (late op _ _ refl, (late op _ _ refl, (late op _ _ refl, (late op _ _ refl, (late op _ _ refl, (late op _ _ refl, tt)))))))))
 
-pub writer_late : (h : SessionView) (bytes : List ℕ) (p : Path) (flags : Flags) → false ≡ h.tree.failed → true ≡ h.tree.writable → Some p ≡ path_of_bytes bytes → flags.write ≡ true → true ≡ are_flags_allowed flags → PassesChecksWithoutCalls h (ops.Open bytes flags)
+pub writer_late : (h : SessionView) (bytes : List ℕ) (p : Path) (flags : FlagsOfOpen) → false ≡ h.tree.failed → true ≡ h.tree.writable → Some p ≡ path_of_bytes bytes → flags.write ≡ true → true ≡ are_flags_allowed flags → PassesChecksWithoutDeviceCalls h (ops.Open bytes flags)
 writer_late h bytes p flags works writable is write allowed = let op = ops.Open bytes flags in
     told_late h op
-    (refusal_of_parents (tree_view h.tree) [] p ∷ refuse_if (is_none (tree_view h.tree p) && flags.create && has_too_long_name p) ops.NameTooLong ∷ refuse_if (is_none (tree_view h.tree p) && not flags.create) ops.NoEnt ∷ refuse_if (is_some (tree_view h.tree p) && flags.exclusive) ops.Exist ∷ refuse_if (is_directory (tree_view h.tree p)) ops.IsDir ∷ refuse_if (nat_lt 0 (length (writers h.files)) || has_open_file_at (same_path p) h.files) ops.Busy ∷ refuse_if (is_none (tree_view h.tree p) && is_entry_over_charge_limit (disk_summary_of_tree h.tree) (last_name_of_path p) []) ops.EntryFull ∷ refuse_if (is_none (tree_view h.tree p) && lacks_free_blocks (disk_summary_of_tree h.tree) h.files 2) ops.NoSpace ∷ refuse_if (flags.truncate && overfills_disk (disk_summary_of_tree h.tree) (writer_after_open p flags (bytes_at (tree_view h.tree p)))) ops.NoSpace ∷ [])
+    (refusal_unless_parents_are_directories (tree_view h.tree) [] p ∷ refuse_if (is_none (tree_view h.tree p) && flags.create && has_too_long_last_name p) ops.NameTooLong ∷ refuse_if (is_none (tree_view h.tree p) && not flags.create) ops.NoEnt ∷ refuse_if (is_some (tree_view h.tree p) && flags.exclusive) ops.Exist ∷ refuse_if (is_directory (tree_view h.tree p)) ops.IsDir ∷ refuse_if (nat_lt 0 (length (writers_of_open_files h.files)) || has_open_file_with_path_satisfying (same_path p) h.files) ops.Busy ∷ refuse_if (is_none (tree_view h.tree p) && is_entry_over_charge_limit (disk_summary_of_tree h.tree) (last_name_of_path p) []) ops.EntryFull ∷ refuse_if (is_none (tree_view h.tree p) && lacks_free_blocks (disk_summary_of_tree h.tree) h.files 2) ops.NoSpace ∷ refuse_if (flags.truncate && overfills_disk (disk_summary_of_tree h.tree) (writer_after_open p flags (file_bytes_of_node (tree_view h.tree p)))) ops.NoSpace ∷ [])
     (rw (sym works, sym writable, sym is, sym allowed, write) refl)
     (parents op (tree_view h.tree) [] p refl, (late op _ _ refl, (late op _ _ refl, (late op _ _ refl, (late op _ _ refl, (late op _ _ refl, (late op _ _ refl, (late op _ _ refl, (late op _ _ refl, tt)))))))))

@@ -6,24 +6,24 @@ use Rattle.std.specs.Option.{option_flatten, option_map}
 use Rattle.std.proofs.lemmas.Bool.{lt-ltb, ltb-true}
 use Rattle.std.proofs.lemmas.Option.{same_Some}
 use Rattle.lfs_model.specs.Disk.{inline_limit}
-use Rattle.lfs_writer.specs.Contents.{form_of_contents}
+use Rattle.lfs_writer.specs.Contents.{storage_form_of_contents}
 use Rattle.lfs_writer.specs.Form as form
-use Rattle.lfs_writer.specs.Form.{FormFitsWriter, ContentsForm, IsFormOfWriterContents}
+use Rattle.lfs_writer.specs.Form.{StorageFormFitsWriter, ContentsStorageForm, IsStorageFormOfWriterContents}
 use Rattle.std.proofs.lemmas.Bool.Decides.{nat_tests}
 use Rattle.std.proofs.lemmas.List.{map-set, map-append}
 use Rattle.std.proofs.lemmas.Option.{slice_get-map}
 use Rattle.lfs_model.specs.TreeEdits.{same_path}
 use Rattle.lfs_model.specs.Tree.{Path}
 use Rattle.lfs_model.specs.Session as session
-use Rattle.lfs_model.specs.Session.{has_open_file_at, Files, Reading, open_file_of, free_file_number, reserved_block_count_of_writers, reserved_block_count_of_writer, put_file, reader_of_open_file, readers, writers, ctz_block_count}
-use Rattle.lfs_model.specs.Refusals.{path_or_root}
+use Rattle.lfs_model.specs.Session.{has_open_file_with_path_satisfying, OpenFilesByNumber, Reading, open_file_with_number, free_file_number, reserved_block_count_of_writers, reserved_block_count_of_writer, open_files_with_file_at_number, reader_of_open_file, readers_of_open_files, writers_of_open_files, skip_list_block_count_unless_inline}
+use Rattle.lfs_model.specs.Refusals.{path_of_bytes_or_root}
 use Rattle.lfs_model.specs.Effects.{open_file_at_position}
 use Rattle.lfs_model.specs.Operations.{path_of_bytes}
 use Rattle.lfs_model.specs.Disk.{block_count}
 use Rattle.lfs_model.specs.Session.{lacks_free_blocks}
 use Rattle.lfs_tree.specs.TreeState.{TreeState, WasTreeOnlyRead, disk_summary_of_tree}
-use Rattle.lfs_fs.specs.FileView.{OpenFiles, prepended_if_some, open_files_selected_by, bytes_of_writer_at_path, open_file_at, open_file_view, open_files_view, least_free_number, has_unsaved_writer, is_open_at_path_such_that, is_unsaved_writer, blocks_reserved_by_writers, blocks_reserved_by_writer, blocks_reserved_for_size, open_file_with_position, open_files_with_number_set, open_file_as_reader, reader_view, readers_among, is_unsaved_nonsequential, open_file_as_writer, writer_view, writers_among, paths_of_writers}
-use Rattle.lfs_fs.specs.SessionView.{IsReaderApartFromWriters, IsSessionReadyForCalls, AreUnsavedContentsIfSome, IsWriterOverWritableImage}
+use Rattle.lfs_fs.specs.FileView.{RuntimeOpenFilesByNumber, prepended_if_some, open_files_selected_by, unsaved_or_tree_bytes_of_writer, open_file_at, open_file_view, open_files_view, least_free_file_number, has_unsaved_writer, is_open_at_matching_path, is_unsaved_writer, blocks_reserved_by_writers, blocks_reserved_by_writer, blocks_reserved_for_size, open_file_with_position, open_files_with_entry_at_number, open_file_as_reader, reader_view, readers_among, is_unsaved_nonsequential, open_file_as_writer, writer_view, writers_among, paths_of_writers}
+use Rattle.lfs_fs.specs.SessionView.{IsReaderOfCurrentContentsWithoutWriter, IsSessionReadyForCalls, AreOptionalUnsavedContentsOfWriter, IsWriterOverWritableImage}
 use Rattle.lfs_fs.specs.declared.files.OpenFile.{OpenFile}
 use Rattle.lfs_fs.specs.declared.files.OpenFile.TheVariants as file
 use Rattle.lfs_fs.specs.declared.files.Reader.{Reader}
@@ -33,7 +33,7 @@ use Rattle.lfs_fs.proofs.OpenReaders.{any_path, read_closed, read_moved, read_pu
 
 -- ---- one file
 
-pub file_is : (t : TreeState) (fs : OpenFiles) (fd : ℕ) → open_file_of (open_files_view t fs) fd ≡ option_map (open_file_view t) (open_file_at fs fd)
+pub file_is : (t : TreeState) (fs : RuntimeOpenFilesByNumber) (fd : ℕ) → open_file_with_number (open_files_view t fs) fd ≡ option_map (open_file_view t) (open_file_at fs fd)
 file_is t fs fd = ap option_flatten (slice_get-map (option_map (open_file_view t)) fs fd) ∙ flat (slice_get fs fd)
   where
     flat : (o : Option (Option OpenFile)) → option_flatten (option_map (option_map (open_file_view t)) o) ≡ option_map (open_file_view t) (option_flatten o)
@@ -56,16 +56,16 @@ writer_is t (Some (file.Writing w)) = refl
 
 -- ---- all of them
 
-pub same_files : (t s : TreeState) (fs : OpenFiles) → WasTreeOnlyRead t s → open_files_view t fs ≡ open_files_view s fs
+pub same_files : (t s : TreeState) (fs : RuntimeOpenFilesByNumber) → WasTreeOnlyRead t s → open_files_view t fs ≡ open_files_view s fs
 same_files t s fs asked = sym (ap (λ z. open_files_view z fs) asked.same)
 
-pub writers_are : (t : TreeState) (fs : OpenFiles) → writers (open_files_view t fs) ≡ map (writer_view t) (writers_among fs)
+pub writers_are : (t : TreeState) (fs : RuntimeOpenFilesByNumber) → writers_of_open_files (open_files_view t fs) ≡ map (writer_view t) (writers_among fs)
 writers_are t [] = refl
 writers_are t (None ∷ fs) = writers_are t fs
 writers_are t (Some (file.Reading r) ∷ fs) = writers_are t fs
 writers_are t (Some (file.Writing w) ∷ fs) = ap (λ ws. writer_view t w ∷ ws) (writers_are t fs)
 
-pub readers_are : (t : TreeState) (fs : OpenFiles) → readers (open_files_view t fs) ≡ map reader_view (readers_among fs)
+pub readers_are : (t : TreeState) (fs : RuntimeOpenFilesByNumber) → readers_of_open_files (open_files_view t fs) ≡ map reader_view (readers_among fs)
 readers_are t [] = refl
 readers_are t (None ∷ fs) = readers_are t fs
 readers_are t (Some (file.Reading r) ∷ fs) = ap (λ rs. reader_view r ∷ rs) (readers_are t fs)
@@ -79,19 +79,19 @@ mapped_any : (t : TreeState) (p : Path) (ws : List Writer) → list_any (λ w. s
 mapped_any t p [] = refl
 mapped_any t p (w ∷ ws) = ap (λ b. same_path p w.path || b) (mapped_any t p ws)
 
-pub writer_count : (t : TreeState) (fs : OpenFiles) → length (writers (open_files_view t fs)) ≡ length (writers_among fs)
+pub writer_count : (t : TreeState) (fs : RuntimeOpenFilesByNumber) → length (writers_of_open_files (open_files_view t fs)) ≡ length (writers_among fs)
 writer_count t fs = ap (λ ws. length ws) (writers_are t fs) ∙ mapped_length (writer_view t) (writers_among fs)
 
-pub reader_count : (t : TreeState) (fs : OpenFiles) → length (readers (open_files_view t fs)) ≡ length (readers_among fs)
+pub reader_count : (t : TreeState) (fs : RuntimeOpenFilesByNumber) → length (readers_of_open_files (open_files_view t fs)) ≡ length (readers_among fs)
 reader_count t fs = ap (λ rs. length rs) (readers_are t fs) ∙ mapped_length reader_view (readers_among fs)
 
-pub busy : (t : TreeState) (fs : OpenFiles) (p : Path) →
-    (list_any (λ w. same_path p w.path) (writers_among fs) || nat_le 16 (length (readers_among fs))) ≡ (list_any (λ w. same_path p w.path) (writers (open_files_view t fs)) || nat_le 16 (length (readers (open_files_view t fs))))
+pub busy : (t : TreeState) (fs : RuntimeOpenFilesByNumber) (p : Path) →
+    (list_any (λ w. same_path p w.path) (writers_among fs) || nat_le 16 (length (readers_among fs))) ≡ (list_any (λ w. same_path p w.path) (writers_of_open_files (open_files_view t fs)) || nat_le 16 (length (readers_of_open_files (open_files_view t fs))))
 busy t fs p = ap₂ (λ b n. b || nat_le 16 n) (sym (ap (list_any (λ w. same_path p w.path)) (writers_are t fs) ∙ mapped_any t p (writers_among fs))) (sym (reader_count t fs))
 
 -- ---- space
 
-pub held_one : (block_size : ℕ) (t : TreeState) (w : Writer) → length (bytes_of_writer_at_path t w.path w.unsaved) ≡ w.size → blocks_reserved_by_writer block_size w ≡ reserved_block_count_of_writer block_size (writer_view t w)
+pub held_one : (block_size : ℕ) (t : TreeState) (w : Writer) → length (unsaved_or_tree_bytes_of_writer t w.path w.unsaved) ≡ w.size → blocks_reserved_by_writer block_size w ≡ reserved_block_count_of_writer block_size (writer_view t w)
 held_one block_size t w e = sizes w.unsaved w.size ∙ ap (λ n. cond (not (is_some w.unsaved)) 0 (blocks_reserved_for_size block_size (is_unsaved_nonsequential w.unsaved) n)) (sym e)
   where
     sizes : (u : Option UnsavedContents) (n : ℕ) → cond (is_none u) 0 (blocks_reserved_for_size block_size (is_unsaved_nonsequential u) n) ≡ cond (not (is_some u)) 0 (blocks_reserved_for_size block_size (is_unsaved_nonsequential u) n)
@@ -105,58 +105,58 @@ held_each block_size a t (w ∷ ws) h =
     held_each block_size (a + blocks_reserved_by_writer block_size w) t ws h.1
     ∙ ap (λ n. fold (λ a x. a + reserved_block_count_of_writer block_size x) (a + n) (map (writer_view t) ws)) (held_one block_size t w h.0.size)
 
-pub held_is : (block_size : ℕ) (t : TreeState) (fs : OpenFiles) → IsSessionReadyForCalls t fs → blocks_reserved_by_writers block_size fs ≡ reserved_block_count_of_writers block_size (open_files_view t fs)
+pub held_is : (block_size : ℕ) (t : TreeState) (fs : RuntimeOpenFilesByNumber) → IsSessionReadyForCalls t fs → blocks_reserved_by_writers block_size fs ≡ reserved_block_count_of_writers block_size (open_files_view t fs)
 held_is block_size t fs ready = held_each block_size 0 t (writers_among fs) ready.written ∙ sym (ap (sum_by (reserved_block_count_of_writer block_size)) (writers_are t fs))
 
 -- ---- numbers
 
-pub free_is : (t : TreeState) (fs : OpenFiles) → least_free_number fs ≡ free_file_number (open_files_view t fs)
+pub free_is : (t : TreeState) (fs : RuntimeOpenFilesByNumber) → least_free_file_number fs ≡ free_file_number (open_files_view t fs)
 free_is t [] = refl
 free_is t (None ∷ fs) = refl
 free_is t (Some x ∷ fs) = ap (λ n. 1 + n) (free_is t fs)
 
-pub free_at_most : (fs : OpenFiles) → least_free_number fs ≤ length fs
+pub free_at_most : (fs : RuntimeOpenFilesByNumber) → least_free_file_number fs ≤ length fs
 free_at_most [] = omega arith
 free_at_most (None ∷ fs) = omega arith
 free_at_most (Some x ∷ fs) = let k = free_at_most fs in omega (arith, k)
 
-free_is_few : (fs : OpenFiles) → least_free_number fs ≤ length (readers_among fs) + length (writers_among fs)
+free_is_few : (fs : RuntimeOpenFilesByNumber) → least_free_file_number fs ≤ length (readers_among fs) + length (writers_among fs)
 free_is_few [] = omega arith
 free_is_few (None ∷ fs) = omega arith
 free_is_few (Some (file.Reading r) ∷ fs) = let k = free_is_few fs in omega (arith, k)
 free_is_few (Some (file.Writing w) ∷ fs) = let k = free_is_few fs in omega (arith, k)
 
-pub few_open : (fs : OpenFiles) → length (readers_among fs) < 16 → length (writers_among fs) ≤ 1 → least_free_number fs < 17
+pub few_open : (fs : RuntimeOpenFilesByNumber) → length (readers_among fs) < 16 → length (writers_among fs) ≤ 1 → least_free_file_number fs < 17
 few_open fs few one = let k = free_is_few fs in omega (arith, k, few, one)
 
-pub few_with_none : (fs : OpenFiles) → length (readers_among fs) ≤ 16 → writers_among fs ≡ [] → least_free_number fs < 17
+pub few_with_none : (fs : RuntimeOpenFilesByNumber) → length (readers_among fs) ≤ 16 → writers_among fs ≡ [] → least_free_file_number fs < 17
 few_with_none fs few none = let k = free_is_few fs in let l = ap (λ ws. length ws) none in omega (arith, k, few, l)
 
 -- ---- changes
 
-pub put_is : (t : TreeState) (fs : OpenFiles) (fd : ℕ) (entry : Option OpenFile) → open_files_view t (open_files_with_number_set fs fd entry) ≡ put_file (open_files_view t fs) fd (option_map (open_file_view t) entry)
+pub put_is : (t : TreeState) (fs : RuntimeOpenFilesByNumber) (fd : ℕ) (entry : Option OpenFile) → open_files_view t (open_files_with_entry_at_number fs fd entry) ≡ open_files_with_file_at_number (open_files_view t fs) fd (option_map (open_file_view t) entry)
 put_is t fs fd entry = go (nat_lt fd (length fs)) refl
   where
-    go : (b : Bool) → nat_lt fd (length fs) ≡ b → open_files_view t (open_files_with_number_set fs fd entry) ≡ put_file (open_files_view t fs) fd (option_map (open_file_view t) entry)
+    go : (b : Bool) → nat_lt fd (length fs) ≡ b → open_files_view t (open_files_with_entry_at_number fs fd entry) ≡ open_files_with_file_at_number (open_files_view t fs) fd (option_map (open_file_view t) entry)
     go true e = rw (mapped_length (option_map (open_file_view t)) fs, e) (map-set (option_map (open_file_view t)) fs fd entry)
     go false e = rw (mapped_length (option_map (open_file_view t)) fs, e) (map-append (option_map (open_file_view t)) fs (entry ∷ []))
 
 one_further : (n m : ℕ) → nat_lt n m ≡ true → nat_lt (suc n) (suc m) ≡ true
 one_further n m e = grind (arith, nat_tests)
 
-pub inside : (fs : OpenFiles) (fd : ℕ) → is_some (open_file_at fs fd) ≡ true → nat_lt fd (length fs) ≡ true
+pub inside : (fs : RuntimeOpenFilesByNumber) (fd : ℕ) → is_some (open_file_at fs fd) ≡ true → nat_lt fd (length fs) ≡ true
 inside [] fd e = absurd (cc)
 inside (f ∷ fs) zero e = lt-ltb 0 (length (f ∷ fs)) (omega arith)
 inside (f ∷ fs) (suc fd) e = one_further fd (length fs) (inside fs fd e)
 
-pub set_is : (t : TreeState) (fs : OpenFiles) (fd : ℕ) (entry : Option OpenFile) → is_some (open_file_at fs fd) ≡ true → open_files_view t (set fs fd entry) ≡ put_file (open_files_view t fs) fd (option_map (open_file_view t) entry)
+pub set_is : (t : TreeState) (fs : RuntimeOpenFilesByNumber) (fd : ℕ) (entry : Option OpenFile) → is_some (open_file_at fs fd) ≡ true → open_files_view t (set fs fd entry) ≡ open_files_with_file_at_number (open_files_view t fs) fd (option_map (open_file_view t) entry)
 set_is t fs fd entry e = sym (ap (λ b. open_files_view t (cond b (set fs fd entry) (fs ++ entry ∷ []))) (inside fs fd e)) ∙ put_is t fs fd entry
 
-pub moved_is : (t : TreeState) (fs : OpenFiles) (fd position : ℕ) → is_some (open_file_at fs fd) ≡ true →
-    open_files_view t (set fs fd (option_map (open_file_with_position position) (open_file_at fs fd))) ≡ put_file (open_files_view t fs) fd (option_map (open_file_at_position position) (open_file_of (open_files_view t fs) fd))
+pub moved_is : (t : TreeState) (fs : RuntimeOpenFilesByNumber) (fd position : ℕ) → is_some (open_file_at fs fd) ≡ true →
+    open_files_view t (set fs fd (option_map (open_file_with_position position) (open_file_at fs fd))) ≡ open_files_with_file_at_number (open_files_view t fs) fd (option_map (open_file_at_position position) (open_file_with_number (open_files_view t fs) fd))
 moved_is t fs fd position e =
     set_is t fs fd (option_map (open_file_with_position position) (open_file_at fs fd)) e
-    ∙ ap (put_file (open_files_view t fs) fd) (moved (open_file_at fs fd) ∙ sym (ap (option_map (open_file_at_position position)) (file_is t fs fd)))
+    ∙ ap (open_files_with_file_at_number (open_files_view t fs) fd) (moved (open_file_at fs fd) ∙ sym (ap (option_map (open_file_at_position position)) (file_is t fs fd)))
   where
     moved : (o : Option OpenFile) → option_map (open_file_view t) (option_map (open_file_with_position position) o) ≡ option_map (open_file_at_position position) (option_map (open_file_view t) o)
     moved None = refl
@@ -168,38 +168,38 @@ moved_is t fs fd position e =
 one_more : (n : ℕ) → 1 + n ≡ suc n
 one_more n = omega arith
 
-pub writers_put : (fs : OpenFiles) (r : Reader) → writers_among (open_files_with_number_set fs (least_free_number fs) (Some (file.Reading r))) ≡ writers_among fs
-writers_put fs r = go (nat_lt (least_free_number fs) (length fs)) refl
+pub writers_put : (fs : RuntimeOpenFilesByNumber) (r : Reader) → writers_among (open_files_with_entry_at_number fs (least_free_file_number fs) (Some (file.Reading r))) ≡ writers_among fs
+writers_put fs r = go (nat_lt (least_free_file_number fs) (length fs)) refl
   where
-    set_free : (fs : OpenFiles) → writers_among (set fs (least_free_number fs) (Some (file.Reading r))) ≡ writers_among fs
+    set_free : (fs : RuntimeOpenFilesByNumber) → writers_among (set fs (least_free_file_number fs) (Some (file.Reading r))) ≡ writers_among fs
     set_free [] = refl
     set_free (None ∷ fs) = refl
-    set_free (Some (file.Reading q) ∷ fs) = ap (λ n. writers_among (set (Some (file.Reading q) ∷ fs) n (Some (file.Reading r)))) (one_more (least_free_number fs)) ∙ set_free fs
-    set_free (Some (file.Writing w) ∷ fs) = ap (λ n. writers_among (set (Some (file.Writing w) ∷ fs) n (Some (file.Reading r)))) (one_more (least_free_number fs)) ∙ ap (λ ws. w ∷ ws) (set_free fs)
+    set_free (Some (file.Reading q) ∷ fs) = ap (λ n. writers_among (set (Some (file.Reading q) ∷ fs) n (Some (file.Reading r)))) (one_more (least_free_file_number fs)) ∙ set_free fs
+    set_free (Some (file.Writing w) ∷ fs) = ap (λ n. writers_among (set (Some (file.Writing w) ∷ fs) n (Some (file.Reading r)))) (one_more (least_free_file_number fs)) ∙ ap (λ ws. w ∷ ws) (set_free fs)
 
-    behind : (fs : OpenFiles) → writers_among (fs ++ Some (file.Reading r) ∷ []) ≡ writers_among fs
+    behind : (fs : RuntimeOpenFilesByNumber) → writers_among (fs ++ Some (file.Reading r) ∷ []) ≡ writers_among fs
     behind [] = refl
     behind (None ∷ fs) = behind fs
     behind (Some (file.Reading q) ∷ fs) = behind fs
     behind (Some (file.Writing w) ∷ fs) = ap (λ ws. w ∷ ws) (behind fs)
 
-    go : (b : Bool) → nat_lt (least_free_number fs) (length fs) ≡ b → writers_among (open_files_with_number_set fs (least_free_number fs) (Some (file.Reading r))) ≡ writers_among fs
+    go : (b : Bool) → nat_lt (least_free_file_number fs) (length fs) ≡ b → writers_among (open_files_with_entry_at_number fs (least_free_file_number fs) (Some (file.Reading r))) ≡ writers_among fs
     go true e = rw e (set_free fs)
     go false e = rw e (behind fs)
 
-kept_moved : (block_size place : ℕ) (shape : ContentsForm) (w : session.Writer) → IsFormOfWriterContents block_size shape w → IsFormOfWriterContents block_size shape (record w { position = place })
+kept_moved : (block_size place : ℕ) (shape : ContentsStorageForm) (w : session.FileWriter) → IsStorageFormOfWriterContents block_size shape w → IsStorageFormOfWriterContents block_size shape (record w { position = place })
 kept_moved block_size place shape w h = record { size = h.size; fits = fits shape h.fits }
   where
-    fits : (f : ContentsForm) → FormFitsWriter (inline_limit block_size) f w → FormFitsWriter (inline_limit block_size) f (record w { position = place })
+    fits : (f : ContentsStorageForm) → StorageFormFitsWriter (inline_limit block_size) f w → StorageFormFitsWriter (inline_limit block_size) f (record w { position = place })
     fits (form.InMemory size) h = h
     fits (form.Finished size flying) h = record { dirty = h.dirty; large = h.large; turned = h.turned }
     fits (form.InHand stop base flying) h = record { dirty = h.dirty; large = h.large; turned = h.turned; at_end = h.at_end }
 
-unsaved_moved_in : (t : TreeState) (w : Writer) (place : ℕ) (u : Option UnsavedContents) → AreUnsavedContentsIfSome t w u → AreUnsavedContentsIfSome t (record w { position = place }) u
+unsaved_moved_in : (t : TreeState) (w : Writer) (place : ℕ) (u : Option UnsavedContents) → AreOptionalUnsavedContentsOfWriter t w u → AreOptionalUnsavedContentsOfWriter t (record w { position = place }) u
 unsaved_moved_in t w place None h = tt
-unsaved_moved_in t w place (Some u) h = record { over = h.over; kept = kept_moved t.disk.block_size place (form_of_contents u.contents) (writer_view t w) h.kept; form = h.form; room = h.room }
+unsaved_moved_in t w place (Some u) h = record { over = h.over; kept = kept_moved t.disk.block_size place (storage_form_of_contents u.contents) (writer_view t w) h.kept; form = h.form; room = h.room }
 
-written_moved : (t : TreeState) (fs : OpenFiles) (fd position : ℕ) → AllByRecursion (IsWriterOverWritableImage t) (writers_among fs) → AllByRecursion (IsWriterOverWritableImage t) (writers_among (set fs fd (option_map (open_file_with_position position) (open_file_at fs fd))))
+written_moved : (t : TreeState) (fs : RuntimeOpenFilesByNumber) (fd position : ℕ) → AllByRecursion (IsWriterOverWritableImage t) (writers_among fs) → AllByRecursion (IsWriterOverWritableImage t) (writers_among (set fs fd (option_map (open_file_with_position position) (open_file_at fs fd))))
 written_moved t [] fd position h = h
 written_moved t (None ∷ fs) zero position h = h
 written_moved t (Some (file.Reading r) ∷ fs) zero position h = h
@@ -208,7 +208,7 @@ written_moved t (None ∷ fs) (suc fd) position h = written_moved t fs fd positi
 written_moved t (Some (file.Reading r) ∷ fs) (suc fd) position h = written_moved t fs fd position h
 written_moved t (Some (file.Writing w) ∷ fs) (suc fd) position h = (h.0, written_moved t fs fd position h.1)
 
-pub unsaved_moved : (fs : OpenFiles) (fd position : ℕ) → has_unsaved_writer (set fs fd (option_map (open_file_with_position position) (open_file_at fs fd))) ≡ has_unsaved_writer fs
+pub unsaved_moved : (fs : RuntimeOpenFilesByNumber) (fd position : ℕ) → has_unsaved_writer (set fs fd (option_map (open_file_with_position position) (open_file_at fs fd))) ≡ has_unsaved_writer fs
 unsaved_moved [] fd position = refl
 unsaved_moved (None ∷ fs) zero position = refl
 unsaved_moved (Some (file.Reading r) ∷ fs) zero position = refl
@@ -217,7 +217,7 @@ unsaved_moved (None ∷ fs) (suc fd) position = unsaved_moved fs fd position
 unsaved_moved (Some (file.Reading r) ∷ fs) (suc fd) position = unsaved_moved fs fd position
 unsaved_moved (Some (file.Writing w) ∷ fs) (suc fd) position = ap (λ b. is_some w.unsaved || b) (unsaved_moved fs fd position)
 
-written_closed : (t : TreeState) (fs : OpenFiles) (fd : ℕ) → AllByRecursion (IsWriterOverWritableImage t) (writers_among fs) → AllByRecursion (IsWriterOverWritableImage t) (writers_among (set fs fd None))
+written_closed : (t : TreeState) (fs : RuntimeOpenFilesByNumber) (fd : ℕ) → AllByRecursion (IsWriterOverWritableImage t) (writers_among fs) → AllByRecursion (IsWriterOverWritableImage t) (writers_among (set fs fd None))
 written_closed t [] fd h = h
 written_closed t (None ∷ fs) zero h = h
 written_closed t (Some (file.Reading r) ∷ fs) zero h = h
@@ -249,7 +249,7 @@ saved_first : (u : Option UnsavedContents) (b : Bool) → is_none u ≡ true →
 saved_first None b e = refl
 saved_first (Some u) b e = absurd (cc)
 
-pub unsaved_closed : (fs : OpenFiles) (fd : ℕ) → is_saved (open_file_at fs fd) ≡ true → has_unsaved_writer (set fs fd None) ≡ has_unsaved_writer fs
+pub unsaved_closed : (fs : RuntimeOpenFilesByNumber) (fd : ℕ) → is_saved (open_file_at fs fd) ≡ true → has_unsaved_writer (set fs fd None) ≡ has_unsaved_writer fs
 unsaved_closed [] fd e = refl
 unsaved_closed (None ∷ fs) zero e = refl
 unsaved_closed (Some (file.Reading r) ∷ fs) zero e = refl
@@ -268,7 +268,7 @@ before_length : {A : Type 0} (o : Option A) (xs : List A) → length (prepended_
 before_length None xs = omega arith
 before_length (Some x) xs = omega arith
 
-pub count_set : {A : Type 0} (kind : Option OpenFile → Option A) (fs : OpenFiles) (fd : ℕ) (entry : Option OpenFile) → fd < length fs →
+pub count_set : {A : Type 0} (kind : Option OpenFile → Option A) (fs : RuntimeOpenFilesByNumber) (fd : ℕ) (entry : Option OpenFile) → fd < length fs →
     length (open_files_selected_by kind (set fs fd entry)) + one_of (kind (open_file_at fs fd)) ≡ length (open_files_selected_by kind fs) + one_of (kind entry)
 count_set kind [] fd entry lt = absurd (omega (arith, lt))
 count_set kind (f ∷ fs) zero entry lt = omega (arith, before_length (kind entry) (open_files_selected_by kind fs), before_length (kind f) (open_files_selected_by kind fs))
@@ -276,16 +276,16 @@ count_set kind (f ∷ fs) (suc fd) entry lt =
     let k = count_set kind fs fd entry (omega (arith, lt)) in
     omega (arith, k, before_length (kind f) (open_files_selected_by kind (set fs fd entry)), before_length (kind f) (open_files_selected_by kind fs))
 
-count_behind : {A : Type 0} (kind : Option OpenFile → Option A) (fs : OpenFiles) (entry : Option OpenFile) → length (open_files_selected_by kind (fs ++ entry ∷ [])) ≡ length (open_files_selected_by kind fs) + one_of (kind entry)
+count_behind : {A : Type 0} (kind : Option OpenFile → Option A) (fs : RuntimeOpenFilesByNumber) (entry : Option OpenFile) → length (open_files_selected_by kind (fs ++ entry ∷ [])) ≡ length (open_files_selected_by kind fs) + one_of (kind entry)
 count_behind kind [] entry = omega (arith, before_length (kind entry) [])
 count_behind kind (f ∷ fs) entry =
     let k = count_behind kind fs entry in
     omega (arith, k, before_length (kind f) (open_files_selected_by kind (fs ++ entry ∷ [])), before_length (kind f) (open_files_selected_by kind fs))
 
-pub count_put : {A : Type 0} (kind : Option OpenFile → Option A) (fs : OpenFiles) (fd : ℕ) (entry : Option OpenFile) → length (open_files_selected_by kind (open_files_with_number_set fs fd entry)) ≤ length (open_files_selected_by kind fs) + one_of (kind entry)
+pub count_put : {A : Type 0} (kind : Option OpenFile → Option A) (fs : RuntimeOpenFilesByNumber) (fd : ℕ) (entry : Option OpenFile) → length (open_files_selected_by kind (open_files_with_entry_at_number fs fd entry)) ≤ length (open_files_selected_by kind fs) + one_of (kind entry)
 count_put kind fs fd entry = go (nat_lt fd (length fs)) refl
   where
-    go : (b : Bool) → nat_lt fd (length fs) ≡ b → length (open_files_selected_by kind (open_files_with_number_set fs fd entry)) ≤ length (open_files_selected_by kind fs) + one_of (kind entry)
+    go : (b : Bool) → nat_lt fd (length fs) ≡ b → length (open_files_selected_by kind (open_files_with_entry_at_number fs fd entry)) ≤ length (open_files_selected_by kind fs) + one_of (kind entry)
     go true e =
         let k = count_set kind fs fd entry (ltb-true fd (length fs) e) in
         rw e (omega (arith, k))
@@ -294,12 +294,12 @@ count_put kind fs fd entry = go (nat_lt fd (length fs)) refl
         rw e (omega (arith, k))
 
 -- files that stay few
-pub few_put : {A : Type 0} (kind : Option OpenFile → Option A) (fs gs : OpenFiles) (fd limit : ℕ) (entry : Option OpenFile) → gs ≡ open_files_with_number_set fs fd entry → length (open_files_selected_by kind fs) + one_of (kind entry) ≤ limit → length (open_files_selected_by kind gs) ≤ limit
+pub few_put : {A : Type 0} (kind : Option OpenFile → Option A) (fs gs : RuntimeOpenFilesByNumber) (fd limit : ℕ) (entry : Option OpenFile) → gs ≡ open_files_with_entry_at_number fs fd entry → length (open_files_selected_by kind fs) + one_of (kind entry) ≤ limit → length (open_files_selected_by kind gs) ≤ limit
 few_put kind fs gs fd limit entry is few =
     let k = count_put kind fs fd entry in
     subst (λ xs. length (open_files_selected_by kind xs) ≤ limit) (sym is) (omega (arith, k, few))
 
-pub few_set : {A : Type 0} (kind : Option OpenFile → Option A) (fs gs : OpenFiles) (fd limit : ℕ) (entry : Option OpenFile) → gs ≡ set fs fd entry → fd < length fs → length (open_files_selected_by kind fs) ≤ limit →
+pub few_set : {A : Type 0} (kind : Option OpenFile → Option A) (fs gs : RuntimeOpenFilesByNumber) (fd limit : ℕ) (entry : Option OpenFile) → gs ≡ set fs fd entry → fd < length fs → length (open_files_selected_by kind fs) ≤ limit →
     one_of (kind entry) ≤ one_of (kind (open_file_at fs fd)) → length (open_files_selected_by kind gs) ≤ limit
 few_set kind fs gs fd limit entry is lt few less =
     let k = count_set kind fs fd entry lt in
@@ -317,13 +317,13 @@ pub writer_moved : (position : ℕ) (f : OpenFile) → one_of (open_file_as_writ
 writer_moved position (file.Reading r) = refl
 writer_moved position (file.Writing w) = refl
 
-pub inside_is : (fs : OpenFiles) (fd : ℕ) → is_some (open_file_at fs fd) ≡ true → fd < length fs
+pub inside_is : (fs : RuntimeOpenFilesByNumber) (fd : ℕ) → is_some (open_file_at fs fd) ≡ true → fd < length fs
 inside_is fs fd e = ltb-true fd (length fs) (inside fs fd e)
 
 -- ---- a session with one writer
 
 -- the writer of that number is the only one
-pub record IsOnly (fs : OpenFiles) (fd : ℕ) (w : Writer) : Type 0 where
+pub record IsOnly (fs : RuntimeOpenFilesByNumber) (fd : ℕ) (w : Writer) : Type 0 where
   pub writers : writers_among fs ≡ w ∷ []
   pub without : writers_among (set fs fd None) ≡ []
   pub with_other : (v : Writer) → writers_among (set fs fd (Some (file.Writing v))) ≡ v ∷ []
@@ -332,7 +332,7 @@ none_left : {A : Type 0} (xs : List A) → length xs ≤ 0 → xs ≡ []
 none_left [] h = refl
 none_left (x ∷ xs) h = absurd (omega (arith, h))
 
-no_such : (fs : OpenFiles) (fd : ℕ) (w : Writer) → writers_among fs ≡ [] → open_file_at fs fd ≡ Some (file.Writing w) → ⊥
+no_such : (fs : RuntimeOpenFilesByNumber) (fd : ℕ) (w : Writer) → writers_among fs ≡ [] → open_file_at fs fd ≡ Some (file.Writing w) → ⊥
 no_such [] fd w none e = absurd (cc)
 no_such (None ∷ fs) zero w none e = absurd (cc)
 no_such (Some (file.Reading r) ∷ fs) zero w none e = absurd (let k = ap open_file_as_writer e in cc)
@@ -341,7 +341,7 @@ no_such (None ∷ fs) (suc fd) w none e = no_such fs fd w none e
 no_such (Some (file.Reading r) ∷ fs) (suc fd) w none e = no_such fs fd w none e
 no_such (Some (file.Writing v) ∷ fs) (suc fd) w none e = absurd (cc)
 
-pub only : (fs : OpenFiles) (fd : ℕ) (w : Writer) → open_file_at fs fd ≡ Some (file.Writing w) → length (writers_among fs) ≤ 1 → IsOnly fs fd w
+pub only : (fs : RuntimeOpenFilesByNumber) (fd : ℕ) (w : Writer) → open_file_at fs fd ≡ Some (file.Writing w) → length (writers_among fs) ≤ 1 → IsOnly fs fd w
 only [] fd w e few = absurd (cc)
 only (None ∷ fs) zero w e few = absurd (cc)
 only (Some (file.Reading r) ∷ fs) zero w e few = absurd (let k = ap open_file_as_writer e in cc)
@@ -358,7 +358,7 @@ only (Some (file.Writing v) ∷ fs) (suc fd) w e few = absurd (no_such fs fd w (
 
 -- ---- a session that stays ready
 
-one_moved : (fs : OpenFiles) (fd position : ℕ) → length (writers_among fs) ≤ 1 → length (writers_among (set fs fd (option_map (open_file_with_position position) (open_file_at fs fd)))) ≤ 1
+one_moved : (fs : RuntimeOpenFilesByNumber) (fd position : ℕ) → length (writers_among fs) ≤ 1 → length (writers_among (set fs fd (option_map (open_file_with_position position) (open_file_at fs fd)))) ≤ 1
 one_moved [] fd position h = h
 one_moved (None ∷ fs) zero position h = h
 one_moved (Some (file.Reading r) ∷ fs) zero position h = h
@@ -368,7 +368,7 @@ one_moved (Some (file.Reading r) ∷ fs) (suc fd) position h = one_moved fs fd p
 one_moved (Some (file.Writing w) ∷ fs) (suc fd) position h =
     subst (λ xs. length (w ∷ xs) ≤ 1) (sym (unmoved fs fd (none_left (writers_among fs) (omega (arith, h))))) (omega arith)
   where
-    unmoved : (fs : OpenFiles) (fd : ℕ) → writers_among fs ≡ [] → writers_among (set fs fd (option_map (open_file_with_position position) (open_file_at fs fd))) ≡ []
+    unmoved : (fs : RuntimeOpenFilesByNumber) (fd : ℕ) → writers_among fs ≡ [] → writers_among (set fs fd (option_map (open_file_with_position position) (open_file_at fs fd))) ≡ []
     unmoved [] fd e = refl
     unmoved (None ∷ fs) zero e = e
     unmoved (Some (file.Reading r) ∷ fs) zero e = e
@@ -377,10 +377,10 @@ one_moved (Some (file.Writing w) ∷ fs) (suc fd) position h =
     unmoved (Some (file.Reading r) ∷ fs) (suc fd) e = unmoved fs fd e
     unmoved (Some (file.Writing w) ∷ fs) (suc fd) e = absurd (cc)
 
-one_closed : (fs : OpenFiles) (fd : ℕ) → length (writers_among fs) ≤ 1 → length (writers_among (set fs fd None)) ≤ 1
+one_closed : (fs : RuntimeOpenFilesByNumber) (fd : ℕ) → length (writers_among fs) ≤ 1 → length (writers_among (set fs fd None)) ≤ 1
 one_closed fs fd h = let k = fewer fs fd in omega (arith, k, h)
   where
-    fewer : (fs : OpenFiles) (fd : ℕ) → length (writers_among (set fs fd None)) ≤ length (writers_among fs)
+    fewer : (fs : RuntimeOpenFilesByNumber) (fd : ℕ) → length (writers_among (set fs fd None)) ≤ length (writers_among fs)
     fewer [] fd = omega arith
     fewer (None ∷ fs) zero = omega arith
     fewer (Some (file.Reading r) ∷ fs) zero = omega arith
@@ -389,7 +389,7 @@ one_closed fs fd h = let k = fewer fs fd in omega (arith, k, h)
     fewer (Some (file.Reading r) ∷ fs) (suc fd) = fewer fs fd
     fewer (Some (file.Writing w) ∷ fs) (suc fd) = let k = fewer fs fd in omega (arith, k)
 
-pub ready_moved : (t : TreeState) (fs : OpenFiles) (fd position : ℕ) → IsSessionReadyForCalls t fs → IsSessionReadyForCalls t (set fs fd (option_map (open_file_with_position position) (open_file_at fs fd)))
+pub ready_moved : (t : TreeState) (fs : RuntimeOpenFilesByNumber) (fd position : ℕ) → IsSessionReadyForCalls t fs → IsSessionReadyForCalls t (set fs fd (option_map (open_file_with_position position) (open_file_at fs fd)))
 ready_moved t fs fd position h = record {
   sound = h.sound;
   called = h.called;
@@ -399,7 +399,7 @@ ready_moved t fs fd position h = record {
   read = read_moved t.pairs fs fd position h.read;
 }
 
-pub ready_closed : (t : TreeState) (fs : OpenFiles) (fd : ℕ) → is_saved (open_file_at fs fd) ≡ true → IsSessionReadyForCalls t fs → IsSessionReadyForCalls t (set fs fd None)
+pub ready_closed : (t : TreeState) (fs : RuntimeOpenFilesByNumber) (fd : ℕ) → is_saved (open_file_at fs fd) ≡ true → IsSessionReadyForCalls t fs → IsSessionReadyForCalls t (set fs fd None)
 ready_closed t fs fd e h = record {
   sound = h.sound;
   called = h.called;
@@ -409,40 +409,40 @@ ready_closed t fs fd e h = record {
   read = read_closed t.pairs fs fd h.read;
 }
 
-pub ready_put : (t : TreeState) (fs : OpenFiles) (r : Reader) → IsReaderApartFromWriters t.pairs (paths_of_writers fs) r → IsSessionReadyForCalls t fs → IsSessionReadyForCalls t (open_files_with_number_set fs (least_free_number fs) (Some (file.Reading r)))
+pub ready_put : (t : TreeState) (fs : RuntimeOpenFilesByNumber) (r : Reader) → IsReaderOfCurrentContentsWithoutWriter t.pairs (paths_of_writers fs) r → IsSessionReadyForCalls t fs → IsSessionReadyForCalls t (open_files_with_entry_at_number fs (least_free_file_number fs) (Some (file.Reading r)))
 ready_put t fs r k h = record {
   sound = h.sound;
   called = h.called;
   one = subst (λ ws. length ws ≤ 1) (sym (writers_put fs r)) h.one;
   idle = λ e. h.idle (sym (ap (list_any (λ w. is_some w.unsaved)) (writers_put fs r)) ∙ e);
   written = subst (AllByRecursion (IsWriterOverWritableImage t)) (sym (writers_put fs r)) h.written;
-  read = read_put t.pairs fs (least_free_number fs) r (ap (map (λ w. w.path)) (writers_put fs r)) k h.read;
+  read = read_put t.pairs fs (least_free_file_number fs) r (ap (map (λ w. w.path)) (writers_put fs r)) k h.read;
 }
 
-pub few_left : (t : TreeState) (fs : OpenFiles) → nat_le 16 (length (readers (open_files_view t fs))) ≡ false → length (readers_among fs) < 16
+pub few_left : (t : TreeState) (fs : RuntimeOpenFilesByNumber) → nat_le 16 (length (readers_of_open_files (open_files_view t fs))) ≡ false → length (readers_among fs) < 16
 few_left t fs e = few_readers (length (readers_among fs)) (ap (nat_le 16) (sym (reader_count t fs)) ∙ e)
   where
     few_readers : (n : ℕ) → nat_le 16 n ≡ false → n < 16
     few_readers n e = grind (arith, nat_tests)
 
 -- no writer is at a path that may be opened for reading
-pub apart_is : (t : TreeState) (fs : OpenFiles) (p : Path) → list_any (λ w. same_path p w.path) (writers (open_files_view t fs)) ≡ false → list_any (same_path p) (paths_of_writers fs) ≡ false
+pub apart_is : (t : TreeState) (fs : RuntimeOpenFilesByNumber) (p : Path) → list_any (λ w. same_path p w.path) (writers_of_open_files (open_files_view t fs)) ≡ false → list_any (same_path p) (paths_of_writers fs) ≡ false
 apart_is t fs p e = sym (any_path p (writers_among fs)) ∙ sym (ap (list_any (λ w. same_path p w.path)) (writers_are t fs) ∙ mapped_any t p (writers_among fs)) ∙ e
 
-pub busy_at : (t : TreeState) (fs : OpenFiles) (bytes : List ℕ) (p : Path) (b : Bool) → Some p ≡ path_of_bytes bytes →
-    b ≡ (list_any (λ w. same_path (path_or_root bytes) w.path) (writers_among fs) || nat_le 16 (length (readers_among fs))) →
-    b ≡ (list_any (λ w. same_path p w.path) (writers (open_files_view t fs)) || nat_le 16 (length (readers (open_files_view t fs))))
+pub busy_at : (t : TreeState) (fs : RuntimeOpenFilesByNumber) (bytes : List ℕ) (p : Path) (b : Bool) → Some p ≡ path_of_bytes bytes →
+    b ≡ (list_any (λ w. same_path (path_of_bytes_or_root bytes) w.path) (writers_among fs) || nat_le 16 (length (readers_among fs))) →
+    b ≡ (list_any (λ w. same_path p w.path) (writers_of_open_files (open_files_view t fs)) || nat_le 16 (length (readers_of_open_files (open_files_view t fs))))
 busy_at t fs bytes p b is e =
-    e ∙ busy t fs (path_or_root bytes)
-    ∙ ap (λ q. list_any (λ w. same_path q w.path) (writers (open_files_view t fs)) || nat_le 16 (length (readers (open_files_view t fs)))) (ap (λ z. unwrap_or z []) (sym is))
+    e ∙ busy t fs (path_of_bytes_or_root bytes)
+    ∙ ap (λ q. list_any (λ w. same_path q w.path) (writers_of_open_files (open_files_view t fs)) || nat_le 16 (length (readers_of_open_files (open_files_view t fs)))) (ap (λ z. unwrap_or z []) (sym is))
 
-pub lacks_is : (t : TreeState) (fs : OpenFiles) (need : ℕ) → IsSessionReadyForCalls t fs → nat_lt (block_count t.disk) (length (disk_summary_of_tree t).used + blocks_reserved_by_writers t.disk.block_size fs + need) ≡ lacks_free_blocks (disk_summary_of_tree t) (open_files_view t fs) need
+pub lacks_is : (t : TreeState) (fs : RuntimeOpenFilesByNumber) (need : ℕ) → IsSessionReadyForCalls t fs → nat_lt (block_count t.disk) (length (disk_summary_of_tree t).used + blocks_reserved_by_writers t.disk.block_size fs + need) ≡ lacks_free_blocks (disk_summary_of_tree t) (open_files_view t fs) need
 lacks_is t fs need ready = ap (λ h. nat_lt (block_count t.disk) (length (disk_summary_of_tree t).used + h + need)) (held_is t.disk.block_size t fs ready)
 
-pub some_reader : (t : TreeState) (fs : OpenFiles) (fd : ℕ) (r : Reader) → Some r ≡ open_file_as_reader (open_file_at fs fd) → Some (reader_view r) ≡ reader_of_open_file (open_file_of (open_files_view t fs) fd)
+pub some_reader : (t : TreeState) (fs : RuntimeOpenFilesByNumber) (fd : ℕ) (r : Reader) → Some r ≡ open_file_as_reader (open_file_at fs fd) → Some (reader_view r) ≡ reader_of_open_file (open_file_with_number (open_files_view t fs) fd)
 some_reader t fs fd r e = ap (option_map reader_view) e ∙ sym (ap reader_of_open_file (file_is t fs fd) ∙ reader_is t (open_file_at fs fd))
 
-pub none_reader : (t : TreeState) (fs : OpenFiles) (fd : ℕ) → None ≡ open_file_as_reader (open_file_at fs fd) → None ≡ reader_of_open_file (open_file_of (open_files_view t fs) fd)
+pub none_reader : (t : TreeState) (fs : RuntimeOpenFilesByNumber) (fd : ℕ) → None ≡ open_file_as_reader (open_file_at fs fd) → None ≡ reader_of_open_file (open_file_with_number (open_files_view t fs) fd)
 none_reader t fs fd e = ap (option_map reader_view) e ∙ sym (ap reader_of_open_file (file_is t fs fd) ∙ reader_is t (open_file_at fs fd))
 
 pub reader_there : (o : Option OpenFile) (r : Reader) → Some r ≡ open_file_as_reader o → is_some o ≡ true
@@ -453,7 +453,7 @@ chosen : (b : Bool) (o : session.OpenFile) → b ≡ is_some (cond b (Some o) No
 chosen true o = refl
 chosen false o = refl
 
-pub open_at_is : (t : TreeState) (p : Path → Bool) (fs : OpenFiles) → list_any (is_open_at_path_such_that p) fs ≡ has_open_file_at p (open_files_view t fs)
+pub open_at_is : (t : TreeState) (p : Path → Bool) (fs : RuntimeOpenFilesByNumber) → list_any (is_open_at_matching_path p) fs ≡ has_open_file_with_path_satisfying p (open_files_view t fs)
 open_at_is t p [] = refl
 open_at_is t p (None ∷ fs) = open_at_is t p fs
 open_at_is t p (Some (file.Reading r) ∷ fs) = ap₂ (λ a b. a || b) (chosen (p r.path) (session.Reading (reader_view r))) (open_at_is t p fs)

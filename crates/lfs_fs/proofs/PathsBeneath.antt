@@ -6,9 +6,9 @@ use Rattle.std.proofs.lemmas.Slice.Eq.{starts_is}
 use Rattle.std.proofs.lemmas.Bool.{and_parts, lt-ltb, ltb-true, ltb-false}
 use Rattle.std.proofs.lemmas.Bool.Decides.{Decides-eqb}
 use Rattle.lfs_model.specs.TreeEdits.{path_without_prefix}
-use Rattle.lfs_model.specs.Names.{Name, is_path_component, same_name, slash}
+use Rattle.lfs_model.specs.Names.{Name, is_path_component, same_name, slash_byte}
 use Rattle.lfs_model.specs.Operations.{path_of_bytes}
-use Rattle.lfs_model.specs.Refusals.{path_or_root, is_root_or_invalid_path}
+use Rattle.lfs_model.specs.Refusals.{path_of_bytes_or_root, is_root_or_invalid_path}
 use Rattle.lfs_model.specs.Tree.{Path}
 use Rattle.lfs_model.proofs.Paths.{Names, alike, unlike, names, same_itself, unlike_test}
 use Rattle.lfs_fs.specs.RenamePaths.{is_path_prefix}
@@ -44,7 +44,7 @@ first_names a b n m = go (a == b) refl
     go false e = unlike_test (a ∷ n) (b ∷ m) (λ k. absurd (let f : a ≡ b = ap (λ xs. get_or xs 0 0) k in let t = sym e ∙ ap (λ z. a == z) (sym f) ∙ same_number a in cc))
 
 abbrev part : ℕ → List ℕ → Path → Path
-part x xs rest = if x == slash then [] ∷ rest else onto_first x rest
+part x xs rest = if x == slash_byte then [] ∷ rest else onto_first x rest
 
 abbrev is_on : Path → Path → Bool
 is_on p q = is_some (path_without_prefix p q)
@@ -55,47 +55,47 @@ record IsParts (parts : Path) : Type 0 where
   rest : Path
   are : parts ≡ first ∷ rest
 
-parts_are : (xs : List ℕ) → IsParts (slice_split (λ c. c == slash) xs)
+parts_are : (xs : List ℕ) → IsParts (slice_split (λ c. c == slash_byte) xs)
 parts_are [] = record { first = []; rest = []; are = refl }
-parts_are (x ∷ xs) = go (x == slash) (parts_are xs)
+parts_are (x ∷ xs) = go (x == slash_byte) (parts_are xs)
   where
-    go : (b : Bool) → IsParts (slice_split (λ c. c == slash) xs) → IsParts (if b then [] ∷ slice_split (λ c. c == slash) xs else onto_first x (slice_split (λ c. c == slash) xs))
-    go true k = record { first = []; rest = slice_split (λ c. c == slash) xs; are = refl }
+    go : (b : Bool) → IsParts (slice_split (λ c. c == slash_byte) xs) → IsParts (if b then [] ∷ slice_split (λ c. c == slash_byte) xs else onto_first x (slice_split (λ c. c == slash_byte) xs))
+    go true k = record { first = []; rest = slice_split (λ c. c == slash_byte) xs; are = refl }
     go false k = record { first = x ∷ k.first; rest = k.rest; are = ap (onto_first x) k.are }
 
-split_on : (xs ys : List ℕ) → is_on (slice_split (λ c. c == slash) xs) (slice_split (λ c. c == slash) ys) ≡ is_path_prefix xs ys
+split_on : (xs ys : List ℕ) → is_on (slice_split (λ c. c == slash_byte) xs) (slice_split (λ c. c == slash_byte) ys) ≡ is_path_prefix xs ys
 split_on [] [] = refl
-split_on [] (y ∷ ys) = go (y == slash) (parts_are ys)
+split_on [] (y ∷ ys) = go (y == slash_byte) (parts_are ys)
   where
-    go : (b : Bool) → IsParts (slice_split (λ c. c == slash) ys) → is_on ([] ∷ []) (if b then [] ∷ slice_split (λ c. c == slash) ys else onto_first y (slice_split (λ c. c == slash) ys)) ≡ b
+    go : (b : Bool) → IsParts (slice_split (λ c. c == slash_byte) ys) → is_on ([] ∷ []) (if b then [] ∷ slice_split (λ c. c == slash_byte) ys else onto_first y (slice_split (λ c. c == slash_byte) ys)) ≡ b
     go true k = refl
     go false k = ap (λ z. is_on ([] ∷ []) (onto_first y z)) k.are
-split_on (x ∷ xs) [] = go (x == slash) (parts_are xs)
+split_on (x ∷ xs) [] = go (x == slash_byte) (parts_are xs)
   where
-    go : (b : Bool) → IsParts (slice_split (λ c. c == slash) xs) → is_on (if b then [] ∷ slice_split (λ c. c == slash) xs else onto_first x (slice_split (λ c. c == slash) xs)) ([] ∷ []) ≡ false
+    go : (b : Bool) → IsParts (slice_split (λ c. c == slash_byte) xs) → is_on (if b then [] ∷ slice_split (λ c. c == slash_byte) xs else onto_first x (slice_split (λ c. c == slash_byte) xs)) ([] ∷ []) ≡ false
     go true k = ap (λ z. is_on ([] ∷ z) ([] ∷ [])) k.are
     go false k = ap (λ z. is_on (onto_first x z) ([] ∷ [])) k.are
-split_on (x ∷ xs) (y ∷ ys) = go (split_on xs ys) (x == slash) (y == slash) refl refl (parts_are xs) (parts_are ys)
+split_on (x ∷ xs) (y ∷ ys) = go (split_on xs ys) (x == slash_byte) (y == slash_byte) refl refl (parts_are xs) (parts_are ys)
   where
     ps : Path
-    ps = slice_split (λ c. c == slash) xs
+    ps = slice_split (λ c. c == slash_byte) xs
 
     qs : Path
-    qs = slice_split (λ c. c == slash) ys
+    qs = slice_split (λ c. c == slash_byte) ys
 
     apart : (x == y) ≡ false → ((x == y) && is_path_prefix xs ys) ≡ false
     apart e = ap (λ b. b && is_path_prefix xs ys) e
 
-    differs : (a b : Bool) → (x == slash) ≡ a → (y == slash) ≡ b → (a ≡ b → ⊥) → (x == y) ≡ false
+    differs : (a b : Bool) → (x == slash_byte) ≡ a → (y == slash_byte) ≡ b → (a ≡ b → ⊥) → (x == y) ≡ false
     differs a b e f ne = stays (x == y) refl
       where
         stays : (c : Bool) → (x == y) ≡ c → c ≡ false
         stays false k = refl
-        stays true k = absurd (ne (sym e ∙ ap (λ z. z == slash) (eqb-true x y k) ∙ f))
+        stays true k = absurd (ne (sym e ∙ ap (λ z. z == slash_byte) (eqb-true x y k) ∙ f))
 
-    go : is_on ps qs ≡ is_path_prefix xs ys → (a b : Bool) → (x == slash) ≡ a → (y == slash) ≡ b → IsParts ps → IsParts qs → is_on (if a then [] ∷ ps else onto_first x ps) (if b then [] ∷ qs else onto_first y qs) ≡ ((x == y) && is_path_prefix xs ys)
+    go : is_on ps qs ≡ is_path_prefix xs ys → (a b : Bool) → (x == slash_byte) ≡ a → (y == slash_byte) ≡ b → IsParts ps → IsParts qs → is_on (if a then [] ∷ ps else onto_first x ps) (if b then [] ∷ qs else onto_first y qs) ≡ ((x == y) && is_path_prefix xs ys)
     go so true true e f k l =
-        so ∙ sym (ap (λ b. b && is_path_prefix xs ys) (ap (λ z. z == y) (eqb-true x slash e) ∙ ap (λ z. slash == z) (eqb-true y slash f) ∙ same_number slash))
+        so ∙ sym (ap (λ b. b && is_path_prefix xs ys) (ap (λ z. z == y) (eqb-true x slash_byte e) ∙ ap (λ z. slash_byte == z) (eqb-true y slash_byte f) ∙ same_number slash_byte))
     go so true false e f k l = ap (λ z. is_on ([] ∷ ps) (onto_first y z)) l.are ∙ sym (apart (differs true false e f (λ z. absurd (cc))))
     go so false true e f k l = ap (λ z. is_on (onto_first x z) ([] ∷ qs)) k.are ∙ sym (apart (differs false true e f (λ z. absurd (cc))))
     go so false false e f k l =
@@ -108,24 +108,24 @@ split_on (x ∷ xs) (y ∷ ys) = go (split_on xs ys) (x == slash) (y == slash) r
         halves true b o = refl
         halves false b o = refl
 
-parts_of : (b : ℕ) (xs : List ℕ) → is_some (path_of_bytes (b ∷ xs)) ≡ true → (b ≡ slash) × (path_or_root (b ∷ xs) ≡ cond (nat_lt 0 (length xs)) (slice_split (λ c. c == slash) xs) [])
-parts_of b xs h = go (b == slash) (nat_lt 0 (length xs)) (list_all is_path_component (slice_split (λ c. c == slash) xs)) refl h
+parts_of : (b : ℕ) (xs : List ℕ) → is_some (path_of_bytes (b ∷ xs)) ≡ true → (b ≡ slash_byte) × (path_of_bytes_or_root (b ∷ xs) ≡ cond (nat_lt 0 (length xs)) (slice_split (λ c. c == slash_byte) xs) [])
+parts_of b xs h = go (b == slash_byte) (nat_lt 0 (length xs)) (list_all is_path_component (slice_split (λ c. c == slash_byte) xs)) refl h
   where
-    go : (s l c : Bool) → (b == slash) ≡ s → is_some (cond (not s) None (cond l (cond c (Some (slice_split (λ c. c == slash) xs)) None) (Some []))) ≡ true
-        → (b ≡ slash) × (unwrap_or (cond (not s) None (cond l (cond c (Some (slice_split (λ c. c == slash) xs)) None) (Some []))) [] ≡ cond l (slice_split (λ c. c == slash) xs) [])
+    go : (s l c : Bool) → (b == slash_byte) ≡ s → is_some (cond (not s) None (cond l (cond c (Some (slice_split (λ c. c == slash_byte) xs)) None) (Some []))) ≡ true
+        → (b ≡ slash_byte) × (unwrap_or (cond (not s) None (cond l (cond c (Some (slice_split (λ c. c == slash_byte) xs)) None) (Some []))) [] ≡ cond l (slice_split (λ c. c == slash_byte) xs) [])
     go false l c e k = absurd (cc)
-    go true false c e k = (eqb-true b slash e, refl)
+    go true false c e k = (eqb-true b slash_byte e, refl)
     go true true false e k = absurd (cc)
-    go true true true e k = (eqb-true b slash e, refl)
+    go true true true e k = (eqb-true b slash_byte e, refl)
 
 good : (o : Option Path) → is_root_or_invalid_path o ≡ false → is_some o ≡ true
 good None e = absurd (cc)
 good (Some p) e = refl
 
 -- the path of the second bytes is that of the first, which is an entry's, or lies beneath it
-pub is_beneath_bytes : (xs ys : List ℕ) → is_root_or_invalid_path (path_of_bytes xs) ≡ false → is_some (path_of_bytes ys) ≡ true → is_path_prefix xs ys ≡ is_some (path_without_prefix (path_or_root xs) (path_or_root ys))
+pub is_beneath_bytes : (xs ys : List ℕ) → is_root_or_invalid_path (path_of_bytes xs) ≡ false → is_some (path_of_bytes ys) ≡ true → is_path_prefix xs ys ≡ is_some (path_without_prefix (path_of_bytes_or_root xs) (path_of_bytes_or_root ys))
 is_beneath_bytes [] ys e f = absurd (let k = good (path_of_bytes []) e in cc)
-is_beneath_bytes (x ∷ []) ys e f = absurd (go (x == slash) e)
+is_beneath_bytes (x ∷ []) ys e f = absurd (go (x == slash_byte) e)
   where
     go : (s : Bool) → is_root_or_invalid_path (cond (not s) None (Some [])) ≡ false → ⊥
     go true k = absurd (cc)
@@ -134,22 +134,22 @@ is_beneath_bytes (x ∷ a ∷ xs) [] e f = absurd (cc)
 is_beneath_bytes (x ∷ a ∷ xs) (y ∷ ys) e f = both ys (parts_of x (a ∷ xs) (good (path_of_bytes (x ∷ a ∷ xs)) e)) (parts_of y ys f) (parts_are (a ∷ xs))
   where
     from : Path
-    from = slice_split (λ c. c == slash) (a ∷ xs)
+    from = slice_split (λ c. c == slash_byte) (a ∷ xs)
 
-    both : (ys : List ℕ) → (x ≡ slash) × (path_or_root (x ∷ a ∷ xs) ≡ cond (nat_lt 0 (length (a ∷ xs))) from []) → (y ≡ slash) × (path_or_root (y ∷ ys) ≡ cond (nat_lt 0 (length ys)) (slice_split (λ c. c == slash) ys) []) → IsParts from
-        → is_path_prefix (x ∷ a ∷ xs) (y ∷ ys) ≡ is_some (path_without_prefix (path_or_root (x ∷ a ∷ xs)) (path_or_root (y ∷ ys)))
+    both : (ys : List ℕ) → (x ≡ slash_byte) × (path_of_bytes_or_root (x ∷ a ∷ xs) ≡ cond (nat_lt 0 (length (a ∷ xs))) from []) → (y ≡ slash_byte) × (path_of_bytes_or_root (y ∷ ys) ≡ cond (nat_lt 0 (length ys)) (slice_split (λ c. c == slash_byte) ys) []) → IsParts from
+        → is_path_prefix (x ∷ a ∷ xs) (y ∷ ys) ≡ is_some (path_without_prefix (path_of_bytes_or_root (x ∷ a ∷ xs)) (path_of_bytes_or_root (y ∷ ys)))
     both [] h k p =
         ap (λ b. b && false) first ∙ sym (ap₂ (λ p q. is_some (path_without_prefix p q)) (h.1 ∙ ap (λ b. cond b from []) (lt-ltb 0 (length (a ∷ xs)) (omega arith)) ∙ p.are) k.1)
       where
         first : (x == y) ≡ true
-        first = ap₂ (λ z w. z == w) h.0 k.0 ∙ same_number slash
+        first = ap₂ (λ z w. z == w) h.0 k.0 ∙ same_number slash_byte
     both (b ∷ ys) h k p =
         ap (λ z. z && is_path_prefix (a ∷ xs) (b ∷ ys)) first ∙ sym (split_on (a ∷ xs) (b ∷ ys))
         ∙ sym (ap₂ (λ p q. is_some (path_without_prefix p q)) (h.1 ∙ ap (λ z. cond z from []) (lt-ltb 0 (length (a ∷ xs)) (omega arith)))
-        (k.1 ∙ ap (λ z. cond z (slice_split (λ c. c == slash) (b ∷ ys)) []) (lt-ltb 0 (length (b ∷ ys)) (omega arith))))
+        (k.1 ∙ ap (λ z. cond z (slice_split (λ c. c == slash_byte) (b ∷ ys)) []) (lt-ltb 0 (length (b ∷ ys)) (omega arith))))
       where
         first : (x == y) ≡ true
-        first = ap₂ (λ z w. z == w) h.0 k.0 ∙ same_number slash
+        first = ap₂ (λ z w. z == w) h.0 k.0 ∙ same_number slash_byte
 
 -- ---- what a search for the beginning says
 

@@ -2,49 +2,49 @@
 use Rattle.std.proofs.Common.{◌≡◌, ◌<◌, ◌≤◌, Bool, not, nat_le, arith, true, false, cond, ℕ, List, map, Option, Some, None, Result, Ok, Err, refl, sym, ap, ap₂, subst, ◌∙◌}
 use Rattle.std.specs.Prelude.{OnOk, OnErr, IfOk, IfErr}
 use Rattle.lfs_device.specs.declared.error.Error.{Error}
-use Rattle.lfs_model.specs.History.{faults}
+use Rattle.lfs_model.specs.History.{fault_count_of_history}
 use Rattle.lfs_model.specs.Operations as ops
 use Rattle.lfs_model.specs.Operations.{Operation, Reply, Failed}
-use Rattle.lfs_model.specs.Refusals.{path_or_root, refusal_of_operation}
-use Rattle.lfs_model.specs.Effects.{effect_of_operation, items_in}
+use Rattle.lfs_model.specs.Refusals.{path_of_bytes_or_root, refusal_of_operation}
+use Rattle.lfs_model.specs.Effects.{effect_of_operation, directory_items_at_path}
 use Rattle.std.proofs.lemmas.Bool.{le-leb, leb-true}
 use Rattle.lfs_model.specs.TreeEdits.{is_directory}
 use Rattle.lfs_model.specs.Session.{refuse_if}
 use Rattle.lfs_model.specs.Tree.{Path}
 use Rattle.lfs_model.specs.State.{is_remount_operation}
 use Rattle.lfs_model.specs.Run.{IsSessionStep, needs_no_device_call}
-use Rattle.lfs_model.specs.Headline.{is_query_without_file}
+use Rattle.lfs_model.specs.Headline.{is_query_needing_no_open_file}
 use Rattle.lfs_model.proofs.Histories.{AreCallsSinceOnlyReads-trans}
 use Rattle.lfs_model.proofs.SessionSteps.{not_remount}
 use Rattle.lfs_lookup.specs.Finds.{list_item_view}
 use Rattle.lfs_lookup.specs.declared.kinds.ListItem.{ListItem}
 use Rattle.lfs_lookup.specs.Refusals.{refusal_of_error}
-use Rattle.lfs_tree.specs.TreeState.{TreeState, IsSoundTreeState, tree_view, disk_summary_of_tree, WasTreeOnlyRead, IsTreeFailedByRead, IsErrorWithCause}
+use Rattle.lfs_tree.specs.TreeState.{TreeState, IsSoundTreeState, tree_view, disk_summary_of_tree, WasTreeOnlyRead, IsTreeFailedByRead, IsIoWithFaultOrNoMemory}
 use Rattle.lfs_fs.specs.Replies.{reply_from_result}
-use Rattle.lfs_fs.specs.FileView.{OpenFiles}
-use Rattle.lfs_fs.specs.SessionView.{SessionView, IsSessionReadyForCalls, session_view_with_files_view, session_of, system_state_of, refusal_by_checks, IsSessionStepOrFailure}
+use Rattle.lfs_fs.specs.FileView.{RuntimeOpenFilesByNumber}
+use Rattle.lfs_fs.specs.SessionView.{SessionView, IsSessionReadyForCalls, session_view_of_tree_and_files_view, session_of_session_view, system_state_of_session_view, refusal_by_checks, IsSessionStepOrFailure}
 use Rattle.lfs_fs.proofs.Answered.{refused_answer, asked_answer, nothing_asked, question_only_asks, question_keeps, question_recovers_nothing, question_lays_nothing}
 
 -- ---- without a call
 
 pub failed_by : (h : SessionView) (op : Operation) → true ≡ h.tree.failed → refusal_by_checks h op ≡ Some Failed
-failed_by h op e = ap (λ b. cond b (Some Failed) (refusal_of_operation (disk_summary_of_tree h.tree) (session_of h) op)) (sym e)
+failed_by h op e = ap (λ b. cond b (Some Failed) (refusal_of_operation (disk_summary_of_tree h.tree) (session_of_session_view h) op)) (sym e)
 
-pub works_by : (h : SessionView) (op : Operation) (r : Option ops.Refusal) → false ≡ h.tree.failed → refusal_of_operation (disk_summary_of_tree h.tree) (session_of h) op ≡ r → refusal_by_checks h op ≡ r
-works_by h op r e is = ap (λ b. cond b (Some Failed) (refusal_of_operation (disk_summary_of_tree h.tree) (session_of h) op)) (sym e) ∙ is
+pub works_by : (h : SessionView) (op : Operation) (r : Option ops.Refusal) → false ≡ h.tree.failed → refusal_of_operation (disk_summary_of_tree h.tree) (session_of_session_view h) op ≡ r → refusal_by_checks h op ≡ r
+works_by h op r e is = ap (λ b. cond b (Some Failed) (refusal_of_operation (disk_summary_of_tree h.tree) (session_of_session_view h) op)) (sym e) ∙ is
 
 pub refused_kept : (old now : SessionView) (op : Operation) (e : Error) → old ≡ now → (old.tree.failed ≡ false → IsSoundTreeState old.tree) → is_remount_operation op ≡ false → refusal_by_checks old op ≡ Some (refusal_of_error e) →
     IsSessionStepOrFailure now op (Ok (ops.Refused (refusal_of_error e))) now
 refused_kept old now op e same ready other is =
     subst (λ z. IsSessionStepOrFailure z op (Ok (ops.Refused (refusal_of_error e))) z) same (refused_answer old op (refusal_of_error e) old.tree ready other (nothing_asked old.tree) is)
 
-pub question_kept : (old now : SessionView) (op : Operation) (reply : Reply) → old ≡ now → (old.tree.failed ≡ false → IsSoundTreeState old.tree) → is_query_without_file op ≡ true → refusal_by_checks old op ≡ None →
-    reply ≡ (effect_of_operation (disk_summary_of_tree old.tree) (session_of old) op).0 → IsSessionStepOrFailure now op (Ok reply) now
+pub question_kept : (old now : SessionView) (op : Operation) (reply : Reply) → old ≡ now → (old.tree.failed ≡ false → IsSoundTreeState old.tree) → is_query_needing_no_open_file op ≡ true → refusal_by_checks old op ≡ None →
+    reply ≡ (effect_of_operation (disk_summary_of_tree old.tree) (session_of_session_view old) op).0 → IsSessionStepOrFailure now op (Ok reply) now
 question_kept old now op reply same ready asks e is =
     subst (λ z. IsSessionStepOrFailure z op (Ok reply) z) same
-    (subst (λ r. IsSessionStep (system_state_of old) op r (system_state_of old)) (sym is)
-    (asked_answer old op old.tree old.files ready (nothing_asked old.tree) e (not_remount op asks) (question_only_asks (session_of old) op asks) (question_keeps (disk_summary_of_tree old.tree) (session_of old) op asks)
-    (question_recovers_nothing op asks) (question_lays_nothing (session_of old) op asks) (λ k. refl)))
+    (subst (λ r. IsSessionStep (system_state_of_session_view old) op r (system_state_of_session_view old)) (sym is)
+    (asked_answer old op old.tree old.files ready (nothing_asked old.tree) e (not_remount op asks) (question_only_asks (session_of_session_view old) op asks) (question_keeps (disk_summary_of_tree old.tree) (session_of_session_view old) op asks)
+    (question_recovers_nothing op asks) (question_lays_nothing (session_of_session_view old) op asks) (λ k. refl)))
 
 -- ---- two calls
 
@@ -63,14 +63,14 @@ broken_twice a b c h k = record {
   reads = AreCallsSinceOnlyReads-trans h.reads k.reads (ap (λ (t : TreeState). t.disk.blocks) h.same);
 }
 
-pub error_twice : (a b c : TreeState) (e : Error) → WasTreeOnlyRead a b → IsErrorWithCause b c e → IsErrorWithCause a c e
+pub error_twice : (a b c : TreeState) (e : Error) → WasTreeOnlyRead a b → IsIoWithFaultOrNoMemory b c e → IsIoWithFaultOrNoMemory a c e
 error_twice a b c e h k = record {
   errors = k.errors;
-  fault = λ x. subst (λ n. n < faults c.history) h.no_fault (k.fault x);
+  fault = λ x. subst (λ n. n < fault_count_of_history c.history) h.no_fault (k.fault x);
   no_fault = λ x. k.no_fault x ∙ h.no_fault;
 }
 
-pub error_either : {A : Type 0} (a b c : TreeState) (r : Result A Error) → WasTreeOnlyRead a b → IfErr r (IsErrorWithCause b c) → IfErr r (IsErrorWithCause a c)
+pub error_either : {A : Type 0} (a b c : TreeState) (r : Result A Error) → WasTreeOnlyRead a b → IfErr r (IsIoWithFaultOrNoMemory b c) → IfErr r (IsIoWithFaultOrNoMemory a c)
 error_either a b c (Ok x) h k = tt
 error_either a b c (Err e) h k = error_twice a b c e h k
 

@@ -2,54 +2,54 @@
 use Rattle.std.proofs.Common.{ℕ, ◌≡◌, ◌+◌, ◌-◌, ◌<◌, ◌^◌, min, true, false, List, length, take, drop, Option, Some, None, is_none, Result, Ok, Err, refl, sym, ap, ap₂, subst, ◌∙◌, arith}
 use Rattle.std.proofs.lemmas.List.{length-take, length-drop}
 use Rattle.std.specs.Option.{option_map}
-use Rattle.lfs_model.specs.TreeEdits.{bytes_at, is_file}
+use Rattle.lfs_model.specs.TreeEdits.{file_bytes_of_node, is_file}
 use Rattle.lfs_model.specs.Operations as ops
 use Rattle.lfs_model.specs.Operations.{Operation, Reply}
-use Rattle.lfs_model.specs.Session.{Files, OpenFile, Reader, Reading, Writing, open_file_of, put_file, reader_of_open_file, refuse_if}
+use Rattle.lfs_model.specs.Session.{OpenFilesByNumber, OpenFile, FileReader, Reading, Writing, open_file_with_number, open_files_with_file_at_number, reader_of_open_file, refuse_if}
 use Rattle.lfs_model.specs.Effects.{open_file_at_position, read_effect, file_size_of_node}
 use Rattle.lfs_model.specs.Tree.{Node, FileNode, DirectoryNode}
 use Rattle.lfs_tree.specs.TreeState.{TreeState, IsSoundTreeState, tree_view, WasTreeOnlyRead}
-use Rattle.lfs_fs.specs.SessionView.{SessionView, session_view_with_files_view, session_of, refusal_by_checks, IsSessionStepOrFailure}
+use Rattle.lfs_fs.specs.SessionView.{SessionView, session_view_of_tree_and_files_view, session_of_session_view, refusal_by_checks, IsSessionStepOrFailure}
 use Rattle.lfs_device.specs.declared.error.Error.{Error}
 use Rattle.lfs_lookup.specs.Refusals.{refusal_of_error}
-use Rattle.lfs_tree.specs.TreeState.{IsTreeFailedByRead, IsErrorWithCause}
+use Rattle.lfs_tree.specs.TreeState.{IsTreeFailedByRead, IsIoWithFaultOrNoMemory}
 use Rattle.lfs_fs.specs.Replies.{reply_from_result}
 use Rattle.lfs_fs.proofs.Failing.{asking_fails}
 use Rattle.lfs_fs.proofs.Answered.{error_answers, files_answers}
 use Rattle.lfs_fs.proofs.Questions.{works_by}
 
-reading_is : (f : Option OpenFile) (r : Reader) → Some r ≡ reader_of_open_file f → f ≡ Some (Reading r)
+reading_is : (f : Option OpenFile) (r : FileReader) → Some r ≡ reader_of_open_file f → f ≡ Some (Reading r)
 reading_is None r e = absurd (cc)
 reading_is (Some (Reading q)) r e = ap or_else (sym e)
   where
-    or_else : Option Reader → Option OpenFile
+    or_else : Option FileReader → Option OpenFile
     or_else None = Some (Reading q)
     or_else (Some z) = Some (Reading z)
 reading_is (Some (Writing w)) r e = absurd (cc)
 
-pub no_reader : (h : SessionView) (fd count : ℕ) → false ≡ h.tree.failed → None ≡ reader_of_open_file (open_file_of h.files fd) → refusal_by_checks h (ops.Read fd count) ≡ Some ops.BadFile
+pub no_reader : (h : SessionView) (fd count : ℕ) → false ≡ h.tree.failed → None ≡ reader_of_open_file (open_file_with_number h.files fd) → refusal_by_checks h (ops.Read fd count) ≡ Some ops.BadFile
 no_reader h fd count works e = works_by h (ops.Read fd count) (Some ops.BadFile) works (ap (λ z. refuse_if (is_none z) ops.BadFile) (sym e))
 
-pub a_reader : (h : SessionView) (fd count : ℕ) (r : Reader) → false ≡ h.tree.failed → Some r ≡ reader_of_open_file (open_file_of h.files fd) → refusal_by_checks h (ops.Read fd count) ≡ None
+pub a_reader : (h : SessionView) (fd count : ℕ) (r : FileReader) → false ≡ h.tree.failed → Some r ≡ reader_of_open_file (open_file_with_number h.files fd) → refusal_by_checks h (ops.Read fd count) ≡ None
 a_reader h fd count r works e = works_by h (ops.Read fd count) None works (ap (λ z. refuse_if (is_none z) ops.BadFile) (sym e))
 
-pub read_answers : (old now : SessionView) (fd count : ℕ) (r : Reader) (tree : TreeState) (files : Files) (bytes : List ℕ) (position : ℕ) → old ≡ now → (old.tree.failed ≡ false → IsSoundTreeState old.tree) → false ≡ old.tree.failed → WasTreeOnlyRead old.tree tree →
-    Some r ≡ reader_of_open_file (open_file_of old.files fd) → bytes ≡ take count (drop r.position (bytes_at (tree_view old.tree r.path))) → position ≡ r.position + length bytes →
-    files ≡ put_file old.files fd (option_map (open_file_at_position position) (open_file_of old.files fd)) → IsSessionStepOrFailure now (ops.Read fd count) (Ok (ops.Bytes bytes)) (session_view_with_files_view tree files)
+pub read_answers : (old now : SessionView) (fd count : ℕ) (r : FileReader) (tree : TreeState) (files : OpenFilesByNumber) (bytes : List ℕ) (position : ℕ) → old ≡ now → (old.tree.failed ≡ false → IsSoundTreeState old.tree) → false ≡ old.tree.failed → WasTreeOnlyRead old.tree tree →
+    Some r ≡ reader_of_open_file (open_file_with_number old.files fd) → bytes ≡ take count (drop r.position (file_bytes_of_node (tree_view old.tree r.path))) → position ≡ r.position + length bytes →
+    files ≡ open_files_with_file_at_number old.files fd (option_map (open_file_at_position position) (open_file_with_number old.files fd)) → IsSessionStepOrFailure now (ops.Read fd count) (Ok (ops.Bytes bytes)) (session_view_of_tree_and_files_view tree files)
 read_answers old now fd count r tree files bytes position same ready works asked is bytes_are at files_are =
     files_answers old now (ops.Read fd count) tree files (ops.Bytes bytes) same ready asked (a_reader old fd count r works is) refl refl refl refl refl
-    (ap (read_effect (session_of old) fd count) (sym is) ∙ ap₂ (λ b f. (ops.Bytes b, record { tree = tree_view old.tree; files = f })) (sym bytes_are) moved)
+    (ap (read_effect (session_of_session_view old) fd count) (sym is) ∙ ap₂ (λ b f. (ops.Bytes b, record { tree = tree_view old.tree; files = f })) (sym bytes_are) moved)
   where
     given : List ℕ
-    given = take count (drop r.position (bytes_at (tree_view old.tree r.path)))
+    given = take count (drop r.position (file_bytes_of_node (tree_view old.tree r.path)))
 
-    moved : put_file old.files fd (Some (Reading (record r { position = r.position + length given }))) ≡ files
-    moved = ap (λ n. put_file old.files fd (Some (Reading (record r { position = n })))) (ap (λ b. r.position + length b) (sym bytes_are) ∙ sym at)
-        ∙ ap (λ f. put_file old.files fd (option_map (open_file_at_position position) f)) (sym (reading_is (open_file_of old.files fd) r is)) ∙ sym files_are
+    moved : open_files_with_file_at_number old.files fd (Some (Reading (record r { position = r.position + length given }))) ≡ files
+    moved = ap (λ n. open_files_with_file_at_number old.files fd (Some (Reading (record r { position = n })))) (ap (λ b. r.position + length b) (sym bytes_are) ∙ sym at)
+        ∙ ap (λ f. open_files_with_file_at_number old.files fd (option_map (open_file_at_position position) f)) (sym (reading_is (open_file_with_number old.files fd) r is)) ∙ sym files_are
 
 -- ---- where it ends
 
-file_there : (n : Option Node) (size : ℕ) → file_size_of_node n ≡ Some size → (is_file n ≡ true) × (length (bytes_at n) ≡ size)
+file_there : (n : Option Node) (size : ℕ) → file_size_of_node n ≡ Some size → (is_file n ≡ true) × (length (file_bytes_of_node n) ≡ size)
 file_there None size e = absurd (cc)
 file_there (Some (FileNode attributes bytes)) size e = (refl, ap or_else e)
   where
@@ -62,9 +62,9 @@ pub is_there : (n : Option Node) (size : ℕ) → file_size_of_node n ≡ Some s
 is_there n size e = (file_there n size e).0
 
 -- a call failed on the way
-pub read_fails : {B : Type 0} (old now : SessionView) (op : Operation) (reply : B → Reply) (e : Error) (tree : TreeState) (r : Result B Error) → old ≡ now → false ≡ old.tree.failed → IsTreeFailedByRead old.tree tree → IsErrorWithCause old.tree tree e → r ≡ Err e →
-    IsSessionStepOrFailure now op (reply_from_result reply r) (session_view_with_files_view tree old.files)
+pub read_fails : {B : Type 0} (old now : SessionView) (op : Operation) (reply : B → Reply) (e : Error) (tree : TreeState) (r : Result B Error) → old ≡ now → false ≡ old.tree.failed → IsTreeFailedByRead old.tree tree → IsIoWithFaultOrNoMemory old.tree tree e → r ≡ Err e →
+    IsSessionStepOrFailure now op (reply_from_result reply r) (session_view_of_tree_and_files_view tree old.files)
 read_fails old now op reply e tree r same works broken error is =
-    subst (λ z. IsSessionStepOrFailure z op (reply_from_result reply r) (session_view_with_files_view tree old.files)) same
-    (subst (λ z. IsSessionStepOrFailure old op (reply_from_result reply z) (session_view_with_files_view tree old.files)) (sym is)
-    (error_answers old op e (session_view_with_files_view tree old.files) (ops.Refused (refusal_of_error e)) error.errors (asking_fails e old op tree old.files (sym works) broken error)))
+    subst (λ z. IsSessionStepOrFailure z op (reply_from_result reply r) (session_view_of_tree_and_files_view tree old.files)) same
+    (subst (λ z. IsSessionStepOrFailure old op (reply_from_result reply z) (session_view_of_tree_and_files_view tree old.files)) (sym is)
+    (error_answers old op e (session_view_of_tree_and_files_view tree old.files) (ops.Refused (refusal_of_error e)) error.errors (asking_fails e old op tree old.files (sym works) broken error)))

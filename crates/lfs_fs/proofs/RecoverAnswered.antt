@@ -4,8 +4,8 @@ use Rattle.std.specs.Prelude.{OnErr, OnOk, IfErr}
 use Rattle.lfs_device.specs.declared.error.Error.{Error}
 use Rattle.lfs_model.specs.Operations as ops
 use Rattle.lfs_model.specs.Tree.{Tree}
-use Rattle.lfs_tree.specs.TreeState.{TreeState, IsFailedTree, IsOperationAppliedToTree, IsErrorWithCause, disk_summary_of_tree, tree_view}
-use Rattle.lfs_fs.specs.FileView.{OpenFiles, open_files_view, readers_among, writers_among}
+use Rattle.lfs_tree.specs.TreeState.{TreeState, IsFailedTree, IsOperationAppliedToTree, IsIoWithFaultOrNoMemory, disk_summary_of_tree, tree_view}
+use Rattle.lfs_fs.specs.FileView.{RuntimeOpenFilesByNumber, open_files_view, readers_among, writers_among}
 use Rattle.lfs_fs.specs.SessionView.{IsSessionStepOrFailure, SessionView, IsSessionReadyForCalls, session_view_of_tree_and_files, refusal_by_checks}
 use Rattle.lfs_fs.specs.Replies.{reply_from_result}
 use Rattle.lfs_fs.specs.OpenFilesStay.{OpenFilesStaySameAndReady, AppliedOperationsKeepOpenFiles}
@@ -23,7 +23,7 @@ ok_then (Err e) P Q f h = tt
 recover_keeps : (t s : TreeState) → IsOperationAppliedToTree t ops.Recover s → KeepsFiles t s
 recover_keeps t s carried q e = subst (λ (z : Tree). SameFile (tree_view t q) (z q)) (sym (carried.shows (disk_summary_of_tree t) [])) (λ h. (h, refl)) e
 
-pub recovered_left : (t new : TreeState) (files : OpenFiles) (r : Result (Unit {0}) Error) → AppliedOperationsKeepOpenFiles → (t.failed ≡ false → IsSessionReadyForCalls t files) → refusal_by_checks (session_view_of_tree_and_files t files) ops.Recover ≡ None →
+pub recovered_left : (t new : TreeState) (files : RuntimeOpenFilesByNumber) (r : Result (Unit {0}) Error) → AppliedOperationsKeepOpenFiles → (t.failed ≡ false → IsSessionReadyForCalls t files) → refusal_by_checks (session_view_of_tree_and_files t files) ops.Recover ≡ None →
     OnOk r (IsOperationAppliedToTree t ops.Recover new) → OnErr r (IsFailedTree t new) → new.failed ≡ false → OpenFilesStaySameAndReady t new files
 recovered_left t new files r stay ready e done broken =
     done_left (IsOperationAppliedToTree t ops.Recover new) t t new files ops.Recover r stay ready (nothing_asked t) e (λ was. record { apart = none_concerned ops.Recover (λ p. refl) (writers_among files); unread = none_read ops.Recover (λ p. refl) (readers_among files); room = inl refl })
@@ -31,8 +31,8 @@ recovered_left t new files r stay ready e done broken =
 
 -- ---- once no check refuses it
 
-pub recover_answers : (t new : TreeState) (files : OpenFiles) (now : SessionView) (r : Result (Unit {0}) Error) → AppliedOperationsKeepOpenFiles → session_view_of_tree_and_files t files ≡ now → (t.failed ≡ false → IsSessionReadyForCalls t files) → refusal_by_checks (session_view_of_tree_and_files t files) ops.Recover ≡ None →
-    OnOk r (IsOperationAppliedToTree t ops.Recover new) → OnErr r (IsFailedTree t new) → IfErr r (IsErrorWithCause t new) → IsSessionStepOrFailure now ops.Recover (reply_from_result (λ u. ops.Done) r) (session_view_of_tree_and_files new files)
+pub recover_answers : (t new : TreeState) (files : RuntimeOpenFilesByNumber) (now : SessionView) (r : Result (Unit {0}) Error) → AppliedOperationsKeepOpenFiles → session_view_of_tree_and_files t files ≡ now → (t.failed ≡ false → IsSessionReadyForCalls t files) → refusal_by_checks (session_view_of_tree_and_files t files) ops.Recover ≡ None →
+    OnOk r (IsOperationAppliedToTree t ops.Recover new) → OnErr r (IsFailedTree t new) → IfErr r (IsIoWithFaultOrNoMemory t new) → IsSessionStepOrFailure now ops.Recover (reply_from_result (λ u. ops.Done) r) (session_view_of_tree_and_files new files)
 recover_answers t new files now r stay same ready e done broken errors =
     with_files now ops.Recover (reply_from_result (λ u. ops.Done) r) new (open_files_view t files) (open_files_view new files)
     (λ works. (recovered_left t new files r stay ready e done broken works).same)

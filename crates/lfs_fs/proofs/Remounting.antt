@@ -4,10 +4,10 @@ use Rattle.std.specs.Prelude.{◌⊎◌, OnOk, OnErr, IfErr}
 use Rattle.lfs_device.specs.declared.error.Error.{Error}
 use Rattle.lfs_device.specs.declared.error.Error.TheVariants.{Io, NoMemory, Corrupt}
 use Rattle.lfs_model.specs.Disk.{Disk, SameGeometry}
-use Rattle.lfs_model.specs.History.{CallEvent}
+use Rattle.lfs_model.specs.History.{DeviceCallEvent}
 use Rattle.lfs_model.specs.Operations as ops
-use Rattle.lfs_model.specs.Session.{Files}
-use Rattle.lfs_model.specs.State.{Healthy, IsSummaryOfDisk, mounted}
+use Rattle.lfs_model.specs.Session.{OpenFilesByNumber}
+use Rattle.lfs_model.specs.State.{Healthy, IsSummaryOfDisk, session_after_mount}
 use Rattle.lfs_model.specs.Effects.{tree_after_commit_of_writer, node_with_bytes}
 use Rattle.lfs_model.specs.TreeEdits.{tree_after_change_of_node}
 use Rattle.std.specs.List.{IsDistinct}
@@ -19,18 +19,18 @@ use Rattle.lfs_model.specs.Shown.{tree_on_disk}
 use Rattle.lfs_model.specs.Run.{SystemState, IsSessionStep, AreCallsWithoutWrites, is_dirty_writer}
 use Rattle.lfs_model.proofs.StepsMade.{remounted_step}
 use Rattle.lfs_lookup.specs.Refusals.{is_refusal, refusal_of_error}
-use Rattle.lfs_tree.specs.TreeState.{TreeState, tree_view, disk_summary_of_tree, kept_of, IsTreeFailedByRead, IsMountErrorWithCause, IsMountedTree, IsSoundTreeState}
+use Rattle.lfs_tree.specs.TreeState.{TreeState, tree_view, disk_summary_of_tree, kept_thread_of_tree_state, IsTreeFailedByRead, IsMountErrorWithCause, IsMountedTree, IsSoundTreeState}
 use Rattle.lfs_fs.specs.Replies.{reply_from_result}
-use Rattle.lfs_fs.specs.FileView.{OpenFiles, bytes_of_writer_at_path, open_file_at, is_unsaved_writer, open_file_view, open_files_view}
+use Rattle.lfs_fs.specs.FileView.{RuntimeOpenFilesByNumber, unsaved_or_tree_bytes_of_writer, open_file_at, is_unsaved_writer, open_file_view, open_files_view}
 use Rattle.lfs_fs.specs.declared.files.OpenFile as kept
 use Rattle.lfs_fs.specs.declared.files.OpenFile.TheVariants as file
 use Rattle.lfs_fs.specs.declared.files.UnsavedContents.{UnsavedContents}
-use Rattle.lfs_fs.specs.SessionView.{SessionView, IsSessionReadyForCalls, session_view_of_tree_and_files, session_view_with_files_view, system_state_of, refusal_by_checks, FailsByError, IsSessionStepOrFailure}
+use Rattle.lfs_fs.specs.SessionView.{SessionView, IsSessionReadyForCalls, session_view_of_tree_and_files, session_view_of_tree_and_files_view, system_state_of_session_view, refusal_by_checks, SessionFailsByError, IsSessionStepOrFailure}
 use Rattle.lfs_fs.proofs.OpenFiles.{file_is, is_saved, ready_closed, saved_is, set_is}
 use Rattle.lfs_fs.proofs.Failing.{reads_write_nothing, failed_system, healthy_system}
 use Rattle.lfs_fs.proofs.Answered.{is_over, kept_answer, sound_by}
 use Rattle.lfs_fs.proofs.Calls.{has_called, has_erased}
-use Rattle.lfs_model.proofs.BlockSets.{in_flight_count-AreExactlyTheInFlightBlocks}
+use Rattle.lfs_model.proofs.BlockSets.{in_flight_block_count-AreExactlyTheInFlightBlocks}
 use Rattle.lfs_tree.specs.Formats.{ErasesTwoBlocks, IsFreshlyFormatted}
 
 -- ---- a file is closed of which nothing is to be saved
@@ -42,7 +42,7 @@ not_some (Some u) e = absurd (cc)
 pub no_tree_change : (t : TreeState) (f : Option kept.OpenFile) (tree : Tree) → is_saved f ≡ true → tree_after_commit_of_writer (option_map (open_file_view t) f) tree ≡ tree
 no_tree_change t None tree e = refl
 no_tree_change t (Some (file.Reading r)) tree e = refl
-no_tree_change t (Some (file.Writing w)) tree e = ap (λ b. cond b (tree_after_change_of_node w.path (node_with_bytes (bytes_of_writer_at_path t w.path w.unsaved)) tree) tree) (not_some w.unsaved e)
+no_tree_change t (Some (file.Writing w)) tree e = ap (λ b. cond b (tree_after_change_of_node w.path (node_with_bytes (unsaved_or_tree_bytes_of_writer t w.path w.unsaved)) tree) tree) (not_some w.unsaved e)
 
 pub not_dirty : (t : TreeState) (f : Option kept.OpenFile) → is_saved f ≡ true → is_dirty_writer (option_map (open_file_view t) f) ≡ false
 not_dirty t None e = refl
@@ -50,19 +50,19 @@ not_dirty t (Some (file.Reading r)) e = refl
 not_dirty t (Some (file.Writing w)) e = not_some w.unsaved e
 
 -- no call is made
-pub closed : (t : TreeState) (fs : OpenFiles) (now : SessionView) (fd : ℕ) → session_view_of_tree_and_files t fs ≡ now → (t.failed ≡ false → IsSessionReadyForCalls t fs) → refusal_by_checks (session_view_of_tree_and_files t fs) (ops.Close fd) ≡ None → is_some (open_file_at fs fd) ≡ true → is_saved (open_file_at fs fd) ≡ true →
+pub closed : (t : TreeState) (fs : RuntimeOpenFilesByNumber) (now : SessionView) (fd : ℕ) → session_view_of_tree_and_files t fs ≡ now → (t.failed ≡ false → IsSessionReadyForCalls t fs) → refusal_by_checks (session_view_of_tree_and_files t fs) (ops.Close fd) ≡ None → is_some (open_file_at fs fd) ≡ true → is_saved (open_file_at fs fd) ≡ true →
     IsSessionStepOrFailure now (ops.Close fd) (Ok ops.Done) (session_view_of_tree_and_files t (set fs fd None))
 closed t fs now fd same ready e there nothing =
     kept_answer (session_view_of_tree_and_files t fs) now (ops.Close fd) (open_files_view t (set fs fd None)) ops.Done same (sound_by t fs ready) e refl refl
     (ap is_dirty_writer (file_is t fs fd) ∙ not_dirty t (open_file_at fs fd) nothing)
     (ap₂ (λ t f. (ops.Done, record { tree = t; files = f })) (ap (λ f. tree_after_commit_of_writer f (tree_view t)) (file_is t fs fd) ∙ no_tree_change t (open_file_at fs fd) (tree_view t) nothing) (sym (set_is t fs fd None there)))
 
-pub closed_answers : (t : TreeState) (fs gs : OpenFiles) (now : SessionView) (fd : ℕ) → session_view_of_tree_and_files t fs ≡ now → (t.failed ≡ false → IsSessionReadyForCalls t fs) → refusal_by_checks (session_view_of_tree_and_files t fs) (ops.Close fd) ≡ None → is_some (open_file_at fs fd) ≡ true →
+pub closed_answers : (t : TreeState) (fs gs : RuntimeOpenFilesByNumber) (now : SessionView) (fd : ℕ) → session_view_of_tree_and_files t fs ≡ now → (t.failed ≡ false → IsSessionReadyForCalls t fs) → refusal_by_checks (session_view_of_tree_and_files t fs) (ops.Close fd) ≡ None → is_some (open_file_at fs fd) ≡ true →
     false ≡ is_unsaved_writer (open_file_at fs fd) → gs ≡ set fs fd None → IsSessionStepOrFailure now (ops.Close fd) (Ok ops.Done) (session_view_of_tree_and_files t gs)
 closed_answers t fs gs now fd same ready e there saved is =
     subst (λ z. IsSessionStepOrFailure now (ops.Close fd) (Ok ops.Done) (session_view_of_tree_and_files t z)) (sym is) (closed t fs now fd same ready e there (saved_is (open_file_at fs fd) (sym saved)))
 
-pub closed_ready : (t : TreeState) (fs gs : OpenFiles) (fd : ℕ) → false ≡ is_unsaved_writer (open_file_at fs fd) → (t.failed ≡ false → IsSessionReadyForCalls t fs) → gs ≡ set fs fd None → t.failed ≡ false → IsSessionReadyForCalls t gs
+pub closed_ready : (t : TreeState) (fs gs : RuntimeOpenFilesByNumber) (fd : ℕ) → false ≡ is_unsaved_writer (open_file_at fs fd) → (t.failed ≡ false → IsSessionReadyForCalls t fs) → gs ≡ set fs fd None → t.failed ≡ false → IsSessionReadyForCalls t gs
 closed_ready t fs gs fd saved ready is works = subst (IsSessionReadyForCalls t) (sym is) (ready_closed t fs fd (saved_is (open_file_at fs fd) (sym saved)) (ready works))
 
 -- ---- a remount
@@ -72,10 +72,10 @@ no_refusal e (inl h) = ap is_refusal h
 no_refusal e (inr (inl h)) = ap is_refusal h
 no_refusal e (inr (inr h)) = ap is_refusal h.0
 
-remount_fails : (e : Error) (old : SessionView) (new : TreeState) (files : Files) → IsTreeFailedByRead old.tree new → IsMountErrorWithCause old.tree new e → FailsByError e (system_state_of old) ops.Remount (system_state_of (session_view_with_files_view new files))
+remount_fails : (e : Error) (old : SessionView) (new : TreeState) (files : OpenFilesByNumber) → IsTreeFailedByRead old.tree new → IsMountErrorWithCause old.tree new e → SessionFailsByError e (system_state_of_session_view old) ops.Remount (system_state_of_session_view (session_view_of_tree_and_files_view new files))
 remount_fails e old new files broken error = record {
   fails = record {
-    failed = ap (λ (m : SystemState). m.state) (failed_system (session_view_with_files_view new files) broken.failed);
+    failed = ap (λ (m : SystemState). m.state) (failed_system (session_view_of_tree_and_files_view new files) broken.failed);
     geometry = subst (λ d. SameGeometry old.tree.disk d) (sym broken.disk) (record { block_size = refl; page = refl; order = refl; count = refl });
     calls = broken.reads.events;
     called = broken.reads.extends;
@@ -99,28 +99,28 @@ remount_fails e old new files broken error = record {
     widened (inr (inl h)) = inr (inl h)
     widened (inr (inr h)) = inr (inr (h.0, refl, h.1))
 
-remount_steps : (old : SessionView) (new : TreeState) → IsMountedTree old.tree.disk old.tree.history new → IsSessionStep (system_state_of old) ops.Remount ops.Done (system_state_of (session_view_with_files_view new []))
+remount_steps : (old : SessionView) (new : TreeState) → IsMountedTree old.tree.disk old.tree.history new → IsSessionStep (system_state_of_session_view old) ops.Remount ops.Done (system_state_of_session_view (session_view_of_tree_and_files_view new []))
 remount_steps old new m =
-    subst (λ z. IsSessionStep (system_state_of old) ops.Remount ops.Done z) (sym to)
-    (remounted_step old.tree.disk new.pairs (disk_summary_of_tree new) (system_state_of old).state m.reads.events old.tree.history
+    subst (λ z. IsSessionStep (system_state_of_session_view old) ops.Remount ops.Done z) (sym to)
+    (remounted_step old.tree.disk new.pairs (disk_summary_of_tree new) (system_state_of_session_view old).state m.reads.events old.tree.history
     (subst (λ d. IsAcceptedImage d new.pairs) m.disk_is m.sound.accepted)
     (subst (λ d. IsSummaryOfDisk d new.pairs (disk_summary_of_tree new)) m.disk_is (is_over new [] m.sound).surrounds)
     (reads_write_nothing old.tree.disk.blocks m.reads.events m.reads.each))
   where
-    to : system_state_of (session_view_with_files_view new []) ≡ record { disk = old.tree.disk; calls = m.reads.events ++ old.tree.history; state = Healthy (mounted (tree_on_disk old.tree.disk new.pairs)) }
-    to = healthy_system (session_view_with_files_view new []) m.works
-        ∙ ap₂ (λ (d : Disk) (h : List CallEvent). record { disk = d; calls = h; state = Healthy (mounted (tree_on_disk d new.pairs)) }) m.disk_is m.reads.extends
+    to : system_state_of_session_view (session_view_of_tree_and_files_view new []) ≡ record { disk = old.tree.disk; calls = m.reads.events ++ old.tree.history; state = Healthy (session_after_mount (tree_on_disk old.tree.disk new.pairs)) }
+    to = healthy_system (session_view_of_tree_and_files_view new []) m.works
+        ∙ ap₂ (λ (d : Disk) (h : List DeviceCallEvent). record { disk = d; calls = h; state = Healthy (session_after_mount (tree_on_disk d new.pairs)) }) m.disk_is m.reads.extends
 
-pub remount_answers : (old now : SessionView) (new : TreeState) (files : OpenFiles) (r : Result (Unit {0}) Error) → old ≡ now → files ≡ [] → OnOk r (IsMountedTree old.tree.disk old.tree.history new) → OnErr r (IsTreeFailedByRead old.tree new) →
+pub remount_answers : (old now : SessionView) (new : TreeState) (files : RuntimeOpenFilesByNumber) (r : Result (Unit {0}) Error) → old ≡ now → files ≡ [] → OnOk r (IsMountedTree old.tree.disk old.tree.history new) → OnErr r (IsTreeFailedByRead old.tree new) →
     IfErr r (IsMountErrorWithCause old.tree new) → IsSessionStepOrFailure now ops.Remount (reply_from_result (λ u. ops.Done) r) (session_view_of_tree_and_files new files)
 remount_answers old now new files (Ok u) same none ok broken errors =
-    subst (λ z. IsSessionStep (system_state_of z) ops.Remount ops.Done (system_state_of (session_view_of_tree_and_files new files))) same
-    (subst (λ f. IsSessionStep (system_state_of old) ops.Remount ops.Done (system_state_of (session_view_of_tree_and_files new f))) (sym none) (remount_steps old new ok))
+    subst (λ z. IsSessionStep (system_state_of_session_view z) ops.Remount ops.Done (system_state_of_session_view (session_view_of_tree_and_files new files))) same
+    (subst (λ f. IsSessionStep (system_state_of_session_view old) ops.Remount ops.Done (system_state_of_session_view (session_view_of_tree_and_files new f))) (sym none) (remount_steps old new ok))
 remount_answers old now new files (Err e) same none ok broken errors =
     subst (λ z. IsSessionStepOrFailure z ops.Remount (cond (is_refusal e) (Ok (ops.Refused (refusal_of_error e))) (Err e)) (session_view_of_tree_and_files new files)) same
     (subst (λ b. IsSessionStepOrFailure old ops.Remount (cond b (Ok (ops.Refused (refusal_of_error e))) (Err e)) (session_view_of_tree_and_files new files)) (sym (no_refusal e errors.errors)) (remount_fails e old new (open_files_view new files) broken errors))
 
-pub mounted_ready : (disk : Disk) (history : List CallEvent) (new : TreeState) → IsMountedTree disk history new → IsSessionReadyForCalls new []
+pub mounted_ready : (disk : Disk) (history : List DeviceCallEvent) (new : TreeState) → IsMountedTree disk history new → IsSessionReadyForCalls new []
 mounted_ready disk history new m = record { sound = m.sound; called = has_called history new.history m.called; one = omega arith; idle = λ e. m.none_in_flight; written = tt; read = tt }
 
 -- a session over a fresh disk, whose two blocks were erased
@@ -128,17 +128,17 @@ none_twice : IsDistinct nat_eq []
 unfolding IsDistinct
 none_twice = tt
 
-pub fresh_ready : (before : List CallEvent) (new : TreeState) (files : OpenFiles) → files ≡ [] → IsSoundTreeState new → IsFreshlyFormatted (kept_of new) → ErasesTwoBlocks before new.history → IsSessionReadyForCalls new files
+pub fresh_ready : (before : List DeviceCallEvent) (new : TreeState) (files : RuntimeOpenFilesByNumber) → files ≡ [] → IsSoundTreeState new → IsFreshlyFormatted (kept_thread_of_tree_state new) → ErasesTwoBlocks before new.history → IsSessionReadyForCalls new files
 fresh_ready before new files none sound formatted calls =
     subst (IsSessionReadyForCalls new) (sym none) (record {
       sound = sound;
       called = has_erased before new.history (let k = calls.erases in omega (arith, k));
       one = omega arith;
-      idle = λ e. in_flight_count-AreExactlyTheInFlightBlocks new.map [] none_twice formatted.in_flight;
+      idle = λ e. in_flight_block_count-AreExactlyTheInFlightBlocks new.map [] none_twice formatted.in_flight;
       written = tt;
       read = tt;
     })
 
-pub remount_ready : (old new : TreeState) (files : OpenFiles) (r : Result (Unit {0}) Error) → files ≡ [] → OnOk r (IsMountedTree old.disk old.history new) → OnErr r (IsTreeFailedByRead old new) → new.failed ≡ false → IsSessionReadyForCalls new files
+pub remount_ready : (old new : TreeState) (files : RuntimeOpenFilesByNumber) (r : Result (Unit {0}) Error) → files ≡ [] → OnOk r (IsMountedTree old.disk old.history new) → OnErr r (IsTreeFailedByRead old new) → new.failed ≡ false → IsSessionReadyForCalls new files
 remount_ready old new files (Ok u) none ok broken works = subst (IsSessionReadyForCalls new) (sym none) (mounted_ready old.disk old.history new ok)
 remount_ready old new files (Err e) none ok broken works = absurd (let l = sym broken.failed ∙ works in cc)

@@ -4,16 +4,16 @@ use Rattle.std.specs.Prelude.{OnErr, OnOk}
 use Rattle.std.specs.List.{AllByRecursion}
 use Rattle.std.proofs.lemmas.Bool.{ltb-false}
 use Rattle.lfs_device.specs.declared.error.Error.{Error}
-use Rattle.lfs_model.specs.TreeEdits.{names_of_directory_node, is_file, bytes_at, last_name_of_path, parent_path_of, tree_after_removal, same_path, node_after_change_of_names, names_without_name}
+use Rattle.lfs_model.specs.TreeEdits.{names_of_directory_node, is_file, file_bytes_of_node, last_name_of_path, parent_path_of, tree_after_removal, same_path, node_after_change_of_names, names_without_name}
 use Rattle.lfs_model.specs.Operations as ops
-use Rattle.lfs_model.specs.Session.{has_open_file_at}
-use Rattle.lfs_model.specs.Refusals.{path_or_root}
+use Rattle.lfs_model.specs.Session.{has_open_file_with_path_satisfying}
+use Rattle.lfs_model.specs.Refusals.{path_of_bytes_or_root}
 use Rattle.lfs_model.specs.Tree.{Path, Tree}
 use Rattle.lfs_tree.specs.TreeState.{TreeState, WasTreeOnlyRead, IsFailedTree, IsOperationAppliedToTree, disk_summary_of_tree, tree_view}
-use Rattle.lfs_fs.specs.FileView.{OpenFiles, open_files_view, readers_among, writers_among, paths_of_writers}
-use Rattle.lfs_fs.specs.SessionView.{IsReaderApartFromWriters, IsSessionReadyForCalls, IsWriterOverWritableImage, session_view_of_tree_and_files, refusal_by_checks}
-use Rattle.lfs_model.specs.Keeping.{removes_or_moves_path}
-use Rattle.lfs_fs.specs.OpenFilesStay.{OpenFilesStaySameAndReady, AppliedOperationsKeepOpenFiles, KeepsFilesOfWriters, SparesOpenFiles}
+use Rattle.lfs_fs.specs.FileView.{RuntimeOpenFilesByNumber, open_files_view, readers_among, writers_among, paths_of_writers}
+use Rattle.lfs_fs.specs.SessionView.{IsReaderOfCurrentContentsWithoutWriter, IsSessionReadyForCalls, IsWriterOverWritableImage, session_view_of_tree_and_files, refusal_by_checks}
+use Rattle.lfs_model.specs.Keeping.{removes_or_moves_path_or_ancestor}
+use Rattle.lfs_fs.specs.OpenFilesStay.{OpenFilesStaySameAndReady, AppliedOperationsKeepOpenFiles, KeepsFilesOfWriters, OperationConcernsNoOpenFileAndHasRoom}
 use Rattle.lfs_fs.specs.declared.files.OpenFile.TheVariants as file
 use Rattle.lfs_fs.specs.declared.files.Reader.{Reader}
 use Rattle.lfs_fs.specs.declared.files.Writer.{Writer}
@@ -26,7 +26,7 @@ use Rattle.lfs_fs.proofs.Staying.{SameFile, changed_same, named}
 -- ---- the writers' files
 
 -- where no file is open at a path, no writer is
-not_at : (t : TreeState) (files : OpenFiles) (p : Path) → has_open_file_at (same_path p) (open_files_view t files) ≡ false → AllByRecursion (λ w. same_path p w.path ≡ false) (writers_among files)
+not_at : (t : TreeState) (files : RuntimeOpenFilesByNumber) (p : Path) → has_open_file_with_path_satisfying (same_path p) (open_files_view t files) ≡ false → AllByRecursion (λ w. same_path p w.path ≡ false) (writers_among files)
 not_at t [] p e = tt
 not_at t (None ∷ fs) p e = not_at t fs p e
 not_at t (Some (file.Reading r) ∷ fs) p e = not_at t fs p (or_false _ _ e).1
@@ -39,37 +39,37 @@ removed_same p q t other e = rw other (changed_same (node_after_change_of_names 
 writers_stay : (t s : TreeState) (p : Path) (ws : List Writer) → tree_view s ≡ tree_after_removal p (tree_view t) → AllByRecursion (IsWriterOverWritableImage t) ws → AllByRecursion (λ w. same_path p w.path ≡ false) ws → KeepsFilesOfWriters t s ws
 writers_stay t s p [] e written apart = tt
 writers_stay t s p (w ∷ ws) e written apart =
-    (subst (λ (z : Tree). (is_file (z w.path) ≡ true) × (bytes_at (z w.path) ≡ bytes_at (tree_view t w.path))) (sym e) (removed_same p w.path (tree_view t) apart.0 written.0.there), writers_stay t s p ws e written.1 apart.1)
+    (subst (λ (z : Tree). (is_file (z w.path) ≡ true) × (file_bytes_of_node (z w.path) ≡ file_bytes_of_node (tree_view t w.path))) (sym e) (removed_same p w.path (tree_view t) apart.0 written.0.there), writers_stay t s p ws e written.1 apart.1)
 
-pub remove_keeps : (old t s : TreeState) (files : OpenFiles) (bytes : List ℕ) → refusal_by_checks (session_view_of_tree_and_files old files) (ops.Remove bytes) ≡ None → IsSessionReadyForCalls t files → IsOperationAppliedToTree t (ops.Remove bytes) s → KeepsFilesOfWriters t s (writers_among files)
+pub remove_keeps : (old t s : TreeState) (files : RuntimeOpenFilesByNumber) (bytes : List ℕ) → refusal_by_checks (session_view_of_tree_and_files old files) (ops.Remove bytes) ≡ None → IsSessionReadyForCalls t files → IsOperationAppliedToTree t (ops.Remove bytes) s → KeepsFilesOfWriters t s (writers_among files)
 remove_keeps old t s files bytes e ready carried =
-    writers_stay t s (path_or_root bytes) (writers_among files) (carried.shows (disk_summary_of_tree t) []) ready.written (not_at old files (path_or_root bytes) (remove_not_open (session_view_of_tree_and_files old files) bytes e))
+    writers_stay t s (path_of_bytes_or_root bytes) (writers_among files) (carried.shows (disk_summary_of_tree t) []) ready.written (not_at old files (path_of_bytes_or_root bytes) (remove_not_open (session_view_of_tree_and_files old files) bytes e))
 
 -- the remove is about none of them
-off : (t : TreeState) (bytes : List ℕ) → length (names_of_directory_node (tree_view t (path_or_root bytes))) ≡ 0 → (ws : List Writer) → AllByRecursion (IsWriterOverWritableImage t) ws → AllByRecursion (λ w. same_path (path_or_root bytes) w.path ≡ false) ws →
-    AllByRecursion (λ w. removes_or_moves_path (ops.Remove bytes) w.path ≡ false) ws
+off : (t : TreeState) (bytes : List ℕ) → length (names_of_directory_node (tree_view t (path_of_bytes_or_root bytes))) ≡ 0 → (ws : List Writer) → AllByRecursion (IsWriterOverWritableImage t) ws → AllByRecursion (λ w. same_path (path_of_bytes_or_root bytes) w.path ≡ false) ws →
+    AllByRecursion (λ w. removes_or_moves_path_or_ancestor (ops.Remove bytes) w.path ≡ false) ws
 off t bytes bare [] written apart = tt
-off t bytes bare (w ∷ ws) written apart = (ap is_some (beside t (path_or_root bytes) w.path bare written.0.there apart.0), off t bytes bare ws written.1 apart.1)
+off t bytes bare (w ∷ ws) written apart = (ap is_some (beside t (path_of_bytes_or_root bytes) w.path bare written.0.there apart.0), off t bytes bare ws written.1 apart.1)
 
 -- nor about a file that is read
-off_read : (t : TreeState) (bytes : List ℕ) (written : List Path) → length (names_of_directory_node (tree_view t (path_or_root bytes))) ≡ 0 → (rs : List Reader) → AllByRecursion (IsReaderApartFromWriters t.pairs written) rs → AllByRecursion (λ r. same_path (path_or_root bytes) r.path ≡ false) rs →
-    AllByRecursion (λ r. removes_or_moves_path (ops.Remove bytes) r.path ≡ false) rs
+off_read : (t : TreeState) (bytes : List ℕ) (written : List Path) → length (names_of_directory_node (tree_view t (path_of_bytes_or_root bytes))) ≡ 0 → (rs : List Reader) → AllByRecursion (IsReaderOfCurrentContentsWithoutWriter t.pairs written) rs → AllByRecursion (λ r. same_path (path_of_bytes_or_root bytes) r.path ≡ false) rs →
+    AllByRecursion (λ r. removes_or_moves_path_or_ancestor (ops.Remove bytes) r.path ≡ false) rs
 off_read t bytes written bare [] read apart = tt
 off_read t bytes written bare (r ∷ rs) read apart =
-    (ap is_some (beside t (path_or_root bytes) r.path bare (contents_are_file t.disk t.pairs r.path r.contents read.0.contents) apart.0), off_read t bytes written bare rs read.1 apart.1)
+    (ap is_some (beside t (path_of_bytes_or_root bytes) r.path bare (contents_are_file t.disk t.pairs r.path r.contents read.0.contents) apart.0), off_read t bytes written bare rs read.1 apart.1)
 
 none_in : (n : ℕ) → nat_lt 0 n ≡ false → n ≡ 0
 none_in n e = let k = ltb-false 0 n e in omega (arith, k)
 
-remove_spares : (t : TreeState) (files : OpenFiles) (bytes : List ℕ) → refusal_by_checks (session_view_of_tree_and_files t files) (ops.Remove bytes) ≡ None → IsSessionReadyForCalls t files → SparesOpenFiles t (ops.Remove bytes) files
+remove_spares : (t : TreeState) (files : RuntimeOpenFilesByNumber) (bytes : List ℕ) → refusal_by_checks (session_view_of_tree_and_files t files) (ops.Remove bytes) ≡ None → IsSessionReadyForCalls t files → OperationConcernsNoOpenFileAndHasRoom t (ops.Remove bytes) files
 remove_spares t files bytes e ready = record {
-  apart = off t bytes (none_in _ (remove_bare (session_view_of_tree_and_files t files) bytes e)) (writers_among files) ready.written (not_at t files (path_or_root bytes) (remove_not_open (session_view_of_tree_and_files t files) bytes e));
-  unread = off_read t bytes (paths_of_writers files) (none_in _ (remove_bare (session_view_of_tree_and_files t files) bytes e)) (readers_among files) ready.read (no_reader_at t files (same_path (path_or_root bytes)) (remove_not_open (session_view_of_tree_and_files t files) bytes e));
+  apart = off t bytes (none_in _ (remove_bare (session_view_of_tree_and_files t files) bytes e)) (writers_among files) ready.written (not_at t files (path_of_bytes_or_root bytes) (remove_not_open (session_view_of_tree_and_files t files) bytes e));
+  unread = off_read t bytes (paths_of_writers files) (none_in _ (remove_bare (session_view_of_tree_and_files t files) bytes e)) (readers_among files) ready.read (no_reader_at t files (same_path (path_of_bytes_or_root bytes)) (remove_not_open (session_view_of_tree_and_files t files) bytes e));
   room = inl refl;
 }
 
 -- ---- what it leaves once no check refuses it
 
-pub removed_left : (K : Type 0) (old mid new : TreeState) (files : OpenFiles) (bytes : List ℕ) (r : Result (Unit {0}) Error) → AppliedOperationsKeepOpenFiles → (old.failed ≡ false → IsSessionReadyForCalls old files) → WasTreeOnlyRead old mid → refusal_by_checks (session_view_of_tree_and_files old files) (ops.Remove bytes) ≡ None →
+pub removed_left : (K : Type 0) (old mid new : TreeState) (files : RuntimeOpenFilesByNumber) (bytes : List ℕ) (r : Result (Unit {0}) Error) → AppliedOperationsKeepOpenFiles → (old.failed ≡ false → IsSessionReadyForCalls old files) → WasTreeOnlyRead old mid → refusal_by_checks (session_view_of_tree_and_files old files) (ops.Remove bytes) ≡ None →
     OnOk r K → (K → IsOperationAppliedToTree mid (ops.Remove bytes) new) → OnErr r (IsFailedTree mid new) → new.failed ≡ false → OpenFilesStaySameAndReady old new files
 removed_left K old mid new files bytes r stay ready asked e = done_left K old mid new files (ops.Remove bytes) r stay ready asked e (remove_spares old files bytes e) (remove_keeps old mid new files bytes e)

@@ -3,27 +3,27 @@ use Rattle.std.proofs.Common.{◌≤◌, ℕ, ◌≡◌, ◌&&◌, ◌||◌, Boo
 use Rattle.std.specs.Prelude.{IfSome, IsSome}
 use Rattle.lfs_device.specs.declared.error.Error.{Error}
 use Rattle.lfs_model.specs.TreeEdits.{attributes_of_node, is_path_beneath, last_name_of_path, names_of_directory_node, same_path}
-use Rattle.lfs_model.specs.BlockSets.{in_flight_count}
+use Rattle.lfs_model.specs.BlockSets.{in_flight_block_count}
 use Rattle.lfs_model.specs.Disk.{block_count}
 use Rattle.lfs_model.specs.Operations as ops
 use Rattle.lfs_model.specs.Operations.{Operation, Refusal, path_of_bytes}
-use Rattle.lfs_model.specs.Session.{first_refusal_of, reserved_block_count_of_writers, has_open_file_at, is_entry_over_charge_limit, lacks_free_blocks, refuse_if}
+use Rattle.lfs_model.specs.Session.{first_refusal_in_list, reserved_block_count_of_writers, has_open_file_with_path_satisfying, is_entry_over_charge_limit, lacks_free_blocks, refuse_if}
 use Rattle.lfs_model.specs.Slots.{Attributes, attributes_size, zero_gstate}
-use Rattle.lfs_model.specs.Thread.{gstate_of}
-use Rattle.lfs_model.specs.Refusals.{path_or_root, is_root}
+use Rattle.lfs_model.specs.Thread.{gstate_of_pairs}
+use Rattle.lfs_model.specs.Refusals.{path_of_bytes_or_root, is_root_path}
 use Rattle.lfs_model.specs.Tree.{Path}
 use Rattle.lfs_tree.specs.Permissions.{CanRenamePath}
-use Rattle.lfs_lookup.specs.Finds.{IsFoundNodeAtPath, has_entry_beneath_path, is_absent, is_directory_node, is_file_node}
-use Rattle.lfs_tree.specs.RenamePaths.{AreRenameTargets, HasFoundBothRenamePaths}
-use Rattle.lfs_tree.specs.TreeState.{TreeState, kept_of, disk_summary_of_tree, tree_view, WasTreeOnlyRead}
+use Rattle.lfs_lookup.specs.Finds.{IsFoundNodeAtPath, has_entry_beneath_path, is_absent_node, is_directory_node, is_file_node}
+use Rattle.lfs_tree.specs.RenamePaths.{AreRenameTargets, AreFindingsAtBothRenamePaths}
+use Rattle.lfs_tree.specs.TreeState.{TreeState, kept_thread_of_tree_state, disk_summary_of_tree, tree_view, WasTreeOnlyRead}
 use Rattle.lfs_lookup.specs.declared.found_entries.FoundNode.{FoundNode}
 use Rattle.lfs_tree.specs.declared.rename_paths.RenameFindings.{RenameFindings}
-use Rattle.lfs_fs.specs.FileView.{OpenFiles, open_files_view}
-use Rattle.lfs_fs.specs.SessionView.{SessionView, session_view_of_tree_and_files, refusal_by_checks, ChecksOperation, EndsChecksWithError, PassesChecksWithoutCalls}
-use Rattle.lfs_fs.specs.RenamePaths.{IsRefusedWithAnyFiles, IsRenamingOfPaths, PassesPathChecks, prevents_rename}
+use Rattle.lfs_fs.specs.FileView.{RuntimeOpenFilesByNumber, open_files_view}
+use Rattle.lfs_fs.specs.SessionView.{SessionView, session_view_of_tree_and_files, refusal_by_checks, IsResultOfOperationChecks, EndsChecksWithError, PassesChecksWithoutDeviceCalls}
+use Rattle.lfs_fs.specs.RenamePaths.{IsRefusedWhateverFilesAreOpen, IsPermittedRenameOfPathBytes, PassesRenameChecksWithoutLookUp, open_file_path_prevents_rename}
 use Rattle.lfs_fs.specs.Replies.{value_unless_refused}
 use Rattle.lfs_fs.specs.declared.rename_checks.RenamePaths.{RenamePaths}
-use Rattle.lfs_fs.specs.declared.rename_checks.Renaming.{Renaming}
+use Rattle.lfs_fs.specs.declared.rename_checks.PermittedRename.{PermittedRename}
 use Rattle.lfs_fs.proofs.Answered.{not_failed, not_refused, nothing_asked}
 use Rattle.lfs_fs.proofs.Late.{rename_late}
 use Rattle.lfs_fs.proofs.Checked.{both, decided, negated, neither, room_left, unrefused, when}
@@ -36,31 +36,31 @@ use Rattle.lfs_fs.proofs.EntryPaths.{is_entry, root_false}
 
 abbrev checks_of : SessionView → Path → Path → FoundNode → FoundNode → List (Option Refusal)
 checks_of h p q entry target =
-    entry.fault ∷ target.fault ∷ refuse_if (nat_lt 255 (length (last_name_of_path q))) ops.NameTooLong ∷ refuse_if (is_absent entry.node) ops.NoEnt
+    entry.fault ∷ target.fault ∷ refuse_if (nat_lt 255 (length (last_name_of_path q))) ops.NameTooLong ∷ refuse_if (is_absent_node entry.node) ops.NoEnt
     ∷ refuse_if (not (same_path p q) && is_directory_node entry.node && is_file_node target.node) ops.NotDir ∷ refuse_if (not (same_path p q) && is_file_node entry.node && is_directory_node target.node) ops.IsDir
-    ∷ refuse_if (not (same_path p q) && has_entry_beneath_path (tree_view h.tree) q) ops.NotEmpty ∷ refuse_if (has_open_file_at (prevents_rename p q) h.files) ops.Busy
+    ∷ refuse_if (not (same_path p q) && has_entry_beneath_path (tree_view h.tree) q) ops.NotEmpty ∷ refuse_if (has_open_file_with_path_satisfying (open_file_path_prevents_rename p q) h.files) ops.Busy
     ∷ refuse_if (not (same_path p q) && is_entry_over_charge_limit (disk_summary_of_tree h.tree) (last_name_of_path q) (attributes_of_node (tree_view h.tree p))) ops.EntryFull ∷ refuse_if (lacks_free_blocks (disk_summary_of_tree h.tree) h.files 2) ops.NoSpace ∷ []
 
-rename_refused : (h : SessionView) (old new : List ℕ) (p q : Path) (entry target : FoundNode) → h.tree.failed ≡ false → h.tree.writable ≡ true → path_of_bytes old ≡ Some p → path_of_bytes new ≡ Some q → is_root p ≡ false → is_root q ≡ false → is_path_beneath p q ≡ false →
-    IsFoundNodeAtPath (tree_view h.tree) p entry → IsFoundNodeAtPath (tree_view h.tree) q target → refusal_by_checks h (ops.Rename old new) ≡ first_refusal_of (checks_of h p q entry target)
+rename_refused : (h : SessionView) (old new : List ℕ) (p q : Path) (entry target : FoundNode) → h.tree.failed ≡ false → h.tree.writable ≡ true → path_of_bytes old ≡ Some p → path_of_bytes new ≡ Some q → is_root_path p ≡ false → is_root_path q ≡ false → is_path_beneath p q ≡ false →
+    IsFoundNodeAtPath (tree_view h.tree) p entry → IsFoundNodeAtPath (tree_view h.tree) q target → refusal_by_checks h (ops.Rename old new) ≡ first_refusal_in_list (checks_of h p q entry target)
 rename_refused h old new p q entry target works writable is are one two apart f g =
     rw (works, writable, is, are, one, two, apart, f.parents, g.parents, f.nothing, f.directories, g.files, f.files, g.directories) refl
 
 -- by what is at the two paths, the checks behind the look-up are those
-pub found_refused : (t : TreeState) (files : OpenFiles) (old new : List ℕ) (paths : RenamePaths) (found : RenameFindings) (len : ℕ) (absent one two three over four lack busy : Bool)
-    (a b c d e f i j : Option Refusal) → PassesPathChecks t old new paths → HasFoundBothRenamePaths (tree_view t) paths.from paths.to found →
+pub found_refused : (t : TreeState) (files : RuntimeOpenFilesByNumber) (old new : List ℕ) (paths : RenamePaths) (found : RenameFindings) (len : ℕ) (absent one two three over four lack busy : Bool)
+    (a b c d e f i j : Option Refusal) → PassesRenameChecksWithoutLookUp t old new paths → AreFindingsAtBothRenamePaths (tree_view t) paths.from paths.to found →
     len ≡ length (last_name_of_path paths.to) → a ≡ refuse_if (nat_lt 255 len) ops.NameTooLong →
-    absent ≡ is_absent found.entry.node → b ≡ refuse_if absent ops.NoEnt →
+    absent ≡ is_absent_node found.entry.node → b ≡ refuse_if absent ops.NoEnt →
     one ≡ (not paths.is_same && is_directory_node found.entry.node && is_file_node found.target.finding.node) → c ≡ refuse_if one ops.NotDir →
     two ≡ (not paths.is_same && is_file_node found.entry.node && is_directory_node found.target.finding.node) → d ≡ refuse_if two ops.IsDir →
     three ≡ (not paths.is_same && found.target.has_entries) → e ≡ refuse_if three ops.NotEmpty →
-    busy ≡ has_open_file_at (prevents_rename (path_or_root old) (path_or_root new)) (open_files_view t files) → f ≡ refuse_if busy ops.Busy →
+    busy ≡ has_open_file_with_path_satisfying (open_file_path_prevents_rename (path_of_bytes_or_root old) (path_of_bytes_or_root new)) (open_files_view t files) → f ≡ refuse_if busy ops.Busy →
     ((name : List ℕ) (attributes : Attributes) → length name ≡ len → attributes_size attributes ≡ found.attributes_size → over ≡ is_entry_over_charge_limit (disk_summary_of_tree t) name attributes) → four ≡ (not paths.is_same && over) → i ≡ refuse_if four ops.EntryFull →
     lack ≡ lacks_free_blocks (disk_summary_of_tree t) (open_files_view t files) 2 → j ≡ refuse_if lack ops.NoSpace →
-    first_refusal_of (found.entry.fault ∷ found.target.finding.fault ∷ a ∷ b ∷ c ∷ d ∷ e ∷ f ∷ i ∷ j ∷ []) ≡ refusal_by_checks (session_view_of_tree_and_files t files) (ops.Rename old new)
+    first_refusal_in_list (found.entry.fault ∷ found.target.finding.fault ∷ a ∷ b ∷ c ∷ d ∷ e ∷ f ∷ i ∷ j ∷ []) ≡ refusal_by_checks (session_view_of_tree_and_files t files) (ops.Rename old new)
 found_refused t files old new paths found len absent one two three over four lack busy a b c d e f i j
     passes there len_is a_is absent_is b_is one_is c_is two_is d_is three_is e_is busy_is f_is over_is four_is i_is lack_is j_is =
-    ap first_refusal_of lists
+    ap first_refusal_in_list lists
     ∙ sym (rename_refused h old new p q found.entry found.target.finding passes.works passes.writable from to (root_false old p (sym passes.from)) (root_false new q (sym passes.to)) (ap₂ is_path_beneath (sym from_path) (sym to_path) ∙ passes.apart) there.entry there.target)
   where
     h : SessionView
@@ -78,10 +78,10 @@ found_refused t files old new paths found len absent one two three over four lac
     to : path_of_bytes new ≡ Some q
     to = (is_entry new q (sym passes.to)).0
 
-    from_path : path_or_root old ≡ p
+    from_path : path_of_bytes_or_root old ≡ p
     from_path = ap (λ o. unwrap_or o []) from
 
-    to_path : path_or_root new ≡ q
+    to_path : path_of_bytes_or_root new ≡ q
     to_path = ap (λ o. unwrap_or o []) to
 
     other_is_not : not paths.is_same ≡ not (same_path p q)
@@ -92,42 +92,42 @@ found_refused t files old new paths found len absent one two three over four lac
         (both (when ops.NotDir c_is (one_is ∙ ap (λ z. z && is_directory_node found.entry.node && is_file_node found.target.finding.node) other_is_not))
         (both (when ops.IsDir d_is (two_is ∙ ap (λ z. z && is_file_node found.entry.node && is_directory_node found.target.finding.node) other_is_not))
         (both (when ops.NotEmpty e_is (three_is ∙ ap₂ (λ y z. y && z) other_is_not there.has))
-        (both (when ops.Busy f_is (busy_is ∙ ap₂ (λ y z. has_open_file_at (prevents_rename y z) h.files) from_path to_path))
+        (both (when ops.Busy f_is (busy_is ∙ ap₂ (λ y z. has_open_file_with_path_satisfying (open_file_path_prevents_rename y z) h.files) from_path to_path))
         (both (when ops.EntryFull i_is (four_is ∙ ap₂ (λ y z. y && z) other_is_not (over_is (last_name_of_path q) (attributes_of_node (tree_view t p)) (sym len_is) (sym there.size.is))))
         (both (when ops.NoSpace j_is lack_is) refl)))))))))
 
 -- ---- from the first checks to the last
 
 -- they pass on the tree that was read
-pub passes_later : (t tree : TreeState) (old new : List ℕ) (paths : RenamePaths) → WasTreeOnlyRead t tree → PassesPathChecks t old new paths → PassesPathChecks tree old new paths
+pub passes_later : (t tree : TreeState) (old new : List ℕ) (paths : RenamePaths) → WasTreeOnlyRead t tree → PassesRenameChecksWithoutLookUp t old new paths → PassesRenameChecksWithoutLookUp tree old new paths
 passes_later t tree old new paths asked p =
-    subst (λ z. PassesPathChecks z old new paths) (sym asked.same) (record { works = p.works; writable = p.writable; from = p.from; to = p.to; apart = p.apart; same = p.same })
+    subst (λ z. PassesRenameChecksWithoutLookUp z old new paths) (sym asked.same) (record { works = p.works; writable = p.writable; from = p.from; to = p.to; apart = p.apart; same = p.same })
 
-pub passes_late : (t : TreeState) (files : OpenFiles) (old new : List ℕ) (paths : RenamePaths) → PassesPathChecks t old new paths → PassesChecksWithoutCalls (session_view_of_tree_and_files t files) (ops.Rename old new)
+pub passes_late : (t : TreeState) (files : RuntimeOpenFilesByNumber) (old new : List ℕ) (paths : RenamePaths) → PassesRenameChecksWithoutLookUp t old new paths → PassesChecksWithoutDeviceCalls (session_view_of_tree_and_files t files) (ops.Rename old new)
 passes_late t files old new paths p = rename_late (session_view_of_tree_and_files t files) old new paths.from paths.to (sym p.works) (sym p.writable) (sym p.from) (sym p.to) p.apart
 
-pub refused_at_once : (t : TreeState) (files : OpenFiles) (op : Operation) (e : Error) (P : Renaming → Type 0) (r : Result Renaming Error) → IsRefusedWithAnyFiles t op e → r ≡ Err e → ChecksOperation (session_view_of_tree_and_files t files) op P r t
+pub refused_at_once : (t : TreeState) (files : RuntimeOpenFilesByNumber) (op : Operation) (e : Error) (P : PermittedRename → Type 0) (r : Result PermittedRename Error) → IsRefusedWhateverFilesAreOpen t op e → r ≡ Err e → IsResultOfOperationChecks (session_view_of_tree_and_files t files) op P r t
 refused_at_once t files op e P r refused is =
-    subst (λ z. ChecksOperation (session_view_of_tree_and_files t files) op P z t) (sym is)
+    subst (λ z. IsResultOfOperationChecks (session_view_of_tree_and_files t files) op P z t) (sym is)
     (subst (λ b. EndsChecksWithError b (session_view_of_tree_and_files t files) op e t) (sym (refused files).0) (nothing_asked t, (refused files).1, λ once. refl))
 
-alone : (o : Option Refusal) → first_refusal_of (o ∷ []) ≡ o
+alone : (o : Option Refusal) → first_refusal_in_list (o ∷ []) ≡ o
 alone None = refl
 alone (Some x) = refl
 
-pub rename_checked : (t : TreeState) (files : OpenFiles) (old new : List ℕ) (paths : RenamePaths) (tree : TreeState) (refusal : Option Refusal) (x : Renaming) (r : Result Renaming Error) → PassesPathChecks t old new paths → WasTreeOnlyRead t tree →
-    refusal ≡ refusal_by_checks (session_view_of_tree_and_files tree files) (ops.Rename old new) → IsRenamingOfPaths tree old new x → r ≡ value_unless_refused (first_refusal_of (refusal ∷ [])) x → ChecksOperation (session_view_of_tree_and_files t files) (ops.Rename old new) (IsRenamingOfPaths tree old new) r tree
+pub rename_checked : (t : TreeState) (files : RuntimeOpenFilesByNumber) (old new : List ℕ) (paths : RenamePaths) (tree : TreeState) (refusal : Option Refusal) (x : PermittedRename) (r : Result PermittedRename Error) → PassesRenameChecksWithoutLookUp t old new paths → WasTreeOnlyRead t tree →
+    refusal ≡ refusal_by_checks (session_view_of_tree_and_files tree files) (ops.Rename old new) → IsPermittedRenameOfPathBytes tree old new x → r ≡ value_unless_refused (first_refusal_in_list (refusal ∷ [])) x → IsResultOfOperationChecks (session_view_of_tree_and_files t files) (ops.Rename old new) (IsPermittedRenameOfPathBytes tree old new) r tree
 rename_checked t files old new paths tree refusal x r passes asked refusal_is x_is r_is =
-    decided (session_view_of_tree_and_files t files) (ops.Rename old new) (IsRenamingOfPaths tree old new) x _ tree r asked (passes_late t files old new paths passes)
+    decided (session_view_of_tree_and_files t files) (ops.Rename old new) (IsPermittedRenameOfPathBytes tree old new) x _ tree r asked (passes_late t files old new paths passes)
     (sym (alone refusal ∙ refusal_is ∙ ap (λ z. refusal_by_checks (session_view_of_tree_and_files z files) (ops.Rename old new)) asked.same)) (λ none. x_is) r_is
 
 -- ---- what no check refuses
 
 record HasPassed (h : SessionView) (old new : List ℕ) : Type 0 where
-  can : in_flight_count h.tree.map ≤ reserved_block_count_of_writers h.tree.disk.block_size h.files → CanRenamePath h.tree (path_or_root old) (path_or_root new)
-  closed : has_open_file_at (prevents_rename (path_or_root old) (path_or_root new)) h.files ≡ false
+  can : in_flight_block_count h.tree.map ≤ reserved_block_count_of_writers h.tree.disk.block_size h.files → CanRenamePath h.tree (path_of_bytes_or_root old) (path_of_bytes_or_root new)
+  closed : has_open_file_with_path_satisfying (open_file_path_prevents_rename (path_of_bytes_or_root old) (path_of_bytes_or_root new)) h.files ≡ false
   space : lacks_free_blocks (disk_summary_of_tree h.tree) h.files 2 ≡ false
-  bare : (not (same_path (path_or_root old) (path_or_root new)) && nat_lt 0 (length (names_of_directory_node (tree_view h.tree (path_or_root new))))) ≡ false
+  bare : (not (same_path (path_of_bytes_or_root old) (path_of_bytes_or_root new)) && nat_lt 0 (length (names_of_directory_node (tree_view h.tree (path_of_bytes_or_root new))))) ≡ false
 
 pub none_of_three : (a b c : Bool) → (a || b || c) ≡ false → (a ≡ false) × (b ≡ false) × (c ≡ false)
 none_of_three true b c e = absurd (cc)
@@ -173,7 +173,7 @@ passed h old new e =
         file = file;
         empty = bare;
         fits = fits;
-        room = room_left (block_count h.tree.disk) (length (disk_summary_of_tree h.tree).used) (reserved_block_count_of_writers h.tree.disk.block_size h.files) (in_flight_count h.tree.map) 2 idle some;
+        room = room_left (block_count h.tree.disk) (length (disk_summary_of_tree h.tree).used) (reserved_block_count_of_writers h.tree.disk.block_size h.files) (in_flight_block_count h.tree.map) 2 idle some;
       };
       closed = closed;
       space = some;
@@ -183,17 +183,17 @@ passed h old new e =
 pub rename_space : (h : SessionView) (old new : List ℕ) → refusal_by_checks h (ops.Rename old new) ≡ None → lacks_free_blocks (disk_summary_of_tree h.tree) h.files 2 ≡ false
 rename_space h old new e = (passed h old new e).space
 
-pub rename_closed : (h : SessionView) (old new : List ℕ) → refusal_by_checks h (ops.Rename old new) ≡ None → has_open_file_at (prevents_rename (path_or_root old) (path_or_root new)) h.files ≡ false
+pub rename_closed : (h : SessionView) (old new : List ℕ) → refusal_by_checks h (ops.Rename old new) ≡ None → has_open_file_with_path_satisfying (open_file_path_prevents_rename (path_of_bytes_or_root old) (path_of_bytes_or_root new)) h.files ≡ false
 rename_closed h old new e = (passed h old new e).closed
 
-pub rename_bare : (h : SessionView) (old new : List ℕ) → refusal_by_checks h (ops.Rename old new) ≡ None → (not (same_path (path_or_root old) (path_or_root new)) && nat_lt 0 (length (names_of_directory_node (tree_view h.tree (path_or_root new))))) ≡ false
+pub rename_bare : (h : SessionView) (old new : List ℕ) → refusal_by_checks h (ops.Rename old new) ≡ None → (not (same_path (path_of_bytes_or_root old) (path_of_bytes_or_root new)) && nat_lt 0 (length (names_of_directory_node (tree_view h.tree (path_of_bytes_or_root new))))) ≡ false
 rename_bare h old new e = (passed h old new e).bare
 
-pub rename_can : (h : SessionView) (old new : List ℕ) (from to : Path) (tree : TreeState) → (h.tree.failed ≡ false → in_flight_count h.tree.map ≤ reserved_block_count_of_writers h.tree.disk.block_size h.files) → WasTreeOnlyRead h.tree tree → refusal_by_checks h (ops.Rename old new) ≡ None → from ≡ path_or_root old → to ≡ path_or_root new → CanRenamePath tree from to
+pub rename_can : (h : SessionView) (old new : List ℕ) (from to : Path) (tree : TreeState) → (h.tree.failed ≡ false → in_flight_block_count h.tree.map ≤ reserved_block_count_of_writers h.tree.disk.block_size h.files) → WasTreeOnlyRead h.tree tree → refusal_by_checks h (ops.Rename old new) ≡ None → from ≡ path_of_bytes_or_root old → to ≡ path_of_bytes_or_root new → CanRenamePath tree from to
 rename_can h old new from to tree idle asked e is are =
     let can = (passed h old new e).can (idle (not_failed h (ops.Rename old new) e)) in
-    subst (λ z. CanRenamePath tree z to) (sym is) (subst (λ z. CanRenamePath tree (path_or_root old) z) (sym are)
-    (subst (λ t. CanRenamePath t (path_or_root old) (path_or_root new)) (sym asked.same) (record {
+    subst (λ z. CanRenamePath tree z to) (sym is) (subst (λ z. CanRenamePath tree (path_of_bytes_or_root old) z) (sym are)
+    (subst (λ t. CanRenamePath t (path_of_bytes_or_root old) (path_of_bytes_or_root new)) (sym asked.same) (record {
       works = can.works;
       writable = can.writable;
       entry = can.entry;
@@ -210,7 +210,7 @@ rename_can h old new from to tree idle asked e is are =
       room = can.room;
     })))
 
-pub renaming_is : (t tree : TreeState) (old new : List ℕ) (paths : RenamePaths) (x : Renaming) → PassesPathChecks t old new paths → x.from ≡ paths.from → x.to ≡ paths.to → x.is_same ≡ paths.is_same → IfSome x.targets (AreRenameTargets (kept_of tree) x.from x.to) → (gstate_of tree.pairs ≡ zero_gstate → IsSome x.targets) → IsRenamingOfPaths tree old new x
+pub renaming_is : (t tree : TreeState) (old new : List ℕ) (paths : RenamePaths) (x : PermittedRename) → PassesRenameChecksWithoutLookUp t old new paths → x.from ≡ paths.from → x.to ≡ paths.to → x.is_same ≡ paths.is_same → IfSome x.targets (AreRenameTargets (kept_thread_of_tree_state tree) x.from x.to) → (gstate_of_pairs tree.pairs ≡ zero_gstate → IsSome x.targets) → IsPermittedRenameOfPathBytes tree old new x
 renaming_is t tree old new paths x passes from to same targets handed_on = record {
   from = from ∙ sym (ap (λ o. unwrap_or o []) (is_entry old paths.from (sym passes.from)).0);
   to = to ∙ sym (ap (λ o. unwrap_or o []) (is_entry new paths.to (sym passes.to)).0);

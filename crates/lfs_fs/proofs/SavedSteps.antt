@@ -5,25 +5,25 @@ use Rattle.std.specs.Option.{option_flatten, option_map}
 use Rattle.std.proofs.lemmas.List.{length-map, length-set, map-set, set-set}
 use Rattle.lfs_device.specs.declared.error.Error.{Error}
 use Rattle.lfs_model.specs.TreeEdits.{tree_after_change_of_node, same_path}
-use Rattle.lfs_model.specs.History.{CallEvent}
-use Rattle.lfs_model.specs.Layout.{IsSlotLayoutWithRecoveryFirst}
+use Rattle.lfs_model.specs.History.{DeviceCallEvent}
+use Rattle.lfs_model.specs.Layout.{IsSlotLayoutAfterRecoveryAndOperation}
 use Rattle.lfs_model.specs.Operations as ops
 use Rattle.lfs_model.specs.Operations.{Operation}
 use Rattle.lfs_model.specs.Run.{IsSessionStep, opens_existing_file, is_write_or_truncate, is_dirty_writer, is_recover_operation, needs_no_device_call, is_read_only_operation, renames_to_itself}
 use Rattle.lfs_model.specs.Session as session
-use Rattle.lfs_model.specs.Session.{Files, Session, DiskSummary, Reading, Writing, open_file_of, put_file, reader_of_open_file}
+use Rattle.lfs_model.specs.Session.{OpenFilesByNumber, Session, DiskSummary, Reading, Writing, open_file_with_number, open_files_with_file_at_number, reader_of_open_file}
 use Rattle.lfs_model.specs.Writers.{writer_after_sync}
 use Rattle.lfs_model.specs.State.{Healthy, is_remount_operation}
 use Rattle.lfs_model.specs.Effects.{open_file_after_sync, tree_after_commit_of_writer, effect_of_operation, node_with_bytes}
 use Rattle.lfs_model.specs.Tree.{Path}
 use Rattle.lfs_model.proofs.BlockSets.{slice_get-set_same}
 use Rattle.lfs_model.proofs.StepsMade.{completed_step}
-use Rattle.lfs_tree.specs.OpenContents.{HasStoredBytesAt}
+use Rattle.lfs_tree.specs.OpenContents.{StoresBytesKeepingOtherFilesAtPath}
 use Rattle.lfs_lookup.specs.Refusals.{refusal_of_error}
-use Rattle.lfs_tree.specs.TreeState.{TreeState, IsFailedTree, IsErrorWithCause, IsSoundTreeState, disk_summary_of_tree, tree_view}
+use Rattle.lfs_tree.specs.TreeState.{TreeState, IsFailedTree, IsIoWithFaultOrNoMemory, IsSoundTreeState, disk_summary_of_tree, tree_view}
 use Rattle.lfs_fs.specs.WriterChanges.{CanSaveWriter, IsSavedWriterSeenAs}
-use Rattle.lfs_fs.specs.FileView.{OpenFiles, bytes_of_writer_at_path, open_file_at, open_file_view, open_files_view, is_unsaved_writer, writer_view, writers_among}
-use Rattle.lfs_fs.specs.SessionView.{IsSessionStepOrFailure, AreReadersApartFromWriters, SessionView, IsSessionReadyForCalls, IsWriterOverWritableImage, session_view_of_tree_and_files, session_view_with_files_view, system_state_of, refusal_by_checks, session_of}
+use Rattle.lfs_fs.specs.FileView.{RuntimeOpenFilesByNumber, unsaved_or_tree_bytes_of_writer, open_file_at, open_file_view, open_files_view, is_unsaved_writer, writer_view, writers_among}
+use Rattle.lfs_fs.specs.SessionView.{IsSessionStepOrFailure, AreReadersOfCurrentContentsWithoutWriter, SessionView, IsSessionReadyForCalls, IsWriterOverWritableImage, session_view_of_tree_and_files, session_view_of_tree_and_files_view, system_state_of_session_view, refusal_by_checks, session_of_session_view}
 use Rattle.lfs_fs.specs.Replies.{reply_from_result}
 use Rattle.lfs_fs.specs.OpenFilesStay.{KeepsFilesOfWriters}
 use Rattle.lfs_fs.specs.declared.files.OpenFile.{OpenFile}
@@ -42,10 +42,10 @@ use Rattle.lfs_fs.proofs.WriterPaths.{sync_path}
 pub unsaved_writer : (o : Option OpenFile) (w : Writer) → is_unsaved_writer o ≡ true → Some (file.Writing w) ≡ o → is_some w.unsaved ≡ true
 unsaved_writer o w e is = ap is_unsaved_writer is ∙ e
 
-pub entry_written : (t : TreeState) (fs : OpenFiles) (fd : ℕ) (w : Writer) → Some (file.Writing w) ≡ open_file_at fs fd → IsSessionReadyForCalls t fs → IsWriterOverWritableImage t w
+pub entry_written : (t : TreeState) (fs : RuntimeOpenFilesByNumber) (fd : ℕ) (w : Writer) → Some (file.Writing w) ≡ open_file_at fs fd → IsSessionReadyForCalls t fs → IsWriterOverWritableImage t w
 entry_written t fs fd w is ready = (subst (AllByRecursion (IsWriterOverWritableImage t)) (only fs fd w (sym is) ready.one).writers ready.written).0
 
-pub can_save : (t : TreeState) (fs : OpenFiles) (fd : ℕ) (w : Writer) → t.failed ≡ false → IsSessionReadyForCalls t fs → is_unsaved_writer (open_file_at fs fd) ≡ true → Some (file.Writing w) ≡ open_file_at fs fd → CanSaveWriter t w
+pub can_save : (t : TreeState) (fs : RuntimeOpenFilesByNumber) (fd : ℕ) (w : Writer) → t.failed ≡ false → IsSessionReadyForCalls t fs → is_unsaved_writer (open_file_at fs fd) ≡ true → Some (file.Writing w) ≡ open_file_at fs fd → CanSaveWriter t w
 can_save t fs fd w works ready e is = record {
   works = works;
   written = entry_written t fs fd w is ready;
@@ -58,50 +58,50 @@ taken o p f w is writing from = sym (is ∙ ap (λ z. Some z) writing) ∙ from
 
 -- ---- the files after it
 
-pub left_inside : (fs mid : OpenFiles) (fd : ℕ) → is_some (open_file_at fs fd) ≡ true → mid ≡ set fs fd None → fd < length mid
+pub left_inside : (fs mid : RuntimeOpenFilesByNumber) (fd : ℕ) → is_some (open_file_at fs fd) ≡ true → mid ≡ set fs fd None → fd < length mid
 left_inside fs mid fd there left = subst (λ n. fd < n) (sym (ap (λ xs. length xs) left ∙ length-set fs fd None)) (inside_is fs fd there)
 
-pub left_free : (fs mid : OpenFiles) (fd : ℕ) → is_some (open_file_at fs fd) ≡ true → mid ≡ set fs fd None → open_file_at mid fd ≡ None
+pub left_free : (fs mid : RuntimeOpenFilesByNumber) (fd : ℕ) → is_some (open_file_at fs fd) ≡ true → mid ≡ set fs fd None → open_file_at mid fd ≡ None
 left_free fs mid fd there left = ap (λ xs. open_file_at xs fd) left ∙ ap option_flatten (slice_get-set_same fs fd None (inside_is fs fd there))
 
-pub left_none : (t : TreeState) (fs mid : OpenFiles) (fd : ℕ) (w : Writer) → IsSessionReadyForCalls t fs → Some (file.Writing w) ≡ open_file_at fs fd → mid ≡ set fs fd None → writers_among mid ≡ []
+pub left_none : (t : TreeState) (fs mid : RuntimeOpenFilesByNumber) (fd : ℕ) (w : Writer) → IsSessionReadyForCalls t fs → Some (file.Writing w) ≡ open_file_at fs fd → mid ≡ set fs fd None → writers_among mid ≡ []
 left_none t fs mid fd w ready is left = ap (λ xs. writers_among xs) left ∙ (only fs fd w (sym is) ready.one).without
 
-no_writers_same : (t s : TreeState) (fs : OpenFiles) → writers_among fs ≡ [] → open_files_view t fs ≡ open_files_view s fs
+no_writers_same : (t s : TreeState) (fs : RuntimeOpenFilesByNumber) → writers_among fs ≡ [] → open_files_view t fs ≡ open_files_view s fs
 no_writers_same t s fs none = kept_files t s fs (ap (list_any (λ w. is_some w.unsaved)) none) (subst (KeepsFilesOfWriters t s) (sym none) tt)
 
-put_inside : (t : TreeState) (fs : OpenFiles) (fd : ℕ) (x : Option session.OpenFile) → is_some (open_file_at fs fd) ≡ true → put_file (open_files_view t fs) fd x ≡ set (open_files_view t fs) fd x
+put_inside : (t : TreeState) (fs : RuntimeOpenFilesByNumber) (fd : ℕ) (x : Option session.OpenFile) → is_some (open_file_at fs fd) ≡ true → open_files_with_file_at_number (open_files_view t fs) fd x ≡ set (open_files_view t fs) fd x
 put_inside t fs fd x e = ap (λ b. cond b (set (open_files_view t fs) fd x) (open_files_view t fs ++ x ∷ [])) (ap (nat_lt fd) (length-map fs (option_map (open_file_view t))) ∙ inside fs fd e)
 
 -- without the writer
-pub left_is : (t s : TreeState) (fs : OpenFiles) (fd : ℕ) (w : Writer) → Some (file.Writing w) ≡ open_file_at fs fd → IsOnly fs fd w → open_files_view s (set fs fd None) ≡ put_file (open_files_view t fs) fd None
+pub left_is : (t s : TreeState) (fs : RuntimeOpenFilesByNumber) (fd : ℕ) (w : Writer) → Some (file.Writing w) ≡ open_file_at fs fd → IsOnly fs fd w → open_files_view s (set fs fd None) ≡ open_files_with_file_at_number (open_files_view t fs) fd None
 left_is t s fs fd w is o = no_writers_same s t (set fs fd None) o.without ∙ set_is t fs fd None (sym (ap is_some is))
 
 -- with another one in its place
-pub back_is : (t s : TreeState) (fs : OpenFiles) (fd : ℕ) (w v : Writer) → Some (file.Writing w) ≡ open_file_at fs fd → IsOnly fs fd w →
-    open_files_view s (set (set fs fd None) fd (Some (file.Writing v))) ≡ put_file (open_files_view t fs) fd (Some (Writing (writer_view s v)))
+pub back_is : (t s : TreeState) (fs : RuntimeOpenFilesByNumber) (fd : ℕ) (w v : Writer) → Some (file.Writing w) ≡ open_file_at fs fd → IsOnly fs fd w →
+    open_files_view s (set (set fs fd None) fd (Some (file.Writing v))) ≡ open_files_with_file_at_number (open_files_view t fs) fd (Some (Writing (writer_view s v)))
 back_is t s fs fd w v is o =
     map-set (option_map (open_file_view s)) (set fs fd None) fd (Some (file.Writing v))
-    ∙ ap (λ (z : Files). set z fd (Some (Writing (writer_view s v)))) (no_writers_same s t (set fs fd None) o.without ∙ map-set (option_map (open_file_view t)) fs fd None)
+    ∙ ap (λ (z : OpenFilesByNumber). set z fd (Some (Writing (writer_view s v)))) (no_writers_same s t (set fs fd None) o.without ∙ map-set (option_map (open_file_view t)) fs fd None)
     ∙ set-set (open_files_view t fs) fd None (Some (Writing (writer_view s v)))
     ∙ sym (put_inside t fs fd (Some (Writing (writer_view s v))) (sym (ap is_some is)))
 
 -- ---- the turn
 
-stored_step : (t new : TreeState) (fs : OpenFiles) (files : Files) (op : Operation) (path : Path) (bytes : List ℕ) → IsSoundTreeState t → t.failed ≡ false → refusal_by_checks (session_view_of_tree_and_files t fs) op ≡ None → HasStoredBytesAt t path bytes new →
-    is_remount_operation op ≡ false → is_read_only_operation (session_of (session_view_of_tree_and_files t fs)) op ≡ false → is_write_or_truncate op ≡ false → opens_existing_file (session_of (session_view_of_tree_and_files t fs)) op ≡ false → needs_no_device_call (session_of (session_view_of_tree_and_files t fs)) op ≡ false →
+stored_step : (t new : TreeState) (fs : RuntimeOpenFilesByNumber) (files : OpenFilesByNumber) (op : Operation) (path : Path) (bytes : List ℕ) → IsSoundTreeState t → t.failed ≡ false → refusal_by_checks (session_view_of_tree_and_files t fs) op ≡ None → StoresBytesKeepingOtherFilesAtPath t path bytes new →
+    is_remount_operation op ≡ false → is_read_only_operation (session_of_session_view (session_view_of_tree_and_files t fs)) op ≡ false → is_write_or_truncate op ≡ false → opens_existing_file (session_of_session_view (session_view_of_tree_and_files t fs)) op ≡ false → needs_no_device_call (session_of_session_view (session_view_of_tree_and_files t fs)) op ≡ false →
     renames_to_itself op ≡ false → is_recover_operation op ≡ false →
-    ((around : DiskSummary) → tree_view new ≡ (effect_of_operation around (session_of (session_view_of_tree_and_files t fs)) op).1.tree) → IsSlotLayoutWithRecoveryFirst t.disk t.pairs (session_of (session_view_of_tree_and_files t fs)) op new.disk new.pairs →
-    (effect_of_operation (disk_summary_of_tree t) (session_of (session_view_of_tree_and_files t fs)) op).1.files ≡ files →
-    IsSessionStep (system_state_of (session_view_of_tree_and_files t fs)) op (effect_of_operation (disk_summary_of_tree t) (session_of (session_view_of_tree_and_files t fs)) op).0 (system_state_of (session_view_with_files_view new files))
+    ((around : DiskSummary) → tree_view new ≡ (effect_of_operation around (session_of_session_view (session_view_of_tree_and_files t fs)) op).1.tree) → IsSlotLayoutAfterRecoveryAndOperation t.disk t.pairs (session_of_session_view (session_view_of_tree_and_files t fs)) op new.disk new.pairs →
+    (effect_of_operation (disk_summary_of_tree t) (session_of_session_view (session_view_of_tree_and_files t fs)) op).1.files ≡ files →
+    IsSessionStep (system_state_of_session_view (session_view_of_tree_and_files t fs)) op (effect_of_operation (disk_summary_of_tree t) (session_of_session_view (session_view_of_tree_and_files t fs)) op).0 (system_state_of_session_view (session_view_of_tree_and_files_view new files))
 stored_step t new fs files op path bytes sound works e stored other asks fill creates silent itself left shows arranged opened =
     let old = session_view_of_tree_and_files t fs in
-    let is : record { tree = tree_view new; files = files } ≡ (effect_of_operation (disk_summary_of_tree t) (session_of old) op).1 = ap₂ (λ t f. record { tree = t; files = f }) (shows (disk_summary_of_tree t)) (sym opened) in
-    let to = healthy_system (session_view_with_files_view new files) stored.works
-    ∙ ap₂ (λ (calls : List CallEvent) (s : Session). record { disk = new.disk; calls = calls; state = Healthy s }) stored.called is in
-    subst (λ m. IsSessionStep m op (effect_of_operation (disk_summary_of_tree t) (session_of old) op).0 (system_state_of (session_view_with_files_view new files))) (sym (healthy_system old works))
-    (subst (λ m. IsSessionStep (record { disk = t.disk; calls = t.history; state = Healthy (session_of old) }) op (effect_of_operation (disk_summary_of_tree t) (session_of old) op).0 m) (sym to)
-    (completed_step t.disk t.pairs (session_of old) (disk_summary_of_tree t) op new.disk new.pairs stored.calls t.history (is_over t (open_files_view t fs) sound) (not_refused old op e)
+    let is : record { tree = tree_view new; files = files } ≡ (effect_of_operation (disk_summary_of_tree t) (session_of_session_view old) op).1 = ap₂ (λ t f. record { tree = t; files = f }) (shows (disk_summary_of_tree t)) (sym opened) in
+    let to = healthy_system (session_view_of_tree_and_files_view new files) stored.works
+    ∙ ap₂ (λ (calls : List DeviceCallEvent) (s : Session). record { disk = new.disk; calls = calls; state = Healthy s }) stored.called is in
+    subst (λ m. IsSessionStep m op (effect_of_operation (disk_summary_of_tree t) (session_of_session_view old) op).0 (system_state_of_session_view (session_view_of_tree_and_files_view new files))) (sym (healthy_system old works))
+    (subst (λ m. IsSessionStep (record { disk = t.disk; calls = t.history; state = Healthy (session_of_session_view old) }) op (effect_of_operation (disk_summary_of_tree t) (session_of_session_view old) op).0 m) (sym to)
+    (completed_step t.disk t.pairs (session_of_session_view old) (disk_summary_of_tree t) op new.disk new.pairs stored.calls t.history (is_over t (open_files_view t fs) sound) (not_refused old op e)
     (record {
       geometry = stored.geometry;
       other = other;
@@ -114,54 +114,54 @@ stored_step t new fs files op path bytes sound works e stored other asks fill cr
     })
     (record { accepted = stored.sound.accepted; writable = stored.fits; recovered = stored.recovered; tree = shows; arranged = arranged })))
 
-file_at : (t : TreeState) (fs : OpenFiles) (fd : ℕ) (w : Writer) → Some (file.Writing w) ≡ open_file_at fs fd → open_file_of (open_files_view t fs) fd ≡ Some (Writing (writer_view t w))
+file_at : (t : TreeState) (fs : RuntimeOpenFilesByNumber) (fd : ℕ) (w : Writer) → Some (file.Writing w) ≡ open_file_at fs fd → open_file_with_number (open_files_view t fs) fd ≡ Some (Writing (writer_view t w))
 file_at t fs fd w is = file_is t fs fd ∙ ap (option_map (open_file_view t)) (sym is)
 
-committed_is : (t new : TreeState) (fs : OpenFiles) (fd : ℕ) (w : Writer) → Some (file.Writing w) ≡ open_file_at fs fd → is_some w.unsaved ≡ true → HasStoredBytesAt t w.path (bytes_of_writer_at_path t w.path w.unsaved) new →
-    tree_view new ≡ tree_after_commit_of_writer (open_file_of (open_files_view t fs) fd) (tree_view t)
+committed_is : (t new : TreeState) (fs : RuntimeOpenFilesByNumber) (fd : ℕ) (w : Writer) → Some (file.Writing w) ≡ open_file_at fs fd → is_some w.unsaved ≡ true → StoresBytesKeepingOtherFilesAtPath t w.path (unsaved_or_tree_bytes_of_writer t w.path w.unsaved) new →
+    tree_view new ≡ tree_after_commit_of_writer (open_file_with_number (open_files_view t fs) fd) (tree_view t)
 committed_is t new fs fd w is dirty stored =
     stored.shows
     ∙ sym (ap (λ f. tree_after_commit_of_writer f (tree_view t)) (file_at t fs fd w is)
-    ∙ ap (λ b. cond b (tree_after_change_of_node w.path (node_with_bytes (bytes_of_writer_at_path t w.path w.unsaved)) (tree_view t)) (tree_view t)) dirty)
+    ∙ ap (λ b. cond b (tree_after_change_of_node w.path (node_with_bytes (unsaved_or_tree_bytes_of_writer t w.path w.unsaved)) (tree_view t)) (tree_view t)) dirty)
 
-pub dirty_at : (t : TreeState) (fs : OpenFiles) (fd : ℕ) (w : Writer) → Some (file.Writing w) ≡ open_file_at fs fd → is_some w.unsaved ≡ true → not (is_dirty_writer (open_file_of (open_files_view t fs) fd)) ≡ false
+pub dirty_at : (t : TreeState) (fs : RuntimeOpenFilesByNumber) (fd : ℕ) (w : Writer) → Some (file.Writing w) ≡ open_file_at fs fd → is_some w.unsaved ≡ true → not (is_dirty_writer (open_file_with_number (open_files_view t fs) fd)) ≡ false
 dirty_at t fs fd w is dirty = ap (λ f. not (is_dirty_writer f)) (file_at t fs fd w is) ∙ ap not dirty
 
-writer_at : (t : TreeState) (fs : OpenFiles) (fd : ℕ) (w : Writer) → Some (file.Writing w) ≡ open_file_at fs fd → is_some w.unsaved ≡ true →
-    (open_file_of (open_files_view t fs) fd ≡ Some (Writing (writer_view t w))) × ((is_some w.unsaved ≡ true) × ((w.path ≡ w.path) × (bytes_of_writer_at_path t w.path w.unsaved ≡ bytes_of_writer_at_path t w.path w.unsaved)))
+writer_at : (t : TreeState) (fs : RuntimeOpenFilesByNumber) (fd : ℕ) (w : Writer) → Some (file.Writing w) ≡ open_file_at fs fd → is_some w.unsaved ≡ true →
+    (open_file_with_number (open_files_view t fs) fd ≡ Some (Writing (writer_view t w))) × ((is_some w.unsaved ≡ true) × ((w.path ≡ w.path) × (unsaved_or_tree_bytes_of_writer t w.path w.unsaved ≡ unsaved_or_tree_bytes_of_writer t w.path w.unsaved)))
 writer_at t fs fd w is dirty = (file_at t fs fd w is, (dirty, (refl, refl)))
 
 -- ---- a sync
 
-sync_step : (t new : TreeState) (fs : OpenFiles) (fd : ℕ) (w v : Writer) → IsSessionReadyForCalls t fs → refusal_by_checks (session_view_of_tree_and_files t fs) (ops.Sync fd) ≡ None → Some (file.Writing w) ≡ open_file_at fs fd → is_some w.unsaved ≡ true →
-    HasStoredBytesAt t w.path (bytes_of_writer_at_path t w.path w.unsaved) new → IsSavedWriterSeenAs new (writer_after_sync (writer_view t w)) v →
-    IsSessionStep (system_state_of (session_view_of_tree_and_files t fs)) (ops.Sync fd) ops.Done (system_state_of (session_view_of_tree_and_files new (set (set fs fd None) fd (Some (file.Writing v)))))
+sync_step : (t new : TreeState) (fs : RuntimeOpenFilesByNumber) (fd : ℕ) (w v : Writer) → IsSessionReadyForCalls t fs → refusal_by_checks (session_view_of_tree_and_files t fs) (ops.Sync fd) ≡ None → Some (file.Writing w) ≡ open_file_at fs fd → is_some w.unsaved ≡ true →
+    StoresBytesKeepingOtherFilesAtPath t w.path (unsaved_or_tree_bytes_of_writer t w.path w.unsaved) new → IsSavedWriterSeenAs new (writer_after_sync (writer_view t w)) v →
+    IsSessionStep (system_state_of_session_view (session_view_of_tree_and_files t fs)) (ops.Sync fd) ops.Done (system_state_of_session_view (session_view_of_tree_and_files new (set (set fs fd None) fd (Some (file.Writing v)))))
 sync_step t new fs fd w v ready e is dirty stored saved =
-    stored_step t new fs (open_files_view new (set (set fs fd None) fd (Some (file.Writing v)))) (ops.Sync fd) w.path (bytes_of_writer_at_path t w.path w.unsaved) ready.sound (not_failed (session_view_of_tree_and_files t fs) (ops.Sync fd) e) e stored
+    stored_step t new fs (open_files_view new (set (set fs fd None) fd (Some (file.Writing v)))) (ops.Sync fd) w.path (unsaved_or_tree_bytes_of_writer t w.path w.unsaved) ready.sound (not_failed (session_view_of_tree_and_files t fs) (ops.Sync fd) e) e stored
     refl refl refl refl (dirty_at t fs fd w is dirty) refl refl (λ around. committed_is t new fs fd w is dirty stored) (stored.synced (open_files_view t fs) fd (writer_view t w) (writer_at t fs fd w is dirty))
-    (ap (λ f. put_file (open_files_view t fs) fd (open_file_after_sync f)) (file_at t fs fd w is)
-    ∙ ap (λ x. put_file (open_files_view t fs) fd (Some (Writing x))) (sym saved.seen)
+    (ap (λ f. open_files_with_file_at_number (open_files_view t fs) fd (open_file_after_sync f)) (file_at t fs fd w is)
+    ∙ ap (λ x. open_files_with_file_at_number (open_files_view t fs) fd (Some (Writing x))) (sym saved.seen)
     ∙ sym (back_is t new fs fd w v is (only fs fd w (sym is) ready.one)))
 
-pub sync_answers : (t new : TreeState) (fs mid gs : OpenFiles) (now : SessionView) (fd : ℕ) (w v : Writer) → session_view_of_tree_and_files t fs ≡ now → (t.failed ≡ false → IsSessionReadyForCalls t fs) → refusal_by_checks (session_view_of_tree_and_files t fs) (ops.Sync fd) ≡ None →
-    is_unsaved_writer (open_file_at fs fd) ≡ true → Some (file.Writing w) ≡ open_file_at fs fd → HasStoredBytesAt t w.path (bytes_of_writer_at_path t w.path w.unsaved) new → IsSavedWriterSeenAs new (writer_after_sync (writer_view t w)) v →
+pub sync_answers : (t new : TreeState) (fs mid gs : RuntimeOpenFilesByNumber) (now : SessionView) (fd : ℕ) (w v : Writer) → session_view_of_tree_and_files t fs ≡ now → (t.failed ≡ false → IsSessionReadyForCalls t fs) → refusal_by_checks (session_view_of_tree_and_files t fs) (ops.Sync fd) ≡ None →
+    is_unsaved_writer (open_file_at fs fd) ≡ true → Some (file.Writing w) ≡ open_file_at fs fd → StoresBytesKeepingOtherFilesAtPath t w.path (unsaved_or_tree_bytes_of_writer t w.path w.unsaved) new → IsSavedWriterSeenAs new (writer_after_sync (writer_view t w)) v →
     mid ≡ set fs fd None → gs ≡ set mid fd (Some (file.Writing v)) → IsSessionStepOrFailure now (ops.Sync fd) (Ok ops.Done) (session_view_of_tree_and_files new gs)
 sync_answers t new fs mid gs now fd w v same ready e unsaved is stored saved left back =
-    subst (λ z. IsSessionStep (system_state_of z) (ops.Sync fd) ops.Done (system_state_of (session_view_of_tree_and_files new gs))) same
-    (subst (λ z. IsSessionStep (system_state_of (session_view_of_tree_and_files t fs)) (ops.Sync fd) ops.Done (system_state_of (session_view_of_tree_and_files new z))) (sym (back ∙ ap (λ z. set z fd (Some (file.Writing v))) left))
+    subst (λ z. IsSessionStep (system_state_of_session_view z) (ops.Sync fd) ops.Done (system_state_of_session_view (session_view_of_tree_and_files new gs))) same
+    (subst (λ z. IsSessionStep (system_state_of_session_view (session_view_of_tree_and_files t fs)) (ops.Sync fd) ops.Done (system_state_of_session_view (session_view_of_tree_and_files new z))) (sym (back ∙ ap (λ z. set z fd (Some (file.Writing v))) left))
     (sync_step t new fs fd w v (ready (not_failed (session_view_of_tree_and_files t fs) (ops.Sync fd) e)) e is (unsaved_writer (open_file_at fs fd) w unsaved is) stored saved))
 
-sync_writers : (t : TreeState) (fs mid gs : OpenFiles) (fd : ℕ) (w v : Writer) → IsSessionReadyForCalls t fs → Some (file.Writing w) ≡ open_file_at fs fd → mid ≡ set fs fd None → gs ≡ set mid fd (Some (file.Writing v)) → writers_among gs ≡ v ∷ []
+sync_writers : (t : TreeState) (fs mid gs : RuntimeOpenFilesByNumber) (fd : ℕ) (w v : Writer) → IsSessionReadyForCalls t fs → Some (file.Writing w) ≡ open_file_at fs fd → mid ≡ set fs fd None → gs ≡ set mid fd (Some (file.Writing v)) → writers_among gs ≡ v ∷ []
 sync_writers t fs mid gs fd w v ready is left back =
     ap (λ xs. writers_among xs) (back ∙ ap (λ z. set z fd (Some (file.Writing v))) left ∙ set-set fs fd None (Some (file.Writing v))) ∙ (only fs fd w (sym is) ready.one).with_other v
 
-pub sync_ready : (t new : TreeState) (fs mid gs : OpenFiles) (fd : ℕ) (w v : Writer) (bytes : List ℕ) → (t.failed ≡ false → IsSessionReadyForCalls t fs) → refusal_by_checks (session_view_of_tree_and_files t fs) (ops.Sync fd) ≡ None →
-    Some (file.Writing w) ≡ open_file_at fs fd → HasStoredBytesAt t w.path bytes new → IsSavedWriterSeenAs new (writer_after_sync (writer_view t w)) v → mid ≡ set fs fd None → gs ≡ set mid fd (Some (file.Writing v)) → IsSessionReadyForCalls new gs
+pub sync_ready : (t new : TreeState) (fs mid gs : RuntimeOpenFilesByNumber) (fd : ℕ) (w v : Writer) (bytes : List ℕ) → (t.failed ≡ false → IsSessionReadyForCalls t fs) → refusal_by_checks (session_view_of_tree_and_files t fs) (ops.Sync fd) ≡ None →
+    Some (file.Writing w) ≡ open_file_at fs fd → StoresBytesKeepingOtherFilesAtPath t w.path bytes new → IsSavedWriterSeenAs new (writer_after_sync (writer_view t w)) v → mid ≡ set fs fd None → gs ≡ set mid fd (Some (file.Writing v)) → IsSessionReadyForCalls new gs
 sync_ready t new fs mid gs fd w v bytes ready e is stored saved left back =
     let was = ready (not_failed (session_view_of_tree_and_files t fs) (ops.Sync fd) e) in
     let are = sync_writers t fs mid gs fd w v was is left back in
     let o = only fs fd w (sym is) was.one in
-    let path : v.path ≡ w.path = ap (λ (z : session.Writer). z.path) saved.seen ∙ sync_path (writer_view t w) in
+    let path : v.path ≡ w.path = ap (λ (z : session.FileWriter). z.path) saved.seen ∙ sync_path (writer_view t w) in
     let put : gs ≡ set fs fd (Some (file.Writing v)) = back ∙ ap (λ z. set z fd (Some (file.Writing v))) left ∙ set-set fs fd None (Some (file.Writing v)) in
     record {
       sound = stored.sound;
@@ -169,20 +169,20 @@ sync_ready t new fs mid gs fd w v bytes ready e is stored saved left back =
       one = subst (λ ws. length ws ≤ 1) (sym are) (omega arith);
       idle = λ h. stored.none_in_flight;
       written = subst (AllByRecursion (IsWriterOverWritableImage new)) (sym are) (saved.written, tt);
-      read = subst (AreReadersApartFromWriters new.pairs) (sym put)
+      read = subst (AreReadersOfCurrentContentsWithoutWriter new.pairs) (sym put)
           (read_saved t.disk t.pairs new.pairs fs fd (Some (file.Writing v)) w.path (v.path ∷ []) refl (ap (map (λ x. x.path)) o.writers) (ap (map (λ x. x.path)) (o.with_other v)) stored.others
           (λ p off. ap (λ b. b || false) (ap (same_path p) path ∙ off)) was.read);
     }
 
 -- put where it is
-put_same : (gs : OpenFiles) (n : ℕ) → is_some (open_file_at gs n) ≡ true → set gs n (open_file_at gs n) ≡ gs
+put_same : (gs : RuntimeOpenFilesByNumber) (n : ℕ) → is_some (open_file_at gs n) ≡ true → set gs n (open_file_at gs n) ≡ gs
 put_same [] n h = refl
 put_same (None ∷ gs) zero h = refl
 put_same (Some x ∷ gs) zero h = refl
 put_same (g ∷ gs) (suc n) h = ap (λ z. g ∷ z) (put_same gs n h)
 
 -- nothing is to be saved
-pub sync_idle : (t : TreeState) (fs : OpenFiles) (now : SessionView) (fd : ℕ) → session_view_of_tree_and_files t fs ≡ now → (t.failed ≡ false → IsSessionReadyForCalls t fs) → refusal_by_checks (session_view_of_tree_and_files t fs) (ops.Sync fd) ≡ None → is_some (open_file_at fs fd) ≡ true →
+pub sync_idle : (t : TreeState) (fs : RuntimeOpenFilesByNumber) (now : SessionView) (fd : ℕ) → session_view_of_tree_and_files t fs ≡ now → (t.failed ≡ false → IsSessionReadyForCalls t fs) → refusal_by_checks (session_view_of_tree_and_files t fs) (ops.Sync fd) ≡ None → is_some (open_file_at fs fd) ≡ true →
     is_unsaved_writer (open_file_at fs fd) ≡ false → IsSessionStepOrFailure now (ops.Sync fd) (Ok ops.Done) now
 sync_idle t fs now fd same ready e there saved =
     subst (λ z. IsSessionStepOrFailure now (ops.Sync fd) (Ok ops.Done) z) same
@@ -198,31 +198,31 @@ sync_idle t fs now fd same ready e there saved =
     clean (Some (file.Reading r)) h = refl
     clean (Some (file.Writing w)) h = ap (λ b. Some (Writing (cond b (record (writer_view t w) { dirty = false; turned = false; last_end = None }) (writer_view t w)))) h
 
-    files : put_file (open_files_view t fs) fd (open_file_after_sync (open_file_of (open_files_view t fs) fd)) ≡ open_files_view t fs
-    files = ap (λ f. put_file (open_files_view t fs) fd (open_file_after_sync f)) (file_is t fs fd)
-        ∙ ap (put_file (open_files_view t fs) fd) (clean (open_file_at fs fd) saved)
+    files : open_files_with_file_at_number (open_files_view t fs) fd (open_file_after_sync (open_file_with_number (open_files_view t fs) fd)) ≡ open_files_view t fs
+    files = ap (λ f. open_files_with_file_at_number (open_files_view t fs) fd (open_file_after_sync f)) (file_is t fs fd)
+        ∙ ap (open_files_with_file_at_number (open_files_view t fs) fd) (clean (open_file_at fs fd) saved)
         ∙ sym (set_is t fs fd (open_file_at fs fd) there)
         ∙ ap (open_files_view t) (put_same fs fd there)
 
 -- ---- a close
 
-close_step : (t new : TreeState) (fs : OpenFiles) (fd : ℕ) (w : Writer) → IsSessionReadyForCalls t fs → refusal_by_checks (session_view_of_tree_and_files t fs) (ops.Close fd) ≡ None → Some (file.Writing w) ≡ open_file_at fs fd → is_some w.unsaved ≡ true →
-    HasStoredBytesAt t w.path (bytes_of_writer_at_path t w.path w.unsaved) new → IsSessionStep (system_state_of (session_view_of_tree_and_files t fs)) (ops.Close fd) ops.Done (system_state_of (session_view_of_tree_and_files new (set fs fd None)))
+close_step : (t new : TreeState) (fs : RuntimeOpenFilesByNumber) (fd : ℕ) (w : Writer) → IsSessionReadyForCalls t fs → refusal_by_checks (session_view_of_tree_and_files t fs) (ops.Close fd) ≡ None → Some (file.Writing w) ≡ open_file_at fs fd → is_some w.unsaved ≡ true →
+    StoresBytesKeepingOtherFilesAtPath t w.path (unsaved_or_tree_bytes_of_writer t w.path w.unsaved) new → IsSessionStep (system_state_of_session_view (session_view_of_tree_and_files t fs)) (ops.Close fd) ops.Done (system_state_of_session_view (session_view_of_tree_and_files new (set fs fd None)))
 close_step t new fs fd w ready e is dirty stored =
-    stored_step t new fs (open_files_view new (set fs fd None)) (ops.Close fd) w.path (bytes_of_writer_at_path t w.path w.unsaved) ready.sound (not_failed (session_view_of_tree_and_files t fs) (ops.Close fd) e) e stored
+    stored_step t new fs (open_files_view new (set fs fd None)) (ops.Close fd) w.path (unsaved_or_tree_bytes_of_writer t w.path w.unsaved) ready.sound (not_failed (session_view_of_tree_and_files t fs) (ops.Close fd) e) e stored
     refl (ap (λ f. is_some (reader_of_open_file f)) (file_at t fs fd w is)) refl refl (dirty_at t fs fd w is dirty) refl refl (λ around. committed_is t new fs fd w is dirty stored)
     (stored.closed (open_files_view t fs) fd (writer_view t w) (writer_at t fs fd w is dirty))
     (sym (left_is t new fs fd w is (only fs fd w (sym is) ready.one)))
 
-pub close_answers : (t new : TreeState) (fs gs : OpenFiles) (now : SessionView) (fd : ℕ) (w : Writer) → session_view_of_tree_and_files t fs ≡ now → (t.failed ≡ false → IsSessionReadyForCalls t fs) → refusal_by_checks (session_view_of_tree_and_files t fs) (ops.Close fd) ≡ None →
-    is_unsaved_writer (open_file_at fs fd) ≡ true → Some (file.Writing w) ≡ open_file_at fs fd → HasStoredBytesAt t w.path (bytes_of_writer_at_path t w.path w.unsaved) new → gs ≡ set fs fd None → IsSessionStepOrFailure now (ops.Close fd) (Ok ops.Done) (session_view_of_tree_and_files new gs)
+pub close_answers : (t new : TreeState) (fs gs : RuntimeOpenFilesByNumber) (now : SessionView) (fd : ℕ) (w : Writer) → session_view_of_tree_and_files t fs ≡ now → (t.failed ≡ false → IsSessionReadyForCalls t fs) → refusal_by_checks (session_view_of_tree_and_files t fs) (ops.Close fd) ≡ None →
+    is_unsaved_writer (open_file_at fs fd) ≡ true → Some (file.Writing w) ≡ open_file_at fs fd → StoresBytesKeepingOtherFilesAtPath t w.path (unsaved_or_tree_bytes_of_writer t w.path w.unsaved) new → gs ≡ set fs fd None → IsSessionStepOrFailure now (ops.Close fd) (Ok ops.Done) (session_view_of_tree_and_files new gs)
 close_answers t new fs gs now fd w same ready e unsaved is stored left =
-    subst (λ z. IsSessionStep (system_state_of z) (ops.Close fd) ops.Done (system_state_of (session_view_of_tree_and_files new gs))) same
-    (subst (λ z. IsSessionStep (system_state_of (session_view_of_tree_and_files t fs)) (ops.Close fd) ops.Done (system_state_of (session_view_of_tree_and_files new z))) (sym left)
+    subst (λ z. IsSessionStep (system_state_of_session_view z) (ops.Close fd) ops.Done (system_state_of_session_view (session_view_of_tree_and_files new gs))) same
+    (subst (λ z. IsSessionStep (system_state_of_session_view (session_view_of_tree_and_files t fs)) (ops.Close fd) ops.Done (system_state_of_session_view (session_view_of_tree_and_files new z))) (sym left)
     (close_step t new fs fd w (ready (not_failed (session_view_of_tree_and_files t fs) (ops.Close fd) e)) e is (unsaved_writer (open_file_at fs fd) w unsaved is) stored))
 
-pub close_ready : (t new : TreeState) (fs gs : OpenFiles) (fd : ℕ) (w : Writer) (bytes : List ℕ) → (t.failed ≡ false → IsSessionReadyForCalls t fs) → refusal_by_checks (session_view_of_tree_and_files t fs) (ops.Close fd) ≡ None →
-    Some (file.Writing w) ≡ open_file_at fs fd → HasStoredBytesAt t w.path bytes new → gs ≡ set fs fd None → IsSessionReadyForCalls new gs
+pub close_ready : (t new : TreeState) (fs gs : RuntimeOpenFilesByNumber) (fd : ℕ) (w : Writer) (bytes : List ℕ) → (t.failed ≡ false → IsSessionReadyForCalls t fs) → refusal_by_checks (session_view_of_tree_and_files t fs) (ops.Close fd) ≡ None →
+    Some (file.Writing w) ≡ open_file_at fs fd → StoresBytesKeepingOtherFilesAtPath t w.path bytes new → gs ≡ set fs fd None → IsSessionReadyForCalls new gs
 close_ready t new fs gs fd w bytes ready e is stored left =
     let was = ready (not_failed (session_view_of_tree_and_files t fs) (ops.Close fd) e) in
     let o = only fs fd w (sym is) was.one in
@@ -233,19 +233,19 @@ close_ready t new fs gs fd w bytes ready e is stored left =
       one = subst (λ ws. length ws ≤ 1) (sym are) (omega arith);
       idle = λ h. stored.none_in_flight;
       written = subst (AllByRecursion (IsWriterOverWritableImage new)) (sym are) tt;
-      read = subst (AreReadersApartFromWriters new.pairs) (sym left)
+      read = subst (AreReadersOfCurrentContentsWithoutWriter new.pairs) (sym left)
           (read_saved t.disk t.pairs new.pairs fs fd None w.path [] refl (ap (map (λ x. x.path)) o.writers) (ap (map (λ x. x.path)) o.without) stored.others (λ p off. refl) was.read);
     }
 
 -- ---- a call fails
 
-pub saving_fails : {B : Type 0} (t new : TreeState) (fs : OpenFiles) (files : Files) (now : SessionView) (op : Operation) (reply : B → ops.Reply) (e : Error) (r : Result B Error) → session_view_of_tree_and_files t fs ≡ now → refusal_by_checks (session_view_of_tree_and_files t fs) op ≡ None →
-    is_remount_operation op ≡ false → is_read_only_operation (session_of (session_view_of_tree_and_files t fs)) op ≡ false → renames_to_itself op ≡ false → IsSoundTreeState t → t.writable ≡ true → IsFailedTree t new → IsErrorWithCause t new e → r ≡ Err e → IsSessionStepOrFailure now op (reply_from_result reply r) (session_view_with_files_view new files)
+pub saving_fails : {B : Type 0} (t new : TreeState) (fs : RuntimeOpenFilesByNumber) (files : OpenFilesByNumber) (now : SessionView) (op : Operation) (reply : B → ops.Reply) (e : Error) (r : Result B Error) → session_view_of_tree_and_files t fs ≡ now → refusal_by_checks (session_view_of_tree_and_files t fs) op ≡ None →
+    is_remount_operation op ≡ false → is_read_only_operation (session_of_session_view (session_view_of_tree_and_files t fs)) op ≡ false → renames_to_itself op ≡ false → IsSoundTreeState t → t.writable ≡ true → IsFailedTree t new → IsIoWithFaultOrNoMemory t new e → r ≡ Err e → IsSessionStepOrFailure now op (reply_from_result reply r) (session_view_of_tree_and_files_view new files)
 saving_fails t new fs files now op reply e r same accepted other asks itself sound writable broken error is =
-    subst (λ z. IsSessionStepOrFailure z op (reply_from_result reply r) (session_view_with_files_view new files)) same
-    (subst (λ z. IsSessionStepOrFailure (session_view_of_tree_and_files t fs) op (reply_from_result reply z) (session_view_with_files_view new files)) (sym is)
-    (error_answers (session_view_of_tree_and_files t fs) op e (session_view_with_files_view new files) (ops.Refused (refusal_of_error e)) error.errors
+    subst (λ z. IsSessionStepOrFailure z op (reply_from_result reply r) (session_view_of_tree_and_files_view new files)) same
+    (subst (λ z. IsSessionStepOrFailure (session_view_of_tree_and_files t fs) op (reply_from_result reply z) (session_view_of_tree_and_files_view new files)) (sym is)
+    (error_answers (session_view_of_tree_and_files t fs) op e (session_view_of_tree_and_files_view new files) (ops.Refused (refusal_of_error e)) error.errors
     (broken_fails e (session_view_of_tree_and_files t fs) op t new files (not_failed (session_view_of_tree_and_files t fs) op accepted) other asks itself sound writable (nothing_asked t) broken error)))
 
-pub close_asks : (t : TreeState) (fs : OpenFiles) (fd : ℕ) (w : Writer) → Some (file.Writing w) ≡ open_file_at fs fd → is_read_only_operation (session_of (session_view_of_tree_and_files t fs)) (ops.Close fd) ≡ false
+pub close_asks : (t : TreeState) (fs : RuntimeOpenFilesByNumber) (fd : ℕ) (w : Writer) → Some (file.Writing w) ≡ open_file_at fs fd → is_read_only_operation (session_of_session_view (session_view_of_tree_and_files t fs)) (ops.Close fd) ≡ false
 close_asks t fs fd w is = ap (λ f. is_some (reader_of_open_file f)) (file_at t fs fd w is)

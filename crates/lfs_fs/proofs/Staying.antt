@@ -1,17 +1,17 @@
 -- Files that stay while something else changes.
 use Rattle.std.proofs.Common.{inl, inr, Result, is_some, ◌≡◌, Bool, true, false, cond, ℕ, List, [], Option, Some, None, refl, sym, ap, subst, ◌∙◌}
 use Rattle.std.specs.Option.{option_map}
-use Rattle.lfs_model.specs.TreeEdits.{tree_after_creation, attributes_of_node, bytes_at, tree_after_change_of_node, is_file, last_name_of_path, parent_path_of, same_path, node_with_attributes, names_with_added_name, node_after_change_of_names}
+use Rattle.lfs_model.specs.TreeEdits.{tree_after_creation, attributes_of_node, file_bytes_of_node, tree_after_change_of_node, is_file, last_name_of_path, parent_path_of, same_path, node_with_attributes, names_with_added_name, node_after_change_of_names}
 use Rattle.lfs_model.specs.Content.{attributes_with_attribute, attributes_without_attribute}
 use Rattle.lfs_model.specs.Operations as ops
-use Rattle.lfs_model.specs.Refusals.{path_or_root}
+use Rattle.lfs_model.specs.Refusals.{path_of_bytes_or_root}
 use Rattle.lfs_model.specs.Tree.{Node, FileNode, DirectoryNode, Path, Tree}
 use Rattle.lfs_model.proofs.Paths.{path_from_same}
 use Rattle.std.specs.Prelude.{OnErr, OnOk}
 use Rattle.std.proofs.lemmas.Bool.{ltb-false}
 use Rattle.lfs_device.specs.declared.error.Error.{Error}
 use Rattle.lfs_tree.specs.TreeState.{WasTreeOnlyRead, IsFailedTree, IsOperationAppliedToTree, TreeState, disk_summary_of_tree, tree_view}
-use Rattle.lfs_fs.specs.FileView.{OpenFiles, readers_among, writers_among}
+use Rattle.lfs_fs.specs.FileView.{RuntimeOpenFilesByNumber, readers_among, writers_among}
 use Rattle.lfs_fs.specs.SessionView.{IsSessionReadyForCalls, session_view_of_tree_and_files, refusal_by_checks}
 use Rattle.lfs_tree.specs.Permissions.{CanMakeDirectoryAtPath}
 use Rattle.lfs_fs.specs.OpenFilesStay.{OpenFilesStaySameAndReady, AppliedOperationsKeepOpenFiles}
@@ -22,7 +22,7 @@ use Rattle.lfs_fs.proofs.SetAttrChecks.{set_attr_space}
 
 -- a file's node is one with the same bytes
 abbrev pub SameFile : Option Node → Option Node → Type 0
-SameFile n m = is_file n ≡ true → (is_file m ≡ true) × (bytes_at m ≡ bytes_at n)
+SameFile n m = is_file n ≡ true → (is_file m ≡ true) × (file_bytes_of_node m ≡ file_bytes_of_node n)
 
 pub changed_same : (change : Node → Node) (p q : Path) (t : Tree) → ((n : Node) → SameFile (Some n) (Some (change n))) → SameFile (t q) (tree_after_change_of_node p change t q)
 changed_same change p q t keeps = go (same_path p q) (t q)
@@ -44,49 +44,49 @@ attributed f (DirectoryNode attributes names) e = absurd (cc)
 pub added_same : (p q : Path) (node : Node) (t : Tree) → is_some (t p) ≡ false → SameFile (t q) (tree_after_creation p node t q)
 added_same p q node t nothing e = go (same_path p q) refl
   where
-    below : (is_file (tree_after_change_of_node (parent_path_of p) (node_after_change_of_names (names_with_added_name (last_name_of_path p))) t q) ≡ true) × (bytes_at (tree_after_change_of_node (parent_path_of p) (node_after_change_of_names (names_with_added_name (last_name_of_path p))) t q) ≡ bytes_at (t q))
+    below : (is_file (tree_after_change_of_node (parent_path_of p) (node_after_change_of_names (names_with_added_name (last_name_of_path p))) t q) ≡ true) × (file_bytes_of_node (tree_after_change_of_node (parent_path_of p) (node_after_change_of_names (names_with_added_name (last_name_of_path p))) t q) ≡ file_bytes_of_node (t q))
     below = changed_same (node_after_change_of_names (names_with_added_name (last_name_of_path p))) (parent_path_of p) q t (named (names_with_added_name (last_name_of_path p))) e
 
     none : (n : Option Node) → is_some n ≡ false → is_file n ≡ true → ⊥
     none None a b = absurd (cc)
     none (Some n) a b = absurd (cc)
 
-    go : (b : Bool) → same_path p q ≡ b → (is_file (tree_after_creation p node t q) ≡ true) × (bytes_at (tree_after_creation p node t q) ≡ bytes_at (t q))
+    go : (b : Bool) → same_path p q ≡ b → (is_file (tree_after_creation p node t q) ≡ true) × (file_bytes_of_node (tree_after_creation p node t q) ≡ file_bytes_of_node (t q))
     go false s = rw s below
     go true s = absurd (none (t p) nothing (ap (λ z. is_file (t z)) (path_from_same p q s) ∙ e))
 
-mkdir_keeps : (t s : TreeState) (bytes : List ℕ) (path : Path) → path ≡ path_or_root bytes → is_some (tree_view t path) ≡ false → IsOperationAppliedToTree t (ops.Mkdir bytes) s → KeepsFiles t s
+mkdir_keeps : (t s : TreeState) (bytes : List ℕ) (path : Path) → path ≡ path_of_bytes_or_root bytes → is_some (tree_view t path) ≡ false → IsOperationAppliedToTree t (ops.Mkdir bytes) s → KeepsFiles t s
 mkdir_keeps t s bytes path is nothing carried q e =
     subst (λ (z : Tree). SameFile (tree_view t q) (z q)) (sym (carried.shows (disk_summary_of_tree t) []))
-    (added_same (path_or_root bytes) q (DirectoryNode [] []) (tree_view t) (ap (λ p. is_some (tree_view t p)) (sym is) ∙ nothing)) e
+    (added_same (path_of_bytes_or_root bytes) q (DirectoryNode [] []) (tree_view t) (ap (λ p. is_some (tree_view t p)) (sym is) ∙ nothing)) e
 
 remove_attr_keeps : (t s : TreeState) (bytes : List ℕ) (kind : ℕ) → IsOperationAppliedToTree t (ops.RemoveAttr bytes kind) s → KeepsFiles t s
 remove_attr_keeps t s bytes kind carried q e =
     subst (λ (z : Tree). SameFile (tree_view t q) (z q)) (sym (carried.shows (disk_summary_of_tree t) []))
-    (changed_same (λ n. node_with_attributes (attributes_without_attribute kind (attributes_of_node (Some n))) n) (path_or_root bytes) q (tree_view t) (attributed (λ n. attributes_without_attribute kind (attributes_of_node (Some n))))) e
+    (changed_same (λ n. node_with_attributes (attributes_without_attribute kind (attributes_of_node (Some n))) n) (path_of_bytes_or_root bytes) q (tree_view t) (attributed (λ n. attributes_without_attribute kind (attributes_of_node (Some n))))) e
 
 set_attr_keeps : (t s : TreeState) (bytes : List ℕ) (kind : ℕ) (value : List ℕ) → IsOperationAppliedToTree t (ops.SetAttr bytes kind value) s → KeepsFiles t s
 set_attr_keeps t s bytes kind value carried q e =
     subst (λ (z : Tree). SameFile (tree_view t q) (z q)) (sym (carried.shows (disk_summary_of_tree t) []))
-    (changed_same (λ n. node_with_attributes (attributes_with_attribute kind value (attributes_of_node (Some n))) n) (path_or_root bytes) q (tree_view t) (attributed (λ n. attributes_with_attribute kind value (attributes_of_node (Some n))))) e
+    (changed_same (λ n. node_with_attributes (attributes_with_attribute kind value (attributes_of_node (Some n))) n) (path_of_bytes_or_root bytes) q (tree_view t) (attributed (λ n. attributes_with_attribute kind value (attributes_of_node (Some n))))) e
 
 -- ---- what is left of the open files once no check refuses it
 
-pub mkdir_left : (K : Type 0) (old mid new : TreeState) (files : OpenFiles) (bytes : List ℕ) (path : Path) (r : Result (Unit {0}) Error) → AppliedOperationsKeepOpenFiles → (old.failed ≡ false → IsSessionReadyForCalls old files) → WasTreeOnlyRead old mid → refusal_by_checks (session_view_of_tree_and_files old files) (ops.Mkdir bytes) ≡ None →
-    path ≡ path_or_root bytes → CanMakeDirectoryAtPath mid path → OnOk r K → (K → IsOperationAppliedToTree mid (ops.Mkdir bytes) new) → OnErr r (IsFailedTree mid new) → new.failed ≡ false → OpenFilesStaySameAndReady old new files
+pub mkdir_left : (K : Type 0) (old mid new : TreeState) (files : RuntimeOpenFilesByNumber) (bytes : List ℕ) (path : Path) (r : Result (Unit {0}) Error) → AppliedOperationsKeepOpenFiles → (old.failed ≡ false → IsSessionReadyForCalls old files) → WasTreeOnlyRead old mid → refusal_by_checks (session_view_of_tree_and_files old files) (ops.Mkdir bytes) ≡ None →
+    path ≡ path_of_bytes_or_root bytes → CanMakeDirectoryAtPath mid path → OnOk r K → (K → IsOperationAppliedToTree mid (ops.Mkdir bytes) new) → OnErr r (IsFailedTree mid new) → new.failed ≡ false → OpenFilesStaySameAndReady old new files
 mkdir_left K old mid new files bytes path r stay ready asked e is can =
     done_left K old mid new files (ops.Mkdir bytes) r stay ready asked e
     (λ was. record { apart = none_concerned (ops.Mkdir bytes) (λ p. refl) (writers_among files); unread = none_read (ops.Mkdir bytes) (λ p. refl) (readers_among files); room = inr (ltb-false _ _ (mkdir_space (session_view_of_tree_and_files old files) bytes e)) })
     (λ now k. keeps_writers mid new (writers_among files) (mkdir_keeps mid new bytes path is can.nothing k) now.written)
 
-pub set_attr_left : (K : Type 0) (old mid new : TreeState) (files : OpenFiles) (bytes : List ℕ) (kind : ℕ) (value : List ℕ) (r : Result (Unit {0}) Error) → AppliedOperationsKeepOpenFiles → (old.failed ≡ false → IsSessionReadyForCalls old files) → WasTreeOnlyRead old mid →
+pub set_attr_left : (K : Type 0) (old mid new : TreeState) (files : RuntimeOpenFilesByNumber) (bytes : List ℕ) (kind : ℕ) (value : List ℕ) (r : Result (Unit {0}) Error) → AppliedOperationsKeepOpenFiles → (old.failed ≡ false → IsSessionReadyForCalls old files) → WasTreeOnlyRead old mid →
     refusal_by_checks (session_view_of_tree_and_files old files) (ops.SetAttr bytes kind value) ≡ None → OnOk r K → (K → IsOperationAppliedToTree mid (ops.SetAttr bytes kind value) new) → OnErr r (IsFailedTree mid new) → new.failed ≡ false → OpenFilesStaySameAndReady old new files
 set_attr_left K old mid new files bytes kind value r stay ready asked e =
     done_left K old mid new files (ops.SetAttr bytes kind value) r stay ready asked e
     (λ was. record { apart = none_concerned (ops.SetAttr bytes kind value) (λ p. refl) (writers_among files); unread = none_read (ops.SetAttr bytes kind value) (λ p. refl) (readers_among files); room = inr (ltb-false _ _ (set_attr_space (session_view_of_tree_and_files old files) bytes kind value e)) })
     (λ now k. keeps_writers mid new (writers_among files) (set_attr_keeps mid new bytes kind value k) now.written)
 
-pub remove_attr_left : (K : Type 0) (old mid new : TreeState) (files : OpenFiles) (bytes : List ℕ) (kind : ℕ) (r : Result (Unit {0}) Error) → AppliedOperationsKeepOpenFiles → (old.failed ≡ false → IsSessionReadyForCalls old files) → WasTreeOnlyRead old mid →
+pub remove_attr_left : (K : Type 0) (old mid new : TreeState) (files : RuntimeOpenFilesByNumber) (bytes : List ℕ) (kind : ℕ) (r : Result (Unit {0}) Error) → AppliedOperationsKeepOpenFiles → (old.failed ≡ false → IsSessionReadyForCalls old files) → WasTreeOnlyRead old mid →
     refusal_by_checks (session_view_of_tree_and_files old files) (ops.RemoveAttr bytes kind) ≡ None → OnOk r K → (K → IsOperationAppliedToTree mid (ops.RemoveAttr bytes kind) new) → OnErr r (IsFailedTree mid new) → new.failed ≡ false → OpenFilesStaySameAndReady old new files
 remove_attr_left K old mid new files bytes kind r stay ready asked e =
     done_left K old mid new files (ops.RemoveAttr bytes kind) r stay ready asked e

@@ -4,26 +4,26 @@ use Rattle.lfs_device.specs.declared.error.Error.{Error}
 use Rattle.std.specs.Prelude.{OnErr, ◌||◌, ◌==◌, nat_le, nat_lt, if◌then◌else◌}
 use Rattle.std.proofs.lemmas.Bool.{eqb-true, leb-false, ne_eqb}
 use Rattle.std.proofs.lemmas.List.{length-take, length-replicate}
-use Rattle.lfs_model.specs.TreeEdits.{bytes_at, tree_after_change_of_node, is_file}
+use Rattle.lfs_model.specs.TreeEdits.{file_bytes_of_node, tree_after_change_of_node, is_file}
 use Rattle.lfs_model.specs.Effects.{node_with_bytes}
 use Rattle.lfs_model.proofs.Paths.{path_itself}
 use Rattle.std.specs.Option.{option_map}
 use Rattle.lfs_model.specs.Disk.{SameGeometry, block_count, inline_limit}
 use Rattle.lfs_model.specs.Session as session
-use Rattle.lfs_model.specs.Writers.{writer_after_sync, writer_after_truncate, writer_after_write, contents_after_write, turns, write_position, bytes_padded_with_zeros}
-use Rattle.lfs_model.specs.Session.{ctz_block_count, reserved_block_count_of_writer}
+use Rattle.lfs_model.specs.Writers.{writer_after_sync, writer_after_truncate, writer_after_write, contents_after_write, is_nonsequential_write, write_position, bytes_padded_with_zeros}
+use Rattle.lfs_model.specs.Session.{skip_list_block_count_unless_inline, reserved_block_count_of_writer}
 use Rattle.lfs_model.specs.Slots.{zero_gstate}
-use Rattle.lfs_model.specs.Thread.{gstate_of}
+use Rattle.lfs_model.specs.Thread.{gstate_of_pairs}
 use Rattle.lfs_model.specs.Tree.{Node, FileNode, DirectoryNode, Path, Tree}
-use Rattle.lfs_tree.specs.OpenContents.{CanStoreContentsAt, HasStoredBytesAt, CanTruncateWriterContents, CanWriteWriterContents, AreWriterContentsOverTreeFile, IsInMemoryIfWithinInlineLimit, WritesUnusedBlocks, bytes_of_writer_contents, kept_of}
+use Rattle.lfs_tree.specs.OpenContents.{CanStoreContentsAt, StoresBytesKeepingOtherFilesAtPath, CanTruncateWriterContents, CanWriteWriterContents, AreWriterContentsOverTreeFile, IsInMemoryExactlyUpToInlineLimit, WritesOnlyUnusedBlocks, bytes_of_writer_contents, kept_thread_of_tree_state}
 use Rattle.lfs_tree.specs.TreeState.{TreeState, WasTreeOnlyRead, IsFailedTree, disk_summary_of_tree, tree_view}
-use Rattle.lfs_writer.specs.Contents.{ExceedsInlineLimitIfInFlight, block_room_for_finish, NeedsRoomToTruncate, form_of_contents, block_room_for_truncation, block_room_for_write}
+use Rattle.lfs_writer.specs.Contents.{ExceedsInlineLimitIfInFlight, block_room_for_finish, NeedsRoomToTruncate, storage_form_of_contents, block_room_for_truncation, block_room_for_write}
 use Rattle.lfs_writer.specs.Form as shape_of
-use Rattle.lfs_writer.specs.Form.{FormFitsWriter, ContentsForm, IsFormOfWriterContents, size_of_contents_form, grown, form_after_shortening, truncated, written}
+use Rattle.lfs_writer.specs.Form.{StorageFormFitsWriter, ContentsStorageForm, IsStorageFormOfWriterContents, contents_size_of_storage_form, storage_form_after_write_beginning_within_contents, storage_form_after_shortening, storage_form_after_truncate, storage_form_after_write}
 use Rattle.lfs_writer.specs.declared.contents.WriterContents.{WriterContents}
-use Rattle.lfs_fs.specs.WriterChanges.{CanChangeWriter, CanSaveWriter, IsSavedWriterSeenAs, CanTruncateByWriter, CanWriteByWriter, HasFileUnderUnsavedContents, HasRoomForWriter, IsFormOfUnsaved, IsChangedWriterSeenAs}
-use Rattle.lfs_fs.specs.FileView.{bytes_of_writer_at_path, last_end_of_unsaved, blocks_reserved_by_writer, blocks_reserved_for_size, is_unsaved_nonsequential, writer_view}
-use Rattle.lfs_fs.specs.SessionView.{AreUnsavedContentsOfWriter, AreUnsavedContentsIfSome, IsWriterOverWritableImage}
+use Rattle.lfs_fs.specs.WriterChanges.{CanChangeWriter, CanSaveWriter, IsSavedWriterSeenAs, CanTruncateByWriter, CanWriteByWriter, HasFileUnderUnsavedContents, HasRoomForWriter, IsStorageFormOfOptionalUnsavedContents, IsChangedWriterSeenAs}
+use Rattle.lfs_fs.specs.FileView.{unsaved_or_tree_bytes_of_writer, last_change_end_of_unsaved, blocks_reserved_by_writer, blocks_reserved_for_size, is_unsaved_nonsequential, writer_view}
+use Rattle.lfs_fs.specs.SessionView.{AreUnsavedContentsOfWriter, AreOptionalUnsavedContentsOfWriter, IsWriterOverWritableImage}
 use Rattle.lfs_fs.specs.declared.files.UnsavedContents.{UnsavedContents}
 use Rattle.lfs_fs.specs.declared.files.Writer.{Writer}
 use Rattle.lfs_fs.proofs.OpenFiles.{held_one}
@@ -43,17 +43,17 @@ length-cut old size = omega (arith, length-take size (bytes_padded_with_zeros si
 
 -- ---- what a call makes of a writer
 
-pub after_write_is : (w : session.Writer) (bytes : List ℕ) → 1 ≤ length bytes → writer_after_write w bytes ≡ record w {
+pub after_write_is : (w : session.FileWriter) (bytes : List ℕ) → 1 ≤ length bytes → writer_after_write w bytes ≡ record w {
   contents = contents_after_write w.contents (write_position w) bytes;
   position = write_position w + length bytes;
   dirty = true;
-  turned = w.turned || turns w.last_end (min (write_position w) (length w.contents));
+  turned = w.turned || is_nonsequential_write w.last_end (min (write_position w) (length w.contents));
   last_end = Some (write_position w + length bytes);
 }
 after_write_is w [] some = absurd (omega (arith, some))
 after_write_is w (b ∷ bytes) some = refl
 
-pub after_truncate_is : (w : session.Writer) (size : ℕ) → (size == length w.contents) ≡ false → writer_after_truncate w size ≡ record w {
+pub after_truncate_is : (w : session.FileWriter) (size : ℕ) → (size == length w.contents) ≡ false → writer_after_truncate w size ≡ record w {
   contents = take size (bytes_padded_with_zeros size w.contents);
   dirty = true;
   turned = w.turned || is_some w.last_end;
@@ -66,17 +66,17 @@ place_is t w place opened e = e ∙ ap (λ n. if w.appends then n else w.positio
 
 -- ---- forms
 
-abbrev is_finished : ContentsForm → Bool
+abbrev is_finished : ContentsStorageForm → Bool
 is_finished (shape_of.InMemory size) = false
 is_finished (shape_of.Finished size flying) = true
 is_finished (shape_of.InHand stop base flying) = false
 
-settle_of : (limit : ℕ) (f : ContentsForm) (v : session.Writer) → is_finished f ≡ false → FormFitsWriter limit f v → IsInMemoryIfWithinInlineLimit limit f
+settle_of : (limit : ℕ) (f : ContentsStorageForm) (v : session.FileWriter) → is_finished f ≡ false → StorageFormFitsWriter limit f v → IsInMemoryExactlyUpToInlineLimit limit f
 settle_of limit (shape_of.InMemory size) v e h = h
 settle_of limit (shape_of.Finished size flying) v e h = absurd (cc)
 settle_of limit (shape_of.InHand stop base flying) v e h = h.large
 
-unfinished_grown : (begin stop : ℕ) (f : ContentsForm) → is_finished (grown begin stop f) ≡ false
+unfinished_grown : (begin stop : ℕ) (f : ContentsStorageForm) → is_finished (storage_form_after_write_beginning_within_contents begin stop f) ≡ false
 unfinished_grown begin stop (shape_of.InMemory size) = refl
 unfinished_grown begin stop (shape_of.Finished size flying) = refl
 unfinished_grown begin stop (shape_of.InHand end base flying) = go (end == begin)
@@ -85,60 +85,60 @@ unfinished_grown begin stop (shape_of.InHand end base flying) = go (end == begin
     go true = refl
     go false = refl
 
-pub settle_written : (limit place count : ℕ) (f : ContentsForm) (v : session.Writer) → FormFitsWriter limit (written limit place count f) v → IsInMemoryIfWithinInlineLimit limit (written limit place count f)
-settle_written limit place count f v h = settle_of limit (written limit place count f) v (go (nat_le (max (size_of_contents_form f) (place + count)) limit)) h
+pub settle_written : (limit place count : ℕ) (f : ContentsStorageForm) (v : session.FileWriter) → StorageFormFitsWriter limit (storage_form_after_write limit place count f) v → IsInMemoryExactlyUpToInlineLimit limit (storage_form_after_write limit place count f)
+settle_written limit place count f v h = settle_of limit (storage_form_after_write limit place count f) v (go (nat_le (max (contents_size_of_storage_form f) (place + count)) limit)) h
   where
-    go : (b : Bool) → is_finished (cond b (shape_of.InMemory (max (size_of_contents_form f) (place + count))) (grown (min place (size_of_contents_form f)) (place + count) f)) ≡ false
+    go : (b : Bool) → is_finished (cond b (shape_of.InMemory (max (contents_size_of_storage_form f) (place + count))) (storage_form_after_write_beginning_within_contents (min place (contents_size_of_storage_form f)) (place + count) f)) ≡ false
     go true = refl
-    go false = unfinished_grown (min place (size_of_contents_form f)) (place + count) f
+    go false = unfinished_grown (min place (contents_size_of_storage_form f)) (place + count) f
 
-pub settle_truncated : (limit size : ℕ) (f : ContentsForm) (v : session.Writer) → (size ≡ size_of_contents_form f → ⊥) → FormFitsWriter limit (truncated limit size f) v → IsInMemoryIfWithinInlineLimit limit (truncated limit size f)
-settle_truncated limit size f v other h = first (size == size_of_contents_form f) refl
+pub settle_truncated : (limit size : ℕ) (f : ContentsStorageForm) (v : session.FileWriter) → (size ≡ contents_size_of_storage_form f → ⊥) → StorageFormFitsWriter limit (storage_form_after_truncate limit size f) v → IsInMemoryExactlyUpToInlineLimit limit (storage_form_after_truncate limit size f)
+settle_truncated limit size f v other h = first (size == contents_size_of_storage_form f) refl
   where
-    short : (f : ContentsForm) → (nat_le size limit) ≡ false → FormFitsWriter limit (form_after_shortening size f) v → IsInMemoryIfWithinInlineLimit limit (form_after_shortening size f)
+    short : (f : ContentsStorageForm) → (nat_le size limit) ≡ false → StorageFormFitsWriter limit (storage_form_after_shortening size f) v → IsInMemoryExactlyUpToInlineLimit limit (storage_form_after_shortening size f)
     short (shape_of.InMemory old) e h = h
     short (shape_of.Finished old flying) e h = leb-false size limit e
     short (shape_of.InHand stop base flying) e h = leb-false size limit e
 
-    third : (b : Bool) → nat_le size limit ≡ false → FormFitsWriter limit (cond b (grown (size_of_contents_form f) size f) (form_after_shortening size f)) v → IsInMemoryIfWithinInlineLimit limit (cond b (grown (size_of_contents_form f) size f) (form_after_shortening size f))
-    third true e h = settle_of limit (grown (size_of_contents_form f) size f) v (unfinished_grown (size_of_contents_form f) size f) h
+    third : (b : Bool) → nat_le size limit ≡ false → StorageFormFitsWriter limit (cond b (storage_form_after_write_beginning_within_contents (contents_size_of_storage_form f) size f) (storage_form_after_shortening size f)) v → IsInMemoryExactlyUpToInlineLimit limit (cond b (storage_form_after_write_beginning_within_contents (contents_size_of_storage_form f) size f) (storage_form_after_shortening size f))
+    third true e h = settle_of limit (storage_form_after_write_beginning_within_contents (contents_size_of_storage_form f) size f) v (unfinished_grown (contents_size_of_storage_form f) size f) h
     third false e h = short f e h
 
-    second : (b : Bool) → nat_le size limit ≡ b → FormFitsWriter limit (cond b (shape_of.InMemory size) (cond (nat_lt (size_of_contents_form f) size) (grown (size_of_contents_form f) size f) (form_after_shortening size f))) v →
-        IsInMemoryIfWithinInlineLimit limit (cond b (shape_of.InMemory size) (cond (nat_lt (size_of_contents_form f) size) (grown (size_of_contents_form f) size f) (form_after_shortening size f)))
+    second : (b : Bool) → nat_le size limit ≡ b → StorageFormFitsWriter limit (cond b (shape_of.InMemory size) (cond (nat_lt (contents_size_of_storage_form f) size) (storage_form_after_write_beginning_within_contents (contents_size_of_storage_form f) size f) (storage_form_after_shortening size f))) v →
+        IsInMemoryExactlyUpToInlineLimit limit (cond b (shape_of.InMemory size) (cond (nat_lt (contents_size_of_storage_form f) size) (storage_form_after_write_beginning_within_contents (contents_size_of_storage_form f) size f) (storage_form_after_shortening size f)))
     second true e h = h
-    second false e h = third (nat_lt (size_of_contents_form f) size) e h
+    second false e h = third (nat_lt (contents_size_of_storage_form f) size) e h
 
-    first : (b : Bool) → (size == size_of_contents_form f) ≡ b → IsInMemoryIfWithinInlineLimit limit (truncated limit size f)
-    first true e = absurd (other (eqb-true size (size_of_contents_form f) e))
+    first : (b : Bool) → (size == contents_size_of_storage_form f) ≡ b → IsInMemoryExactlyUpToInlineLimit limit (storage_form_after_truncate limit size f)
+    first true e = absurd (other (eqb-true size (contents_size_of_storage_form f) e))
     first false e = rw e (second (nat_le size limit) refl (rwd h))
       where
-        rwd : FormFitsWriter limit (truncated limit size f) v → FormFitsWriter limit (cond (nat_le size limit) (shape_of.InMemory size) (cond (nat_lt (size_of_contents_form f) size) (grown (size_of_contents_form f) size f) (form_after_shortening size f))) v
-        rwd k = subst (λ b. FormFitsWriter limit (cond b f (cond (nat_le size limit) (shape_of.InMemory size) (cond (nat_lt (size_of_contents_form f) size) (grown (size_of_contents_form f) size f) (form_after_shortening size f)))) v) e k
+        rwd : StorageFormFitsWriter limit (storage_form_after_truncate limit size f) v → StorageFormFitsWriter limit (cond (nat_le size limit) (shape_of.InMemory size) (cond (nat_lt (contents_size_of_storage_form f) size) (storage_form_after_write_beginning_within_contents (contents_size_of_storage_form f) size f) (storage_form_after_shortening size f))) v
+        rwd k = subst (λ b. StorageFormFitsWriter limit (cond b f (cond (nat_le size limit) (shape_of.InMemory size) (cond (nat_lt (contents_size_of_storage_form f) size) (storage_form_after_write_beginning_within_contents (contents_size_of_storage_form f) size f) (storage_form_after_shortening size f)))) v) e k
 
 -- ---- the contents before
 
-pub changed_in : (t : TreeState) (w : Writer) (u : UnsavedContents) → AreUnsavedContentsIfSome t w w.unsaved → w.unsaved ≡ Some u → AreUnsavedContentsOfWriter t w u
-changed_in t w u h e = subst (AreUnsavedContentsIfSome t w) e h
+pub changed_in : (t : TreeState) (w : Writer) (u : UnsavedContents) → AreOptionalUnsavedContentsOfWriter t w w.unsaved → w.unsaved ≡ Some u → AreUnsavedContentsOfWriter t w u
+changed_in t w u h e = subst (AreOptionalUnsavedContentsOfWriter t w) e h
 
-pub kept_by_form : (t : TreeState) (w : Writer) (shape : ContentsForm) → IsWriterOverWritableImage t w → IsFormOfUnsaved t.disk.block_size w.unsaved (length (bytes_of_writer_at_path t w.path w.unsaved)) shape → IsFormOfWriterContents t.disk.block_size shape (writer_view t w)
+pub kept_by_form : (t : TreeState) (w : Writer) (shape : ContentsStorageForm) → IsWriterOverWritableImage t w → IsStorageFormOfOptionalUnsavedContents t.disk.block_size w.unsaved (length (unsaved_or_tree_bytes_of_writer t w.path w.unsaved)) shape → IsStorageFormOfWriterContents t.disk.block_size shape (writer_view t w)
 kept_by_form t w shape opened h = go w.unsaved refl h
   where
-    go : (u : Option UnsavedContents) → w.unsaved ≡ u → IsFormOfUnsaved t.disk.block_size u (length (bytes_of_writer_at_path t w.path w.unsaved)) shape → IsFormOfWriterContents t.disk.block_size shape (writer_view t w)
-    go None e (inl k) = subst (λ f. IsFormOfWriterContents t.disk.block_size f (writer_view t w)) (sym k.0) (record { size = refl; fits = k.1 })
-    go None e (inr k) = subst (λ f. IsFormOfWriterContents t.disk.block_size f (writer_view t w)) (sym k) (record {
+    go : (u : Option UnsavedContents) → w.unsaved ≡ u → IsStorageFormOfOptionalUnsavedContents t.disk.block_size u (length (unsaved_or_tree_bytes_of_writer t w.path w.unsaved)) shape → IsStorageFormOfWriterContents t.disk.block_size shape (writer_view t w)
+    go None e (inl k) = subst (λ f. IsStorageFormOfWriterContents t.disk.block_size f (writer_view t w)) (sym k.0) (record { size = refl; fits = k.1 })
+    go None e (inr k) = subst (λ f. IsStorageFormOfWriterContents t.disk.block_size f (writer_view t w)) (sym k) (record {
       size = refl;
       fits = record { dirty = λ z. absurd (cc); large = λ z. absurd (cc); turned = λ z. absurd (cc) };
     })
-    go (Some u) e k = subst (λ f. IsFormOfWriterContents t.disk.block_size f (writer_view t w)) (sym k) (changed_in t w u opened.changed e).kept
+    go (Some u) e k = subst (λ f. IsStorageFormOfWriterContents t.disk.block_size f (writer_view t w)) (sym k) (changed_in t w u opened.changed e).kept
 
 -- ---- the writer after
 
-pub beside_later : (old mid new : TreeState) → WasTreeOnlyRead old mid → WritesUnusedBlocks mid new → WritesUnusedBlocks old new
+pub beside_later : (old mid new : TreeState) → WasTreeOnlyRead old mid → WritesOnlyUnusedBlocks mid new → WritesOnlyUnusedBlocks old new
 beside_later old mid new asked b =
-    again (subst (λ t. WritesUnusedBlocks t new) asked.same b)
+    again (subst (λ t. WritesOnlyUnusedBlocks t new) asked.same b)
   where
-    again : WritesUnusedBlocks (record old { history = mid.history; cache = mid.cache }) new → WritesUnusedBlocks old new
+    again : WritesOnlyUnusedBlocks (record old { history = mid.history; cache = mid.cache }) new → WritesOnlyUnusedBlocks old new
     again k = record {
       works = k.works;
       sound = k.sound;
@@ -165,22 +165,22 @@ pub broken_after : {A : Type 0} (old mid new : TreeState) (r : Result A Error) �
 broken_after old mid new (Ok x) asked b = tt
 broken_after old mid new (Err e) asked b = broken_later old mid new asked b
 
-pub as_writer : (old new : TreeState) (path : Path) (position size : ℕ) (appends turned : Bool) (end : Option ℕ) (c : WriterContents) (v : session.Writer) → WritesUnusedBlocks old new → old.writable ≡ true →
-    gstate_of old.pairs ≡ zero_gstate → is_file (tree_view old path) ≡ true → length (bytes_of_writer_contents (kept_of new) c) ≡ size → AreWriterContentsOverTreeFile new path c → IsFormOfWriterContents old.disk.block_size (form_of_contents c) v →
-    IsInMemoryIfWithinInlineLimit (inline_limit old.disk.block_size) (form_of_contents c) → HasRoomForWriter old v →
+pub as_writer : (old new : TreeState) (path : Path) (position size : ℕ) (appends turned : Bool) (end : Option ℕ) (c : WriterContents) (v : session.FileWriter) → WritesOnlyUnusedBlocks old new → old.writable ≡ true →
+    gstate_of_pairs old.pairs ≡ zero_gstate → is_file (tree_view old path) ≡ true → length (bytes_of_writer_contents (kept_thread_of_tree_state new) c) ≡ size → AreWriterContentsOverTreeFile new path c → IsStorageFormOfWriterContents old.disk.block_size (storage_form_of_contents c) v →
+    IsInMemoryExactlyUpToInlineLimit (inline_limit old.disk.block_size) (storage_form_of_contents c) → HasRoomForWriter old v →
     writer_view new (record { path = path; position = position; size = size; appends = appends; unsaved = Some (record { contents = c; has_turned = turned; last_end = end }) }) ≡ v →
     IsChangedWriterSeenAs new v (record { path = path; position = position; size = size; appends = appends; unsaved = Some (record { contents = c; has_turned = turned; last_end = end }) })
 as_writer old new path position size appends turned end c v b writable settled there long over kept settle room seen = record {
   seen = seen;
   written = record {
     writable = b.writable ∙ writable;
-    settled = ap gstate_of b.pairs ∙ settled;
+    settled = ap gstate_of_pairs b.pairs ∙ settled;
     there = ap (λ (t : Tree). is_file (t path)) b.shows ∙ there;
     size = long;
     changed = record {
       over = over;
-      kept = subst (λ z. IsFormOfWriterContents new.disk.block_size (form_of_contents c) z) (sym seen) (subst (λ a. IsFormOfWriterContents a.block_size (form_of_contents c) v) (sym b.around) kept);
-      form = subst (λ a. IsInMemoryIfWithinInlineLimit (inline_limit a.block_size) (form_of_contents c)) (sym b.around) settle;
+      kept = subst (λ z. IsStorageFormOfWriterContents new.disk.block_size (storage_form_of_contents c) z) (sym seen) (subst (λ a. IsStorageFormOfWriterContents a.block_size (storage_form_of_contents c) v) (sym b.around) kept);
+      form = subst (λ a. IsInMemoryExactlyUpToInlineLimit (inline_limit a.block_size) (storage_form_of_contents c)) (sym b.around) settle;
       room = subst (λ a. length a.used + blocks_reserved_for_size a.block_size turned size ≤ a.block_count) (sym b.around)
           (subst (λ n. length (disk_summary_of_tree old).used + n ≤ block_count old.disk) (ap (reserved_block_count_of_writer old.disk.block_size) (sym seen) ∙ sym (held_one old.disk.block_size new w long)) room);
     };
@@ -192,129 +192,129 @@ as_writer old new path position size appends turned end c v b writable settled t
     w = record { path = path; position = position; size = size; appends = appends; unsaved = Some (record { contents = c; has_turned = turned; last_end = end }) }
 
 -- the one that wrote bytes
-pub wrote : (old new : TreeState) (w : Writer) (bytes : List ℕ) (place end size : ℕ) (turned : Bool) (c : WriterContents) → WritesUnusedBlocks old new → IsWriterOverWritableImage old w → 1 ≤ length bytes → HasRoomForWriter old (writer_after_write (writer_view old w) bytes) →
-    place ≡ write_position (writer_view old w) → end ≡ place + length bytes → size ≡ max w.size end → turned ≡ (is_unsaved_nonsequential w.unsaved || turns (last_end_of_unsaved w.unsaved) (min place w.size)) →
-    AreWriterContentsOverTreeFile new w.path c → bytes_of_writer_contents (kept_of new) c ≡ contents_after_write (bytes_of_writer_at_path old w.path w.unsaved) place bytes → IsFormOfWriterContents old.disk.block_size (form_of_contents c) (writer_after_write (writer_view old w) bytes) →
-    IsInMemoryIfWithinInlineLimit (inline_limit old.disk.block_size) (form_of_contents c) →
+pub wrote : (old new : TreeState) (w : Writer) (bytes : List ℕ) (place end size : ℕ) (turned : Bool) (c : WriterContents) → WritesOnlyUnusedBlocks old new → IsWriterOverWritableImage old w → 1 ≤ length bytes → HasRoomForWriter old (writer_after_write (writer_view old w) bytes) →
+    place ≡ write_position (writer_view old w) → end ≡ place + length bytes → size ≡ max w.size end → turned ≡ (is_unsaved_nonsequential w.unsaved || is_nonsequential_write (last_change_end_of_unsaved w.unsaved) (min place w.size)) →
+    AreWriterContentsOverTreeFile new w.path c → bytes_of_writer_contents (kept_thread_of_tree_state new) c ≡ contents_after_write (unsaved_or_tree_bytes_of_writer old w.path w.unsaved) place bytes → IsStorageFormOfWriterContents old.disk.block_size (storage_form_of_contents c) (writer_after_write (writer_view old w) bytes) →
+    IsInMemoryExactlyUpToInlineLimit (inline_limit old.disk.block_size) (storage_form_of_contents c) →
     IsChangedWriterSeenAs new (writer_after_write (writer_view old w) bytes) (record { path = w.path; position = end; size = size; appends = w.appends; unsaved = Some (record { contents = c; has_turned = turned; last_end = Some end }) })
 wrote old new w bytes place end size turned c b opened some room at stop long turns_is over are kept settle =
     as_writer old new w.path end size w.appends turned (Some end) c (writer_after_write (writer_view old w) bytes) b opened.writable opened.settled opened.there
-    (ap (λ xs. length xs) are ∙ length-written (bytes_of_writer_at_path old w.path w.unsaved) place bytes ∙ ap₂ (λ m n. max m n) opened.size (sym stop) ∙ sym long)
+    (ap (λ xs. length xs) are ∙ length-written (unsaved_or_tree_bytes_of_writer old w.path w.unsaved) place bytes ∙ ap₂ (λ m n. max m n) opened.size (sym stop) ∙ sym long)
     over kept settle room seen
   where
-    make : List ℕ → ℕ → Bool → session.Writer
+    make : List ℕ → ℕ → Bool → session.FileWriter
     make xs e t = record { path = w.path; contents = xs; position = e; append = w.appends; dirty = true; turned = t; last_end = Some e }
 
     place' : ℕ
     place' = write_position (writer_view old w)
 
-    seen : make (bytes_of_writer_contents (kept_of new) c) end turned ≡ writer_after_write (writer_view old w) bytes
+    seen : make (bytes_of_writer_contents (kept_thread_of_tree_state new) c) end turned ≡ writer_after_write (writer_view old w) bytes
     seen =
-        ap (λ xs. make xs end turned) (are ∙ ap (λ p. contents_after_write (bytes_of_writer_at_path old w.path w.unsaved) p bytes) at)
-        ∙ ap (λ e. make (contents_after_write (bytes_of_writer_at_path old w.path w.unsaved) place' bytes) e turned) (stop ∙ ap (λ p. p + length bytes) at)
-        ∙ ap (λ z. make (contents_after_write (bytes_of_writer_at_path old w.path w.unsaved) place' bytes) (place' + length bytes) z)
-        (turns_is ∙ ap₂ (λ p n. is_unsaved_nonsequential w.unsaved || turns (last_end_of_unsaved w.unsaved) (min p n)) at (sym opened.size))
+        ap (λ xs. make xs end turned) (are ∙ ap (λ p. contents_after_write (unsaved_or_tree_bytes_of_writer old w.path w.unsaved) p bytes) at)
+        ∙ ap (λ e. make (contents_after_write (unsaved_or_tree_bytes_of_writer old w.path w.unsaved) place' bytes) e turned) (stop ∙ ap (λ p. p + length bytes) at)
+        ∙ ap (λ z. make (contents_after_write (unsaved_or_tree_bytes_of_writer old w.path w.unsaved) place' bytes) (place' + length bytes) z)
+        (turns_is ∙ ap₂ (λ p n. is_unsaved_nonsequential w.unsaved || is_nonsequential_write (last_change_end_of_unsaved w.unsaved) (min p n)) at (sym opened.size))
         ∙ sym (after_write_is (writer_view old w) bytes some)
 
 -- the one whose contents have another size
-pub cut : (old new : TreeState) (w : Writer) (size : ℕ) (turned : Bool) (end : Option ℕ) (c : WriterContents) → WritesUnusedBlocks old new → IsWriterOverWritableImage old w → (size == length (bytes_of_writer_at_path old w.path w.unsaved)) ≡ false →
-    HasRoomForWriter old (writer_after_truncate (writer_view old w) size) → turned ≡ (is_unsaved_nonsequential w.unsaved || is_some (last_end_of_unsaved w.unsaved)) → end ≡ (if nat_lt w.size size then Some size else last_end_of_unsaved w.unsaved) →
-    AreWriterContentsOverTreeFile new w.path c → bytes_of_writer_contents (kept_of new) c ≡ take size (bytes_padded_with_zeros size (bytes_of_writer_at_path old w.path w.unsaved)) → IsFormOfWriterContents old.disk.block_size (form_of_contents c) (writer_after_truncate (writer_view old w) size) →
-    IsInMemoryIfWithinInlineLimit (inline_limit old.disk.block_size) (form_of_contents c) →
+pub cut : (old new : TreeState) (w : Writer) (size : ℕ) (turned : Bool) (end : Option ℕ) (c : WriterContents) → WritesOnlyUnusedBlocks old new → IsWriterOverWritableImage old w → (size == length (unsaved_or_tree_bytes_of_writer old w.path w.unsaved)) ≡ false →
+    HasRoomForWriter old (writer_after_truncate (writer_view old w) size) → turned ≡ (is_unsaved_nonsequential w.unsaved || is_some (last_change_end_of_unsaved w.unsaved)) → end ≡ (if nat_lt w.size size then Some size else last_change_end_of_unsaved w.unsaved) →
+    AreWriterContentsOverTreeFile new w.path c → bytes_of_writer_contents (kept_thread_of_tree_state new) c ≡ take size (bytes_padded_with_zeros size (unsaved_or_tree_bytes_of_writer old w.path w.unsaved)) → IsStorageFormOfWriterContents old.disk.block_size (storage_form_of_contents c) (writer_after_truncate (writer_view old w) size) →
+    IsInMemoryExactlyUpToInlineLimit (inline_limit old.disk.block_size) (storage_form_of_contents c) →
     IsChangedWriterSeenAs new (writer_after_truncate (writer_view old w) size) (record { path = w.path; position = w.position; size = size; appends = w.appends; unsaved = Some (record { contents = c; has_turned = turned; last_end = end }) })
 cut old new w size turned end c b opened other room turns_is end_is over are kept settle =
     as_writer old new w.path w.position size w.appends turned end c (writer_after_truncate (writer_view old w) size) b opened.writable opened.settled opened.there
-    (ap (λ xs. length xs) are ∙ length-cut (bytes_of_writer_at_path old w.path w.unsaved) size)
+    (ap (λ xs. length xs) are ∙ length-cut (unsaved_or_tree_bytes_of_writer old w.path w.unsaved) size)
     over kept settle room seen
   where
-    make : List ℕ → Bool → Option ℕ → session.Writer
+    make : List ℕ → Bool → Option ℕ → session.FileWriter
     make xs t e = record { path = w.path; contents = xs; position = w.position; append = w.appends; dirty = true; turned = t; last_end = e }
 
-    seen : make (bytes_of_writer_contents (kept_of new) c) turned end ≡ writer_after_truncate (writer_view old w) size
+    seen : make (bytes_of_writer_contents (kept_thread_of_tree_state new) c) turned end ≡ writer_after_truncate (writer_view old w) size
     seen =
         ap (λ xs. make xs turned end) are
-        ∙ ap (λ t. make (take size (bytes_padded_with_zeros size (bytes_of_writer_at_path old w.path w.unsaved))) t end) turns_is
-        ∙ ap (λ e. make (take size (bytes_padded_with_zeros size (bytes_of_writer_at_path old w.path w.unsaved))) (is_unsaved_nonsequential w.unsaved || is_some (last_end_of_unsaved w.unsaved)) e)
-        (end_is ∙ ap (λ n. if nat_lt n size then Some size else last_end_of_unsaved w.unsaved) (sym opened.size))
+        ∙ ap (λ t. make (take size (bytes_padded_with_zeros size (unsaved_or_tree_bytes_of_writer old w.path w.unsaved))) t end) turns_is
+        ∙ ap (λ e. make (take size (bytes_padded_with_zeros size (unsaved_or_tree_bytes_of_writer old w.path w.unsaved))) (is_unsaved_nonsequential w.unsaved || is_some (last_change_end_of_unsaved w.unsaved)) e)
+        (end_is ∙ ap (λ n. if nat_lt n size then Some size else last_change_end_of_unsaved w.unsaved) (sym opened.size))
         ∙ sym (after_truncate_is (writer_view old w) size other)
 
 -- ---- room, and what the laws of forms give
 
 abbrev pub LargeLaw : Type 0
-LargeLaw = (block_size : ℕ) (shape : ContentsForm) (w : session.Writer) → IsFormOfWriterContents block_size shape w → ExceedsInlineLimitIfInFlight (inline_limit block_size) shape
+LargeLaw = (block_size : ℕ) (shape : ContentsStorageForm) (w : session.FileWriter) → IsStorageFormOfWriterContents block_size shape w → ExceedsInlineLimitIfInFlight (inline_limit block_size) shape
 
 abbrev pub WriteLaw : Type 0
-WriteLaw = (block_size : ℕ) (shape : ContentsForm) (w : session.Writer) (byte : ℕ) (bytes : List ℕ) (used all : ℕ) → IsFormOfWriterContents block_size shape w → used + reserved_block_count_of_writer block_size (writer_after_write w (byte ∷ bytes)) ≤ all →
-    inline_limit block_size < max (size_of_contents_form shape) (write_position w + length (byte ∷ bytes)) → used + block_room_for_write block_size (write_position w) (length (byte ∷ bytes)) shape ≤ all
+WriteLaw = (block_size : ℕ) (shape : ContentsStorageForm) (w : session.FileWriter) (byte : ℕ) (bytes : List ℕ) (used all : ℕ) → IsStorageFormOfWriterContents block_size shape w → used + reserved_block_count_of_writer block_size (writer_after_write w (byte ∷ bytes)) ≤ all →
+    inline_limit block_size < max (contents_size_of_storage_form shape) (write_position w + length (byte ∷ bytes)) → used + block_room_for_write block_size (write_position w) (length (byte ∷ bytes)) shape ≤ all
 
 abbrev pub WrittenLaw : Type 0
-WrittenLaw = (block_size : ℕ) (shape : ContentsForm) (w : session.Writer) (byte : ℕ) (bytes : List ℕ) → IsFormOfWriterContents block_size shape w →
-    IsFormOfWriterContents block_size (written (inline_limit block_size) (write_position w) (length (byte ∷ bytes)) shape) (writer_after_write w (byte ∷ bytes))
+WrittenLaw = (block_size : ℕ) (shape : ContentsStorageForm) (w : session.FileWriter) (byte : ℕ) (bytes : List ℕ) → IsStorageFormOfWriterContents block_size shape w →
+    IsStorageFormOfWriterContents block_size (storage_form_after_write (inline_limit block_size) (write_position w) (length (byte ∷ bytes)) shape) (writer_after_write w (byte ∷ bytes))
 
 abbrev pub TruncateLaw : Type 0
-TruncateLaw = (block_size : ℕ) (shape : ContentsForm) (w : session.Writer) (size used all : ℕ) → IsFormOfWriterContents block_size shape w → used + reserved_block_count_of_writer block_size w ≤ all → used + reserved_block_count_of_writer block_size (writer_after_truncate w size) ≤ all →
+TruncateLaw = (block_size : ℕ) (shape : ContentsStorageForm) (w : session.FileWriter) (size used all : ℕ) → IsStorageFormOfWriterContents block_size shape w → used + reserved_block_count_of_writer block_size w ≤ all → used + reserved_block_count_of_writer block_size (writer_after_truncate w size) ≤ all →
     NeedsRoomToTruncate (inline_limit block_size) size shape → used + block_room_for_truncation block_size size shape ≤ all
 
 abbrev pub TruncatedLaw : Type 0
-TruncatedLaw = (block_size : ℕ) (shape : ContentsForm) (w : session.Writer) (size : ℕ) → IsFormOfWriterContents block_size shape w → IsFormOfWriterContents block_size (truncated (inline_limit block_size) size shape) (writer_after_truncate w size)
+TruncatedLaw = (block_size : ℕ) (shape : ContentsStorageForm) (w : session.FileWriter) (size : ℕ) → IsStorageFormOfWriterContents block_size shape w → IsStorageFormOfWriterContents block_size (storage_form_after_truncate (inline_limit block_size) size shape) (writer_after_truncate w size)
 
-room_to_write : WriteLaw → (block_size : ℕ) (shape : ContentsForm) (w : session.Writer) (bytes : List ℕ) (used all : ℕ) → 1 ≤ length bytes → IsFormOfWriterContents block_size shape w → used + reserved_block_count_of_writer block_size (writer_after_write w bytes) ≤ all →
-    inline_limit block_size < max (size_of_contents_form shape) (write_position w + length bytes) → used + block_room_for_write block_size (write_position w) (length bytes) shape ≤ all
+room_to_write : WriteLaw → (block_size : ℕ) (shape : ContentsStorageForm) (w : session.FileWriter) (bytes : List ℕ) (used all : ℕ) → 1 ≤ length bytes → IsStorageFormOfWriterContents block_size shape w → used + reserved_block_count_of_writer block_size (writer_after_write w bytes) ≤ all →
+    inline_limit block_size < max (contents_size_of_storage_form shape) (write_position w + length bytes) → used + block_room_for_write block_size (write_position w) (length bytes) shape ≤ all
 room_to_write law block_size shape w [] used all some kept room large = absurd (omega (arith, some))
 room_to_write law block_size shape w (b ∷ bytes) used all some kept room large = law block_size shape w b bytes used all kept room large
 
-kept_written : WrittenLaw → (block_size : ℕ) (shape : ContentsForm) (w : session.Writer) (bytes : List ℕ) → 1 ≤ length bytes → IsFormOfWriterContents block_size shape w →
-    IsFormOfWriterContents block_size (written (inline_limit block_size) (write_position w) (length bytes) shape) (writer_after_write w bytes)
+kept_written : WrittenLaw → (block_size : ℕ) (shape : ContentsStorageForm) (w : session.FileWriter) (bytes : List ℕ) → 1 ≤ length bytes → IsStorageFormOfWriterContents block_size shape w →
+    IsStorageFormOfWriterContents block_size (storage_form_after_write (inline_limit block_size) (write_position w) (length bytes) shape) (writer_after_write w bytes)
 kept_written law block_size shape w [] some kept = absurd (omega (arith, some))
 kept_written law block_size shape w (b ∷ bytes) some kept = law block_size shape w b bytes kept
 
 pub can_write : (old mid : TreeState) (w : Writer) (bytes : List ℕ) (place : ℕ) (c : WriterContents) (path : Path) → CanWriteByWriter old w bytes → WasTreeOnlyRead old mid → place ≡ (if w.appends then w.size else w.position) → AreWriterContentsOverTreeFile mid path c → path ≡ w.path →
-    IsFormOfUnsaved old.disk.block_size w.unsaved (length (bytes_of_writer_at_path old path w.unsaved)) (form_of_contents c) → LargeLaw → WriteLaw → CanWriteWriterContents mid c place (length bytes)
+    IsStorageFormOfOptionalUnsavedContents old.disk.block_size w.unsaved (length (unsaved_or_tree_bytes_of_writer old path w.unsaved)) (storage_form_of_contents c) → LargeLaw → WriteLaw → CanWriteWriterContents mid c place (length bytes)
 can_write old mid w bytes place c path can asked at over same shape large write =
     subst (λ t. CanWriteWriterContents t c place (length bytes)) (sym asked.same)
     (subst (λ p. CanWriteWriterContents (record old { history = mid.history; cache = mid.cache }) c p (length bytes)) (sym is) (record {
       works = can.can.works;
       stands = (subst (λ t. AreWriterContentsOverTreeFile t path c) asked.same over).stands;
-      large = large old.disk.block_size (form_of_contents c) (writer_view old w) kept;
+      large = large old.disk.block_size (storage_form_of_contents c) (writer_view old w) kept;
       some = can.some;
       small = can.small;
-      room = room_to_write write old.disk.block_size (form_of_contents c) (writer_view old w) bytes (length (disk_summary_of_tree old).used) (block_count old.disk) can.some kept can.room;
+      room = room_to_write write old.disk.block_size (storage_form_of_contents c) (writer_view old w) bytes (length (disk_summary_of_tree old).used) (block_count old.disk) can.some kept can.room;
     }))
   where
     is : place ≡ write_position (writer_view old w)
     is = place_is old w place can.can.written at
 
-    kept : IsFormOfWriterContents old.disk.block_size (form_of_contents c) (writer_view old w)
-    kept = kept_by_form old w (form_of_contents c) can.can.written (subst (λ p. IsFormOfUnsaved old.disk.block_size w.unsaved (length (bytes_of_writer_at_path old p w.unsaved)) (form_of_contents c)) same shape)
+    kept : IsStorageFormOfWriterContents old.disk.block_size (storage_form_of_contents c) (writer_view old w)
+    kept = kept_by_form old w (storage_form_of_contents c) can.can.written (subst (λ p. IsStorageFormOfOptionalUnsavedContents old.disk.block_size w.unsaved (length (unsaved_or_tree_bytes_of_writer old p w.unsaved)) (storage_form_of_contents c)) same shape)
 
 pub has_written : (old mid new : TreeState) (w : Writer) (bytes : List ℕ) (place begin size : ℕ) (turned : Bool) (c d : WriterContents) (path : Path) → CanWriteByWriter old w bytes → WasTreeOnlyRead old mid →
-    place ≡ (if w.appends then w.size else w.position) → AreWriterContentsOverTreeFile mid path c → path ≡ w.path → IsFormOfUnsaved old.disk.block_size w.unsaved (length (bytes_of_writer_at_path old path w.unsaved)) (form_of_contents c) →
-    bytes_of_writer_contents (kept_of mid) c ≡ bytes_of_writer_at_path old path w.unsaved → WrittenLaw → WritesUnusedBlocks mid new → ((p : Path) → AreWriterContentsOverTreeFile mid p c → AreWriterContentsOverTreeFile new p d) →
-    bytes_of_writer_contents (kept_of new) d ≡ contents_after_write (bytes_of_writer_contents (kept_of mid) c) place bytes → form_of_contents d ≡ written (inline_limit mid.disk.block_size) place (length bytes) (form_of_contents c) →
-    begin ≡ min place w.size → turned ≡ (is_unsaved_nonsequential w.unsaved || turns (last_end_of_unsaved w.unsaved) begin) → size ≡ max w.size (place + length bytes) →
+    place ≡ (if w.appends then w.size else w.position) → AreWriterContentsOverTreeFile mid path c → path ≡ w.path → IsStorageFormOfOptionalUnsavedContents old.disk.block_size w.unsaved (length (unsaved_or_tree_bytes_of_writer old path w.unsaved)) (storage_form_of_contents c) →
+    bytes_of_writer_contents (kept_thread_of_tree_state mid) c ≡ unsaved_or_tree_bytes_of_writer old path w.unsaved → WrittenLaw → WritesOnlyUnusedBlocks mid new → ((p : Path) → AreWriterContentsOverTreeFile mid p c → AreWriterContentsOverTreeFile new p d) →
+    bytes_of_writer_contents (kept_thread_of_tree_state new) d ≡ contents_after_write (bytes_of_writer_contents (kept_thread_of_tree_state mid) c) place bytes → storage_form_of_contents d ≡ storage_form_after_write (inline_limit mid.disk.block_size) place (length bytes) (storage_form_of_contents c) →
+    begin ≡ min place w.size → turned ≡ (is_unsaved_nonsequential w.unsaved || is_nonsequential_write (last_change_end_of_unsaved w.unsaved) begin) → size ≡ max w.size (place + length bytes) →
     IsChangedWriterSeenAs new (writer_after_write (writer_view old w) bytes) (record { path = w.path; position = place + length bytes; size = size; appends = w.appends; unsaved = Some (record { contents = d; has_turned = turned; last_end = Some (place + length bytes) }) })
 has_written old mid new w bytes place begin size turned c d path can asked at over same shape had law beside overs wrote_is form_is begin_is turned_is size_is =
     wrote old new w bytes place (place + length bytes) size turned d (beside_later old mid new asked beside) can.can.written can.some can.room is refl size_is
-    (turned_is ∙ ap (λ b. is_unsaved_nonsequential w.unsaved || turns (last_end_of_unsaved w.unsaved) b) begin_is)
+    (turned_is ∙ ap (λ b. is_unsaved_nonsequential w.unsaved || is_nonsequential_write (last_change_end_of_unsaved w.unsaved) b) begin_is)
     (subst (λ p. AreWriterContentsOverTreeFile new p d) same (overs path over))
-    (wrote_is ∙ ap (λ xs. contents_after_write xs place bytes) (had ∙ ap (λ p. bytes_of_writer_at_path old p w.unsaved) same))
-    kept (subst (IsInMemoryIfWithinInlineLimit (inline_limit old.disk.block_size)) (sym form_at)
-    (settle_written (inline_limit old.disk.block_size) (write_position (writer_view old w)) (length bytes) (form_of_contents c) (writer_after_write (writer_view old w) bytes) written_kept.fits))
+    (wrote_is ∙ ap (λ xs. contents_after_write xs place bytes) (had ∙ ap (λ p. unsaved_or_tree_bytes_of_writer old p w.unsaved) same))
+    kept (subst (IsInMemoryExactlyUpToInlineLimit (inline_limit old.disk.block_size)) (sym form_at)
+    (settle_written (inline_limit old.disk.block_size) (write_position (writer_view old w)) (length bytes) (storage_form_of_contents c) (writer_after_write (writer_view old w) bytes) written_kept.fits))
   where
     is : place ≡ write_position (writer_view old w)
     is = place_is old w place can.can.written at
 
-    before_kept : IsFormOfWriterContents old.disk.block_size (form_of_contents c) (writer_view old w)
-    before_kept = kept_by_form old w (form_of_contents c) can.can.written (subst (λ p. IsFormOfUnsaved old.disk.block_size w.unsaved (length (bytes_of_writer_at_path old p w.unsaved)) (form_of_contents c)) same shape)
+    before_kept : IsStorageFormOfWriterContents old.disk.block_size (storage_form_of_contents c) (writer_view old w)
+    before_kept = kept_by_form old w (storage_form_of_contents c) can.can.written (subst (λ p. IsStorageFormOfOptionalUnsavedContents old.disk.block_size w.unsaved (length (unsaved_or_tree_bytes_of_writer old p w.unsaved)) (storage_form_of_contents c)) same shape)
 
-    written_kept : IsFormOfWriterContents old.disk.block_size (written (inline_limit old.disk.block_size) (write_position (writer_view old w)) (length bytes) (form_of_contents c)) (writer_after_write (writer_view old w) bytes)
-    written_kept = kept_written law old.disk.block_size (form_of_contents c) (writer_view old w) bytes can.some before_kept
+    written_kept : IsStorageFormOfWriterContents old.disk.block_size (storage_form_after_write (inline_limit old.disk.block_size) (write_position (writer_view old w)) (length bytes) (storage_form_of_contents c)) (writer_after_write (writer_view old w) bytes)
+    written_kept = kept_written law old.disk.block_size (storage_form_of_contents c) (writer_view old w) bytes can.some before_kept
 
-    form_at : form_of_contents d ≡ written (inline_limit old.disk.block_size) (write_position (writer_view old w)) (length bytes) (form_of_contents c)
-    form_at = form_is ∙ ap₂ (λ n p. written (inline_limit n) p (length bytes) (form_of_contents c)) (ap (λ (t : TreeState). t.disk.block_size) asked.same) is
+    form_at : storage_form_of_contents d ≡ storage_form_after_write (inline_limit old.disk.block_size) (write_position (writer_view old w)) (length bytes) (storage_form_of_contents c)
+    form_at = form_is ∙ ap₂ (λ n p. storage_form_after_write (inline_limit n) p (length bytes) (storage_form_of_contents c)) (ap (λ (t : TreeState). t.disk.block_size) asked.same) is
 
-    kept : IsFormOfWriterContents old.disk.block_size (form_of_contents d) (writer_after_write (writer_view old w) bytes)
-    kept = subst (λ f. IsFormOfWriterContents old.disk.block_size f (writer_after_write (writer_view old w) bytes)) (sym form_at) written_kept
+    kept : IsStorageFormOfWriterContents old.disk.block_size (storage_form_of_contents d) (writer_after_write (writer_view old w) bytes)
+    kept = subst (λ f. IsStorageFormOfWriterContents old.disk.block_size f (writer_after_write (writer_view old w) bytes)) (sym form_at) written_kept
 
 -- what the writer holds, there is room for
 held_room : (t : TreeState) (w : Writer) → CanChangeWriter t w → length (disk_summary_of_tree t).used ≤ block_count t.disk → length (disk_summary_of_tree t).used + reserved_block_count_of_writer t.disk.block_size (writer_view t w) ≤ block_count t.disk
@@ -325,48 +325,48 @@ held_room t w can few = subst (λ n. length (disk_summary_of_tree t).used + n �
     go (Some u) e = rw e (changed_in t w u can.written.changed e).room
 
 pub can_truncate : (old mid : TreeState) (w : Writer) (size : ℕ) (c : WriterContents) (path : Path) → CanTruncateByWriter old w size → WasTreeOnlyRead old mid → AreWriterContentsOverTreeFile mid path c → path ≡ w.path →
-    IsFormOfUnsaved old.disk.block_size w.unsaved (length (bytes_of_writer_at_path old path w.unsaved)) (form_of_contents c) → LargeLaw → TruncateLaw → CanTruncateWriterContents mid c size
+    IsStorageFormOfOptionalUnsavedContents old.disk.block_size w.unsaved (length (unsaved_or_tree_bytes_of_writer old path w.unsaved)) (storage_form_of_contents c) → LargeLaw → TruncateLaw → CanTruncateWriterContents mid c size
 can_truncate old mid w size c path can asked over same shape large truncate =
     subst (λ t. CanTruncateWriterContents t c size) (sym asked.same) (record {
       works = can.can.works;
       stands = (subst (λ t. AreWriterContentsOverTreeFile t path c) asked.same over).stands;
-      large = large old.disk.block_size (form_of_contents c) (writer_view old w) kept;
+      large = large old.disk.block_size (storage_form_of_contents c) (writer_view old w) kept;
       small = can.small;
-      room = truncate old.disk.block_size (form_of_contents c) (writer_view old w) size (length (disk_summary_of_tree old).used) (block_count old.disk) kept
+      room = truncate old.disk.block_size (storage_form_of_contents c) (writer_view old w) size (length (disk_summary_of_tree old).used) (block_count old.disk) kept
           (held_room old w can.can (let r = can.room in omega (arith, r))) can.room;
     })
   where
-    kept : IsFormOfWriterContents old.disk.block_size (form_of_contents c) (writer_view old w)
-    kept = kept_by_form old w (form_of_contents c) can.can.written (subst (λ p. IsFormOfUnsaved old.disk.block_size w.unsaved (length (bytes_of_writer_at_path old p w.unsaved)) (form_of_contents c)) same shape)
+    kept : IsStorageFormOfWriterContents old.disk.block_size (storage_form_of_contents c) (writer_view old w)
+    kept = kept_by_form old w (storage_form_of_contents c) can.can.written (subst (λ p. IsStorageFormOfOptionalUnsavedContents old.disk.block_size w.unsaved (length (unsaved_or_tree_bytes_of_writer old p w.unsaved)) (storage_form_of_contents c)) same shape)
 
 pub has_truncated : (old mid new : TreeState) (w : Writer) (size : ℕ) (turned : Bool) (end : Option ℕ) (c d : WriterContents) (path : Path) → CanTruncateByWriter old w size → WasTreeOnlyRead old mid →
-    AreWriterContentsOverTreeFile mid path c → path ≡ w.path → IsFormOfUnsaved old.disk.block_size w.unsaved (length (bytes_of_writer_at_path old path w.unsaved)) (form_of_contents c) →
-    bytes_of_writer_contents (kept_of mid) c ≡ bytes_of_writer_at_path old path w.unsaved → TruncatedLaw → WritesUnusedBlocks mid new → ((p : Path) → AreWriterContentsOverTreeFile mid p c → AreWriterContentsOverTreeFile new p d) →
-    bytes_of_writer_contents (kept_of new) d ≡ take size (bytes_padded_with_zeros size (bytes_of_writer_contents (kept_of mid) c)) → form_of_contents d ≡ truncated (inline_limit mid.disk.block_size) size (form_of_contents c) →
-    turned ≡ (is_unsaved_nonsequential w.unsaved || is_some (last_end_of_unsaved w.unsaved)) → end ≡ (if nat_lt w.size size then Some size else last_end_of_unsaved w.unsaved) →
+    AreWriterContentsOverTreeFile mid path c → path ≡ w.path → IsStorageFormOfOptionalUnsavedContents old.disk.block_size w.unsaved (length (unsaved_or_tree_bytes_of_writer old path w.unsaved)) (storage_form_of_contents c) →
+    bytes_of_writer_contents (kept_thread_of_tree_state mid) c ≡ unsaved_or_tree_bytes_of_writer old path w.unsaved → TruncatedLaw → WritesOnlyUnusedBlocks mid new → ((p : Path) → AreWriterContentsOverTreeFile mid p c → AreWriterContentsOverTreeFile new p d) →
+    bytes_of_writer_contents (kept_thread_of_tree_state new) d ≡ take size (bytes_padded_with_zeros size (bytes_of_writer_contents (kept_thread_of_tree_state mid) c)) → storage_form_of_contents d ≡ storage_form_after_truncate (inline_limit mid.disk.block_size) size (storage_form_of_contents c) →
+    turned ≡ (is_unsaved_nonsequential w.unsaved || is_some (last_change_end_of_unsaved w.unsaved)) → end ≡ (if nat_lt w.size size then Some size else last_change_end_of_unsaved w.unsaved) →
     IsChangedWriterSeenAs new (writer_after_truncate (writer_view old w) size) (record { path = w.path; position = w.position; size = size; appends = w.appends; unsaved = Some (record { contents = d; has_turned = turned; last_end = end }) })
 has_truncated old mid new w size turned end c d path can asked over same shape had law beside overs cut_is form_is turned_is end_is =
     cut old new w size turned end d (beside_later old mid new asked beside) can.can.written
-    (ne_eqb size (length (bytes_of_writer_at_path old w.path w.unsaved)) (λ e. can.other (e ∙ can.can.written.size))) can.room turned_is end_is
+    (ne_eqb size (length (unsaved_or_tree_bytes_of_writer old w.path w.unsaved)) (λ e. can.other (e ∙ can.can.written.size))) can.room turned_is end_is
     (subst (λ p. AreWriterContentsOverTreeFile new p d) same (overs path over))
-    (cut_is ∙ ap (λ xs. take size (bytes_padded_with_zeros size xs)) (had ∙ ap (λ p. bytes_of_writer_at_path old p w.unsaved) same))
-    (subst (λ f. IsFormOfWriterContents old.disk.block_size f (writer_after_truncate (writer_view old w) size)) (sym form_at) truncated_kept)
-    (subst (IsInMemoryIfWithinInlineLimit (inline_limit old.disk.block_size)) (sym form_at)
-    (settle_truncated (inline_limit old.disk.block_size) size (form_of_contents c) (writer_after_truncate (writer_view old w) size) (λ e. can.other (e ∙ before_kept.size ∙ can.can.written.size)) truncated_kept.fits))
+    (cut_is ∙ ap (λ xs. take size (bytes_padded_with_zeros size xs)) (had ∙ ap (λ p. unsaved_or_tree_bytes_of_writer old p w.unsaved) same))
+    (subst (λ f. IsStorageFormOfWriterContents old.disk.block_size f (writer_after_truncate (writer_view old w) size)) (sym form_at) truncated_kept)
+    (subst (IsInMemoryExactlyUpToInlineLimit (inline_limit old.disk.block_size)) (sym form_at)
+    (settle_truncated (inline_limit old.disk.block_size) size (storage_form_of_contents c) (writer_after_truncate (writer_view old w) size) (λ e. can.other (e ∙ before_kept.size ∙ can.can.written.size)) truncated_kept.fits))
   where
-    before_kept : IsFormOfWriterContents old.disk.block_size (form_of_contents c) (writer_view old w)
-    before_kept = kept_by_form old w (form_of_contents c) can.can.written (subst (λ p. IsFormOfUnsaved old.disk.block_size w.unsaved (length (bytes_of_writer_at_path old p w.unsaved)) (form_of_contents c)) same shape)
+    before_kept : IsStorageFormOfWriterContents old.disk.block_size (storage_form_of_contents c) (writer_view old w)
+    before_kept = kept_by_form old w (storage_form_of_contents c) can.can.written (subst (λ p. IsStorageFormOfOptionalUnsavedContents old.disk.block_size w.unsaved (length (unsaved_or_tree_bytes_of_writer old p w.unsaved)) (storage_form_of_contents c)) same shape)
 
-    truncated_kept : IsFormOfWriterContents old.disk.block_size (truncated (inline_limit old.disk.block_size) size (form_of_contents c)) (writer_after_truncate (writer_view old w) size)
-    truncated_kept = law old.disk.block_size (form_of_contents c) (writer_view old w) size before_kept
+    truncated_kept : IsStorageFormOfWriterContents old.disk.block_size (storage_form_after_truncate (inline_limit old.disk.block_size) size (storage_form_of_contents c)) (writer_after_truncate (writer_view old w) size)
+    truncated_kept = law old.disk.block_size (storage_form_of_contents c) (writer_view old w) size before_kept
 
-    form_at : form_of_contents d ≡ truncated (inline_limit old.disk.block_size) size (form_of_contents c)
-    form_at = form_is ∙ ap (λ n. truncated (inline_limit n) size (form_of_contents c)) (ap (λ (t : TreeState). t.disk.block_size) asked.same)
+    form_at : storage_form_of_contents d ≡ storage_form_after_truncate (inline_limit old.disk.block_size) size (storage_form_of_contents c)
+    form_at = form_is ∙ ap (λ n. storage_form_after_truncate (inline_limit n) size (storage_form_of_contents c)) (ap (λ (t : TreeState). t.disk.block_size) asked.same)
 
 -- ---- saving
 
 abbrev pub EndLaw : Type 0
-EndLaw = (block_size : ℕ) (shape : ContentsForm) (w : session.Writer) (used all : ℕ) → IsFormOfWriterContents block_size shape w → used + reserved_block_count_of_writer block_size w ≤ all → used + block_room_for_finish block_size shape ≤ all
+EndLaw = (block_size : ℕ) (shape : ContentsStorageForm) (w : session.FileWriter) (used all : ℕ) → IsStorageFormOfWriterContents block_size shape w → used + reserved_block_count_of_writer block_size w ≤ all → used + block_room_for_finish block_size shape ≤ all
 
 room_to_store : (used all blocks : ℕ) (turned : Bool) → used + (2 + cond turned 2 1 * blocks) ≤ all → used + blocks + 2 ≤ all
 room_to_store used all blocks true h = omega (arith, h)
@@ -380,27 +380,27 @@ can_store t w u path can is same law =
       settled = can.written.settled;
       over = changed.over;
       form = changed.form;
-      end = law t.disk.block_size (form_of_contents u.contents) (writer_view t w) (length (disk_summary_of_tree t).used) (block_count t.disk) changed.kept
+      end = law t.disk.block_size (storage_form_of_contents u.contents) (writer_view t w) (length (disk_summary_of_tree t).used) (block_count t.disk) changed.kept
           (subst (λ n. length (disk_summary_of_tree t).used + n ≤ block_count t.disk) (held_one t.disk.block_size t w can.written.size) held);
-      room = subst (λ n. length (disk_summary_of_tree t).used + ctz_block_count t.disk.block_size n + 2 ≤ block_count t.disk) (sym long)
-          (room_to_store (length (disk_summary_of_tree t).used) (block_count t.disk) (ctz_block_count t.disk.block_size w.size) u.has_turned changed.room);
+      room = subst (λ n. length (disk_summary_of_tree t).used + skip_list_block_count_unless_inline t.disk.block_size n + 2 ≤ block_count t.disk) (sym long)
+          (room_to_store (length (disk_summary_of_tree t).used) (block_count t.disk) (skip_list_block_count_unless_inline t.disk.block_size w.size) u.has_turned changed.room);
     })
   where
     changed : AreUnsavedContentsOfWriter t w u
     changed = changed_in t w u can.written.changed is
 
-    long : length (bytes_of_writer_contents (kept_of t) u.contents) ≡ w.size
-    long = sym (ap (λ z. length (bytes_of_writer_at_path t w.path z)) is) ∙ can.written.size
+    long : length (bytes_of_writer_contents (kept_thread_of_tree_state t) u.contents) ≡ w.size
+    long = sym (ap (λ z. length (unsaved_or_tree_bytes_of_writer t w.path z)) is) ∙ can.written.size
 
     held : length (disk_summary_of_tree t).used + blocks_reserved_by_writer t.disk.block_size w ≤ block_count t.disk
     held = rw is changed.room
 
-stored_node : (n : Option Node) (bytes : List ℕ) → is_file n ≡ true → (is_file (option_map (node_with_bytes bytes) n) ≡ true) × (bytes_at (option_map (node_with_bytes bytes) n) ≡ bytes)
+stored_node : (n : Option Node) (bytes : List ℕ) → is_file n ≡ true → (is_file (option_map (node_with_bytes bytes) n) ≡ true) × (file_bytes_of_node (option_map (node_with_bytes bytes) n) ≡ bytes)
 stored_node None bytes e = absurd (cc)
 stored_node (Some (FileNode attributes old)) bytes e = (refl, refl)
 stored_node (Some (DirectoryNode attributes names)) bytes e = absurd (cc)
 
-pub has_saved : (t new : TreeState) (w : Writer) (u : UnsavedContents) (path : Path) → CanSaveWriter t w → w.unsaved ≡ Some u → path ≡ w.path → HasStoredBytesAt t path (bytes_of_writer_contents (kept_of t) u.contents) new →
+pub has_saved : (t new : TreeState) (w : Writer) (u : UnsavedContents) (path : Path) → CanSaveWriter t w → w.unsaved ≡ Some u → path ≡ w.path → StoresBytesKeepingOtherFilesAtPath t path (bytes_of_writer_contents (kept_thread_of_tree_state t) u.contents) new →
     IsSavedWriterSeenAs new (writer_after_sync (writer_view t w)) (record { path = w.path; position = w.position; size = w.size; appends = w.appends; unsaved = None })
 has_saved t new w u path can is same stored = record {
   seen = ap (λ xs. saved xs) node.1 ∙ sym (rw is refl);
@@ -408,18 +408,18 @@ has_saved t new w u path can is same stored = record {
     writable = stored.writable;
     settled = stored.recovered.gstate;
     there = node.0;
-    size = ap (λ xs. length xs) node.1 ∙ sym (ap (λ z. length (bytes_of_writer_at_path t w.path z)) is) ∙ can.written.size;
+    size = ap (λ xs. length xs) node.1 ∙ sym (ap (λ z. length (unsaved_or_tree_bytes_of_writer t w.path z)) is) ∙ can.written.size;
     changed = tt;
   };
   saved = refl;
 }
   where
-    saved : List ℕ → session.Writer
+    saved : List ℕ → session.FileWriter
     saved xs = record { path = w.path; contents = xs; position = w.position; append = w.appends; dirty = false; turned = false; last_end = None }
 
-    at : tree_view new w.path ≡ option_map (node_with_bytes (bytes_of_writer_contents (kept_of t) u.contents)) (tree_view t w.path)
-    at = ap (λ (z : Tree). z w.path) (stored.shows ∙ ap (λ p. tree_after_change_of_node p (node_with_bytes (bytes_of_writer_contents (kept_of t) u.contents)) (tree_view t)) same)
-        ∙ ap (λ b. cond b (option_map (node_with_bytes (bytes_of_writer_contents (kept_of t) u.contents)) (tree_view t w.path)) (tree_view t w.path)) (path_itself w.path)
+    at : tree_view new w.path ≡ option_map (node_with_bytes (bytes_of_writer_contents (kept_thread_of_tree_state t) u.contents)) (tree_view t w.path)
+    at = ap (λ (z : Tree). z w.path) (stored.shows ∙ ap (λ p. tree_after_change_of_node p (node_with_bytes (bytes_of_writer_contents (kept_thread_of_tree_state t) u.contents)) (tree_view t)) same)
+        ∙ ap (λ b. cond b (option_map (node_with_bytes (bytes_of_writer_contents (kept_thread_of_tree_state t) u.contents)) (tree_view t w.path)) (tree_view t w.path)) (path_itself w.path)
 
-    node : (is_file (tree_view new w.path) ≡ true) × (bytes_at (tree_view new w.path) ≡ bytes_of_writer_contents (kept_of t) u.contents)
-    node = rw at (stored_node (tree_view t w.path) (bytes_of_writer_contents (kept_of t) u.contents) can.written.there)
+    node : (is_file (tree_view new w.path) ≡ true) × (file_bytes_of_node (tree_view new w.path) ≡ bytes_of_writer_contents (kept_thread_of_tree_state t) u.contents)
+    node = rw at (stored_node (tree_view t w.path) (bytes_of_writer_contents (kept_thread_of_tree_state t) u.contents) can.written.there)

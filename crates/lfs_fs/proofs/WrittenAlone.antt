@@ -9,28 +9,28 @@ use Rattle.lfs_model.specs.Session.{Session}
 use Rattle.lfs_model.specs.Shown.{all_slots_not_moved, skip_list_blocks_of_struct, used_blocks}
 use Rattle.lfs_model.specs.Slots.{Slot}
 use Rattle.lfs_model.specs.Thread.{Pair, blocks_of_pairs}
-use Rattle.lfs_model.proofs.BlockSets.{Contains-count}
-use Rattle.lfs_model.proofs.Counts.{Each, count, count_append, count_here, each_from_counted, each_pieces, each_weaker}
-use Rattle.lfs_model.proofs.Splices.{files_of}
-use Rattle.lfs_thread.specs.Device.{blocks_of_address}
+use Rattle.lfs_model.proofs.BlockSets.{Contains-occurrence_count_of_number}
+use Rattle.lfs_model.proofs.Counts.{Each, occurrence_count_of_number, count_append, count_here, each_from_counted, each_pieces, each_weaker}
+use Rattle.lfs_model.proofs.Splices.{file_blocks_of_slots}
+use Rattle.lfs_thread.specs.Device.{blocks_of_pair_address}
 
-owner_counted : (b : ℕ) (p : Pair) (zs : List Pair) → Contains zs p → 1 ≤ count b (blocks_of_address p.at) → 1 ≤ count b (blocks_of_pairs zs)
+owner_counted : (b : ℕ) (p : Pair) (zs : List Pair) → Contains zs p → 1 ≤ occurrence_count_of_number b (blocks_of_pair_address p.at) → 1 ≤ occurrence_count_of_number b (blocks_of_pairs zs)
 owner_counted b p [] (k, l, e) some = absurd (omega arith)
-owner_counted b p (z ∷ zs) (zero, l, e) some = let m = ap (λ (x : Pair). count b (blocks_of_address x.at)) e in let c = count_append b (blocks_of_address z.at) (blocks_of_pairs zs) in omega arith
-owner_counted b p (z ∷ zs) (suc k, l, e) some = let o = owner_counted b p zs (k, omega arith, e) some in let c = count_append b (blocks_of_address z.at) (blocks_of_pairs zs) in omega arith
+owner_counted b p (z ∷ zs) (zero, l, e) some = let m = ap (λ (x : Pair). occurrence_count_of_number b (blocks_of_pair_address x.at)) e in let c = count_append b (blocks_of_pair_address z.at) (blocks_of_pairs zs) in omega arith
+owner_counted b p (z ∷ zs) (suc k, l, e) some = let o = owner_counted b p zs (k, omega arith, e) some in let c = count_append b (blocks_of_pair_address z.at) (blocks_of_pairs zs) in omega arith
 
 module _ (disk new : Disk) (ps : List Pair) (stay : (b : ℕ) → Contains (used_blocks disk ps) b → block_bytes_on_disk new b ≡ block_bytes_on_disk disk b) where
   abbrev IsSame : ℕ → Type 0
   IsSame b = block_bytes_on_disk new b ≡ block_bytes_on_disk disk b
 
-  of_pair : (p : Pair) → Contains ps p → (b : ℕ) → 1 ≤ count b (blocks_of_address p.at) → block_bytes_on_disk new b ≡ block_bytes_on_disk disk b
+  of_pair : (p : Pair) → Contains ps p → (b : ℕ) → 1 ≤ occurrence_count_of_number b (blocks_of_pair_address p.at) → block_bytes_on_disk new b ≡ block_bytes_on_disk disk b
   of_pair p has b some =
-      stay b (Contains-count (used_blocks disk ps) b
-      (let o = owner_counted b p ps has some in let e = count_append b (blocks_of_pairs ps) (files_of disk (all_slots_not_moved ps)) in omega arith))
+      stay b (Contains-occurrence_count_of_number (used_blocks disk ps) b
+      (let o = owner_counted b p ps has some in let e = count_append b (blocks_of_pairs ps) (file_blocks_of_slots disk (all_slots_not_moved ps)) in omega arith))
 
   of_files : Each (λ (s : Slot). Each IsSame (skip_list_blocks_of_struct disk s.struct)) (all_slots_not_moved ps)
-  of_files = each_pieces IsSame (λ (s : Slot). skip_list_blocks_of_struct disk s.struct) (all_slots_not_moved ps) (each_from_counted IsSame (files_of disk (all_slots_not_moved ps))
-      (λ b some. stay b (Contains-count (used_blocks disk ps) b (let e = count_append b (blocks_of_pairs ps) (files_of disk (all_slots_not_moved ps)) in omega arith))))
+  of_files = each_pieces IsSame (λ (s : Slot). skip_list_blocks_of_struct disk s.struct) (all_slots_not_moved ps) (each_from_counted IsSame (file_blocks_of_slots disk (all_slots_not_moved ps))
+      (λ b some. stay b (Contains-occurrence_count_of_number (used_blocks disk ps) b (let e = count_append b (blocks_of_pairs ps) (file_blocks_of_slots disk (all_slots_not_moved ps)) in omega arith))))
 
   pub written_alone : (qs : List Pair) (s : Session) (op : Operation) → LeavesUnrelatedBlocksUnchanged disk ps s op new qs
   written_alone qs s op = record {

@@ -9,7 +9,7 @@ use Rattle.lfs_model.specs.Operations as ops
 use Rattle.lfs_model.specs.Operations.{Operation}
 use Rattle.lfs_model.specs.Frame.{needs_no_device_or_memory}
 use Rattle.lfs_model.specs.Run.{IsSessionStep, needs_no_device_call}
-use Rattle.lfs_model.specs.Session.{Session, DiskSummary, Writing, open_file_of, first_refusal_of, overfills_disk, put_file, refuse_if, writer_of_open_file}
+use Rattle.lfs_model.specs.Session.{Session, DiskSummary, Writing, open_file_with_number, first_refusal_in_list, overfills_disk, open_files_with_file_at_number, refuse_if, writer_of_open_file}
 use Rattle.lfs_model.specs.Writers.{writer_after_write, write_position}
 use Rattle.lfs_model.specs.State.{Healthy}
 use Rattle.lfs_model.specs.Effects.{effect_of_operation}
@@ -17,11 +17,11 @@ use Rattle.lfs_model.specs.Tree.{Tree}
 use Rattle.lfs_model.specs.View.{DiskView}
 use Rattle.lfs_model.proofs.Committed.{recovered_from}
 use Rattle.lfs_model.proofs.StepsMade.{filled_step}
-use Rattle.lfs_tree.specs.OpenContents.{WritesUnusedBlocks}
+use Rattle.lfs_tree.specs.OpenContents.{WritesOnlyUnusedBlocks}
 use Rattle.lfs_tree.specs.TreeState.{TreeState, disk_summary_of_tree, tree_view}
 use Rattle.lfs_fs.specs.WriterChanges.{CanWriteByWriter, IsChangedWriterSeenAs}
-use Rattle.lfs_fs.specs.FileView.{OpenFiles, open_file_at, open_files_view, open_file_as_writer, writer_view}
-use Rattle.lfs_fs.specs.SessionView.{IsSessionStepOrFailure, SessionView, IsSessionReadyForCalls, session_view_of_tree_and_files, system_state_of, refusal_by_checks, session_of}
+use Rattle.lfs_fs.specs.FileView.{RuntimeOpenFilesByNumber, open_file_at, open_files_view, open_file_as_writer, writer_view}
+use Rattle.lfs_fs.specs.SessionView.{IsSessionStepOrFailure, SessionView, IsSessionReadyForCalls, session_view_of_tree_and_files, system_state_of_session_view, refusal_by_checks, session_of_session_view}
 use Rattle.lfs_fs.specs.declared.files.OpenFile.TheVariants as file
 use Rattle.lfs_fs.specs.declared.files.Writer.{Writer}
 use Rattle.lfs_fs.proofs.Answered.{is_over, kept_answer, not_failed, not_refused, sound_by}
@@ -33,18 +33,18 @@ use Rattle.lfs_fs.proofs.WriterChecks.{some_bytes, the_writer, written_at}
 
 -- ---- what no check refuses
 
-module _ (t : TreeState) (fs : OpenFiles) (fd : ℕ) (bytes : List ℕ) (w : Writer) (e : open_file_at fs fd ≡ Some (file.Writing w)) (accepted : refusal_by_checks (session_view_of_tree_and_files t fs) (ops.Write fd bytes) ≡ None) where
+module _ (t : TreeState) (fs : RuntimeOpenFilesByNumber) (fd : ℕ) (bytes : List ℕ) (w : Writer) (e : open_file_at fs fd ≡ Some (file.Writing w)) (accepted : refusal_by_checks (session_view_of_tree_and_files t fs) (ops.Write fd bytes) ≡ None) where
   works_now : t.failed ≡ false
   works_now = not_failed (session_view_of_tree_and_files t fs) (ops.Write fd bytes) accepted
 
   is_writer : Some w ≡ open_file_as_writer (open_file_at fs fd)
   is_writer = sym (ap open_file_as_writer e)
 
-  seen_there : writer_of_open_file (open_file_of (open_files_view t fs) fd) ≡ Some (writer_view t w)
+  seen_there : writer_of_open_file (open_file_with_number (open_files_view t fs) fd) ≡ Some (writer_view t w)
   seen_there = the_writer t fs fd (Some w) is_writer
 
   checks_are : refusal_by_checks (session_view_of_tree_and_files t fs) (ops.Write fd bytes)
-      ≡ first_refusal_of (refuse_if (nat_lt 0 (length bytes) && nat_lt file_size_limit (write_position (writer_view t w) + length bytes)) ops.TooBig ∷ refuse_if (nat_lt 0 (length bytes) && overfills_disk (disk_summary_of_tree t) (writer_after_write (writer_view t w) bytes)) ops.NoSpace ∷ [])
+      ≡ first_refusal_in_list (refuse_if (nat_lt 0 (length bytes) && nat_lt file_size_limit (write_position (writer_view t w) + length bytes)) ops.TooBig ∷ refuse_if (nat_lt 0 (length bytes) && overfills_disk (disk_summary_of_tree t) (writer_after_write (writer_view t w) bytes)) ops.NoSpace ∷ [])
   checks_are = rw (works_now, seen_there) refl
 
   left : (a b : Bool) → a ≡ true → (a && b) ≡ false → b ≡ false
@@ -87,18 +87,18 @@ no_items : (bytes : List ℕ) → (length bytes == 0) ≡ true → bytes ≡ []
 no_items [] e = refl
 no_items (b ∷ bytes) e = absurd (let k = eqb-true (length (b ∷ bytes)) 0 e in omega (arith, k))
 
-empty_put : (t : TreeState) (fs : OpenFiles) (fd : ℕ) (now : SessionView) (w : Writer) → session_view_of_tree_and_files t fs ≡ now → (t.failed ≡ false → IsSessionReadyForCalls t fs) → refusal_by_checks (session_view_of_tree_and_files t fs) (ops.Write fd []) ≡ None → open_file_at fs fd ≡ Some (file.Writing w) → IsSessionStepOrFailure now (ops.Write fd []) (Ok (ops.Count 0)) now
+empty_put : (t : TreeState) (fs : RuntimeOpenFilesByNumber) (fd : ℕ) (now : SessionView) (w : Writer) → session_view_of_tree_and_files t fs ≡ now → (t.failed ≡ false → IsSessionReadyForCalls t fs) → refusal_by_checks (session_view_of_tree_and_files t fs) (ops.Write fd []) ≡ None → open_file_at fs fd ≡ Some (file.Writing w) → IsSessionStepOrFailure now (ops.Write fd []) (Ok (ops.Count 0)) now
 empty_put t fs fd now w same invariant accepted e =
     subst (λ z. IsSessionStepOrFailure now (ops.Write fd []) (Ok (ops.Count 0)) z) same
     (kept_answer (session_view_of_tree_and_files t fs) now (ops.Write fd []) (open_files_view t fs) (ops.Count 0) same (sound_by t fs invariant) accepted refl refl refl
     (ap (λ f. (ops.Count 0, record { tree = tree_view t; files = f })) stays))
   where
-    stays : put_file (open_files_view t fs) fd (option_map (λ v. Writing (writer_after_write v [])) (writer_of_open_file (open_file_of (open_files_view t fs) fd))) ≡ open_files_view t fs
+    stays : open_files_with_file_at_number (open_files_view t fs) fd (option_map (λ v. Writing (writer_after_write v [])) (writer_of_open_file (open_file_with_number (open_files_view t fs) fd))) ≡ open_files_view t fs
     stays =
-        ap (λ o. put_file (open_files_view t fs) fd (option_map (λ v. Writing (writer_after_write v [])) o)) (the_writer t fs fd (Some w) (sym (ap open_file_as_writer e)))
+        ap (λ o. open_files_with_file_at_number (open_files_view t fs) fd (option_map (λ v. Writing (writer_after_write v [])) o)) (the_writer t fs fd (Some w) (sym (ap open_file_as_writer e)))
         ∙ sym (set_is t fs fd (Some (file.Writing w)) (ap is_some e)) ∙ ap (open_files_view t) (set_same fs fd (file.Writing w) e)
 
-pub nothing_put : (t : TreeState) (fs : OpenFiles) (fd : ℕ) (bytes : List ℕ) (now : SessionView) (w : Writer) → session_view_of_tree_and_files t fs ≡ now → (t.failed ≡ false → IsSessionReadyForCalls t fs) → refusal_by_checks (session_view_of_tree_and_files t fs) (ops.Write fd bytes) ≡ None → open_file_at fs fd ≡ Some (file.Writing w) →
+pub nothing_put : (t : TreeState) (fs : RuntimeOpenFilesByNumber) (fd : ℕ) (bytes : List ℕ) (now : SessionView) (w : Writer) → session_view_of_tree_and_files t fs ≡ now → (t.failed ≡ false → IsSessionReadyForCalls t fs) → refusal_by_checks (session_view_of_tree_and_files t fs) (ops.Write fd bytes) ≡ None → open_file_at fs fd ≡ Some (file.Writing w) →
     (length bytes == 0) ≡ true → IsSessionStepOrFailure now (ops.Write fd bytes) (Ok (ops.Count 0)) now
 nothing_put t fs fd bytes now w same invariant accepted e none =
     let nothing = no_items bytes none in
@@ -111,33 +111,33 @@ some_needed : (s : Session) (fd : ℕ) (bytes : List ℕ) → (length bytes == 0
 some_needed s fd [] e = absurd (cc)
 some_needed s fd (b ∷ bytes) e = refl
 
-pub some_taken : (t : TreeState) (fs : OpenFiles) (fd : ℕ) (bytes : List ℕ) → (length bytes == 0) ≡ false → needs_no_device_or_memory (session_of (session_view_of_tree_and_files t fs)) (ops.Write fd bytes) ≡ false
-some_taken t fs fd bytes some = some_needed (session_of (session_view_of_tree_and_files t fs)) fd bytes some
+pub some_taken : (t : TreeState) (fs : RuntimeOpenFilesByNumber) (fd : ℕ) (bytes : List ℕ) → (length bytes == 0) ≡ false → needs_no_device_or_memory (session_of_session_view (session_view_of_tree_and_files t fs)) (ops.Write fd bytes) ≡ false
+some_taken t fs fd bytes some = some_needed (session_of_session_view (session_view_of_tree_and_files t fs)) fd bytes some
 
-pub some_put : (t new : TreeState) (fs : OpenFiles) (fd : ℕ) (bytes : List ℕ) (now : SessionView) (w v : Writer) → session_view_of_tree_and_files t fs ≡ now → (t.failed ≡ false → IsSessionReadyForCalls t fs) → refusal_by_checks (session_view_of_tree_and_files t fs) (ops.Write fd bytes) ≡ None → open_file_at fs fd ≡ Some (file.Writing w) → (length bytes == 0) ≡ false →
-    IsChangedWriterSeenAs new (writer_after_write (writer_view t w) bytes) v → WritesUnusedBlocks t new → IsSessionStep (system_state_of now) (ops.Write fd bytes) (ops.Count (length bytes)) (system_state_of (session_view_of_tree_and_files new (set fs fd (Some (file.Writing v)))))
+pub some_put : (t new : TreeState) (fs : RuntimeOpenFilesByNumber) (fd : ℕ) (bytes : List ℕ) (now : SessionView) (w v : Writer) → session_view_of_tree_and_files t fs ≡ now → (t.failed ≡ false → IsSessionReadyForCalls t fs) → refusal_by_checks (session_view_of_tree_and_files t fs) (ops.Write fd bytes) ≡ None → open_file_at fs fd ≡ Some (file.Writing w) → (length bytes == 0) ≡ false →
+    IsChangedWriterSeenAs new (writer_after_write (writer_view t w) bytes) v → WritesOnlyUnusedBlocks t new → IsSessionStep (system_state_of_session_view now) (ops.Write fd bytes) (ops.Count (length bytes)) (system_state_of_session_view (session_view_of_tree_and_files new (set fs fd (Some (file.Writing v)))))
 some_put t new fs fd bytes now w v same invariant accepted e some made b =
-    subst (λ z. IsSessionStep (system_state_of z) op (ops.Count (length bytes)) (system_state_of (session_view_of_tree_and_files new later))) same
-    (subst (λ m. IsSessionStep m op (ops.Count (length bytes)) (system_state_of (session_view_of_tree_and_files new later))) (sym (healthy_system (session_view_of_tree_and_files t fs) works))
-    (subst (λ m. IsSessionStep (record { disk = t.disk; calls = t.history; state = Healthy (session_of (session_view_of_tree_and_files t fs)) }) op (ops.Count (length bytes)) m) (sym to)
-    (filled_step t.disk t.pairs (session_of (session_view_of_tree_and_files t fs)) (disk_summary_of_tree t) op new.disk new.pairs b.calls t.history (is_over t (open_files_view t fs) (invariant works).sound) (not_refused (session_view_of_tree_and_files t fs) op accepted) refl (some_needed (session_of (session_view_of_tree_and_files t fs)) fd bytes some) b.geometry
+    subst (λ z. IsSessionStep (system_state_of_session_view z) op (ops.Count (length bytes)) (system_state_of_session_view (session_view_of_tree_and_files new later))) same
+    (subst (λ m. IsSessionStep m op (ops.Count (length bytes)) (system_state_of_session_view (session_view_of_tree_and_files new later))) (sym (healthy_system (session_view_of_tree_and_files t fs) works))
+    (subst (λ m. IsSessionStep (record { disk = t.disk; calls = t.history; state = Healthy (session_of_session_view (session_view_of_tree_and_files t fs)) }) op (ops.Count (length bytes)) m) (sym to)
+    (filled_step t.disk t.pairs (session_of_session_view (session_view_of_tree_and_files t fs)) (disk_summary_of_tree t) op new.disk new.pairs b.calls t.history (is_over t (open_files_view t fs) (invariant works).sound) (not_refused (session_view_of_tree_and_files t fs) op accepted) refl (some_needed (session_of_session_view (session_view_of_tree_and_files t fs)) fd bytes some) b.geometry
     b.sound.accepted b.pairs (ap₂ (λ (z : Tree) (a : DiskSummary). let k : DiskView = record { tree = z; gstate = a.gstate; used = a.used } in k) b.shows b.around) (recovered_from new.disk new.pairs b.sound.accepted made.written.settled)
     (λ h. b.sound.fits made.written.writable))))
   where
     op : Operation
     op = ops.Write fd bytes
 
-    later : OpenFiles
+    later : RuntimeOpenFilesByNumber
     later = set fs fd (Some (file.Writing v))
 
     works : t.failed ≡ false
     works = not_failed (session_view_of_tree_and_files t fs) op accepted
 
-    files : open_files_view new later ≡ put_file (open_files_view t fs) fd (option_map (λ u. Writing (writer_after_write u bytes)) (writer_of_open_file (open_file_of (open_files_view t fs) fd)))
+    files : open_files_view new later ≡ open_files_with_file_at_number (open_files_view t fs) fd (option_map (λ u. Writing (writer_after_write u bytes)) (writer_of_open_file (open_file_with_number (open_files_view t fs) fd)))
     files =
         other_tree t new fs fd w v (only fs fd w e (invariant works).one) ∙ ap (λ x. set (open_files_view t fs) fd (Some (Writing x))) made.seen
         ∙ sym (inside_put t fs fd (Writing (writer_after_write (writer_view t w) bytes)) (ap is_some e))
-        ∙ sym (ap (λ o. put_file (open_files_view t fs) fd (option_map (λ u. Writing (writer_after_write u bytes)) o)) (the_writer t fs fd (Some w) (sym (ap open_file_as_writer e))))
+        ∙ sym (ap (λ o. open_files_with_file_at_number (open_files_view t fs) fd (option_map (λ u. Writing (writer_after_write u bytes)) o)) (the_writer t fs fd (Some w) (sym (ap open_file_as_writer e))))
 
-    to : system_state_of (session_view_of_tree_and_files new later) ≡ record { disk = new.disk; calls = b.calls ++ t.history; state = Healthy (effect_of_operation (disk_summary_of_tree t) (session_of (session_view_of_tree_and_files t fs)) op).1 }
+    to : system_state_of_session_view (session_view_of_tree_and_files new later) ≡ record { disk = new.disk; calls = b.calls ++ t.history; state = Healthy (effect_of_operation (disk_summary_of_tree t) (session_of_session_view (session_view_of_tree_and_files t fs)) op).1 }
     to = healthy_system (session_view_of_tree_and_files new later) b.works ∙ ap₂ (λ calls (s : Session). record { disk = new.disk; calls = calls; state = Healthy s }) b.called (ap₂ (λ z f. record { tree = z; files = f }) b.shows files)

@@ -1,10 +1,10 @@
 -- What contracts see of the flags of an open.
 use Rattle.std.specs.Prelude.{◌==◌, not}
 use Rattle.std.specs.Int.RustNames.{bit_and}
-use Rattle.lfs_model.specs.Operations.{Flags}
+use Rattle.lfs_model.specs.Operations.{FlagsOfOpen}
 use Rattle.lfs_fs.specs.declared.flags.OpenFlags.{OpenFlags}
 
-abbrev pub flags_view : OpenFlags → Flags
+abbrev pub flags_view : OpenFlags → FlagsOfOpen
 flags_view f = record {
   read = bit_and f.0 0x1 == 0x1;
   write = bit_and f.0 0x2 == 0x2;

@@ -2,7 +2,7 @@
 use Rattle.std.specs.Prelude.{◌≡◌, ◌≤◌, ◌+◌, List, ◌++◌, sum_by, Result, OnOk}
 use Rattle.lfs_device.specs.declared.error.Error.{Error}
 use Rattle.lfs_model.specs.Frame.{pair_count_of_directory_at, paths_of_searched_directories}
-use Rattle.lfs_model.specs.History.{CallEvent, reads}
+use Rattle.lfs_model.specs.History.{DeviceCallEvent, read_count_of_history}
 use Rattle.lfs_model.specs.Operations.{Operation}
 use Rattle.lfs_lookup.specs.CachedPairs.{AreFewDirectoriesOfOnePairEach}
 use Rattle.lfs_tree.specs.Reads.{HasCachedDirectories}
@@ -10,17 +10,17 @@ use Rattle.lfs_tree.specs.TreeState.{TreeState}
 
 -- no more reads came than there are pairs in the directories that the operation searches
 abbrev pub ReadsAtMostSearchedPairs : TreeState → Operation → TreeState → Type 0
-ReadsAtMostSearchedPairs old op new = reads new.history ≤ reads old.history + sum_by (pair_count_of_directory_at old.pairs) (paths_of_searched_directories op)
+ReadsAtMostSearchedPairs old op new = read_count_of_history new.history ≤ read_count_of_history old.history + sum_by (pair_count_of_directory_at old.pairs) (paths_of_searched_directories op)
 
 -- ---- where the directories that it searches are cached
 
 -- no read came
-abbrev pub AddsNoReadsWhereCached : TreeState → Operation → TreeState → Type 0
-AddsNoReadsWhereCached old op new = HasCachedDirectories old (paths_of_searched_directories op) → reads new.history ≡ reads old.history
+abbrev pub AddsNoReadsWhereSearchedDirectoriesCached : TreeState → Operation → TreeState → Type 0
+AddsNoReadsWhereSearchedDirectoriesCached old op new = HasCachedDirectories old (paths_of_searched_directories op) → read_count_of_history new.history ≡ read_count_of_history old.history
 
 -- the same, of the calls since then
-abbrev pub CallsSinceReadNothingIfCached : TreeState → Operation → TreeState → Type 0
-CallsSinceReadNothingIfCached old op new = HasCachedDirectories old (paths_of_searched_directories op) → (calls : List CallEvent) → new.history ≡ calls ++ old.history → reads calls ≡ 0
+abbrev pub NewCallsReadNothingIfSearchedDirectoriesCached : TreeState → Operation → TreeState → Type 0
+NewCallsReadNothingIfSearchedDirectoriesCached old op new = HasCachedDirectories old (paths_of_searched_directories op) → (calls : List DeviceCallEvent) → new.history ≡ calls ++ old.history → read_count_of_history calls ≡ 0
 
 -- at most eight directories of one pair each are cached after a search
 abbrev pub CachesSmallSearchedDirectories : {A : Type 0} → TreeState → Operation → Result A Error → TreeState → Type 0

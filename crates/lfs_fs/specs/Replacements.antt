@@ -8,7 +8,7 @@ abbrev pub replaced_attribute_size : Option (Vec ℕ Global) → ℕ
 replaced_attribute_size replaced = option_map_or (λ v. 4 + length v.items) replaced 0
 
 -- the attribute is one of those that take so many bytes
-pub record IsReplacedAmongAttributes (size : ℕ) (replaced : Option (Vec ℕ Global)) (len : ℕ) : Type 0 where
+pub record AttributesSizeIncludesReplacedAttribute (size : ℕ) (replaced : Option (Vec ℕ Global)) (len : ℕ) : Type 0 where
   pub small : size < 2 ^ 32
   pub short : len < 2 ^ 63
   pub among : replaced_attribute_size replaced ≤ size + (4 + len)

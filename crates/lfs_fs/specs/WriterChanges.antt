@@ -1,7 +1,7 @@
 -- What calls of a writer need of the tree, and what they do.
 use Rattle.std.specs.Prelude.{ℕ, ◌≡◌, ◌+◌, ◌^◌, ◌≤◌, ◌<◌, Bool, true, false, List, length, Option, Some, None, is_some, slice_set}
 use Rattle.lfs_model.specs.TreeEdits.{is_file}
-use Rattle.lfs_model.specs.BlockSets.{in_flight_count}
+use Rattle.lfs_model.specs.BlockSets.{in_flight_block_count}
 use Rattle.lfs_model.specs.Disk.{block_count}
 use Rattle.lfs_model.specs.Session as session
 use Rattle.lfs_model.specs.Writers.{writer_after_truncate, writer_after_write, write_position}
@@ -10,9 +10,9 @@ use Rattle.lfs_model.specs.Effects.{file_size_of_node}
 use Rattle.lfs_model.specs.Tree.{Path}
 use Rattle.lfs_tree.specs.OpenContents.{IsFormOfOpenedContents, AreWriterContentsOverTreeFile}
 use Rattle.lfs_tree.specs.TreeState.{IsSoundTreeState, TreeState, disk_summary_of_tree, tree_view}
-use Rattle.lfs_writer.specs.Contents.{form_of_contents}
-use Rattle.lfs_writer.specs.Form.{ContentsForm}
-use Rattle.lfs_fs.specs.FileView.{OpenFiles, writer_view}
+use Rattle.lfs_writer.specs.Contents.{storage_form_of_contents}
+use Rattle.lfs_writer.specs.Form.{ContentsStorageForm}
+use Rattle.lfs_fs.specs.FileView.{RuntimeOpenFilesByNumber, writer_view}
 use Rattle.lfs_fs.specs.SessionView.{IsWriterOverWritableImage}
 use Rattle.lfs_fs.specs.declared.files.OpenFile.TheVariants as file
 use Rattle.lfs_fs.specs.declared.files.UnsavedContents.{UnsavedContents}
@@ -23,22 +23,22 @@ pub record HasFileUnderUnsavedContents (t : TreeState) (path : Path) (unsaved : 
   pub works : t.failed ≡ false
   pub writable : t.writable ≡ true
   pub file : is_file (tree_view t path) ≡ true
-  pub idle : is_some unsaved ≡ false → in_flight_count t.map ≡ 0
+  pub idle : is_some unsaved ≡ false → in_flight_block_count t.map ≡ 0
   pub over : (u : UnsavedContents) → unsaved ≡ Some u → AreWriterContentsOverTreeFile t path u.contents
 
 -- the form of such contents
-abbrev pub IsFormOfUnsaved : ℕ → Option UnsavedContents → ℕ → ContentsForm → Type 0
-IsFormOfUnsaved block_size None size shape = IsFormOfOpenedContents block_size size shape
-IsFormOfUnsaved block_size (Some u) size shape = shape ≡ form_of_contents u.contents
+abbrev pub IsStorageFormOfOptionalUnsavedContents : ℕ → Option UnsavedContents → ℕ → ContentsStorageForm → Type 0
+IsStorageFormOfOptionalUnsavedContents block_size None size shape = IsFormOfOpenedContents block_size size shape
+IsStorageFormOfOptionalUnsavedContents block_size (Some u) size shape = shape ≡ storage_form_of_contents u.contents
 
 -- The writer may be changed: the tree works, and no block is in flight but the writer's.
 pub record CanChangeWriter (t : TreeState) (w : Writer) : Type 0 where
   pub works : t.failed ≡ false
   pub written : IsWriterOverWritableImage t w
-  pub idle : is_some w.unsaved ≡ false → in_flight_count t.map ≡ 0
+  pub idle : is_some w.unsaved ≡ false → in_flight_block_count t.map ≡ 0
 
 -- there is room for what a writer would hold
-abbrev pub HasRoomForWriter : TreeState → session.Writer → Type 0
+abbrev pub HasRoomForWriter : TreeState → session.FileWriter → Type 0
 HasRoomForWriter t w = length (disk_summary_of_tree t).used + reserved_block_count_of_writer t.disk.block_size w ≤ block_count t.disk
 
 pub record CanWriteByWriter (t : TreeState) (w : Writer) (bytes : List ℕ) : Type 0 where
@@ -54,13 +54,13 @@ pub record CanTruncateByWriter (t : TreeState) (w : Writer) (size : ℕ) : Type 
   pub room : HasRoomForWriter t (writer_after_truncate (writer_view t w) size)
 
 -- the writer is this one, and stays open
-pub record IsChangedWriterSeenAs (t : TreeState) (is : session.Writer) (w : Writer) : Type 0 where
+pub record IsChangedWriterSeenAs (t : TreeState) (is : session.FileWriter) (w : Writer) : Type 0 where
   pub seen : writer_view t w ≡ is
   pub written : IsWriterOverWritableImage t w
   pub changed : is_some w.unsaved ≡ true
 
 -- Under that number is a writer of which this holds, and nothing else changed among the open files.
-pub record HasOtherWriterAt (files : OpenFiles) (fd : ℕ) (Holds : Writer → Type 0) (later : OpenFiles) : Type 0 where
+pub record ChangesOnlyWriterAtNumber (files : RuntimeOpenFilesByNumber) (fd : ℕ) (Holds : Writer → Type 0) (later : RuntimeOpenFilesByNumber) : Type 0 where
   pub writer : Writer
   pub only : later ≡ slice_set files fd (Some (file.Writing writer))
   pub holds : Holds writer
@@ -72,7 +72,7 @@ pub record CanSaveWriter (t : TreeState) (w : Writer) : Type 0 where
   pub changed : is_some w.unsaved ≡ true
 
 -- the writer is this one, stays open, and has no changes
-pub record IsSavedWriterSeenAs (t : TreeState) (is : session.Writer) (w : Writer) : Type 0 where
+pub record IsSavedWriterSeenAs (t : TreeState) (is : session.FileWriter) (w : Writer) : Type 0 where
   pub seen : writer_view t w ≡ is
   pub written : IsWriterOverWritableImage t w
   pub saved : w.unsaved ≡ None
@@ -82,12 +82,12 @@ pub record CanOpenWriter (t : TreeState) (path : Path) (size : ℕ) (truncates :
   pub works : t.failed ≡ false
   pub writable : t.writable ≡ true
   pub sound : IsSoundTreeState t
-  pub idle : in_flight_count t.map ≡ 0
+  pub idle : in_flight_block_count t.map ≡ 0
   pub there : file_size_of_node (tree_view t path) ≡ Some size
   -- there is room for two blocks, where something is to be written anew
   pub room : truncates ≡ true → 1 ≤ size → length (disk_summary_of_tree t).used + 2 ≤ block_count t.disk
 
 -- the writer is this one, and stays open
-pub record IsOpenedWriterSeenAs (t : TreeState) (is : session.Writer) (w : Writer) : Type 0 where
+pub record IsOpenedWriterSeenAs (t : TreeState) (is : session.FileWriter) (w : Writer) : Type 0 where
   pub seen : writer_view t w ≡ is
   pub written : IsWriterOverWritableImage t w

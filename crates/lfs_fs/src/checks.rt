@@ -5,21 +5,21 @@ ghost use Rattle.lfs_model.specs.Operations as ops;
 ghost use Rattle.lfs_model.specs.Session.{is_entry_over_charge_limit};
 ghost use Rattle.lfs_model.specs.Disk.{block_count};
 ghost use Rattle.lfs_fs.specs.FileView.{open_file_at, open_files_view, blocks_reserved_by_writers, blocks_reserved_for_size, open_file_as_writer};
-ghost use Rattle.lfs_model.specs.Refusals.{path_or_root};
-ghost use Rattle.lfs_model.specs.Effects.{items_in, file_size_of_node};
+ghost use Rattle.lfs_model.specs.Refusals.{path_of_bytes_or_root};
+ghost use Rattle.lfs_model.specs.Effects.{directory_items_at_path, file_size_of_node};
 ghost use Rattle.lfs_fs.specs.FlagsView.{flags_view};
 ghost use Rattle.lfs_model.specs.TreeEdits.{attributes_of_node};
 ghost use Rattle.lfs_model.specs.Content.{attribute_bytes_of_type};
 ghost use Rattle.lfs_fs.specs.EntryPaths.{path_of_bytes_unless_root};
-ghost use Rattle.lfs_fs.specs.SessionView.{ChecksOperation, ChecksWithoutReads, IsOpeningToWrite, IsReadablePathWithContents, IsSessionReadyForCalls, session_view_of_tree_and_files};
-ghost use Rattle.lfs_fs.specs.LookUps.{ReadsAtMostSearchedPairs, AddsNoReadsWhereCached, CachesSmallSearchedDirectories};
+ghost use Rattle.lfs_fs.specs.SessionView.{IsResultOfOperationChecks, IsResultOfChecksWithoutReads, IsWritableFileAtPathInTree, IsReadablePathWithContents, IsSessionReadyForCalls, session_view_of_tree_and_files};
+ghost use Rattle.lfs_fs.specs.LookUps.{ReadsAtMostSearchedPairs, AddsNoReadsWhereSearchedDirectoriesCached, CachesSmallSearchedDirectories};
 ghost use Rattle.lfs_lookup.specs.Finds.{list_item_view, stat_view};
 ghost use Rattle.lfs_tree.specs.TreeState.{disk_summary_of_tree, tree_view};
 ghost use Rattle.lfs_model.specs.Slots.{Attributes, attributes_size};
-ghost use Rattle.lfs_fs.specs.Replacements.{IsReplacedAmongAttributes, replaced_attribute_size};
+ghost use Rattle.lfs_fs.specs.Replacements.{AttributesSizeIncludesReplacedAttribute, replaced_attribute_size};
 
-use crate::check_order::{both, value_unless_checks_refuse};
-use crate::files::{Files, held_for};
+use crate::check_order::{are_both_true, value_unless_checks_refuse};
+use crate::files::{Files, reserved_block_count_for_size};
 use crate::flags::OpenFlags;
 use bitflags::Flags;
 use lfs_device::{BlockDevice, Error};
@@ -29,16 +29,16 @@ use lfs_tree::Tree;
 use std::alloc::Global;
 
 // Returns whether a new entry with a name of that length takes too much of its pair.
-fn is_overcharged<D: BlockDevice>(tree: &Tree<D>, name_len: usize) -> bool
+fn is_new_entry_too_large<D: BlockDevice>(tree: &Tree<D>, name_len: usize) -> bool
     requires { name_len < 2 ^ 63 }
     ensures { (name : List ℕ) → length name ≡ name_len → result ≡ is_entry_over_charge_limit (disk_summary_of_tree tree.now) name [] }
 {
-    is_overcharged_with_attributes(tree, name_len, 0)
+    is_entry_with_attributes_too_large(tree, name_len, 0)
 }
 
 // Returns whether an entry takes too much of its pair, by the length of its name and the size of
 // its attributes.
-pub(crate) fn is_overcharged_with_attributes<D: BlockDevice>(
+pub(crate) fn is_entry_with_attributes_too_large<D: BlockDevice>(
     tree: &Tree<D>,
     name_len: usize,
     attributes_len: usize,
@@ -48,29 +48,33 @@ pub(crate) fn is_overcharged_with_attributes<D: BlockDevice>(
 {
     let geometry = tree.geometry();
     let entry = 4 + name_len as u64 + (4 + u64::from(geometry.inline_limit()));
-    u64::from(geometry.entry_limit()) < entry.saturating_add(attributes_len as u64)
+    u64::from(geometry.entry_size_limit()) < entry.saturating_add(attributes_len as u64)
 }
 
 // Returns whether fewer blocks than that are free.
-pub(crate) fn lacks<D: BlockDevice>(tree: &Tree<D>, files: &Files, need: u32) -> bool
+pub(crate) fn has_too_few_free_blocks<D: BlockDevice>(
+    tree: &Tree<D>,
+    files: &Files,
+    need: u32,
+) -> bool
     requires works { tree.now.failed ≡ false }
     requires small { need < 16 }
     ensures { result ≡ nat_lt (block_count tree.now.disk) (length (disk_summary_of_tree tree.now).used + blocks_reserved_by_writers tree.now.disk.block_size files.now + need) }
 {
-    let held = files.held(tree.geometry());
+    let held = files.reserved_block_count(tree.geometry());
     (tree.geometry().block_count as u64) < tree.used_count() as u64 + held + need as u64
 }
 
 /// Returns what is at a path, where no check refuses it.
-pub fn check_stat<D: BlockDevice>(
+pub fn check_and_stat<D: BlockDevice>(
     alloc: Global,
     tree: &mut Tree<D>,
     files: &Files,
     bytes: &[u8],
 ) -> Result<Stat, Error>
-    ensures checks { ChecksOperation (session_view_of_tree_and_files tree.old files.now) (ops.Stat bytes.now) (λ stat. file_size_of_node (tree_view tree.old (path_or_root bytes.now)) ≡ stat_view stat) result tree.new }
+    ensures checks { IsResultOfOperationChecks (session_view_of_tree_and_files tree.old files.now) (ops.Stat bytes.now) (λ stat. file_size_of_node (tree_view tree.old (path_of_bytes_or_root bytes.now)) ≡ stat_view stat) result tree.new }
     ensures few { ReadsAtMostSearchedPairs tree.old (ops.Stat bytes.now) tree.new }
-    ensures kept { AddsNoReadsWhereCached tree.old (ops.Stat bytes.now) tree.new }
+    ensures kept { AddsNoReadsWhereSearchedDirectoriesCached tree.old (ops.Stat bytes.now) tree.new }
     ensures hand { CachesSmallSearchedDirectories tree.old (ops.Stat bytes.now) result tree.new }
 {
     if tree.has_failed() {
@@ -95,7 +99,7 @@ pub fn check_mkdir<'a, D: BlockDevice>(
     bytes: &'a [u8],
 ) -> Result<Path<'a>, Error>
     requires { tree.old.failed ≡ false → IsSessionReadyForCalls tree.old files.now }
-    ensures { ChecksOperation (session_view_of_tree_and_files tree.old files.now) (ops.Mkdir bytes.now) (λ path. path ≡ path_or_root bytes.now) result tree.new }
+    ensures { IsResultOfOperationChecks (session_view_of_tree_and_files tree.old files.now) (ops.Mkdir bytes.now) (λ path. path ≡ path_of_bytes_or_root bytes.now) result tree.new }
 {
     if tree.has_failed() {
         return Err(Error::Failed);
@@ -114,8 +118,11 @@ pub fn check_mkdir<'a, D: BlockDevice>(
             Error::NameTooLong,
         ),
         refuse_if(!found.node.is_nothing(), Error::Exist),
-        refuse_if(is_overcharged(tree, path.name_len()), Error::EntryFull),
-        refuse_if(lacks(tree, files, 4), Error::NoSpace),
+        refuse_if(
+            is_new_entry_too_large(tree, path.name_len()),
+            Error::EntryFull,
+        ),
+        refuse_if(has_too_few_free_blocks(tree, files, 4), Error::NoSpace),
     ];
     value_unless_checks_refuse(&checks, path)
 }
@@ -127,7 +134,7 @@ pub fn check_seek<D: BlockDevice>(
     fd: u32,
     position: u32,
 ) -> Result<(), Error>
-    ensures { ChecksWithoutReads (session_view_of_tree_and_files tree.now files.now) (ops.Seek fd position) (λ _. is_some (open_file_at files.now fd) ≡ true) result }
+    ensures { IsResultOfChecksWithoutReads (session_view_of_tree_and_files tree.now files.now) (ops.Seek fd position) (λ _. is_some (open_file_at files.now fd) ≡ true) result }
 {
     if tree.has_failed() {
         return Err(Error::Failed);
@@ -142,7 +149,7 @@ pub fn check_seek<D: BlockDevice>(
 }
 
 /// Returns the contents of a file that may be opened for reading, where no check refuses it.
-pub fn check_open_reader<D: BlockDevice>(
+pub fn check_and_find_contents_for_reader<D: BlockDevice>(
     alloc: Global,
     tree: &mut Tree<D>,
     files: &Files,
@@ -150,7 +157,7 @@ pub fn check_open_reader<D: BlockDevice>(
     flags: OpenFlags,
 ) -> Result<FileContents, Error>
     requires { (flags_view flags).write ≡ false }
-    ensures { ChecksOperation (session_view_of_tree_and_files tree.old files.now) (ops.Open bytes.now (flags_view flags)) (IsReadablePathWithContents tree.old (open_files_view tree.old files.now) bytes.now) result tree.new }
+    ensures { IsResultOfOperationChecks (session_view_of_tree_and_files tree.old files.now) (ops.Open bytes.now (flags_view flags)) (IsReadablePathWithContents tree.old (open_files_view tree.old files.now) bytes.now) result tree.new }
 {
     if tree.has_failed() {
         return Err(Error::Failed);
@@ -167,7 +174,7 @@ pub fn check_open_reader<D: BlockDevice>(
         finding.fault,
         refuse_if(finding.node.is_nothing(), Error::NoEnt),
         refuse_if(finding.node.is_directory(), Error::IsDir),
-        refuse_if(files.is_busy_for_reading(bytes), Error::Busy),
+        refuse_if(files.prevents_new_reader_at_path(bytes), Error::Busy),
     ];
     let none = FileContents::Inline(Vec::new(alloc));
     value_unless_checks_refuse(&checks, contents.unwrap_or(none))
@@ -175,14 +182,14 @@ pub fn check_open_reader<D: BlockDevice>(
 
 /// A file that may be opened for writing.
 #[derive(Drop)]
-pub struct Opening<'a> {
+pub struct WritableFile<'a> {
     pub path: Path<'a>,
     /// How many bytes the file has, or None where it is to be made.
     pub size: Option<u32>,
 }
 
 // Returns whether there is no room to write a file of that size anew.
-fn lacks_room_to_replace<D: BlockDevice>(tree: &Tree<D>, size: Option<u32>) -> bool
+fn lacks_room_to_truncate_file_on_open<D: BlockDevice>(tree: &Tree<D>, size: Option<u32>) -> bool
     requires { tree.now.failed ≡ false }
     ensures { result ≡ nat_lt (block_count tree.now.disk) (length (disk_summary_of_tree tree.now).used + (if nat_lt 0 (unwrap_or size 0) then 2 else 0)) }
 {
@@ -197,10 +204,10 @@ pub fn check_open_writer<'a, D: BlockDevice>(
     files: &Files,
     bytes: &'a [u8],
     flags: OpenFlags,
-) -> Result<Opening<'a>, Error>
+) -> Result<WritableFile<'a>, Error>
     requires write { (flags_view flags).write ≡ true }
     requires ready { tree.old.failed ≡ false → IsSessionReadyForCalls tree.old files.now }
-    ensures { ChecksOperation (session_view_of_tree_and_files tree.old files.now) (ops.Open bytes.now (flags_view flags)) (λ found. IsOpeningToWrite (tree_view tree.old) bytes.now found) result tree.new }
+    ensures { IsResultOfOperationChecks (session_view_of_tree_and_files tree.old files.now) (ops.Open bytes.now (flags_view flags)) (λ found. IsWritableFileAtPathInTree (tree_view tree.old) bytes.now found) result tree.new }
 {
     if tree.has_failed() {
         return Err(Error::Failed);
@@ -223,27 +230,30 @@ pub fn check_open_writer<'a, D: BlockDevice>(
     let checks = [
         found.fault,
         refuse_if(
-            both(
-                both(is_absent, creates),
+            are_both_true(
+                are_both_true(is_absent, creates),
                 path.name_len() > Superblock::NAME_MAX as usize,
             ),
             Error::NameTooLong,
         ),
-        refuse_if(both(is_absent, !creates), Error::NoEnt),
-        refuse_if(both(!is_absent, is_exclusive), Error::Exist),
+        refuse_if(are_both_true(is_absent, !creates), Error::NoEnt),
+        refuse_if(are_both_true(!is_absent, is_exclusive), Error::Exist),
         refuse_if(found.node.is_directory(), Error::IsDir),
-        refuse_if(files.is_busy_for_writing(bytes), Error::Busy),
+        refuse_if(files.prevents_new_writer_at_path(bytes), Error::Busy),
         refuse_if(
-            both(is_absent, is_overcharged(tree, path.name_len())),
+            are_both_true(is_absent, is_new_entry_too_large(tree, path.name_len())),
             Error::EntryFull,
         ),
-        refuse_if(both(is_absent, lacks(tree, files, 2)), Error::NoSpace),
         refuse_if(
-            both(truncates, lacks_room_to_replace(tree, size)),
+            are_both_true(is_absent, has_too_few_free_blocks(tree, files, 2)),
+            Error::NoSpace,
+        ),
+        refuse_if(
+            are_both_true(truncates, lacks_room_to_truncate_file_on_open(tree, size)),
             Error::NoSpace,
         ),
     ];
-    value_unless_checks_refuse(&checks, Opening { path, size })
+    value_unless_checks_refuse(&checks, WritableFile { path, size })
 }
 
 // Returns the path of these bytes, if it is well formed and isn't the root's.
@@ -258,15 +268,15 @@ pub(crate) fn parse_path_unless_root<'a>(bytes: &'a [u8]) -> Option<Path<'a>>
 }
 
 /// Returns the entries of a directory, in name order, where no check refuses the path.
-pub fn check_list<D: BlockDevice>(
+pub fn check_and_list<D: BlockDevice>(
     alloc: Global,
     tree: &mut Tree<D>,
     files: &Files,
     bytes: &[u8],
 ) -> Result<Vec<ListItem>, Error>
-    ensures checks { ChecksOperation (session_view_of_tree_and_files tree.old files.now) (ops.ListAll bytes.now) (λ items. items_in (tree_view tree.old) (path_or_root bytes.now) ≡ map list_item_view items.items) result tree.new }
+    ensures checks { IsResultOfOperationChecks (session_view_of_tree_and_files tree.old files.now) (ops.ListAll bytes.now) (λ items. directory_items_at_path (tree_view tree.old) (path_of_bytes_or_root bytes.now) ≡ map list_item_view items.items) result tree.new }
     ensures few { ReadsAtMostSearchedPairs tree.old (ops.ListAll bytes.now) tree.new }
-    ensures kept { AddsNoReadsWhereCached tree.old (ops.ListAll bytes.now) tree.new }
+    ensures kept { AddsNoReadsWhereSearchedDirectoriesCached tree.old (ops.ListAll bytes.now) tree.new }
 {
     if tree.has_failed() {
         return Err(Error::Failed);
@@ -285,16 +295,16 @@ pub fn check_list<D: BlockDevice>(
 }
 
 /// Returns an attribute's bytes, where no check refuses the path.
-pub fn check_get_attr<D: BlockDevice>(
+pub fn check_and_get_attr<D: BlockDevice>(
     alloc: Global,
     tree: &mut Tree<D>,
     files: &Files,
     bytes: &[u8],
     kind: u8,
 ) -> Result<Vec<u8>, Error>
-    ensures checks { ChecksOperation (session_view_of_tree_and_files tree.old files.now) (ops.GetAttr bytes.now kind) (λ v. unwrap_or (attribute_bytes_of_type kind (attributes_of_node (tree_view tree.old (path_or_root bytes.now)))) [] ≡ v.items) result tree.new }
+    ensures checks { IsResultOfOperationChecks (session_view_of_tree_and_files tree.old files.now) (ops.GetAttr bytes.now kind) (λ v. unwrap_or (attribute_bytes_of_type kind (attributes_of_node (tree_view tree.old (path_of_bytes_or_root bytes.now)))) [] ≡ v.items) result tree.new }
     ensures few { ReadsAtMostSearchedPairs tree.old (ops.GetAttr bytes.now kind) tree.new }
-    ensures kept { AddsNoReadsWhereCached tree.old (ops.GetAttr bytes.now kind) tree.new }
+    ensures kept { AddsNoReadsWhereSearchedDirectoriesCached tree.old (ops.GetAttr bytes.now kind) tree.new }
 {
     if tree.has_failed() {
         return Err(Error::Failed);
@@ -319,7 +329,7 @@ pub fn check_remove_attr<'a, D: BlockDevice>(
     bytes: &'a [u8],
     kind: u8,
 ) -> Result<Path<'a>, Error>
-    ensures { ChecksOperation (session_view_of_tree_and_files tree.old files.now) (ops.RemoveAttr bytes.now kind) (λ path. path ≡ path_or_root bytes.now) result tree.new }
+    ensures { IsResultOfOperationChecks (session_view_of_tree_and_files tree.old files.now) (ops.RemoveAttr bytes.now kind) (λ path. path ≡ path_of_bytes_or_root bytes.now) result tree.new }
 {
     if tree.has_failed() {
         return Err(Error::Failed);
@@ -347,7 +357,7 @@ pub fn check_remove<'a, D: BlockDevice>(
     files: &Files,
     bytes: &'a [u8],
 ) -> Result<Path<'a>, Error>
-    ensures { ChecksOperation (session_view_of_tree_and_files tree.old files.now) (ops.Remove bytes.now) (λ path. path ≡ path_or_root bytes.now) result tree.new }
+    ensures { IsResultOfOperationChecks (session_view_of_tree_and_files tree.old files.now) (ops.Remove bytes.now) (λ path. path ≡ path_of_bytes_or_root bytes.now) result tree.new }
 {
     if tree.has_failed() {
         return Err(Error::Failed);
@@ -358,7 +368,7 @@ pub fn check_remove<'a, D: BlockDevice>(
     let Some(path) = parse_path_unless_root(bytes) else {
         return Err(Error::Invalid);
     };
-    let inside = tree.look_inside(alloc, &path)?;
+    let inside = tree.look_up_node_and_emptiness(alloc, &path)?;
     let checks = [
         inside.finding.fault,
         refuse_if(inside.finding.node.is_nothing(), Error::NoEnt),
@@ -370,7 +380,7 @@ pub fn check_remove<'a, D: BlockDevice>(
 
 // Returns how many bytes attributes take after one of them was replaced by another of that length.
 fn attributes_size_after_replacement(taken: usize, replaced: &Option<Vec<u8>>, len: usize) -> usize
-    requires { IsReplacedAmongAttributes taken replaced.now len }
+    requires { AttributesSizeIncludesReplacedAttribute taken replaced.now len }
     ensures { result + replaced_attribute_size replaced.now ≡ taken + (4 + len) }
 {
     let gone = match replaced {
@@ -390,7 +400,7 @@ pub fn check_set_attr<'a, D: BlockDevice>(
     value: &[u8],
 ) -> Result<Path<'a>, Error>
     requires { tree.old.failed ≡ false → IsSessionReadyForCalls tree.old files.now }
-    ensures { ChecksOperation (session_view_of_tree_and_files tree.old files.now) (ops.SetAttr bytes.now kind value.now) (λ path. path ≡ path_or_root bytes.now) result tree.new }
+    ensures { IsResultOfOperationChecks (session_view_of_tree_and_files tree.old files.now) (ops.SetAttr bytes.now kind value.now) (λ path. path ≡ path_of_bytes_or_root bytes.now) result tree.new }
 {
     if tree.has_failed() {
         return Err(Error::Failed);
@@ -409,20 +419,20 @@ pub fn check_set_attr<'a, D: BlockDevice>(
         refuse_if(found.finding.node.is_nothing(), Error::NoEnt),
         refuse_if(value.len() > Superblock::ATTR_MAX as usize, Error::TooBig),
         refuse_if(
-            is_overcharged_with_attributes(tree, path.name_len(), size),
+            is_entry_with_attributes_too_large(tree, path.name_len(), size),
             Error::EntryFull,
         ),
-        refuse_if(lacks(tree, files, 2), Error::NoSpace),
+        refuse_if(has_too_few_free_blocks(tree, files, 2), Error::NoSpace),
     ];
     value_unless_checks_refuse(&checks, path)
 }
 
 // Returns whether there is no room for the blocks that a writer would hold.
-fn overfills<D: BlockDevice>(tree: &Tree<D>, has_turned: bool, size: u32) -> bool
+fn lacks_room_for_writer_blocks<D: BlockDevice>(tree: &Tree<D>, has_turned: bool, size: u32) -> bool
     requires { tree.now.failed ≡ false }
     ensures { result ≡ nat_lt (block_count tree.now.disk) (length (disk_summary_of_tree tree.now).used + blocks_reserved_for_size tree.now.disk.block_size has_turned size) }
 {
-    let held = held_for(tree.geometry(), has_turned, size);
+    let held = reserved_block_count_for_size(tree.geometry(), has_turned, size);
     (tree.geometry().block_count as u64) < tree.used_count() as u64 + held
 }
 
@@ -434,7 +444,7 @@ pub fn check_write<D: BlockDevice>(
     bytes: &[u8],
 ) -> Result<(), Error>
     requires { tree.now.failed ≡ false → IsSessionReadyForCalls tree.now files.now }
-    ensures { ChecksWithoutReads (session_view_of_tree_and_files tree.now files.now) (ops.Write fd bytes.now) (λ _. is_some (open_file_as_writer (open_file_at files.now fd)) ≡ true) result }
+    ensures { IsResultOfChecksWithoutReads (session_view_of_tree_and_files tree.now files.now) (ops.Write fd bytes.now) (λ _. is_some (open_file_as_writer (open_file_at files.now fd)) ≡ true) result }
 {
     if tree.has_failed() {
         return Err(Error::Failed);
@@ -450,7 +460,7 @@ pub fn check_write<D: BlockDevice>(
         return Err(Error::TooBig);
     }
     let size = writer.size.max(place + bytes.len() as u32);
-    if overfills(
+    if lacks_room_for_writer_blocks(
         tree,
         writer.is_nonsequential_after_change_at(place.min(writer.size)),
         size,
@@ -468,7 +478,7 @@ pub fn check_truncate<D: BlockDevice>(
     size: u32,
 ) -> Result<(), Error>
     requires { tree.now.failed ≡ false → IsSessionReadyForCalls tree.now files.now }
-    ensures { ChecksWithoutReads (session_view_of_tree_and_files tree.now files.now) (ops.Truncate fd size) (λ _. is_some (open_file_as_writer (open_file_at files.now fd)) ≡ true) result }
+    ensures { IsResultOfChecksWithoutReads (session_view_of_tree_and_files tree.now files.now) (ops.Truncate fd size) (λ _. is_some (open_file_as_writer (open_file_at files.now fd)) ≡ true) result }
 {
     if tree.has_failed() {
         return Err(Error::Failed);
@@ -479,7 +489,9 @@ pub fn check_truncate<D: BlockDevice>(
     if size > Superblock::FILE_MAX {
         return Err(Error::TooBig);
     }
-    if size != writer.size && overfills(tree, writer.is_nonsequential_after_resize(), size) {
+    if size != writer.size
+        && lacks_room_for_writer_blocks(tree, writer.is_nonsequential_after_resize(), size)
+    {
         return Err(Error::NoSpace);
     }
     Ok(())
@@ -491,7 +503,7 @@ pub fn check_is_file_open<D: BlockDevice>(
     files: &Files,
     fd: u32,
 ) -> Result<(), Error>
-    ensures { ChecksWithoutReads (session_view_of_tree_and_files tree.now files.now) (ops.Close fd) (λ _. is_some (open_file_at files.now fd) ≡ true) result }
+    ensures { IsResultOfChecksWithoutReads (session_view_of_tree_and_files tree.now files.now) (ops.Close fd) (λ _. is_some (open_file_at files.now fd) ≡ true) result }
 {
     if tree.has_failed() {
         return Err(Error::Failed);
@@ -503,8 +515,12 @@ pub fn check_is_file_open<D: BlockDevice>(
 }
 
 /// Checks whether a file is open under the number, for a sync.
-pub fn check_sync<D: BlockDevice>(tree: &Tree<D>, files: &Files, fd: u32) -> Result<(), Error>
-    ensures { ChecksWithoutReads (session_view_of_tree_and_files tree.now files.now) (ops.Sync fd) (λ _. is_some (open_file_at files.now fd) ≡ true) result }
+pub fn check_is_file_open_for_sync<D: BlockDevice>(
+    tree: &Tree<D>,
+    files: &Files,
+    fd: u32,
+) -> Result<(), Error>
+    ensures { IsResultOfChecksWithoutReads (session_view_of_tree_and_files tree.now files.now) (ops.Sync fd) (λ _. is_some (open_file_at files.now fd) ≡ true) result }
 {
     if tree.has_failed() {
         return Err(Error::Failed);

@@ -5,18 +5,18 @@ ghost use Rattle.std.specs.List.{list_any};
 ghost use Rattle.std.specs.Option.{option_flatten, option_map};
 ghost use Rattle.lfs_model.specs.TreeEdits.{same_path};
 ghost use Rattle.lfs_model.specs.Operations.{path_of_bytes};
-ghost use Rattle.lfs_model.specs.Session.{has_open_file_at};
-ghost use Rattle.lfs_model.specs.Writers.{turns, writer_after_write};
-ghost use Rattle.lfs_model.specs.Refusals.{path_or_root, is_root_or_invalid_path};
-ghost use Rattle.lfs_fs.specs.RenamePaths.{prevents_rename};
-ghost use Rattle.lfs_tree.specs.OpenContents.{WritesUnusedBlocks};
-ghost use Rattle.lfs_tree.specs.TreeState.{IsErrorWithCause, IsFailedTree, IsSoundTreeState, SurvivesStopsInTreeCall, TreeState, tree_view};
-ghost use Rattle.lfs_fs.specs.WriterChanges.{CanWriteByWriter, HasOtherWriterAt, IsChangedWriterSeenAs};
+ghost use Rattle.lfs_model.specs.Session.{has_open_file_with_path_satisfying};
+ghost use Rattle.lfs_model.specs.Writers.{is_nonsequential_write, writer_after_write};
+ghost use Rattle.lfs_model.specs.Refusals.{path_of_bytes_or_root, is_root_or_invalid_path};
+ghost use Rattle.lfs_fs.specs.RenamePaths.{open_file_path_prevents_rename};
+ghost use Rattle.lfs_tree.specs.OpenContents.{WritesOnlyUnusedBlocks};
+ghost use Rattle.lfs_tree.specs.TreeState.{IsIoWithFaultOrNoMemory, IsFailedTree, IsSoundTreeState, SurvivesStopsInTreeCall, TreeState, tree_view};
+ghost use Rattle.lfs_fs.specs.WriterChanges.{CanWriteByWriter, ChangesOnlyWriterAtNumber, IsChangedWriterSeenAs};
 ghost use Rattle.lfs_fs.specs.declared.files.Writer.{Writer as WriterSeen};
-ghost use Rattle.lfs_fs.specs.FileView.{last_end_of_unsaved, open_file_at, open_files_view, is_open_at_path_such_that, is_unsaved_writer, least_free_number, blocks_reserved_by_writers, blocks_reserved_by_writer, blocks_reserved_for_size, open_file_with_position, open_files_with_number_set, open_file_as_reader, readers_among, is_unsaved_nonsequential, open_file_as_writer, writer_view, writers_among};
+ghost use Rattle.lfs_fs.specs.FileView.{last_change_end_of_unsaved, open_file_at, open_files_view, is_open_at_matching_path, is_unsaved_writer, least_free_file_number, blocks_reserved_by_writers, blocks_reserved_by_writer, blocks_reserved_for_size, open_file_with_position, open_files_with_entry_at_number, open_file_as_reader, readers_among, is_unsaved_nonsequential, open_file_as_writer, writer_view, writers_among};
 
 use crate::owned_path::OwnedPath;
-use crate::writers::writer_after_writing;
+use crate::writers::write_bytes_by_writer;
 use lfs_ctz::blocks_for;
 use lfs_device::{BlockDevice, Error, Geometry};
 use lfs_lookup::FileContents;
@@ -81,17 +81,18 @@ impl Writer {
 
     /// Returns whether the writer is nonsequential after a change that begins there.
     pub fn is_nonsequential_after_change_at(&self, begin: u32) -> bool
-        ensures { result ≡ (is_unsaved_nonsequential self.now.unsaved || turns (last_end_of_unsaved self.now.unsaved) begin) }
+        ensures { result ≡ (is_unsaved_nonsequential self.now.unsaved || is_nonsequential_write (last_change_end_of_unsaved self.now.unsaved) begin) }
     {
         match &self.unsaved {
-            Some(unsaved) => unsaved.has_turned || is_write_elsewhere(unsaved.last_end, begin),
+            Some(unsaved) => unsaved.has_turned
+                || is_write_away_from_last_end(unsaved.last_end, begin),
             None => false,
         }
     }
 
     /// Returns whether the writer is nonsequential after its contents get another size.
     pub fn is_nonsequential_after_resize(&self) -> bool
-        ensures { result ≡ (is_unsaved_nonsequential self.now.unsaved || is_some (last_end_of_unsaved self.now.unsaved)) }
+        ensures { result ≡ (is_unsaved_nonsequential self.now.unsaved || is_some (last_change_end_of_unsaved self.now.unsaved)) }
     {
         match &self.unsaved {
             Some(unsaved) => unsaved.has_turned || unsaved.last_end.is_some(),
@@ -100,28 +101,28 @@ impl Writer {
     }
 
     /// Returns where the last change ends after the contents get that size.
-    pub fn last_end_after_resize(&self, new_size: u32) -> Option<u32>
-        ensures { result ≡ (if nat_lt self.now.size new_size then Some new_size else last_end_of_unsaved self.now.unsaved) }
+    pub fn last_change_end_after_resize(&self, new_size: u32) -> Option<u32>
+        ensures { result ≡ (if nat_lt self.now.size new_size then Some new_size else last_change_end_of_unsaved self.now.unsaved) }
     {
         match &self.unsaved {
-            Some(unsaved) => last_end_for_new_size(self.size, new_size, unsaved.last_end),
-            None => last_end_for_new_size(self.size, new_size, None),
+            Some(unsaved) => last_change_end_for_new_size(self.size, new_size, unsaved.last_end),
+            None => last_change_end_for_new_size(self.size, new_size, None),
         }
     }
 
     // Returns how many blocks are held for the writer.
-    fn held(&self, geometry: Geometry) -> u64
+    fn reserved_block_count(&self, geometry: Geometry) -> u64
         ensures held { result ≡ blocks_reserved_by_writer geometry.block_size self.now }
         ensures few { result < 2 ^ 34 }
     {
         match &self.unsaved {
-            Some(unsaved) => held_for(geometry, unsaved.has_turned, self.size),
+            Some(unsaved) => reserved_block_count_for_size(geometry, unsaved.has_turned, self.size),
             None => 0,
         }
     }
 }
 
-fn last_end_for_new_size(size: u32, new_size: u32, last_end: Option<u32>) -> Option<u32>
+fn last_change_end_for_new_size(size: u32, new_size: u32, last_end: Option<u32>) -> Option<u32>
     ensures { result ≡ (if nat_lt size new_size then Some new_size else last_end) }
 {
     if size < new_size {
@@ -131,8 +132,8 @@ fn last_end_for_new_size(size: u32, new_size: u32, last_end: Option<u32>) -> Opt
     }
 }
 
-fn is_write_elsewhere(last_end: Option<u32>, begin: u32) -> bool
-    ensures { result ≡ turns last_end begin }
+fn is_write_away_from_last_end(last_end: Option<u32>, begin: u32) -> bool
+    ensures { result ≡ is_nonsequential_write last_end begin }
 {
     match last_end {
         Some(end) => end != begin,
@@ -148,9 +149,9 @@ pub struct Files {
 
 impl Model for Files {
     ghost use Rattle.std.specs.Prelude.{◌≤◌, length, vec_len};
-    ghost use Rattle.lfs_fs.specs.FileView.{OpenFiles, readers_among, writers_among};
+    ghost use Rattle.lfs_fs.specs.FileView.{RuntimeOpenFilesByNumber, readers_among, writers_among};
 
-    ghost Value = { OpenFiles };
+    ghost Value = { RuntimeOpenFilesByNumber };
 
     ghost view = { λ f. f.entries.items };
 
@@ -158,7 +159,7 @@ impl Model for Files {
 }
 
 impl Files {
-    pub fn none(alloc: Global) -> Files
+    pub fn without_open_files(alloc: Global) -> Files
         ensures { result ≡ [] }
     {
         Files {
@@ -167,7 +168,7 @@ impl Files {
     }
 
     // Returns how many blocks the open writer holds.
-    pub(crate) fn held(&self, geometry: Geometry) -> u64
+    pub(crate) fn reserved_block_count(&self, geometry: Geometry) -> u64
         ensures held { result ≡ blocks_reserved_by_writers geometry.block_size self.now }
         ensures few { result < 2 ^ 34 }
     {
@@ -175,9 +176,9 @@ impl Files {
     }
 
     // Returns whether a writer of that path prevents a reader, or whether 16 readers are open.
-    pub(crate) fn is_busy_for_reading(&self, path: &[u8]) -> bool
+    pub(crate) fn prevents_new_reader_at_path(&self, path: &[u8]) -> bool
         requires { is_some (path_of_bytes path.now) ≡ true }
-        ensures { result ≡ (list_any (λ w. same_path (path_or_root path.now) w.path) (writers_among self.now) || nat_le 16 (length (readers_among self.now))) }
+        ensures { result ≡ (list_any (λ w. same_path (path_of_bytes_or_root path.now) w.path) (writers_among self.now) || nat_le 16 (length (readers_among self.now))) }
     {
         is_path_of_writer_among(&self.entries, path) || reader_count(&self.entries) >= 16
     }
@@ -194,8 +195,8 @@ impl Files {
     ) -> Result<u32, Error>
         requires path { is_some (path_of_bytes path.now) ≡ true }
         requires few { length (readers_among self.old) < 16 }
-        ensures number { IfOk result (λ fd. fd ≡ least_free_number self.old) }
-        ensures added { OnOk result (self.new ≡ open_files_with_number_set self.old (least_free_number self.old) (Some (OpenFile.Reading (record { path = path_or_root path.now; position = 0; contents = contents })))) }
+        ensures number { IfOk result (λ fd. fd ≡ least_free_file_number self.old) }
+        ensures added { OnOk result (self.new ≡ open_files_with_entry_at_number self.old (least_free_file_number self.old) (Some (OpenFile.Reading (record { path = path_of_bytes_or_root path.now; position = 0; contents = contents })))) }
         ensures same { OnErr result (self.new ≡ self.old) }
         ensures error { IfErr result (λ e. e ≡ Error.NoMemory) }
     {
@@ -204,8 +205,8 @@ impl Files {
             position: 0,
             contents,
         };
-        let number = free_number(&self.entries);
-        put(&mut self.entries, number, Some(OpenFile::Reading(reader)))?;
+        let number = find_free_file_number(&self.entries);
+        set_table_entry_at_number(&mut self.entries, number, Some(OpenFile::Reading(reader)))?;
         Ok(number as u32)
     }
 
@@ -237,23 +238,23 @@ impl Files {
     }
 
     // Returns whether another writer, or an open file at that path, prevents a writer.
-    pub(crate) fn is_busy_for_writing(&self, path: &[u8]) -> bool
+    pub(crate) fn prevents_new_writer_at_path(&self, path: &[u8]) -> bool
         requires { is_some (path_of_bytes path.now) ≡ true }
-        ensures { (t : TreeState) → result ≡ (nat_lt 0 (length (writers_among self.now)) || has_open_file_at (same_path (path_or_root path.now)) (open_files_view t self.now)) }
+        ensures { (t : TreeState) → result ≡ (nat_lt 0 (length (writers_among self.now)) || has_open_file_with_path_satisfying (same_path (path_of_bytes_or_root path.now)) (open_files_view t self.now)) }
     {
         self.is_writing() || self.is_open_at(path)
     }
 
     /// Makes room for one more open file. Returns its number: the least that is free.
-    pub fn make_room(&mut self) -> Result<u32, Error>
+    pub fn reserve_free_file_number(&mut self) -> Result<u32, Error>
         requires { writers_among self.old ≡ [] }
-        ensures number { IfOk result (λ fd. fd ≡ least_free_number self.old) }
-        ensures room { OnOk result (self.new ≡ open_files_with_number_set self.old (least_free_number self.old) None) }
+        ensures number { IfOk result (λ fd. fd ≡ least_free_file_number self.old) }
+        ensures room { OnOk result (self.new ≡ open_files_with_entry_at_number self.old (least_free_file_number self.old) None) }
         ensures same { OnErr result (self.new ≡ self.old) }
         ensures error { IfErr result (λ e. e ≡ Error.NoMemory) }
     {
-        let number = free_number(&self.entries);
-        put(&mut self.entries, number, None)?;
+        let number = find_free_file_number(&self.entries);
+        set_table_entry_at_number(&mut self.entries, number, None)?;
         Ok(number as u32)
     }
 
@@ -267,7 +268,7 @@ impl Files {
     }
 
     /// Puts a writer back under the number that it had.
-    pub fn put_back(&mut self, fd: u32, writer: Writer)
+    pub fn put_back_writer(&mut self, fd: u32, writer: Writer)
         requires inside { fd < length self.old }
         requires free { open_file_at self.old fd ≡ None }
         requires none { writers_among self.old ≡ [] }
@@ -288,13 +289,13 @@ impl Files {
         bytes: &[u8],
     ) -> Result<(), Error>
         requires { (w : WriterSeen) × (open_file_at self.old fd ≡ Some (OpenFile.Writing w)) × CanWriteByWriter tree.old w bytes.now }
-        ensures written { (w : WriterSeen) → open_file_at self.old fd ≡ Some (OpenFile.Writing w) → HasOtherWriterAt self.old fd (λ v. OnOk result (IsChangedWriterSeenAs tree.new (writer_after_write (writer_view tree.old w) bytes.now) v)) self.new }
-        ensures beside { OnOk result (WritesUnusedBlocks tree.old tree.new) }
+        ensures written { (w : WriterSeen) → open_file_at self.old fd ≡ Some (OpenFile.Writing w) → ChangesOnlyWriterAtNumber self.old fd (λ v. OnOk result (IsChangedWriterSeenAs tree.new (writer_after_write (writer_view tree.old w) bytes.now) v)) self.new }
+        ensures beside { OnOk result (WritesOnlyUnusedBlocks tree.old tree.new) }
         ensures broken { OnErr result (IsFailedTree tree.old tree.new) }
-        ensures errors { IfErr result (IsErrorWithCause tree.old tree.new) }
+        ensures errors { IfErr result (IsIoWithFaultOrNoMemory tree.old tree.new) }
         ensures survives { IsSoundTreeState tree.old → SurvivesStopsInTreeCall tree.old tree.new (tree_view tree.old) }
     {
-        write_in(alloc, tree, &mut self.entries, fd as usize, bytes)
+        write_by_writer_in_table(alloc, tree, &mut self.entries, fd as usize, bytes)
     }
 
     pub(crate) fn is_open(&self, fd: u32) -> bool
@@ -307,7 +308,7 @@ impl Files {
     }
 
     /// Returns whether the file of that number has changes that aren't in the tree.
-    pub fn is_unsaved_at(&self, fd: u32) -> bool
+    pub fn is_unsaved_at_file_number(&self, fd: u32) -> bool
         ensures { result ≡ is_unsaved_writer (open_file_at self.now fd) }
     {
         match self.entries.get(fd as usize) {
@@ -317,7 +318,7 @@ impl Files {
     }
 
     /// Returns whether a writer has that number, and contents of that size.
-    pub fn has_size(&self, fd: u32, size: u32) -> bool
+    pub fn has_writer_of_size(&self, fd: u32, size: u32) -> bool
         ensures { (w : _) → open_file_as_writer (open_file_at self.now fd) ≡ Some w → result ≡ (size == w.size) }
     {
         match self.writer(fd) {
@@ -329,17 +330,17 @@ impl Files {
     // Returns whether a file is open at the path of these bytes.
     pub(crate) fn is_open_at(&self, path: &[u8]) -> bool
         requires { is_some (path_of_bytes path.now) ≡ true }
-        ensures { (t : TreeState) → result ≡ has_open_file_at (same_path (path_or_root path.now)) (open_files_view t self.now) }
+        ensures { (t : TreeState) → result ≡ has_open_file_with_path_satisfying (same_path (path_of_bytes_or_root path.now)) (open_files_view t self.now) }
     {
         is_path_of_open_file_among(&self.entries, path)
     }
 
     // Returns whether an open file prevents a rename: one at the first path, which is an entry's,
     // or beneath it, or one at the second path.
-    pub(crate) fn is_in_the_way(&self, from: &[u8], to: &[u8]) -> bool
+    pub(crate) fn has_open_file_preventing_rename(&self, from: &[u8], to: &[u8]) -> bool
         requires entry { is_root_or_invalid_path (path_of_bytes from.now) ≡ false }
         requires given { is_some (path_of_bytes to.now) ≡ true }
-        ensures { (t : TreeState) → result ≡ has_open_file_at (prevents_rename (path_or_root from.now) (path_or_root to.now)) (open_files_view t self.now) }
+        ensures { (t : TreeState) → result ≡ has_open_file_with_path_satisfying (open_file_path_prevents_rename (path_of_bytes_or_root from.now) (path_of_bytes_or_root to.now)) (open_files_view t self.now) }
     {
         is_rename_prevented_among(&self.entries, from, to)
     }
@@ -382,7 +383,7 @@ fn seek_file_in_table(entries: &mut Vec<Option<OpenFile>>, index: usize, positio
 
 // Writes bytes by the writer in an entry. The writer stays where it is: to move it took a third of
 // a short write's time.
-fn write_in<D: BlockDevice>(
+fn write_by_writer_in_table<D: BlockDevice>(
     alloc: Global,
     tree: &mut Tree<D>,
     entries: &mut Vec<Option<OpenFile>>,
@@ -390,15 +391,15 @@ fn write_in<D: BlockDevice>(
     bytes: &[u8],
 ) -> Result<(), Error>
     requires { (w : WriterSeen) × (open_file_at entries.old.items index ≡ Some (OpenFile.Writing w)) × CanWriteByWriter tree.old w bytes.now }
-    ensures written { (w : WriterSeen) → open_file_at entries.old.items index ≡ Some (OpenFile.Writing w) → HasOtherWriterAt entries.old.items index (λ v. OnOk result (IsChangedWriterSeenAs tree.new (writer_after_write (writer_view tree.old w) bytes.now) v)) entries.new.items }
+    ensures written { (w : WriterSeen) → open_file_at entries.old.items index ≡ Some (OpenFile.Writing w) → ChangesOnlyWriterAtNumber entries.old.items index (λ v. OnOk result (IsChangedWriterSeenAs tree.new (writer_after_write (writer_view tree.old w) bytes.now) v)) entries.new.items }
     ensures len { vec_len entries.new ≡ vec_len entries.old }
-    ensures beside { OnOk result (WritesUnusedBlocks tree.old tree.new) }
+    ensures beside { OnOk result (WritesOnlyUnusedBlocks tree.old tree.new) }
     ensures broken { OnErr result (IsFailedTree tree.old tree.new) }
-    ensures errors { IfErr result (IsErrorWithCause tree.old tree.new) }
+    ensures errors { IfErr result (IsIoWithFaultOrNoMemory tree.old tree.new) }
     ensures survives { IsSoundTreeState tree.old → SurvivesStopsInTreeCall tree.old tree.new (tree_view tree.old) }
 {
     match &mut entries[index] {
-        Some(OpenFile::Writing(writer)) => writer_after_writing(alloc, tree, writer, bytes),
+        Some(OpenFile::Writing(writer)) => write_bytes_by_writer(alloc, tree, writer, bytes),
         _ => unreachable!(),
     }
 }
@@ -436,14 +437,14 @@ fn blocks_reserved_among(entries: &[Option<OpenFile>], geometry: Geometry) -> u6
 {
     for entry in entries {
         if let Some(OpenFile::Writing(writer)) = entry {
-            return writer.held(geometry);
+            return writer.reserved_block_count(geometry);
         }
     }
     0
 }
 
 // Returns how many blocks are held for changed contents of so many bytes.
-pub(crate) fn held_for(geometry: Geometry, has_turned: bool, size: u32) -> u64
+pub(crate) fn reserved_block_count_for_size(geometry: Geometry, has_turned: bool, size: u32) -> u64
     ensures held { result ≡ blocks_reserved_for_size geometry.block_size has_turned size }
     ensures few { result < 2 ^ 34 }
 {
@@ -481,19 +482,19 @@ fn is_writing(entries: &[Option<OpenFile>]) -> bool
 // Returns whether a writer is open at the path of these bytes.
 fn is_path_of_writer_among(entries: &[Option<OpenFile>], path: &[u8]) -> bool
     requires { is_some (path_of_bytes path.now) ≡ true }
-    ensures { result ≡ list_any (λ w. same_path (path_or_root path.now) w.path) (writers_among entries.now) }
+    ensures { result ≡ list_any (λ w. same_path (path_of_bytes_or_root path.now) w.path) (writers_among entries.now) }
 {
     for entry in entries {
-        if is_writer_at(entry, path) {
+        if is_open_writer_at_path(entry, path) {
             return true;
         }
     }
     false
 }
 
-fn is_writer_at(entry: &Option<OpenFile>, path: &[u8]) -> bool
+fn is_open_writer_at_path(entry: &Option<OpenFile>, path: &[u8]) -> bool
     requires { is_some (path_of_bytes path.now) ≡ true }
-    ensures { result ≡ list_any (λ w. same_path (path_or_root path.now) w.path) (writers_among (entry.now ∷ [])) }
+    ensures { result ≡ list_any (λ w. same_path (path_of_bytes_or_root path.now) w.path) (writers_among (entry.now ∷ [])) }
 {
     match entry {
         Some(OpenFile::Writing(writer)) => writer.path.is_path_of_bytes(path),
@@ -503,19 +504,19 @@ fn is_writer_at(entry: &Option<OpenFile>, path: &[u8]) -> bool
 
 fn is_path_of_open_file_among(entries: &[Option<OpenFile>], path: &[u8]) -> bool
     requires { is_some (path_of_bytes path.now) ≡ true }
-    ensures { result ≡ list_any (is_open_at_path_such_that (same_path (path_or_root path.now))) entries.now }
+    ensures { result ≡ list_any (is_open_at_matching_path (same_path (path_of_bytes_or_root path.now))) entries.now }
 {
     for entry in entries {
-        if is_file_at(entry, path) {
+        if is_file_open_at_path(entry, path) {
             return true;
         }
     }
     false
 }
 
-fn is_file_at(entry: &Option<OpenFile>, path: &[u8]) -> bool
+fn is_file_open_at_path(entry: &Option<OpenFile>, path: &[u8]) -> bool
     requires { is_some (path_of_bytes path.now) ≡ true }
-    ensures { result ≡ is_open_at_path_such_that (same_path (path_or_root path.now)) entry.now }
+    ensures { result ≡ is_open_at_matching_path (same_path (path_of_bytes_or_root path.now)) entry.now }
 {
     match entry {
         Some(OpenFile::Reading(reader)) => reader.path.is_path_of_bytes(path),
@@ -544,8 +545,8 @@ fn is_reader(entry: &Option<OpenFile>) -> bool
 }
 
 // Returns the least number that isn't open.
-fn free_number(entries: &[Option<OpenFile>]) -> usize
-    ensures { result ≡ least_free_number entries.now }
+fn find_free_file_number(entries: &[Option<OpenFile>]) -> usize
+    ensures { result ≡ least_free_file_number entries.now }
 {
     let mut number = 0;
     for entry in entries {
@@ -558,7 +559,7 @@ fn free_number(entries: &[Option<OpenFile>]) -> usize
 }
 
 // Puts an entry under a number, which is the next one at most.
-fn put(
+fn set_table_entry_at_number(
     entries: &mut Vec<Option<OpenFile>>,
     number: usize,
     entry: Option<OpenFile>,
@@ -566,7 +567,7 @@ fn put(
     requires inside { number ≤ vec_len entries.old }
     requires few { number < 17 }
     ensures few { vec_len entries.old ≤ 17 → vec_len entries.new ≤ 17 }
-    ensures put { OnOk result (entries.new.items ≡ open_files_with_number_set entries.old.items number entry) }
+    ensures put { OnOk result (entries.new.items ≡ open_files_with_entry_at_number entries.old.items number entry) }
     ensures same { OnErr result (entries.new.items ≡ entries.old.items) }
     ensures error { IfErr result (λ e. e ≡ Error.NoMemory) }
 {
@@ -585,7 +586,7 @@ fn put(
 fn is_rename_prevented_among(entries: &[Option<OpenFile>], from: &[u8], to: &[u8]) -> bool
     requires entry { is_root_or_invalid_path (path_of_bytes from.now) ≡ false }
     requires given { is_some (path_of_bytes to.now) ≡ true }
-    ensures { result ≡ list_any (is_open_at_path_such_that (prevents_rename (path_or_root from.now) (path_or_root to.now))) entries.now }
+    ensures { result ≡ list_any (is_open_at_matching_path (open_file_path_prevents_rename (path_of_bytes_or_root from.now) (path_of_bytes_or_root to.now))) entries.now }
 {
     for entry in entries {
         if is_rename_prevented_by_file(entry, from, to) {
@@ -598,7 +599,7 @@ fn is_rename_prevented_among(entries: &[Option<OpenFile>], from: &[u8], to: &[u8
 fn is_rename_prevented_by_file(entry: &Option<OpenFile>, from: &[u8], to: &[u8]) -> bool
     requires entry { is_root_or_invalid_path (path_of_bytes from.now) ≡ false }
     requires given { is_some (path_of_bytes to.now) ≡ true }
-    ensures { result ≡ is_open_at_path_such_that (prevents_rename (path_or_root from.now) (path_or_root to.now)) entry.now }
+    ensures { result ≡ is_open_at_matching_path (open_file_path_prevents_rename (path_of_bytes_or_root from.now) (path_of_bytes_or_root to.now)) entry.now }
 {
     match entry {
         Some(OpenFile::Reading(reader)) => reader.path.is_within(from)

@@ -17,7 +17,7 @@ pub struct Gstate {
     pub moving: Option<([u32; 2], u16)>,
 }
 
-pub(crate) fn gstate_of(state: &MoveState) -> Gstate
+pub(crate) fn gstate_from_move_state(state: &MoveState) -> Gstate
     ensures { reply_of_returned_gstate result ≡ reply_of_disk_gstate (move_view state.now) }
 {
     let moving = if state.kind == DELETE {

@@ -2,9 +2,9 @@
 
 ghost use Rattle.std.specs.Prelude.{◌≡◌, ◌+◌, ◌<◌, ◌^◌, List, drop, false, take, IfErr, IfOk, OnErr, OnOk, vec_len};
 ghost use Rattle.lfs_model.specs.Tree.{Path};
-ghost use Rattle.lfs_model.specs.TreeEdits.{bytes_at};
-ghost use Rattle.lfs_fs.specs.SessionView.{IsReaderApartFromWriters};
-ghost use Rattle.lfs_tree.specs.TreeState.{WasTreeOnlyRead, IsTreeFailedByRead, IsErrorWithCause, tree_view};
+ghost use Rattle.lfs_model.specs.TreeEdits.{file_bytes_of_node};
+ghost use Rattle.lfs_fs.specs.SessionView.{IsReaderOfCurrentContentsWithoutWriter};
+ghost use Rattle.lfs_tree.specs.TreeState.{WasTreeOnlyRead, IsTreeFailedByRead, IsIoWithFaultOrNoMemory, tree_view};
 
 use crate::files::Reader;
 use lfs_device::{BlockDevice, Error};
@@ -19,12 +19,12 @@ pub(crate) fn bytes_for_reader<D: BlockDevice>(
     count: u32,
 ) -> Result<Vec<u8>, Error>
     requires works { tree.old.failed ≡ false }
-    requires kept { (written : List Path) × IsReaderApartFromWriters tree.old.pairs written reader.now }
+    requires kept { (written : List Path) × IsReaderOfCurrentContentsWithoutWriter tree.old.pairs written reader.now }
     ensures asked { OnOk result (WasTreeOnlyRead tree.old tree.new) }
-    ensures bytes { IfOk result (λ v. v.items ≡ take count (drop reader.now.position (bytes_at (tree_view tree.old reader.now.path)))) }
+    ensures bytes { IfOk result (λ v. v.items ≡ take count (drop reader.now.position (file_bytes_of_node (tree_view tree.old reader.now.path)))) }
     ensures end { IfOk result (λ v. reader.now.position + vec_len v < 2 ^ 32) }
     ensures broken { OnErr result (IsTreeFailedByRead tree.old tree.new) }
-    ensures errors { IfErr result (IsErrorWithCause tree.old tree.new) }
+    ensures errors { IfErr result (IsIoWithFaultOrNoMemory tree.old tree.new) }
 {
     tree.read(alloc, &reader.contents, reader.position, count as usize)
 }

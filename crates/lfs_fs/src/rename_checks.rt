@@ -4,18 +4,20 @@ ghost use Rattle.std.specs.Prelude.{◌≡◌, ◌&&◌, IfErr, IfOk, false, is_
 ghost use Rattle.lfs_model.specs.TreeEdits.{is_path_beneath, path_without_prefix, same_path};
 ghost use Rattle.lfs_model.specs.Operations as ops;
 ghost use Rattle.lfs_model.specs.Operations.{path_of_bytes};
-ghost use Rattle.lfs_model.specs.Refusals.{path_or_root, is_root_or_invalid_path};
+ghost use Rattle.lfs_model.specs.Refusals.{path_of_bytes_or_root, is_root_or_invalid_path};
 ghost use Rattle.lfs_model.specs.Session.{refuse_if};
 ghost use Rattle.lfs_lookup.specs.Refusals.{is_refusal, refusal_of_error};
-ghost use Rattle.lfs_tree.specs.RenamePaths.{HasFoundBothRenamePaths};
+ghost use Rattle.lfs_tree.specs.RenamePaths.{AreFindingsAtBothRenamePaths};
 ghost use Rattle.lfs_tree.specs.TreeState.{tree_view};
-ghost use Rattle.lfs_fs.specs.SessionView.{ChecksOperation, IsSessionReadyForCalls, refusal_by_checks, session_view_of_tree_and_files};
-ghost use Rattle.lfs_fs.specs.RenamePaths.{IsRefusedWithAnyFiles, IsRenamingOfPaths, PassesPathChecks, is_path_prefix};
+ghost use Rattle.lfs_fs.specs.SessionView.{IsResultOfOperationChecks, IsSessionReadyForCalls, refusal_by_checks, session_view_of_tree_and_files};
+ghost use Rattle.lfs_fs.specs.RenamePaths.{IsRefusedWhateverFilesAreOpen, IsPermittedRenameOfPathBytes, PassesRenameChecksWithoutLookUp, is_path_prefix};
 
-use crate::check_order::{both, first_of, value_unless_checks_refuse};
-use crate::checks::{is_overcharged_with_attributes, lacks, parse_path_unless_root};
+use crate::check_order::{are_both_true, find_first_refusal, value_unless_checks_refuse};
+use crate::checks::{
+    has_too_few_free_blocks, is_entry_with_attributes_too_large, parse_path_unless_root,
+};
 use crate::files::Files;
-use crate::owned_path::is_same;
+use crate::owned_path::are_same_path_bytes;
 use lfs_device::{BlockDevice, Error};
 use lfs_lookup::{Path, Refusal, refuse_if};
 use lfs_tag::Superblock;
@@ -34,10 +36,10 @@ fn is_path_prefix(bytes: &[u8], other: &[u8]) -> bool
 
 // Returns whether the path of the other bytes is that of these, which are an entry's, or is beneath
 // it.
-pub(crate) fn is_within(bytes: &[u8], other: &[u8]) -> bool
+pub(crate) fn is_path_at_or_beneath(bytes: &[u8], other: &[u8]) -> bool
     requires entry { is_root_or_invalid_path (path_of_bytes bytes.now) ≡ false }
     requires given { is_some (path_of_bytes other.now) ≡ true }
-    ensures { result ≡ is_some (path_without_prefix (path_or_root bytes.now) (path_or_root other.now)) }
+    ensures { result ≡ is_some (path_without_prefix (path_of_bytes_or_root bytes.now) (path_of_bytes_or_root other.now)) }
 {
     is_path_prefix(bytes, other)
 }
@@ -46,31 +48,31 @@ pub(crate) fn is_within(bytes: &[u8], other: &[u8]) -> bool
 fn is_same_path(bytes: &[u8], other: &[u8]) -> bool
     requires given { is_some (path_of_bytes bytes.now) ≡ true }
     requires other { is_some (path_of_bytes other.now) ≡ true }
-    ensures { result ≡ same_path (path_or_root bytes.now) (path_or_root other.now) }
+    ensures { result ≡ same_path (path_of_bytes_or_root bytes.now) (path_of_bytes_or_root other.now) }
 {
-    is_same(other, bytes)
+    are_same_path_bytes(other, bytes)
 }
 
 // Returns whether the path of the other bytes is beneath that of these, which are an entry's.
-fn is_beneath(bytes: &[u8], other: &[u8]) -> bool
+fn is_path_strictly_beneath(bytes: &[u8], other: &[u8]) -> bool
     requires entry { is_root_or_invalid_path (path_of_bytes bytes.now) ≡ false }
     requires given { is_some (path_of_bytes other.now) ≡ true }
-    ensures { result ≡ is_path_beneath (path_or_root bytes.now) (path_or_root other.now) }
+    ensures { result ≡ is_path_beneath (path_of_bytes_or_root bytes.now) (path_of_bytes_or_root other.now) }
 {
-    is_within(bytes, other) && !is_same_path(bytes, other)
+    is_path_at_or_beneath(bytes, other) && !is_same_path(bytes, other)
 }
 
 // Checks the entry at the new path. A rename to the same path passes.
-fn refuse_replacing(is_same: bool, is_bad: bool, error: Error) -> Option<Refusal>
+fn refuse_replacement_unless_same_path(is_same: bool, is_bad: bool, error: Error) -> Option<Refusal>
     requires { is_refusal error ≡ true }
     ensures { result ≡ refuse_if (not is_same && is_bad) (refusal_of_error error) }
 {
-    refuse_if(both(!is_same, is_bad), error)
+    refuse_if(are_both_true(!is_same, is_bad), error)
 }
 
 /// A rename that no check refuses.
 #[derive(Drop)]
-pub struct Renaming<'a> {
+pub struct PermittedRename<'a> {
     pub from: Path<'a>,
     pub to: Path<'a>,
     /// Whether both paths are the same.
@@ -94,8 +96,8 @@ fn check_rename_paths<'a, D: BlockDevice>(
     old: &'a [u8],
     new: &'a [u8],
 ) -> Result<RenamePaths<'a>, Error>
-    ensures passes { IfOk result (PassesPathChecks tree.now old.now new.now) }
-    ensures refused { IfErr result (IsRefusedWithAnyFiles tree.now (ops.Rename old.now new.now)) }
+    ensures passes { IfOk result (PassesRenameChecksWithoutLookUp tree.now old.now new.now) }
+    ensures refused { IfErr result (IsRefusedWhateverFilesAreOpen tree.now (ops.Rename old.now new.now)) }
 {
     if tree.has_failed() {
         return Err(Error::Failed);
@@ -109,7 +111,7 @@ fn check_rename_paths<'a, D: BlockDevice>(
     let Some(to) = parse_path_unless_root(new) else {
         return Err(Error::Invalid);
     };
-    if is_beneath(old, new) {
+    if is_path_strictly_beneath(old, new) {
         return Err(Error::Invalid);
     }
     let is_same = is_same_path(old, new);
@@ -117,7 +119,7 @@ fn check_rename_paths<'a, D: BlockDevice>(
 }
 
 // Returns the refusal of a rename, by what is at its two paths, the open files and the room.
-fn refusal_of_found<D: BlockDevice>(
+fn rename_refusal_by_findings<D: BlockDevice>(
     tree: &Tree<D>,
     files: &Files,
     old: &[u8],
@@ -126,30 +128,30 @@ fn refusal_of_found<D: BlockDevice>(
     found: &RenameFindings,
 ) -> Option<Refusal>
     requires ready { IsSessionReadyForCalls tree.now files.now }
-    requires passes { PassesPathChecks tree.now old.now new.now paths.now }
-    requires found { HasFoundBothRenamePaths (tree_view tree.now) paths.now.from paths.now.to found.now }
+    requires passes { PassesRenameChecksWithoutLookUp tree.now old.now new.now paths.now }
+    requires found { AreFindingsAtBothRenamePaths (tree_view tree.now) paths.now.from paths.now.to found.now }
     ensures { result ≡ refusal_by_checks (session_view_of_tree_and_files tree.now files.now) (ops.Rename old.now new.now) }
 {
     let is_same = paths.is_same;
     let entry = found.entry.node;
     let replaces = found.target.finding.node;
     let name_len = paths.to.name_len();
-    let puts_directory = both(entry.is_directory(), replaces.is_file());
-    let puts_file = both(entry.is_file(), replaces.is_directory());
-    let overfills = is_overcharged_with_attributes(tree, name_len, found.attributes_size);
+    let puts_directory = are_both_true(entry.is_directory(), replaces.is_file());
+    let puts_file = are_both_true(entry.is_file(), replaces.is_directory());
+    let overfills = is_entry_with_attributes_too_large(tree, name_len, found.attributes_size);
     let checks = [
         found.entry.fault,
         found.target.finding.fault,
         refuse_if(name_len > Superblock::NAME_MAX as usize, Error::NameTooLong),
         refuse_if(entry.is_nothing(), Error::NoEnt),
-        refuse_replacing(is_same, puts_directory, Error::NotDir),
-        refuse_replacing(is_same, puts_file, Error::IsDir),
-        refuse_replacing(is_same, found.target.has_entries, Error::NotEmpty),
-        refuse_if(files.is_in_the_way(old, new), Error::Busy),
-        refuse_replacing(is_same, overfills, Error::EntryFull),
-        refuse_if(lacks(tree, files, 2), Error::NoSpace),
+        refuse_replacement_unless_same_path(is_same, puts_directory, Error::NotDir),
+        refuse_replacement_unless_same_path(is_same, puts_file, Error::IsDir),
+        refuse_replacement_unless_same_path(is_same, found.target.has_entries, Error::NotEmpty),
+        refuse_if(files.has_open_file_preventing_rename(old, new), Error::Busy),
+        refuse_replacement_unless_same_path(is_same, overfills, Error::EntryFull),
+        refuse_if(has_too_few_free_blocks(tree, files, 2), Error::NoSpace),
     ];
-    first_of(&checks)
+    find_first_refusal(&checks)
 }
 
 /// Checks a rename, and returns where its two paths lead to.
@@ -159,15 +161,15 @@ pub fn check_rename<'a, D: BlockDevice>(
     files: &Files,
     old: &'a [u8],
     new: &'a [u8],
-) -> Result<Renaming<'a>, Error>
+) -> Result<PermittedRename<'a>, Error>
     requires { tree.old.failed ≡ false → IsSessionReadyForCalls tree.old files.now }
-    ensures { ChecksOperation (session_view_of_tree_and_files tree.old files.now) (ops.Rename old.now new.now) (IsRenamingOfPaths tree.new old.now new.now) result tree.new }
+    ensures { IsResultOfOperationChecks (session_view_of_tree_and_files tree.old files.now) (ops.Rename old.now new.now) (IsPermittedRenameOfPathBytes tree.new old.now new.now) result tree.new }
 {
     let paths = check_rename_paths(tree, old, new)?;
     let found = tree.look_up_rename(alloc, &paths.from, &paths.to)?;
-    let refusal = refusal_of_found(tree, files, old, new, &paths, &found);
+    let refusal = rename_refusal_by_findings(tree, files, old, new, &paths, &found);
     let RenamePaths { from, to, is_same } = paths;
-    let renaming = Renaming {
+    let renaming = PermittedRename {
         from,
         to,
         is_same,

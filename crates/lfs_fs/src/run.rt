@@ -102,7 +102,7 @@ fn refused_reply(error: Error) -> Result<Reply, Error>
     }
 }
 
-pub(crate) fn done(answer: Result<(), Error>) -> Result<Reply, Error>
+pub(crate) fn reply_of_unit_result(answer: Result<(), Error>) -> Result<Reply, Error>
     ensures seen { reply_result_view result ≡ reply_from_result (λ _. operations.Done) answer }
     ensures named { IfOk result RefusesOnlyWithRefusalError }
 {
@@ -112,7 +112,7 @@ pub(crate) fn done(answer: Result<(), Error>) -> Result<Reply, Error>
     }
 }
 
-pub(crate) fn fd(answer: Result<Fd, Error>) -> Result<Reply, Error>
+pub(crate) fn reply_of_fd_result(answer: Result<Fd, Error>) -> Result<Reply, Error>
     ensures seen { reply_result_view result ≡ reply_from_result operations.Opened answer }
     ensures named { IfOk result RefusesOnlyWithRefusalError }
 {
@@ -122,7 +122,7 @@ pub(crate) fn fd(answer: Result<Fd, Error>) -> Result<Reply, Error>
     }
 }
 
-pub(crate) fn bytes(answer: Result<Vec<u8>, Error>) -> Result<Reply, Error>
+pub(crate) fn reply_of_bytes_result(answer: Result<Vec<u8>, Error>) -> Result<Reply, Error>
     ensures seen { reply_result_view result ≡ reply_from_result (λ v. operations.Bytes v.items) answer }
     ensures named { IfOk result RefusesOnlyWithRefusalError }
 {
@@ -132,7 +132,7 @@ pub(crate) fn bytes(answer: Result<Vec<u8>, Error>) -> Result<Reply, Error>
     }
 }
 
-pub(crate) fn count(answer: Result<u32, Error>) -> Result<Reply, Error>
+pub(crate) fn reply_of_count_result(answer: Result<u32, Error>) -> Result<Reply, Error>
     ensures seen { reply_result_view result ≡ reply_from_result operations.Count answer }
     ensures named { IfOk result RefusesOnlyWithRefusalError }
 {
@@ -142,7 +142,7 @@ pub(crate) fn count(answer: Result<u32, Error>) -> Result<Reply, Error>
     }
 }
 
-pub(crate) fn items(answer: Result<Vec<Item>, Error>) -> Result<Reply, Error>
+pub(crate) fn reply_of_items_result(answer: Result<Vec<Item>, Error>) -> Result<Reply, Error>
     ensures seen { reply_result_view result ≡ reply_from_result (λ items. operations.Items (map list_item_view items.items)) answer }
     ensures named { IfOk result RefusesOnlyWithRefusalError }
 {
@@ -152,7 +152,7 @@ pub(crate) fn items(answer: Result<Vec<Item>, Error>) -> Result<Reply, Error>
     }
 }
 
-pub(crate) fn stat(answer: Result<Stat, Error>) -> Result<Reply, Error>
+pub(crate) fn reply_of_stat_result(answer: Result<Stat, Error>) -> Result<Reply, Error>
     ensures seen { reply_result_view result ≡ reply_from_result (λ stat. operations.StatIs (stat_view stat)) answer }
     ensures named { IfOk result RefusesOnlyWithRefusalError }
 {
@@ -162,7 +162,7 @@ pub(crate) fn stat(answer: Result<Stat, Error>) -> Result<Reply, Error>
     }
 }
 
-pub(crate) fn gstate(answer: Result<Gstate, Error>) -> Result<Reply, Error>
+pub(crate) fn reply_of_gstate_result(answer: Result<Gstate, Error>) -> Result<Reply, Error>
     ensures seen { reply_result_view result ≡ reply_from_result reply_of_returned_gstate answer }
     ensures named { IfOk result RefusesOnlyWithRefusalError }
 {
@@ -172,7 +172,7 @@ pub(crate) fn gstate(answer: Result<Gstate, Error>) -> Result<Reply, Error>
     }
 }
 
-pub(crate) fn yes(answer: Result<bool, Error>) -> Result<Reply, Error>
+pub(crate) fn reply_of_bool_result(answer: Result<bool, Error>) -> Result<Reply, Error>
     ensures seen { reply_result_view result ≡ reply_from_result operations.Yes answer }
     ensures named { IfOk result RefusesOnlyWithRefusalError }
 {

@@ -5,51 +5,56 @@ ghost use Rattle.std.specs.Prelude.{◌≡◌, ◌⊎◌, ◌++◌, None, false,
 ghost use Rattle.lfs_model.specs.Disk.{SameGeometry};
 ghost use Rattle.lfs_model.specs.Thread.{Pair};
 ghost use Rattle.lfs_model.specs.Fresh.{empty_tree};
-ghost use Rattle.lfs_model.specs.Headline.{IsHealthyWithDiskTree, IsWhatItsDiskShows};
-ghost use Rattle.lfs_model.specs.History.{faults};
-ghost use Rattle.lfs_model.specs.State.{Healthy, mounted};
+ghost use Rattle.lfs_model.specs.Headline.{IsSessionHealthyWithDiskTree, IsSessionAgreeingWithItsDisk};
+ghost use Rattle.lfs_model.specs.History.{fault_count_of_history};
+ghost use Rattle.lfs_model.specs.State.{Healthy, session_after_mount};
 ghost use Rattle.lfs_model.specs.Run.{AreSessionSteps, SystemState};
-ghost use Rattle.lfs_model.specs.Performed.{ArePerformedOperations};
-ghost use Rattle.lfs_model.specs.RepeatedPowerLoss.{IsJustMounted, IsReadyForPowerLoss, IsRunSurvivingPowerLosses};
+ghost use Rattle.lfs_model.specs.Performed.{AreStepsSurvivingLossWithinReadBounds};
+ghost use Rattle.lfs_model.specs.RepeatedPowerLoss.{IsJustMounted, MeetsPremisesForSurvivingPowerLoss, IsRunSurvivingPowerLosses};
 ghost use Rattle.lfs_model.specs.PowerLoss.{IsOperationSurvivingPowerLoss};
 ghost use Rattle.lfs_model.specs.declared.order.NameOrder.{NameOrder};
 ghost use Rattle.lfs_model.specs.declared.order.NameOrder.TheVariants.{LongerFirst, ShorterFirst};
-ghost use Rattle.lfs_device.specs.Shown.{ordered};
+ghost use Rattle.lfs_device.specs.Shown.{disk_with_name_order};
 ghost use Rattle.lfs_mount.specs.Either.{ReturnsUnchangedDeviceWithError};
-ghost use Rattle.lfs_thread.specs.Device.{blocks_of_address};
+ghost use Rattle.lfs_thread.specs.Device.{blocks_of_pair_address};
 ghost use Rattle.lfs_thread.specs.Kept.{disk_of_device, kept_thread_view};
 ghost use Rattle.lfs_model.specs.Thread.{anchor_pair_address};
 ghost use Rattle.lfs_model.specs.View.{IsAcceptedImage};
 ghost use Rattle.lfs_lookup.specs.Finds.{list_item_view, stat_view};
-ghost use Rattle.lfs_tree.specs.Formats.{ReturnsDeviceInEitherNameOrder, IsFreshlyFormatted, WritesFirstTwoBlocks};
-ghost use Rattle.lfs_tree.specs.TreeState.{kept_of};
+ghost use Rattle.lfs_tree.specs.Formats.{FailedFormatSparesOtherBlocksInBothOrders, IsFreshlyFormatted, WritesFirstTwoBlocks};
+ghost use Rattle.lfs_tree.specs.TreeState.{kept_thread_of_tree_state};
 ghost use Rattle.lfs_fs.specs.GstateView.{reply_of_returned_gstate};
-ghost use Rattle.lfs_fs.specs.SessionView.{IsSessionBegunByMount, EndsRunByError, system_state_of};
+ghost use Rattle.lfs_fs.specs.SessionView.{IsSessionBegunByMount, EndsRunByError, system_state_of_session_view};
 ghost use Rattle.lfs_fs.specs.FlagsView.{flags_view};
 ghost use Rattle.lfs_fs.specs.OpView.{RefusesOnlyWithRefusalError, op_view, reply_result_view, reply_view};
 ghost use Rattle.lfs_fs.specs.CallEffects.{IsSessionCallWithResult};
 
 use crate::checks::{
-    check_get_attr, check_is_file_open, check_list, check_mkdir, check_open_reader,
-    check_open_writer, check_remove, check_remove_attr, check_seek, check_set_attr, check_stat,
-    check_sync, check_truncate, check_write,
+    check_and_find_contents_for_reader, check_and_get_attr, check_and_list, check_and_stat,
+    check_is_file_open, check_is_file_open_for_sync, check_mkdir, check_open_writer, check_remove,
+    check_remove_attr, check_seek, check_set_attr, check_truncate, check_write,
 };
-use crate::device_laws::device_meets_laws;
+use crate::device_laws::show_conforming_device_calls_to_proof;
 use crate::files::{Fd, Files, OpenFile};
 use crate::flags::OpenFlags;
-use crate::gstate::{Gstate, gstate_of};
-use crate::open_files::open_files_stay;
+use crate::gstate::{Gstate, gstate_from_move_state};
+use crate::open_files::tree_changes_spare_open_files;
 use crate::owned_path::OwnedPath;
 use crate::reads::bytes_for_reader;
 use crate::rename_checks::check_rename;
-use crate::run::{Op, Reply, bytes, count, done, fd, gstate, items, stat, yes};
+use crate::run::{
+    Op, Reply, reply_of_bool_result, reply_of_bytes_result, reply_of_count_result,
+    reply_of_fd_result, reply_of_gstate_result, reply_of_items_result, reply_of_stat_result,
+    reply_of_unit_result,
+};
 use crate::writers::{
-    writer_after_saving, writer_after_truncating, writer_of_existing_file, writer_of_new_file,
+    create_file_and_open_writer, writer_after_saving, writer_after_truncating,
+    writer_of_existing_file,
 };
 use bitflags::Flags;
 use lfs_device::{BlockDevice, Error, NameOrder, Ordered};
 use lfs_lookup::{ListItem as Item, Stat};
-use lfs_tree::{Tree, mount_either};
+use lfs_tree::{Tree, mount_in_either_name_order};
 use std::alloc::Global;
 use std::marker::Model;
 
@@ -91,7 +96,7 @@ impl<D: BlockDevice> Session<D> {
     pub fn stat(&mut self, alloc: Global, path: &[u8]) -> Result<Stat, Error>
         ensures { IsSessionCallWithResult self.old (ops.Stat path.now) (reply_from_result (λ stat. ops.StatIs (stat_view stat)) result) self.new }
     {
-        check_stat(alloc, &mut self.tree, &self.files, path)
+        check_and_stat(alloc, &mut self.tree, &self.files, path)
     }
 
     /// Returns the entries of a directory, in name order. The call reads no more pairs than the
@@ -104,7 +109,7 @@ impl<D: BlockDevice> Session<D> {
     pub fn list(&mut self, alloc: Global, path: &[u8]) -> Result<Vec<Item>, Error>
         ensures { IsSessionCallWithResult self.old (ops.ListAll path.now) (reply_from_result (λ items. ops.Items (map list_item_view items.items)) result) self.new }
     {
-        check_list(alloc, &mut self.tree, &self.files, path)
+        check_and_list(alloc, &mut self.tree, &self.files, path)
     }
 
     /// Returns the bytes of an entry's attribute, of a type from 0 to 255. The call reads no more
@@ -118,7 +123,7 @@ impl<D: BlockDevice> Session<D> {
     pub fn get_attr(&mut self, alloc: Global, path: &[u8], kind: u8) -> Result<Vec<u8>, Error>
         ensures { IsSessionCallWithResult self.old (ops.GetAttr path.now kind) (reply_from_result (λ v. ops.Bytes v.items) result) self.new }
     {
-        check_get_attr(alloc, &mut self.tree, &self.files, path, kind)
+        check_and_get_attr(alloc, &mut self.tree, &self.files, path, kind)
     }
 
     /// Returns the global state. The call makes no call of the device, and is never refused but in
@@ -129,7 +134,7 @@ impl<D: BlockDevice> Session<D> {
         if self.tree.has_failed() {
             return Err(Error::Failed);
         }
-        Ok(gstate_of(&self.tree.gstate()))
+        Ok(gstate_from_move_state(&self.tree.gstate()))
     }
 
     /// Returns whether the image uses a block. The call makes no call of the device.
@@ -171,10 +176,10 @@ impl<D: BlockDevice> Session<D> {
     pub fn mkdir(&mut self, alloc: Global, path: &[u8]) -> Result<(), Error>
         ensures { IsSessionCallWithResult self.old (ops.Mkdir path.now) (reply_from_result (λ _. ops.Done) result) self.new }
     {
-        open_files_stay();
+        tree_changes_spare_open_files();
         let path = check_mkdir(alloc, &mut self.tree, &self.files, path)?;
         let answer = self.tree.mkdir(alloc, &path);
-        device_meets_laws(&self.tree);
+        show_conforming_device_calls_to_proof(&self.tree);
         answer
     }
 
@@ -189,10 +194,10 @@ impl<D: BlockDevice> Session<D> {
     pub fn remove(&mut self, alloc: Global, path: &[u8]) -> Result<(), Error>
         ensures { IsSessionCallWithResult self.old (ops.Remove path.now) (reply_from_result (λ _. ops.Done) result) self.new }
     {
-        open_files_stay();
+        tree_changes_spare_open_files();
         let path = check_remove(alloc, &mut self.tree, &self.files, path)?;
         let answer = self.tree.remove(alloc, &path);
-        device_meets_laws(&self.tree);
+        show_conforming_device_calls_to_proof(&self.tree);
         answer
     }
 
@@ -213,7 +218,7 @@ impl<D: BlockDevice> Session<D> {
     pub fn rename(&mut self, alloc: Global, from: &[u8], to: &[u8]) -> Result<(), Error>
         ensures { IsSessionCallWithResult self.old (ops.Rename from.now to.now) (reply_from_result (λ _. ops.Done) result) self.new }
     {
-        open_files_stay();
+        tree_changes_spare_open_files();
         let renaming = check_rename(alloc, &mut self.tree, &self.files, from, to)?;
         if renaming.is_same {
             return Ok(());
@@ -221,7 +226,7 @@ impl<D: BlockDevice> Session<D> {
         let answer = self
             .tree
             .rename(alloc, &renaming.from, &renaming.to, renaming.targets);
-        device_meets_laws(&self.tree);
+        show_conforming_device_calls_to_proof(&self.tree);
         answer
     }
 
@@ -244,10 +249,10 @@ impl<D: BlockDevice> Session<D> {
     ) -> Result<(), Error>
         ensures { IsSessionCallWithResult self.old (ops.SetAttr path.now kind value.now) (reply_from_result (λ _. ops.Done) result) self.new }
     {
-        open_files_stay();
+        tree_changes_spare_open_files();
         let path = check_set_attr(alloc, &mut self.tree, &self.files, path, kind, value)?;
         let answer = self.tree.set_attr(alloc, &path, kind, value);
-        device_meets_laws(&self.tree);
+        show_conforming_device_calls_to_proof(&self.tree);
         answer
     }
 
@@ -261,10 +266,10 @@ impl<D: BlockDevice> Session<D> {
     pub fn remove_attr(&mut self, alloc: Global, path: &[u8], kind: u8) -> Result<(), Error>
         ensures { IsSessionCallWithResult self.old (ops.RemoveAttr path.now kind) (reply_from_result (λ _. ops.Done) result) self.new }
     {
-        open_files_stay();
+        tree_changes_spare_open_files();
         let path = check_remove_attr(alloc, &mut self.tree, &self.files, path, kind)?;
         let answer = self.tree.remove_attr(alloc, &path, kind);
-        device_meets_laws(&self.tree);
+        show_conforming_device_calls_to_proof(&self.tree);
         answer
     }
 
@@ -277,7 +282,7 @@ impl<D: BlockDevice> Session<D> {
     pub fn recover(&mut self, alloc: Global) -> Result<(), Error>
         ensures { IsSessionCallWithResult self.old ops.Recover (reply_from_result (λ _. ops.Done) result) self.new }
     {
-        open_files_stay();
+        tree_changes_spare_open_files();
         if self.tree.has_failed() {
             return Err(Error::Failed);
         }
@@ -285,7 +290,7 @@ impl<D: BlockDevice> Session<D> {
             return Err(Error::ReadOnly);
         }
         let answer = self.tree.recover(alloc);
-        device_meets_laws(&self.tree);
+        show_conforming_device_calls_to_proof(&self.tree);
         answer
     }
 
@@ -294,7 +299,13 @@ impl<D: BlockDevice> Session<D> {
         requires { (flags_view flags).write ≡ false }
         ensures { IsSessionCallWithResult self.old (ops.Open path.now (flags_view flags)) (reply_from_result ops.Opened result) self.new }
     {
-        let contents = check_open_reader(alloc, &mut self.tree, &self.files, path, flags)?;
+        let contents = check_and_find_contents_for_reader(
+            alloc,
+            &mut self.tree,
+            &self.files,
+            path,
+            flags,
+        )?;
         let answer = self.files.add_reader(alloc, path, contents);
         if answer.is_err() {
             self.tree.fail();
@@ -312,23 +323,23 @@ impl<D: BlockDevice> Session<D> {
             self.tree.fail();
             return Err(Error::NoMemory);
         };
-        let Ok(number) = self.files.make_room() else {
+        let Ok(number) = self.files.reserve_free_file_number() else {
             self.tree.fail();
             return Err(Error::NoMemory);
         };
         let writer = match found.size {
             Some(size) => {
                 let answer = writer_of_existing_file(alloc, &mut self.tree, owned, size, flags);
-                device_meets_laws(&self.tree);
+                show_conforming_device_calls_to_proof(&self.tree);
                 answer?
             }
             None => {
-                let answer = writer_of_new_file(alloc, &mut self.tree, owned, flags);
-                device_meets_laws(&self.tree);
+                let answer = create_file_and_open_writer(alloc, &mut self.tree, owned, flags);
+                show_conforming_device_calls_to_proof(&self.tree);
                 answer?
             }
         };
-        self.files.put_back(number, writer);
+        self.files.put_back_writer(number, writer);
         Ok(number)
     }
 
@@ -375,7 +386,7 @@ impl<D: BlockDevice> Session<D> {
             return Ok(0);
         }
         let answer = self.files.write(alloc, &mut self.tree, fd, bytes);
-        device_meets_laws(&self.tree);
+        show_conforming_device_calls_to_proof(&self.tree);
         answer?;
         Ok(bytes.len() as u32)
     }
@@ -391,16 +402,16 @@ impl<D: BlockDevice> Session<D> {
         ensures { IsSessionCallWithResult self.old (ops.Truncate fd size) (reply_from_result (λ _. ops.Done) result) self.new }
     {
         check_truncate(&self.tree, &self.files, fd, size)?;
-        if self.files.has_size(fd, size) {
+        if self.files.has_writer_of_size(fd, size) {
             return Ok(());
         }
         let Some(OpenFile::Writing(writer)) = self.files.take(fd) else {
             unreachable!()
         };
         let answer = writer_after_truncating(alloc, &mut self.tree, writer, size);
-        device_meets_laws(&self.tree);
+        show_conforming_device_calls_to_proof(&self.tree);
         let writer = answer?;
-        self.files.put_back(fd, writer);
+        self.files.put_back_writer(fd, writer);
         Ok(())
     }
 
@@ -412,17 +423,17 @@ impl<D: BlockDevice> Session<D> {
     pub fn sync(&mut self, alloc: Global, fd: Fd) -> Result<(), Error>
         ensures { IsSessionCallWithResult self.old (ops.Sync fd) (reply_from_result (λ _. ops.Done) result) self.new }
     {
-        check_sync(&self.tree, &self.files, fd)?;
-        if !self.files.is_unsaved_at(fd) {
+        check_is_file_open_for_sync(&self.tree, &self.files, fd)?;
+        if !self.files.is_unsaved_at_file_number(fd) {
             return Ok(());
         }
         let Some(OpenFile::Writing(writer)) = self.files.take(fd) else {
             unreachable!()
         };
         let answer = writer_after_saving(alloc, &mut self.tree, writer);
-        device_meets_laws(&self.tree);
+        show_conforming_device_calls_to_proof(&self.tree);
         let writer = answer?;
-        self.files.put_back(fd, writer);
+        self.files.put_back_writer(fd, writer);
         Ok(())
     }
 
@@ -471,7 +482,7 @@ impl<D: BlockDevice> Session<D> {
         ensures { IsSessionCallWithResult self.old (ops.Close fd) (reply_from_result (λ _. ops.Done) result) self.new }
     {
         check_is_file_open(&self.tree, &self.files, fd)?;
-        if !self.files.is_unsaved_at(fd) {
+        if !self.files.is_unsaved_at_file_number(fd) {
             self.files.close(fd);
             return Ok(());
         }
@@ -479,7 +490,7 @@ impl<D: BlockDevice> Session<D> {
             unreachable!()
         };
         let answer = writer_after_saving(alloc, &mut self.tree, writer);
-        device_meets_laws(&self.tree);
+        show_conforming_device_calls_to_proof(&self.tree);
         answer?;
         Ok(())
     }
@@ -494,13 +505,13 @@ impl<D: BlockDevice> Session<D> {
     {
         self.files.clear();
         let answer = self.tree.remount(alloc);
-        device_meets_laws(&self.tree);
+        show_conforming_device_calls_to_proof(&self.tree);
         answer
     }
 
     /// Borrows the device, as the last call left it.
     pub fn device(&self) -> &D
-        ensures disk { ordered self.now.tree.disk.order (disk_of_device D.BlockDevice result.now) ≡ self.now.tree.disk }
+        ensures disk { disk_with_name_order self.now.tree.disk.order (disk_of_device D.BlockDevice result.now) ≡ self.now.tree.disk }
         ensures history { D.history result.now ≡ self.now.tree.history }
     {
         self.tree.device().inner()
@@ -508,7 +519,7 @@ impl<D: BlockDevice> Session<D> {
 
     /// Ends the session, and returns the device. Nothing is written.
     pub fn unmount(self) -> D
-        ensures disk { ordered self.tree.disk.order (disk_of_device D.BlockDevice result) ≡ self.tree.disk }
+        ensures disk { disk_with_name_order self.tree.disk.order (disk_of_device D.BlockDevice result) ≡ self.tree.disk }
         ensures history { D.history result ≡ self.tree.history }
     {
         self.tree.into_device().into_inner()
@@ -528,32 +539,34 @@ impl<D: BlockDevice> Session<D> {
         ensures named { IfOk result RefusesOnlyWithRefusalError }
     {
         match op {
-            Op::Open(path, flags) => fd(self.open(alloc, path, flags)),
-            Op::Read(fd, count) => bytes(self.read(alloc, fd, count)),
-            Op::Seek(fd, position) => done(self.seek(fd, position)),
-            Op::Write(fd, bytes) => count(self.write(alloc, fd, bytes)),
-            Op::Truncate(fd, size) => done(self.truncate(alloc, fd, size)),
-            Op::Sync(fd) => done(self.sync(alloc, fd)),
-            Op::Close(fd) => done(self.close(alloc, fd)),
-            Op::Mkdir(path) => done(self.mkdir(alloc, path)),
-            Op::List(path) => items(self.list(alloc, path)),
-            Op::Stat(path) => stat(self.stat(alloc, path)),
-            Op::GetAttr(path, kind) => bytes(self.get_attr(alloc, path, kind)),
-            Op::Remove(path) => done(self.remove(alloc, path)),
-            Op::Rename(from, to) => done(self.rename(alloc, from, to)),
-            Op::SetAttr(path, kind, value) => done(self.set_attr(alloc, path, kind, value)),
-            Op::RemoveAttr(path, kind) => done(self.remove_attr(alloc, path, kind)),
-            Op::Gstate => gstate(self.gstate()),
-            Op::IsUsed(block) => yes(self.is_used(block)),
-            Op::UsedCount => count(self.used_count()),
-            Op::Recover => done(self.recover(alloc)),
-            Op::Remount => done(self.remount(alloc)),
+            Op::Open(path, flags) => reply_of_fd_result(self.open(alloc, path, flags)),
+            Op::Read(fd, count) => reply_of_bytes_result(self.read(alloc, fd, count)),
+            Op::Seek(fd, position) => reply_of_unit_result(self.seek(fd, position)),
+            Op::Write(fd, bytes) => reply_of_count_result(self.write(alloc, fd, bytes)),
+            Op::Truncate(fd, size) => reply_of_unit_result(self.truncate(alloc, fd, size)),
+            Op::Sync(fd) => reply_of_unit_result(self.sync(alloc, fd)),
+            Op::Close(fd) => reply_of_unit_result(self.close(alloc, fd)),
+            Op::Mkdir(path) => reply_of_unit_result(self.mkdir(alloc, path)),
+            Op::List(path) => reply_of_items_result(self.list(alloc, path)),
+            Op::Stat(path) => reply_of_stat_result(self.stat(alloc, path)),
+            Op::GetAttr(path, kind) => reply_of_bytes_result(self.get_attr(alloc, path, kind)),
+            Op::Remove(path) => reply_of_unit_result(self.remove(alloc, path)),
+            Op::Rename(from, to) => reply_of_unit_result(self.rename(alloc, from, to)),
+            Op::SetAttr(path, kind, value) => reply_of_unit_result(self.set_attr(
+                alloc, path, kind, value,
+            )),
+            Op::RemoveAttr(path, kind) => reply_of_unit_result(self.remove_attr(alloc, path, kind)),
+            Op::Gstate => reply_of_gstate_result(self.gstate()),
+            Op::IsUsed(block) => reply_of_bool_result(self.is_used(block)),
+            Op::UsedCount => reply_of_count_result(self.used_count()),
+            Op::Recover => reply_of_unit_result(self.recover(alloc)),
+            Op::Remount => reply_of_unit_result(self.remount(alloc)),
         }
     }
 
     fn fail(&mut self)
         ensures failed { self.new ≡ record self.old { tree = record self.old.tree { failed = true } } }
-        ensures survives_loss { (op : Operation) → IsOperationSurvivingPowerLoss (system_state_of self.old) op (system_state_of self.new) }
+        ensures survives_loss { (op : Operation) → IsOperationSurvivingPowerLoss (system_state_of_session_view self.old) op (system_state_of_session_view self.new) }
     {
         self.tree.fail();
     }
@@ -565,13 +578,13 @@ impl<D: BlockDevice> Session<D> {
     /// `Io`, `NoMemory` and, from a remount, `Corrupt`. The operations before it were applied, and
     /// the session has failed.
     pub fn run(&mut self, alloc: Global, ops: &[Op<'_>]) -> Result<Vec<Reply>, Error>
-        ensures performed { IfOk result (λ replies. ArePerformedOperations None (system_state_of self.old) (map op_view ops.now) (map reply_view replies.items) (system_state_of self.new)) }
+        ensures performed { IfOk result (λ replies. AreStepsSurvivingLossWithinReadBounds None (system_state_of_session_view self.old) (map op_view ops.now) (map reply_view replies.items) (system_state_of_session_view self.new)) }
         ensures named { IfOk result (λ replies. All RefusesOnlyWithRefusalError replies.items) }
-        ensures no_fault { OnOk result (faults self.new.tree.history ≡ faults self.old.tree.history) }
-        ensures headline { IfOk result (λ replies. (from : SystemState) (done : List Operation) (answers : List Answer) → IsHealthyWithDiskTree from → AreSessionSteps from done answers (system_state_of self.old)
-            → IsWhatItsDiskShows from (done ++ map op_view ops.now) (answers ++ map reply_view replies.items) (system_state_of self.new)) }
-        ensures survives { IsReadyForPowerLoss (system_state_of self.old) (system_state_of self.new) → IsRunSurvivingPowerLosses (system_state_of self.old) (map op_view ops.now) (system_state_of self.new) }
-        ensures ended { IfErr result (λ e. EndsRunByError e (system_state_of self.old) (map op_view ops.now) (system_state_of self.new)) }
+        ensures no_fault { OnOk result (fault_count_of_history self.new.tree.history ≡ fault_count_of_history self.old.tree.history) }
+        ensures headline { IfOk result (λ replies. (from : SystemState) (done : List Operation) (answers : List Answer) → IsSessionHealthyWithDiskTree from → AreSessionSteps from done answers (system_state_of_session_view self.old)
+            → IsSessionAgreeingWithItsDisk from (done ++ map op_view ops.now) (answers ++ map reply_view replies.items) (system_state_of_session_view self.new)) }
+        ensures survives { MeetsPremisesForSurvivingPowerLoss (system_state_of_session_view self.old) (system_state_of_session_view self.new) → IsRunSurvivingPowerLosses (system_state_of_session_view self.old) (map op_view ops.now) (system_state_of_session_view self.new) }
+        ensures ended { IfErr result (λ e. EndsRunByError e (system_state_of_session_view self.old) (map op_view ops.now) (system_state_of_session_view self.new)) }
     {
         let mut replies = Vec::new(alloc);
         for op in ops {
@@ -597,19 +610,19 @@ impl<D: BlockDevice> Session<D> {
 /// `Corrupt` exactly where the device has no accepted image in either order. `Io` where a read
 /// failed. `NoMemory` where memory isn't granted. An error comes with the device.
 pub fn mount<D: BlockDevice>(alloc: Global, device: D) -> Result<Session<D>, (D, Error)>
-    ensures begun { IfOk result (λ s. IsSessionBegunByMount (ordered s.tree.disk.order (disk_of_device D.BlockDevice device)) (D.history device) s) }
-    ensures state { IfOk result (λ s. IsJustMounted (ordered s.tree.disk.order (disk_of_device D.BlockDevice device)) (system_state_of s)) }
-    ensures longer { IfOk result (λ s. s.tree.disk.order ≡ ShorterFirst → (ps : List Pair) → ¬ IsAcceptedImage (ordered LongerFirst (disk_of_device D.BlockDevice device)) ps) }
-    ensures corrupt { IfErr result (λ e. e.1 ≡ Error.Corrupt → (order : NameOrder) (ps : List Pair) → ¬ IsAcceptedImage (ordered order (disk_of_device D.BlockDevice device)) ps) }
+    ensures begun { IfOk result (λ s. IsSessionBegunByMount (disk_with_name_order s.tree.disk.order (disk_of_device D.BlockDevice device)) (D.history device) s) }
+    ensures state { IfOk result (λ s. IsJustMounted (disk_with_name_order s.tree.disk.order (disk_of_device D.BlockDevice device)) (system_state_of_session_view s)) }
+    ensures longer { IfOk result (λ s. s.tree.disk.order ≡ ShorterFirst → (ps : List Pair) → ¬ IsAcceptedImage (disk_with_name_order LongerFirst (disk_of_device D.BlockDevice device)) ps) }
+    ensures corrupt { IfErr result (λ e. e.1 ≡ Error.Corrupt → (order : NameOrder) (ps : List Pair) → ¬ IsAcceptedImage (disk_with_name_order order (disk_of_device D.BlockDevice device)) ps) }
     ensures errors { IfErr result (λ e. (e.1 ≡ Error.Io) ⊎ (e.1 ≡ Error.Corrupt) ⊎ (e.1 ≡ Error.NoMemory)) }
     ensures back { IfErr result (λ e. ReturnsUnchangedDeviceWithError D.BlockDevice device e.0 e.1) }
 {
-    match mount_either(alloc, device) {
+    match mount_in_either_name_order(alloc, device) {
         Ok(tree) => {
-            device_meets_laws(&tree);
+            show_conforming_device_calls_to_proof(&tree);
             Ok(Session {
                 tree,
-                files: Files::none(alloc),
+                files: Files::without_open_files(alloc),
             })
         }
         Err(back) => Err(back),
@@ -623,11 +636,11 @@ pub fn mount<D: BlockDevice>(alloc: Global, device: D) -> Result<Session<D>, (D,
 ///
 /// Errors are those of [`format_ordered`].
 pub fn format<D: BlockDevice>(alloc: Global, device: D) -> Result<Session<D>, (D, Error)>
-    ensures formatted { IfOk result (λ s. IsFreshlyFormatted (kept_of s.tree)) }
-    ensures state { IfOk result (λ s. (system_state_of s).state ≡ Healthy (mounted empty_tree)) }
-    ensures geometry { IfOk result (λ s. SameGeometry (ordered LongerFirst (disk_of_device D.BlockDevice device)) s.tree.disk) }
-    ensures calls { IfOk result (λ s. WritesFirstTwoBlocks (kept_thread_view (ordered LongerFirst (disk_of_device D.BlockDevice device)) (D.history device) [] []) (kept_of s.tree)) }
-    ensures back { IfErr result (λ e. ReturnsDeviceInEitherNameOrder D.BlockDevice (blocks_of_address anchor_pair_address) device e.0 e.1) }
+    ensures formatted { IfOk result (λ s. IsFreshlyFormatted (kept_thread_of_tree_state s.tree)) }
+    ensures state { IfOk result (λ s. (system_state_of_session_view s).state ≡ Healthy (session_after_mount empty_tree)) }
+    ensures geometry { IfOk result (λ s. SameGeometry (disk_with_name_order LongerFirst (disk_of_device D.BlockDevice device)) s.tree.disk) }
+    ensures calls { IfOk result (λ s. WritesFirstTwoBlocks (kept_thread_view (disk_with_name_order LongerFirst (disk_of_device D.BlockDevice device)) (D.history device) [] []) (kept_thread_of_tree_state s.tree)) }
+    ensures back { IfErr result (λ e. FailedFormatSparesOtherBlocksInBothOrders D.BlockDevice (blocks_of_pair_address anchor_pair_address) device e.0 e.1) }
 {
     format_ordered(alloc, device, NameOrder::LongerFirst)
 }
@@ -645,18 +658,18 @@ pub fn format_ordered<D: BlockDevice>(
     device: D,
     order: NameOrder,
 ) -> Result<Session<D>, (D, Error)>
-    ensures formatted { IfOk result (λ s. IsFreshlyFormatted (kept_of s.tree)) }
-    ensures state { IfOk result (λ s. (system_state_of s).state ≡ Healthy (mounted empty_tree)) }
-    ensures geometry { IfOk result (λ s. SameGeometry (ordered order (disk_of_device D.BlockDevice device)) s.tree.disk) }
-    ensures calls { IfOk result (λ s. WritesFirstTwoBlocks (kept_thread_view (ordered order (disk_of_device D.BlockDevice device)) (D.history device) [] []) (kept_of s.tree)) }
-    ensures back { IfErr result (λ e. ReturnsDeviceInEitherNameOrder D.BlockDevice (blocks_of_address anchor_pair_address) device e.0 e.1) }
+    ensures formatted { IfOk result (λ s. IsFreshlyFormatted (kept_thread_of_tree_state s.tree)) }
+    ensures state { IfOk result (λ s. (system_state_of_session_view s).state ≡ Healthy (session_after_mount empty_tree)) }
+    ensures geometry { IfOk result (λ s. SameGeometry (disk_with_name_order order (disk_of_device D.BlockDevice device)) s.tree.disk) }
+    ensures calls { IfOk result (λ s. WritesFirstTwoBlocks (kept_thread_view (disk_with_name_order order (disk_of_device D.BlockDevice device)) (D.history device) [] []) (kept_thread_of_tree_state s.tree)) }
+    ensures back { IfErr result (λ e. FailedFormatSparesOtherBlocksInBothOrders D.BlockDevice (blocks_of_pair_address anchor_pair_address) device e.0 e.1) }
 {
     match Tree::format(alloc, Ordered::new(device, order)) {
         Ok(tree) => {
-            device_meets_laws(&tree);
+            show_conforming_device_calls_to_proof(&tree);
             Ok(Session {
                 tree,
-                files: Files::none(alloc),
+                files: Files::without_open_files(alloc),
             })
         }
         Err((device, error)) => Err((device.into_inner(), error)),

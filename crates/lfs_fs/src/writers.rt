@@ -2,16 +2,16 @@
 
 ghost use Rattle.std.specs.Prelude.{ℕ, List, [], true, ◌≡◌, length, IfErr, IfOk, OnErr, OnOk};
 ghost use Rattle.lfs_model.specs.Writers.{writer_after_open, writer_after_sync, writer_after_truncate, writer_after_write};
-ghost use Rattle.lfs_tree.specs.OpenContents.{AreWriterContentsOverTreeFile, HasStoredBytesAt, WritesUnusedBlocks, bytes_of_writer_contents, kept_of};
-ghost use Rattle.lfs_tree.specs.TreeState.{tree_view, WasTreeOnlyRead, IsFailedTree, IsOperationAppliedToTree, IsTreeFailedByRead, IsErrorWithCause, IsSoundTreeState, LeavesUnconcernedBlocksAlone, SurvivesStopsInTreeCall};
-ghost use Rattle.lfs_writer.specs.Contents.{form_of_contents};
-ghost use Rattle.lfs_fs.specs.WriterChanges.{CanOpenWriter, IsOpenedWriterSeenAs, CanSaveWriter, CanTruncateByWriter, CanWriteByWriter, HasFileUnderUnsavedContents, IsFormOfUnsaved, IsSavedWriterSeenAs, IsChangedWriterSeenAs};
-ghost use Rattle.lfs_fs.specs.FileView.{bytes_of_writer_at_path, writer_view};
+ghost use Rattle.lfs_tree.specs.OpenContents.{AreWriterContentsOverTreeFile, StoresBytesKeepingOtherFilesAtPath, WritesOnlyUnusedBlocks, bytes_of_writer_contents, kept_thread_of_tree_state};
+ghost use Rattle.lfs_tree.specs.TreeState.{tree_view, WasTreeOnlyRead, IsFailedTree, IsOperationAppliedToTree, IsTreeFailedByRead, IsIoWithFaultOrNoMemory, IsSoundTreeState, LeavesUnconcernedBlocksAlone, SurvivesStopsInTreeCall};
+ghost use Rattle.lfs_writer.specs.Contents.{storage_form_of_contents};
+ghost use Rattle.lfs_fs.specs.WriterChanges.{CanOpenWriter, IsOpenedWriterSeenAs, CanSaveWriter, CanTruncateByWriter, CanWriteByWriter, HasFileUnderUnsavedContents, IsStorageFormOfOptionalUnsavedContents, IsSavedWriterSeenAs, IsChangedWriterSeenAs};
+ghost use Rattle.lfs_fs.specs.FileView.{unsaved_or_tree_bytes_of_writer, writer_view};
 ghost use Rattle.lfs_fs.specs.FlagsView.{flags_view};
-ghost use Rattle.lfs_model.specs.TreeEdits.{tree_after_creation, bytes_at, tree_after_change_of_node};
+ghost use Rattle.lfs_model.specs.TreeEdits.{tree_after_creation, file_bytes_of_node, tree_after_change_of_node};
 ghost use Rattle.lfs_model.specs.Operations as ops;
-ghost use Rattle.lfs_model.specs.Operations.{Flags};
-ghost use Rattle.lfs_model.specs.Refusals.{path_or_root};
+ghost use Rattle.lfs_model.specs.Operations.{FlagsOfOpen};
+ghost use Rattle.lfs_model.specs.Refusals.{path_of_bytes_or_root};
 ghost use Rattle.lfs_model.specs.Effects.{node_with_bytes};
 ghost use Rattle.lfs_model.specs.Tree.{FileNode};
 ghost use Rattle.lfs_tree.specs.Permissions.{CanCreateFileAtPath};
@@ -21,8 +21,10 @@ use crate::flags::OpenFlags;
 use crate::owned_path::OwnedPath;
 use bitflags::Flags;
 use lfs_device::{BlockDevice, Error};
-use lfs_tree::{Tree, contents_stay, operations_take_few_blocks};
-use lfs_writer::{WriterContents, forms_fit_writer, reserved_blocks_suffice_for_calls};
+use lfs_tree::{Tree, operations_leave_writer_contents_alone, operations_take_few_blocks};
+use lfs_writer::{
+    WriterContents, contents_forms_fit_writer_after_calls, reserved_blocks_suffice_for_calls,
+};
 use std::alloc::Global;
 
 // Returns the contents of a writer: the changed ones, or else those of the file.
@@ -35,19 +37,19 @@ fn contents_of_writer<D: BlockDevice>(
     requires { HasFileUnderUnsavedContents tree.old path.now unsaved }
     ensures asked { OnOk result (WasTreeOnlyRead tree.old tree.new) }
     ensures over { IfOk result (AreWriterContentsOverTreeFile tree.new path.now) }
-    ensures bytes { IfOk result (λ c. bytes_of_writer_contents (kept_of tree.new) c ≡ bytes_of_writer_at_path tree.old path.now unsaved) }
-    ensures form { IfOk result (λ c. IsFormOfUnsaved tree.old.disk.block_size unsaved (length (bytes_of_writer_at_path tree.old path.now unsaved)) (form_of_contents c)) }
+    ensures bytes { IfOk result (λ c. bytes_of_writer_contents (kept_thread_of_tree_state tree.new) c ≡ unsaved_or_tree_bytes_of_writer tree.old path.now unsaved) }
+    ensures form { IfOk result (λ c. IsStorageFormOfOptionalUnsavedContents tree.old.disk.block_size unsaved (length (unsaved_or_tree_bytes_of_writer tree.old path.now unsaved)) (storage_form_of_contents c)) }
     ensures broken { OnErr result (IsTreeFailedByRead tree.old tree.new) }
-    ensures errors { IfErr result (IsErrorWithCause tree.old tree.new) }
+    ensures errors { IfErr result (IsIoWithFaultOrNoMemory tree.old tree.new) }
 {
     match unsaved {
         Some(unsaved) => Ok(unsaved.contents),
-        None => tree.contents(alloc, &path.lend()),
+        None => tree.open_writer_contents(alloc, &path.lend()),
     }
 }
 
 // Writes bytes, at least one, by a writer. After an error the writer is of no use.
-pub(crate) fn writer_after_writing<D: BlockDevice>(
+pub(crate) fn write_bytes_by_writer<D: BlockDevice>(
     alloc: Global,
     tree: &mut Tree<D>,
     writer: &mut Writer,
@@ -55,12 +57,12 @@ pub(crate) fn writer_after_writing<D: BlockDevice>(
 ) -> Result<(), Error>
     requires { CanWriteByWriter tree.old writer.old bytes.now }
     ensures written { OnOk result (IsChangedWriterSeenAs tree.new (writer_after_write (writer_view tree.old writer.old) bytes.now) writer.new) }
-    ensures beside { OnOk result (WritesUnusedBlocks tree.old tree.new) }
+    ensures beside { OnOk result (WritesOnlyUnusedBlocks tree.old tree.new) }
     ensures broken { OnErr result (IsFailedTree tree.old tree.new) }
-    ensures errors { IfErr result (IsErrorWithCause tree.old tree.new) }
+    ensures errors { IfErr result (IsIoWithFaultOrNoMemory tree.old tree.new) }
     ensures survives { IsSoundTreeState tree.old → SurvivesStopsInTreeCall tree.old tree.new (tree_view tree.old) }
 {
-    forms_fit_writer();
+    contents_forms_fit_writer_after_calls();
     reserved_blocks_suffice_for_calls();
     let place = writer.place();
     let has_turned = writer.is_nonsequential_after_change_at(place.min(writer.size));
@@ -86,15 +88,15 @@ pub(crate) fn writer_after_truncating<D: BlockDevice>(
 ) -> Result<Writer, Error>
     requires { CanTruncateByWriter tree.old writer new_size }
     ensures written { IfOk result (IsChangedWriterSeenAs tree.new (writer_after_truncate (writer_view tree.old writer) new_size)) }
-    ensures beside { OnOk result (WritesUnusedBlocks tree.old tree.new) }
+    ensures beside { OnOk result (WritesOnlyUnusedBlocks tree.old tree.new) }
     ensures broken { OnErr result (IsFailedTree tree.old tree.new) }
-    ensures errors { IfErr result (IsErrorWithCause tree.old tree.new) }
+    ensures errors { IfErr result (IsIoWithFaultOrNoMemory tree.old tree.new) }
     ensures survives { IsSoundTreeState tree.old → SurvivesStopsInTreeCall tree.old tree.new (tree_view tree.old) }
 {
-    forms_fit_writer();
+    contents_forms_fit_writer_after_calls();
     reserved_blocks_suffice_for_calls();
     let has_turned = writer.is_nonsequential_after_resize();
-    let last_end = writer.last_end_after_resize(new_size);
+    let last_end = writer.last_change_end_after_resize(new_size);
     let Writer {
         path,
         position,
@@ -124,11 +126,11 @@ pub(crate) fn writer_after_saving<D: BlockDevice>(
     writer: Writer,
 ) -> Result<Writer, Error>
     requires { CanSaveWriter tree.old writer }
-    ensures stored { OnOk result (HasStoredBytesAt tree.old writer.path (bytes_of_writer_at_path tree.old writer.path writer.unsaved) tree.new) }
+    ensures stored { OnOk result (StoresBytesKeepingOtherFilesAtPath tree.old writer.path (unsaved_or_tree_bytes_of_writer tree.old writer.path writer.unsaved) tree.new) }
     ensures saved { IfOk result (IsSavedWriterSeenAs tree.new (writer_after_sync (writer_view tree.old writer))) }
     ensures broken { OnErr result (IsFailedTree tree.old tree.new) }
-    ensures errors { IfErr result (IsErrorWithCause tree.old tree.new) }
-    ensures survives { SurvivesStopsInTreeCall tree.old tree.new (tree_after_change_of_node writer.path (node_with_bytes (bytes_of_writer_at_path tree.old writer.path writer.unsaved)) (tree_view tree.old)) }
+    ensures errors { IfErr result (IsIoWithFaultOrNoMemory tree.old tree.new) }
+    ensures survives { SurvivesStopsInTreeCall tree.old tree.new (tree_after_change_of_node writer.path (node_with_bytes (unsaved_or_tree_bytes_of_writer tree.old writer.path writer.unsaved)) (tree_view tree.old)) }
 {
     reserved_blocks_suffice_for_calls();
     let Writer {
@@ -141,7 +143,7 @@ pub(crate) fn writer_after_saving<D: BlockDevice>(
     let Some(unsaved) = unsaved else {
         unreachable!()
     };
-    tree.store(alloc, &path.lend(), unsaved.contents)?;
+    tree.commit_writer_contents(alloc, &path.lend(), unsaved.contents)?;
     Ok(Writer {
         path,
         position,
@@ -161,13 +163,13 @@ pub(crate) fn writer_of_existing_file<D: BlockDevice>(
 ) -> Result<Writer, Error>
     requires { CanOpenWriter tree.old path size (flags_view flags).truncate }
     ensures recovered { OnOk result (IsOperationAppliedToTree tree.old ops.Recover tree.new) }
-    ensures begun { IfOk result (IsOpenedWriterSeenAs tree.new (writer_after_open path (flags_view flags) (bytes_at (tree_view tree.old path)))) }
+    ensures begun { IfOk result (IsOpenedWriterSeenAs tree.new (writer_after_open path (flags_view flags) (file_bytes_of_node (tree_view tree.old path)))) }
     ensures broken { OnErr result (IsFailedTree tree.old tree.new) }
-    ensures errors { IfErr result (IsErrorWithCause tree.old tree.new) }
+    ensures errors { IfErr result (IsIoWithFaultOrNoMemory tree.old tree.new) }
     ensures survives { SurvivesStopsInTreeCall tree.old tree.new (tree_view tree.old) }
 {
     operations_take_few_blocks();
-    contents_stay();
+    operations_leave_writer_contents_alone();
     let appends = flags.contains(OpenFlags::APPEND);
     if flags.contains(OpenFlags::TRUNCATE) && size > 0 {
         let contents = tree.empty_contents(alloc)?;
@@ -195,17 +197,17 @@ pub(crate) fn writer_of_existing_file<D: BlockDevice>(
 }
 
 // Opens a writer of an empty file, which is made.
-pub(crate) fn writer_of_new_file<D: BlockDevice>(
+pub(crate) fn create_file_and_open_writer<D: BlockDevice>(
     alloc: Global,
     tree: &mut Tree<D>,
     path: OwnedPath,
     flags: OpenFlags,
 ) -> Result<Writer, Error>
     requires { CanCreateFileAtPath tree.old path }
-    ensures made { OnOk result ((bytes : List ℕ) (flags : Flags) → path_or_root bytes ≡ path → flags.write ≡ true → IsOperationAppliedToTree tree.old (ops.Open bytes flags) tree.new × LeavesUnconcernedBlocksAlone tree.old (ops.Open bytes flags) tree.new) }
+    ensures made { OnOk result ((bytes : List ℕ) (flags : FlagsOfOpen) → path_of_bytes_or_root bytes ≡ path → flags.write ≡ true → IsOperationAppliedToTree tree.old (ops.Open bytes flags) tree.new × LeavesUnconcernedBlocksAlone tree.old (ops.Open bytes flags) tree.new) }
     ensures begun { IfOk result (IsOpenedWriterSeenAs tree.new (writer_after_open path (flags_view flags) [])) }
     ensures broken { OnErr result (IsFailedTree tree.old tree.new) }
-    ensures errors { IfErr result (IsErrorWithCause tree.old tree.new) }
+    ensures errors { IfErr result (IsIoWithFaultOrNoMemory tree.old tree.new) }
     ensures survives { SurvivesStopsInTreeCall tree.old tree.new (tree_after_creation path (FileNode [] []) (tree_view tree.old)) }
 {
     tree.create(alloc, &path.lend())?;

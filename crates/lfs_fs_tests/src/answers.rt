@@ -21,7 +21,7 @@ pub enum ExpectedReply<'a> {
 /// An operation with its answer.
 pub type Row<'a> = (Op<'a>, ExpectedReply<'a>);
 
-fn are_items(items: &[Listed], rows: &[ExpectedItem<'_>]) -> bool {
+fn are_expected_items(items: &[Listed], rows: &[ExpectedItem<'_>]) -> bool {
     if items.len() != rows.len() {
         return false;
     }
@@ -38,7 +38,7 @@ fn are_items(items: &[Listed], rows: &[ExpectedItem<'_>]) -> bool {
 }
 
 /// Whether a reply is the answer.
-pub fn is_answer(reply: &Reply, answer: ExpectedReply<'_>) -> bool {
+pub fn is_expected_reply(reply: &Reply, answer: ExpectedReply<'_>) -> bool {
     match answer {
         ExpectedReply::Done => matches!(reply, Reply::Done),
         ExpectedReply::Fd(fd) => matches!(reply, Reply::Fd(found) if *found == fd),
@@ -47,7 +47,7 @@ pub fn is_answer(reply: &Reply, answer: ExpectedReply<'_>) -> bool {
         }
         ExpectedReply::Count(count) => matches!(reply, Reply::Count(found) if *found == count),
         ExpectedReply::Items(rows) => {
-            matches!(reply, Reply::Items(items) if are_items(items.as_slice(), rows))
+            matches!(reply, Reply::Items(items) if are_expected_items(items.as_slice(), rows))
         }
         ExpectedReply::Gstate(gstate) => matches!(reply, Reply::Gstate(found) if *found == gstate),
         ExpectedReply::Refused(error) => matches!(reply, Reply::Refused(found) if *found == error),

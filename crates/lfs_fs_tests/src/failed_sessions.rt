@@ -2,8 +2,8 @@
 
 use crate::answers::ExpectedReply::Refused;
 use crate::answers::{ExpectedReply, Row};
-use crate::row_runs::first_wrong;
-use lfs_device::{Error, FaultDevice, RamDevice, Which};
+use crate::row_runs::first_operation_with_wrong_reply;
+use lfs_device::{CountedCalls, Error, FaultDevice, RamDevice};
 use lfs_fs::Op::{
     Close, GetAttr, Gstate, IsUsed, List, Mkdir, Open, Read, RemoveAttr, Seek, Stat, UsedCount,
 };
@@ -33,8 +33,8 @@ const AFTER: [Row<'static>; 13] = [
 ];
 
 /// Whether a session answers that it has failed, without a call of the device.
-pub fn has_failed(alloc: Global, session: &mut Session<Faulty>) -> Result<bool, Error> {
-    let before = session.device().calls(Which::Any);
-    let wrong = first_wrong(alloc, session, &AFTER)?;
-    Ok(wrong.is_none() && session.device().calls(Which::Any) == before)
+pub fn has_session_failed(alloc: Global, session: &mut Session<Faulty>) -> Result<bool, Error> {
+    let before = session.device().calls(CountedCalls::Any);
+    let wrong = first_operation_with_wrong_reply(alloc, session, &AFTER)?;
+    Ok(wrong.is_none() && session.device().calls(CountedCalls::Any) == before)
 }

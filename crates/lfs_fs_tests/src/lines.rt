@@ -138,7 +138,10 @@ const LINES: [(&str, Result<bool, LineObjection>); 74] = [
 ];
 
 // Whether a line is a command, or why it is refused.
-fn outcome(alloc: Global, line: &str) -> Result<Result<bool, LineObjection>, LineError> {
+fn outcome_of_script_line(
+    alloc: Global,
+    line: &str,
+) -> Result<Result<bool, LineObjection>, LineError> {
     match read_line(alloc, line.as_bytes()) {
         Ok(command) => Ok(Ok(command.is_some())),
         Err(LineError::Refused(refusal)) => Ok(Err(refusal)),
@@ -149,7 +152,7 @@ fn outcome(alloc: Global, line: &str) -> Result<Result<bool, LineObjection>, Lin
 #[test]
 fn lines_are_commands_or_refused(rt: HostRuntime) -> Result<(), Fail> {
     for (line, wanted) in LINES {
-        assert_eq!(rt; outcome(rt.alloc(), line)?, wanted, "{line}");
+        assert_eq!(rt; outcome_of_script_line(rt.alloc(), line)?, wanted, "{line}");
     }
     Ok(())
 }

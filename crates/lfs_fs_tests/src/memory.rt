@@ -1,9 +1,11 @@
 // A script where any one allocation fails: this holds whichever it is (bench/fail_alloc.py).
 
 use crate::answers::ExpectedReply::Done;
-use crate::row_runs::first_wrong;
-use crate::scripts::{LENGTH, carry_out_rows, has_lost_nothing, long_rows, long_script};
-use crate::starts::{Start, device_of, mount_image};
+use crate::row_runs::first_operation_with_wrong_reply;
+use crate::scripts::{
+    LENGTH, has_lost_nothing, long_script, operations_of_long_script, perform_expected_operations,
+};
+use crate::starts::{Start, device_with_start_image, mount_image};
 use lfs_device::Error;
 use lfs_fs::Op::Remount;
 use lfs_fs::OpenFlags;
@@ -11,15 +13,22 @@ use std::alloc::Global;
 use std::test::Fail;
 
 // Whether the script ends as with memory enough, or with `NoMemory` and the tree of then.
-fn loses_nothing(alloc: Global) -> Result<bool, Error> {
-    let rows = long_rows(OpenFlags::WRITE | OpenFlags::CREATE);
+fn is_tree_kept_without_memory(alloc: Global) -> Result<bool, Error> {
+    let rows = operations_of_long_script(OpenFlags::WRITE | OpenFlags::CREATE);
     let script = long_script(&rows);
-    let mut session = mount_image(alloc, device_of(alloc, Start::Fresh(1024, 128, 64))?)?;
-    match carry_out_rows(alloc, &mut session, script.rows) {
+    let mut session = mount_image(
+        alloc,
+        device_with_start_image(alloc, Start::Fresh(1024, 128, 64))?,
+    )?;
+    match perform_expected_operations(alloc, &mut session, script.rows) {
         (done, None) => Ok(done == LENGTH),
         (done, Some(error)) => Ok(
             error == Error::NoMemory
-                && first_wrong(alloc, &mut session, &[(Remount, Done)])?.is_none()
+                && first_operation_with_wrong_reply(
+                    alloc,
+                    &mut session,
+                    &[(Remount, Done)],
+                )?.is_none()
                 && has_lost_nothing(alloc, &mut session, &script, done)?,
         ),
     }
@@ -27,7 +36,7 @@ fn loses_nothing(alloc: Global) -> Result<bool, Error> {
 
 #[test]
 fn nothing_is_lost_where_memory_is_refused(rt: HostRuntime) -> Result<(), Fail> {
-    let holds = match loses_nothing(rt.alloc()) {
+    let holds = match is_tree_kept_without_memory(rt.alloc()) {
         Ok(holds) => holds,
         Err(error) => error == Error::NoMemory,
     };

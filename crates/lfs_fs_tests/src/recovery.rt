@@ -3,19 +3,19 @@
 ghost use Rattle.std.specs.Prelude.{◌≡◌};
 ghost use Rattle.lfs_model.specs.Disk.{Disk};
 ghost use Rattle.lfs_model.specs.Operations as ops;
-ghost use Rattle.lfs_model.specs.PowerLoss.{ShowsTreeBeforeOrAfter};
-ghost use Rattle.lfs_model.specs.Premises.{MeetsPowerLossPremises};
+ghost use Rattle.lfs_model.specs.PowerLoss.{HasTreeBeforeOrAfterOperation};
+ghost use Rattle.lfs_model.specs.Premises.{IsHistoryMeetingPowerLossPremises};
 ghost use Rattle.lfs_model.specs.RepeatedPowerLoss.{IsJustMounted, HasSameDiskBytes};
 ghost use Rattle.lfs_model.specs.Tree.{Tree};
 ghost use Rattle.lfs_model.specs.declared.order.NameOrder.{NameOrder};
-ghost use Rattle.lfs_device.specs.RamDevice.{geometry_of, ram_blocks};
-ghost use Rattle.lfs_device.specs.Shown.{disk_of_geometry_and_blocks, ordered};
-ghost use Rattle.lfs_fs.specs.SessionView.{system_state_of};
-ghost use Rattle.lfs_fs_tests.specs.Recovered.{RecoversEitherTree, RecoversFromStoppedOperation};
+ghost use Rattle.lfs_device.specs.RamDevice.{geometry_of_ram_device, ram_blocks};
+ghost use Rattle.lfs_device.specs.Shown.{disk_of_geometry_and_blocks, disk_with_name_order};
+ghost use Rattle.lfs_fs.specs.SessionView.{system_state_of_session_view};
+ghost use Rattle.lfs_fs_tests.specs.Recovered.{RecoversTreeBeforeOrAfter, RecoversFromStoppedOperation};
 
-use lfs_device::{Error, FaultDevice, RamDevice, ram_devices_are_reliable};
+use lfs_device::{Error, FaultDevice, RamDevice, prove_ram_devices_never_fail_and_meet_premises};
 use lfs_fs::{Session, mount};
-use lfs_model::stop_leaves_safe_disk;
+use lfs_model::power_loss_leaves_disk_with_safe_tree;
 use std::alloc::Global;
 
 // The session that a mount began, with nothing left to recover.
@@ -23,10 +23,10 @@ fn recover_session(
     alloc: Global,
     mut session: Session<RamDevice>,
 ) -> Result<Session<RamDevice>, Error>
-    ensures { (left other : Disk) (before after : Tree) → ShowsTreeBeforeOrAfter left before after → HasSameDiskBytes left other → IsJustMounted other (system_state_of session)
-        → RecoversEitherTree before after result }
+    ensures { (left other : Disk) (before after : Tree) → HasTreeBeforeOrAfterOperation left before after → HasSameDiskBytes left other → IsJustMounted other (system_state_of_session_view session)
+        → RecoversTreeBeforeOrAfter before after result }
 {
-    stop_leaves_safe_disk();
+    power_loss_leaves_disk_with_safe_tree();
     match session.recover(alloc) {
         Ok(()) => Ok(session),
         Err(error) => Err(error),
@@ -35,8 +35,8 @@ fn recover_session(
 
 // A session over a device with an image, with nothing left to recover.
 fn recover_device(alloc: Global, device: RamDevice) -> Result<Session<RamDevice>, Error>
-    ensures { (order : NameOrder) (before after : Tree) → ShowsTreeBeforeOrAfter (ordered order (disk_of_geometry_and_blocks (geometry_of device) (ram_blocks device))) before after
-        → RecoversEitherTree before after result }
+    ensures { (order : NameOrder) (before after : Tree) → HasTreeBeforeOrAfterOperation (disk_with_name_order order (disk_of_geometry_and_blocks (geometry_of_ram_device device) (ram_blocks device))) before after
+        → RecoversTreeBeforeOrAfter before after result }
 {
     match mount(alloc, device) {
         Ok(session) => recover_session(alloc, session),
@@ -54,14 +54,14 @@ pub fn recover_from_stop(
     alloc: Global,
     session: Session<FaultDevice<RamDevice>>,
 ) -> Result<Session<RamDevice>, Error>
-    ensures { (before after : Tree) → (MeetsPowerLossPremises session.tree.history → ShowsTreeBeforeOrAfter session.tree.disk before after) → RecoversEitherTree before after result }
+    ensures { (before after : Tree) → (IsHistoryMeetingPowerLossPremises session.tree.history → HasTreeBeforeOrAfterOperation session.tree.disk before after) → RecoversTreeBeforeOrAfter before after result }
 {
-    ram_devices_are_reliable();
+    prove_ram_devices_never_fail_and_meet_premises();
     let device = session.unmount();
-    if device.tears() {
+    if device.may_tear_program() {
         return Err(Error::Invalid);
     }
-    device.meets_premises();
+    device.prove_power_loss_premises();
     recover_device(alloc, device.into_inner())
 }
 
@@ -77,7 +77,7 @@ pub fn rename_despite_stop(
     from: &[u8],
     to: &[u8],
 ) -> Result<Session<RamDevice>, Error>
-    ensures { RecoversFromStoppedOperation (system_state_of session) (ops.Rename from.now to.now) result }
+    ensures { RecoversFromStoppedOperation (system_state_of_session_view session) (ops.Rename from.now to.now) result }
 {
     let _ = session.rename(alloc, from, to);
     recover_from_stop(alloc, session)

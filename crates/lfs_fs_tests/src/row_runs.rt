@@ -1,12 +1,12 @@
 // Rows, played on a session.
 
-use crate::answers::{Row, is_answer};
+use crate::answers::{Row, is_expected_reply};
 use lfs_device::{BlockDevice, Error};
 use lfs_fs::Session;
 use std::alloc::Global;
 
 /// The first row with another reply, where all are played by one run.
-pub fn first_wrong<D: BlockDevice>(
+pub fn first_operation_with_wrong_reply<D: BlockDevice>(
     alloc: Global,
     session: &mut Session<D>,
     rows: &[Row<'_>],
@@ -17,7 +17,7 @@ pub fn first_wrong<D: BlockDevice>(
     }
     let replies = session.run(alloc, ops.as_slice())?;
     for (index, (reply, (_, answer))) in replies.iter().zip(rows).enumerate() {
-        if !is_answer(reply, *answer) {
+        if !is_expected_reply(reply, *answer) {
             return Ok(Some(index));
         }
     }

@@ -2,9 +2,9 @@
 
 use crate::answers::ExpectedReply::{Done, Fd, Items};
 use crate::answers::Row;
-use crate::row_runs::first_wrong;
+use crate::row_runs::first_operation_with_wrong_reply;
 use crate::scripts::{ExpectedTree, Script};
-use crate::starts::{Start, device_of, mount_image};
+use crate::starts::{Start, device_with_start_image, mount_image};
 use lfs_device::{Error, RamDevice};
 use lfs_fixtures::BlockFilling;
 use lfs_fs::Op::{Close, List, Mkdir, Open, Recover, Remove, Rename};
@@ -138,7 +138,7 @@ const REMOVING: Script<'static> = Script {
     behind: &[0, 1, 2, 3, 4],
 };
 
-fn with_file(new: OpenFlags) -> [Row<'static>; 3] {
+fn operations_that_make_file(new: OpenFlags) -> [Row<'static>; 3] {
     [
         (Mkdir(b"/s"), Done),
         (Open(b"/s/f", new), Fd(0)),
@@ -146,7 +146,7 @@ fn with_file(new: OpenFlags) -> [Row<'static>; 3] {
     ]
 }
 
-fn with_four(new: OpenFlags) -> [Row<'static>; 8] {
+fn operations_that_make_four_files(new: OpenFlags) -> [Row<'static>; 8] {
     [
         (Open(AT_B, new), Fd(0)),
         (Close(0), Done),
@@ -160,25 +160,40 @@ fn with_four(new: OpenFlags) -> [Row<'static>; 8] {
 }
 
 // The device behind these rows.
-fn behind(alloc: Global, start: Start<'_>, rows: &[Row<'_>]) -> Result<RamDevice, Error> {
-    let mut session = mount_image(alloc, device_of(alloc, start)?)?;
-    match first_wrong(alloc, &mut session, rows)? {
+fn device_after_operations(
+    alloc: Global,
+    start: Start<'_>,
+    rows: &[Row<'_>],
+) -> Result<RamDevice, Error> {
+    let mut session = mount_image(alloc, device_with_start_image(alloc, start)?)?;
+    match first_operation_with_wrong_reply(alloc, &mut session, rows)? {
         None => Ok(session.unmount()),
         Some(_) => Err(Error::Invalid),
     }
 }
 
 /// The device whose file is moved.
-pub fn with_file_to_move(alloc: Global, new: OpenFlags) -> Result<RamDevice, Error> {
-    behind(alloc, Start::Fresh(4096, 256, 16), &with_file(new))
+pub fn device_with_file_to_move(alloc: Global, new: OpenFlags) -> Result<RamDevice, Error> {
+    device_after_operations(
+        alloc,
+        Start::Fresh(4096, 256, 16),
+        &operations_that_make_file(new),
+    )
 }
 
 /// The other scripts, and the device of each.
-pub fn others(alloc: Global, new: OpenFlags) -> Result<[(RamDevice, Script<'static>); 2], Error> {
+pub fn making_and_removing_scripts(
+    alloc: Global,
+    new: OpenFlags,
+) -> Result<[(RamDevice, Script<'static>); 2], Error> {
     Ok([
-        (device_of(alloc, MOVING)?, MAKING),
+        (device_with_start_image(alloc, MOVING)?, MAKING),
         (
-            behind(alloc, Start::Fresh(1024, 128, 64), &with_four(new))?,
+            device_after_operations(
+                alloc,
+                Start::Fresh(1024, 128, 64),
+                &operations_that_make_four_files(new),
+            )?,
             REMOVING,
         ),
     ])

@@ -2,7 +2,7 @@
 
 use crate::answers::ExpectedReply::{Bytes, Count, Done, Fd, Gstate as GstateIs, Items, Refused};
 use crate::answers::{ExpectedReply, Row};
-use crate::row_runs::first_wrong;
+use crate::row_runs::first_operation_with_wrong_reply;
 use lfs_device::{BlockDevice, Error};
 use lfs_fs::Op::{
     Close, GetAttr, Gstate as AskGstate, List, Mkdir, Open, Read, Recover, Remove, Rename, Seek,
@@ -28,7 +28,7 @@ pub struct Script<'a> {
 }
 
 /// A file of five blocks is made, written, turned, marked and moved out of its directory, which goes.
-pub fn long_rows(new: OpenFlags) -> [Row<'static>; LENGTH] {
+pub fn operations_of_long_script(new: OpenFlags) -> [Row<'static>; LENGTH] {
     [
         (Mkdir(b"/d"), Done),
         (Open(b"/d/f", new), Fd(0)),
@@ -116,14 +116,14 @@ pub fn long_script<'a>(rows: &'a [Row<'a>]) -> Script<'a> {
 }
 
 /// Carries out rows in turn: how many are answered as they should, and what ends the others.
-pub fn carry_out_rows<D: BlockDevice>(
+pub fn perform_expected_operations<D: BlockDevice>(
     alloc: Global,
     session: &mut Session<D>,
     rows: &[Row<'_>],
 ) -> (usize, Option<Error>) {
     let mut done = 0usize;
     for row in rows {
-        match first_wrong(alloc, session, &[*row]) {
+        match first_operation_with_wrong_reply(alloc, session, &[*row]) {
             Ok(None) => done = done.saturating_add(1),
             Ok(Some(_)) => return (done, None),
             Err(error) => return (done, Some(error)),
@@ -139,7 +139,7 @@ fn is_tree_seen<D: BlockDevice>(
     tree: Option<&ExpectedTree<'_>>,
 ) -> Result<bool, Error> {
     match tree {
-        Some(tree) => Ok(first_wrong(alloc, session, tree.0)?.is_none()),
+        Some(tree) => Ok(first_operation_with_wrong_reply(alloc, session, tree.0)?.is_none()),
         None => Ok(false),
     }
 }
@@ -160,14 +160,25 @@ fn leaves_nothing_to_recover<D: BlockDevice>(
         None => None,
     };
     let is_right = match used {
-        Some(used) => first_wrong(alloc, session, &[(UsedCount, Count(used))])?.is_none(),
+        Some(used) => first_operation_with_wrong_reply(
+            alloc,
+            session,
+            &[(UsedCount, Count(used))],
+        )?.is_none(),
         None => true,
     };
-    Ok(is_right && first_wrong(alloc, session, &[(AskGstate, NO_GSTATE)])?.is_none())
+    Ok(
+        is_right
+            && first_operation_with_wrong_reply(
+                alloc,
+                session,
+                &[(AskGstate, NO_GSTATE)],
+            )?.is_none(),
+    )
 }
 
 // Whether a tree is seen, also behind a recovery, which leaves nothing to recover.
-fn stays<D: BlockDevice>(
+fn is_tree_kept_by_recovery<D: BlockDevice>(
     alloc: Global,
     session: &mut Session<D>,
     tree: Option<&ExpectedTree<'_>>,
@@ -175,7 +186,7 @@ fn stays<D: BlockDevice>(
     if !is_tree_seen(alloc, session, tree)? {
         return Ok(false);
     }
-    let recovered = first_wrong(alloc, session, &[(Recover, Done)])?;
+    let recovered = first_operation_with_wrong_reply(alloc, session, &[(Recover, Done)])?;
     Ok(
         recovered.is_none()
             && is_tree_seen(alloc, session, tree)?
@@ -184,7 +195,7 @@ fn stays<D: BlockDevice>(
 }
 
 // Which trees may stand where so many operations were carried out, and the next one maybe.
-fn trees_at(script: &Script<'_>, done: usize) -> (usize, usize) {
+fn tree_indexes_before_and_after(script: &Script<'_>, done: usize) -> (usize, usize) {
     let before = script
         .behind
         .get(done)
@@ -195,13 +206,13 @@ fn trees_at(script: &Script<'_>, done: usize) -> (usize, usize) {
 }
 
 /// Which tree is seen where so many operations were carried out, and the next one maybe.
-pub fn tree_view<D: BlockDevice>(
+pub fn index_of_seen_tree<D: BlockDevice>(
     alloc: Global,
     session: &mut Session<D>,
     script: &Script<'_>,
     done: usize,
 ) -> Result<usize, Error> {
-    let (before, behind) = trees_at(script, done);
+    let (before, behind) = tree_indexes_before_and_after(script, done);
     let is_before = is_tree_seen(alloc, session, script.trees.get(before))?;
     Ok(if is_before { before } else { behind })
 }
@@ -214,9 +225,10 @@ pub fn has_lost_nothing<D: BlockDevice>(
     script: &Script<'_>,
     done: usize,
 ) -> Result<bool, Error> {
-    let (before, behind) = trees_at(script, done);
+    let (before, behind) = tree_indexes_before_and_after(script, done);
     Ok(
-        stays(alloc, session, script.trees.get(before))?
-            || behind != before && stays(alloc, session, script.trees.get(behind))?,
+        is_tree_kept_by_recovery(alloc, session, script.trees.get(before))?
+            || behind != before
+                && is_tree_kept_by_recovery(alloc, session, script.trees.get(behind))?,
     )
 }

@@ -32,7 +32,7 @@ fn format_blank<D: BlockDevice + Drop>(alloc: Global, device: D) -> Result<Sessi
 }
 
 /// A device with the image of a start.
-pub fn device_of(alloc: Global, start: Start<'_>) -> Result<RamDevice, Error> {
+pub fn device_with_start_image(alloc: Global, start: Start<'_>) -> Result<RamDevice, Error> {
     match start {
         Start::Fresh(block_size, page, block_count) => {
             let geometry = Geometry::new(block_size, page, block_count)?;

@@ -1,17 +1,17 @@
 // A rename on a device that stops in it, and what is there then.
 
 use crate::recovery::rename_despite_stop;
-use crate::scenes::with_file_to_move;
-use lfs_device::{Error, FaultDevice, Which};
+use crate::scenes::device_with_file_to_move;
+use lfs_device::{CountedCalls, Error, FaultDevice};
 use lfs_fs::{OpenFlags, mount};
 use std::alloc::Global;
 use std::test::Fail;
 
 // Whether a file is at its old path and at the new one, where the device stops at a program of the
 // rename.
-fn stopped_at(alloc: Global, nth: u64) -> Result<(bool, bool), Error> {
-    let device = with_file_to_move(alloc, OpenFlags::WRITE | OpenFlags::CREATE)?;
-    let stopping = FaultDevice::new(device, Which::Program, nth, true);
+fn paths_found_after_stopped_rename(alloc: Global, nth: u64) -> Result<(bool, bool), Error> {
+    let device = device_with_file_to_move(alloc, OpenFlags::WRITE | OpenFlags::CREATE)?;
+    let stopping = FaultDevice::new(device, CountedCalls::Program, nth, true);
     let session = mount(alloc, stopping).map_err(|(_, error)| error)?;
     let mut session = rename_despite_stop(alloc, session, b"/s/f", b"/g")?;
     let old = session.stat(alloc, b"/s/f").is_ok();
@@ -20,7 +20,13 @@ fn stopped_at(alloc: Global, nth: u64) -> Result<(bool, bool), Error> {
 
 #[test]
 fn a_stopped_rename_is_done_or_not(rt: HostRuntime) -> Result<(), Fail> {
-    assert_eq!(rt; stopped_at(rt.alloc(), 1), Ok((true, false)));
-    assert_eq!(rt; stopped_at(rt.alloc(), 2), Ok((false, true)));
+    assert_eq!(rt;
+        paths_found_after_stopped_rename(rt.alloc(), 1),
+        Ok((true, false))
+    );
+    assert_eq!(rt;
+        paths_found_after_stopped_rename(rt.alloc(), 2),
+        Ok((false, true))
+    );
     Ok(())
 }

@@ -2,26 +2,27 @@
 
 use crate::answers::ExpectedReply::Done;
 use crate::answers::Row;
-use crate::failed_sessions::{Faulty, has_failed};
-use crate::row_runs::first_wrong;
-use crate::scenes::{RECOVERY, RENAMING, others, with_file_to_move};
+use crate::failed_sessions::{Faulty, has_session_failed};
+use crate::row_runs::first_operation_with_wrong_reply;
+use crate::scenes::{RECOVERY, RENAMING, device_with_file_to_move, making_and_removing_scripts};
 use crate::scripts::{
-    LENGTH, Script, carry_out_rows, has_lost_nothing, long_rows, long_script, tree_view,
+    LENGTH, Script, has_lost_nothing, index_of_seen_tree, long_script, operations_of_long_script,
+    perform_expected_operations,
 };
-use crate::starts::{Start, copy_device, device_of, mount_image};
-use lfs_device::{Erased, Error, FaultDevice, RamDevice, Which};
+use crate::starts::{Start, copy_device, device_with_start_image, mount_image};
+use lfs_device::{CountedCalls, Erased, Error, FaultDevice, RamDevice};
 use lfs_fs::Op::Remount;
 use lfs_fs::{OpenFlags, mount};
 use std::alloc::Global;
 use std::test::Fail;
 
 // A small device made empty.
-fn small(alloc: Global) -> Result<RamDevice, Error> {
-    device_of(alloc, Start::Fresh(1024, 128, 64))
+fn small_formatted_device(alloc: Global) -> Result<RamDevice, Error> {
+    device_with_start_image(alloc, Start::Fresh(1024, 128, 64))
 }
 
 // A copy of a device, one of whose calls fails, and each later one where it stops.
-fn stopping(
+fn device_copy_with_fault(
     alloc: Global,
     device: &RamDevice,
     erased: Erased,
@@ -29,11 +30,11 @@ fn stopping(
     stops: bool,
 ) -> Result<Faulty, Error> {
     let copy = copy_device(alloc, device)?.erased_as(erased);
-    Ok(FaultDevice::new(copy, Which::Any, nth, stops))
+    Ok(FaultDevice::new(copy, CountedCalls::Any, nth, stops))
 }
 
 // How many rows are carried out until the device stops, and the device.
-fn run_to_stop(
+fn run_operations_until_stop(
     alloc: Global,
     device: Faulty,
     rows: &[Row<'_>],
@@ -48,7 +49,7 @@ fn run_to_stop(
             };
         }
     };
-    let (done, error) = carry_out_rows(alloc, &mut session, rows);
+    let (done, error) = perform_expected_operations(alloc, &mut session, rows);
     match error {
         Some(error) if error != Error::Io => Err(error),
         _ => Ok((done, session.unmount().into_inner())),
@@ -56,32 +57,32 @@ fn run_to_stop(
 }
 
 // How many operations are carried out, and whether a mount of what is left has lost nothing.
-fn survives_stop(
+fn outcome_of_stopped_script(
     alloc: Global,
     device: Faulty,
     script: &Script<'_>,
 ) -> Result<(usize, bool), Error> {
-    let (done, left) = run_to_stop(alloc, device, script.rows)?;
+    let (done, left) = run_operations_until_stop(alloc, device, script.rows)?;
     let mut session = mount_image(alloc, left)?;
     let is_right = has_lost_nothing(alloc, &mut session, script, done)?;
     Ok((done, is_right))
 }
 
 // Copies that stop before their call of that number, in the middle of it, behind it.
-fn copies(
+fn device_copies_stopping_at_call(
     alloc: Global,
     device: &RamDevice,
     erased: Erased,
     nth: u64,
 ) -> Result<[Faulty; 3], Error> {
-    let before = stopping(alloc, device, erased, nth, true)?;
-    let within = stopping(alloc, device, erased, nth, true)?.torn(20);
-    let behind = stopping(alloc, device, erased, nth, true)?.whole();
+    let before = device_copy_with_fault(alloc, device, erased, nth, true)?;
+    let within = device_copy_with_fault(alloc, device, erased, nth, true)?.torn(20);
+    let behind = device_copy_with_fault(alloc, device, erased, nth, true)?.whole();
     Ok([before, within, behind])
 }
 
 // Whether nothing is lost of a script on any of them, and whether all of it is carried out on each.
-fn survived_at(
+fn is_stop_at_call_survived(
     alloc: Global,
     device: &RamDevice,
     erased: Erased,
@@ -90,8 +91,8 @@ fn survived_at(
 ) -> Result<(bool, bool), Error> {
     let mut are_right = true;
     let mut are_whole = true;
-    for copy in copies(alloc, device, erased, nth)? {
-        let (done, is_right) = survives_stop(alloc, copy, script)?;
+    for copy in device_copies_stopping_at_call(alloc, device, erased, nth)? {
+        let (done, is_right) = outcome_of_stopped_script(alloc, copy, script)?;
         are_right &= is_right;
         are_whole &= done == script.rows.len();
     }
@@ -106,7 +107,7 @@ fn count_survived_calls(
     script: &Script<'_>,
 ) -> Result<Option<u64>, Error> {
     for nth in 1..1000u64 {
-        let (are_right, are_whole) = survived_at(alloc, device, erased, script, nth)?;
+        let (are_right, are_whole) = is_stop_at_call_survived(alloc, device, erased, script, nth)?;
         if !are_right {
             return Ok(None);
         }
@@ -119,9 +120,14 @@ fn count_survived_calls(
 
 // Whether it survives a stop at each call. The script makes five blocks twice, two of a directory, and
 // eight commits at least, in programs alone.
-fn survives(alloc: Global, erased: Erased) -> Result<bool, Error> {
-    let rows = long_rows(OpenFlags::WRITE | OpenFlags::CREATE);
-    let calls = count_survived_calls(alloc, &small(alloc)?, erased, &long_script(&rows))?;
+fn survives_stop_at_each_call(alloc: Global, erased: Erased) -> Result<bool, Error> {
+    let rows = operations_of_long_script(OpenFlags::WRITE | OpenFlags::CREATE);
+    let calls = count_survived_calls(
+        alloc,
+        &small_formatted_device(alloc)?,
+        erased,
+        &long_script(&rows),
+    )?;
     Ok(calls.is_some_and(|calls| calls > 20))
 }
 
@@ -130,14 +136,18 @@ const ERASED: [Erased; 3] = [Erased::Fill(0xff), Erased::Fill(0), Erased::Keep];
 #[test]
 fn nothing_is_lost_where_a_device_stops(rt: HostRuntime) -> Result<(), Fail> {
     for erased in ERASED {
-        assert_eq!(rt; survives(rt.alloc(), erased), Ok(true), "{erased:?}");
+        assert_eq!(rt;
+            survives_stop_at_each_call(rt.alloc(), erased),
+            Ok(true),
+            "{erased:?}"
+        );
     }
     Ok(())
 }
 
 // Whether each of the other scripts survives it. They mount, and make two commits at least.
-fn others_survive(alloc: Global, new: OpenFlags) -> Result<bool, Error> {
-    for (device, script) in &others(alloc, new)? {
+fn other_scripts_survive_stops(alloc: Global, new: OpenFlags) -> Result<bool, Error> {
+    for (device, script) in &making_and_removing_scripts(alloc, new)? {
         let calls = count_survived_calls(alloc, device, Erased::Fill(0xff), script)?;
         if !calls.is_some_and(|calls| calls > 4) {
             return Ok(false);
@@ -149,7 +159,7 @@ fn others_survive(alloc: Global, new: OpenFlags) -> Result<bool, Error> {
 #[test]
 fn nothing_is_lost_in_other_scripts(rt: HostRuntime) -> Result<(), Fail> {
     let new = OpenFlags::WRITE | OpenFlags::CREATE;
-    assert_eq!(rt; others_survive(rt.alloc(), new), Ok(true));
+    assert_eq!(rt; other_scripts_survive_stops(rt.alloc(), new), Ok(true));
     Ok(())
 }
 
@@ -161,7 +171,7 @@ fn count_survived_in_recovery(
     done: usize,
 ) -> Result<Option<u64>, Error> {
     let mut session = mount_image(alloc, copy_device(alloc, left)?)?;
-    let tree = tree_view(alloc, &mut session, script, done)?;
+    let tree = index_of_seen_tree(alloc, &mut session, script, done)?;
     let recovery = Script {
         rows: &RECOVERY,
         trees: script.trees,
@@ -174,8 +184,8 @@ fn count_survived_in_recovery(
 fn count_survived_in_rename(alloc: Global, device: &RamDevice) -> Result<Option<u64>, Error> {
     let calls = count_survived_calls(alloc, device, Erased::Fill(0xff), &RENAMING)?;
     for nth in 1..calls.unwrap_or(0) {
-        for copy in copies(alloc, device, Erased::Fill(0xff), nth)? {
-            let (done, left) = run_to_stop(alloc, copy, RENAMING.rows)?;
+        for copy in device_copies_stopping_at_call(alloc, device, Erased::Fill(0xff), nth)? {
+            let (done, left) = run_operations_until_stop(alloc, copy, RENAMING.rows)?;
             if count_survived_in_recovery(alloc, &left, &RENAMING, done)?.is_none() {
                 return Ok(None);
             }
@@ -186,7 +196,7 @@ fn count_survived_in_rename(alloc: Global, device: &RamDevice) -> Result<Option<
 
 #[test]
 fn nothing_is_lost_where_a_recovery_stops(rt: HostRuntime) -> Result<(), Fail> {
-    let device = with_file_to_move(rt.alloc(), OpenFlags::WRITE | OpenFlags::CREATE)?;
+    let device = device_with_file_to_move(rt.alloc(), OpenFlags::WRITE | OpenFlags::CREATE)?;
     let calls = count_survived_in_rename(rt.alloc(), &device)?;
     assert!(rt; calls.is_some_and(|calls| calls > 4), "{calls:?}");
     Ok(())
@@ -194,23 +204,27 @@ fn nothing_is_lost_where_a_recovery_stops(rt: HostRuntime) -> Result<(), Fail> {
 
 // The same of the long script where one call fails: the session has failed, and a remount has lost
 // nothing.
-fn failed_at(
+fn outcome_of_script_with_failure(
     alloc: Global,
     empty: &RamDevice,
     script: &Script<'_>,
     nth: u64,
 ) -> Result<(usize, bool), Error> {
-    let device = stopping(alloc, empty, Erased::Fill(0xff), nth, false)?;
+    let device = device_copy_with_fault(alloc, empty, Erased::Fill(0xff), nth, false)?;
     let mut session = match mount(alloc, device) {
         Ok(session) => session,
         Err((_, error)) => return Ok((0, error == Error::Io)),
     };
-    match carry_out_rows(alloc, &mut session, script.rows) {
+    match perform_expected_operations(alloc, &mut session, script.rows) {
         (done, None) => Ok((done, done == LENGTH)),
         (done, Some(error)) => {
             let is_right = error == Error::Io
-                && has_failed(alloc, &mut session)?
-                && first_wrong(alloc, &mut session, &[(Remount, Done)])?.is_none()
+                && has_session_failed(alloc, &mut session)?
+                && first_operation_with_wrong_reply(
+                    alloc,
+                    &mut session,
+                    &[(Remount, Done)],
+                )?.is_none()
                 && has_lost_nothing(alloc, &mut session, script, done)?;
             Ok((done, is_right))
         }
@@ -219,11 +233,11 @@ fn failed_at(
 
 // How many calls may fail, one at a time, and nothing is lost. None where something is.
 fn count_reported_failures(alloc: Global) -> Result<Option<u64>, Error> {
-    let rows = long_rows(OpenFlags::WRITE | OpenFlags::CREATE);
+    let rows = operations_of_long_script(OpenFlags::WRITE | OpenFlags::CREATE);
     let script = long_script(&rows);
-    let empty = small(alloc)?;
+    let empty = small_formatted_device(alloc)?;
     for nth in 1..1000u64 {
-        let (done, is_right) = failed_at(alloc, &empty, &script, nth)?;
+        let (done, is_right) = outcome_of_script_with_failure(alloc, &empty, &script, nth)?;
         if !is_right {
             return Ok(None);
         }

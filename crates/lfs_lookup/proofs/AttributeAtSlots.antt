@@ -5,27 +5,27 @@ use Rattle.std.specs.Option.{option_and_then, option_copied, option_map}
 use Rattle.std.proofs.lemmas.Option.{same_Some}
 use Rattle.lfs_device.specs.declared.error.Error.{Error}
 use Rattle.lfs_model.specs.TreeEdits.{attributes_of_node}
-use Rattle.lfs_model.specs.Content.{RawSlot, attribute_bytes_of_type, complete, kind_of_name_type, slot_of_id, struct_of_type_and_bytes}
+use Rattle.lfs_model.specs.Content.{RawSlot, attribute_bytes_of_type, slot_if_name_and_struct_present, kind_of_name_type, slot_of_id, struct_of_type_and_bytes}
 use Rattle.lfs_model.specs.Disk.{Disk}
 use Rattle.lfs_model.specs.LoggedContent.{AreAttributesInTypeOrder, IsWellFormedRawSlot, AreWellFormedRawSlots}
-use Rattle.lfs_model.specs.Lookup.{slot_bytes_of_type, bytes_if_of_type}
+use Rattle.lfs_model.specs.Lookup.{slot_bytes_of_type, name_or_struct_bytes_if_of_type}
 use Rattle.lfs_model.specs.Operations as ops
 use Rattle.lfs_model.specs.Slots.{Attributes, Slot, Struct, Inline, Ctz, Branch}
 use Rattle.lfs_model.specs.SlotEdits.{slot_of_path}
 use Rattle.lfs_model.specs.Thread.{Pair}
 use Rattle.lfs_model.specs.Tree.{Path, node_of_struct_and_attributes}
 use Rattle.lfs_model.specs.Shown.{skip_list_bytes_on_disk, entries_by_directory_in_thread, tree_on_disk}
-use Rattle.lfs_thread.specs.Kept.{Kept, ThreadView}
+use Rattle.lfs_thread.specs.Kept.{KeptThread, ThreadView}
 use Rattle.lfs_thread.specs.CachedLog.{cached_log}
-use Rattle.lfs_thread.specs.Steps.{no_pair}
-use Rattle.lfs_lookup.specs.AtPath.{IsLookupResultAtPath}
-use Rattle.lfs_lookup.specs.AttributeAt.{AreAttributesOfSlotAtSpot, IsPairOfFoundSlotCached, IsAttributeOfTypeOrNone, IsAttributeInSizeLimit, spot_of_lookup_result}
+use Rattle.lfs_thread.specs.Steps.{empty_pair_at_anchor}
+use Rattle.lfs_lookup.specs.AtPath.{IsLookupResultAtPathHidingMovedSlot}
+use Rattle.lfs_lookup.specs.AttributeAt.{AreAttributesOfSlotAtSpot, IsLogBlockOfFoundSlotCached, IsAttributeOfTypeOrNone, IsAttributeInSizeLimit, spot_of_lookup_result}
 use Rattle.lfs_lookup.specs.BytesAt.{IsSlotAtSpot}
 use Rattle.lfs_lookup.specs.Paths.{IsUnmovedSlotOfPath}
 use Rattle.lfs_lookup.specs.declared.found_entries.FoundAttribute.{FoundAttribute}
-use Rattle.lfs_lookup.specs.declared.paths.Shown.{Shown}
-use Rattle.lfs_lookup.specs.declared.paths.Shown.TheVariants as shown
-use Rattle.lfs_lookup.specs.declared.search.Spot.{Spot}
+use Rattle.lfs_lookup.specs.declared.paths.VisiblePathLookup.{VisiblePathLookup}
+use Rattle.lfs_lookup.specs.declared.paths.VisiblePathLookup.TheVariants as shown
+use Rattle.lfs_lookup.specs.declared.search.SlotPosition.{SlotPosition}
 use Rattle.lfs_lookup.proofs.AtPaths.{nothing_at, refused_none}
 use Rattle.lfs_lookup.proofs.BytesAtSlots.{behind_below, slot_stands}
 
@@ -35,9 +35,9 @@ attribute_kind : (s : RawSlot) (kind : ℕ) → kind < 2 ^ 8 → slot_bytes_of_t
 attribute_kind s kind l =
     let d : (0x300 + kind) / 2 ^ 8 ≡ 3 = omega (arith, l) in
     let m : (0x300 + kind) % 2 ^ 8 ≡ kind = omega (arith, l) in
-    ap₂ (λ d m. cond (d == 0) (bytes_if_of_type (0x300 + kind) s.name) (cond (d == 2) (bytes_if_of_type (0x300 + kind) s.struct) (cond (d == 3) (attribute_bytes_of_type m s.attributes) None))) d m
+    ap₂ (λ d m. cond (d == 0) (name_or_struct_bytes_if_of_type (0x300 + kind) s.name) (cond (d == 2) (name_or_struct_bytes_if_of_type (0x300 + kind) s.struct) (cond (d == 3) (attribute_bytes_of_type m s.attributes) None))) d m
 
-pub same_attributes : (s : RawSlot) (t : Slot) → complete s ≡ Some t → s.attributes ≡ t.attributes
+pub same_attributes : (s : RawSlot) (t : Slot) → slot_if_name_and_struct_present s ≡ Some t → s.attributes ≡ t.attributes
 same_attributes s t e = go s.name s.struct e
   where
     go : (n p : Option (ℕ × List ℕ)) →
@@ -46,7 +46,7 @@ same_attributes s t e = go s.name s.struct e
     go (Some n) None k = absurd (cc)
     go (Some n) (Some p) k = ap (λ (x : Slot). x.attributes) (same_Some (record { kind = kind_of_name_type n.0; name = n.1; struct = struct_of_type_and_bytes p.0 p.1; attributes = s.attributes }) t k)
 
-pub attribute_if_slot : (s : RawSlot) (t : Slot) (kind : ℕ) → kind < 2 ^ 8 → complete s ≡ Some t → slot_bytes_of_type (0x300 + kind) s ≡ attribute_bytes_of_type kind t.attributes
+pub attribute_if_slot : (s : RawSlot) (t : Slot) (kind : ℕ) → kind < 2 ^ 8 → slot_if_name_and_struct_present s ≡ Some t → slot_bytes_of_type (0x300 + kind) s ≡ attribute_bytes_of_type kind t.attributes
 attribute_if_slot s t kind l e = attribute_kind s kind l ∙ ap (attribute_bytes_of_type kind) (same_attributes s t e)
 
 pub parts_of_id : (raw : List RawSlot) (id : ℕ) → AreWellFormedRawSlots raw → IsWellFormedRawSlot (slot_of_id raw id)
@@ -78,7 +78,7 @@ short_copy (Some x) (Some v) e h = subst (λ b. length b ≤ 1022) (sym (same_So
 
 -- ---- at a path
 
-pub is_slot_of : (t : Kept) (path : Path) (x : Shown) (slot : Spot) → IsLookupResultAtPath t path x → spot_of_lookup_result x ≡ Some slot → (moved : Option Spot) × IsUnmovedSlotOfPath t.pairs moved path slot
+pub is_slot_of : (t : KeptThread) (path : Path) (x : VisiblePathLookup) (slot : SlotPosition) → IsLookupResultAtPathHidingMovedSlot t path x → spot_of_lookup_result x ≡ Some slot → (moved : Option SlotPosition) × IsUnmovedSlotOfPath t.pairs moved path slot
 is_slot_of t path shown.Root slot s e = absurd (cc)
 is_slot_of t path (shown.Directory at first) slot s e = (s.moved, subst (λ z. IsUnmovedSlotOfPath t.pairs s.moved path z) (same_Some at slot e) s.shows.1.0)
 is_slot_of t path (shown.File at contents) slot s e = (s.moved, subst (λ z. IsUnmovedSlotOfPath t.pairs s.moved path z) (same_Some at slot e) s.shows.1.0)
@@ -96,13 +96,13 @@ attributes_at disk ps path x e =
     sym (node_attributes disk ps x x.struct) ∙ ap (λ (o : Option Slot). attributes_of_node (option_map (λ (f : Slot). node_of_struct_and_attributes (skip_list_bytes_on_disk disk) (entries_by_directory_in_thread ps) f.attributes f.struct) o)) (sym e)
 
 -- what is found of the slot at a path
-pub record IsSlotFor (t : Kept) (path : Path) (slot : Spot) : Type 0 where
+pub record IsSlotFor (t : KeptThread) (path : Path) (slot : SlotPosition) : Type 0 where
   pub held : Slot
   pub below : slot.pair < length t.pairs
   pub there : IsSlotAtSpot t slot held
   pub attributes : held.attributes ≡ attributes_of_node (tree_on_disk t.disk t.pairs path)
 
-pub slot_for : (t : Kept) (path : Path) (x : Shown) (slot : Spot) → IsLookupResultAtPath t path x → spot_of_lookup_result x ≡ Some slot → IsSlotFor t path slot
+pub slot_for : (t : KeptThread) (path : Path) (x : VisiblePathLookup) (slot : SlotPosition) → IsLookupResultAtPathHidingMovedSlot t path x → spot_of_lookup_result x ≡ Some slot → IsSlotFor t path slot
 slot_for t path x slot shows e =
     let s = (is_slot_of t path x slot shows e).1 in
     record {
@@ -112,7 +112,7 @@ slot_for t path x slot shows e =
       attributes = attributes_at t.disk t.pairs path s.stands.stands.slot s.slot;
     }
 
-pub no_slot : (t : Kept) (path : Path) (x : Shown) → IsLookupResultAtPath t path x → spot_of_lookup_result x ≡ None → attributes_of_node (tree_on_disk t.disk t.pairs path) ≡ []
+pub no_slot : (t : KeptThread) (path : Path) (x : VisiblePathLookup) → IsLookupResultAtPathHidingMovedSlot t path x → spot_of_lookup_result x ≡ None → attributes_of_node (tree_on_disk t.disk t.pairs path) ≡ []
 no_slot t path shown.Root s e = ap (λ p. attributes_of_node (tree_on_disk t.disk t.pairs p)) s.shows
 no_slot t path (shown.Directory at first) s e = absurd (cc)
 no_slot t path (shown.File at contents) s e = absurd (cc)
@@ -121,20 +121,20 @@ no_slot t path shown.ParentIsFile s e = ap attributes_of_node (nothing_at t.disk
 no_slot t path shown.ParentIsMissing s e = ap attributes_of_node (nothing_at t.disk t.pairs path (refused_none t.disk t.pairs path [] ops.NoEnt s.shows))
 
 -- the attributes of what is shown at a path are those of its slot
-pub are_held : (t : Kept) (path : Path) (x : Shown) (slot : Option Spot) → IsLookupResultAtPath t path x → slot ≡ spot_of_lookup_result x → AreAttributesOfSlotAtSpot t slot (attributes_of_node (tree_on_disk t.disk t.pairs path))
+pub are_held : (t : KeptThread) (path : Path) (x : VisiblePathLookup) (slot : Option SlotPosition) → IsLookupResultAtPathHidingMovedSlot t path x → slot ≡ spot_of_lookup_result x → AreAttributesOfSlotAtSpot t slot (attributes_of_node (tree_on_disk t.disk t.pairs path))
 are_held t path x None s e = no_slot t path x s (sym e)
 are_held t path x (Some spot) s e = let f = slot_for t path x spot s (sym e) in (f.held, (f.there, f.attributes))
 
-pub held_later : (a b : Kept) (slot : Option Spot) (attributes : Attributes) → b.pairs ≡ a.pairs → AreAttributesOfSlotAtSpot a slot attributes → AreAttributesOfSlotAtSpot b slot attributes
+pub held_later : (a b : KeptThread) (slot : Option SlotPosition) (attributes : Attributes) → b.pairs ≡ a.pairs → AreAttributesOfSlotAtSpot a slot attributes → AreAttributesOfSlotAtSpot b slot attributes
 held_later a b None attributes e h = h
-held_later a b (Some spot) attributes e h = (h.0, (subst (λ ps. slice_get (slice_index_or ps spot.pair no_pair).content.slots spot.id ≡ Some h.0) (sym e) h.1.0, h.1.1))
+held_later a b (Some spot) attributes e h = (h.0, (subst (λ ps. slice_get (slice_index_or ps spot.pair empty_pair_at_anchor).content.slots spot.id ≡ Some h.0) (sym e) h.1.0, h.1.1))
 
-pub slot_within : (t : Kept) (path : Path) (x : Shown) (slot : Option Spot) (now : List Pair) → IsLookupResultAtPath t path x → slot ≡ spot_of_lookup_result x → now ≡ t.pairs → IfSome slot (λ s. s.pair < length now)
+pub slot_within : (t : KeptThread) (path : Path) (x : VisiblePathLookup) (slot : Option SlotPosition) (now : List Pair) → IsLookupResultAtPathHidingMovedSlot t path x → slot ≡ spot_of_lookup_result x → now ≡ t.pairs → IfSome slot (λ s. s.pair < length now)
 slot_within t path x None now s e same = tt
 slot_within t path x (Some spot) now s e same = subst (λ ps. spot.pair < length ps) (sym same) (slot_for t path x spot s (sym e)).below
 
-pub slot_is_cached : (t : ThreadView) (x : Shown) (slot : Option Spot) → IsPairOfFoundSlotCached t x → slot ≡ spot_of_lookup_result x → IfSome slot (λ s. IsSome (cached_log t s.pair))
-slot_is_cached t x slot h e = subst (λ (o : Option Spot). IfSome o (λ s. IsSome (cached_log t s.pair))) (sym e) h
+pub slot_is_cached : (t : ThreadView) (x : VisiblePathLookup) (slot : Option SlotPosition) → IsLogBlockOfFoundSlotCached t x → slot ≡ spot_of_lookup_result x → IfSome slot (λ s. IsSome (cached_log t s.pair))
+slot_is_cached t x slot h e = subst (λ (o : Option SlotPosition). IfSome o (λ s. IsSome (cached_log t s.pair))) (sym e) h
 
 pub attribute_same : (kind : ℕ) (old new : Attributes) (r : Result (Option (Vec ℕ Global)) Error) → old ≡ new → IfOk r (IsAttributeOfTypeOrNone kind old) → IfOk r (IsAttributeOfTypeOrNone kind new)
 attribute_same kind old new r e h = subst (λ a. IfOk r (IsAttributeOfTypeOrNone kind a)) e h

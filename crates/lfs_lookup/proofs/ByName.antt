@@ -17,8 +17,8 @@ use Rattle.lfs_model.specs.Names.{Name, name_cmp, is_less_ordering, ordered_name
 use Rattle.lfs_model.specs.Slots.{Slot}
 use Rattle.lfs_model.proofs.Counts.{Each}
 use Rattle.lfs_model.proofs.Orders.{Stand, below, same, above, stand, put_both}
-use Rattle.lfs_lookup.specs.ByName.{AreSortedByName, comes_before_by_name}
-use Rattle.lfs_lookup.specs.Items.{NameAndStruct, item_view, items_view, name_and_struct_of}
+use Rattle.lfs_lookup.specs.ByName.{AreSameEntriesSortedShorterNameFirst, comes_before_by_name_shorter_first}
+use Rattle.lfs_lookup.specs.Items.{NameAndStruct, directory_item_view, directory_items_view, name_and_struct_of_slot}
 use Rattle.lfs_lookup.specs.declared.items.NameAndOwnedStruct.{NameAndOwnedStruct}
 
 -- one of some
@@ -82,13 +82,13 @@ less_is Greater = refl
 abbrev pub is_named_before : NameAndOwnedStruct → NameAndOwnedStruct → Bool
 is_named_before a b = is_lt (slice_cmp nat_cmp a.name.items b.name.items)
 
-pub seen_by_name : (old new : List NameAndOwnedStruct) → IsPermutation old new → IsSortedBy is_named_before new → AreSortedByName (items_view old) (items_view new)
+pub seen_by_name : (old new : List NameAndOwnedStruct) → IsPermutation old new → IsSortedBy is_named_before new → AreSameEntriesSortedShorterNameFirst (directory_items_view old) (directory_items_view new)
 seen_by_name old new same_items rise = record {
-  permutation = IsPermutation-map item_view old new same_items;
+  permutation = IsPermutation-map directory_item_view old new same_items;
   sorted = λ k d l m.
-      let long = length-map new item_view in
+      let long = length-map new directory_item_view in
       let e : NameAndOwnedStruct = some_in new (omega (arith, m, long)) in
-      ap₂ comes_before_by_name (get_or-map item_view new (k + 1) e d (omega (arith, m, long))) (get_or-map item_view new k e d (omega (arith, m, long)))
+      ap₂ comes_before_by_name_shorter_first (get_or-map directory_item_view new (k + 1) e d (omega (arith, m, long))) (get_or-map directory_item_view new k e d (omega (arith, m, long)))
       ∙ less_is (slice_cmp nat_cmp (get_or new (k + 1) e).name.items (get_or new k e).name.items) ∙ rise k e l (omega (arith, m, long));
 }
 
@@ -112,39 +112,39 @@ pub nothing_moved : (shapes : List NameAndStruct) → IsPermutation [] shapes �
 nothing_moved [] h = refl
 nothing_moved (x ∷ shapes) h = absurd (let k = length_permutation [] (x ∷ shapes) h in omega (arith, k))
 
-map_swap : (slots : List Slot) (i j : ℕ) → map name_and_struct_of (swap slots i j) ≡ swap (map name_and_struct_of slots) i j
+map_swap : (slots : List Slot) (i j : ℕ) → map name_and_struct_of_slot (swap slots i j) ≡ swap (map name_and_struct_of_slot slots) i j
 map_swap [] i j = refl
 map_swap (s ∷ slots) i j =
-    map-set name_and_struct_of (set (s ∷ slots) i (get_or (s ∷ slots) j s)) j (get_or (s ∷ slots) i s)
-    ∙ ap₂ (λ zs z. set zs j z) (map-set name_and_struct_of (s ∷ slots) i (get_or (s ∷ slots) j s) ∙ ap (set (map name_and_struct_of (s ∷ slots)) i) (sym (map_read name_and_struct_of (s ∷ slots) j s)))
-    (sym (map_read name_and_struct_of (s ∷ slots) i s))
+    map-set name_and_struct_of_slot (set (s ∷ slots) i (get_or (s ∷ slots) j s)) j (get_or (s ∷ slots) i s)
+    ∙ ap₂ (λ zs z. set zs j z) (map-set name_and_struct_of_slot (s ∷ slots) i (get_or (s ∷ slots) j s) ∙ ap (set (map name_and_struct_of_slot (s ∷ slots)) i) (sym (map_read name_and_struct_of_slot (s ∷ slots) j s)))
+    (sym (map_read name_and_struct_of_slot (s ∷ slots) i s))
 
 -- shapes in another order are those of slots in another order
 record AreMoved (slots : List Slot) (shapes : List NameAndStruct) : Type 0 where
   now : List Slot
   permutation : IsPermutation slots now
-  are : shapes ≡ map name_and_struct_of now
+  are : shapes ≡ map name_and_struct_of_slot now
 
-moved : (slots : List Slot) (shapes : List NameAndStruct) → IsPermutation (map name_and_struct_of slots) shapes → AreMoved slots shapes
-moved slots = IsPermutation-keeps (map name_and_struct_of slots) (AreMoved slots) (record { now = slots; permutation = IsPermutation-refl slots; are = refl }) (λ l i j p q m.
-    let long : length l ≡ length m.now = ap length m.are ∙ length-map m.now name_and_struct_of in
+moved : (slots : List Slot) (shapes : List NameAndStruct) → IsPermutation (map name_and_struct_of_slot slots) shapes → AreMoved slots shapes
+moved slots = IsPermutation-keeps (map name_and_struct_of_slot slots) (AreMoved slots) (record { now = slots; permutation = IsPermutation-refl slots; are = refl }) (λ l i j p q m.
+    let long : length l ≡ length m.now = ap length m.are ∙ length-map m.now name_and_struct_of_slot in
     record {
       now = swap m.now i j;
       permutation = IsPermutation-trans slots m.now (swap m.now i j) m.permutation (IsPermutation-swap m.now (swap m.now i j) i j (omega (arith, p, long)) (omega (arith, q, long)) refl);
       are = ap (λ (z : List NameAndStruct). swap z i j) m.are ∙ sym (map_swap m.now i j);
     })
 
-never_fall : (slots : List Slot) → IsSortedBy comes_before_by_name (map name_and_struct_of slots) → NeverFall ShorterFirst (names_in slots)
+never_fall : (slots : List Slot) → IsSortedBy comes_before_by_name_shorter_first (map name_and_struct_of_slot slots) → NeverFall ShorterFirst (names_in slots)
 never_fall [] h = tt
 never_fall (s ∷ []) h = tt
 never_fall (s ∷ t ∷ slots) h = (
-  h 0 (name_and_struct_of s) (omega arith) (omega arith),
+  h 0 (name_and_struct_of_slot s) (omega arith) (omega arith),
   never_fall (t ∷ slots) (λ k d l m.
       let next : suc k + 1 ≡ suc (k + 1) = omega arith in
-      subst (λ i. comes_before_by_name (get_or (map name_and_struct_of (s ∷ t ∷ slots)) i d) (get_or (map name_and_struct_of (t ∷ slots)) k d) ≡ false) next (h (suc k) d (omega arith) (omega arith))),
+      subst (λ i. comes_before_by_name_shorter_first (get_or (map name_and_struct_of_slot (s ∷ t ∷ slots)) i d) (get_or (map name_and_struct_of_slot (t ∷ slots)) k d) ≡ false) next (h (suc k) d (omega arith) (omega arith))),
 )
 
-pub rows_by_name : (slots : List Slot) (shapes : List NameAndStruct) → AreSortedByName (map name_and_struct_of slots) shapes → (rows : List Slot) × (AreRows slots rows × (shapes ≡ map name_and_struct_of rows))
+pub rows_by_name : (slots : List Slot) (shapes : List NameAndStruct) → AreSameEntriesSortedShorterNameFirst (map name_and_struct_of_slot slots) shapes → (rows : List Slot) × (AreRows slots rows × (shapes ≡ map name_and_struct_of_slot rows))
 rows_by_name slots shapes h =
     let m = moved slots shapes h.permutation in
     let names = IsPermutation-map (λ (s : Slot). s.name) slots m.now m.permutation in (
@@ -152,7 +152,7 @@ rows_by_name slots shapes h =
       (
         record {
           permutation = m.permutation;
-          names = sym (in_order_unfallen ShorterFirst (names_in m.now) (never_fall m.now (subst (IsSortedBy comes_before_by_name) m.are h.sorted))) ∙ in_order_shuffled ShorterFirst (names_in slots) (names_in m.now) names;
+          names = sym (in_order_unfallen ShorterFirst (names_in m.now) (never_fall m.now (subst (IsSortedBy comes_before_by_name_shorter_first) m.are h.sorted))) ∙ in_order_shuffled ShorterFirst (names_in slots) (names_in m.now) names;
         },
         m.are,
       ),

@@ -9,12 +9,12 @@ use Rattle.lfs_model.specs.Tree.{Path}
 use Rattle.std.specs.Prelude.{IsSome}
 use Rattle.lfs_thread.specs.Kept.{ThreadView}
 use Rattle.lfs_thread.specs.CachedLog.{cached_log}
-use Rattle.lfs_lookup.specs.AttributeAt.{IsPairOfFoundSlotCached}
+use Rattle.lfs_lookup.specs.AttributeAt.{IsLogBlockOfFoundSlotCached}
 use Rattle.lfs_lookup.specs.BytesAt.{spot_and_storage_of_found_file}
 use Rattle.lfs_lookup.specs.FileContents.{AreFileContentsAtPath, AreFileContentsOfStruct}
 use Rattle.lfs_lookup.specs.declared.entry.FileStorage.{FileStorage}
-use Rattle.lfs_lookup.specs.declared.paths.Shown.{Shown}
-use Rattle.lfs_lookup.specs.declared.search.Spot.{Spot}
+use Rattle.lfs_lookup.specs.declared.paths.VisiblePathLookup.{VisiblePathLookup}
+use Rattle.lfs_lookup.specs.declared.search.SlotPosition.{SlotPosition}
 use Rattle.lfs_lookup.proofs.BytesAtSlots.{is_file_of}
 use Rattle.lfs_lookup.specs.declared.file_contents.FileContents.{FileContents}
 
@@ -26,5 +26,5 @@ pub contents_at : (ps : List Pair) (path : Path) (held : Slot) (contents : FileC
 contents_at ps path held contents at is = record { struct = ap (option_map (λ (u : Slot). u.struct)) at ∙ ap Some (sym is.struct); fits = is.fits }
 
 -- the block of a file that is shown is cached
-pub file_at_hand : (t : ThreadView) (x : Shown) (slot : Spot) (contents : FileStorage) → IsPairOfFoundSlotCached t x → spot_and_storage_of_found_file x ≡ Some (slot, contents) → IsSome (cached_log t slot.pair)
-file_at_hand t x slot contents h e = subst (λ z. IsPairOfFoundSlotCached t z) (is_file_of x slot contents e) h
+pub file_at_hand : (t : ThreadView) (x : VisiblePathLookup) (slot : SlotPosition) (contents : FileStorage) → IsLogBlockOfFoundSlotCached t x → spot_and_storage_of_found_file x ≡ Some (slot, contents) → IsSome (cached_log t slot.pair)
+file_at_hand t x slot contents h e = subst (λ z. IsLogBlockOfFoundSlotCached t z) (is_file_of x slot contents e) h

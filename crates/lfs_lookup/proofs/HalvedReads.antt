@@ -8,7 +8,7 @@ use Rattle.lfs_model.specs.Thread.{Pair}
 use Rattle.lfs_model.proofs.Counts.{each_right}
 use Rattle.lfs_pair.specs.Pair.{active_block_at}
 use Rattle.lfs_thread.specs.Kept.{ThreadView}
-use Rattle.lfs_lookup.specs.CachedPairs.{ArePairsCached, LoadsOnlyUncachedPairs, IsBlockMovedToCacheFront}
+use Rattle.lfs_lookup.specs.CachedPairs.{AreLogBlocksOfPairsCached, ReadsNothingAndKeepsPairsWhereAllCached, IsBlockMovedToCacheFront}
 use Rattle.lfs_lookup.specs.Halves.{HasSlotInEachPair, halvings_within_steps, halvings_until_zero}
 use Rattle.lfs_lookup.proofs.Halved.{IsAt}
 use Rattle.lfs_lookup.proofs.RecentBlocks.{HasBrought, HasKept, Passes, kept_none, loads_to_here, on_ok}
@@ -94,7 +94,7 @@ pub loaded_nothing : (run : List Pair) (first high : ℕ) (old : ThreadView) →
 loaded_nothing run first high old some = record { kept = kept_none run old; lone = λ e. waits refl some refl }
 
 module _ {X : Type 0} (run : List Pair) (first low high index : ℕ) (q : Pair) (old now new : ThreadView) (r : Result X Error) (a : IsAt run first index q) (h : HasLoaded run first low high old now) (some : low < high)
-    (b : LoadsOnlyUncachedPairs (q ∷ []) now new r) where
+    (b : ReadsNothingAndKeepsPairsWhereAllCached (q ∷ []) now new r) where
   -- it is one of them, and where there is one alone it is still to be loaded
   brought_to : HasBrought run (q ∷ []) old now
   brought_to = record {
@@ -102,7 +102,7 @@ module _ {X : Type 0} (run : List Pair) (first low high index : ℕ) (q : Pair) 
       disk = h.kept.disk;
       none = h.kept.none;
       stay = h.kept.stay;
-      left = λ there. ((each_right _ a.before (q ∷ a.behind) (subst (ArePairsCached old) a.parts there)).0, tt);
+      left = λ there. ((each_right _ a.before (q ∷ a.behind) (subst (AreLogBlocksOfPairsCached old) a.parts there)).0, tt);
     };
     begun = λ e. (same (h.lone e), sym (alone e));
   }
@@ -123,7 +123,7 @@ module _ {X : Type 0} (run : List Pair) (first low high index : ℕ) (q : Pair) 
           a.parts ∙ ap (λ z. z ++ q ∷ a.behind) before ∙ ap (λ z. q ∷ z) behind
 
   -- the search ends here
-  pub loads_here : {Y : Type 0} (s : Result Y Error) → Passes r s → LoadsOnlyUncachedPairs run old new s
+  pub loads_here : {Y : Type 0} (s : Result Y Error) → Passes r s → ReadsNothingAndKeepsPairsWhereAllCached run old new s
   loads_here s pass = loads_to_here run (q ∷ []) [] q old now new r brought_to refl b s pass
 
   -- or goes on
@@ -144,7 +144,7 @@ loaded_past run first low high old now h some later = record { kept = h.kept; lo
     go (done l k) = absurd (omega arith)
 
 -- it ends where none is left
-pub loads_all : {X : Type 0} (run : List Pair) (first low high : ℕ) (old now : ThreadView) (s : Result X Error) (x : X) → s ≡ Ok x → HasLoaded run first low high old now → high ≤ low → LoadsOnlyUncachedPairs run old now s
+pub loads_all : {X : Type 0} (run : List Pair) (first low high : ℕ) (old now : ThreadView) (s : Result X Error) (x : X) → s ≡ Ok x → HasLoaded run first low high old now → high ≤ low → ReadsNothingAndKeepsPairsWhereAllCached run old now s
 loads_all {X = X} run first low high old now s x is h none = record {
   none = h.kept.none;
   stay = λ there. back _ (h.kept.stay there);

@@ -3,13 +3,13 @@ use Rattle.std.proofs.Common.{ℕ, ◌≡◌, ◌+◌, ◌==◌, ◌≤◌, ◌<
 use Rattle.std.specs.List.{list_all, onto_first, slice_split}
 use Rattle.std.proofs.lemmas.Bool.{lt-ltb}
 use Rattle.lfs_model.specs.TreeEdits.{last_name_of_path}
-use Rattle.lfs_model.specs.Names.{Name, is_path_component, slash}
+use Rattle.lfs_model.specs.Names.{Name, is_path_component, slash_byte}
 use Rattle.lfs_model.specs.Operations.{path_of_bytes}
-use Rattle.lfs_model.specs.Refusals.{path_or_root, is_root}
+use Rattle.lfs_model.specs.Refusals.{path_of_bytes_or_root, is_root_path}
 use Rattle.lfs_lookup.specs.NameLengths.{length_after_last_slash}
 
 abbrev parts_of : List ℕ → List Name
-parts_of bytes = slice_split (λ c. c == slash) bytes
+parts_of bytes = slice_split (λ c. c == slash_byte) bytes
 
 -- the length of the last part, where n bytes stand in front of the first
 abbrev last_len : ℕ → List Name → ℕ
@@ -39,7 +39,7 @@ onto_some b (x ∷ xs) false = (b ∷ x, (xs, refl))
 
 cut_up : (bytes : List ℕ) → IsCutUp bytes
 cut_up [] = record { part = []; parts = []; is = refl }
-cut_up (b ∷ bytes) = let o = onto_some b (parts_of bytes) (b == slash) in record { part = o.0; parts = o.1.0; is = o.1.1 }
+cut_up (b ∷ bytes) = let o = onto_some b (parts_of bytes) (b == slash_byte) in record { part = o.0; parts = o.1.0; is = o.1.1 }
 
 last_behind : (n : ℕ) (bytes : List ℕ) → last_len n ([] ∷ parts_of bytes) ≡ length (last_name_of_path (parts_of bytes))
 last_behind n bytes = let c = cut_up bytes in ap (λ (xs : List Name). last_len n ([] ∷ xs)) c.is ∙ sym (ap (λ (xs : List Name). length (last_name_of_path xs)) c.is)
@@ -50,12 +50,12 @@ last_step n b bytes false = last_onto n b (parts_of bytes)
 
 behind_is : (n : ℕ) (bytes : List ℕ) → length_after_last_slash n bytes ≡ last_len n (parts_of bytes)
 behind_is n [] = omega arith
-behind_is n (b ∷ bytes) = behind_is (if b == slash then 0 else n + 1) bytes ∙ sym (last_step n b bytes (b == slash))
+behind_is n (b ∷ bytes) = behind_is (if b == slash_byte then 0 else n + 1) bytes ∙ sym (last_step n b bytes (b == slash_byte))
 
 -- for the bytes of a path
-pub last_name_len : (bytes : List ℕ) → is_some (path_of_bytes bytes) ≡ true → length_after_last_slash 0 bytes ≡ length (last_name_of_path (path_or_root bytes))
+pub last_name_len : (bytes : List ℕ) → is_some (path_of_bytes bytes) ≡ true → length_after_last_slash 0 bytes ≡ length (last_name_of_path (path_of_bytes_or_root bytes))
 last_name_len [] h = absurd (cc)
-last_name_len (b ∷ bytes) h = first (b == slash) refl h
+last_name_len (b ∷ bytes) h = first (b == slash_byte) refl h
   where
     whole : List ℕ → Option (List Name)
     whole rest = if nat_lt 0 (length rest) then (if list_all is_path_component (parts_of rest) then Some (parts_of rest) else None) else Some []
@@ -77,15 +77,15 @@ last_name_len (b ∷ bytes) h = first (b == slash) refl h
         go true e k = cut (x ∷ xs) (list_all is_path_component (parts_of (x ∷ xs))) refl k
         go false e k = absurd (let t = sym (lt-ltb 0 (length (x ∷ xs)) (omega arith)) ∙ e in cc)
 
-    first : (c : Bool) → (b == slash) ≡ c → is_some (if not c then None else whole bytes) ≡ true
+    first : (c : Bool) → (b == slash_byte) ≡ c → is_some (if not c then None else whole bytes) ≡ true
         → length_after_last_slash (if c then 0 else 0 + 1) bytes ≡ length (last_name_of_path (unwrap_or (if not c then None else whole bytes) []))
     first true e k = rest_of bytes k
     first false e k = absurd (cc)
 
 -- ---- the names of a path, by its bytes
 
-pub long_path : (b : ℕ) (bytes : List ℕ) → is_some (path_of_bytes (b ∷ bytes)) ≡ true → 0 < length bytes → path_or_root (b ∷ bytes) ≡ slice_split (λ c. c == slash) bytes
-long_path b bytes h l = first (b == slash) refl h
+pub long_path : (b : ℕ) (bytes : List ℕ) → is_some (path_of_bytes (b ∷ bytes)) ≡ true → 0 < length bytes → path_of_bytes_or_root (b ∷ bytes) ≡ slice_split (λ c. c == slash_byte) bytes
+long_path b bytes h l = first (b == slash_byte) refl h
   where
     inner : Bool → Option (List Name)
     inner c = if c then Some (parts_of bytes) else None
@@ -101,15 +101,15 @@ long_path b bytes h l = first (b == slash) refl h
     long true e k = cut (list_all is_path_component (parts_of bytes)) k
     long false e k = absurd (cc)
 
-    first : (c : Bool) → (b == slash) ≡ c → is_some (if not c then None else outer (nat_lt 0 (length bytes))) ≡ true
+    first : (c : Bool) → (b == slash_byte) ≡ c → is_some (if not c then None else outer (nat_lt 0 (length bytes))) ≡ true
         → unwrap_or (if not c then None else outer (nat_lt 0 (length bytes))) [] ≡ parts_of bytes
     first true e k = long (nat_lt 0 (length bytes)) (lt-ltb 0 (length bytes) l) k
     first false e k = absurd (cc)
 
 -- there is one
-pub some_name : (b : ℕ) (bytes : List ℕ) → is_some (path_of_bytes (b ∷ bytes)) ≡ true → 0 < length bytes → is_root (path_or_root (b ∷ bytes)) ≡ false
-some_name b bytes h l = ap is_root (long_path b bytes h l) ∙ ap is_root (cut_up bytes).is
+pub some_name : (b : ℕ) (bytes : List ℕ) → is_some (path_of_bytes (b ∷ bytes)) ≡ true → 0 < length bytes → is_root_path (path_of_bytes_or_root (b ∷ bytes)) ≡ false
+some_name b bytes h l = ap is_root_path (long_path b bytes h l) ∙ ap is_root_path (cut_up bytes).is
 
-pub long_root : (bytes : List ℕ) → is_some (path_of_bytes bytes) ≡ true → 2 ≤ length bytes → is_root (path_or_root bytes) ≡ false
+pub long_root : (bytes : List ℕ) → is_some (path_of_bytes bytes) ≡ true → 2 ≤ length bytes → is_root_path (path_of_bytes_or_root bytes) ≡ false
 long_root [] h l = absurd (omega arith)
 long_root (b ∷ bytes) h l = some_name b bytes h (omega arith)

@@ -7,9 +7,9 @@ use Rattle.std.proofs.lemmas.List.Elements.{recursion_from_All}
 use Rattle.lfs_model.specs.Disk.{Disk}
 use Rattle.lfs_model.specs.Names.{is_path_component, name_limit}
 use Rattle.lfs_model.specs.Slots.{Gstate, Slot, is_superblock, same_pair}
-use Rattle.lfs_model.specs.Thread.{Pair, gstate_of, pair_count_before_root, slots_not_moved, entries_not_moved}
+use Rattle.lfs_model.specs.Thread.{Pair, gstate_of_pairs, pair_count_before_root, slots_not_moved, entries_not_moved}
 use Rattle.lfs_model.specs.Tree.{Path}
-use Rattle.lfs_model.specs.View.{IsAcceptedImage, IsFileOrDirectoryEntry, HasSuperblockOfBytesIfAny}
+use Rattle.lfs_model.specs.View.{IsAcceptedImage, IsFileOrDirectoryEntry, HasSuperblockWithInlineBytesIfAnySlot}
 use Rattle.lfs_model.specs.Shown.{IsPathToDirectory, entries_by_directory_in_thread}
 use Rattle.lfs_model.proofs.Counts.{Each, each_weaker}
 use Rattle.lfs_lookup.proofs.Visits.{each_visible}
@@ -31,7 +31,7 @@ entry_fits s h k = leb-true (length s.name) name_limit (right (is_path_component
 entries_fit : (slots : List Slot) → All IsFileOrDirectoryEntry slots → Each may_fit slots
 entries_fit slots h = each_weaker IsFileOrDirectoryEntry may_fit entry_fits slots (recursion_from_All IsFileOrDirectoryEntry slots h)
 
-headed_fit : (bytes : List ℕ) (slots : List Slot) → HasSuperblockOfBytesIfAny bytes slots → Each may_fit slots
+headed_fit : (bytes : List ℕ) (slots : List Slot) → HasSuperblockWithInlineBytesIfAnySlot bytes slots → Each may_fit slots
 headed_fit bytes [] h = tt
 headed_fit bytes (s ∷ slots) h = ((λ k. let e = h.0 in absurd (cc)), entries_fit slots h.2)
 
@@ -47,8 +47,8 @@ pairs_fit disk ps ok =
     let n = pair_count_before_root ps + 1 in
     let s = ok.superblock in
     each_parted (λ p. Each may_fit p.content.slots) n ps
-    (each_weaker (λ (p : Pair). HasSuperblockOfBytesIfAny s.0 p.content.slots) (λ (p : Pair). Each may_fit p.content.slots) (λ p h. headed_fit s.0 p.content.slots h) (take n ps)
-    (recursion_from_All (λ (p : Pair). HasSuperblockOfBytesIfAny s.0 p.content.slots) (take n ps) s.1.1))
+    (each_weaker (λ (p : Pair). HasSuperblockWithInlineBytesIfAnySlot s.0 p.content.slots) (λ (p : Pair). Each may_fit p.content.slots) (λ p h. headed_fit s.0 p.content.slots h) (take n ps)
+    (recursion_from_All (λ (p : Pair). HasSuperblockWithInlineBytesIfAnySlot s.0 p.content.slots) (take n ps) s.1.1))
     (each_weaker (λ (p : Pair). All IsFileOrDirectoryEntry p.content.slots) (λ (p : Pair). Each may_fit p.content.slots) (λ p h. entries_fit p.content.slots h) (drop n ps)
     (recursion_from_All (λ (p : Pair). All IsFileOrDirectoryEntry p.content.slots) (drop n ps) ok.slots))
 
@@ -80,5 +80,5 @@ fit_shown (s ∷ slots) h = go (is_superblock s) refl (fit_shown slots h.1)
 pub fitting_names : (disk : Disk) (ps : List Pair) (path : Path) (at : ℕ × ℕ) → IsAcceptedImage disk ps → IsPathToDirectory ps path at → Each name_fits (entries_by_directory_in_thread ps at)
 fitting_names disk ps path at ok leads =
     each_visible name_fits disk ps path at ok leads
-    (each_weaker (λ (p : Pair). Each may_fit p.content.slots) (λ (p : Pair). Each name_fits (entries_not_moved (gstate_of ps) p))
-    (λ p h. fit_shown (slots_not_moved (gstate_of ps) p) (fit_unmoved (gstate_of ps) p h)) ps (pairs_fit disk ps ok))
+    (each_weaker (λ (p : Pair). Each may_fit p.content.slots) (λ (p : Pair). Each name_fits (entries_not_moved (gstate_of_pairs ps) p))
+    (λ p h. fit_shown (slots_not_moved (gstate_of_pairs ps) p) (fit_unmoved (gstate_of_pairs ps) p h)) ps (pairs_fit disk ps ok))

@@ -9,27 +9,27 @@ use Rattle.std.proofs.lemmas.Bool.{ne_eqb}
 use Rattle.std.proofs.lemmas.Option.{same_Some}
 use Rattle.lfs_model.proofs.Orders.{name_order, same_by}
 use Rattle.lfs_model.specs.declared.order.NameOrder.{NameOrder}
-use Rattle.lfs_model.specs.Names.{Name, name_cmp, same_name, is_same, is_less_ordering}
-use Rattle.lfs_model.specs.Slots.{Slot, Content, is_superblock, is_superblock_kind}
-use Rattle.lfs_model.specs.Content.{RawSlot, RawContent, content_if_slots_are_complete, complete, slots_if_all_complete, slot_of_id, kind_of_name_type, struct_of_type_and_bytes}
+use Rattle.lfs_model.specs.Names.{Name, name_cmp, same_name, is_equal_ordering, is_less_ordering}
+use Rattle.lfs_model.specs.Slots.{Slot, PairContent, is_superblock, is_superblock_kind}
+use Rattle.lfs_model.specs.Content.{RawSlot, RawPairContent, pair_content_if_slots_complete, slot_if_name_and_struct_present, slots_if_names_and_structs_present, slot_of_id, kind_of_name_type, struct_of_type_and_bytes}
 use Rattle.lfs_model.specs.EntryTypes.{file_name_type, directory_name_type, superblock_name_type}
 use Rattle.lfs_model.specs.Thread.{starts_with_superblock}
-use Rattle.lfs_model.specs.LoggedContent.{IsNameOrStructOfClass, IsNameOrStructIfSome, IsWellFormedRawSlot, AreWellFormedRawSlots, IsWellFormedRawContent}
-use Rattle.lfs_model.specs.Lookup.{name_of_slot_unless_superblock, has_passing_name, is_name_after, IsLeastIdOfName, IsIdForNewName}
+use Rattle.lfs_model.specs.LoggedContent.{IsNameOrStructTheFormatAllows, IsNameOrStructTheFormatAllowsIfSome, IsWellFormedRawSlot, AreWellFormedRawSlots, IsWellFormedRawPairContent}
+use Rattle.lfs_model.specs.Lookup.{name_of_slot_unless_superblock, is_name_at_id_passing_test_unless_skipped, is_name_after, IsLeastIdOfName, IsIdForNewName}
 use Rattle.lfs_model.proofs.Completed.{complete_parts, completed_parts}
 use Rattle.lfs_model.proofs.Paths.{name_from_same, same_itself}
 use Rattle.lfs_model.proofs.FirstEntries.{superblock_type}
-use Rattle.lfs_model.specs.InDirectory.{entries_only, HasEntryOfNameAtId, BeginsWithGreaterName, IsIdWhereNameBelongs}
+use Rattle.lfs_model.specs.InDirectory.{slots_without_superblock, HasEntryOfNameAtId, HasFirstSlotGreaterName, IsIdWhereNameBelongs}
 use Rattle.lfs_lookup.specs.Search.{IsNameAbsentExceptAtId}
-use Rattle.lfs_tag.specs.ContentView.{part_view}
-use Rattle.lfs_tag.specs.declared.content.Part.{Part}
+use Rattle.lfs_tag.specs.ContentView.{name_or_struct_view}
+use Rattle.lfs_tag.specs.declared.content.NameOrStruct.{NameOrStruct}
 
 -- ---- one slot
 
-pub entry_is : (s : RawSlot) (t : Slot) → IsWellFormedRawSlot s → complete s ≡ Some t → name_of_slot_unless_superblock s ≡ cond (is_superblock t) None (Some t.name)
+pub entry_is : (s : RawSlot) (t : Slot) → IsWellFormedRawSlot s → slot_if_name_and_struct_present s ≡ Some t → name_of_slot_unless_superblock s ≡ cond (is_superblock t) None (Some t.name)
 entry_is s t h e = go s.name s.struct h.name e
   where
-    go : (n p : Option (ℕ × List ℕ)) → IsNameOrStructIfSome 0 n →
+    go : (n p : Option (ℕ × List ℕ)) → IsNameOrStructTheFormatAllowsIfSome 0 n →
         option_and_then (λ name. option_map (λ struct. record { kind = kind_of_name_type name.0; name = name.1; struct = struct_of_type_and_bytes struct.0 struct.1; attributes = s.attributes }) p) n ≡ Some t →
         option_and_then (λ name. cond (name.0 == superblock_name_type) None (Some name.1)) n ≡ cond (is_superblock t) None (Some t.name)
     go None p k f = absurd (cc)
@@ -59,7 +59,7 @@ and_true : (b : Bool) → (b && true) ≡ b
 and_true true = refl
 and_true false = refl
 
-named_first : (passes : Name → Bool) (s : RawSlot) (rest : List RawSlot) (t : Slot) → IsWellFormedRawSlot s → complete s ≡ Some t → has_passing_name passes None (s ∷ rest) 0 ≡ passing passes t
+named_first : (passes : Name → Bool) (s : RawSlot) (rest : List RawSlot) (t : Slot) → IsWellFormedRawSlot s → slot_if_name_and_struct_present s ≡ Some t → is_name_at_id_passing_test_unless_skipped passes None (s ∷ rest) 0 ≡ passing passes t
 named_first passes s rest t h e = and_true (option_map_or passes (name_of_slot_unless_superblock s) false) ∙ ap (λ o. option_map_or passes o false) (entry_is s t h e) ∙ go (is_superblock t)
   where
     go : (b : Bool) → option_map_or passes (cond b None (Some t.name)) false ≡ cond b false (passes t.name)
@@ -82,7 +82,7 @@ not_passed passes t h e = sym (ap (λ b. cond b false (passes t.name)) e) ∙ h
 
 -- ---- found
 
-pub stands : (name : Name) (raw : List RawSlot) (slots : List Slot) (id : ℕ) → AreWellFormedRawSlots raw → slots_if_all_complete raw ≡ Some slots → has_passing_name (same_name name) None raw id ≡ true → HasEntryOfNameAtId slots name id
+pub stands : (name : Name) (raw : List RawSlot) (slots : List Slot) (id : ℕ) → AreWellFormedRawSlots raw → slots_if_names_and_structs_present raw ≡ Some slots → is_name_at_id_passing_test_unless_skipped (same_name name) None raw id ≡ true → HasEntryOfNameAtId slots name id
 stands name [] slots id h e k = absurd (cc)
 stands name (s ∷ raw) slots zero h e k =
     let p = complete_parts s raw slots e in
@@ -95,7 +95,7 @@ stands name (s ∷ raw) slots (suc id) h e k =
 
 -- ---- a place
 
-is_greater : (o : Ordering) → is_same o ≡ false → is_less_ordering o ≡ false → o ≡ Greater
+is_greater : (o : Ordering) → is_equal_ordering o ≡ false → is_less_ordering o ≡ false → o ≡ Greater
 is_greater Less e f = absurd (cc)
 is_greater Equal e f = absurd (cc)
 is_greater Greater e f = refl
@@ -106,31 +106,31 @@ is_below Equal e = absurd (cc)
 is_below Greater e = absurd (cc)
 
 less_first : (by : NameOrder) (name : Name) (t : Slot) (slots : List Slot) → passing (same_name name) t ≡ false → passing (is_name_after by name) t ≡ false
-    → AllByRecursion (λ s. name_cmp by s.name name ≡ Less) (entries_only slots) → AllByRecursion (λ s. name_cmp by s.name name ≡ Less) (entries_only (t ∷ slots))
+    → AllByRecursion (λ s. name_cmp by s.name name ≡ Less) (slots_without_superblock slots) → AllByRecursion (λ s. name_cmp by s.name name ≡ Less) (slots_without_superblock (t ∷ slots))
 less_first by name t slots same behind rest = go (is_superblock t) refl
   where
-    go : (b : Bool) → is_superblock t ≡ b → AllByRecursion (λ s. name_cmp by s.name name ≡ Less) (cond (not b) (t ∷ entries_only slots) (entries_only slots))
+    go : (b : Bool) → is_superblock t ≡ b → AllByRecursion (λ s. name_cmp by s.name name ≡ Less) (cond (not b) (t ∷ slots_without_superblock slots) (slots_without_superblock slots))
     go true e = rest
     go false e =
         let g = is_greater (name_cmp by name t.name) (same_by by name t.name ∙ not_passed (same_name name) t same e) (not_passed (is_name_after by name) t behind e) in
         ((name_order by).antisymm t.name name ∙ ap ordering_reverse g, rest)
 
-pub belongs : {by : NameOrder} (name : Name) (raw : List RawSlot) (slots : List Slot) (id : ℕ) → AreWellFormedRawSlots raw → slots_if_all_complete raw ≡ Some slots → IsIdForNewName by name None raw id → IsIdWhereNameBelongs by slots name id
+pub belongs : {by : NameOrder} (name : Name) (raw : List RawSlot) (slots : List Slot) (id : ℕ) → AreWellFormedRawSlots raw → slots_if_names_and_structs_present raw ≡ Some slots → IsIdForNewName by name None raw id → IsIdWhereNameBelongs by slots name id
 belongs {by} name raw slots zero h e p = record { left = []; right = slots; held = refl; number = refl; less = tt; greater = go raw slots h e p.greater; fronted = plain raw slots h e p.greater }
   where
-    go : (raw : List RawSlot) (slots : List Slot) → AreWellFormedRawSlots raw → slots_if_all_complete raw ≡ Some slots → (0 < length raw → has_passing_name (is_name_after by name) None raw 0 ≡ true) → (slots ≡ []) ⊎ BeginsWithGreaterName by name (entries_only slots)
+    go : (raw : List RawSlot) (slots : List Slot) → AreWellFormedRawSlots raw → slots_if_names_and_structs_present raw ≡ Some slots → (0 < length raw → is_name_at_id_passing_test_unless_skipped (is_name_after by name) None raw 0 ≡ true) → (slots ≡ []) ⊎ HasFirstSlotGreaterName by name (slots_without_superblock slots)
     go [] slots h e k = inl (sym (same_Some [] slots e))
     go (s ∷ raw) slots h e k =
         let p = complete_parts s raw slots e in
         let ok = passed (is_name_after by name) p.first (sym (named_first (is_name_after by name) s raw p.first h.0 p.is_first) ∙ k (omega arith)) in
         inr (record {
           first = p.first;
-          rest = entries_only p.others;
-          are = ap entries_only p.all_are ∙ ap (λ b. cond (not b) (p.first ∷ entries_only p.others) (entries_only p.others)) ok.entry;
+          rest = slots_without_superblock p.others;
+          are = ap slots_without_superblock p.all_are ∙ ap (λ b. cond (not b) (p.first ∷ slots_without_superblock p.others) (slots_without_superblock p.others)) ok.entry;
           above = is_below (name_cmp by name p.first.name) ok.named;
         })
 
-    plain : (raw : List RawSlot) (slots : List Slot) → AreWellFormedRawSlots raw → slots_if_all_complete raw ≡ Some slots → (0 < length raw → has_passing_name (is_name_after by name) None raw 0 ≡ true) → starts_with_superblock slots ≡ false
+    plain : (raw : List RawSlot) (slots : List Slot) → AreWellFormedRawSlots raw → slots_if_names_and_structs_present raw ≡ Some slots → (0 < length raw → is_name_at_id_passing_test_unless_skipped (is_name_after by name) None raw 0 ≡ true) → starts_with_superblock slots ≡ false
     plain [] slots h e k = ap starts_with_superblock (sym (same_Some [] slots e))
     plain (s ∷ raw) slots h e k =
         let p = complete_parts s raw slots e in
@@ -161,13 +161,13 @@ belongs {by} name (s ∷ raw) slots (suc id) h e p =
 pub record IsReadAt (raw : List RawSlot) (id : ℕ) (t : Slot) : Type 0 where
   pub part : ℕ × List ℕ
   pub is : (slot_of_id raw id).struct ≡ Some part
-  pub is_part : IsNameOrStructOfClass 2 part
+  pub is_part : IsNameOrStructTheFormatAllows 2 part
   pub struct : t.struct ≡ struct_of_type_and_bytes part.0 part.1
 
-read_first : (s : RawSlot) (raw : List RawSlot) (t : Slot) → IsWellFormedRawSlot s → complete s ≡ Some t → IsReadAt (s ∷ raw) 0 t
+read_first : (s : RawSlot) (raw : List RawSlot) (t : Slot) → IsWellFormedRawSlot s → slot_if_name_and_struct_present s ≡ Some t → IsReadAt (s ∷ raw) 0 t
 read_first s raw t h e = go s.name s.struct refl h.struct e
   where
-    go : (n p : Option (ℕ × List ℕ)) → s.struct ≡ p → IsNameOrStructIfSome 2 p
+    go : (n p : Option (ℕ × List ℕ)) → s.struct ≡ p → IsNameOrStructTheFormatAllowsIfSome 2 p
         → option_and_then (λ name. option_map (λ struct. record { kind = kind_of_name_type name.0; name = name.1; struct = struct_of_type_and_bytes struct.0 struct.1; attributes = s.attributes }) p) n ≡ Some t → IsReadAt (s ∷ raw) 0 t
     go None p is k f = absurd (cc)
     go (Some n) None is k f = absurd (cc)
@@ -178,7 +178,7 @@ read_first s raw t h e = go s.name s.struct refl h.struct e
       struct = ap (λ (x : Slot). x.struct) (sym (same_Some (record { kind = kind_of_name_type n.0; name = n.1; struct = struct_of_type_and_bytes p.0 p.1; attributes = s.attributes }) t f));
     }
 
-pub read_at : (raw : List RawSlot) (slots left : List Slot) (t : Slot) (right : List Slot) → AreWellFormedRawSlots raw → slots_if_all_complete raw ≡ Some slots → slots ≡ left ++ t ∷ right → IsReadAt raw (length left) t
+pub read_at : (raw : List RawSlot) (slots left : List Slot) (t : Slot) (right : List Slot) → AreWellFormedRawSlots raw → slots_if_names_and_structs_present raw ≡ Some slots → slots ≡ left ++ t ∷ right → IsReadAt raw (length left) t
 read_at [] slots left t right h e is = absurd (let k = ap length (same_Some [] slots e ∙ is) in let l = length-append left (t ∷ right) in omega (arith, k, l))
 read_at (s ∷ raw) slots [] t right h e is =
     let p = complete_parts s raw slots e in
@@ -193,7 +193,7 @@ read_at (s ∷ raw) slots (x ∷ left) t right h e is =
 -- ---- the answer of a search
 
 -- the name by which a slot can be looked up
-name_at_id : (raw : List RawSlot) (slots : List Slot) (id : ℕ) (t : Slot) → AreWellFormedRawSlots raw → slots_if_all_complete raw ≡ Some slots → slice_get slots id ≡ Some t → name_of_slot_unless_superblock (slot_of_id raw id) ≡ cond (is_superblock t) None (Some t.name)
+name_at_id : (raw : List RawSlot) (slots : List Slot) (id : ℕ) (t : Slot) → AreWellFormedRawSlots raw → slots_if_names_and_structs_present raw ≡ Some slots → slice_get slots id ≡ Some t → name_of_slot_unless_superblock (slot_of_id raw id) ≡ cond (is_superblock t) None (Some t.name)
 name_at_id [] slots id t h e is = absurd (let k : slots ≡ [] = sym (same_Some [] slots e) in let m = ap (λ z. slice_get z id) k in cc)
 name_at_id (s ∷ raw) slots zero t h e is =
     let p = complete_parts s raw slots e in
@@ -227,11 +227,11 @@ skip_false : (skip : Option ℕ) (id : ℕ) → (skip ≡ Some id → ⊥) → o
 skip_false None id h = refl
 skip_false (Some k) id h = ne_eqb k id (λ e. h (ap Some e))
 
-module _ (by : NameOrder) (content : Content) (name : Name) (skip : Option ℕ) (raw : RawContent) (logged : IsWellFormedRawContent raw) (complete : content_if_slots_are_complete raw ≡ Some content) where
+module _ (by : NameOrder) (content : PairContent) (name : Name) (skip : Option ℕ) (raw : RawPairContent) (logged : IsWellFormedRawPairContent raw) (slot_if_name_and_struct_present : pair_content_if_slots_complete raw ≡ Some content) where
   pub stands_in : (id : ℕ) → IsLeastIdOfName name skip raw.slots id → HasEntryOfNameAtId content.slots name id
   stands_in id found =
       let k = kept_from (option_map_or (same_name name) (name_of_slot_unless_superblock (slot_of_id raw.slots id)) false) (option_map_or (λ k. k == id) skip false) found.named in
-      stands name raw.slots content.slots id logged.slots (completed_parts raw content complete).slots (and_true (option_map_or (same_name name) (name_of_slot_unless_superblock (slot_of_id raw.slots id)) false) ∙ k.named)
+      stands name raw.slots content.slots id logged.slots (completed_parts raw content slot_if_name_and_struct_present).slots (and_true (option_map_or (same_name name) (name_of_slot_unless_superblock (slot_of_id raw.slots id)) false) ∙ k.named)
 
   pub kept_in : (id : ℕ) → IsLeastIdOfName name skip raw.slots id → skip ≡ Some id → ⊥
   kept_in id found is =
@@ -239,11 +239,11 @@ module _ (by : NameOrder) (content : Content) (name : Name) (skip : Option ℕ) 
       not_skipped skip id k.kept is
 
   pub belongs_in : (id : ℕ) → IsIdForNewName by name skip raw.slots id → skip ≡ None → IsIdWhereNameBelongs by content.slots name id
-  belongs_in id place none = belongs name raw.slots content.slots id logged.slots (completed_parts raw content complete).slots (subst (λ o. IsIdForNewName by name o raw.slots id) none place)
+  belongs_in id place none = belongs name raw.slots content.slots id logged.slots (completed_parts raw content slot_if_name_and_struct_present).slots (subst (λ o. IsIdForNewName by name o raw.slots id) none place)
 
   pub absent_in : (id : ℕ) → IsIdForNewName by name skip raw.slots id → IsNameAbsentExceptAtId skip content.slots name
   absent_in id place other s at entry not_passed same =
-      let n = name_at_id raw.slots content.slots other s logged.slots (completed_parts raw content complete).slots at in
+      let n = name_at_id raw.slots content.slots other s logged.slots (completed_parts raw content slot_if_name_and_struct_present).slots at in
       let m = ap (λ b. option_map_or (same_name name) (cond b None (Some s.name)) false) entry in
       let w = ap (same_name name) same ∙ same_itself name in
       let f = skip_false skip other not_passed in
@@ -251,13 +251,13 @@ module _ (by : NameOrder) (content : Content) (name : Name) (skip : Option ℕ) 
       let j = sym (ap (λ x. x && true) (m ∙ w)) ∙ k in cc)
 
   pub read_there : (id : ℕ) (s : HasEntryOfNameAtId content.slots name id) → IsReadAt raw.slots id s.slot
-  read_there id s = subst (λ (i : ℕ). IsReadAt raw.slots i s.slot) s.number (read_at raw.slots content.slots s.left s.slot s.right logged.slots (completed_parts raw content complete).slots s.held)
+  read_there id s = subst (λ (i : ℕ). IsReadAt raw.slots i s.slot) s.number (read_at raw.slots content.slots s.left s.slot s.right logged.slots (completed_parts raw content slot_if_name_and_struct_present).slots s.held)
 
 -- ---- a part that is read
 
-pub some_part : (o : Option Part) (held : Option (ℕ × List ℕ)) (part : ℕ × List ℕ) → option_map part_view o ≡ held → held ≡ Some part → IsSome o
+pub some_part : (o : Option NameOrStruct) (held : Option (ℕ × List ℕ)) (part : ℕ × List ℕ) → option_map name_or_struct_view o ≡ held → held ≡ Some part → IsSome o
 some_part None held part e f = absurd (let k = e ∙ f in cc)
 some_part (Some p) held part e f = search rules
 
-pub part_is : (o : Option Part) (p : Part) (held : Option (ℕ × List ℕ)) (part : ℕ × List ℕ) → o ≡ Some p → option_map part_view o ≡ held → held ≡ Some part → part_view p ≡ part
-part_is o p held part is e f = same_Some (part_view p) part (sym (ap (option_map part_view) is) ∙ e ∙ f)
+pub part_is : (o : Option NameOrStruct) (p : NameOrStruct) (held : Option (ℕ × List ℕ)) (part : ℕ × List ℕ) → o ≡ Some p → option_map name_or_struct_view o ≡ held → held ≡ Some part → name_or_struct_view p ≡ part
+part_is o p held part is e f = same_Some (name_or_struct_view p) part (sym (ap (option_map name_or_struct_view) is) ∙ e ∙ f)

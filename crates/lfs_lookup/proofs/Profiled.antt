@@ -2,32 +2,32 @@
 use Rattle.std.proofs.Common.{ℕ, zero, suc, ◌≡◌, ◌≢◌, ◌<◌, ◌≤◌, ◌+◌, ◌-◌, ◌∙◌, ◌&&◌, ◌⊎◌, ◌↔◌, inl, inr, Bool, true, false, List, [], ◌∷◌, length, take, drop, refl, sym, ap, subst, lt-ltb, ltb→lt, T, arith}
 use Rattle.std.specs.Prelude.{All, nat_lt, map, slice_index_or, Some}
 use Rattle.std.proofs.lemmas.List.{get_or-drop, get_or-take, get_or_default, length-drop, length-map, length-take}
-use Rattle.lfs_model.specs.Content.{RawSlot, complete, slots_if_all_complete}
+use Rattle.lfs_model.specs.Content.{RawSlot, slot_if_name_and_struct_present, slots_if_names_and_structs_present}
 use Rattle.lfs_model.specs.Disk.{Disk}
 use Rattle.lfs_model.specs.Slots.{Directory, File, IsContentFittingPair, Inline, KindOfSlot, Slot, Superblock, is_superblock_kind}
 use Rattle.lfs_model.specs.Thread.{Pair, is_hard_tail, pair_count_before_root}
-use Rattle.lfs_model.specs.Profile.{FitsSlotLimits, HaveSlotsAfterHardTail, IsWritable}
-use Rattle.lfs_model.specs.View.{HasSuperblockOfBytesIfAny, IsAcceptedImage, IsFileOrDirectoryEntry, IsStructOfKind}
+use Rattle.lfs_model.specs.Profile.{IsSlotWithinWritableLimits, AreNoEmptyPairsAfterHardTails, IsWritableImage}
+use Rattle.lfs_model.specs.View.{HasSuperblockWithInlineBytesIfAnySlot, IsAcceptedImage, IsFileOrDirectoryEntry, IsStructOfKind}
 use Rattle.lfs_model.proofs.Completed.{complete_length, complete_parts}
-use Rattle.lfs_thread.specs.Steps.{no_pair}
+use Rattle.lfs_thread.specs.Steps.{empty_pair_at_anchor}
 use Rattle.lfs_lookup.specs.Profile.{IsPairInWritingProfile, HasSuperblockStructOf24Bytes, follows_hard_tail_at}
 
 abbrev flag_at : Bool → List Pair → ℕ → Bool
 flag_at b xs zero = b
-flag_at b xs (suc j) = is_hard_tail (slice_index_or xs j no_pair).content.tail
+flag_at b xs (suc j) = is_hard_tail (slice_index_or xs j empty_pair_at_anchor).content.tail
 
 abbrev AreFilled : Bool → List Pair → Type 0
-AreFilled b xs = (j : ℕ) → j < length xs → flag_at b xs j ≡ true → (slice_index_or xs j no_pair).content.slots ≢ []
+AreFilled b xs = (j : ℕ) → j < length xs → flag_at b xs j ≡ true → (slice_index_or xs j empty_pair_at_anchor).content.slots ≢ []
 
 flag_on : (b : Bool) (x : Pair) (xs : List Pair) (j : ℕ) → flag_at (is_hard_tail x.content.tail) xs j ≡ flag_at b (x ∷ xs) (suc j)
 flag_on b x xs zero = refl
 flag_on b x xs (suc j) = refl
 
-have_from : (b : Bool) (xs : List Pair) → AreFilled b xs → HaveSlotsAfterHardTail b xs
+have_from : (b : Bool) (xs : List Pair) → AreFilled b xs → AreNoEmptyPairsAfterHardTails b xs
 have_from b [] h = tt
 have_from b (x ∷ xs) h = (λ e. h 0 (omega arith) e, have_from (is_hard_tail x.content.tail) xs (λ j l e. h (suc j) (omega (arith, l)) (sym (flag_on b x xs j) ∙ e)))
 
-have_each : (b : Bool) (xs : List Pair) → HaveSlotsAfterHardTail b xs → AreFilled b xs
+have_each : (b : Bool) (xs : List Pair) → AreNoEmptyPairsAfterHardTails b xs → AreFilled b xs
 have_each b [] h j l e = absurd (omega (arith, l))
 have_each b (x ∷ xs) h zero l e = h.0 e
 have_each b (x ∷ xs) h (suc j) l e = have_each (is_hard_tail x.content.tail) xs h.1 j (omega (arith, l)) (flag_on b x xs j ∙ e)
@@ -46,7 +46,7 @@ right false b e = absurd (cc)
 -- ---- from the root on
 
 abbrev AreFilledFrom : ℕ → List Pair → Type 0
-AreFilledFrom root ps = (i : ℕ) → i < length ps → follows_hard_tail_at root ps i ≡ true → (slice_index_or ps i no_pair).content.slots ≢ []
+AreFilledFrom root ps = (i : ℕ) → i < length ps → follows_hard_tail_at root ps i ≡ true → (slice_index_or ps i empty_pair_at_anchor).content.slots ≢ []
 
 filled_from : (root : ℕ) (ps : List Pair) → AreFilledFrom root ps → AreFilled false (drop root ps)
 filled_from root ps h zero l e = absurd (cc)
@@ -54,39 +54,39 @@ filled_from root ps h (suc k) l e =
     let n = length-drop root ps in
     let behind : nat_lt root (root + suc k) ≡ true = lt-ltb root (root + suc k) (omega arith) in
     let place : root + k ≡ root + suc k - 1 = omega arith in
-    let hard = ap (λ i. is_hard_tail (slice_index_or ps i no_pair).content.tail) (sym place) ∙ ap (λ (p : Pair). is_hard_tail p.content.tail) (sym (get_or-drop root ps k no_pair)) ∙ e in
-    subst (λ (p : Pair). p.content.slots ≢ []) (sym (get_or-drop root ps (suc k) no_pair))
-    (h (root + suc k) (omega (arith, n, l)) (both (nat_lt root (root + suc k)) (is_hard_tail (slice_index_or ps (root + suc k - 1) no_pair).content.tail) behind hard))
+    let hard = ap (λ i. is_hard_tail (slice_index_or ps i empty_pair_at_anchor).content.tail) (sym place) ∙ ap (λ (p : Pair). is_hard_tail p.content.tail) (sym (get_or-drop root ps k empty_pair_at_anchor)) ∙ e in
+    subst (λ (p : Pair). p.content.slots ≢ []) (sym (get_or-drop root ps (suc k) empty_pair_at_anchor))
+    (h (root + suc k) (omega (arith, n, l)) (both (nat_lt root (root + suc k)) (is_hard_tail (slice_index_or ps (root + suc k - 1) empty_pair_at_anchor).content.tail) behind hard))
 
 filled_each : (root : ℕ) (ps : List Pair) → AreFilled false (drop root ps) → AreFilledFrom root ps
 filled_each root ps h i l e =
-    let a = left (nat_lt root i) (is_hard_tail (slice_index_or ps (i - 1) no_pair).content.tail) e in
-    let hard = right (nat_lt root i) (is_hard_tail (slice_index_or ps (i - 1) no_pair).content.tail) e in
+    let a = left (nat_lt root i) (is_hard_tail (slice_index_or ps (i - 1) empty_pair_at_anchor).content.tail) e in
+    let hard = right (nat_lt root i) (is_hard_tail (slice_index_or ps (i - 1) empty_pair_at_anchor).content.tail) e in
     let less : root < i = ltb→lt root i (subst T (sym a) tt) in
     let n = length-drop root ps in
     let k = i - root - 1 in
     let at : root + suc k ≡ i = omega (arith, less) in
     let before : root + k ≡ i - 1 = omega (arith, less) in
-    subst (λ (p : Pair). p.content.slots ≢ []) (get_or-drop root ps (suc k) no_pair ∙ ap (λ j. slice_index_or ps j no_pair) at)
+    subst (λ (p : Pair). p.content.slots ≢ []) (get_or-drop root ps (suc k) empty_pair_at_anchor ∙ ap (λ j. slice_index_or ps j empty_pair_at_anchor) at)
     (h (suc k) (omega (arith, n, l, less))
-    (ap (λ (p : Pair). is_hard_tail p.content.tail) (get_or-drop root ps k no_pair ∙ ap (λ j. slice_index_or ps j no_pair) before) ∙ hard))
+    (ap (λ (p : Pair). is_hard_tail p.content.tail) (get_or-drop root ps k empty_pair_at_anchor ∙ ap (λ j. slice_index_or ps j empty_pair_at_anchor) before) ∙ hard))
 
 -- ---- the image
 
 abbrev pub EachFits : Disk → ℕ → List Pair → ℕ → Type 0
-EachFits disk root ps n = (i : ℕ) → i < n → IsPairInWritingProfile disk.block_size disk.page (follows_hard_tail_at root ps i) (slice_index_or ps i no_pair).content
+EachFits disk root ps n = (i : ℕ) → i < n → IsPairInWritingProfile disk.block_size disk.page (follows_hard_tail_at root ps i) (slice_index_or ps i empty_pair_at_anchor).content
 
-pub writable_from : (disk : Disk) (ps : List Pair) → EachFits disk (pair_count_before_root ps) ps (length ps) → IsWritable disk ps
+pub writable_from : (disk : Disk) (ps : List Pair) → EachFits disk (pair_count_before_root ps) ps (length ps) → IsWritableImage disk ps
 writable_from disk ps h = record {
-  pairs = λ i d l. subst (λ (p : Pair). IsContentFittingPair disk.block_size disk.page p.content) (get_or_default ps i no_pair d l) (h i l).pair;
-  slots = λ i d l. subst (λ (p : Pair). All (FitsSlotLimits disk.block_size disk.page) p.content.slots) (get_or_default ps i no_pair d l) (h i l).slots;
+  pairs = λ i d l. subst (λ (p : Pair). IsContentFittingPair disk.block_size disk.page p.content) (get_or_default ps i empty_pair_at_anchor d l) (h i l).pair;
+  slots = λ i d l. subst (λ (p : Pair). All (IsSlotWithinWritableLimits disk.block_size disk.page) p.content.slots) (get_or_default ps i empty_pair_at_anchor d l) (h i l).slots;
   no_empty_pair = have_from false (drop (pair_count_before_root ps) ps) (filled_from (pair_count_before_root ps) ps (λ i l. (h i l).filled));
 }
 
-pub fits_each : (disk : Disk) (ps : List Pair) → IsWritable disk ps → EachFits disk (pair_count_before_root ps) ps (length ps)
+pub fits_each : (disk : Disk) (ps : List Pair) → IsWritableImage disk ps → EachFits disk (pair_count_before_root ps) ps (length ps)
 fits_each disk ps w i l = record {
-  pair = w.pairs i no_pair l;
-  slots = w.slots i no_pair l;
+  pair = w.pairs i empty_pair_at_anchor l;
+  slots = w.slots i empty_pair_at_anchor l;
   filled = filled_each (pair_count_before_root ps) ps (have_each false (drop (pair_count_before_root ps) ps) w.no_empty_pair) i l;
 }
 
@@ -109,72 +109,72 @@ shaped_entry s e k = go s.kind k e.struct
     go Directory k e = absurd (cc)
     go Superblock k e = absurd e
 
-shaped_headed : (bytes : List ℕ) (slots : List Slot) → length bytes ≡ 24 → HasSuperblockOfBytesIfAny bytes slots → All HasSuperblockStructOf24Bytes slots
+shaped_headed : (bytes : List ℕ) (slots : List Slot) → length bytes ≡ 24 → HasSuperblockWithInlineBytesIfAnySlot bytes slots → All HasSuperblockStructOf24Bytes slots
 shaped_headed bytes [] n h i d l = absurd (omega (arith, l))
 shaped_headed bytes (s ∷ slots) n h zero d l = λ k. (bytes, (h.1, n))
 shaped_headed bytes (s ∷ slots) n h (suc i) d l = shaped_entry (slice_index_or slots i d) (h.2 i d (omega (arith, l)))
 
-pub shaped_all : (disk : Disk) (ps : List Pair) (i : ℕ) → IsAcceptedImage disk ps → i < length ps → All HasSuperblockStructOf24Bytes (slice_index_or ps i no_pair).content.slots
+pub shaped_all : (disk : Disk) (ps : List Pair) (i : ℕ) → IsAcceptedImage disk ps → i < length ps → All HasSuperblockStructOf24Bytes (slice_index_or ps i empty_pair_at_anchor).content.slots
 shaped_all disk ps i ok l = go (below_or_not i (pair_count_before_root ps + 1))
   where
-    go : (i < pair_count_before_root ps + 1) ⊎ (pair_count_before_root ps + 1 ≤ i) → All HasSuperblockStructOf24Bytes (slice_index_or ps i no_pair).content.slots
+    go : (i < pair_count_before_root ps + 1) ⊎ (pair_count_before_root ps + 1 ≤ i) → All HasSuperblockStructOf24Bytes (slice_index_or ps i empty_pair_at_anchor).content.slots
     go (inl a) =
         let n = length-take (pair_count_before_root ps + 1) ps in
         let s = ok.superblock in
-        subst (λ (p : Pair). All HasSuperblockStructOf24Bytes p.content.slots) (get_or-take (pair_count_before_root ps + 1) ps i no_pair a)
-        (shaped_headed s.0 (slice_index_or (take (pair_count_before_root ps + 1) ps) i no_pair).content.slots s.1.0.len (s.1.1 i no_pair (omega (arith, n, l, a))))
+        subst (λ (p : Pair). All HasSuperblockStructOf24Bytes p.content.slots) (get_or-take (pair_count_before_root ps + 1) ps i empty_pair_at_anchor a)
+        (shaped_headed s.0 (slice_index_or (take (pair_count_before_root ps + 1) ps) i empty_pair_at_anchor).content.slots s.1.0.len (s.1.1 i empty_pair_at_anchor (omega (arith, n, l, a))))
     go (inr a) =
         let n = length-drop (pair_count_before_root ps + 1) ps in
         let k = i - (pair_count_before_root ps + 1) in
         let at : pair_count_before_root ps + 1 + k ≡ i = omega (arith, a) in
-        subst (λ (p : Pair). All HasSuperblockStructOf24Bytes p.content.slots) (get_or-drop (pair_count_before_root ps + 1) ps k no_pair ∙ ap (λ j. slice_index_or ps j no_pair) at)
-        (λ j d m. shaped_entry (slice_index_or (slice_index_or (drop (pair_count_before_root ps + 1) ps) k no_pair).content.slots j d) (ok.slots k no_pair (omega (arith, n, l, a)) j d m))
+        subst (λ (p : Pair). All HasSuperblockStructOf24Bytes p.content.slots) (get_or-drop (pair_count_before_root ps + 1) ps k empty_pair_at_anchor ∙ ap (λ j. slice_index_or ps j empty_pair_at_anchor) at)
+        (λ j d m. shaped_entry (slice_index_or (slice_index_or (drop (pair_count_before_root ps + 1) ps) k empty_pair_at_anchor).content.slots j d) (ok.slots k empty_pair_at_anchor (omega (arith, n, l, a)) j d m))
 
 -- ---- the slots of a log, one by one
 
-pub complete_there : {X : Type 0} (f : X → RawSlot) (xs : List X) (all : List Slot) (i : ℕ) (x : X) (d : Slot) → slots_if_all_complete (map f xs) ≡ Some all → i < length xs → x ≡ slice_index_or xs i x →
-    complete (f x) ≡ Some (slice_index_or all i d)
+pub complete_there : {X : Type 0} (f : X → RawSlot) (xs : List X) (all : List Slot) (i : ℕ) (x : X) (d : Slot) → slots_if_names_and_structs_present (map f xs) ≡ Some all → i < length xs → x ≡ slice_index_or xs i x →
+    slot_if_name_and_struct_present (f x) ≡ Some (slice_index_or all i d)
 complete_there f [] all i x d e l at = absurd (omega (arith, l))
 complete_there f (y ∷ ys) all zero x d e l at =
     let p = complete_parts (f y) (map f ys) all e in
-    ap (λ z. complete (f z)) at ∙ p.is_first ∙ ap (λ (us : List Slot). Some (slice_index_or us 0 d)) (sym p.all_are)
+    ap (λ z. slot_if_name_and_struct_present (f z)) at ∙ p.is_first ∙ ap (λ (us : List Slot). Some (slice_index_or us 0 d)) (sym p.all_are)
 complete_there f (y ∷ ys) all (suc i) x d e l at =
     let p = complete_parts (f y) (map f ys) all e in
     complete_there f ys p.others i x d p.are_others (omega (arith, l)) at ∙ ap (λ (us : List Slot). Some (slice_index_or us (suc i) d)) (sym p.all_are)
 
-pub complete_count : {X : Type 0} (f : X → RawSlot) (xs : List X) (all : List Slot) → slots_if_all_complete (map f xs) ≡ Some all → length all ≡ length xs
+pub complete_count : {X : Type 0} (f : X → RawSlot) (xs : List X) (all : List Slot) → slots_if_names_and_structs_present (map f xs) ≡ Some all → length all ≡ length xs
 complete_count f xs all e = complete_length (map f xs) all e ∙ length-map xs f
 
 abbrev pub no_slot : Slot
 no_slot = record { kind = File; name = []; struct = Inline []; attributes = [] }
 
-pub fits_next : (block_size page : ℕ) (all : List Slot) (n : ℕ) → n < length all → ((k : ℕ) (d : Slot) → k < n → FitsSlotLimits block_size page (slice_index_or all k d)) →
-    FitsSlotLimits block_size page (slice_index_or all n no_slot) → (k : ℕ) (d : Slot) → k < n + 1 → FitsSlotLimits block_size page (slice_index_or all k d)
+pub fits_next : (block_size page : ℕ) (all : List Slot) (n : ℕ) → n < length all → ((k : ℕ) (d : Slot) → k < n → IsSlotWithinWritableLimits block_size page (slice_index_or all k d)) →
+    IsSlotWithinWritableLimits block_size page (slice_index_or all n no_slot) → (k : ℕ) (d : Slot) → k < n + 1 → IsSlotWithinWritableLimits block_size page (slice_index_or all k d)
 fits_next block_size page all n m h f k d l = go (below_or_not k n)
   where
-    go : (k < n) ⊎ (n ≤ k) → FitsSlotLimits block_size page (slice_index_or all k d)
+    go : (k < n) ⊎ (n ≤ k) → IsSlotWithinWritableLimits block_size page (slice_index_or all k d)
     go (inl a) = h k d a
     go (inr a) =
         let same : n ≡ k = omega (arith, a, l) in
-        subst (FitsSlotLimits block_size page) (get_or_default all n no_slot d m ∙ ap (λ i. slice_index_or all i d) same) f
+        subst (IsSlotWithinWritableLimits block_size page) (get_or_default all n no_slot d m ∙ ap (λ i. slice_index_or all i d) same) f
 
-pub fits_more : (disk : Disk) (root : ℕ) (ps : List Pair) (n : ℕ) → EachFits disk root ps n → IsPairInWritingProfile disk.block_size disk.page (follows_hard_tail_at root ps n) (slice_index_or ps n no_pair).content → EachFits disk root ps (n + 1)
+pub fits_more : (disk : Disk) (root : ℕ) (ps : List Pair) (n : ℕ) → EachFits disk root ps n → IsPairInWritingProfile disk.block_size disk.page (follows_hard_tail_at root ps n) (slice_index_or ps n empty_pair_at_anchor).content → EachFits disk root ps (n + 1)
 fits_more disk root ps n h f i l = go (below_or_not i n)
   where
-    go : (i < n) ⊎ (n ≤ i) → IsPairInWritingProfile disk.block_size disk.page (follows_hard_tail_at root ps i) (slice_index_or ps i no_pair).content
+    go : (i < n) ⊎ (n ≤ i) → IsPairInWritingProfile disk.block_size disk.page (follows_hard_tail_at root ps i) (slice_index_or ps i empty_pair_at_anchor).content
     go (inl a) = h i a
     go (inr a) =
         let same : n ≡ i = omega (arith, a, l) in
-        subst (λ k. IsPairInWritingProfile disk.block_size disk.page (follows_hard_tail_at root ps k) (slice_index_or ps k no_pair).content) same f
+        subst (λ k. IsPairInWritingProfile disk.block_size disk.page (follows_hard_tail_at root ps k) (slice_index_or ps k empty_pair_at_anchor).content) same f
 
 -- what a pair of the thread as it was read is, in the words of the thread before
 abbrev pub IsAtPair : Disk → ℕ → List Pair → ℕ → Type 0
-IsAtPair disk root ps i = IsPairInWritingProfile disk.block_size disk.page (follows_hard_tail_at root ps i) (slice_index_or ps i no_pair).content
+IsAtPair disk root ps i = IsPairInWritingProfile disk.block_size disk.page (follows_hard_tail_at root ps i) (slice_index_or ps i empty_pair_at_anchor).content
 
 pub as_before : (disk : Disk) (root : ℕ) (qs ps : List Pair) (i block_size page : ℕ) (follows : Bool) → block_size ≡ disk.block_size → page ≡ disk.page → qs ≡ ps → follows ≡ follows_hard_tail_at root qs i →
-    (b : Bool) → (b ≡ true ↔ IsPairInWritingProfile block_size page follows (slice_index_or qs i no_pair).content) → b ≡ true ↔ IsAtPair disk root ps i
+    (b : Bool) → (b ≡ true ↔ IsPairInWritingProfile block_size page follows (slice_index_or qs i empty_pair_at_anchor).content) → b ≡ true ↔ IsAtPair disk root ps i
 as_before disk root qs ps i block_size page follows e f g h b k =
-    subst (λ (xs : List Pair). b ≡ true ↔ IsPairInWritingProfile disk.block_size disk.page (follows_hard_tail_at root xs i) (slice_index_or xs i no_pair).content) g
-    (subst (λ w. b ≡ true ↔ IsPairInWritingProfile disk.block_size disk.page w (slice_index_or qs i no_pair).content) h
-    (subst (λ n. b ≡ true ↔ IsPairInWritingProfile disk.block_size n follows (slice_index_or qs i no_pair).content) f
-    (subst (λ n. b ≡ true ↔ IsPairInWritingProfile n page follows (slice_index_or qs i no_pair).content) e k)))
+    subst (λ (xs : List Pair). b ≡ true ↔ IsPairInWritingProfile disk.block_size disk.page (follows_hard_tail_at root xs i) (slice_index_or xs i empty_pair_at_anchor).content) g
+    (subst (λ w. b ≡ true ↔ IsPairInWritingProfile disk.block_size disk.page w (slice_index_or qs i empty_pair_at_anchor).content) h
+    (subst (λ n. b ≡ true ↔ IsPairInWritingProfile disk.block_size n follows (slice_index_or qs i empty_pair_at_anchor).content) f
+    (subst (λ n. b ≡ true ↔ IsPairInWritingProfile n page follows (slice_index_or qs i empty_pair_at_anchor).content) e k)))

@@ -6,13 +6,13 @@ use Rattle.std.proofs.lemmas.List.{take-take}
 use Rattle.lfs_device.specs.declared.error.Error.{Error}
 use Rattle.lfs_model.specs.Cache.{CachedBlocks, cached_block_limit, cached_bytes_of_block, cache_with_block_first, cache_without_block}
 use Rattle.lfs_model.specs.Disk.{block_bytes_on_disk}
-use Rattle.lfs_model.specs.History.{reads}
+use Rattle.lfs_model.specs.History.{read_count_of_history}
 use Rattle.lfs_model.specs.Thread.{Pair}
 use Rattle.lfs_pair.specs.Pair.{active_block_at}
-use Rattle.lfs_thread.specs.Kept.{Kept, ThreadView}
+use Rattle.lfs_thread.specs.Kept.{KeptThread, ThreadView}
 use Rattle.lfs_thread.specs.CachedLog.{cached_log, cache_after_load as loaded_in}
-use Rattle.lfs_thread.specs.Steps.{kept_pair_at_index}
-use Rattle.lfs_lookup.specs.CachedPairs.{ArePairsCached, LoadsOnlyUncachedPairs, IsBlockMovedToCacheFront, IsAmongLastUsedBlocks, CachedBlocksStayCached}
+use Rattle.lfs_thread.specs.Steps.{thread_pair_at_index}
+use Rattle.lfs_lookup.specs.CachedPairs.{AreLogBlocksOfPairsCached, ReadsNothingAndKeepsPairsWhereAllCached, IsBlockMovedToCacheFront, IsAmongLastUsedBlocks, CachedBlocksStayCached}
 
 same : (b : ℕ) → nat_eq b b ≡ true
 same b = search arith
@@ -129,27 +129,27 @@ Passes r s = (P : Type 0) → OnOk r P → OnOk s P
 pub passes_none : {X Y : Type 0} (r : Result X Error) (s : Result Y Error) (e : Error) → s ≡ Err e → Passes r s
 passes_none r s e is = λ P p. on_err s e P is
 
-pub along_as : {X Y : Type 0} (ps : List Pair) (old new : ThreadView) (r : Result X Error) (s : Result Y Error) → Passes r s → LoadsOnlyUncachedPairs ps old new r → LoadsOnlyUncachedPairs ps old new s
+pub along_as : {X Y : Type 0} (ps : List Pair) (old new : ThreadView) (r : Result X Error) (s : Result Y Error) → Passes r s → ReadsNothingAndKeepsPairsWhereAllCached ps old new r → ReadsNothingAndKeepsPairsWhereAllCached ps old new s
 along_as ps old new r s pass b = record { none = b.none; stay = λ there. pass _ (b.stay there); one = λ e. pass _ (b.one e) }
 
 -- a pair is brought without a call where it is cached
 pub loads_one : {X : Type 0} (old new : ThreadView) (index : ℕ) (s : Result X Error) → (IsSome (cached_log old index) → new.kept ≡ old.kept)
-    → OnOk s (new.cache ≡ loaded_in old index) → LoadsOnlyUncachedPairs (kept_pair_at_index old.kept index ∷ []) old new s
+    → OnOk s (new.cache ≡ loaded_in old index) → ReadsNothingAndKeepsPairsWhereAllCached (thread_pair_at_index old.kept index ∷ []) old new s
 loads_one old new index s no_call was = record {
-  none = λ there. ap (λ (t : Kept). reads t.history) (no_call (is_cached cached_block_limit b old.cache there.0));
+  none = λ there. ap (λ (t : KeptThread). read_count_of_history t.history) (no_call (is_cached cached_block_limit b old.cache there.0));
   stay = λ there. after s (λ e. subst (CachedBlocksStayCached old.cache) (sym e) (stay_loaded old.cache b (block_bytes_on_disk old.kept.disk b) there.0)) was;
   one = λ e. after s (λ e. (subst (IsBlockMovedToCacheFront b old.cache) (sym e) (brought old.cache b (block_bytes_on_disk old.kept.disk b)), tt)) was;
 }
   where
     b : ℕ
-    b = active_block_at old.kept.disk (kept_pair_at_index old.kept index).at
+    b = active_block_at old.kept.disk (thread_pair_at_index old.kept index).at
 
 -- The pairs of a run up to the rest were brought: where all are cached nothing was read.
 pub record HasKept (run rest : List Pair) (old now : ThreadView) : Type 0 where
   pub disk : now.kept.disk ≡ old.kept.disk
-  pub none : ArePairsCached old run → reads now.kept.history ≡ reads old.kept.history
-  pub stay : ArePairsCached old run → CachedBlocksStayCached old.cache now.cache
-  pub left : ArePairsCached old run → ArePairsCached old rest
+  pub none : AreLogBlocksOfPairsCached old run → read_count_of_history now.kept.history ≡ read_count_of_history old.kept.history
+  pub stay : AreLogBlocksOfPairsCached old run → CachedBlocksStayCached old.cache now.cache
+  pub left : AreLogBlocksOfPairsCached old run → AreLogBlocksOfPairsCached old rest
 
 -- and where there is one alone it is still to be brought
 pub record HasBrought (run rest : List Pair) (old now : ThreadView) : Type 0 where
@@ -163,16 +163,16 @@ pub loaded_none : (run : List Pair) (old : ThreadView) → HasBrought run run ol
 loaded_none run old = record { kept = kept_none run old; begun = λ e. (refl, refl) }
 
 module _ {X : Type 0} (run rest more : List Pair) (p : Pair) (old now new : ThreadView) (r : Result X Error) (h : HasKept run rest old now) (is : rest ≡ p ∷ more)
-    (b : LoadsOnlyUncachedPairs (p ∷ []) now new r) where
-  here_is_cached : ArePairsCached old run → ArePairsCached now (p ∷ [])
+    (b : ReadsNothingAndKeepsPairsWhereAllCached (p ∷ []) now new r) where
+  here_is_cached : AreLogBlocksOfPairsCached old run → AreLogBlocksOfPairsCached now (p ∷ [])
   here_is_cached there =
-      let k = subst (ArePairsCached old) is (h.left there) in
+      let k = subst (AreLogBlocksOfPairsCached old) is (h.left there) in
       (subst (λ d. IsAmongLastUsedBlocks cached_block_limit now.cache (active_block_at d p.at)) (sym h.disk) (h.stay there _ k.0), tt)
 
-  pub none_on : ArePairsCached old run → reads new.kept.history ≡ reads old.kept.history
+  pub none_on : AreLogBlocksOfPairsCached old run → read_count_of_history new.kept.history ≡ read_count_of_history old.kept.history
   none_on there = b.none (here_is_cached there) ∙ h.none there
 
-  pub stay_on : ArePairsCached old run → OnOk r (CachedBlocksStayCached old.cache new.cache)
+  pub stay_on : AreLogBlocksOfPairsCached old run → OnOk r (CachedBlocksStayCached old.cache new.cache)
   stay_on there = after r (λ st x k. st x (h.stay there x k)) (b.stay (here_is_cached there))
 
   pub keeps_on : (x : X) → r ≡ Ok x → new.kept.disk ≡ now.kept.disk → HasKept run more old new
@@ -180,13 +180,13 @@ module _ {X : Type 0} (run rest more : List Pair) (p : Pair) (old now new : Thre
     disk = same ∙ h.disk;
     none = none_on;
     stay = λ there. on_ok r x (CachedBlocksStayCached old.cache new.cache) ok (stay_on there);
-    left = λ there. (subst (ArePairsCached old) is (h.left there)).1;
+    left = λ there. (subst (AreLogBlocksOfPairsCached old) is (h.left there)).1;
   }
 
 module _ {X : Type 0} (run rest more : List Pair) (p : Pair) (old now new : ThreadView) (r : Result X Error) (h : HasBrought run rest old now) (is : rest ≡ p ∷ more)
-    (b : LoadsOnlyUncachedPairs (p ∷ []) now new r) where
+    (b : ReadsNothingAndKeepsPairsWhereAllCached (p ∷ []) now new r) where
   -- the walk ends here
-  pub loads_to_here : {Y : Type 0} (s : Result Y Error) → Passes r s → LoadsOnlyUncachedPairs run old new s
+  pub loads_to_here : {Y : Type 0} (s : Result Y Error) → Passes r s → ReadsNothingAndKeepsPairsWhereAllCached run old new s
   loads_to_here s pass = record {
     none = none_on run rest more p old now new r h.kept is b;
     stay = λ there. pass _ (stay_on run rest more p old now new r h.kept is b there);

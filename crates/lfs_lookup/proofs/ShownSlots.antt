@@ -8,7 +8,7 @@ use Rattle.lfs_model.specs.InDirectory.{IsPairAtAddress, IsPairOfDirectory}
 use Rattle.lfs_model.specs.Names.{Name}
 use Rattle.lfs_model.specs.SlotEdits.{slot_of_path}
 use Rattle.lfs_model.specs.Slots.{Slot, Gstate, is_superblock, same_pair}
-use Rattle.lfs_model.specs.Thread.{Pair, gstate_of, entries_not_moved, blocks_of_pairs, directories_of_pairs, pairs_of_all_directories, entries_of_directory, root_directory_of_pairs, pair_count_before_root}
+use Rattle.lfs_model.specs.Thread.{Pair, gstate_of_pairs, entries_not_moved, blocks_of_pairs, directories_of_pairs, pairs_from_root_directory_on, entries_of_directory, root_directory_address_of_pairs, pair_count_before_root}
 use Rattle.lfs_model.specs.Tree.{Path, entry_of_name, root_slot}
 use Rattle.lfs_model.specs.View.{IsAcceptedImage}
 use Rattle.lfs_model.specs.Shown.{IsPathToDirectory, entries_by_directory_in_thread}
@@ -22,9 +22,9 @@ use Rattle.lfs_model.proofs.Found.{HasDirectory, chain_of_thread}
 use Rattle.lfs_model.proofs.Sites.{Site, dirs_at, thread_at, IsSite, begin_of, shown_at, site_directories}
 use Rattle.lfs_model.proofs.Superblocks.{pairs_behind}
 use Rattle.lfs_model.proofs.Walks.{walk_below}
-use Rattle.lfs_lookup.specs.Search.{HidesMovedSlotFrom, IsNameAbsentAlongHardTails, IsNameAbsentExceptAtId, IsUnhiddenNameAtSpot, hidden_id_of_pair, skipped_id_in_pair}
+use Rattle.lfs_lookup.specs.Search.{HidesMovedSlotInPairsFromIndex, IsNameAbsentAlongHardTails, IsNameAbsentExceptAtId, IsUnhiddenNameAtSpot, hidden_slot_id_in_pair, skipped_id_in_pair}
 use Rattle.lfs_lookup.specs.declared.entry.FileOrDirectory.{FileOrDirectory}
-use Rattle.lfs_lookup.specs.declared.search.Spot.{Spot}
+use Rattle.lfs_lookup.specs.declared.search.SlotPosition.{SlotPosition}
 
 -- ---- a slot among others
 
@@ -83,7 +83,7 @@ each_kept P (x ∷ xs) h = go (is_superblock x) refl (each_kept P xs (λ i. h (s
 
 -- ---- in one pair
 
-visible_has : (g : Gstate) (p : Pair) (u : Slot) (id : ℕ) → slice_get p.content.slots id ≡ Some u → is_superblock u ≡ false → (hidden_id_of_pair g p ≡ Some id → ⊥) → Has (entries_not_moved g p) u
+visible_has : (g : Gstate) (p : Pair) (u : Slot) (id : ℕ) → slice_get p.content.slots id ≡ Some u → is_superblock u ≡ false → (hidden_slot_id_in_pair g p ≡ Some id → ⊥) → Has (entries_not_moved g p) u
 visible_has g p u id e entry kept = go (g.kind == 0x4ff && same_pair g.pair p.at) refl
   where
     other : (xs : List Slot) (i : ℕ) → slice_get xs i ≡ Some u → Has (filter (λ s. not (is_superblock s)) xs) u
@@ -98,7 +98,7 @@ visible_has g p u id e entry kept = go (g.kind == 0x4ff && same_pair g.pair p.at
 abbrev IsOther : Name → Slot → Type 0
 IsOther name s = s.name ≡ name → ⊥
 
-visible_absent : (g : Gstate) (p : Pair) (name : Name) → IsNameAbsentExceptAtId (hidden_id_of_pair g p) p.content.slots name → Each (IsOther name) (entries_not_moved g p)
+visible_absent : (g : Gstate) (p : Pair) (name : Name) → IsNameAbsentExceptAtId (hidden_slot_id_in_pair g p) p.content.slots name → Each (IsOther name) (entries_not_moved g p)
 visible_absent g p name h = go (g.kind == 0x4ff && same_pair g.pair p.at) refl
   where
     go : (b : Bool) → (g.kind == 0x4ff && same_pair g.pair p.at) ≡ b → Each (IsOther name) (filter (λ s. not (is_superblock s)) (cond b (remove p.content.slots g.id) p.content.slots))
@@ -108,11 +108,11 @@ visible_absent g p name h = go (g.kind == 0x4ff && same_pair g.pair p.at) refl
 
 -- ---- along the pairs of a directory
 
-hides_behind : (g : Gstate) (moved : Option Spot) (i : ℕ) (xs ys : List Pair) → HidesMovedSlotFrom g moved i (xs ++ ys) → HidesMovedSlotFrom g moved (i + length xs) ys
-hides_behind g moved i [] ys h = let e : i ≡ i + 0 = omega arith in subst (λ (n : ℕ). HidesMovedSlotFrom g moved n ys) e h
-hides_behind g moved i (x ∷ xs) ys h = let e : i + 1 + length xs ≡ i + suc (length xs) = omega arith in subst (λ (n : ℕ). HidesMovedSlotFrom g moved n ys) e (hides_behind g moved (i + 1) xs ys h.1)
+hides_behind : (g : Gstate) (moved : Option SlotPosition) (i : ℕ) (xs ys : List Pair) → HidesMovedSlotInPairsFromIndex g moved i (xs ++ ys) → HidesMovedSlotInPairsFromIndex g moved (i + length xs) ys
+hides_behind g moved i [] ys h = let e : i ≡ i + 0 = omega arith in subst (λ (n : ℕ). HidesMovedSlotInPairsFromIndex g moved n ys) e h
+hides_behind g moved i (x ∷ xs) ys h = let e : i + 1 + length xs ≡ i + suc (length xs) = omega arith in subst (λ (n : ℕ). HidesMovedSlotInPairsFromIndex g moved n ys) e (hides_behind g moved (i + 1) xs ys h.1)
 
-absent_run : (g : Gstate) (moved : Option Spot) (index : ℕ) (p : Pair) (run after : List Pair) (name : Name) → IsRun (p ∷ run) → HidesMovedSlotFrom g moved index (p ∷ (run ++ after))
+absent_run : (g : Gstate) (moved : Option SlotPosition) (index : ℕ) (p : Pair) (run after : List Pair) (name : Name) → IsRun (p ∷ run) → HidesMovedSlotInPairsFromIndex g moved index (p ∷ (run ++ after))
     → IsNameAbsentAlongHardTails moved index (p ∷ (run ++ after)) name → Each (IsOther name) (flat_map (entries_not_moved g) (p ∷ run))
 absent_run g moved index p [] after name is hides absent =
     each_append (IsOther name) (entries_not_moved g p) [] (visible_absent g p name (subst (λ k. IsNameAbsentExceptAtId k p.content.slots name) hides.0 absent.0)) tt
@@ -127,9 +127,9 @@ none_named name (x ∷ xs) h = ap (λ b. cond b (Some x) (entry_of_name name xs)
 -- ---- what the directory shows
 
 shows_at : (disk : Disk) (w : Site) (p : Pair) (a : ℕ × ℕ) → IsAcceptedImage disk (thread_at w (p ∷ [])) → IsSite w (p ∷ []) → same_pair (begin_of w (p ∷ [])) a ≡ true →
-    entries_by_directory_in_thread (thread_at w (p ∷ [])) a ≡ shown_at w (gstate_of (thread_at w (p ∷ []))) (p ∷ [])
+    entries_by_directory_in_thread (thread_at w (p ∷ [])) a ≡ shown_at w (gstate_of_pairs (thread_at w (p ∷ []))) (p ∷ [])
 shows_at disk w p a ok there same =
-    let g = gstate_of (thread_at w (p ∷ [])) in
+    let g = gstate_of_pairs (thread_at w (p ∷ [])) in
     let dirs = site_directories g w p [] there.ends there.run in
     ap (λ z. entries_of_directory (directories_of_pairs g z) a) (pairs_behind w.chain (dirs_at w (p ∷ [])) there.chain)
     ∙ ap (λ ds. entries_of_directory ds a) dirs
@@ -141,7 +141,7 @@ get_at [] u ys = refl
 get_at (x ∷ xs) u ys = get_at xs u ys
 
 -- the slot of its path is found
-pub shown_is : (disk : Disk) (ps : List Pair) (path : Path) (a : ℕ × ℕ) (moved : Option Spot) (first : ℕ) (name : Name) (spot : Spot) (entry : FileOrDirectory) → IsAcceptedImage disk ps → HidesMovedSlotFrom (gstate_of ps) moved 0 ps
+pub shown_is : (disk : Disk) (ps : List Pair) (path : Path) (a : ℕ × ℕ) (moved : Option SlotPosition) (first : ℕ) (name : Name) (spot : SlotPosition) (entry : FileOrDirectory) → IsAcceptedImage disk ps → HidesMovedSlotInPairsFromIndex (gstate_of_pairs ps) moved 0 ps
     → IsPathToDirectory ps path a → IsPairAtAddress ps a first → (s : IsUnhiddenNameAtSpot ps moved first name spot entry) → slot_of_path ps (path ++ name ∷ []) ≡ Some s.stands.stands.slot
 shown_is disk ps path a moved first name spot entry ok hides leads begins s =
     subst (λ z. slot_of_path ps (path ++ z ∷ []) ≡ Some u) s.stands.stands.named (slot_there disk ps path a h.at u ok leads h.is)
@@ -161,49 +161,49 @@ shown_is disk ps path a moved first name spot entry ok hides leads begins s =
     is : ps ≡ thread_at w (pair ∷ [])
     is = searches.thread_is disk ps path a ok leads first spot.pair s.stands.pair s.stands.rest s.stands.place begins
 
-    hidden : skipped_id_in_pair moved spot.pair ≡ hidden_id_of_pair (gstate_of ps) pair
+    hidden : skipped_id_in_pair moved spot.pair ≡ hidden_slot_id_in_pair (gstate_of_pairs ps) pair
     hidden =
         let whole : ps ≡ (b.front ++ b.left) ++ pair ∷ s.stands.rest = b.parts ∙ sym (append_assoc b.front b.left (pair ∷ s.stands.rest)) in
-        let behind = hides_behind (gstate_of ps) moved 0 (b.front ++ b.left) (pair ∷ s.stands.rest) (subst (HidesMovedSlotFrom (gstate_of ps) moved 0) whole hides) in
+        let behind = hides_behind (gstate_of_pairs ps) moved 0 (b.front ++ b.left) (pair ∷ s.stands.rest) (subst (HidesMovedSlotInPairsFromIndex (gstate_of_pairs ps) moved 0) whole hides) in
         let n = b.number in
         let l = length-append b.front b.left in
         let count : 0 + length (b.front ++ b.left) ≡ spot.pair = omega (arith, n, l) in
-        subst (λ (i : ℕ). skipped_id_in_pair moved i ≡ hidden_id_of_pair (gstate_of ps) pair) count behind.0
+        subst (λ (i : ℕ). skipped_id_in_pair moved i ≡ hidden_slot_id_in_pair (gstate_of_pairs ps) pair) count behind.0
 
-    here : Has (entries_not_moved (gstate_of ps) pair) u
+    here : Has (entries_not_moved (gstate_of_pairs ps) pair) u
     here =
         let at : slice_get pair.content.slots spot.id ≡ Some u = ap₂ (λ z (i : ℕ). slice_get z i) s.stands.stands.held (sym s.stands.stands.number) ∙ get_at s.stands.stands.left u s.stands.stands.right in
-        visible_has (gstate_of ps) pair u spot.id at s.stands.stands.entry (λ e. s.kept (hidden ∙ e))
+        visible_has (gstate_of_pairs ps) pair u spot.id at s.stands.stands.entry (λ e. s.kept (hidden ∙ e))
 
-    shows : entries_by_directory_in_thread ps a ≡ shown_at w (gstate_of ps) (pair ∷ [])
+    shows : entries_by_directory_in_thread ps a ≡ shown_at w (gstate_of_pairs ps) (pair ∷ [])
     shows = ap (λ z. entries_by_directory_in_thread z a) is
         ∙ shows_at disk w pair a (subst (IsAcceptedImage disk) is ok) (searches.is_site disk ps path a ok leads first spot.pair s.stands.pair s.stands.rest s.stands.place begins)
         (searches.same disk ps path a ok leads first spot.pair s.stands.pair s.stands.rest s.stands.place begins)
-        ∙ ap (λ z. shown_at w (gstate_of z) (pair ∷ [])) (sym is)
+        ∙ ap (λ z. shown_at w (gstate_of_pairs z) (pair ∷ [])) (sym is)
 
     h : Has (entries_by_directory_in_thread ps a) u
     h =
-        let one = has_left (entries_not_moved (gstate_of ps) pair) [] u here.at here.is in
-        let two = has_left (flat_map (entries_not_moved (gstate_of ps)) (pair ∷ [])) (flat_map (entries_not_moved (gstate_of ps)) w.right) u here.at one in
-        subst (λ z. Has z u) (sym shows) (has_right (flat_map (entries_not_moved (gstate_of ps)) w.left) (flat_map (entries_not_moved (gstate_of ps)) (pair ∷ []) ++ flat_map (entries_not_moved (gstate_of ps)) w.right) u here.at two)
+        let one = has_left (entries_not_moved (gstate_of_pairs ps) pair) [] u here.at here.is in
+        let two = has_left (flat_map (entries_not_moved (gstate_of_pairs ps)) (pair ∷ [])) (flat_map (entries_not_moved (gstate_of_pairs ps)) w.right) u here.at one in
+        subst (λ z. Has z u) (sym shows) (has_right (flat_map (entries_not_moved (gstate_of_pairs ps)) w.left) (flat_map (entries_not_moved (gstate_of_pairs ps)) (pair ∷ []) ++ flat_map (entries_not_moved (gstate_of_pairs ps)) w.right) u here.at two)
 
 drop_to : (xs ys : List Pair) (n : ℕ) → n ≡ length xs → drop n (xs ++ ys) ≡ ys
 drop_to [] ys n e = ap (λ k. drop k ys) e
 drop_to (x ∷ xs) ys n e = ap (λ k. drop k (x ∷ (xs ++ ys))) e ∙ drop_to xs ys (length xs) refl
 
 -- nothing of the name is shown
-pub absent_is_shown : (disk : Disk) (ps : List Pair) (path : Path) (a : ℕ × ℕ) (moved : Option Spot) (first : ℕ) (name : Name) → IsAcceptedImage disk ps → HidesMovedSlotFrom (gstate_of ps) moved 0 ps
+pub absent_is_shown : (disk : Disk) (ps : List Pair) (path : Path) (a : ℕ × ℕ) (moved : Option SlotPosition) (first : ℕ) (name : Name) → IsAcceptedImage disk ps → HidesMovedSlotInPairsFromIndex (gstate_of_pairs ps) moved 0 ps
     → IsPathToDirectory ps path a → IsPairAtAddress ps a first → IsNameAbsentAlongHardTails moved first (drop first ps) name → slot_of_path ps (path ++ name ∷ []) ≡ None
-absent_is_shown disk ps path a moved first name ok hides leads begins absent = walk_below (entries_by_directory_in_thread ps) (root_slot (root_directory_of_pairs ps)) path a leads name [] ∙ ap (option_and_then (λ z. Some z)) (none_named name (entries_by_directory_in_thread ps a) each)
+absent_is_shown disk ps path a moved first name ok hides leads begins absent = walk_below (entries_by_directory_in_thread ps) (root_slot (root_directory_address_of_pairs ps)) path a leads name [] ∙ ap (option_and_then (λ z. Some z)) (none_named name (entries_by_directory_in_thread ps a) each)
   where
     begun : IsDirectory ps a first
     begun = begins_directory disk ps path a first ok leads begins
 
-    d : HasDirectory (pairs_of_all_directories ps) a
+    d : HasDirectory (pairs_from_root_directory_on ps) a
     d = begun.directory
 
     g : Gstate
-    g = gstate_of ps
+    g = gstate_of_pairs ps
 
     chain : List Pair
     chain = take (pair_count_before_root ps) ps
@@ -220,20 +220,20 @@ absent_is_shown disk ps path a moved first name ok hides leads begins absent = w
     behind : drop first ps ≡ d.first ∷ (d.run ++ d.after)
     behind = ap (drop first) whole ∙ drop_to (take (pair_count_before_root ps) ps ++ d.before) (d.first ∷ (d.run ++ d.after)) first (sym count)
 
-    hidden : HidesMovedSlotFrom (gstate_of ps) moved first (d.first ∷ (d.run ++ d.after))
-    hidden = subst (λ (i : ℕ). HidesMovedSlotFrom (gstate_of ps) moved i (d.first ∷ (d.run ++ d.after))) (let c = count in let k : 0 + length (take (pair_count_before_root ps) ps ++ d.before) ≡ first = omega (arith, c) in k)
-        (hides_behind (gstate_of ps) moved 0 (take (pair_count_before_root ps) ps ++ d.before) (d.first ∷ (d.run ++ d.after)) (subst (HidesMovedSlotFrom (gstate_of ps) moved 0) whole hides))
+    hidden : HidesMovedSlotInPairsFromIndex (gstate_of_pairs ps) moved first (d.first ∷ (d.run ++ d.after))
+    hidden = subst (λ (i : ℕ). HidesMovedSlotInPairsFromIndex (gstate_of_pairs ps) moved i (d.first ∷ (d.run ++ d.after))) (let c = count in let k : 0 + length (take (pair_count_before_root ps) ps ++ d.before) ≡ first = omega (arith, c) in k)
+        (hides_behind (gstate_of_pairs ps) moved 0 (take (pair_count_before_root ps) ps ++ d.before) (d.first ∷ (d.run ++ d.after)) (subst (HidesMovedSlotInPairsFromIndex (gstate_of_pairs ps) moved 0) whole hides))
 
-    dirs : directories_of_pairs (gstate_of ps) (pairs_of_all_directories ps) ≡ directories_of_pairs (gstate_of ps) d.before ++ listing d.first.at (flat_map (entries_not_moved (gstate_of ps)) (d.first ∷ d.run)) ∷ directories_of_pairs (gstate_of ps) d.after
-    dirs = ap (directories_of_pairs (gstate_of ps)) d.is ∙ run_directories (gstate_of ps) d.before d.first d.run d.after d.ends d.is_run
+    dirs : directories_of_pairs (gstate_of_pairs ps) (pairs_from_root_directory_on ps) ≡ directories_of_pairs (gstate_of_pairs ps) d.before ++ listing d.first.at (flat_map (entries_not_moved (gstate_of_pairs ps)) (d.first ∷ d.run)) ∷ directories_of_pairs (gstate_of_pairs ps) d.after
+    dirs = ap (directories_of_pairs (gstate_of_pairs ps)) d.is ∙ run_directories (gstate_of_pairs ps) d.before d.first d.run d.after d.ends d.is_run
 
-    apart : Apart (directories_of_pairs (gstate_of ps) (pairs_of_all_directories ps))
-    apart = distinct_apart (gstate_of ps) (pairs_of_all_directories ps) (distinct_right (take (pair_count_before_root ps) ps) (pairs_of_all_directories ps) (subst (λ z. IsDistinct nat_eq (blocks_of_pairs z)) (chain_of_thread ps).0 ok.thread.distinct))
+    apart : Apart (directories_of_pairs (gstate_of_pairs ps) (pairs_from_root_directory_on ps))
+    apart = distinct_apart (gstate_of_pairs ps) (pairs_from_root_directory_on ps) (distinct_right (take (pair_count_before_root ps) ps) (pairs_from_root_directory_on ps) (subst (λ z. IsDistinct nat_eq (blocks_of_pairs z)) (chain_of_thread ps).0 ok.thread.distinct))
 
-    shows : entries_by_directory_in_thread ps a ≡ flat_map (entries_not_moved (gstate_of ps)) (d.first ∷ d.run)
+    shows : entries_by_directory_in_thread ps a ≡ flat_map (entries_not_moved (gstate_of_pairs ps)) (d.first ∷ d.run)
     shows = ap (λ ds. entries_of_directory ds a) dirs
-        ∙ entries_own (directories_of_pairs (gstate_of ps) d.before) (listing d.first.at (flat_map (entries_not_moved (gstate_of ps)) (d.first ∷ d.run))) (directories_of_pairs (gstate_of ps) d.after) a (subst Apart dirs apart) d.at
+        ∙ entries_own (directories_of_pairs (gstate_of_pairs ps) d.before) (listing d.first.at (flat_map (entries_not_moved (gstate_of_pairs ps)) (d.first ∷ d.run))) (directories_of_pairs (gstate_of_pairs ps) d.after) a (subst Apart dirs apart) d.at
 
     each : Each (IsOther name) (entries_by_directory_in_thread ps a)
     each = subst (Each (IsOther name)) (sym shows)
-        (absent_run (gstate_of ps) moved first d.first d.run d.after name d.is_run hidden (subst (λ z. IsNameAbsentAlongHardTails moved first z name) behind absent))
+        (absent_run (gstate_of_pairs ps) moved first d.first d.run d.after name d.is_run hidden (subst (λ z. IsNameAbsentAlongHardTails moved first z name) behind absent))

@@ -10,8 +10,8 @@ use Rattle.std.proofs.lemmas.Option.{same_Some}
 use Rattle.lfs_model.specs.Disk.{Disk}
 use Rattle.lfs_model.specs.Names.{Name}
 use Rattle.lfs_model.specs.Slots.{Slot, Struct, Inline, Ctz, Branch, same_pair}
-use Rattle.lfs_model.specs.Thread.{Pair, root_directory_of_pairs}
-use Rattle.lfs_model.specs.Tree.{Path, EntriesByDirectory, branch_address_of_struct, directory_address_from_slot, entry_of_name, root_slot, slot_at_path}
+use Rattle.lfs_model.specs.Thread.{Pair, root_directory_address_of_pairs}
+use Rattle.lfs_model.specs.Tree.{Path, EntriesByDirectory, branch_address_of_struct, directory_address_at_path_from_slot, entry_of_name, root_slot, slot_at_path}
 use Rattle.lfs_model.specs.InDirectory.{IsPairAtAddress}
 use Rattle.lfs_model.specs.SlotEdits.{slot_of_path}
 use Rattle.lfs_model.specs.View.{IsAcceptedImage}
@@ -20,7 +20,7 @@ use Rattle.lfs_model.proofs.Counts.{Each, each_weaker}
 use Rattle.lfs_model.proofs.Pairs.{pair_back, pair_on}
 use Rattle.lfs_model.proofs.Paths.{append_step}
 use Rattle.lfs_model.proofs.Walks.{walk_append}
-use Rattle.lfs_lookup.specs.Walk.{AreEntriesOfWalkedPushed, PathAndStruct}
+use Rattle.lfs_lookup.specs.Walk.{AreEntriesBelowWalkedEntryPushed, PathAndStruct}
 use Rattle.lfs_lookup.proofs.ByName.{AreRows}
 use Rattle.lfs_lookup.proofs.Directories.{begins_with, within}
 use Rattle.lfs_lookup.proofs.Visits.{IsNext, IsVisit, Visit, below, child, children, children_visited, each_both, leads_to, place_at, pushed_children}
@@ -28,17 +28,17 @@ use Rattle.lfs_lookup.proofs.Visits.{IsNext, IsVisit, Visit, below, child, child
 -- ---- how deep directories stand
 
 -- a path that goes on leads somewhere on its way
-leads_before : (E : EntriesByDirectory) (s : Slot) (p : Path) (n : Name) (r : Path) (a : ℕ × ℕ) → directory_address_from_slot E s (p ++ n ∷ r) ≡ Some a → (y : ℕ × ℕ) × (directory_address_from_slot E s p ≡ Some y)
+leads_before : (E : EntriesByDirectory) (s : Slot) (p : Path) (n : Name) (r : Path) (a : ℕ × ℕ) → directory_address_at_path_from_slot E s (p ++ n ∷ r) ≡ Some a → (y : ℕ × ℕ) × (directory_address_at_path_from_slot E s p ≡ Some y)
 leads_before E s p n r a e = go (slot_at_path E s p) refl
   where
     whole : option_and_then (λ found. branch_address_of_struct found.struct) (option_and_then (λ t. slot_at_path E t (n ∷ r)) (slot_at_path E s p)) ≡ Some a
     whole = sym (ap (option_and_then (λ found. branch_address_of_struct found.struct)) (walk_append E s p (n ∷ r))) ∙ e
 
-    go : (o : Option Slot) → slot_at_path E s p ≡ o → (y : ℕ × ℕ) × (directory_address_from_slot E s p ≡ Some y)
+    go : (o : Option Slot) → slot_at_path E s p ≡ o → (y : ℕ × ℕ) × (directory_address_at_path_from_slot E s p ≡ Some y)
     go None f = absurd (let k = sym (ap (λ o. option_and_then (λ found. branch_address_of_struct found.struct) (option_and_then (λ t. slot_at_path E t (n ∷ r)) o)) f) ∙ whole in cc)
     go (Some t) f = further (branch_address_of_struct t.struct) refl
       where
-        further : (o : Option (ℕ × ℕ)) → branch_address_of_struct t.struct ≡ o → (y : ℕ × ℕ) × (directory_address_from_slot E s p ≡ Some y)
+        further : (o : Option (ℕ × ℕ)) → branch_address_of_struct t.struct ≡ o → (y : ℕ × ℕ) × (directory_address_at_path_from_slot E s p ≡ Some y)
         further None g = absurd (let k = sym (ap (λ o. option_and_then (λ found. branch_address_of_struct found.struct) (option_and_then (λ t. slot_at_path E t (n ∷ r)) o)) f
             ∙ ap (λ b. option_and_then (λ found. branch_address_of_struct found.struct) (option_and_then (λ c. slot_at_path E c r) (option_and_then (λ at. entry_of_name n (E at)) b))) g) ∙ whole in cc)
         further (Some y) g = (y, ap (option_and_then (λ found. branch_address_of_struct found.struct)) f ∙ g)
@@ -78,7 +78,7 @@ stops disk ps p [] a ok leads =
     let n = begins_with disk ps p a ok here in
     record { numbers = n.0 ∷ []; many = refl; distinct = (tt, tt); each = (record { path = p; at = a; leads = here; long = omega arith; begins = n.1 }, tt) }
 stops disk ps p (name ∷ r) a ok leads =
-    let y = leads_before (entries_by_directory_in_thread ps) (root_slot (root_directory_of_pairs ps)) p name r a leads in
+    let y = leads_before (entries_by_directory_in_thread ps) (root_slot (root_directory_address_of_pairs ps)) p name r a leads in
     let n = begins_with disk ps p y.0 ok y.1 in
     let more = stops disk ps (p ++ name ∷ []) r a ok (subst (λ q. IsPathToDirectory ps q a) (sym (append_step p name r)) leads) in
     let long = length-append p (name ∷ []) in
@@ -180,13 +180,13 @@ load_children levels E path [] = refl
 load_children levels E path (s ∷ slots) = ap (λ n. size_within levels E s.struct + n) (load_children levels E path slots)
 
 -- Less is left after a visit: what stands beneath, without the one that was visited.
-pub less_left : (disk : Disk) (ps : List Pair) (done rest new : List PathAndStruct) (next : PathAndStruct) → IsAcceptedImage disk ps → IsNext disk ps done next rest → AreEntriesOfWalkedPushed ps next rest new →
+pub less_left : (disk : Disk) (ps : List Pair) (done rest new : List PathAndStruct) (next : PathAndStruct) → IsAcceptedImage disk ps → IsNext disk ps done next rest → AreEntriesBelowWalkedEntryPushed ps next rest new →
     load_list_into_memory (length ps) (entries_by_directory_in_thread ps) new < load_list_into_memory (length ps) (entries_by_directory_in_thread ps) (rest ++ next ∷ [])
 less_left disk ps done rest new next ok n pushed =
     let E = entries_by_directory_in_thread ps in
     let L = length ps in
     let slots = below E n.visit.slot.struct in
-    let r = pushed_children disk ps n.visit rest new ok n.is_visit.leads (subst (λ p. AreEntriesOfWalkedPushed ps p rest new) n.is pushed) in
+    let r = pushed_children disk ps n.visit rest new ok n.is_visit.leads (subst (λ p. AreEntriesBelowWalkedEntryPushed ps p rest new) n.is pushed) in
     let now = map place_at (map (child n.visit.path) r.0) in
     let a : load_list_into_memory L E new ≡ load_list_into_memory L E now + load_list_into_memory L E (reverse rest) = sym (load_reverse L E new) ∙ ap (load_list_into_memory L E) r.1.1 ∙ load_append L E now (reverse rest) in
     let b : load_list_into_memory L E (reverse rest) ≡ load_list_into_memory L E rest = load_reverse L E rest in

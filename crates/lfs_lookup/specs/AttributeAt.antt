@@ -4,12 +4,12 @@ use Rattle.std.specs.Option.{option_map, option_map_or}
 use Rattle.std.specs.declared.alloc.Global.{Global}
 use Rattle.lfs_model.specs.Content.{attribute_bytes_of_type, attributes_with_attribute}
 use Rattle.lfs_model.specs.Slots.{Attributes, Slot, attributes_size}
-use Rattle.lfs_thread.specs.Kept.{Kept, ThreadView}
+use Rattle.lfs_thread.specs.Kept.{KeptThread, ThreadView}
 use Rattle.lfs_thread.specs.CachedLog.{cached_log}
 use Rattle.lfs_lookup.specs.BytesAt.{IsSlotAtSpot}
-use Rattle.lfs_lookup.specs.declared.paths.Shown.{Shown}
-use Rattle.lfs_lookup.specs.declared.paths.Shown.TheVariants as shown
-use Rattle.lfs_lookup.specs.declared.search.Spot.{Spot}
+use Rattle.lfs_lookup.specs.declared.paths.VisiblePathLookup.{VisiblePathLookup}
+use Rattle.lfs_lookup.specs.declared.paths.VisiblePathLookup.TheVariants as shown
+use Rattle.lfs_lookup.specs.declared.search.SlotPosition.{SlotPosition}
 
 -- the attribute of that type, or none
 abbrev pub IsAttributeOfTypeOrNone : ℕ → Attributes → Option (Vec ℕ Global) → Type 0
@@ -19,17 +19,17 @@ abbrev pub IsAttributeInSizeLimit : Option (Vec ℕ Global) → Type 0
 IsAttributeInSizeLimit found = IfSome found (λ v. length v.items ≤ 1022)
 
 -- the slot of a file or of a directory
-abbrev pub spot_of_lookup_result : Shown → Option Spot
+abbrev pub spot_of_lookup_result : VisiblePathLookup → Option SlotPosition
 spot_of_lookup_result (shown.File slot contents) = Some slot
 spot_of_lookup_result (shown.Directory slot first) = Some slot
 spot_of_lookup_result _ = None
 
 -- the block of that slot's pair is cached
-abbrev pub IsPairOfFoundSlotCached : ThreadView → Shown → Type 0
-IsPairOfFoundSlotCached t s = IfSome (spot_of_lookup_result s) (λ slot. IsSome (cached_log t slot.pair))
+abbrev pub IsLogBlockOfFoundSlotCached : ThreadView → VisiblePathLookup → Type 0
+IsLogBlockOfFoundSlotCached t s = IfSome (spot_of_lookup_result s) (λ slot. IsSome (cached_log t slot.pair))
 
 -- the attributes of the slot, if there is one
-abbrev pub AreAttributesOfSlotAtSpot : Kept → Option Spot → Attributes → Type 0
+abbrev pub AreAttributesOfSlotAtSpot : KeptThread → Option SlotPosition → Attributes → Type 0
 AreAttributesOfSlotAtSpot t None attributes = attributes ≡ []
 AreAttributesOfSlotAtSpot t (Some spot) attributes = (slot : Slot) × (IsSlotAtSpot t spot slot × (slot.attributes ≡ attributes))
 

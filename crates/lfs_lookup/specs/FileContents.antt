@@ -6,14 +6,14 @@ use Rattle.lfs_model.specs.Slots.{Struct, Inline, Ctz}
 use Rattle.lfs_model.specs.Thread.{Pair}
 use Rattle.lfs_model.specs.Tree.{Path}
 use Rattle.lfs_model.specs.TreeEdits.{is_file}
-use Rattle.lfs_thread.specs.Kept.{Kept}
+use Rattle.lfs_thread.specs.Kept.{KeptThread}
 use Rattle.lfs_lookup.specs.declared.file_contents.FileContents.{FileContents}
 use Rattle.lfs_lookup.specs.declared.file_contents.FileContents.TheVariants as contents
 
 -- the struct of an entry with these contents
-abbrev pub struct_of : FileContents → Struct
-struct_of (contents.Inline bytes) = Inline bytes.items
-struct_of (contents.List head size) = Ctz head size
+abbrev pub struct_of_file_contents : FileContents → Struct
+struct_of_file_contents (contents.Inline bytes) = Inline bytes.items
+struct_of_file_contents (contents.List head size) = Ctz head size
 
 -- inline bytes are in an entry
 abbrev pub AreContentsInInlineLimit : FileContents → Type 0
@@ -22,15 +22,15 @@ AreContentsInInlineLimit (contents.List head size) = Unit {0}
 
 -- these are the contents that an entry with this struct has
 pub record AreFileContentsOfStruct (s : Struct) (contents : FileContents) : Type 0 where
-  pub struct : struct_of contents ≡ s
+  pub struct : struct_of_file_contents contents ≡ s
   pub fits : AreContentsInInlineLimit contents
 
 -- these are the contents of the entry at the path
 pub record AreFileContentsAtPath (ps : List Pair) (path : Path) (contents : FileContents) : Type 0 where
-  pub struct : struct_of_path ps path ≡ Some (struct_of contents)
+  pub struct : struct_of_path ps path ≡ Some (struct_of_file_contents contents)
   pub fits : AreContentsInInlineLimit contents
 
 -- the contents of the file at the path, or none where no file is
-abbrev pub AreContentsOfFileAtPathOrNone : Kept → Path → Option FileContents → Type 0
+abbrev pub AreContentsOfFileAtPathOrNone : KeptThread → Path → Option FileContents → Type 0
 AreContentsOfFileAtPathOrNone t path None = is_file (tree_on_disk t.disk t.pairs path) ≡ false
 AreContentsOfFileAtPathOrNone t path (Some contents) = AreFileContentsAtPath t.pairs path contents

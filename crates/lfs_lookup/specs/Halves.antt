@@ -2,13 +2,13 @@
 use Rattle.std.specs.Prelude.{ℕ, zero, suc, ◌≡◌, ◌+◌, ◌/◌, ◌<◌, ◌≤◌, false, List, [], ◌∷◌, drop, length, sum_by}
 use Rattle.std.specs.List.{AllByRecursion}
 use Rattle.lfs_model.specs.Frame.{pair_count_of_directory_at}
-use Rattle.lfs_model.specs.History.{reads}
-use Rattle.lfs_model.specs.InDirectory.{last_has_hard_tail, hard_tail_joined_pair_count}
+use Rattle.lfs_model.specs.History.{read_count_of_history}
+use Rattle.lfs_model.specs.InDirectory.{last_pair_has_hard_tail, hard_tail_joined_pair_count}
 use Rattle.lfs_model.specs.Thread.{Pair}
 use Rattle.lfs_model.specs.Tree.{Path}
 use Rattle.lfs_thread.specs.Kept.{ThreadView}
 use Rattle.lfs_lookup.specs.CachedPairs.{pairs_of_directory_at_path}
-use Rattle.lfs_lookup.specs.Listed.{hard_tail_run}
+use Rattle.lfs_lookup.specs.Listed.{hard_tail_joined_pairs}
 
 -- how often a number is halved, rounded down, until nothing is left, in so many steps at most
 abbrev pub halvings_within_steps : ℕ → ℕ → ℕ
@@ -35,12 +35,12 @@ halvings_of_directory_pairs ps path = halvings_until_zero (pair_count_of_directo
 -- the last of these pairs, if there is one, has no hard tail
 abbrev pub EndsWithoutHardTail : List Pair → Type 0
 EndsWithoutHardTail [] = Unit {0}
-EndsWithoutHardTail (p ∷ ps) = last_has_hard_tail p ps ≡ false
+EndsWithoutHardTail (p ∷ ps) = last_pair_has_hard_tail p ps ≡ false
 
 -- Where each pair of the directories at these paths has a slot, the reads are at most the sum of their halvings.
-abbrev pub ReadsAtMostHalvingsOfPaths : ThreadView → ThreadView → List Path → Type 0
-ReadsAtMostHalvingsOfPaths old new paths = HasSlotInEachPairOnPaths old.kept.pairs paths → reads new.kept.history ≤ reads old.kept.history + sum_by (halvings_of_directory_pairs old.kept.pairs) paths
+abbrev pub ReadsAtMostBinarySearchesOnPaths : ThreadView → ThreadView → List Path → Type 0
+ReadsAtMostBinarySearchesOnPaths old new paths = HasSlotInEachPairOnPaths old.kept.pairs paths → read_count_of_history new.kept.history ≤ read_count_of_history old.kept.history + sum_by (halvings_of_directory_pairs old.kept.pairs) paths
 
 -- Where each pair of the directory that begins with the pair of number `first` has a slot, the reads are at most its halvings.
-abbrev pub ReadsAtMostHalvingsOfDirectory : ThreadView → ThreadView → ℕ → Type 0
-ReadsAtMostHalvingsOfDirectory old new first = HasSlotInEachPair (hard_tail_run (drop first old.kept.pairs)) → reads new.kept.history ≤ reads old.kept.history + halvings_until_zero (hard_tail_joined_pair_count (drop first old.kept.pairs))
+abbrev pub ReadsAtMostBinarySearchOfDirectory : ThreadView → ThreadView → ℕ → Type 0
+ReadsAtMostBinarySearchOfDirectory old new first = HasSlotInEachPair (hard_tail_joined_pairs (drop first old.kept.pairs)) → read_count_of_history new.kept.history ≤ read_count_of_history old.kept.history + halvings_until_zero (hard_tail_joined_pair_count (drop first old.kept.pairs))

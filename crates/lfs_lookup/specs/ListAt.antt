@@ -6,13 +6,13 @@ use Rattle.lfs_model.specs.Slots.{Struct, Inline, Ctz, Branch}
 use Rattle.lfs_lookup.specs.Items.{NameAndStruct}
 
 -- how many bytes a file has
-abbrev pub listed_size_of_struct : Struct → Option ℕ
-listed_size_of_struct (Inline bytes) = Some (length bytes)
-listed_size_of_struct (Ctz head size) = Some size
-listed_size_of_struct (Branch to) = None
+abbrev pub listed_size_of_struct_if_file : Struct → Option ℕ
+listed_size_of_struct_if_file (Inline bytes) = Some (length bytes)
+listed_size_of_struct_if_file (Ctz head size) = Some size
+listed_size_of_struct_if_file (Branch to) = None
 
-abbrev pub listed_item_of_entry : NameAndStruct → ops.Item
-listed_item_of_entry x = record { name = x.name; size = listed_size_of_struct x.struct }
+abbrev pub listed_item_of_entry : NameAndStruct → ops.ListedEntry
+listed_item_of_entry x = record { name = x.name; size = listed_size_of_struct_if_file x.struct }
 
 -- inline bytes are in an entry
 abbrev pub IsStructInInlineLimit : Struct → Type 0

@@ -19,7 +19,7 @@ pub(crate) fn pair_addresses_of_thread<D: BlockDevice>(
 {
     let mut addresses = PairAddressList::new(alloc);
     for index in 0..thread.len() {
-        addresses.add(thread.address(index))?;
+        addresses.add(thread.blocks_of_pair(index))?;
     }
     Ok(addresses)
 }

@@ -3,27 +3,27 @@
 ghost use Rattle.std.specs.Prelude.{◌≡◌, ◌≤◌, ◌<◌, ◌+◌, IfErr, IfOk, IsSome, Some, false, length, map, slice_get, sum_by};
 ghost use Rattle.lfs_model.specs.TreeEdits.{attributes_of_node};
 ghost use Rattle.lfs_model.specs.Content.{slot_of_id};
-ghost use Rattle.lfs_model.specs.Frame.{pair_count_of_directory_at, parents};
-ghost use Rattle.lfs_model.specs.History.{reads};
+ghost use Rattle.lfs_model.specs.Frame.{pair_count_of_directory_at, ancestor_paths_of_path};
+ghost use Rattle.lfs_model.specs.History.{read_count_of_history};
 ghost use Rattle.lfs_model.specs.LoggedContent.{AreAttributesInTypeOrder, AreWellFormedRawSlots};
-ghost use Rattle.lfs_model.specs.Slots.{Content as ModelContent, Slot as ModelSlot, attributes_size};
+ghost use Rattle.lfs_model.specs.Slots.{PairContent as ModelContent, Slot as ModelSlot, attributes_size};
 ghost use Rattle.lfs_model.specs.Slots.{zero_gstate};
-ghost use Rattle.lfs_model.specs.Thread.{gstate_of, pair_count_before_root};
+ghost use Rattle.lfs_model.specs.Thread.{gstate_of_pairs, pair_count_before_root};
 ghost use Rattle.lfs_model.specs.View.{IsAcceptedImage};
 ghost use Rattle.lfs_model.specs.Shown.{tree_on_disk};
 ghost use Rattle.lfs_tag.specs.ContentView.{attribute_view, slot_view};
 ghost use Rattle.lfs_thread.specs.CachedLog.{IsLogBlockOfContent, cached_log};
-ghost use Rattle.lfs_lookup.specs.CachedPairs.{AreDirectoriesCached};
+ghost use Rattle.lfs_lookup.specs.CachedPairs.{AreDirectoriesAtThesePathsCached};
 ghost use Rattle.lfs_lookup.specs.AttributeAt.{IsAttributesSize};
 ghost use Rattle.lfs_lookup.specs.BytesAt.{IsSlotAtSpot};
-ghost use Rattle.lfs_lookup.specs.Halves.{ReadsAtMostHalvingsOfPaths};
+ghost use Rattle.lfs_lookup.specs.Halves.{ReadsAtMostBinarySearchesOnPaths};
 ghost use Rattle.lfs_lookup.specs.Reading.{OnlyReadsThreadAndReportsErrors};
-ghost use Rattle.lfs_lookup.specs.Search.{HasLogWithCompleteContent};
+ghost use Rattle.lfs_lookup.specs.Search.{HasLogWhoseSlotsHaveNameAndStruct};
 
-use crate::attributes::spot_of_shown_entry;
-use crate::by_path::shown_at;
+use crate::attributes::spot_of_entry_if_found;
+use crate::by_path::lookup_result_at_path;
 use crate::path::Path;
-use crate::search::Spot;
+use crate::search::SlotPosition;
 use lfs_device::{BlockDevice, Error};
 use lfs_tag::{Attribute, Content, Log, Slot};
 use lfs_thread::Thread;
@@ -42,7 +42,7 @@ fn size_of_all_attributes(attributes: &[Attribute<'_>]) -> usize
 }
 
 // Returns the size of the attributes of the slot at an id. There is no slot past the last.
-fn attributes_size_in_slots(slots: &[Slot<'_>], id: u16) -> usize
+fn attributes_size_of_id_in_slots(slots: &[Slot<'_>], id: u16) -> usize
     requires { AreWellFormedRawSlots (map slot_view slots.now) }
     ensures { result ≡ attributes_size (slot_of_id (map slot_view slots.now) id).attributes }
 {
@@ -53,20 +53,20 @@ fn attributes_size_in_slots(slots: &[Slot<'_>], id: u16) -> usize
 }
 
 // Returns the size of the attributes of a slot of a log.
-fn attributes_size_in_log(alloc: Global, log: &Log<'_>, id: u16) -> Result<usize, Error>
-    requires { HasLogWithCompleteContent log.now }
+fn attributes_size_of_id_in_log(alloc: Global, log: &Log<'_>, id: u16) -> Result<usize, Error>
+    requires { HasLogWhoseSlotsHaveNameAndStruct log.now }
     ensures is { (content : ModelContent) (slot : ModelSlot) → IsLogBlockOfContent log.now content → slice_get content.slots id ≡ Some slot → IfOk result (IsAttributesSize slot.attributes) }
     ensures errors { IfErr result (λ e. e ≡ Error.NoMemory) }
 {
     let content = Content::read(alloc, log)?;
-    Ok(attributes_size_in_slots(&content.slots, id))
+    Ok(attributes_size_of_id_in_slots(&content.slots, id))
 }
 
 // Returns the size of the attributes of a slot, whose block is loaded into the cache.
 fn attributes_size_of_slot<D: BlockDevice>(
     alloc: Global,
     thread: &mut Thread<D>,
-    slot: Spot,
+    slot: SlotPosition,
 ) -> Result<usize, Error>
     requires works { thread.old.failed ≡ false }
     requires below { slot.pair < length thread.old.kept.pairs }
@@ -76,18 +76,18 @@ fn attributes_size_of_slot<D: BlockDevice>(
     ensures reading { OnlyReadsThreadAndReportsErrors thread.old thread.new result }
 {
     thread.load_pair(slot.pair)?;
-    attributes_size_in_log(alloc, &thread.lend(slot.pair).unwrap(), slot.id)
+    attributes_size_of_id_in_log(alloc, &thread.lend(slot.pair).unwrap(), slot.id)
 }
 
 /// Returns how many bytes the attributes of the entry at a path take in its pair, each with its tag
 /// of 4 bytes. Returns 0 where no entry is there, and for the root. The call reads no more pairs
-/// than the directories above the path have, as [`crate::shown_at`], and none where all these are
+/// than the directories above the path have, as [`crate::lookup_result_at_path`], and none where all these are
 /// cached.
 ///
 /// `root` is the number of the root directory's first pair.
 ///
 /// Errors: `Io` where a read failed. `NoMemory` where memory isn't granted.
-pub fn attributes_size_at<D: BlockDevice>(
+pub fn find_total_size_of_attributes_at_path<D: BlockDevice>(
     alloc: Global,
     thread: &mut Thread<D>,
     root: usize,
@@ -97,13 +97,13 @@ pub fn attributes_size_at<D: BlockDevice>(
     requires accepted { IsAcceptedImage thread.old.kept.disk thread.old.kept.pairs }
     requires root { root ≡ pair_count_before_root thread.old.kept.pairs }
     ensures is { IfOk result (IsAttributesSize (attributes_of_node (tree_on_disk thread.old.kept.disk thread.old.kept.pairs path.now))) }
-    ensures few { reads thread.new.kept.history ≤ reads thread.old.kept.history + sum_by (pair_count_of_directory_at thread.old.kept.pairs) (parents path.now) }
-    ensures halves { gstate_of thread.old.kept.pairs ≡ zero_gstate → ReadsAtMostHalvingsOfPaths thread.old thread.new (parents path.now) }
-    ensures kept { AreDirectoriesCached thread.old (parents path.now) → reads thread.new.kept.history ≡ reads thread.old.kept.history }
+    ensures few { read_count_of_history thread.new.kept.history ≤ read_count_of_history thread.old.kept.history + sum_by (pair_count_of_directory_at thread.old.kept.pairs) (ancestor_paths_of_path path.now) }
+    ensures halves { gstate_of_pairs thread.old.kept.pairs ≡ zero_gstate → ReadsAtMostBinarySearchesOnPaths thread.old thread.new (ancestor_paths_of_path path.now) }
+    ensures kept { AreDirectoriesAtThesePathsCached thread.old (ancestor_paths_of_path path.now) → read_count_of_history thread.new.kept.history ≡ read_count_of_history thread.old.kept.history }
     ensures reading { OnlyReadsThreadAndReportsErrors thread.old thread.new result }
 {
-    let shown = shown_at(alloc, thread, root, path)?;
-    let Some(slot) = spot_of_shown_entry(shown) else {
+    let shown = lookup_result_at_path(alloc, thread, root, path)?;
+    let Some(slot) = spot_of_entry_if_found(shown) else {
         return Ok(0);
     };
     attributes_size_of_slot(alloc, thread, slot)

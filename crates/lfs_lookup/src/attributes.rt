@@ -4,26 +4,26 @@ ghost use Rattle.std.specs.Prelude.{◌≡◌, ◌<◌, ◌≤◌, ◌+◌, IfEr
 ghost use Rattle.std.specs.Option.{option_copied, option_map};
 ghost use Rattle.lfs_model.specs.TreeEdits.{attributes_of_node};
 ghost use Rattle.lfs_model.specs.Content.{attribute_bytes_of_type};
-ghost use Rattle.lfs_model.specs.Frame.{pair_count_of_directory_at, parents};
-ghost use Rattle.lfs_model.specs.History.{reads};
-ghost use Rattle.lfs_model.specs.Slots.{Attributes, Content as ModelContent, Slot, zero_gstate};
-ghost use Rattle.lfs_model.specs.Thread.{gstate_of, pair_count_before_root};
+ghost use Rattle.lfs_model.specs.Frame.{pair_count_of_directory_at, ancestor_paths_of_path};
+ghost use Rattle.lfs_model.specs.History.{read_count_of_history};
+ghost use Rattle.lfs_model.specs.Slots.{Attributes, PairContent as ModelContent, Slot, zero_gstate};
+ghost use Rattle.lfs_model.specs.Thread.{gstate_of_pairs, pair_count_before_root};
 ghost use Rattle.lfs_model.specs.View.{IsAcceptedImage};
 ghost use Rattle.lfs_model.specs.Shown.{tree_on_disk};
 ghost use Rattle.lfs_thread.specs.CachedLog.{IsLogBlockOfContent, cached_log};
-ghost use Rattle.lfs_lookup.specs.CachedPairs.{AreDirectoriesCached};
+ghost use Rattle.lfs_lookup.specs.CachedPairs.{AreDirectoriesAtThesePathsCached};
 ghost use Rattle.lfs_lookup.specs.AttributeAt.{AreAttributesOfSlotAtSpot, IsAttributeOfTypeOrNone, IsAttributeInSizeLimit, spot_of_lookup_result};
 ghost use Rattle.lfs_lookup.specs.BytesAt.{IsSlotAtSpot};
 ghost use Rattle.lfs_lookup.specs.Finds.{IsFoundNodeAtPath};
-ghost use Rattle.lfs_lookup.specs.Halves.{ReadsAtMostHalvingsOfPaths};
+ghost use Rattle.lfs_lookup.specs.Halves.{ReadsAtMostBinarySearchesOnPaths};
 ghost use Rattle.lfs_lookup.specs.Reading.{OnlyReadsThreadAndReportsErrors};
-ghost use Rattle.lfs_lookup.specs.Search.{HasLogWithCompleteContent};
+ghost use Rattle.lfs_lookup.specs.Search.{HasLogWhoseSlotsHaveNameAndStruct};
 
-use crate::by_path::{found_node_of, shown_at};
+use crate::by_path::{found_node_from_lookup_result, lookup_result_at_path};
 use crate::found_entries::FoundAttribute;
 use crate::path::Path;
-use crate::paths::Shown;
-use crate::search::Spot;
+use crate::paths::VisiblePathLookup;
+use crate::search::SlotPosition;
 use lfs_device::{BlockDevice, Error};
 use lfs_tag::kinds::ATTRIBUTE;
 use lfs_tag::{Log, Steps, get};
@@ -33,7 +33,7 @@ use std::alloc::{AllocError, Global};
 // Returns the bytes of an attribute of a slot of a log. Returns None where the slot hasn't that
 // attribute.
 fn attribute_in_log<'a>(log: &Log<'a>, kind: u8, id: u16) -> Option<&'a [u8]>
-    requires { HasLogWithCompleteContent log.now }
+    requires { HasLogWhoseSlotsHaveNameAndStruct log.now }
     ensures short { IfSome result (λ bytes. length bytes.now ≤ 1022) }
     ensures is { (content : ModelContent) (slot : Slot) → IsLogBlockOfContent log.now content → slice_get content.slots id ≡ Some slot → option_copied result ≡ attribute_bytes_of_type kind slot.attributes }
 {
@@ -57,8 +57,13 @@ fn copy_of_optional_bytes(
 }
 
 // Copies an attribute of a slot of a log.
-fn copy_attribute(alloc: Global, log: &Log<'_>, kind: u8, id: u16) -> Result<Option<Vec<u8>>, Error>
-    requires { HasLogWithCompleteContent log.now }
+fn copy_attribute_from_log(
+    alloc: Global,
+    log: &Log<'_>,
+    kind: u8,
+    id: u16,
+) -> Result<Option<Vec<u8>>, Error>
+    requires { HasLogWhoseSlotsHaveNameAndStruct log.now }
     ensures short { IfOk result IsAttributeInSizeLimit }
     ensures is { (content : ModelContent) (slot : Slot) → IsLogBlockOfContent log.now content → slice_get content.slots id ≡ Some slot → IfOk result (IsAttributeOfTypeOrNone kind slot.attributes) }
     ensures errors { IfErr result (λ e. e ≡ Error.NoMemory) }
@@ -71,7 +76,7 @@ fn copy_attribute(alloc: Global, log: &Log<'_>, kind: u8, id: u16) -> Result<Opt
 fn attribute_of_slot<D: BlockDevice>(
     alloc: Global,
     thread: &mut Thread<D>,
-    slot: Spot,
+    slot: SlotPosition,
     kind: u8,
 ) -> Result<Option<Vec<u8>>, Error>
     requires works { thread.old.failed ≡ false }
@@ -83,25 +88,25 @@ fn attribute_of_slot<D: BlockDevice>(
     ensures reading { OnlyReadsThreadAndReportsErrors thread.old thread.new result }
 {
     thread.load_pair(slot.pair)?;
-    copy_attribute(alloc, &thread.lend(slot.pair).unwrap(), kind, slot.id)
+    copy_attribute_from_log(alloc, &thread.lend(slot.pair).unwrap(), kind, slot.id)
 }
 
 // Returns the slot of a file or of a directory. The root has none.
-pub(crate) fn spot_of_shown_entry(shown: Shown) -> Option<Spot>
+pub(crate) fn spot_of_entry_if_found(shown: VisiblePathLookup) -> Option<SlotPosition>
     ensures { result ≡ spot_of_lookup_result shown }
 {
     match shown {
-        Shown::File { slot, .. } => Some(slot),
-        Shown::Directory { slot, .. } => Some(slot),
+        VisiblePathLookup::File { slot, .. } => Some(slot),
+        VisiblePathLookup::Directory { slot, .. } => Some(slot),
         _ => None,
     }
 }
 
 // Returns an attribute of the slot, if there is one.
-fn attribute_if_slot<D: BlockDevice>(
+fn attribute_of_optional_slot<D: BlockDevice>(
     alloc: Global,
     thread: &mut Thread<D>,
-    slot: Option<Spot>,
+    slot: Option<SlotPosition>,
     kind: u8,
 ) -> Result<Option<Vec<u8>>, Error>
     requires works { thread.old.failed ≡ false }
@@ -120,12 +125,12 @@ fn attribute_if_slot<D: BlockDevice>(
 
 /// Returns what a path leads to, and its attribute of type `kind`, if it has one. The attribute has
 /// at most 1,022 bytes; the root has none. The call reads no more pairs than the directories above
-/// the path have, as [`crate::shown_at`], and none where all these are cached.
+/// the path have, as [`crate::lookup_result_at_path`], and none where all these are cached.
 ///
 /// `root` is the number of the root directory's first pair.
 ///
 /// Errors: `Io` where a read failed. `NoMemory` where memory isn't granted.
-pub fn attribute_at<D: BlockDevice>(
+pub fn find_attribute_at_path<D: BlockDevice>(
     alloc: Global,
     thread: &mut Thread<D>,
     root: usize,
@@ -138,17 +143,17 @@ pub fn attribute_at<D: BlockDevice>(
     ensures found { IfOk result (λ found. IsFoundNodeAtPath (tree_on_disk thread.old.kept.disk thread.old.kept.pairs) path.now found.finding) }
     ensures short { IfOk result (λ found. IsAttributeInSizeLimit found.bytes) }
     ensures is { IfOk result (λ found. IsAttributeOfTypeOrNone kind (attributes_of_node (tree_on_disk thread.old.kept.disk thread.old.kept.pairs path.now)) found.bytes) }
-    ensures few { reads thread.new.kept.history ≤ reads thread.old.kept.history + sum_by (pair_count_of_directory_at thread.old.kept.pairs) (parents path.now) }
-    ensures halves { gstate_of thread.old.kept.pairs ≡ zero_gstate → ReadsAtMostHalvingsOfPaths thread.old thread.new (parents path.now) }
-    ensures kept { AreDirectoriesCached thread.old (parents path.now) → reads thread.new.kept.history ≡ reads thread.old.kept.history }
+    ensures few { read_count_of_history thread.new.kept.history ≤ read_count_of_history thread.old.kept.history + sum_by (pair_count_of_directory_at thread.old.kept.pairs) (ancestor_paths_of_path path.now) }
+    ensures halves { gstate_of_pairs thread.old.kept.pairs ≡ zero_gstate → ReadsAtMostBinarySearchesOnPaths thread.old thread.new (ancestor_paths_of_path path.now) }
+    ensures kept { AreDirectoriesAtThesePathsCached thread.old (ancestor_paths_of_path path.now) → read_count_of_history thread.new.kept.history ≡ read_count_of_history thread.old.kept.history }
     ensures reading { OnlyReadsThreadAndReportsErrors thread.old thread.new result }
 {
-    let shown = shown_at(alloc, thread, root, path)?;
-    let bytes = attribute_if_slot(alloc, thread, spot_of_shown_entry(shown), kind)?;
+    let shown = lookup_result_at_path(alloc, thread, root, path)?;
+    let bytes = attribute_of_optional_slot(alloc, thread, spot_of_entry_if_found(shown), kind)?;
     // By the sizes of its blocks a list has as many bytes as its entry says.
     let _device = thread.device();
     Ok(FoundAttribute {
-        finding: found_node_of(shown),
+        finding: found_node_from_lookup_result(shown),
         bytes,
     })
 }

@@ -2,10 +2,10 @@
 
 ghost use Rattle.std.specs.Prelude.{◌≡◌, ◌≤◌, ◌<◌, ◌+◌, ◌^◌, List, ℕ, IfOk, IfErr, IsSome, Some, drop, false, length, slice_get, take};
 ghost use Rattle.std.specs.Option.{option_copied};
-ghost use Rattle.lfs_model.specs.TreeEdits.{bytes_at};
-ghost use Rattle.lfs_model.specs.History.{reads};
+ghost use Rattle.lfs_model.specs.TreeEdits.{file_bytes_of_node};
+ghost use Rattle.lfs_model.specs.History.{read_count_of_history};
 ghost use Rattle.lfs_model.specs.SkipLists.{IsSkipList};
-ghost use Rattle.lfs_model.specs.Slots.{Content as ModelContent, Inline, Slot};
+ghost use Rattle.lfs_model.specs.Slots.{PairContent as ModelContent, Inline, Slot};
 ghost use Rattle.lfs_model.specs.Thread.{pair_count_before_root};
 ghost use Rattle.lfs_model.specs.View.{IsAcceptedImage};
 ghost use Rattle.lfs_model.specs.Shown.{skip_list_bytes_on_disk, tree_on_disk};
@@ -14,12 +14,12 @@ ghost use Rattle.lfs_lookup.specs.BytesAt.{IsFileSlotAtSpot, IsSlotAtSpot, spot_
 ghost use Rattle.lfs_lookup.specs.FileBytes.{file_bytes_of_struct};
 ghost use Rattle.lfs_lookup.specs.Reading.{OnlyReadsThreadAndReportsErrors};
 
-use crate::by_path::shown_at;
+use crate::by_path::lookup_result_at_path;
 use crate::entry::FileStorage;
 use crate::file_bytes::zeros;
 use crate::path::Path;
-use crate::paths::Shown;
-use crate::search::Spot;
+use crate::paths::VisiblePathLookup;
+use crate::search::SlotPosition;
 use core::cmp::min;
 use lfs_device::{BlockDevice, Error};
 use lfs_tag::kinds::INLINE_STRUCT;
@@ -49,7 +49,7 @@ fn inline_bytes_in_log<'a>(log: &Log<'a>, id: u16) -> Option<&'a [u8]>
 }
 
 // Returns some of the inline bytes of a slot of a log.
-fn copy_inline_in_log(
+fn copy_inline_bytes_from_log(
     alloc: Global,
     log: &Log<'_>,
     id: u16,
@@ -72,7 +72,7 @@ fn copy_inline_in_log(
 pub fn read_inline_bytes_at<D: BlockDevice>(
     alloc: Global,
     thread: &mut Thread<D>,
-    slot: Spot,
+    slot: SlotPosition,
     position: u32,
     count: usize,
 ) -> Result<Vec<u8>, Error>
@@ -80,11 +80,11 @@ pub fn read_inline_bytes_at<D: BlockDevice>(
     requires below { slot.pair < length thread.old.kept.pairs }
     ensures bytes { (held : Slot) (bytes : List ℕ) → IsSlotAtSpot thread.old.kept slot held → held.struct ≡ Inline bytes → IfOk result (λ v. v.items ≡ take count (drop position bytes)) }
     ensures no_call { IsSome (cached_log thread.old slot.pair) → thread.new.kept ≡ thread.old.kept }
-    ensures few { reads thread.new.kept.history ≤ reads thread.old.kept.history + 1 }
+    ensures few { read_count_of_history thread.new.kept.history ≤ read_count_of_history thread.old.kept.history + 1 }
     ensures reading { OnlyReadsThreadAndReportsErrors thread.old thread.new result }
 {
     thread.load_pair(slot.pair)?;
-    copy_inline_in_log(
+    copy_inline_bytes_from_log(
         alloc,
         &thread.lend(slot.pair).unwrap(),
         slot.id,
@@ -94,7 +94,7 @@ pub fn read_inline_bytes_at<D: BlockDevice>(
 }
 
 // Returns some of the bytes of a skip list.
-pub(crate) fn list_from<D: BlockDevice>(
+pub(crate) fn read_list_bytes_from_position<D: BlockDevice>(
     alloc: Global,
     thread: &mut Thread<D>,
     head: u32,
@@ -115,11 +115,11 @@ pub(crate) fn list_from<D: BlockDevice>(
 
 /// Returns the slot of a file, and where the file's bytes are. Returns None where no file was
 /// found.
-pub fn file_of(shown: Shown) -> Option<(Spot, FileStorage)>
+pub fn spot_and_storage_of_file(shown: VisiblePathLookup) -> Option<(SlotPosition, FileStorage)>
     ensures { result ≡ spot_and_storage_of_found_file shown }
 {
     match shown {
-        Shown::File { slot, contents } => Some((slot, contents)),
+        VisiblePathLookup::File { slot, contents } => Some((slot, contents)),
         _ => None,
     }
 }

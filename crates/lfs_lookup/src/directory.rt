@@ -2,18 +2,18 @@
 
 ghost use Rattle.std.specs.Prelude.{◌≡◌, ◌<◌, ◌≤◌, ◌+◌, ◌∷◌, [], ℕ, Some, IfNone, IfOk, IfSome, drop, false, length, map};
 ghost use Rattle.lfs_model.specs.Slots.{pair_address_of_array, same_pair};
-ghost use Rattle.lfs_model.specs.Thread.{gstate_of, entries_not_moved};
-ghost use Rattle.lfs_model.specs.History.{reads};
+ghost use Rattle.lfs_model.specs.Thread.{gstate_of_pairs, entries_not_moved};
+ghost use Rattle.lfs_model.specs.History.{read_count_of_history};
 ghost use Rattle.lfs_model.specs.InDirectory.{IsPairAtAddress};
 ghost use Rattle.lfs_tag.specs.FieldsView.{move_view};
-ghost use Rattle.lfs_thread.specs.Steps.{kept_pair_at_index};
-ghost use Rattle.lfs_lookup.specs.CachedPairs.{ArePairsCached, LoadsOnlyUncachedPairs};
+ghost use Rattle.lfs_thread.specs.Steps.{thread_pair_at_index};
+ghost use Rattle.lfs_lookup.specs.CachedPairs.{AreLogBlocksOfPairsCached, ReadsNothingAndKeepsPairsWhereAllCached};
 ghost use Rattle.lfs_lookup.specs.AtPath.{directory_from_pair_has_entries};
-ghost use Rattle.lfs_lookup.specs.Items.{items_view, name_and_struct_of};
-ghost use Rattle.lfs_lookup.specs.Listed.{AreEntriesOfDirectory, hard_tail_run, hard_tail_run_length_from, moved_id_at_address, hard_tail_run_from, entries_of_directory_from};
+ghost use Rattle.lfs_lookup.specs.Items.{directory_items_view, name_and_struct_of_slot};
+ghost use Rattle.lfs_lookup.specs.Listed.{AreEntriesOfDirectory, hard_tail_joined_pairs, hard_tail_joined_pair_count_from, moved_slot_id_at_address, hard_tail_joined_pairs_from, entries_of_directory_from_pair};
 ghost use Rattle.lfs_lookup.specs.Reading.{OnlyReadsThreadAndReportsErrors};
 
-use crate::items::{NameAndOwnedStruct, items_in};
+use crate::items::{NameAndOwnedStruct, items_in_log};
 use lfs_device::{BlockDevice, Error};
 use lfs_pair::is_same_pair;
 use lfs_tag::MoveState;
@@ -23,8 +23,8 @@ use std::alloc::Global;
 
 // Returns the id of the slot that a set move names in the pair at an address, if it names one
 // there.
-fn moved_in(state: &MoveState, at: [u32; 2]) -> Option<usize>
-    ensures { result ≡ moved_id_at_address (move_view state.now) (pair_address_of_array at) }
+fn moved_slot_id_in_pair(state: &MoveState, at: [u32; 2]) -> Option<usize>
+    ensures { result ≡ moved_slot_id_at_address (move_view state.now) (pair_address_of_array at) }
 {
     if state.kind == DELETE && is_same_pair(state.pair, at) {
         Some(usize::from(state.id))
@@ -42,15 +42,15 @@ fn items_of_pair_under_gstate<D: BlockDevice>(
 ) -> Result<Vec<NameAndOwnedStruct>, Error>
     requires works { thread.old.failed ≡ false }
     requires below { index < length thread.old.kept.pairs }
-    requires state { move_view state.now ≡ gstate_of thread.old.kept.pairs }
-    ensures items { IfOk result (λ items. items_view items.items ≡ map name_and_struct_of (entries_not_moved (gstate_of thread.old.kept.pairs) (kept_pair_at_index thread.old.kept index))) }
-    ensures few { reads thread.new.kept.history ≤ reads thread.old.kept.history + 1 }
-    ensures loads { LoadsOnlyUncachedPairs (kept_pair_at_index thread.old.kept index ∷ []) thread.old thread.new result }
+    requires state { move_view state.now ≡ gstate_of_pairs thread.old.kept.pairs }
+    ensures items { IfOk result (λ items. directory_items_view items.items ≡ map name_and_struct_of_slot (entries_not_moved (gstate_of_pairs thread.old.kept.pairs) (thread_pair_at_index thread.old.kept index))) }
+    ensures few { read_count_of_history thread.new.kept.history ≤ read_count_of_history thread.old.kept.history + 1 }
+    ensures loads { ReadsNothingAndKeepsPairsWhereAllCached (thread_pair_at_index thread.old.kept index ∷ []) thread.old thread.new result }
     ensures reading { OnlyReadsThreadAndReportsErrors thread.old thread.new result }
 {
     thread.load_pair(index)?;
-    let moved = moved_in(state, thread.address(index));
-    items_in(alloc, &thread.lend(index).unwrap(), moved)
+    let moved = moved_slot_id_in_pair(state, thread.blocks_of_pair(index));
+    items_in_log(alloc, &thread.lend(index).unwrap(), moved)
 }
 
 /// Returns the entries of one pair in their order. The superblock and the slot that a set move
@@ -58,15 +58,15 @@ fn items_of_pair_under_gstate<D: BlockDevice>(
 ///
 /// Errors: `Io` where the read of the pair's block failed. `NoMemory` where memory for the block,
 /// its slots or the entries isn't granted.
-pub fn items_of_pair<D: BlockDevice>(
+pub fn items_of_pair_without_moved_slot<D: BlockDevice>(
     alloc: Global,
     thread: &mut Thread<D>,
     index: usize,
 ) -> Result<Vec<NameAndOwnedStruct>, Error>
     requires works { thread.old.failed ≡ false }
     requires below { index < length thread.old.kept.pairs }
-    ensures items { IfOk result (λ items. items_view items.items ≡ map name_and_struct_of (entries_not_moved (gstate_of thread.old.kept.pairs) (kept_pair_at_index thread.old.kept index))) }
-    ensures few { reads thread.new.kept.history ≤ reads thread.old.kept.history + 1 }
+    ensures items { IfOk result (λ items. directory_items_view items.items ≡ map name_and_struct_of_slot (entries_not_moved (gstate_of_pairs thread.old.kept.pairs) (thread_pair_at_index thread.old.kept index))) }
+    ensures few { read_count_of_history thread.new.kept.history ≤ read_count_of_history thread.old.kept.history + 1 }
     ensures reading { OnlyReadsThreadAndReportsErrors thread.old thread.new result }
 {
     let state = thread.state();
@@ -86,10 +86,10 @@ pub fn directory_items_under_gstate<D: BlockDevice>(
 ) -> Result<Vec<NameAndOwnedStruct>, Error>
     requires works { thread.old.failed ≡ false }
     requires below { first < length thread.old.kept.pairs }
-    requires state { move_view state.now ≡ gstate_of thread.old.kept.pairs }
-    ensures items { IfOk result (λ items. items_view items.items ≡ entries_of_directory_from thread.old.kept.pairs (Some first)) }
-    ensures few { reads thread.new.kept.history ≤ reads thread.old.kept.history + hard_tail_run_length_from thread.old.kept.pairs (Some first) }
-    ensures kept { ArePairsCached thread.old (hard_tail_run (drop first thread.old.kept.pairs)) → reads thread.new.kept.history ≡ reads thread.old.kept.history }
+    requires state { move_view state.now ≡ gstate_of_pairs thread.old.kept.pairs }
+    ensures items { IfOk result (λ items. directory_items_view items.items ≡ entries_of_directory_from_pair thread.old.kept.pairs (Some first)) }
+    ensures few { read_count_of_history thread.new.kept.history ≤ read_count_of_history thread.old.kept.history + hard_tail_joined_pair_count_from thread.old.kept.pairs (Some first) }
+    ensures kept { AreLogBlocksOfPairsCached thread.old (hard_tail_joined_pairs (drop first thread.old.kept.pairs)) → read_count_of_history thread.new.kept.history ≡ read_count_of_history thread.old.kept.history }
     ensures reading { OnlyReadsThreadAndReportsErrors thread.old thread.new result }
 {
     let mut items = Vec::new(alloc);
@@ -107,18 +107,18 @@ pub fn directory_items_under_gstate<D: BlockDevice>(
 /// LFS_TYPE_HARDTAIL"). In an accepted image they are in the disk's order of names. The call reads
 /// no more pairs than these, and none where all are cached.
 ///
-/// Errors are those of [`items_of_pair`].
-pub fn entries<D: BlockDevice>(
+/// Errors are those of [`items_of_pair_without_moved_slot`].
+pub fn entries_of_directory_pairs<D: BlockDevice>(
     alloc: Global,
     thread: &mut Thread<D>,
     first: usize,
 ) -> Result<Vec<NameAndOwnedStruct>, Error>
     requires works { thread.old.failed ≡ false }
     requires below { first < length thread.old.kept.pairs }
-    ensures items { IfOk result (λ items. items_view items.items ≡ entries_of_directory_from thread.old.kept.pairs (Some first)) }
-    ensures entries { IfOk result (λ items. AreEntriesOfDirectory thread.old.kept.disk thread.old.kept.pairs first (items_view items.items)) }
-    ensures few { reads thread.new.kept.history ≤ reads thread.old.kept.history + hard_tail_run_length_from thread.old.kept.pairs (Some first) }
-    ensures kept { ArePairsCached thread.old (hard_tail_run (drop first thread.old.kept.pairs)) → reads thread.new.kept.history ≡ reads thread.old.kept.history }
+    ensures items { IfOk result (λ items. directory_items_view items.items ≡ entries_of_directory_from_pair thread.old.kept.pairs (Some first)) }
+    ensures entries { IfOk result (λ items. AreEntriesOfDirectory thread.old.kept.disk thread.old.kept.pairs first (directory_items_view items.items)) }
+    ensures few { read_count_of_history thread.new.kept.history ≤ read_count_of_history thread.old.kept.history + hard_tail_joined_pair_count_from thread.old.kept.pairs (Some first) }
+    ensures kept { AreLogBlocksOfPairsCached thread.old (hard_tail_joined_pairs (drop first thread.old.kept.pairs)) → read_count_of_history thread.new.kept.history ≡ read_count_of_history thread.old.kept.history }
     ensures reading { OnlyReadsThreadAndReportsErrors thread.old thread.new result }
 {
     let state = thread.state();
@@ -127,20 +127,20 @@ pub fn entries<D: BlockDevice>(
 }
 
 // Returns the entries of the directory that begins with that pair, if there is one.
-pub(crate) fn items_from_first_pair<D: BlockDevice>(
+pub(crate) fn items_of_directory_if_any<D: BlockDevice>(
     alloc: Global,
     thread: &mut Thread<D>,
     from: Option<usize>,
 ) -> Result<Vec<NameAndOwnedStruct>, Error>
     requires works { thread.old.failed ≡ false }
     requires below { IfSome from (λ first. first < length thread.old.kept.pairs) }
-    ensures items { IfOk result (λ items. items_view items.items ≡ entries_of_directory_from thread.old.kept.pairs from) }
-    ensures few { reads thread.new.kept.history ≤ reads thread.old.kept.history + hard_tail_run_length_from thread.old.kept.pairs from }
-    ensures kept { ArePairsCached thread.old (hard_tail_run_from thread.old.kept.pairs from) → reads thread.new.kept.history ≡ reads thread.old.kept.history }
+    ensures items { IfOk result (λ items. directory_items_view items.items ≡ entries_of_directory_from_pair thread.old.kept.pairs from) }
+    ensures few { read_count_of_history thread.new.kept.history ≤ read_count_of_history thread.old.kept.history + hard_tail_joined_pair_count_from thread.old.kept.pairs from }
+    ensures kept { AreLogBlocksOfPairsCached thread.old (hard_tail_joined_pairs_from thread.old.kept.pairs from) → read_count_of_history thread.new.kept.history ≡ read_count_of_history thread.old.kept.history }
     ensures reading { OnlyReadsThreadAndReportsErrors thread.old thread.new result }
 {
     match from {
-        Some(first) => entries(alloc, thread, first),
+        Some(first) => entries_of_directory_pairs(alloc, thread, first),
         None => Ok(Vec::new(alloc)),
     }
 }
@@ -148,7 +148,7 @@ pub(crate) fn items_from_first_pair<D: BlockDevice>(
 /// Returns whether the directory that begins with the pair of number `from` has an entry. Without
 /// a number there is no directory. The call reads no more pairs than the directory has.
 ///
-/// Errors are those of [`items_of_pair`].
+/// Errors are those of [`items_of_pair_without_moved_slot`].
 pub fn has_entries<D: BlockDevice>(
     alloc: Global,
     thread: &mut Thread<D>,
@@ -157,12 +157,12 @@ pub fn has_entries<D: BlockDevice>(
     requires works { thread.old.failed ≡ false }
     requires below { IfSome from (λ first. first < length thread.old.kept.pairs) }
     ensures has { IfOk result (λ has. has ≡ directory_from_pair_has_entries thread.old.kept.pairs from) }
-    ensures few { reads thread.new.kept.history ≤ reads thread.old.kept.history + hard_tail_run_length_from thread.old.kept.pairs from }
+    ensures few { read_count_of_history thread.new.kept.history ≤ read_count_of_history thread.old.kept.history + hard_tail_joined_pair_count_from thread.old.kept.pairs from }
     ensures reading { OnlyReadsThreadAndReportsErrors thread.old thread.new result }
 {
     let mut pair = from;
     while let Some(index) = pair {
-        let items = items_of_pair(alloc, thread, index)?;
+        let items = items_of_pair_without_moved_slot(alloc, thread, index)?;
         if items.len() > 0 {
             return Ok(true);
         }

@@ -1,11 +1,11 @@
 // The entry that a slot is.
 
 ghost use Rattle.lfs_model.specs.Content.{struct_of_type_and_bytes};
-ghost use Rattle.lfs_model.specs.LoggedContent.{IsNameOrStructOfClass};
-ghost use Rattle.lfs_tag.specs.ContentView.{part_view};
+ghost use Rattle.lfs_model.specs.LoggedContent.{IsNameOrStructTheFormatAllows};
+ghost use Rattle.lfs_tag.specs.ContentView.{name_or_struct_view};
 ghost use Rattle.lfs_lookup.specs.Entry.{IsEntryOfStruct};
 
-use lfs_tag::{Part, Struct};
+use lfs_tag::{NameOrStruct, Struct};
 
 /// Where a file's bytes are. They aren't copied.
 #[derive(Clone, Copy, Debug, PartialEq, Eq, Drop)]
@@ -26,8 +26,8 @@ pub enum FileOrDirectory {
 
 /// Returns the entry of a slot's struct: where a file's bytes are, or the address of a directory's
 /// first pair (SPEC.md of littlefs, "0x2xx LFS_TYPE_STRUCT").
-pub fn entry_of(structure: &Part<'_>) -> FileOrDirectory
-    requires { IsNameOrStructOfClass 2 (part_view structure.now) }
+pub fn entry_of_struct(structure: &NameOrStruct<'_>) -> FileOrDirectory
+    requires { IsNameOrStructTheFormatAllows 2 (name_or_struct_view structure.now) }
     ensures { IsEntryOfStruct result (struct_of_type_and_bytes structure.now.kind structure.now.bytes.now) }
 {
     match Struct::of(structure).unwrap() {

@@ -1,10 +1,10 @@
 // The bytes of a file.
 
 ghost use Rattle.std.specs.Prelude.{◌≡◌, IfOk, OnOk, false, length};
-ghost use Rattle.lfs_model.specs.View.{IsListIfCtz};
+ghost use Rattle.lfs_model.specs.View.{IsSkipListIfCtzStruct};
 ghost use Rattle.lfs_model.specs.Shown.{skip_list_bytes_on_disk};
 ghost use Rattle.lfs_lookup.specs.FileBytes.{file_bytes_of_struct};
-ghost use Rattle.lfs_lookup.specs.Items.{structure_view};
+ghost use Rattle.lfs_lookup.specs.Items.{owned_struct_view};
 ghost use Rattle.lfs_lookup.specs.Reading.{OnlyReadsThreadAndReportsErrors};
 
 use crate::items::OwnedStruct;
@@ -24,14 +24,14 @@ pub(crate) fn zeros(alloc: Global, len: usize) -> Result<Vec<u8>, AllocError>
 /// Returns the bytes of a file, by its entry. A directory has none.
 ///
 /// Errors: `Io` where a read failed. `NoMemory` where memory for the bytes isn't granted.
-pub fn contents_of<D: BlockDevice>(
+pub fn read_file_bytes_of_struct<D: BlockDevice>(
     alloc: Global,
     thread: &mut Thread<D>,
     structure: &OwnedStruct,
 ) -> Result<Vec<u8>, Error>
     requires works { thread.old.failed ≡ false }
-    requires list { IsListIfCtz thread.old.kept.disk (structure_view structure.now) }
-    ensures bytes { IfOk result (λ bytes. bytes.items ≡ file_bytes_of_struct thread.old.kept.disk (structure_view structure.now)) }
+    requires list { IsSkipListIfCtzStruct thread.old.kept.disk (owned_struct_view structure.now) }
+    ensures bytes { IfOk result (λ bytes. bytes.items ≡ file_bytes_of_struct thread.old.kept.disk (owned_struct_view structure.now)) }
     ensures reading { OnlyReadsThreadAndReportsErrors thread.old thread.new result }
 {
     match structure {

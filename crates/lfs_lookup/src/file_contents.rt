@@ -1,29 +1,32 @@
 // The contents of a file, as a reader keeps them.
 
 ghost use Rattle.std.specs.Prelude.{◌≡◌, ◌≤◌, ◌<◌, ◌+◌, ◌^◌, IfOk, IsSome, List, ℕ, drop, false, length, sum_by, take};
-ghost use Rattle.lfs_model.specs.Frame.{pair_count_of_directory_at, parents};
-ghost use Rattle.lfs_model.specs.History.{reads};
+ghost use Rattle.lfs_model.specs.Frame.{pair_count_of_directory_at, ancestor_paths_of_path};
+ghost use Rattle.lfs_model.specs.History.{read_count_of_history};
 ghost use Rattle.lfs_model.specs.Shown.{tree_on_disk};
 ghost use Rattle.lfs_model.specs.Slots.{Inline, Slot};
 ghost use Rattle.lfs_model.specs.Slots.{zero_gstate};
-ghost use Rattle.lfs_model.specs.Thread.{gstate_of, pair_count_before_root};
+ghost use Rattle.lfs_model.specs.Thread.{gstate_of_pairs, pair_count_before_root};
 ghost use Rattle.lfs_model.specs.Tree.{Path as ModelPath};
-ghost use Rattle.lfs_model.specs.TreeEdits.{bytes_at};
-ghost use Rattle.lfs_model.specs.View.{IsAcceptedImage, IsListIfCtz};
+ghost use Rattle.lfs_model.specs.TreeEdits.{file_bytes_of_node};
+ghost use Rattle.lfs_model.specs.View.{IsAcceptedImage, IsSkipListIfCtzStruct};
 ghost use Rattle.lfs_thread.specs.CachedLog.{cached_log};
-ghost use Rattle.lfs_lookup.specs.CachedPairs.{AreDirectoriesCached};
+ghost use Rattle.lfs_lookup.specs.CachedPairs.{AreDirectoriesAtThesePathsCached};
 ghost use Rattle.lfs_lookup.specs.BytesAt.{IsFileSlotAtSpot};
-ghost use Rattle.lfs_lookup.specs.FileContents.{AreFileContentsAtPath, AreFileContentsOfStruct, AreContentsOfFileAtPathOrNone, AreContentsInInlineLimit, struct_of};
+ghost use Rattle.lfs_lookup.specs.FileContents.{AreFileContentsAtPath, AreFileContentsOfStruct, AreContentsOfFileAtPathOrNone, AreContentsInInlineLimit, struct_of_file_contents};
 ghost use Rattle.lfs_lookup.specs.Finds.{IsFoundNodeAtPath};
-ghost use Rattle.lfs_lookup.specs.Halves.{ReadsAtMostHalvingsOfPaths};
+ghost use Rattle.lfs_lookup.specs.Halves.{ReadsAtMostBinarySearchesOnPaths};
 ghost use Rattle.lfs_lookup.specs.Reading.{OnlyReadsThreadAndReportsErrors};
 
-use crate::by_path::{found_node_of, shown_at};
-use crate::bytes::{copy_bytes_from_position, file_of, list_from, read_inline_bytes_at};
+use crate::by_path::{found_node_from_lookup_result, lookup_result_at_path};
+use crate::bytes::{
+    copy_bytes_from_position, read_inline_bytes_at, read_list_bytes_from_position,
+    spot_and_storage_of_file,
+};
 use crate::entry::FileStorage;
 use crate::found_entries::FoundNode;
 use crate::path::Path;
-use crate::search::Spot;
+use crate::search::SlotPosition;
 use lfs_device::{BlockDevice, Error};
 use lfs_thread::Thread;
 use std::alloc::Global;
@@ -49,7 +52,7 @@ pub struct FoundFile {
 fn contents_of_slot<D: BlockDevice>(
     alloc: Global,
     thread: &mut Thread<D>,
-    slot: Spot,
+    slot: SlotPosition,
     contents: FileStorage,
 ) -> Result<FileContents, Error>
     requires works { thread.old.failed ≡ false }
@@ -69,12 +72,12 @@ fn contents_of_slot<D: BlockDevice>(
 }
 
 /// Looks up a path, and returns the contents of a file there. The call reads no more pairs than the
-/// directories above the path have, as [`crate::shown_at`], and none where all these are cached.
+/// directories above the path have, as [`crate::lookup_result_at_path`], and none where all these are cached.
 ///
 /// `root` is the number of the root directory's first pair.
 ///
 /// Errors: `Io` where a read failed. `NoMemory` where memory isn't granted.
-pub fn file_at<D: BlockDevice>(
+pub fn find_file_contents_at_path<D: BlockDevice>(
     alloc: Global,
     thread: &mut Thread<D>,
     root: usize,
@@ -85,16 +88,16 @@ pub fn file_at<D: BlockDevice>(
     requires root { root ≡ pair_count_before_root thread.old.kept.pairs }
     ensures found { IfOk result (λ found. IsFoundNodeAtPath (tree_on_disk thread.old.kept.disk thread.old.kept.pairs) path.now found.finding) }
     ensures contents { IfOk result (λ found. AreContentsOfFileAtPathOrNone thread.old.kept path.now found.contents) }
-    ensures few { reads thread.new.kept.history ≤ reads thread.old.kept.history + sum_by (pair_count_of_directory_at thread.old.kept.pairs) (parents path.now) }
-    ensures halves { gstate_of thread.old.kept.pairs ≡ zero_gstate → ReadsAtMostHalvingsOfPaths thread.old thread.new (parents path.now) }
-    ensures kept { AreDirectoriesCached thread.old (parents path.now) → reads thread.new.kept.history ≡ reads thread.old.kept.history }
+    ensures few { read_count_of_history thread.new.kept.history ≤ read_count_of_history thread.old.kept.history + sum_by (pair_count_of_directory_at thread.old.kept.pairs) (ancestor_paths_of_path path.now) }
+    ensures halves { gstate_of_pairs thread.old.kept.pairs ≡ zero_gstate → ReadsAtMostBinarySearchesOnPaths thread.old thread.new (ancestor_paths_of_path path.now) }
+    ensures kept { AreDirectoriesAtThesePathsCached thread.old (ancestor_paths_of_path path.now) → read_count_of_history thread.new.kept.history ≡ read_count_of_history thread.old.kept.history }
     ensures reading { OnlyReadsThreadAndReportsErrors thread.old thread.new result }
 {
-    let shown = shown_at(alloc, thread, root, path)?;
+    let shown = lookup_result_at_path(alloc, thread, root, path)?;
     // By the sizes of its blocks a list has as many bytes as its entry says.
     let _device = thread.device();
-    let finding = found_node_of(shown);
-    let Some((slot, contents)) = file_of(shown) else {
+    let finding = found_node_from_lookup_result(shown);
+    let Some((slot, contents)) = spot_and_storage_of_file(shown) else {
         return Ok(FoundFile {
             finding,
             contents: None,
@@ -111,7 +114,7 @@ pub fn file_at<D: BlockDevice>(
 /// position and count is less than 2^32. Inline bytes take no reads.
 ///
 /// Errors: `Io` where a read failed. `NoMemory` where memory isn't granted.
-pub fn bytes_of<D: BlockDevice>(
+pub fn read_file_contents_from_position<D: BlockDevice>(
     alloc: Global,
     thread: &mut Thread<D>,
     contents: &FileContents,
@@ -120,16 +123,16 @@ pub fn bytes_of<D: BlockDevice>(
 ) -> Result<Vec<u8>, Error>
     requires works { thread.old.failed ≡ false }
     requires fits { AreContentsInInlineLimit contents.now }
-    requires list { IsListIfCtz thread.old.kept.disk (struct_of contents.now) }
-    ensures bytes { (path : ModelPath) → AreFileContentsAtPath thread.old.kept.pairs path contents.now → IfOk result (λ v. v.items ≡ take count (drop position (bytes_at (tree_on_disk thread.old.kept.disk thread.old.kept.pairs path)))) }
+    requires list { IsSkipListIfCtzStruct thread.old.kept.disk (struct_of_file_contents contents.now) }
+    ensures bytes { (path : ModelPath) → AreFileContentsAtPath thread.old.kept.pairs path contents.now → IfOk result (λ v. v.items ≡ take count (drop position (file_bytes_of_node (tree_on_disk thread.old.kept.disk thread.old.kept.pairs path)))) }
     ensures end { IfOk result (λ v. position + length v.items < 2 ^ 32) }
-    ensures none { (own : List ℕ) → struct_of contents.now ≡ Inline own → thread.new ≡ thread.old }
+    ensures none { (own : List ℕ) → struct_of_file_contents contents.now ≡ Inline own → thread.new ≡ thread.old }
     ensures reading { OnlyReadsThreadAndReportsErrors thread.old thread.new result }
 {
     match contents {
         FileContents::Inline(bytes) => Ok(copy_bytes_from_position(alloc, bytes, position, count)?),
         FileContents::List { head, size } => {
-            list_from(alloc, thread, *head, *size, position, count)
+            read_list_bytes_from_position(alloc, thread, *head, *size, position, count)
         }
     }
 }

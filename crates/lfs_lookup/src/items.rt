@@ -2,16 +2,16 @@
 
 ghost use Rattle.std.specs.Prelude.{◌≡◌, ◌++◌, IfOk, IfErr, OnOk, map};
 ghost use Rattle.std.specs.Option.{option_map};
-ghost use Rattle.lfs_model.specs.Slots.{Content as ModelContent};
+ghost use Rattle.lfs_model.specs.Slots.{PairContent as ModelContent};
 ghost use Rattle.lfs_model.specs.Content.{struct_of_type_and_bytes};
-ghost use Rattle.lfs_model.specs.LoggedContent.{IsWellFormedRawSlot, AreWellFormedRawSlots, IsNameOrStructOfClass};
+ghost use Rattle.lfs_model.specs.LoggedContent.{IsWellFormedRawSlot, AreWellFormedRawSlots, IsNameOrStructTheFormatAllows};
 ghost use Rattle.lfs_thread.specs.CachedLog.{IsLogBlockOfContent};
-ghost use Rattle.lfs_tag.specs.ContentView.{part_view, slot_view};
-ghost use Rattle.lfs_lookup.specs.ByName.{AreSortedByName};
-ghost use Rattle.lfs_lookup.specs.Items.{item_view, items_view, list_of_optional_entry, entries_without_moved_slot, entries_of_raw_slots, entry_of_raw_slot, structure_view, slots_without_id};
+ghost use Rattle.lfs_tag.specs.ContentView.{name_or_struct_view, slot_view};
+ghost use Rattle.lfs_lookup.specs.ByName.{AreSameEntriesSortedShorterNameFirst};
+ghost use Rattle.lfs_lookup.specs.Items.{directory_item_view, directory_items_view, list_of_optional_entry, entries_without_moved_slot, entries_of_raw_slots, entry_of_raw_slot, owned_struct_view, slots_except_at_id};
 
 use lfs_device::Error;
-use lfs_tag::{Content, Log, Part, Slot, Struct};
+use lfs_tag::{Content, Log, NameOrStruct, Slot, Struct};
 use std::alloc::{AllocError, Global};
 
 /// The struct of an entry (SPEC.md of littlefs, "0x2xx LFS_TYPE_STRUCT"): where the contents of a
@@ -36,9 +36,12 @@ pub struct NameAndOwnedStruct {
 }
 
 /// Returns the struct of a slot's part, with a copy of a file's bytes.
-pub fn structure_of(alloc: Global, part: &Part<'_>) -> Result<OwnedStruct, AllocError>
-    requires { IsNameOrStructOfClass 2 (part_view part.now) }
-    ensures { IfOk result (λ s. structure_view s ≡ struct_of_type_and_bytes part.now.kind part.now.bytes.now) }
+pub fn owned_copy_of_struct(
+    alloc: Global,
+    part: &NameOrStruct<'_>,
+) -> Result<OwnedStruct, AllocError>
+    requires { IsNameOrStructTheFormatAllows 2 (name_or_struct_view part.now) }
+    ensures { IfOk result (λ s. owned_struct_view s ≡ struct_of_type_and_bytes part.now.kind part.now.bytes.now) }
 {
     match Struct::of(part).unwrap() {
         Struct::Inline(bytes) => {
@@ -52,9 +55,9 @@ pub fn structure_of(alloc: Global, part: &Part<'_>) -> Result<OwnedStruct, Alloc
 
 // Returns the entry of a slot. Returns None for the superblock's slot, and for a slot without a
 // name or a struct.
-fn item_of(alloc: Global, slot: &Slot<'_>) -> Result<Option<NameAndOwnedStruct>, AllocError>
+fn item_of_slot(alloc: Global, slot: &Slot<'_>) -> Result<Option<NameAndOwnedStruct>, AllocError>
     requires { IsWellFormedRawSlot (slot_view slot.now) }
-    ensures { IfOk result (λ item. option_map item_view item ≡ entry_of_raw_slot (slot_view slot.now)) }
+    ensures { IfOk result (λ item. option_map directory_item_view item ≡ entry_of_raw_slot (slot_view slot.now)) }
 {
     let (Some(name), Some(part)) = (slot.name, slot.structure) else {
         return Ok(None);
@@ -62,7 +65,7 @@ fn item_of(alloc: Global, slot: &Slot<'_>) -> Result<Option<NameAndOwnedStruct>,
     if slot.is_superblock() {
         return Ok(None);
     }
-    let structure = structure_of(alloc, &part)?;
+    let structure = owned_copy_of_struct(alloc, &part)?;
     let name = Vec::from_slice(alloc, name.bytes)?;
     Ok(Some(NameAndOwnedStruct { name, structure }))
 }
@@ -74,9 +77,9 @@ fn push_item_of_slot(
     slot: &Slot<'_>,
 ) -> Result<(), AllocError>
     requires { IsWellFormedRawSlot (slot_view slot.now) }
-    ensures { OnOk result (items_view items.new.items ≡ items_view items.old.items ++ list_of_optional_entry (entry_of_raw_slot (slot_view slot.now))) }
+    ensures { OnOk result (directory_items_view items.new.items ≡ directory_items_view items.old.items ++ list_of_optional_entry (entry_of_raw_slot (slot_view slot.now))) }
 {
-    if let Some(item) = item_of(alloc, slot)? {
+    if let Some(item) = item_of_slot(alloc, slot)? {
         items.push(item)?;
     }
     Ok(())
@@ -85,7 +88,7 @@ fn push_item_of_slot(
 // Returns the entries of slots.
 fn items_of_slots(alloc: Global, slots: &[Slot<'_>]) -> Result<Vec<NameAndOwnedStruct>, AllocError>
     requires { AreWellFormedRawSlots (map slot_view slots.now) }
-    ensures { IfOk result (λ items. items_view items.items ≡ entries_of_raw_slots (map slot_view slots.now)) }
+    ensures { IfOk result (λ items. directory_items_view items.items ≡ entries_of_raw_slots (map slot_view slots.now)) }
 {
     let mut items = Vec::new(alloc);
     for slot in slots {
@@ -96,7 +99,7 @@ fn items_of_slots(alloc: Global, slots: &[Slot<'_>]) -> Result<Vec<NameAndOwnedS
 
 // Removes the slot of an id, if there is one.
 fn remove_moved_slot(slots: &mut Vec<Slot<'_>>, moved: Option<usize>)
-    ensures { map slot_view slots.new.items ≡ slots_without_id moved (map slot_view slots.old.items) }
+    ensures { map slot_view slots.new.items ≡ slots_except_at_id moved (map slot_view slots.old.items) }
 {
     if let Some(id) = moved {
         if id < slots.len() {
@@ -106,13 +109,13 @@ fn remove_moved_slot(slots: &mut Vec<Slot<'_>>, moved: Option<usize>)
 }
 
 // Returns the entries of a pair with that log, without the slot that a set move names.
-pub(crate) fn items_in(
+pub(crate) fn items_in_log(
     alloc: Global,
     log: &Log<'_>,
     moved: Option<usize>,
 ) -> Result<Vec<NameAndOwnedStruct>, Error>
     requires { (content : ModelContent) × IsLogBlockOfContent log.now content }
-    ensures items { (content : ModelContent) → IsLogBlockOfContent log.now content → IfOk result (λ items. items_view items.items ≡ entries_without_moved_slot moved content.slots) }
+    ensures items { (content : ModelContent) → IsLogBlockOfContent log.now content → IfOk result (λ items. directory_items_view items.items ≡ entries_without_moved_slot moved content.slots) }
     ensures errors { IfErr result (λ e. e ≡ Error.NoMemory) }
 {
     let mut content = Content::read(alloc, log)?;
@@ -122,8 +125,8 @@ pub(crate) fn items_in(
 }
 
 // Sorts entries by their names, the shorter names first.
-pub(crate) fn sort_by_name(items: &mut Vec<NameAndOwnedStruct>)
-    ensures { AreSortedByName (items_view items.old.items) (items_view items.new.items) }
+pub(crate) fn sort_by_name_shorter_first(items: &mut Vec<NameAndOwnedStruct>)
+    ensures { AreSameEntriesSortedShorterNameFirst (directory_items_view items.old.items) (directory_items_view items.new.items) }
 {
     items.sort_unstable_by(|a, b| a.name.cmp(&b.name));
 }

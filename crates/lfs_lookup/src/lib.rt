@@ -23,22 +23,30 @@ mod root;
 mod search;
 mod walks;
 
-pub use attribute_sizes::attributes_size_at;
-pub use attributes::attribute_at;
-pub use by_path::{find_node_at_path, first_of, found_node_of, look_inside_at, shown_at};
-pub use bytes::{file_of, read_inline_bytes_at};
-pub use directory::{directory_items_under_gstate, entries, has_entries, items_of_pair};
-pub use entry::{FileOrDirectory, FileStorage, entry_of};
-pub use file_bytes::contents_of;
-pub use file_contents::{FileContents, FoundFile, bytes_of, file_at};
-pub use found_entries::{FoundAttribute, FoundNode, Inside, Listing, Node};
-pub use items::{NameAndOwnedStruct, OwnedStruct, structure_of};
+pub use attribute_sizes::find_total_size_of_attributes_at_path;
+pub use attributes::find_attribute_at_path;
+pub use by_path::{
+    find_if_path_has_entries, find_node_at_path, first_pair_of_lookup_result,
+    found_node_from_lookup_result, lookup_result_at_path,
+};
+pub use bytes::{read_inline_bytes_at, spot_and_storage_of_file};
+pub use directory::{
+    directory_items_under_gstate, entries_of_directory_pairs, has_entries,
+    items_of_pair_without_moved_slot,
+};
+pub use entry::{FileOrDirectory, FileStorage, entry_of_struct};
+pub use file_bytes::read_file_bytes_of_struct;
+pub use file_contents::{
+    FileContents, FoundFile, find_file_contents_at_path, read_file_contents_from_position,
+};
+pub use found_entries::{FoundAttribute, FoundNode, Listing, Node, NodeAndEmptiness};
+pub use items::{NameAndOwnedStruct, OwnedStruct, owned_copy_of_struct};
 pub use kinds::{Kind, ListItem, Stat};
-pub use listings::list_at;
+pub use listings::list_directory_at_path;
 pub use path::Path;
-pub use paths::{Found, Shown, look_up};
+pub use paths::{PathLookup, VisiblePathLookup, look_up};
 pub use profile::{is_pair_after_hard_tail, is_writable};
 pub use refusal::{Refusal, refuse_if, to_refusal};
 pub use root::find_root;
-pub use search::{Spot, find_name_with_slot_hidden};
-pub use walks::{TreeItem, walk};
+pub use search::{SlotPosition, find_name_with_slot_hidden};
+pub use walks::{TreeItem, walk_tree};

@@ -1,22 +1,24 @@
 // The entries of the directory at a path, by name, kind and size.
 
 ghost use Rattle.std.specs.Prelude.{◌≡◌, ◌≤◌, ◌+◌, ◌++◌, ◌∷◌, [], IfOk, false, map, sum_by};
-ghost use Rattle.lfs_model.specs.Frame.{pair_count_of_directory_at, parents};
-ghost use Rattle.lfs_model.specs.History.{reads};
-ghost use Rattle.lfs_model.specs.Effects.{items_in};
+ghost use Rattle.lfs_model.specs.Frame.{pair_count_of_directory_at, ancestor_paths_of_path};
+ghost use Rattle.lfs_model.specs.History.{read_count_of_history};
+ghost use Rattle.lfs_model.specs.Effects.{directory_items_at_path};
 ghost use Rattle.lfs_model.specs.Thread.{pair_count_before_root};
 ghost use Rattle.lfs_model.specs.View.{IsAcceptedImage};
 ghost use Rattle.lfs_model.specs.Shown.{tree_on_disk};
-ghost use Rattle.lfs_lookup.specs.CachedPairs.{AreDirectoriesCached};
+ghost use Rattle.lfs_lookup.specs.CachedPairs.{AreDirectoriesAtThesePathsCached};
 ghost use Rattle.lfs_lookup.specs.Finds.{IsFoundNodeAtPath, list_item_view};
-ghost use Rattle.lfs_lookup.specs.Items.{item_view, items_view, structure_view};
-ghost use Rattle.lfs_lookup.specs.ListAt.{AreEntriesInNameAndInlineLimits, IsStructInInlineLimit, IsEntryInNameAndInlineLimits, listed_item_of_entry, listed_size_of_struct};
+ghost use Rattle.lfs_lookup.specs.Items.{directory_item_view, directory_items_view, owned_struct_view};
+ghost use Rattle.lfs_lookup.specs.ListAt.{AreEntriesInNameAndInlineLimits, IsStructInInlineLimit, IsEntryInNameAndInlineLimits, listed_item_of_entry, listed_size_of_struct_if_file};
 ghost use Rattle.lfs_lookup.specs.Reading.{OnlyReadsThreadAndReportsErrors};
 
-use crate::by_path::{first_of, found_node_of, shown_at};
-use crate::directory::items_from_first_pair;
+use crate::by_path::{
+    first_pair_of_lookup_result, found_node_from_lookup_result, lookup_result_at_path,
+};
+use crate::directory::items_of_directory_if_any;
 use crate::found_entries::Listing;
-use crate::items::{NameAndOwnedStruct, OwnedStruct, sort_by_name};
+use crate::items::{NameAndOwnedStruct, OwnedStruct, sort_by_name_shorter_first};
 use crate::kinds::{ListItem, Stat};
 use crate::path::Path;
 use arrayvec::ArrayVec;
@@ -26,8 +28,8 @@ use std::alloc::{AllocError, Global};
 
 // Returns how many bytes a file has. Returns None for a directory.
 fn listed_size(structure: &OwnedStruct) -> Option<u32>
-    requires { IsStructInInlineLimit (structure_view structure.now) }
-    ensures { result ≡ listed_size_of_struct (structure_view structure.now) }
+    requires { IsStructInInlineLimit (owned_struct_view structure.now) }
+    ensures { result ≡ listed_size_of_struct_if_file (owned_struct_view structure.now) }
 {
     match structure {
         OwnedStruct::Inline(bytes) => Some(bytes.len() as u32),
@@ -37,9 +39,9 @@ fn listed_size(structure: &OwnedStruct) -> Option<u32>
 }
 
 // Returns an entry by name, kind and size.
-fn listed_item(item: NameAndOwnedStruct) -> ListItem
-    requires { IsEntryInNameAndInlineLimits (item_view item) }
-    ensures { list_item_view result ≡ listed_item_of_entry (item_view item) }
+fn to_list_item(item: NameAndOwnedStruct) -> ListItem
+    requires { IsEntryInNameAndInlineLimits (directory_item_view item) }
+    ensures { list_item_view result ≡ listed_item_of_entry (directory_item_view item) }
 {
     let stat = Stat::from_size(listed_size(&item.structure));
     match ArrayVec::try_from(item.name.as_slice()) {
@@ -53,13 +55,13 @@ fn listed_item(item: NameAndOwnedStruct) -> ListItem
 }
 
 // Returns entries by name, kind and size.
-fn listed_items(alloc: Global, items: Vec<NameAndOwnedStruct>) -> Result<Vec<ListItem>, AllocError>
-    requires { AreEntriesInNameAndInlineLimits (items_view items.items) }
-    ensures { IfOk result (λ listed. map list_item_view listed.items ≡ map listed_item_of_entry (items_view items.items)) }
+fn to_list_items(alloc: Global, items: Vec<NameAndOwnedStruct>) -> Result<Vec<ListItem>, AllocError>
+    requires { AreEntriesInNameAndInlineLimits (directory_items_view items.items) }
+    ensures { IfOk result (λ listed. map list_item_view listed.items ≡ map listed_item_of_entry (directory_items_view items.items)) }
 {
     let mut listed = Vec::new(alloc);
     for item in items {
-        listed.push(listed_item(item))?;
+        listed.push(to_list_item(item))?;
     }
     Ok(listed)
 }
@@ -72,7 +74,7 @@ fn listed_items(alloc: Global, items: Vec<NameAndOwnedStruct>) -> Result<Vec<Lis
 /// `root` is the number of the root directory's first pair.
 ///
 /// Errors: `Io` where a read failed. `NoMemory` where memory isn't granted.
-pub fn list_at<D: BlockDevice>(
+pub fn list_directory_at_path<D: BlockDevice>(
     alloc: Global,
     thread: &mut Thread<D>,
     root: usize,
@@ -82,20 +84,24 @@ pub fn list_at<D: BlockDevice>(
     requires accepted { IsAcceptedImage thread.old.kept.disk thread.old.kept.pairs }
     requires root { root ≡ pair_count_before_root thread.old.kept.pairs }
     ensures found { IfOk result (λ listing. IsFoundNodeAtPath (tree_on_disk thread.old.kept.disk thread.old.kept.pairs) path.now listing.finding) }
-    ensures items { IfOk result (λ listing. map list_item_view listing.items.items ≡ items_in (tree_on_disk thread.old.kept.disk thread.old.kept.pairs) path.now) }
-    ensures few { reads thread.new.kept.history ≤ reads thread.old.kept.history + sum_by (pair_count_of_directory_at thread.old.kept.pairs) (parents path.now ++ path.now ∷ []) }
-    ensures kept { AreDirectoriesCached thread.old (parents path.now ++ path.now ∷ []) → reads thread.new.kept.history ≡ reads thread.old.kept.history }
+    ensures items { IfOk result (λ listing. map list_item_view listing.items.items ≡ directory_items_at_path (tree_on_disk thread.old.kept.disk thread.old.kept.pairs) path.now) }
+    ensures few { read_count_of_history thread.new.kept.history ≤ read_count_of_history thread.old.kept.history + sum_by (pair_count_of_directory_at thread.old.kept.pairs) (ancestor_paths_of_path path.now ++ path.now ∷ []) }
+    ensures kept { AreDirectoriesAtThesePathsCached thread.old (ancestor_paths_of_path path.now ++ path.now ∷ []) → read_count_of_history thread.new.kept.history ≡ read_count_of_history thread.old.kept.history }
     ensures reading { OnlyReadsThreadAndReportsErrors thread.old thread.new result }
 {
-    let shown = shown_at(alloc, thread, root, path)?;
-    let mut items = items_from_first_pair(alloc, thread, first_of(root, shown))?;
-    sort_by_name(&mut items);
+    let shown = lookup_result_at_path(alloc, thread, root, path)?;
+    let mut items = items_of_directory_if_any(
+        alloc,
+        thread,
+        first_pair_of_lookup_result(root, shown),
+    )?;
+    sort_by_name_shorter_first(&mut items);
     // The blocks hold bytes, so inline contents are short. By the sizes of its blocks a list has as
     // many bytes as its entry says.
     let _device = thread.device();
-    let listed = listed_items(alloc, items)?;
+    let listed = to_list_items(alloc, items)?;
     Ok(Listing {
-        finding: found_node_of(shown),
+        finding: found_node_from_lookup_result(shown),
         items: listed,
     })
 }

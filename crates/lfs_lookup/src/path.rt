@@ -3,22 +3,22 @@
 ghost use Rattle.std.specs.Prelude.{ℕ, List, true, ◌≡◌, ◌<◌, ◌≤◌, ◌^◌, ◌==◌, IfOk, length, map, is_some};
 ghost use Rattle.std.specs.List.{list_all, slice_split};
 ghost use Rattle.lfs_model.specs.TreeEdits.{last_name_of_path};
-ghost use Rattle.lfs_model.specs.Names.{is_path_component, slash};
+ghost use Rattle.lfs_model.specs.Names.{is_path_component, slash_byte};
 ghost use Rattle.lfs_model.specs.Operations.{path_of_bytes};
-ghost use Rattle.lfs_model.specs.Refusals.{path_or_root, is_root};
+ghost use Rattle.lfs_model.specs.Refusals.{path_of_bytes_or_root, is_root_path};
 ghost use Rattle.lfs_lookup.specs.NameLengths.{length_after_last_slash};
 
-use lfs_tag::is_component;
+use lfs_tag::is_valid_path_component;
 use std::alloc::{AllocError, Global};
 use std::marker::Model;
 
 // Returns whether these bytes are names with a slash between each two.
-fn are_components(bytes: &[u8]) -> bool
-    ensures { result ≡ list_all is_path_component (slice_split (λ c. c == slash) bytes.now) }
+fn has_valid_names_between_slashes(bytes: &[u8]) -> bool
+    ensures { result ≡ list_all is_path_component (slice_split (λ c. c == slash_byte) bytes.now) }
 {
     bytes
         .split(|byte| *byte == b'/')
-        .all(|name| is_component(name))
+        .all(|name| is_valid_path_component(name))
 }
 
 fn is_path(bytes: &[u8]) -> bool
@@ -26,13 +26,14 @@ fn is_path(bytes: &[u8]) -> bool
 {
     match bytes {
         [] => false,
-        [first, rest @ ..] => *first == b'/' && (rest.is_empty() || are_components(rest)),
+        [first, rest @ ..] => *first == b'/'
+            && (rest.is_empty() || has_valid_names_between_slashes(rest)),
     }
 }
 
 // Returns the parts between slashes.
-fn parts_of<'a>(alloc: Global, bytes: &'a [u8]) -> Result<Vec<&'a [u8]>, AllocError>
-    ensures { IfOk result (λ parts. map (λ part. part.now) parts.items ≡ slice_split (λ c. c == slash) bytes.now) }
+fn split_at_slashes<'a>(alloc: Global, bytes: &'a [u8]) -> Result<Vec<&'a [u8]>, AllocError>
+    ensures { IfOk result (λ parts. map (λ part. part.now) parts.items ≡ slice_split (λ c. c == slash_byte) bytes.now) }
 {
     bytes.split(|byte| *byte == b'/').collect(alloc)
 }
@@ -58,12 +59,12 @@ pub struct Path<'a> {
 impl<'a> Model for Path<'a> {
     ghost use Rattle.std.specs.Prelude.{◌≡◌, true, is_some};
     ghost use Rattle.lfs_model.specs.Operations.{path_of_bytes};
-    ghost use Rattle.lfs_model.specs.Refusals.{path_or_root};
+    ghost use Rattle.lfs_model.specs.Refusals.{path_of_bytes_or_root};
     ghost use Rattle.lfs_model.specs.Tree.{Path};
 
     ghost Value = { Path };
 
-    ghost view = { λ p. path_or_root p.bytes.now };
+    ghost view = { λ p. path_of_bytes_or_root p.bytes.now };
 
     ghost invariant = { λ p. is_some (path_of_bytes p.bytes.now) ≡ true };
 }
@@ -88,28 +89,28 @@ impl<'a> Path<'a> {
     {
         match self.bytes {
             [] | [_] => Ok(Vec::new(alloc)),
-            [_, rest @ ..] => parts_of(alloc, rest),
+            [_, rest @ ..] => split_at_slashes(alloc, rest),
         }
     }
 
     /// Returns whether the path is the root's.
     pub fn is_root(&self) -> bool
-        ensures { result ≡ is_root self.now }
+        ensures { result ≡ is_root_path self.now }
     {
         matches!(self.bytes, [] | [_])
     }
 
     /// Shows a proof that each name of the path may be a component. The call does nothing at run
     /// time.
-    pub fn show_path_names_to_proof(&self)
+    pub fn show_path_names_are_valid_to_proof(&self)
         ensures { list_all is_path_component self.now ≡ true }
     {
         let _len = self.bytes.len();
     }
 
     /// Shows a proof that the path is made of some bytes. The call does nothing at run time.
-    pub fn show_path_bytes_to_proof(&self)
-        ensures { (bytes : List ℕ) × (path_or_root bytes ≡ self.now) }
+    pub fn show_path_comes_from_bytes_to_proof(&self)
+        ensures { (bytes : List ℕ) × (path_of_bytes_or_root bytes ≡ self.now) }
     {
         let _len = self.bytes.len();
     }

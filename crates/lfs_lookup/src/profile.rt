@@ -1,23 +1,23 @@
 // Whether an image is in the writing profile.
 
 ghost use Rattle.std.specs.Prelude.{List, ◌≡◌, ◌↔◌, ◌<◌, IsTrue, All, IfOk, IfErr, Some, false, length, map, true};
-ghost use Rattle.lfs_model.specs.Content.{complete, slots_if_all_complete, struct_of_type_and_bytes};
-ghost use Rattle.lfs_model.specs.EntryTypes.{superblock_fields_at};
+ghost use Rattle.lfs_model.specs.Content.{slot_if_name_and_struct_present, slots_if_names_and_structs_present, struct_of_type_and_bytes};
+ghost use Rattle.lfs_model.specs.EntryTypes.{superblock_fields_of_struct_bytes};
 ghost use Rattle.lfs_model.specs.Disk.{file_size_limit};
-ghost use Rattle.lfs_model.specs.Slots.{Content as ModelContent, File, Slot as ModelSlot};
+ghost use Rattle.lfs_model.specs.Slots.{PairContent as ModelContent, File, Slot as ModelSlot};
 ghost use Rattle.lfs_model.specs.Thread.{pair_count_before_root};
-ghost use Rattle.lfs_model.specs.Profile.{FitsEntryLimits, FitsSlotLimits, IsWritable};
+ghost use Rattle.lfs_model.specs.Profile.{IsEntryWithinWritableLimits, IsSlotWithinWritableLimits, IsWritableImage};
 ghost use Rattle.lfs_model.specs.View.{IsAcceptedImage};
 ghost use Rattle.lfs_tag.specs.ContentView.{attribute_view, slot_view};
 ghost use Rattle.lfs_thread.specs.CachedLog.{IsLogBlockOfContent};
-ghost use Rattle.lfs_thread.specs.Steps.{kept_pair_at_index};
+ghost use Rattle.lfs_thread.specs.Steps.{thread_pair_at_index};
 ghost use Rattle.lfs_lookup.specs.Profile.{IsPairInWritingProfile, HasSuperblockStructOf24Bytes, follows_hard_tail_at};
 ghost use Rattle.lfs_lookup.specs.Reading.{OnlyReadsThreadAndReportsErrors};
 
 use lfs_device::{BlockDevice, Error, Geometry};
-use lfs_pair::{attributes_size, fits};
+use lfs_pair::{attributes_size, is_content_within_pair_limits};
 use lfs_tag::kinds::INLINE_STRUCT;
-use lfs_tag::{Attribute, Content, Log, Part, Slot, superblock_of};
+use lfs_tag::{Attribute, Content, Log, NameOrStruct, Slot, superblock_of};
 use lfs_thread::Thread;
 use std::alloc::Global;
 
@@ -25,25 +25,25 @@ use std::alloc::Global;
 // may get. Its inline bytes are within the limit, too.
 fn is_entry_in_writing_profile(
     geometry: &Geometry,
-    name: &Part<'_>,
-    structure: &Part<'_>,
+    name: &NameOrStruct<'_>,
+    structure: &NameOrStruct<'_>,
     attributes: &[Attribute<'_>],
 ) -> bool
-    ensures { IsTrue result ↔ FitsEntryLimits geometry.now.block_size geometry.now.page
+    ensures { IsTrue result ↔ IsEntryWithinWritableLimits geometry.now.block_size geometry.now.page
         (record { kind = File; name = name.now.bytes.now; struct = struct_of_type_and_bytes structure.now.kind structure.now.bytes.now; attributes = map attribute_view attributes.now }) }
 {
     let limit = geometry.inline_limit();
     let charge = attributes_size(attributes)
         .saturating_add(name.bytes.len() as u64)
         .saturating_add(u64::from(limit) + 8);
-    charge <= u64::from(geometry.entry_limit())
+    charge <= u64::from(geometry.entry_size_limit())
         && (structure.kind != INLINE_STRUCT || structure.bytes.len() <= limit as usize)
 }
 
 // Returns whether a superblock has the limits of a fresh image.
-fn has_limits_of_fresh_superblock(structure: &Part<'_>) -> bool
+fn has_limits_of_fresh_superblock(structure: &NameOrStruct<'_>) -> bool
     requires { length structure.now.bytes.now ≡ 24 }
-    ensures { IsTrue result ↔ (((superblock_fields_at structure.now.bytes.now).name_max ≡ 255) × ((superblock_fields_at structure.now.bytes.now).file_max ≡ file_size_limit) × ((superblock_fields_at structure.now.bytes.now).attr_max ≡ 1022)) }
+    ensures { IsTrue result ↔ (((superblock_fields_of_struct_bytes structure.now.bytes.now).name_max ≡ 255) × ((superblock_fields_of_struct_bytes structure.now.bytes.now).file_max ≡ file_size_limit) × ((superblock_fields_of_struct_bytes structure.now.bytes.now).attr_max ≡ 1022)) }
 {
     match <&[u8; 24]>::try_from(structure.bytes) {
         Ok(bytes) => {
@@ -56,8 +56,8 @@ fn has_limits_of_fresh_superblock(structure: &Part<'_>) -> bool
 
 // Returns whether a slot is within the writing profile.
 fn is_slot_in_writing_profile(geometry: &Geometry, slot: &Slot<'_>) -> bool
-    requires { (s : ModelSlot) × ((complete (slot_view slot.now) ≡ Some s) × HasSuperblockStructOf24Bytes s) }
-    ensures { (s : ModelSlot) → complete (slot_view slot.now) ≡ Some s → HasSuperblockStructOf24Bytes s → IsTrue result ↔ FitsSlotLimits geometry.now.block_size geometry.now.page s }
+    requires { (s : ModelSlot) × ((slot_if_name_and_struct_present (slot_view slot.now) ≡ Some s) × HasSuperblockStructOf24Bytes s) }
+    ensures { (s : ModelSlot) → slot_if_name_and_struct_present (slot_view slot.now) ≡ Some s → HasSuperblockStructOf24Bytes s → IsTrue result ↔ IsSlotWithinWritableLimits geometry.now.block_size geometry.now.page s }
 {
     let (Some(name), Some(structure)) = (slot.name, slot.structure) else {
         return false;
@@ -70,8 +70,8 @@ fn is_slot_in_writing_profile(geometry: &Geometry, slot: &Slot<'_>) -> bool
 
 // Returns whether all slots are within the writing profile.
 fn are_slots_in_writing_profile(geometry: &Geometry, slots: &[Slot<'_>]) -> bool
-    requires { (all : List ModelSlot) × ((slots_if_all_complete (map slot_view slots.now) ≡ Some all) × All HasSuperblockStructOf24Bytes all) }
-    ensures { (all : List ModelSlot) → slots_if_all_complete (map slot_view slots.now) ≡ Some all → All HasSuperblockStructOf24Bytes all → IsTrue result ↔ All (FitsSlotLimits geometry.now.block_size geometry.now.page) all }
+    requires { (all : List ModelSlot) × ((slots_if_names_and_structs_present (map slot_view slots.now) ≡ Some all) × All HasSuperblockStructOf24Bytes all) }
+    ensures { (all : List ModelSlot) → slots_if_names_and_structs_present (map slot_view slots.now) ≡ Some all → All HasSuperblockStructOf24Bytes all → IsTrue result ↔ All (IsSlotWithinWritableLimits geometry.now.block_size geometry.now.page) all }
 {
     for slot in slots {
         if !is_slot_in_writing_profile(geometry, slot) {
@@ -104,7 +104,7 @@ fn is_log_in_writing_profile(
     if !has_slot_if_after_hard_tail(follows, &content.slots) {
         return Ok(false);
     }
-    if !fits(&content, *geometry) {
+    if !is_content_within_pair_limits(&content, *geometry) {
         return Ok(false);
     }
     let fit = are_slots_in_writing_profile(geometry, &content.slots);
@@ -112,7 +112,7 @@ fn is_log_in_writing_profile(
 }
 
 // Returns whether the pair at an index is within the writing profile.
-fn fits_at<D: BlockDevice>(
+fn is_pair_at_index_in_profile<D: BlockDevice>(
     alloc: Global,
     thread: &mut Thread<D>,
     geometry: &Geometry,
@@ -121,8 +121,8 @@ fn fits_at<D: BlockDevice>(
 ) -> Result<bool, Error>
     requires works { thread.old.failed ≡ false }
     requires below { index < length thread.old.kept.pairs }
-    requires shaped { All HasSuperblockStructOf24Bytes (kept_pair_at_index thread.old.kept index).content.slots }
-    ensures is { IfOk result (λ b. IsTrue b ↔ IsPairInWritingProfile geometry.now.block_size geometry.now.page follows (kept_pair_at_index thread.old.kept index).content) }
+    requires shaped { All HasSuperblockStructOf24Bytes (thread_pair_at_index thread.old.kept index).content.slots }
+    ensures is { IfOk result (λ b. IsTrue b ↔ IsPairInWritingProfile geometry.now.block_size geometry.now.page follows (thread_pair_at_index thread.old.kept index).content) }
     ensures reading { OnlyReadsThreadAndReportsErrors thread.old thread.new result }
 {
     thread.load_pair(index)?;
@@ -161,13 +161,13 @@ pub fn is_writable<D: BlockDevice>(
     requires works { thread.old.failed ≡ false }
     requires accepted { IsAcceptedImage thread.old.kept.disk thread.old.kept.pairs }
     requires root { root ≡ pair_count_before_root thread.old.kept.pairs }
-    ensures is { IfOk result (λ b. IsTrue b ↔ IsWritable thread.old.kept.disk thread.old.kept.pairs) }
+    ensures is { IfOk result (λ b. IsTrue b ↔ IsWritableImage thread.old.kept.disk thread.old.kept.pairs) }
     ensures reading { OnlyReadsThreadAndReportsErrors thread.old thread.new result }
 {
     let geometry = thread.device().geometry();
     for index in 0..thread.len() {
         let follows = is_pair_after_hard_tail(thread, root, index);
-        if !fits_at(alloc, thread, &geometry, index, follows)? {
+        if !is_pair_at_index_in_profile(alloc, thread, &geometry, index, follows)? {
             return Ok(false);
         }
     }

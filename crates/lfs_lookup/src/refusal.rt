@@ -17,7 +17,7 @@ pub struct Refusal {
 impl Model for Refusal {
     ghost use Rattle.std.specs.Prelude.{◌≡◌, true};
     ghost use Rattle.lfs_model.specs.Operations as ops;
-    ghost use Rattle.lfs_lookup.specs.Refusals.{error_refusal_round_trip, error_of_refusal, is_refusal, refusal_of_error};
+    ghost use Rattle.lfs_lookup.specs.Refusals.{error_survives_conversion_to_refusal_and_back, error_of_refusal, is_refusal, refusal_of_error};
 
     ghost Value = { ops.Refusal };
 
@@ -27,7 +27,7 @@ impl Model for Refusal {
 
     ghost inverse = { λ r. record { error = error_of_refusal r } };
 
-    ghost inverse_ok = { λ r h. Prim.rw (error_refusal_round_trip r.error h) };
+    ghost inverse_ok = { λ r h. Prim.rw (error_survives_conversion_to_refusal_and_back r.error h) };
 }
 
 impl Refusal {

@@ -1,14 +1,14 @@
 // Where the root directory begins.
 
 ghost use Rattle.std.specs.Prelude.{◌≡◌, ◌≤◌, ◌+◌, ◌<◌, false, length, IfErr, IfOk, IfSome};
-ghost use Rattle.lfs_model.specs.History.{reads};
-ghost use Rattle.lfs_model.specs.Slots.{Content as ModelContent};
+ghost use Rattle.lfs_model.specs.History.{read_count_of_history};
+ghost use Rattle.lfs_model.specs.Slots.{PairContent as ModelContent};
 ghost use Rattle.lfs_model.specs.Thread.{starts_with_superblock, pair_count_before_root};
 ghost use Rattle.lfs_model.specs.View.{IsAcceptedImage};
 ghost use Rattle.lfs_thread.specs.CachedLog.{IsLogBlockOfContent};
-ghost use Rattle.lfs_thread.specs.Steps.{kept_pair_at_index};
+ghost use Rattle.lfs_thread.specs.Steps.{thread_pair_at_index};
 ghost use Rattle.lfs_lookup.specs.Reading.{OnlyReadsThreadAndReportsErrors};
-ghost use Rattle.lfs_lookup.specs.Root.{IsSuperblockInChain, IsNextSuperblockInChain, next_pair_in_superblock_chain};
+ghost use Rattle.lfs_lookup.specs.Root.{IsSuperblockInChain, IsLaterPairWithSuperblockOrNone, next_pair_in_superblock_chain};
 
 use lfs_device::{BlockDevice, Error};
 use lfs_tag::{Content, Log};
@@ -36,8 +36,8 @@ fn pair_begins_with_superblock<D: BlockDevice>(
 ) -> Result<bool, Error>
     requires works { thread.old.failed ≡ false }
     requires below { index < length thread.old.kept.pairs }
-    ensures is { IfOk result (λ b. b ≡ starts_with_superblock (kept_pair_at_index thread.old.kept index).content.slots) }
-    ensures few { reads thread.new.kept.history ≤ reads thread.old.kept.history + 1 }
+    ensures is { IfOk result (λ b. b ≡ starts_with_superblock (thread_pair_at_index thread.old.kept index).content.slots) }
+    ensures few { read_count_of_history thread.new.kept.history ≤ read_count_of_history thread.old.kept.history + 1 }
     ensures reading { OnlyReadsThreadAndReportsErrors thread.old thread.new result }
 {
     thread.load_pair(index)?;
@@ -46,7 +46,7 @@ fn pair_begins_with_superblock<D: BlockDevice>(
 
 // Returns the pair after one, where the chain may continue: the one has at most one slot, and a
 // hard tail.
-fn next_in_chain<D: BlockDevice>(thread: &Thread<D>, index: usize) -> Option<usize>
+fn next_pair_of_superblock_chain<D: BlockDevice>(thread: &Thread<D>, index: usize) -> Option<usize>
     requires works { thread.now.failed ≡ false }
     requires below { index < length thread.now.kept.pairs }
     ensures next { result ≡ next_pair_in_superblock_chain thread.now.kept index }
@@ -81,12 +81,12 @@ fn next_pair_with_superblock<D: BlockDevice>(
 ) -> Result<Option<usize>, Error>
     requires works { thread.old.failed ≡ false }
     requires chained { IsSuperblockInChain thread.old.kept superblock }
-    ensures next { IfOk result (λ next. IsNextSuperblockInChain thread.old.kept superblock next) }
-    ensures few { reads thread.new.kept.history ≤ reads thread.old.kept.history + 1 }
+    ensures next { IfOk result (λ next. IsLaterPairWithSuperblockOrNone thread.old.kept superblock next) }
+    ensures few { read_count_of_history thread.new.kept.history ≤ read_count_of_history thread.old.kept.history + 1 }
     ensures reading { OnlyReadsThreadAndReportsErrors thread.old thread.new result }
 {
     for index in superblock..thread.len() {
-        let Some(next) = next_in_chain(thread, index) else {
+        let Some(next) = next_pair_of_superblock_chain(thread, index) else {
             return Ok(None);
         };
         if thread.slot_count(next) > 0 {
@@ -111,7 +111,7 @@ pub fn find_root<D: BlockDevice>(alloc: Global, thread: &mut Thread<D>) -> Resul
     requires works { thread.old.failed ≡ false }
     requires accepted { IsAcceptedImage thread.old.kept.disk thread.old.kept.pairs }
     ensures root { IfOk result (λ root. root ≡ pair_count_before_root thread.old.kept.pairs) }
-    ensures few { IfOk result (λ root. reads thread.new.kept.history ≤ reads thread.old.kept.history + root + 1) }
+    ensures few { IfOk result (λ root. read_count_of_history thread.new.kept.history ≤ read_count_of_history thread.old.kept.history + root + 1) }
     ensures reading { OnlyReadsThreadAndReportsErrors thread.old thread.new result }
 {
     let mut root = first_pair_with_superblock(thread);

@@ -1,42 +1,42 @@
 // Names in directories of several pairs.
 
 ghost use Rattle.std.specs.Prelude.{◌≡◌, ◌<◌, ◌≤◌, ◌+◌, ◌-◌, ◌/◌, ◌∷◌, [], false, length, drop, IfOk, IfSome, IsSome, OnOk};
-ghost use Rattle.lfs_model.specs.History.{reads};
-ghost use Rattle.lfs_model.specs.InDirectory.{HaveNoSuperblock, hard_tail_joined_pair_count};
-ghost use Rattle.lfs_model.specs.Slots.{Content};
+ghost use Rattle.lfs_model.specs.History.{read_count_of_history};
+ghost use Rattle.lfs_model.specs.InDirectory.{ArePairsWithoutSuperblock, hard_tail_joined_pair_count};
+ghost use Rattle.lfs_model.specs.Slots.{PairContent};
 ghost use Rattle.lfs_thread.specs.CachedLog.{IsLogBlockOfContent, cached_log};
-ghost use Rattle.lfs_thread.specs.Steps.{HasReportedIoOrUnwrittenNoMemory, IsThreadOnlyRead, kept_pair_at_index};
-ghost use Rattle.lfs_lookup.specs.CachedPairs.{LoadsOnlyUncachedPairs};
-ghost use Rattle.lfs_lookup.specs.Listed.{hard_tail_run};
+ghost use Rattle.lfs_thread.specs.Steps.{IoMeantFaultNoMemoryWroteNothing, IsThreadOnlyRead, thread_pair_at_index};
+ghost use Rattle.lfs_lookup.specs.CachedPairs.{ReadsNothingAndKeepsPairsWhereAllCached};
+ghost use Rattle.lfs_lookup.specs.Listed.{hard_tail_joined_pairs};
 ghost use Rattle.lfs_lookup.specs.Reading.{OnlyReadsThreadAndReportsErrors};
-ghost use Rattle.lfs_lookup.specs.Halves.{EndsWithoutHardTail, ReadsAtMostHalvingsOfDirectory};
-ghost use Rattle.lfs_lookup.specs.Search.{SearchFindsInDirectory, SearchFindsInPair, SearchFindsWithSlotHidden, HasLogWithCompleteContent, AreDirectoryNamesInOrder, IsPairOfSoughtSlotCached, skipped_id_in_pair};
+ghost use Rattle.lfs_lookup.specs.Halves.{EndsWithoutHardTail, ReadsAtMostBinarySearchOfDirectory};
+ghost use Rattle.lfs_lookup.specs.Search.{SearchFindsInDirectory, SearchFindsInPair, SearchFindsWithSlotHidden, HasLogWhoseSlotsHaveNameAndStruct, AreDirectoryNamesInOrder, IsPairCachedIfSlotFound, skipped_id_in_pair};
 
-use crate::entry::{FileOrDirectory, entry_of};
+use crate::entry::{FileOrDirectory, entry_of_struct};
 use lfs_device::{BlockDevice, Error, NameOrder};
-use lfs_tag::{Log, Lookup, Steps, find, struct_of};
+use lfs_tag::{Log, Lookup, Steps, find, find_slot_struct};
 use lfs_thread::Thread;
 use std::alloc::{AllocError, Global};
 
 /// A slot, or the place of one: a pair's number in the thread and an id in the pair.
 #[derive(Clone, Copy, Debug, PartialEq, Eq, Drop)]
-pub struct Spot {
+pub struct SlotPosition {
     pub pair: usize,
     pub id: u16,
 }
 
 // Where a name is in a directory.
 #[derive(Clone, Copy, Debug, PartialEq, Eq, Drop)]
-pub(crate) enum Sought {
+pub(crate) enum NamePositionInDirectory {
     // Its slot, and the entry there.
-    Found(Spot, FileOrDirectory),
+    Found(SlotPosition, FileOrDirectory),
     // The name isn't there, and belongs before this slot.
-    Place(Spot),
+    Place(SlotPosition),
 }
 
 // Where a name is in a pair.
 #[derive(Drop)]
-enum SoughtInPair {
+enum NamePositionInPair {
     Found(u16, FileOrDirectory),
     Place(u16),
 }
@@ -48,17 +48,17 @@ fn find_name_in_log(
     order: NameOrder,
     name: &[u8],
     skip: Option<u16>,
-) -> Result<SoughtInPair, AllocError>
-    requires { HasLogWithCompleteContent log.now }
-    ensures { (content : Content) → IsLogBlockOfContent log.now content → IfOk result (SearchFindsInPair order skip content.slots name.now) }
+) -> Result<NamePositionInPair, AllocError>
+    requires { HasLogWhoseSlotsHaveNameAndStruct log.now }
+    ensures { (content : PairContent) → IsLogBlockOfContent log.now content → IfOk result (SearchFindsInPair order skip content.slots name.now) }
 {
     let found = find(alloc, log, order, name, skip)?;
     match found {
         Lookup::Found(id) => {
-            let structure = struct_of(log, id, &mut Steps::new()).unwrap();
-            Ok(SoughtInPair::Found(id, entry_of(&structure)))
+            let structure = find_slot_struct(log, id, &mut Steps::new()).unwrap();
+            Ok(NamePositionInPair::Found(id, entry_of_struct(&structure)))
         }
-        Lookup::Place(id) => Ok(SoughtInPair::Place(id)),
+        Lookup::Place(id) => Ok(NamePositionInPair::Place(id)),
     }
 }
 
@@ -69,13 +69,13 @@ fn find_name_in_pair<D: BlockDevice>(
     pair: usize,
     name: &[u8],
     skip: Option<u16>,
-) -> Result<SoughtInPair, Error>
+) -> Result<NamePositionInPair, Error>
     requires works { thread.old.failed ≡ false }
     requires below { pair < length thread.old.kept.pairs }
-    ensures answer { IfOk result (SearchFindsInPair thread.old.kept.disk.order skip (kept_pair_at_index thread.old.kept pair).content.slots name.now) }
+    ensures answer { IfOk result (SearchFindsInPair thread.old.kept.disk.order skip (thread_pair_at_index thread.old.kept pair).content.slots name.now) }
     ensures cached_log { OnOk result (IsSome (cached_log thread.new pair)) }
-    ensures few { reads thread.new.kept.history ≤ reads thread.old.kept.history + 1 }
-    ensures loads { LoadsOnlyUncachedPairs (kept_pair_at_index thread.old.kept pair ∷ []) thread.old thread.new result }
+    ensures few { read_count_of_history thread.new.kept.history ≤ read_count_of_history thread.old.kept.history + 1 }
+    ensures loads { ReadsNothingAndKeepsPairsWhereAllCached (thread_pair_at_index thread.old.kept pair ∷ []) thread.old thread.new result }
     ensures reading { OnlyReadsThreadAndReportsErrors thread.old thread.new result }
 {
     thread.load_pair(pair)?;
@@ -88,12 +88,12 @@ fn find_name_in_pair<D: BlockDevice>(
 // Returns the number behind the last pair of the directory that begins with the pair of number
 // `first`. A directory continues along the hard tails (SPEC.md of littlefs, "0x601
 // LFS_TYPE_HARDTAIL").
-fn end_of<D: BlockDevice>(thread: &Thread<D>, first: usize) -> usize
+fn end_of_directory_pairs<D: BlockDevice>(thread: &Thread<D>, first: usize) -> usize
     requires works { thread.now.failed ≡ false }
     requires below { first < length thread.now.kept.pairs }
     ensures count { result ≡ first + hard_tail_joined_pair_count (drop first thread.now.kept.pairs) }
     ensures within { result ≤ length thread.now.kept.pairs }
-    ensures soft { EndsWithoutHardTail (hard_tail_run (drop first thread.now.kept.pairs)) }
+    ensures soft { EndsWithoutHardTail (hard_tail_joined_pairs (drop first thread.now.kept.pairs)) }
 {
     let count = thread.len();
     let mut pair = first;
@@ -110,8 +110,8 @@ fn middle_pair_number<D: BlockDevice>(thread: &Thread<D>, low: usize, high: usiz
     requires some { low < high }
     requires below { high ≤ length thread.now.kept.pairs }
     ensures within { (low ≤ result) × (result < high) }
-    ensures middle { 0 < length (kept_pair_at_index thread.now.kept (low + (high - low) / 2)).content.slots → result ≡ low + (high - low) / 2 }
-    ensures low { length (kept_pair_at_index thread.now.kept result).content.slots ≡ 0 → result ≡ low }
+    ensures middle { 0 < length (thread_pair_at_index thread.now.kept (low + (high - low) / 2)).content.slots → result ≡ low + (high - low) / 2 }
+    ensures low { length (thread_pair_at_index thread.now.kept result).content.slots ≡ 0 → result ≡ low }
 {
     let middle = low + (high - low) / 2;
     if thread.slot_count(middle) > 0 {
@@ -134,20 +134,20 @@ pub(crate) fn find_name<D: BlockDevice>(
     thread: &mut Thread<D>,
     first: usize,
     name: &[u8],
-) -> Result<Sought, Error>
+) -> Result<NamePositionInDirectory, Error>
     requires works { thread.old.failed ≡ false }
     requires below { first < length thread.old.kept.pairs }
-    requires entries { HaveNoSuperblock (drop (first + 1) thread.old.kept.pairs) }
+    requires entries { ArePairsWithoutSuperblock (drop (first + 1) thread.old.kept.pairs) }
     ensures answer { IfOk result (SearchFindsInDirectory thread.old.kept.disk.order thread.old.kept.pairs first name.now) }
-    ensures cached_log { IfOk result (IsPairOfSoughtSlotCached thread.new) }
-    ensures few { reads thread.new.kept.history ≤ reads thread.old.kept.history + hard_tail_joined_pair_count (drop first thread.old.kept.pairs) }
-    ensures halves { ReadsAtMostHalvingsOfDirectory thread.old thread.new first }
-    ensures loads { LoadsOnlyUncachedPairs (hard_tail_run (drop first thread.old.kept.pairs)) thread.old thread.new result }
+    ensures cached_log { IfOk result (IsPairCachedIfSlotFound thread.new) }
+    ensures few { read_count_of_history thread.new.kept.history ≤ read_count_of_history thread.old.kept.history + hard_tail_joined_pair_count (drop first thread.old.kept.pairs) }
+    ensures halves { ReadsAtMostBinarySearchOfDirectory thread.old thread.new first }
+    ensures loads { ReadsNothingAndKeepsPairsWhereAllCached (hard_tail_joined_pairs (drop first thread.old.kept.pairs)) thread.old thread.new result }
     ensures reading { OnlyReadsThreadAndReportsErrors thread.old thread.new result }
 {
     let mut low = first;
-    let mut high = end_of(thread, first);
-    let mut spot = Spot { pair: first, id: 0 };
+    let mut high = end_of_directory_pairs(thread, first);
+    let mut spot = SlotPosition { pair: first, id: 0 };
     while low < high {
         let pair = middle_pair_number(thread, low, high);
         let count = thread.slot_count(pair);
@@ -157,22 +157,25 @@ pub(crate) fn find_name<D: BlockDevice>(
             continue;
         }
         let id = match find_name_in_pair(alloc, thread, pair, name, None)? {
-            SoughtInPair::Found(id, entry) => return Ok(Sought::Found(Spot { pair, id }, entry)),
-            SoughtInPair::Place(id) => id,
+            NamePositionInPair::Found(id, entry) => return Ok(NamePositionInDirectory::Found(
+                SlotPosition { pair, id },
+                entry,
+            )),
+            NamePositionInPair::Place(id) => id,
         };
         if id == 0 && count > 0 {
             // All names from this pair on are greater.
             high = pair;
             continue;
         }
-        spot = Spot { pair, id };
+        spot = SlotPosition { pair, id };
         if usize::from(id) < count {
-            return Ok(Sought::Place(spot));
+            return Ok(NamePositionInDirectory::Place(spot));
         }
         // All names up to this pair are less.
         low = pair + 1;
     }
-    Ok(Sought::Place(spot))
+    Ok(NamePositionInDirectory::Place(spot))
 }
 
 // Finds the entry of a name pair by pair, where the slot `moved` counts as deleted. The other
@@ -182,22 +185,25 @@ fn find_name_along_hard_tails<D: BlockDevice>(
     thread: &mut Thread<D>,
     first: usize,
     name: &[u8],
-    moved: Option<Spot>,
-) -> Result<Option<(Spot, FileOrDirectory)>, Error>
+    moved: Option<SlotPosition>,
+) -> Result<Option<(SlotPosition, FileOrDirectory)>, Error>
     requires works { thread.old.failed ≡ false }
     requires below { first < length thread.old.kept.pairs }
     ensures answer { IfOk result (SearchFindsWithSlotHidden thread.old.kept.pairs moved first name.now) }
     ensures cached_log { IfOk result (λ found. IfSome found (λ f. IsSome (cached_log thread.new f.0.pair))) }
-    ensures few { reads thread.new.kept.history ≤ reads thread.old.kept.history + hard_tail_joined_pair_count (drop first thread.old.kept.pairs) }
-    ensures loads { LoadsOnlyUncachedPairs (hard_tail_run (drop first thread.old.kept.pairs)) thread.old thread.new result }
+    ensures few { read_count_of_history thread.new.kept.history ≤ read_count_of_history thread.old.kept.history + hard_tail_joined_pair_count (drop first thread.old.kept.pairs) }
+    ensures loads { ReadsNothingAndKeepsPairsWhereAllCached (hard_tail_joined_pairs (drop first thread.old.kept.pairs)) thread.old thread.new result }
     ensures reading { OnlyReadsThreadAndReportsErrors thread.old thread.new result }
 {
     let mut pair = first;
     loop {
-        let skip = skipped_id_in(moved, pair);
+        let skip = id_to_skip_in_pair(moved, pair);
         match find_name_in_pair(alloc, thread, pair, name, skip)? {
-            SoughtInPair::Found(id, entry) => return Ok(Some((Spot { pair, id }, entry))),
-            SoughtInPair::Place(_) => {}
+            NamePositionInPair::Found(id, entry) => return Ok(Some((
+                SlotPosition { pair, id },
+                entry,
+            ))),
+            NamePositionInPair::Place(_) => {}
         }
         pair = match thread.next(pair) {
             Some(next) => next,
@@ -223,29 +229,29 @@ pub fn find_name_with_slot_hidden<D: BlockDevice>(
     thread: &mut Thread<D>,
     first: usize,
     name: &[u8],
-    moved: Option<Spot>,
-) -> Result<Option<(Spot, FileOrDirectory)>, Error>
+    moved: Option<SlotPosition>,
+) -> Result<Option<(SlotPosition, FileOrDirectory)>, Error>
     requires works { thread.old.failed ≡ false }
     requires below { first < length thread.old.kept.pairs }
     requires in_order { moved ≡ None → AreDirectoryNamesInOrder thread.old.kept.disk.order thread.old.kept.pairs first }
     ensures answer { IfOk result (SearchFindsWithSlotHidden thread.old.kept.pairs moved first name.now) }
     ensures cached_log { IfOk result (λ found. IfSome found (λ f. IsSome (cached_log thread.new f.0.pair))) }
-    ensures few { reads thread.new.kept.history ≤ reads thread.old.kept.history + hard_tail_joined_pair_count (drop first thread.old.kept.pairs) }
-    ensures halves { moved ≡ None → ReadsAtMostHalvingsOfDirectory thread.old thread.new first }
-    ensures loads { LoadsOnlyUncachedPairs (hard_tail_run (drop first thread.old.kept.pairs)) thread.old thread.new result }
+    ensures few { read_count_of_history thread.new.kept.history ≤ read_count_of_history thread.old.kept.history + hard_tail_joined_pair_count (drop first thread.old.kept.pairs) }
+    ensures halves { moved ≡ None → ReadsAtMostBinarySearchOfDirectory thread.old thread.new first }
+    ensures loads { ReadsNothingAndKeepsPairsWhereAllCached (hard_tail_joined_pairs (drop first thread.old.kept.pairs)) thread.old thread.new result }
     ensures reading { OnlyReadsThreadAndReportsErrors thread.old thread.new result }
 {
     match moved {
         Some(_) => find_name_along_hard_tails(alloc, thread, first, name, moved),
         None => match find_name(alloc, thread, first, name)? {
-            Sought::Found(spot, entry) => Ok(Some((spot, entry))),
-            Sought::Place(_) => Ok(None),
+            NamePositionInDirectory::Found(spot, entry) => Ok(Some((spot, entry))),
+            NamePositionInDirectory::Place(_) => Ok(None),
         },
     }
 }
 
 // Returns the id that is passed over in a pair.
-fn skipped_id_in(moved: Option<Spot>, pair: usize) -> Option<u16>
+fn id_to_skip_in_pair(moved: Option<SlotPosition>, pair: usize) -> Option<u16>
     ensures { result ≡ skipped_id_in_pair moved pair }
 {
     match moved {

@@ -1,16 +1,16 @@
 // All entries beneath the root.
 
 ghost use Rattle.std.specs.Prelude.{◌≡◌, ◌++◌, ◌<◌, IfOk, OnOk, false, length, reverse};
-ghost use Rattle.lfs_model.specs.Thread.{gstate_of};
+ghost use Rattle.lfs_model.specs.Thread.{gstate_of_pairs};
 ghost use Rattle.lfs_model.specs.View.{IsAcceptedImage};
 ghost use Rattle.lfs_tag.specs.FieldsView.{move_view};
-ghost use Rattle.lfs_lookup.specs.Items.{item_view, items_view, structure_view};
+ghost use Rattle.lfs_lookup.specs.Items.{directory_item_view, directory_items_view, owned_struct_view};
 ghost use Rattle.lfs_lookup.specs.Reading.{OnlyReadsThreadAndReportsErrors};
-ghost use Rattle.lfs_lookup.specs.Walk.{AreEntriesOfWalkedPushed, AreDirectoryEntriesPushed, HasFirstPairInThreadIfBranch, ArePathsAndStructsOfWalk, addresses_of_thread_pairs, walked_entry_beneath, tree_item_view, tree_items_view, walked_entries_beneath};
+ghost use Rattle.lfs_lookup.specs.Walk.{AreEntriesBelowWalkedEntryPushed, AreDirectoryEntriesPushed, HasFirstPairInThreadIfDirectory, ArePathsAndStructsOfWalk, addresses_of_thread_pairs, walked_entry_beneath_path, tree_item_view, tree_items_view, walked_entries_beneath_path};
 
 use crate::addresses::pair_addresses_of_thread;
 use crate::directory::directory_items_under_gstate;
-use crate::items::{NameAndOwnedStruct, OwnedStruct, sort_by_name};
+use crate::items::{NameAndOwnedStruct, OwnedStruct, sort_by_name_shorter_first};
 use lfs_device::{BlockDevice, Error};
 use lfs_tag::MoveState;
 use lfs_thread::{PairAddressList, Thread};
@@ -31,7 +31,7 @@ fn tree_item_beneath_path(
     path: &[u8],
     item: NameAndOwnedStruct,
 ) -> Result<TreeItem, AllocError>
-    ensures { IfOk result (λ found. tree_item_view found ≡ walked_entry_beneath path.now (item_view item)) }
+    ensures { IfOk result (λ found. tree_item_view found ≡ walked_entry_beneath_path path.now (directory_item_view item)) }
 {
     let mut below = Vec::from_slice(alloc, path)?;
     below.push(b'/')?;
@@ -43,13 +43,13 @@ fn tree_item_beneath_path(
 }
 
 // Puts the entries of the directory of a path on top, the first of them topmost.
-fn push_items(
+fn push_items_beneath_path(
     alloc: Global,
     pending: &mut Vec<TreeItem>,
     path: &[u8],
     mut items: Vec<NameAndOwnedStruct>,
 ) -> Result<(), AllocError>
-    ensures { OnOk result (tree_items_view pending.new.items ≡ tree_items_view pending.old.items ++ reverse (walked_entries_beneath path.now (items_view items.items))) }
+    ensures { OnOk result (tree_items_view pending.new.items ≡ tree_items_view pending.old.items ++ reverse (walked_entries_beneath_path path.now (directory_items_view items.items))) }
 {
     while let Some(item) = items.pop() {
         let found = tree_item_beneath_path(alloc, path, item)?;
@@ -70,13 +70,13 @@ fn push_items_of_directory<D: BlockDevice>(
 ) -> Result<(), Error>
     requires works { thread.old.failed ≡ false }
     requires below { first < length thread.old.kept.pairs }
-    requires state { move_view state.now ≡ gstate_of thread.old.kept.pairs }
+    requires state { move_view state.now ≡ gstate_of_pairs thread.old.kept.pairs }
     ensures pushed { OnOk result (AreDirectoryEntriesPushed thread.old.kept.pairs path.now first (tree_items_view pending.old.items) (tree_items_view pending.new.items)) }
     ensures reading { OnlyReadsThreadAndReportsErrors thread.old thread.new result }
 {
     let mut items = directory_items_under_gstate(alloc, thread, state, first)?;
-    sort_by_name(&mut items);
-    push_items(alloc, pending, path, items)?;
+    sort_by_name_shorter_first(&mut items);
+    push_items_beneath_path(alloc, pending, path, items)?;
     Ok(())
 }
 
@@ -91,9 +91,9 @@ fn push_items_below_entry<D: BlockDevice>(
 ) -> Result<(), Error>
     requires works { thread.old.failed ≡ false }
     requires all { addresses.now ≡ addresses_of_thread_pairs thread.old.kept.pairs }
-    requires begins { HasFirstPairInThreadIfBranch thread.old.kept.pairs (structure_view found.now.structure) }
-    requires state { move_view state.now ≡ gstate_of thread.old.kept.pairs }
-    ensures pushed { OnOk result (AreEntriesOfWalkedPushed thread.old.kept.pairs (tree_item_view found.now) (tree_items_view pending.old.items) (tree_items_view pending.new.items)) }
+    requires begins { HasFirstPairInThreadIfDirectory thread.old.kept.pairs (owned_struct_view found.now.structure) }
+    requires state { move_view state.now ≡ gstate_of_pairs thread.old.kept.pairs }
+    ensures pushed { OnOk result (AreEntriesBelowWalkedEntryPushed thread.old.kept.pairs (tree_item_view found.now) (tree_items_view pending.old.items) (tree_items_view pending.new.items)) }
     ensures reading { OnlyReadsThreadAndReportsErrors thread.old thread.new result }
 {
     if let OwnedStruct::Branch(to) = found.structure {
@@ -108,7 +108,10 @@ fn push_items_below_entry<D: BlockDevice>(
 ///
 /// Errors: `Io` where a read failed. `NoMemory` where memory for a block, its slots or the entries
 /// isn't granted.
-pub fn walk<D: BlockDevice>(alloc: Global, thread: &mut Thread<D>) -> Result<Vec<TreeItem>, Error>
+pub fn walk_tree<D: BlockDevice>(
+    alloc: Global,
+    thread: &mut Thread<D>,
+) -> Result<Vec<TreeItem>, Error>
     requires works { thread.old.failed ≡ false }
     requires accepted { IsAcceptedImage thread.old.kept.disk thread.old.kept.pairs }
     ensures walked { IfOk result (λ found. ArePathsAndStructsOfWalk thread.old.kept.disk thread.old.kept.pairs (tree_items_view found.items)) }

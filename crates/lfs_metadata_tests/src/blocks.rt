@@ -49,7 +49,7 @@ pub(crate) const BAD_DELETE: [&[u8]; 2] = [
 ];
 
 // Commits, each from a page on, and 0xff between them and to the end.
-pub(crate) fn block_of(
+pub(crate) fn block_of_commits(
     alloc: Global,
     size: usize,
     page: usize,

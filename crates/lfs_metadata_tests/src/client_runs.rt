@@ -1,10 +1,10 @@
 // The clients at work, on a pair of three files of 300 bytes each.
 
 ghost use Rattle.std.specs.Prelude.{◌≡◌, IfOk};
-ghost use Rattle.lfs_device.specs.RamDevice.{geometry_of};
+ghost use Rattle.lfs_device.specs.RamDevice.{geometry_of_ram_device};
 
-use crate::clients::{commit_or_stop, split_before};
-use lfs_device::{BlockDevice, Error, FaultDevice, Geometry, RamDevice, Which};
+use crate::clients::{commit_or_stop, split_with_fresh_soft_tail};
+use lfs_device::{BlockDevice, CountedCalls, Error, FaultDevice, Geometry, RamDevice};
 use lfs_pair::{Change, Pair};
 use lfs_tag::Tail;
 use lfs_tag::kinds::{FILE_NAME, INLINE_STRUCT};
@@ -45,13 +45,13 @@ const ALIKE: [Change<'static>; 6] = [
 ];
 
 // The tails of both parts, where the fresh one's is set by the split.
-fn tails<D: BlockDevice>(alloc: Global, dev: &mut D) -> Result<[Option<Tail>; 2], Error>
+fn tails_after_split<D: BlockDevice>(alloc: Global, dev: &mut D) -> Result<[Option<Tail>; 2], Error>
     requires size { (D.geometry dev.old).block_size ≡ 1024 }
     requires page { (D.geometry dev.old).page ≡ 8 }
     requires count { (D.geometry dev.old).block_count ≡ 6 }
 {
     let mut pair = Pair::fresh(alloc, dev, [0, 1], &ALIKE)?;
-    let fresh_pair = split_before(alloc, dev, &mut pair, [2, 3], [4, 5])?;
+    let fresh_pair = split_with_fresh_soft_tail(alloc, dev, &mut pair, [2, 3], [4, 5])?;
     Ok([pair.tail, fresh_pair.tail])
 }
 
@@ -69,10 +69,10 @@ fn slots_after_removal<D: BlockDevice>(alloc: Global, dev: &mut D) -> Result<usi
 }
 
 // A device of six blocks that holds 7 in each byte.
-fn sevens(alloc: Global) -> Result<RamDevice, Error>
-    ensures size { IfOk result (λ device. (geometry_of device).block_size ≡ 1024) }
-    ensures page { IfOk result (λ device. (geometry_of device).page ≡ 8) }
-    ensures count { IfOk result (λ device. (geometry_of device).block_count ≡ 6) }
+fn device_full_of_sevens(alloc: Global) -> Result<RamDevice, Error>
+    ensures size { IfOk result (λ device. (geometry_of_ram_device device).block_size ≡ 1024) }
+    ensures page { IfOk result (λ device. (geometry_of_ram_device device).page ≡ 8) }
+    ensures count { IfOk result (λ device. (geometry_of_ram_device device).block_count ≡ 6) }
 {
     let geometry = Geometry::new(1024, 8, 6)?;
     let bytes = Vec::from_elem(alloc, 7u8, 6 * 1024)?;
@@ -84,7 +84,7 @@ fn sevens(alloc: Global) -> Result<RamDevice, Error>
 #[test]
 fn clients_commit_and_split(rt: HostRuntime) -> Result<(), Fail> {
     let alloc = rt.alloc();
-    let mut device = sevens(alloc)?;
+    let mut device = device_full_of_sevens(alloc)?;
     let front = Some(Tail {
         hard: true,
         pair: [2, 3],
@@ -93,15 +93,15 @@ fn clients_commit_and_split(rt: HostRuntime) -> Result<(), Fail> {
         hard: false,
         pair: [4, 5],
     });
-    assert_eq!(rt; tails(alloc, &mut device), Ok([front, back]));
+    assert_eq!(rt; tails_after_split(alloc, &mut device), Ok([front, back]));
     for (nth, answer) in [
         (6, Err(Error::Io)),
         (7, Err(Error::Io)),
         (8, Err(Error::Io)),
         (9, Ok(2)),
     ] {
-        let inner = sevens(alloc)?;
-        let mut device = FaultDevice::new(inner, Which::Any, nth, true);
+        let inner = device_full_of_sevens(alloc)?;
+        let mut device = FaultDevice::new(inner, CountedCalls::Any, nth, true);
         assert_eq!(rt; slots_after_removal(alloc, &mut device), answer);
     }
     Ok(())

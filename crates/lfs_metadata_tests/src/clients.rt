@@ -4,14 +4,14 @@ ghost use Rattle.std.specs.Prelude.{◌≡◌, ◌<◌, false, true, [], ◌∷�
 ghost use Rattle.std.specs.Option.{option_map};
 ghost use Rattle.lfs_device.specs.Shown.{disk_of_geometry_and_blocks};
 ghost use Rattle.lfs_model.specs.Changes.{PutTail};
-ghost use Rattle.lfs_model.specs.FailedCalls.{AreFailedCallsSinceLikeStops, IsLeftByFailedNewestCall};
+ghost use Rattle.lfs_model.specs.FailedCalls.{AreFailedDeviceCallsLikePowerLossSince, AreBlocksLeftByFailedNewestCall};
 ghost use Rattle.lfs_model.specs.History.{IsTrueOfEachCallSince};
 ghost use Rattle.lfs_model.specs.Slots.{pair_address_of_array};
-ghost use Rattle.lfs_model.specs.Stops.{LeavesNoNewLogIfErase};
+ghost use Rattle.lfs_model.specs.Stops.{LeavesNoNewLogIfSuccessfulErase};
 ghost use Rattle.lfs_tag.specs.ContentView.{tail_view};
 ghost use Rattle.lfs_pair.specs.ChangeView.{changes_view};
-ghost use Rattle.lfs_pair.specs.Commit.{CanCommit, Commits, LeavesOldOrChangedContent};
-ghost use Rattle.lfs_pair.specs.Pair.{address_of_header};
+ghost use Rattle.lfs_pair.specs.Commit.{CanCommit, CommitsChangesToPair, PowerLossLeavesOldOrChangedContent};
+ghost use Rattle.lfs_pair.specs.Pair.{pair_address_in_header};
 ghost use Rattle.lfs_pair.specs.Split.{CanSplitPair};
 
 use lfs_device::{BlockDevice, Error};
@@ -29,11 +29,11 @@ pub fn commit_or_stop<D: BlockDevice>(
     changes: &[Change<'_>],
 ) -> Result<(), Error>
     requires { CanCommit (disk_of_geometry_and_blocks (D.geometry dev.old) (D.blocks dev.old)) (D.history dev.old) pair.old (changes_view changes.now) }
-    ensures done { OnOk result (Commits (disk_of_geometry_and_blocks (D.geometry dev.old) (D.blocks dev.old)) (D.history dev.old) (changes_view changes.now) pair.old
+    ensures done { OnOk result (CommitsChangesToPair (disk_of_geometry_and_blocks (D.geometry dev.old) (D.blocks dev.old)) (D.history dev.old) (changes_view changes.now) pair.old
         (disk_of_geometry_and_blocks (D.geometry dev.new) (D.blocks dev.new)) (D.history dev.new) pair.new) }
-    ensures left { result ≡ Err Error.Io → IsTrueOfEachCallSince LeavesNoNewLogIfErase (D.history dev.old) (D.history dev.new) → AreFailedCallsSinceLikeStops (D.history dev.old) (D.history dev.new)
-        → IsLeftByFailedNewestCall (D.history dev.new) (D.blocks dev.new)
-        → LeavesOldOrChangedContent (disk_of_geometry_and_blocks (D.geometry dev.old) (D.blocks dev.old)) (address_of_header pair.old) (changes_view changes.now) (D.blocks dev.new) }
+    ensures left { result ≡ Err Error.Io → IsTrueOfEachCallSince LeavesNoNewLogIfSuccessfulErase (D.history dev.old) (D.history dev.new) → AreFailedDeviceCallsLikePowerLossSince (D.history dev.old) (D.history dev.new)
+        → AreBlocksLeftByFailedNewestCall (D.history dev.new) (D.blocks dev.new)
+        → PowerLossLeavesOldOrChangedContent (disk_of_geometry_and_blocks (D.geometry dev.old) (D.blocks dev.old)) (pair_address_in_header pair.old) (changes_view changes.now) (D.blocks dev.new) }
 {
     match commit(alloc, dev, pair, changes) {
         Ok(Outcome::Done) => Ok(()),
@@ -46,7 +46,7 @@ pub fn commit_or_stop<D: BlockDevice>(
 /// begins.
 ///
 /// That address is one of the device's. Errors are those of [`split`].
-pub fn split_before<D: BlockDevice>(
+pub fn split_with_fresh_soft_tail<D: BlockDevice>(
     alloc: Global,
     dev: &mut D,
     pair: &mut Pair,

@@ -3,7 +3,7 @@
 ghost use Rattle.std.specs.Prelude.{◌≡◌, true};
 ghost use Rattle.lfs_model.specs.Geometry.{is_valid_page_size};
 
-use crate::blocks::{FRESH, SHIFTING, block_of};
+use crate::blocks::{FRESH, SHIFTING, block_of_commits};
 use lfs_device::Error;
 use lfs_tag::kinds::{CREATE, DELETE, FILE_NAME, INLINE_STRUCT, SUPERBLOCK_NAME};
 use lfs_tag::{CommitBuilder, Log, Tag};
@@ -77,7 +77,7 @@ fn block_with_commits(alloc: Global, byte: u8, commits: &[Entries<'_>]) -> Resul
     for entries in commits {
         let log = Log::read(&block);
         let (start, last) = if log.has_commit() {
-            (log.end(), log.last())
+            (log.end(), log.last_tag_of_log())
         } else {
             (0, Tag::from_bits(0xffff_ffff))
         };
@@ -98,13 +98,13 @@ fn block_with_commits(alloc: Global, byte: u8, commits: &[Entries<'_>]) -> Resul
 fn commits_are_written(rt: HostRuntime) -> Result<(), Fail> {
     let alloc = rt.alloc();
     let fresh = block_with_commits(alloc, 0xff, &[SUPERBLOCK])?;
-    assert_eq!(rt; fresh, block_of(alloc, 4096, 256, &FRESH)?);
+    assert_eq!(rt; fresh, block_of_commits(alloc, 4096, 256, &FRESH)?);
     let shifting = block_with_commits(
         alloc,
         0xff,
         &[SUPERBLOCK, FILE_B, FILE_A, NO_FILE_A, ATTRIBUTE],
     )?;
-    assert_eq!(rt; shifting, block_of(alloc, 4096, 256, &SHIFTING)?);
+    assert_eq!(rt; shifting, block_of_commits(alloc, 4096, 256, &SHIFTING)?);
     let zeros = block_with_commits(alloc, 0, &[SUPERBLOCK, FILE_A])?;
     assert_eq!(rt;
         (
@@ -123,14 +123,14 @@ fn commits_are_written(rt: HostRuntime) -> Result<(), Fail> {
 
 // A block that a commit fills has nothing behind it, and one that doesn't fit isn't made.
 #[test]
-fn full_blocks(rt: HostRuntime) {
+fn commits_fill_blocks_to_end(rt: HostRuntime) {
     let first = Tag::from_bits(0xffff_ffff);
     let mut block = [0u8; 16];
     let (end, pages) = build_commit(&mut block, 8, first, Some(7), SHORT, None);
     assert_eq!(rt; (end, pages.is_ok()), (16, true));
     let log = Log::read(&block);
     assert_eq!(rt;
-        (log.end(), log.revision(), log.last().kind()),
+        (log.end(), log.revision(), log.last_tag_of_log().kind()),
         (16, 7, 0x500)
     );
     for (entries, revision, end) in [(SUPERBLOCK, Some(1), 256), (LONG, None, 512)] {

@@ -1,14 +1,14 @@
 // What a log comes to, and what look-ups find in it.
 
-use crate::blocks::{BAD_DELETE, SHIFTING, block_of};
+use crate::blocks::{BAD_DELETE, SHIFTING, block_of_commits};
 use lfs_device::NameOrder::{LongerFirst, ShorterFirst};
 use lfs_tag::{
-    Content, ContentError, Log, Lookup, MoveState, Part, Steps, Summary, find, get, name_of,
-    struct_of,
+    Content, ContentError, Log, Lookup, MoveState, NameOrStruct, Steps, Summary, find,
+    find_slot_name, find_slot_struct, get,
 };
 use std::test::Fail;
 
-fn type_and_bytes<'a>(part: Option<Part<'a>>) -> Option<(u16, &'a [u8])> {
+fn type_and_bytes<'a>(part: Option<NameOrStruct<'a>>) -> Option<(u16, &'a [u8])> {
     match part {
         Some(part) => Some((part.kind, part.bytes)),
         None => None,
@@ -18,7 +18,7 @@ fn type_and_bytes<'a>(part: Option<Part<'a>>) -> Option<(u16, &'a [u8])> {
 #[test]
 fn contents_and_summaries(rt: HostRuntime) -> Result<(), Fail> {
     let alloc = rt.alloc();
-    let block = block_of(alloc, 4096, 256, &SHIFTING)?;
+    let block = block_of_commits(alloc, 4096, 256, &SHIFTING)?;
     let log = Log::read(&block);
     let content = Content::read(alloc, &log)?;
     assert_eq!(rt; (content.slots.len(), content.tail), (2, None));
@@ -46,8 +46,8 @@ fn contents_and_summaries(rt: HostRuntime) -> Result<(), Fail> {
 }
 
 #[test]
-fn a_slot_that_is_not_there(rt: HostRuntime) -> Result<(), Fail> {
-    let block = block_of(rt.alloc(), 32, 9, &BAD_DELETE)?;
+fn deletion_of_missing_slot_is_malformed(rt: HostRuntime) -> Result<(), Fail> {
+    let block = block_of_commits(rt.alloc(), 32, 9, &BAD_DELETE)?;
     let log = Log::read(&block);
     let content = Content::read(rt.alloc(), &log).err();
     let summary = Summary::read(rt.alloc(), &log).err();
@@ -58,8 +58,8 @@ fn a_slot_that_is_not_there(rt: HostRuntime) -> Result<(), Fail> {
 
 // What is held of a type for an id, and at how many entries a search looks, from the last one back.
 #[test]
-fn look_ups(rt: HostRuntime) -> Result<(), Fail> {
-    let block = block_of(rt.alloc(), 4096, 256, &SHIFTING)?;
+fn log_entries_are_looked_up(rt: HostRuntime) -> Result<(), Fail> {
+    let block = block_of_commits(rt.alloc(), 4096, 256, &SHIFTING)?;
     let log = Log::read(&block);
     for (kind, id, held, looks) in [
         (0x341, 1, Some(b"x".as_slice()), 2),
@@ -79,8 +79,11 @@ fn look_ups(rt: HostRuntime) -> Result<(), Fail> {
         (1, Some((1, b"b".as_slice())), Some((0x201, b"".as_slice()))),
         (2, None, None),
     ] {
-        assert_eq!(rt; type_and_bytes(name_of(&log, id, &mut steps)), name);
-        assert_eq!(rt; type_and_bytes(struct_of(&log, id, &mut steps)), structure);
+        assert_eq!(rt; type_and_bytes(find_slot_name(&log, id, &mut steps)), name);
+        assert_eq!(rt;
+            type_and_bytes(find_slot_struct(&log, id, &mut steps)),
+            structure
+        );
     }
     for (order, name, skip, place) in [
         (ShorterFirst, b"b".as_slice(), None, Lookup::Found(1)),

@@ -1,11 +1,11 @@
 // Pairs of a small device, fetched.
 
 ghost use Rattle.std.specs.Prelude.{◌≡◌, IfOk};
-ghost use Rattle.lfs_device.specs.RamDevice.{geometry_of};
+ghost use Rattle.lfs_device.specs.RamDevice.{geometry_of_ram_device};
 
-use crate::images::{Entries, block};
-use lfs_device::{Error, FaultDevice, Geometry, RamDevice, Which};
-use lfs_pair::{Change, Pair, apply_all_changes, fetch, fits};
+use crate::images::{Entries, block_with_one_commit};
+use lfs_device::{CountedCalls, Error, FaultDevice, Geometry, RamDevice};
+use lfs_pair::{Change, Pair, apply_all_changes, fetch, is_content_within_pair_limits};
 use lfs_tag::kinds::{CREATE, FILE_NAME, HARD_TAIL, INLINE_STRUCT, MOVE_STATE, SUPERBLOCK_NAME};
 use lfs_tag::{Content, ContentError, Log, MoveState, Tail};
 use std::alloc::Global;
@@ -51,8 +51,11 @@ const MALFORMED: Entries<'static> = &[(CREATE, 1, b"")];
 
 // A device of four blocks of 1,024 bytes with pages of 128, of which the first two have one commit
 // each, of that revision, or none.
-fn device(alloc: Global, halves: [(u32, Entries<'static>); 2]) -> Result<RamDevice, Error>
-    ensures { IfOk result (λ device. (geometry_of device).block_count ≡ 4) }
+fn device_with_two_logs(
+    alloc: Global,
+    halves: [(u32, Entries<'static>); 2],
+) -> Result<RamDevice, Error>
+    ensures { IfOk result (λ device. (geometry_of_ram_device device).block_count ≡ 4) }
 {
     let geometry = Geometry::new(1024, 128, 4)?;
     let mut bytes = Vec::new(alloc);
@@ -60,7 +63,9 @@ fn device(alloc: Global, halves: [(u32, Entries<'static>); 2]) -> Result<RamDevi
         if entries.is_empty() {
             bytes.extend_from_slice(&[0xff; 1024])?;
         } else {
-            bytes.extend_from_slice(&block(alloc, 1024, 128, 0xff, revision, entries)?)?;
+            bytes.extend_from_slice(&block_with_one_commit(
+                alloc, 1024, 128, 0xff, revision, entries,
+            )?)?;
         }
     }
     bytes.resize(4096, 0xff)?;
@@ -71,7 +76,7 @@ fn device(alloc: Global, halves: [(u32, Entries<'static>); 2]) -> Result<RamDevi
 // complete, the tail and the move state.
 type Seen = (u32, usize, u32, usize, bool, Option<Tail>, MoveState);
 
-fn seen(pair: &Pair) -> Seen {
+fn fields_of_pair(pair: &Pair) -> Seen {
     (
         pair.active,
         pair.end,
@@ -103,10 +108,10 @@ fn the_later_log_holds(rt: HostRuntime) -> Result<(), Fail> {
         ((0, HELD), (0x8000_0000, HELD), 0, 0, false),
         ((0x8000_0000, HELD), (0, HELD), 0, 0x8000_0000, false),
     ] {
-        let mut device = device(rt.alloc(), [first, second])?;
+        let mut device = device_with_two_logs(rt.alloc(), [first, second])?;
         let pair = fetch(rt.alloc(), &mut device, [0, 1])?;
         let expected = (active, 128, revision, 2, is_complete, TAIL, SYNC);
-        assert_eq!(rt; seen(&pair), expected);
+        assert_eq!(rt; fields_of_pair(&pair), expected);
     }
     Ok(())
 }
@@ -128,10 +133,13 @@ fn fetches_fail(rt: HostRuntime) -> Result<(), Fail> {
         } else {
             (8, HELD)
         };
-        let inner = device(rt.alloc(), [first, second])?;
-        let mut device = FaultDevice::new(inner, Which::Read, nth, false);
+        let inner = device_with_two_logs(rt.alloc(), [first, second])?;
+        let mut device = FaultDevice::new(inner, CountedCalls::Read, nth, false);
         let answer = fetch(rt.alloc(), &mut device, [0, 1]).err();
-        assert_eq!(rt; (answer, device.calls(Which::Any)), (Some(error), calls));
+        assert_eq!(rt;
+            (answer, device.calls(CountedCalls::Any)),
+            (Some(error), calls)
+        );
         let again = fetch(rt.alloc(), &mut device, [0, 1]);
         assert!(rt; again.is_ok_and(|pair| pair.active == 1) == (nth > 0));
     }
@@ -173,7 +181,7 @@ const CHANGES: [Change<'static>; 7] = [
 #[test]
 fn changes_are_made_in_order(rt: HostRuntime) -> Result<(), Fail> {
     let alloc = rt.alloc();
-    let block = block(alloc, 1024, 128, 0xff, 1, COMPLETE)?;
+    let block = block_with_one_commit(alloc, 1024, 128, 0xff, 1, COMPLETE)?;
     let log = Log::read(&block);
     let mut content = Content::read(alloc, &log)?;
     apply_all_changes(alloc, &mut content, &CHANGES)?;
@@ -184,7 +192,7 @@ fn changes_are_made_in_order(rt: HostRuntime) -> Result<(), Fail> {
             attributes,
             content.tail,
             content.move_state.sync,
-            fits(&content, Geometry::new(1024, 128, 4)?)
+            is_content_within_pair_limits(&content, Geometry::new(1024, 128, 4)?)
         ),
         (2, Some(1), None, false, true)
     );

@@ -2,8 +2,8 @@
 
 use lfs_device::Geometry;
 use lfs_tag::{
-    MoveState, Superblock, ctz_bytes, ctz_of, kinds, move_bytes, move_of, pair_bytes, pair_of,
-    superblock_bytes, superblock_of,
+    MoveState, Superblock, ctz_bytes, ctz_of, kinds, move_of, move_state_bytes, pair_bytes,
+    pair_of, superblock_bytes, superblock_of,
 };
 use std::test::Fail;
 
@@ -22,7 +22,7 @@ fn superblocks_and_addresses(rt: HostRuntime) -> Result<(), Fail> {
         file_max: 2_147_483_647,
         attr_max: 1022,
     };
-    let of_geometry = Superblock::of(&Geometry::new(4096, 256, 16)?);
+    let of_geometry = Superblock::for_fresh_image(&Geometry::new(4096, 256, 16)?);
     assert_eq!(rt;
         (superblock_of(&SUPERBLOCK), superblock_bytes(&of_geometry)),
         (fields, SUPERBLOCK)
@@ -69,6 +69,6 @@ fn move_states(rt: HostRuntime) {
         };
         assert_eq!(rt; move_of(&bytes), state);
         let is_in_range = kind < 0x800 && id < 0x400;
-        assert!(rt; is_in_range && move_bytes(&state) == bytes);
+        assert!(rt; is_in_range && move_state_bytes(&state) == bytes);
     }
 }

@@ -1,7 +1,7 @@
 // Empty file systems, made on small devices that held something else.
 
-use crate::images::{Entries, block};
-use lfs_device::{Erased, Error, FaultDevice, Geometry, RamDevice, Which};
+use crate::images::{Entries, block_with_one_commit};
+use lfs_device::{CountedCalls, Erased, Error, FaultDevice, Geometry, RamDevice};
 use lfs_tag::kinds::{FILE_NAME, INLINE_STRUCT};
 use lfs_tree::format;
 use std::alloc::Global;
@@ -11,20 +11,20 @@ use std::test::Fail;
 type Sizes = (u32, u32, u32);
 
 // A device that held 7 in every byte, and is made empty. Its call of that number fails, if there is one.
-fn format_sevens(
+fn format_device_of_sevens(
     alloc: Global,
     sizes: Sizes,
-    which: Which,
+    which: CountedCalls,
     nth: u64,
 ) -> Result<(FaultDevice<RamDevice>, Option<Error>), Error> {
     let geometry = Geometry::new(sizes.0, sizes.1, sizes.2)?;
     let len = geometry.block_size as usize * geometry.block_count as usize;
     let ram = RamDevice::from_bytes(geometry, Vec::from_elem(alloc, 7u8, len)?)?;
-    Ok(made_empty(alloc, FaultDevice::new(ram, which, nth, false)))
+    Ok(format_and_return_device(alloc, FaultDevice::new(ram, which, nth, false)))
 }
 
 // The device, made empty, and the error that came.
-fn made_empty(
+fn format_and_return_device(
     alloc: Global,
     device: FaultDevice<RamDevice>,
 ) -> (FaultDevice<RamDevice>, Option<Error>) {
@@ -64,14 +64,14 @@ const HEADS: [(Sizes, [u8; 52]); 3] = [
 ];
 
 // Which call fails, and how the format then ends: both blocks are erased, and one is programmed.
-const FAILED: [(Which, u64, Option<Error>); 7] = [
-    (Which::Any, 1, Some(Error::Io)),
-    (Which::Erase, 1, Some(Error::Io)),
-    (Which::Erase, 2, Some(Error::Io)),
-    (Which::Erase, 3, None),
-    (Which::Read, 1, Some(Error::Io)),
-    (Which::Program, 1, Some(Error::Io)),
-    (Which::Program, 2, None),
+const FAILED: [(CountedCalls, u64, Option<Error>); 7] = [
+    (CountedCalls::Any, 1, Some(Error::Io)),
+    (CountedCalls::Erase, 1, Some(Error::Io)),
+    (CountedCalls::Erase, 2, Some(Error::Io)),
+    (CountedCalls::Erase, 3, None),
+    (CountedCalls::Read, 1, Some(Error::Io)),
+    (CountedCalls::Program, 1, Some(Error::Io)),
+    (CountedCalls::Program, 2, None),
 ];
 
 #[test]
@@ -80,12 +80,12 @@ fn superblock_stands_alone(rt: HostRuntime) -> Result<(), Fail> {
         let mut wanted = Vec::from_slice(rt.alloc(), &head)?;
         wanted.resize(sizes.0.saturating_mul(2) as usize, 0xff)?;
         wanted.resize(sizes.0.saturating_mul(sizes.2) as usize, 7)?;
-        let (device, error) = format_sevens(rt.alloc(), sizes, Which::Any, 0)?;
+        let (device, error) = format_device_of_sevens(rt.alloc(), sizes, CountedCalls::Any, 0)?;
         let is_right = error.is_none() && device.inner().bytes() == wanted.as_slice();
         assert!(rt; is_right, "{sizes:?}");
     }
     for (which, nth, error) in FAILED {
-        let (_, met) = format_sevens(rt.alloc(), (1024, 128, 2), which, nth)?;
+        let (_, met) = format_device_of_sevens(rt.alloc(), (1024, 128, 2), which, nth)?;
         assert_eq!(rt; met, error);
     }
     Ok(())
@@ -103,7 +103,7 @@ const OLD: Entries<'static> = &[
 const BLOCK: usize = 4096;
 
 // What a page of zeros makes of the second block.
-fn with_zeros(alloc: Global, image: &[u8]) -> Result<Vec<u8>, Error> {
+fn second_block_with_zero_page(alloc: Global, image: &[u8]) -> Result<Vec<u8>, Error> {
     let mut bytes = Vec::from_elem(alloc, 0u8, 256)?;
     bytes.extend_from_slice(image.get(BLOCK + 256..2 * BLOCK).unwrap_or_default())?;
     Ok(bytes)
@@ -111,7 +111,7 @@ fn with_zeros(alloc: Global, image: &[u8]) -> Result<Vec<u8>, Error> {
 
 // The image of 16 blocks whose first one begins with these bytes and whose second one with those, and
 // that holds 7 in every other byte.
-fn sevens(alloc: Global, first: &[u8], second: &[u8]) -> Result<Vec<u8>, Error> {
+fn image_full_of_sevens(alloc: Global, first: &[u8], second: &[u8]) -> Result<Vec<u8>, Error> {
     let mut bytes = Vec::from_slice(alloc, first)?;
     bytes.resize(BLOCK, 7)?;
     bytes.extend_from_slice(second)?;
@@ -127,20 +127,24 @@ const ON_SEVENS: [u8; 8] = [0x70, 0x0f, 0xfc, 0xc8, 0x3a, 0xdc, 0x01, 0xef];
 #[test]
 fn an_old_log_is_cleared(rt: HostRuntime) -> Result<(), Fail> {
     let alloc = rt.alloc();
-    let old = sevens(alloc, &[], &block(alloc, BLOCK, 256, 7, 9, OLD)?)?;
-    let cleared = sevens(alloc, &[], &with_zeros(alloc, &old)?)?;
+    let old = image_full_of_sevens(
+        alloc,
+        &[],
+        &block_with_one_commit(alloc, BLOCK, 256, 7, 9, OLD)?,
+    )?;
+    let cleared = image_full_of_sevens(alloc, &[], &second_block_with_zero_page(alloc, &old)?)?;
     let mut page = Vec::from_slice(alloc, &OF_4096)?;
     page.truncate(44);
     page.extend_from_slice(&ON_SEVENS)?;
     page.resize(256, 0xff)?;
-    let made = sevens(alloc, &page, &with_zeros(alloc, &old)?)?;
+    let made = image_full_of_sevens(alloc, &page, &second_block_with_zero_page(alloc, &old)?)?;
     for nth in 0..=6u64 {
         let ram = RamDevice::from_bytes(
             Geometry::new(4096, 256, 16)?,
             Vec::from_slice(alloc, &old)?,
         )?;
-        let device = FaultDevice::new(ram.erased_as(Erased::Keep), Which::Any, nth, false);
-        let (device, error) = made_empty(alloc, device);
+        let device = FaultDevice::new(ram.erased_as(Erased::Keep), CountedCalls::Any, nth, false);
+        let (device, error) = format_and_return_device(alloc, device);
         let left = match nth {
             0 => &made,
             1..=3 => &old,
@@ -151,7 +155,7 @@ fn an_old_log_is_cleared(rt: HostRuntime) -> Result<(), Fail> {
             (nth, error, is_left),
             (nth, (nth > 0).then_some(Error::Io), true)
         );
-        let (device, error) = made_empty(alloc, device);
+        let (device, error) = format_and_return_device(alloc, device);
         assert!(rt; error.is_none() && device.inner().bytes() == made.as_slice());
     }
     Ok(())

@@ -15,7 +15,7 @@ pub type Entries<'a> = &'a [(u16, u16, &'a [u8])];
 pub const FILE_A: Entries<'static> = &[(FILE_NAME, 0, b"a"), (INLINE_STRUCT, 0, b"")];
 
 /// A block of that size full of a byte, but for a commit of these entries, with that revision.
-pub fn block(
+pub fn block_with_one_commit(
     alloc: Global,
     size: usize,
     page: u32,
@@ -41,14 +41,14 @@ pub fn block(
 }
 
 /// A device whose first block has them, with that revision, and whose other ones are full of sevens.
-pub fn device(
+pub fn device_with_first_block_commit(
     alloc: Global,
     geometry: Geometry,
     revision: u32,
     entries: Entries<'_>,
 ) -> Result<RamDevice, Error> {
     let size = geometry.block_size as usize;
-    let mut bytes = block(alloc, size, geometry.page, 0xff, revision, entries)?;
+    let mut bytes = block_with_one_commit(alloc, size, geometry.page, 0xff, revision, entries)?;
     bytes.resize(size * geometry.block_count as usize, 7)?;
     RamDevice::from_bytes(geometry, bytes)
 }

@@ -1,15 +1,15 @@
 // Chains of commits, and their entries from both ends.
 
-use crate::blocks::{FRESH, ONE_FILE, SHIFTING, block_of};
+use crate::blocks::{FRESH, ONE_FILE, SHIFTING, block_of_commits};
 use lfs_tag::{Entries, Log, crc};
 use std::test::Fail;
 
 // Where a block's log ends, its revision and its last tag.
 type LogFacts = (usize, u32, u32);
 
-fn log_facts(block: &[u8]) -> LogFacts {
+fn end_revision_and_last_tag(block: &[u8]) -> LogFacts {
     let log = Log::read(block);
-    (log.end(), log.revision(), log.last().bits())
+    (log.end(), log.revision(), log.last_tag_of_log().bits())
 }
 
 // A commit of one file in a block of 32 bytes, with a checksum's tag of each kind, and of one that
@@ -42,7 +42,7 @@ const NO_LOG: LogFacts = (4, 1, 0xffff_ffff);
 // Commits in a block of that size, each from a page on, with one byte altered, and the first bytes
 // of it as many as are read. A byte past the end alters none.
 #[test]
-fn chains(rt: HostRuntime) -> Result<(), Fail> {
+fn commit_chains_are_read(rt: HostRuntime) -> Result<(), Fail> {
     assert_eq!(rt; crc(0xffff_ffff, b"123456789"), 0x340b_c6d9);
     for (size, page, commits, at, byte, len, expected) in [
         (
@@ -69,17 +69,17 @@ fn chains(rt: HostRuntime) -> Result<(), Fail> {
         (40, 9, &FORWARD, 17, 0xff, 40, NO_LOG),
         (40, 9, &NO_FORWARD, 4096, 0, 40, NO_LOG),
     ] {
-        let mut block = block_of(rt.alloc(), size, page, commits)?;
+        let mut block = block_of_commits(rt.alloc(), size, page, commits)?;
         if let Some(old) = block.get_mut(at) {
             *old = byte;
         }
         let block = block.get(..len).unwrap_or_default();
-        assert_eq!(rt; log_facts(block), expected);
+        assert_eq!(rt; end_revision_and_last_tag(block), expected);
     }
     Ok(())
 }
 
-fn end_tag(entries: &mut Entries<'_>, is_last: bool) -> u32 {
+fn next_tag_from_either_end(entries: &mut Entries<'_>, is_last: bool) -> u32 {
     let entry = if is_last {
         entries.next_back()
     } else {
@@ -94,9 +94,9 @@ fn end_tag(entries: &mut Entries<'_>, is_last: bool) -> u32 {
 // A log that is known by its end is the one that was read.
 #[test]
 fn entries_from_both_ends(rt: HostRuntime) -> Result<(), Fail> {
-    let block = block_of(rt.alloc(), 4096, 256, &SHIFTING)?;
+    let block = block_of_commits(rt.alloc(), 4096, 256, &SHIFTING)?;
     let read = Log::read(&block);
-    let known = Log::known(&block, read.end(), read.last());
+    let known = Log::with_known_end(&block, read.end(), read.last_tag_of_log());
     assert_eq!(rt; (known.has_commit(), known.revision()), (true, 1));
     let mut entries = known.entries();
     for (is_last, tag) in [
@@ -107,7 +107,7 @@ fn entries_from_both_ends(rt: HostRuntime) -> Result<(), Fail> {
         (false, 0x2010_0018),
         (true, 0x4ff0_0400),
     ] {
-        assert_eq!(rt; end_tag(&mut entries, is_last), tag);
+        assert_eq!(rt; next_tag_from_either_end(&mut entries, is_last), tag);
     }
     let mut left = 0u32;
     for _ in entries {

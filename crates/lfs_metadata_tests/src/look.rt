@@ -3,10 +3,10 @@
 
 ghost use Rattle.std.specs.Prelude.{◌≡◌, true, false, IfOk, IsTrue, is_some, map};
 ghost use Rattle.std.specs.Option.{option_map};
-ghost use Rattle.lfs_model.specs.Content.{slots_if_all_complete};
-ghost use Rattle.lfs_model.specs.Cut.{CanBeCut};
+ghost use Rattle.lfs_model.specs.Content.{slots_if_names_and_structs_present};
+ghost use Rattle.lfs_model.specs.Cut.{CanSplitSlotsIntoTwoPairs};
 ghost use Rattle.lfs_model.specs.Slots.{pair_address_of_array};
-ghost use Rattle.lfs_model.specs.Thread.{pair_named_by_tail};
+ghost use Rattle.lfs_model.specs.Thread.{pair_address_named_by_tail};
 ghost use Rattle.lfs_tag.specs.ContentView.{content_view, slot_view, tail_view};
 ghost use Rattle.lfs_pair.specs.ChangeView.{changes_view};
 ghost use Rattle.lfs_thread.specs.Steps.{IsThreadOnlyRead};
@@ -14,7 +14,7 @@ ghost use Rattle.lfs_metadata_tests.specs.Look.{IsContentOfBlockAfterChanges, Is
 
 use crate::storable::are_storable;
 use lfs_device::{BlockDevice, Error, Geometry};
-use lfs_pair::{Change, apply_all_changes, fits};
+use lfs_pair::{Change, apply_all_changes, is_content_within_pair_limits};
 use lfs_tag::{Content, Log, MoveState, Slot, Tail};
 use lfs_thread::Thread;
 use std::alloc::Global;
@@ -31,8 +31,8 @@ pub struct ChangePreview {
 }
 
 // Whether each of these slots has a name and a struct.
-fn are_complete(slots: &[Slot<'_>]) -> bool
-    ensures { result ≡ is_some (slots_if_all_complete (map slot_view slots.now)) }
+fn has_each_slot_name_and_struct(slots: &[Slot<'_>]) -> bool
+    ensures { result ≡ is_some (slots_if_names_and_structs_present (map slot_view slots.now)) }
 {
     for slot in slots {
         if slot.name.is_none() || slot.structure.is_none() {
@@ -44,7 +44,7 @@ fn are_complete(slots: &[Slot<'_>]) -> bool
 
 // What the changes make of what a log holds. `Invalid` where a change doesn't
 // fit into a tag, or a slot lacks a name or a struct then.
-fn make_content<'a, 'b: 'a>(
+fn log_content_with_changes<'a, 'b: 'a>(
     alloc: Global,
     log: &Log<'a>,
     changes: &[Change<'b>],
@@ -56,7 +56,7 @@ fn make_content<'a, 'b: 'a>(
     }
     let mut content = Content::read(alloc, log)?;
     apply_all_changes(alloc, &mut content, changes)?;
-    if !are_complete(&content.slots) {
+    if !has_each_slot_name_and_struct(&content.slots) {
         return Err(Error::Invalid);
     }
     Ok(content)
@@ -64,7 +64,7 @@ fn make_content<'a, 'b: 'a>(
 
 // The address that a tail names.
 fn address_of_tail(tail: &Option<Tail>) -> Option<[u32; 2]>
-    ensures { option_map pair_address_of_array result ≡ pair_named_by_tail (option_map tail_view tail.now) }
+    ensures { option_map pair_address_of_array result ≡ pair_address_named_by_tail (option_map tail_view tail.now) }
 {
     match tail {
         None => None,
@@ -73,8 +73,8 @@ fn address_of_tail(tail: &Option<Tail>) -> Option<[u32; 2]>
 }
 
 // Whether both halves of the slots fit a pair.
-fn can_be_halved(mut content: Content<'_>, geometry: Geometry) -> Result<bool, Error>
-    ensures { result ≡ Ok true → CanBeCut geometry.block_size geometry.page (content_view content.entry).slots }
+fn can_slots_be_halved(mut content: Content<'_>, geometry: Geometry) -> Result<bool, Error>
+    ensures { result ≡ Ok true → CanSplitSlotsIntoTwoPairs geometry.block_size geometry.page (content_view content.entry).slots }
 {
     let half = content.slots.len() / 2;
     let back = Content {
@@ -82,16 +82,16 @@ fn can_be_halved(mut content: Content<'_>, geometry: Geometry) -> Result<bool, E
         tail: None,
         move_state: MoveState::none(),
     };
-    if !fits(&content, geometry) {
+    if !is_content_within_pair_limits(&content, geometry) {
         return Ok(false);
     }
-    if !fits(&back, geometry) {
+    if !is_content_within_pair_limits(&back, geometry) {
         return Ok(false);
     }
     Ok(true)
 }
 
-fn look_in<'a, 'b: 'a>(
+fn preview_block_changes<'a, 'b: 'a>(
     alloc: Global,
     log: &Log<'a>,
     changes: &[Change<'b>],
@@ -99,11 +99,11 @@ fn look_in<'a, 'b: 'a>(
 ) -> Result<ChangePreview, Error>
     ensures { IfOk result (λ look. IsPreviewOfBlockChanges log.now (changes_view changes.now) geometry.block_size geometry.page look.now look.next look.can_be_cut) }
 {
-    let was = make_content(alloc, log, &[])?;
-    let content = make_content(alloc, log, changes)?;
+    let was = log_content_with_changes(alloc, log, &[])?;
+    let content = log_content_with_changes(alloc, log, changes)?;
     let now = address_of_tail(&was.tail);
     let next = address_of_tail(&content.tail);
-    let can_be_cut = can_be_halved(content, geometry)?;
+    let can_be_cut = can_slots_be_halved(content, geometry)?;
     Ok(ChangePreview {
         now,
         next,
@@ -113,7 +113,7 @@ fn look_in<'a, 'b: 'a>(
 
 /// Finds out what changes make of a pair. `Invalid` where there is no such pair, or they may not be
 /// made to it.
-pub fn look_at<D: BlockDevice>(
+pub fn preview_pair_changes<D: BlockDevice>(
     alloc: Global,
     thread: &mut Thread<D>,
     index: usize,
@@ -131,6 +131,6 @@ pub fn look_at<D: BlockDevice>(
     let geometry = thread.device().geometry();
     match thread.lend(index) {
         None => Err(Error::Invalid),
-        Some(log) => look_in(alloc, &log, changes, geometry),
+        Some(log) => preview_block_changes(alloc, &log, changes, geometry),
     }
 }

@@ -1,7 +1,7 @@
 // Images of 16 blocks of 1,024 bytes, mounted.
 
-use crate::images::{Entries, block};
-use lfs_device::{Error, FaultDevice, Geometry, RamDevice, Which};
+use crate::images::{Entries, block_with_one_commit};
+use lfs_device::{CountedCalls, Error, FaultDevice, Geometry, RamDevice};
 use lfs_mount::mount;
 use lfs_tag::kinds::{
     CTZ_STRUCT, DIRECTORY_NAME, DIRECTORY_STRUCT, FILE_NAME, HARD_TAIL, INLINE_STRUCT, MOVE_STATE,
@@ -99,7 +99,7 @@ pub fn used_after_mount(alloc: Global, first: &[u8], third: &[u8], nth: u64) -> 
     bytes.extend_from_slice(&[5, 0, 0, 0])?;
     bytes.resize(16384, 0xff)?;
     let ram = RamDevice::from_bytes(Geometry::new(1024, 128, 16)?, bytes)?;
-    match mount(alloc, FaultDevice::new(ram, Which::Read, nth, false)) {
+    match mount(alloc, FaultDevice::new(ram, CountedCalls::Read, nth, false)) {
         Ok(thread) => Ok(thread.into_parts().map.used_count()),
         Err((_, error)) => Err(error),
     }
@@ -109,9 +109,9 @@ pub fn used_after_mount(alloc: Global, first: &[u8], third: &[u8], nth: u64) -> 
 type EntriesOfPairs = (Entries<'static>, Option<Entries<'static>>);
 
 fn used_on_image(alloc: Global, image: EntriesOfPairs, nth: u64) -> Result<u32, Error> {
-    let first = block(alloc, 1024, 128, 0xff, 1, image.0)?;
+    let first = block_with_one_commit(alloc, 1024, 128, 0xff, 1, image.0)?;
     let third = match image.1 {
-        Some(entries) => block(alloc, 1024, 128, 0xff, 1, entries)?,
+        Some(entries) => block_with_one_commit(alloc, 1024, 128, 0xff, 1, entries)?,
         None => Vec::new(alloc),
     };
     used_after_mount(alloc, first.as_slice(), third.as_slice(), nth)

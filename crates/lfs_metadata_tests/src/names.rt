@@ -1,6 +1,6 @@
 // Names, and the order of revisions.
 
-use lfs_tag::{is_component, is_later, is_name};
+use lfs_tag::{is_name, is_revision_later_than, is_valid_path_component};
 
 #[test]
 fn names_and_revisions(rt: HostRuntime) {
@@ -15,7 +15,10 @@ fn names_and_revisions(rt: HostRuntime) {
         (&[0x61; 255], true, true),
         (&[0x61; 256], false, true),
     ] {
-        assert_eq!(rt; (is_name(name), is_component(name)), (is_right, is_part));
+        assert_eq!(rt;
+            (is_name(name), is_valid_path_component(name)),
+            (is_right, is_part)
+        );
     }
     for (first, second, is_right) in [
         (1, 2, true),
@@ -23,6 +26,6 @@ fn names_and_revisions(rt: HostRuntime) {
         (0xffff_ffff, 0, true),
         (5, 5, false),
     ] {
-        assert_eq!(rt; is_later(first, second), is_right);
+        assert_eq!(rt; is_revision_later_than(first, second), is_right);
     }
 }

@@ -3,10 +3,12 @@
 
 ghost use Rattle.std.specs.Prelude.{◌≡◌, false};
 
-use crate::images::{Entries, device};
-use crate::scripts::{Line, SCRIPT, rows_of, run, small};
-use crate::steps::{ThreadAction, carry_out};
-use lfs_device::{BlockDevice, Erased, Error, FaultDevice, Geometry, RamDevice, Which};
+use crate::images::{Entries, device_with_first_block_commit};
+use crate::scripts::{
+    Line, SCRIPT, addresses_and_slot_counts, run_thread_actions_on_device, small_device_with_file,
+};
+use crate::steps::{ThreadAction, perform_thread_action};
+use lfs_device::{BlockDevice, CountedCalls, Erased, Error, FaultDevice, Geometry, RamDevice};
 use lfs_pair::{Change, Outcome};
 use lfs_tag::kinds::{FILE_NAME, INLINE_STRUCT, SUPERBLOCK_NAME};
 use lfs_thread::Thread;
@@ -41,12 +43,17 @@ fn every_sixteenth_commit_erases(rt: HostRuntime) -> Result<(), Fail> {
         (0xffff_ffff, 1, 1, [255, 0], 6),
         (0xffff_ffff, 17, 2, [1, 0], 38),
     ] {
-        let inner = device(rt.alloc(), Geometry::new(4096, 256, 16)?, first, SUPERBLOCK)?;
-        let device = FaultDevice::new(inner, Which::Any, 0, false);
+        let inner = device_with_first_block_commit(
+            rt.alloc(),
+            Geometry::new(4096, 256, 16)?,
+            first,
+            SUPERBLOCK,
+        )?;
+        let device = FaultDevice::new(inner, CountedCalls::Any, 0, false);
         let lines = COMMITS.get(..times).unwrap_or_default();
-        let (done, _, device) = run(rt.alloc(), device, lines);
-        assert_eq!(rt; (done, device.calls(Which::Erase)), (times, erases));
-        assert!(rt; device.calls(Which::Read) <= most);
+        let (done, _, device) = run_thread_actions_on_device(rt.alloc(), device, lines);
+        assert_eq!(rt; (done, device.calls(CountedCalls::Erase)), (times, erases));
+        assert!(rt; device.calls(CountedCalls::Read) <= most);
         let bytes = device.inner().bytes();
         assert_eq!(rt;
             (bytes.first(), bytes.get(4096)),
@@ -285,7 +292,7 @@ const LARGE_LAST_CUT: &[Line] = &[(
 )];
 
 // Whether each step becomes what its line says, and the pairs are kept that it says.
-fn keeps<D: BlockDevice>(
+fn has_expected_pairs_after_steps<D: BlockDevice>(
     alloc: Global,
     thread: &mut Thread<D>,
     lines: &[Line],
@@ -293,8 +300,8 @@ fn keeps<D: BlockDevice>(
     requires { thread.old.failed ≡ false }
 {
     for line in lines {
-        let found = carry_out(alloc, thread, line.0)?;
-        let rows = rows_of(alloc, thread)?;
+        let found = perform_thread_action(alloc, thread, line.0)?;
+        let rows = addresses_and_slot_counts(alloc, thread)?;
         if found != line.1 || rows.as_slice() != line.2 {
             return Ok(false);
         }
@@ -302,19 +309,19 @@ fn keeps<D: BlockDevice>(
     Ok(true)
 }
 
-fn script_becomes_its_rows(
+fn has_expected_pairs_after_script(
     alloc: Global,
     device: RamDevice,
     lines: &[Line],
 ) -> Result<bool, Error> {
     match Thread::read(alloc, device) {
-        Ok(mut thread) => keeps(alloc, &mut thread, lines),
+        Ok(mut thread) => has_expected_pairs_after_steps(alloc, &mut thread, lines),
         Err((_, error)) => Err(error),
     }
 }
 
 #[test]
-fn steps_have_their_rows(rt: HostRuntime) -> Result<(), Fail> {
+fn steps_leave_expected_pairs(rt: HostRuntime) -> Result<(), Fail> {
     let alloc = rt.alloc();
     for (page, entries, lines) in [
         (128, SUPERBLOCK, FOUR_FILES),
@@ -323,12 +330,20 @@ fn steps_have_their_rows(rt: HostRuntime) -> Result<(), Fail> {
         (8, LARGE_FIRST, LARGE_FIRST_CUT),
         (8, LARGE_LAST, LARGE_LAST_CUT),
     ] {
-        let device = device(alloc, Geometry::new(1024, page, 64)?, 1, entries)?;
-        assert_eq!(rt; script_becomes_its_rows(alloc, device, lines), Ok(true));
+        let device = device_with_first_block_commit(
+            alloc,
+            Geometry::new(1024, page, 64)?,
+            1,
+            entries,
+        )?;
+        assert_eq!(rt;
+            has_expected_pairs_after_script(alloc, device, lines),
+            Ok(true)
+        );
     }
     for erased in [Erased::Fill(0xff), Erased::Fill(0), Erased::Keep] {
         assert_eq!(rt;
-            script_becomes_its_rows(alloc, small(alloc, erased)?, &SCRIPT),
+            has_expected_pairs_after_script(alloc, small_device_with_file(alloc, erased)?, &SCRIPT),
             Ok(true)
         );
     }

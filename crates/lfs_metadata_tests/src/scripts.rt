@@ -2,8 +2,8 @@
 
 ghost use Rattle.std.specs.Prelude.{◌≡◌, false};
 
-use crate::images::{FILE_A, device};
-use crate::steps::{ThreadAction, carry_out};
+use crate::images::{FILE_A, device_with_first_block_commit};
+use crate::steps::{ThreadAction, perform_thread_action};
 use lfs_device::{BlockDevice, Erased, Error, Geometry, RamDevice};
 use lfs_pair::{Change, Outcome};
 use lfs_tag::kinds::{DIRECTORY_NAME, DIRECTORY_STRUCT, FILE_NAME, INLINE_STRUCT};
@@ -175,7 +175,7 @@ pub const SCRIPT: [Line; 11] = [
 ];
 
 /// Whether these are the pairs of the moment behind so many steps.
-pub fn are_kept_at(rows: &[Row], done: usize) -> bool {
+pub fn are_pairs_after_steps(rows: &[Row], done: usize) -> bool {
     if done == 0 {
         return rows == START;
     }
@@ -186,32 +186,38 @@ pub fn are_kept_at(rows: &[Row], done: usize) -> bool {
 }
 
 /// 16 blocks of 1,024 bytes with pages of 128, and a pair with an empty file `a`.
-pub fn small(alloc: Global, erased: Erased) -> Result<RamDevice, Error> {
-    let device = device(alloc, Geometry::new(1024, 128, 16)?, 1, FILE_A)?;
+pub fn small_device_with_file(alloc: Global, erased: Erased) -> Result<RamDevice, Error> {
+    let device = device_with_first_block_commit(alloc, Geometry::new(1024, 128, 16)?, 1, FILE_A)?;
     Ok(device.erased_as(erased))
 }
 
 /// What is kept of each pair.
-pub fn rows_of<D: BlockDevice>(alloc: Global, thread: &Thread<D>) -> Result<Vec<Row>, Error>
+pub fn addresses_and_slot_counts<D: BlockDevice>(
+    alloc: Global,
+    thread: &Thread<D>,
+) -> Result<Vec<Row>, Error>
     requires { thread.now.failed ≡ false }
 {
     let mut rows = Vec::new(alloc);
     for index in 0..thread.len() {
-        rows.push((thread.address(index), thread.slot_count(index)))?;
+        rows.push((thread.blocks_of_pair(index), thread.slot_count(index)))?;
     }
     Ok(rows)
 }
 
 /// What is read of a device.
-pub fn read_rows<D: BlockDevice + Drop>(alloc: Global, device: D) -> Result<Vec<Row>, Error> {
+pub fn read_addresses_and_slot_counts<D: BlockDevice + Drop>(
+    alloc: Global,
+    device: D,
+) -> Result<Vec<Row>, Error> {
     match Thread::read(alloc, device) {
-        Ok(thread) => rows_of(alloc, &thread),
+        Ok(thread) => addresses_and_slot_counts(alloc, &thread),
         Err((_, error)) => Err(error),
     }
 }
 
 // Carries out the steps, and says how many were done and which error came then.
-fn carry_out_all<D: BlockDevice>(
+fn perform_thread_actions<D: BlockDevice>(
     alloc: Global,
     thread: &mut Thread<D>,
     lines: &[Line],
@@ -219,7 +225,7 @@ fn carry_out_all<D: BlockDevice>(
     requires { thread.old.failed ≡ false }
 {
     for (done, line) in lines.iter().enumerate() {
-        if let Err(error) = carry_out(alloc, thread, line.0) {
+        if let Err(error) = perform_thread_action(alloc, thread, line.0) {
             return (done, Some(error));
         }
     }
@@ -228,10 +234,14 @@ fn carry_out_all<D: BlockDevice>(
 
 /// Reads a device's thread and carries out the steps. Gives back how many were done, the error that
 /// came then and the device.
-pub fn run<D: BlockDevice>(alloc: Global, device: D, lines: &[Line]) -> (usize, Option<Error>, D) {
+pub fn run_thread_actions_on_device<D: BlockDevice>(
+    alloc: Global,
+    device: D,
+    lines: &[Line],
+) -> (usize, Option<Error>, D) {
     match Thread::read(alloc, device) {
         Ok(mut thread) => {
-            let (done, error) = carry_out_all(alloc, &mut thread, lines);
+            let (done, error) = perform_thread_actions(alloc, &mut thread, lines);
             (done, error, thread.into_device())
         }
         Err((device, error)) => (0, Some(error), device),

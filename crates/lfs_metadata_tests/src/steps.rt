@@ -5,7 +5,7 @@ ghost use Rattle.std.specs.Option.{option_map};
 ghost use Rattle.lfs_model.specs.Slots.{pair_address_of_array};
 ghost use Rattle.lfs_thread.specs.Steps.{AreFreshBlocksInFlight};
 
-use crate::look::look_at;
+use crate::look::preview_pair_changes;
 use lfs_device::{BlockDevice, Error};
 use lfs_pair::{Change, Outcome};
 use lfs_thread::Thread;
@@ -25,7 +25,7 @@ pub enum ThreadAction<'a> {
 }
 
 // Whether two tails name the same.
-fn is_same(a: Option<[u32; 2]>, b: Option<[u32; 2]>) -> bool
+fn is_same_pair_address(a: Option<[u32; 2]>, b: Option<[u32; 2]>) -> bool
     ensures { IsTrue result → option_map pair_address_of_array a ≡ option_map pair_address_of_array b }
 {
     match (a, b) {
@@ -36,7 +36,7 @@ fn is_same(a: Option<[u32; 2]>, b: Option<[u32; 2]>) -> bool
 }
 
 // Two free blocks. `NoSpace` where there are fewer.
-fn take_two<D: BlockDevice>(thread: &mut Thread<D>) -> Result<[u32; 2], Error>
+fn take_pair_of_free_blocks<D: BlockDevice>(thread: &mut Thread<D>) -> Result<[u32; 2], Error>
     ensures held { IfOk result (λ fresh. AreFreshBlocksInFlight thread.new.kept.map (pair_address_of_array fresh)) }
     ensures works { thread.new.failed ≡ thread.old.failed }
 {
@@ -49,7 +49,7 @@ fn take_two<D: BlockDevice>(thread: &mut Thread<D>) -> Result<[u32; 2], Error>
     Ok([first, second])
 }
 
-fn change<D: BlockDevice>(
+fn commit_changes_to_pair<D: BlockDevice>(
     alloc: Global,
     thread: &mut Thread<D>,
     index: usize,
@@ -58,11 +58,11 @@ fn change<D: BlockDevice>(
     requires { thread.old.failed ≡ false }
     ensures { OnOk result (thread.new.failed ≡ false) }
 {
-    let look = look_at(alloc, thread, index, changes)?;
-    if !is_same(look.now, look.next) {
+    let look = preview_pair_changes(alloc, thread, index, changes)?;
+    if !is_same_pair_address(look.now, look.next) {
         return Err(Error::Invalid);
     }
-    let outcome = thread.change(alloc, index, changes)?;
+    let outcome = thread.commit_pair_changes(alloc, index, changes)?;
     Ok(outcome)
 }
 
@@ -75,16 +75,16 @@ fn split<D: BlockDevice>(
     requires { thread.old.failed ≡ false }
     ensures { OnOk result (thread.new.failed ≡ false) }
 {
-    let fresh = take_two(thread)?;
-    let look = look_at(alloc, thread, index, changes)?;
-    if !is_same(look.now, look.next) || !look.can_be_cut {
+    let fresh = take_pair_of_free_blocks(thread)?;
+    let look = preview_pair_changes(alloc, thread, index, changes)?;
+    if !is_same_pair_address(look.now, look.next) || !look.can_be_cut {
         return Err(Error::Invalid);
     }
     thread.split(alloc, index, fresh, changes)?;
     Ok(Outcome::Done)
 }
 
-fn thread_in<D: BlockDevice>(
+fn insert_pair_in_thread<D: BlockDevice>(
     alloc: Global,
     thread: &mut Thread<D>,
     index: usize,
@@ -93,16 +93,16 @@ fn thread_in<D: BlockDevice>(
     requires { thread.old.failed ≡ false }
     ensures { OnOk result (thread.new.failed ≡ false) }
 {
-    let fresh = take_two(thread)?;
-    let look = look_at(alloc, thread, index, changes)?;
-    if !is_same(look.next, Some(fresh)) {
+    let fresh = take_pair_of_free_blocks(thread)?;
+    let look = preview_pair_changes(alloc, thread, index, changes)?;
+    if !is_same_pair_address(look.next, Some(fresh)) {
         return Err(Error::Invalid);
     }
     let outcome = thread.thread_in(alloc, index, fresh, changes)?;
     Ok(outcome)
 }
 
-fn drop_next<D: BlockDevice>(
+fn drop_next_pair_from_thread<D: BlockDevice>(
     alloc: Global,
     thread: &mut Thread<D>,
     index: usize,
@@ -114,9 +114,9 @@ fn drop_next<D: BlockDevice>(
     if index >= thread.len() {
         return Err(Error::Invalid);
     }
-    let behind = look_at(alloc, thread, index + 1, &[])?;
-    let look = look_at(alloc, thread, index, changes)?;
-    if !is_same(look.next, behind.now) {
+    let behind = preview_pair_changes(alloc, thread, index + 1, &[])?;
+    let look = preview_pair_changes(alloc, thread, index, changes)?;
+    if !is_same_pair_address(look.next, behind.now) {
         return Err(Error::Invalid);
     }
     let outcome = thread.drop_next(alloc, index, changes)?;
@@ -125,7 +125,7 @@ fn drop_next<D: BlockDevice>(
 
 /// Carries a step out, with the first free blocks where it wants two. `Invalid` where it may not be
 /// carried out.
-pub fn carry_out<D: BlockDevice>(
+pub fn perform_thread_action<D: BlockDevice>(
     alloc: Global,
     thread: &mut Thread<D>,
     step: ThreadAction<'_>,
@@ -135,7 +135,7 @@ pub fn carry_out<D: BlockDevice>(
 {
     match step {
         ThreadAction::Change(index, changes) => {
-            let outcome = change(alloc, thread, index, changes)?;
+            let outcome = commit_changes_to_pair(alloc, thread, index, changes)?;
             Ok(outcome)
         }
         ThreadAction::Split(index, changes) => {
@@ -143,11 +143,11 @@ pub fn carry_out<D: BlockDevice>(
             Ok(outcome)
         }
         ThreadAction::ThreadIn(index, changes) => {
-            let outcome = thread_in(alloc, thread, index, changes)?;
+            let outcome = insert_pair_in_thread(alloc, thread, index, changes)?;
             Ok(outcome)
         }
         ThreadAction::DropNext(index, changes) => {
-            let outcome = drop_next(alloc, thread, index, changes)?;
+            let outcome = drop_next_pair_from_thread(alloc, thread, index, changes)?;
             Ok(outcome)
         }
     }

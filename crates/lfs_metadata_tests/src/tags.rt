@@ -3,7 +3,7 @@
 use lfs_tag::{Tag, kinds};
 
 #[test]
-fn fields_and_exclusive_or(rt: HostRuntime) {
+fn tags_are_encoded_and_decoded(rt: HostRuntime) {
     let name = Tag::new(kinds::SUPERBLOCK_NAME, 0, 8);
     let tail = Tag::new(kinds::SOFT_TAIL, Tag::NO_ID, 8);
     let state = Tag::new(kinds::MOVE_STATE, Tag::NO_ID, 12);

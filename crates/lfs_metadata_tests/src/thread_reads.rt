@@ -1,6 +1,6 @@
 // Threads of small devices, read.
 
-use crate::images::block;
+use crate::images::block_with_one_commit;
 use lfs_device::{Error, Geometry, RamDevice};
 use lfs_tag::kinds::{FILE_NAME, INLINE_STRUCT, SOFT_TAIL};
 use lfs_tag::pair_bytes;
@@ -19,12 +19,17 @@ fn block_with_tail(alloc: Global, tail: [u32; 2], is_complete: bool) -> Result<V
         (INLINE_STRUCT, 0, b""),
     ];
     let count = if is_complete { 3 } else { 2 };
-    block(alloc, 1024, 128, 0xff, 1, &entries[..count])
+    block_with_one_commit(alloc, 1024, 128, 0xff, 1, &entries[..count])
 }
 
 // How many pairs are read of a device of so many in turn, {0, 1}, {2, 3} and so on, with that tail at
 // the last one, and two blocks more.
-fn read(alloc: Global, count: u32, last: [u32; 2], is_complete: bool) -> Result<usize, Error> {
+fn pair_count_of_read_thread(
+    alloc: Global,
+    count: u32,
+    last: [u32; 2],
+    is_complete: bool,
+) -> Result<usize, Error> {
     let mut bytes = Vec::new(alloc);
     for index in 0..count {
         let next = index.saturating_add(1);
@@ -60,6 +65,9 @@ fn threads_are_read(rt: HostRuntime) {
         (2, [4, 5], true, Err(Error::Corrupt)),
         (2, NO_PAIR, false, Err(Error::Corrupt)),
     ] {
-        assert_eq!(rt; read(rt.alloc(), count, last, is_complete), len);
+        assert_eq!(rt;
+            pair_count_of_read_thread(rt.alloc(), count, last, is_complete),
+            len
+        );
     }
 }

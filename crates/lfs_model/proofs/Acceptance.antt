@@ -12,13 +12,13 @@ use Rattle.std.proofs.lemmas.List.Kept.{AllPairs-cons}
 use Rattle.byteorder.specs.Endian.{little_number}
 use Rattle.lfs_model.specs.declared.order.NameOrder.{NameOrder}
 use Rattle.lfs_model.specs.Disk.{Disk, block_count}
-use Rattle.lfs_model.specs.Names.{Name, name_cmp, same_name, is_less_ordering, is_name}
+use Rattle.lfs_model.specs.Names.{Name, name_cmp, same_name, is_less_ordering, is_valid_name}
 use Rattle.lfs_model.specs.Slots.{Slot, KindOfSlot, File, Directory, Superblock, Struct, Inline, Ctz, Branch, Gstate, same_pair, is_superblock}
 use Rattle.lfs_model.specs.Content.{content_of_pair_at, current_block_of_pair_at}
-use Rattle.lfs_model.specs.Thread.{Pair, anchor_pair_address, AreLinkedByTails, blocks_of_pairs, pairs_of_all_directories, first_pair_address, pairs_from_first_slot, gstate_of, root_directory_of_pairs, starts_with_superblock}
-use Rattle.lfs_model.specs.Tree.{Path, root_slot, branch_address_of_struct, slot_at_path, directory_address_at_path, names_of_directory_at}
-use Rattle.lfs_model.specs.View.{first_slot_name, first_pair_slots, IsAcceptedImage, BeginsWithLogEntry, IsSuperblockStruct, HasSuperblockOfBytesIfAny, IsFileOrDirectoryEntry, IsStructOfKind, IsListIfCtz, IsMoveOrNone, IsSlotInThread, IsNoSuperblockSlot, superblock_name_log_entry, pairs_of_superblock_chain, pairs_after_superblock_chain}
-use Rattle.lfs_model.specs.Shown.{IsPathToDirectory, IsDirectoryReached, directories_in_thread, entries_by_directory_in_thread, all_slots_not_moved, used_blocks}
+use Rattle.lfs_model.specs.Thread.{Pair, anchor_pair_address, AreLinkedByTails, blocks_of_pairs, pairs_from_root_directory_on, first_pair_address, pairs_from_first_with_slots, gstate_of_pairs, root_directory_address_of_pairs, starts_with_superblock}
+use Rattle.lfs_model.specs.Tree.{Path, root_slot, branch_address_of_struct, slot_at_path, directory_address_at_path, names_of_directory_at_address}
+use Rattle.lfs_model.specs.View.{first_slot_name, first_pair_slots, IsAcceptedImage, BeginsWithLogEntry, IsSuperblockStruct, HasSuperblockWithInlineBytesIfAnySlot, IsFileOrDirectoryEntry, IsStructOfKind, IsSkipListIfCtzStruct, HasValidMoveOrNone, IsEntrySlotInThread, IsSomeSlotButNotSuperblock, superblock_name_log_entry, pairs_of_superblock_chain, pairs_after_superblock_chain}
+use Rattle.lfs_model.specs.Shown.{IsPathToDirectory, IsDirectoryAddressReachedBySomePath, directories_in_thread, entries_by_directory_in_thread, all_slots_not_moved, used_blocks}
 use Rattle.lfs_model.specs.TreeEdits.{same_path}
 use Rattle.lfs_model.proofs.Paths.{name_from_same, path_from_same}
 use Rattle.lfs_model.proofs.Outlines.{Outline, outline, is_outlined, outlined, found_in, found_holds}
@@ -91,7 +91,7 @@ has_struct_of_its_kind Directory (Ctz head size) = false
 has_struct_of_its_kind Superblock s = false
 
 abbrev pub is_entry : Slot → Bool
-is_entry s = is_name s.name && has_struct_of_its_kind s.kind s.struct
+is_entry s = is_valid_name s.name && has_struct_of_its_kind s.kind s.struct
 
 suits_from : (k : KindOfSlot) (s : Struct) → has_struct_of_its_kind k s ≡ true → IsStructOfKind k s
 suits_from File (Inline bytes) e = tt
@@ -103,7 +103,7 @@ suits_from Directory (Branch to) e = tt
 suits_from Superblock s e = absurd (cc)
 
 entry_from : (s : Slot) → is_entry s ≡ true → IsFileOrDirectoryEntry s
-entry_from s e = let both = and_parts (is_name s.name) (has_struct_of_its_kind s.kind s.struct) e in record { name = both.0; struct = suits_from s.kind s.struct both.1 }
+entry_from s e = let both = and_parts (is_valid_name s.name) (has_struct_of_its_kind s.kind s.struct) e in record { name = both.0; struct = suits_from s.kind s.struct both.1 }
 
 abbrev pub is_inline : List ℕ → Struct → Bool
 is_inline bytes (Inline held) = same_name held bytes
@@ -119,7 +119,7 @@ abbrev pub has_superblock : List ℕ → List Slot → Bool
 has_superblock bytes [] = true
 has_superblock bytes (s ∷ slots) = is_superblock s && (is_inline bytes s.struct && list_all is_entry slots)
 
-superblock_from : (bytes : List ℕ) (slots : List Slot) → has_superblock bytes slots ≡ true → HasSuperblockOfBytesIfAny bytes slots
+superblock_from : (bytes : List ℕ) (slots : List Slot) → has_superblock bytes slots ≡ true → HasSuperblockWithInlineBytesIfAnySlot bytes slots
 superblock_from bytes [] e = tt
 superblock_from bytes (s ∷ slots) e =
     let one = and_parts (is_superblock s) (is_inline bytes s.struct && list_all is_entry slots) e in
@@ -139,11 +139,11 @@ on_branch T xs path s at e found branch =
 
 -- the directories that paths of at most k names lead to
 abbrev pub outline_in : ℕ → List Pair → Outline
-outline_in k ps = outline k (entries_by_directory_in_thread ps) (root_slot (root_directory_of_pairs ps))
+outline_in k ps = outline k (entries_by_directory_in_thread ps) (root_slot (root_directory_address_of_pairs ps))
 
-pub led : (k : ℕ) (ps : List Pair) → is_outlined k (entries_by_directory_in_thread ps) (root_slot (root_directory_of_pairs ps)) ≡ true → (T : Path → ℕ × ℕ → Bool) → on_branches T (outline_in k ps) ≡ true →
+pub led : (k : ℕ) (ps : List Pair) → is_outlined k (entries_by_directory_in_thread ps) (root_slot (root_directory_address_of_pairs ps)) ≡ true → (T : Path → ℕ × ℕ → Bool) → on_branches T (outline_in k ps) ≡ true →
     (path : Path) (at : ℕ × ℕ) → IsPathToDirectory ps path at → T path at ≡ true
-led k ps whole T e path at leads = go (slot_at_path (entries_by_directory_in_thread ps) (root_slot (root_directory_of_pairs ps)) path) (outlined k (entries_by_directory_in_thread ps) (root_slot (root_directory_of_pairs ps)) whole path) leads
+led k ps whole T e path at leads = go (slot_at_path (entries_by_directory_in_thread ps) (root_slot (root_directory_address_of_pairs ps)) path) (outlined k (entries_by_directory_in_thread ps) (root_slot (root_directory_address_of_pairs ps)) whole path) leads
   where
     go : (o : Option Slot) → found_in path (outline_in k ps) ≡ o → option_and_then (λ s. branch_address_of_struct s.struct) o ≡ Some at → T path at ≡ true
     go None found is = absurd (cc)
@@ -158,34 +158,34 @@ is_once xs path at = on_branches (λ other to. not (same_pair at to) || same_pat
 
 -- a path of the outline leads to the directory
 abbrev leads_to : List Pair → ℕ × ℕ → Path → Bool
-leads_to ps first path = option_map_or (same_pair first) (directory_address_at_path (entries_by_directory_in_thread ps) (root_directory_of_pairs ps) path) false
+leads_to ps first path = option_map_or (same_pair first) (directory_address_at_path (entries_by_directory_in_thread ps) (root_directory_address_of_pairs ps) path) false
 
-reached_from : (ps : List Pair) (first : ℕ × ℕ) (xs : Outline) → list_any (λ f. leads_to ps first f.0) xs ≡ true → IsDirectoryReached ps first
+reached_from : (ps : List Pair) (first : ℕ × ℕ) (xs : Outline) → list_any (λ f. leads_to ps first f.0) xs ≡ true → IsDirectoryAddressReachedBySomePath ps first
 reached_from ps first [] e = absurd (cc)
 reached_from ps first (x ∷ xs) e = go (or_cases (leads_to ps first x.0) (list_any (λ f. leads_to ps first f.0) xs) e) (reached_from ps first xs)
   where
-    here : (o : Option (ℕ × ℕ)) → directory_address_at_path (entries_by_directory_in_thread ps) (root_directory_of_pairs ps) x.0 ≡ o → option_map_or (same_pair first) o false ≡ true → IsDirectoryReached ps first
+    here : (o : Option (ℕ × ℕ)) → directory_address_at_path (entries_by_directory_in_thread ps) (root_directory_address_of_pairs ps) x.0 ≡ o → option_map_or (same_pair first) o false ≡ true → IsDirectoryAddressReachedBySomePath ps first
     here None leads h = absurd (cc)
     here (Some at) leads h = (x.0, at, (leads, h))
 
-    go : (leads_to ps first x.0 ≡ true) ⊎ (list_any (λ f. leads_to ps first f.0) xs ≡ true) → (list_any (λ f. leads_to ps first f.0) xs ≡ true → IsDirectoryReached ps first) → IsDirectoryReached ps first
-    go (inl h) ih = here (directory_address_at_path (entries_by_directory_in_thread ps) (root_directory_of_pairs ps) x.0) refl h
+    go : (leads_to ps first x.0 ≡ true) ⊎ (list_any (λ f. leads_to ps first f.0) xs ≡ true) → (list_any (λ f. leads_to ps first f.0) xs ≡ true → IsDirectoryAddressReachedBySomePath ps first) → IsDirectoryAddressReachedBySomePath ps first
+    go (inl h) ih = here (directory_address_at_path (entries_by_directory_in_thread ps) (root_directory_address_of_pairs ps) x.0) refl h
     go (inr h) ih = ih h
 
 abbrev pub is_other : Option Slot → Bool
 is_other None = false
 is_other (Some s) = not (is_superblock s)
 
-other_from : (o : Option Slot) → is_other o ≡ true → IsNoSuperblockSlot o
+other_from : (o : Option Slot) → is_other o ≡ true → IsSomeSlotButNotSuperblock o
 other_from None e = absurd (cc)
 other_from (Some s) e = turned (is_superblock s) e
 
 abbrev pub names_slot : List Pair → ℕ × ℕ → ℕ → Bool
 names_slot ps pair id = list_any (λ p. same_pair pair p.at && is_other (slice_get p.content.slots id)) ps
 
-named_from : (ps : List Pair) (pair : ℕ × ℕ) (id : ℕ) → names_slot ps pair id ≡ true → IsSlotInThread ps pair id
+named_from : (ps : List Pair) (pair : ℕ × ℕ) (id : ℕ) → names_slot ps pair id ≡ true → IsEntrySlotInThread ps pair id
 named_from ps pair id e =
-    Any-as (λ p. (same_pair pair p.at && is_other (slice_get p.content.slots id)) ≡ true) (λ p. (same_pair pair p.at ≡ true) × IsNoSuperblockSlot (slice_get p.content.slots id))
+    Any-as (λ p. (same_pair pair p.at && is_other (slice_get p.content.slots id)) ≡ true) (λ p. (same_pair pair p.at ≡ true) × IsSomeSlotButNotSuperblock (slice_get p.content.slots id))
     (λ p h. let both = and_parts (same_pair pair p.at) (is_other (slice_get p.content.slots id)) h in (both.0, other_from (slice_get p.content.slots id) both.1))
     (Any-from_list_any (λ p. same_pair pair p.at && is_other (slice_get p.content.slots id)) ps e)
   where
@@ -196,10 +196,10 @@ abbrev pub is_move : List Pair → Gstate → Bool
 is_move ps g =
     g.kind == 0x000 && (g.id == 0 && (g.pair.0 == 0 && g.pair.1 == 0)) || g.kind == 0x4ff && names_slot ps g.pair g.id
 
-move_from : (ps : List Pair) (g : Gstate) → is_move ps g ≡ true → IsMoveOrNone ps g
+move_from : (ps : List Pair) (g : Gstate) → is_move ps g ≡ true → HasValidMoveOrNone ps g
 move_from ps g e = go (or_cases (g.kind == 0x000 && (g.id == 0 && (g.pair.0 == 0 && g.pair.1 == 0))) (g.kind == 0x4ff && names_slot ps g.pair g.id) e)
   where
-    go : ((g.kind == 0x000 && (g.id == 0 && (g.pair.0 == 0 && g.pair.1 == 0))) ≡ true) ⊎ ((g.kind == 0x4ff && names_slot ps g.pair g.id) ≡ true) → IsMoveOrNone ps g
+    go : ((g.kind == 0x000 && (g.id == 0 && (g.pair.0 == 0 && g.pair.1 == 0))) ≡ true) ⊎ ((g.kind == 0x4ff && names_slot ps g.pair g.id) ≡ true) → HasValidMoveOrNone ps g
     go (inl h) =
         let one = and_parts (g.kind == 0x000) (g.id == 0 && (g.pair.0 == 0 && g.pair.1 == 0)) h in
         let two = and_parts (g.id == 0) (g.pair.0 == 0 && g.pair.1 == 0) one.1 in
@@ -233,26 +233,26 @@ tests disk ps bytes k =
     ∷ is_struct disk bytes
     ∷ list_all (λ p. has_superblock bytes p.content.slots) (pairs_of_superblock_chain ps)
     ∷ list_all (λ p. list_all is_entry p.content.slots) (pairs_after_superblock_chain ps)
-    ∷ is_outlined k (entries_by_directory_in_thread ps) (root_slot (root_directory_of_pairs ps))
-    ∷ on_branches (λ path at. rise disk.order (names_of_directory_at (entries_by_directory_in_thread ps) at)) (outline_in k ps)
+    ∷ is_outlined k (entries_by_directory_in_thread ps) (root_slot (root_directory_address_of_pairs ps))
+    ∷ on_branches (λ path at. rise disk.order (names_of_directory_at_address (entries_by_directory_in_thread ps) at)) (outline_in k ps)
     ∷ on_branches (λ path at. begins ps at) (outline_in k ps)
     ∷ on_branches (is_once (outline_in k ps)) (outline_in k ps)
-    ∷ ((gstate_of ps).sync || list_all (λ d. list_any (λ f. leads_to ps d.at f.0) (outline_in k ps)) (directories_in_thread ps))
-    ∷ is_move ps (gstate_of ps)
+    ∷ ((gstate_of_pairs ps).sync || list_all (λ d. list_any (λ f. leads_to ps d.at f.0) (outline_in k ps)) (directories_in_thread ps))
+    ∷ is_move ps (gstate_of_pairs ps)
     ∷ are_apart (used_blocks disk ps)
-    ∷ starts_with_superblock (first_pair_slots (pairs_of_all_directories ps))
+    ∷ starts_with_superblock (first_pair_slots (pairs_from_root_directory_on ps))
     ∷ []
 
 -- these pairs are on the disk, and the tests pass
 pub record IsImage (disk : Disk) (ps : List Pair) (bytes : List ℕ) (k : ℕ) : Type 0 where
   pub links : AreLinkedByTails (Some anchor_pair_address) ps
   pub contents : AllByRecursion (λ p. content_of_pair_at disk p.at ≡ Some p.content) ps
-  pub first : BeginsWithLogEntry (current_block_of_pair_at disk (first_pair_address (pairs_from_first_slot ps))) superblock_name_log_entry
-  pub named : first_slot_name (pairs_from_first_slot ps) ≡ Some (codes "littlefs")
-  pub lists : AllByRecursion (λ s. IsListIfCtz disk s.struct) (all_slots_not_moved ps)
+  pub first : BeginsWithLogEntry (current_block_of_pair_at disk (first_pair_address (pairs_from_first_with_slots ps))) superblock_name_log_entry
+  pub named : first_slot_name (pairs_from_first_with_slots ps) ≡ Some (codes "littlefs")
+  pub lists : AllByRecursion (λ s. IsSkipListIfCtzStruct disk s.struct) (all_slots_not_moved ps)
   pub pass : list_all (λ b. b) (tests disk ps bytes k) ≡ true
 
-pub image_is_outlined : (disk : Disk) (ps : List Pair) (bytes : List ℕ) (k : ℕ) → IsImage disk ps bytes k → is_outlined k (entries_by_directory_in_thread ps) (root_slot (root_directory_of_pairs ps)) ≡ true
+pub image_is_outlined : (disk : Disk) (ps : List Pair) (bytes : List ℕ) (k : ℕ) → IsImage disk ps bytes k → is_outlined k (entries_by_directory_in_thread ps) (root_slot (root_directory_address_of_pairs ps)) ≡ true
 image_is_outlined disk ps bytes k h = (each_from (λ b. b) (tests disk ps bytes k) h.pass).1.1.1.1.1.0
 
 pub image_is_accepted : (disk : Disk) (ps : List Pair) (bytes : List ℕ) (k : ℕ) → IsImage disk ps bytes k → IsAcceptedImage disk ps
@@ -269,14 +269,14 @@ image_is_accepted disk ps bytes k h =
       first = h.first;
       named = h.named;
       root = t.1.1.1.1.1.1.1.1.1.1.1.1.0;
-      superblock = (bytes, (struct_from disk bytes t.1.1.0, all_from (λ p. has_superblock bytes p.content.slots) (λ p. HasSuperblockOfBytesIfAny bytes p.content.slots) (λ p. superblock_from bytes p.content.slots) (pairs_of_superblock_chain ps) t.1.1.1.0));
+      superblock = (bytes, (struct_from disk bytes t.1.1.0, all_from (λ p. has_superblock bytes p.content.slots) (λ p. HasSuperblockWithInlineBytesIfAnySlot bytes p.content.slots) (λ p. superblock_from bytes p.content.slots) (pairs_of_superblock_chain ps) t.1.1.1.0));
       slots = all_from (λ p. list_all is_entry p.content.slots) (λ p. All IsFileOrDirectoryEntry p.content.slots) (λ p. all_from is_entry IsFileOrDirectoryEntry entry_from p.content.slots) (pairs_after_superblock_chain ps) t.1.1.1.1.0;
-      order = λ path at l. rise_from disk.order (names_of_directory_at (entries_by_directory_in_thread ps) at) (led k ps whole (λ path at. rise disk.order (names_of_directory_at (entries_by_directory_in_thread ps) at)) t.1.1.1.1.1.1.0 path at l);
+      order = λ path at l. rise_from disk.order (names_of_directory_at_address (entries_by_directory_in_thread ps) at) (led k ps whole (λ path at. rise disk.order (names_of_directory_at_address (entries_by_directory_in_thread ps) at)) t.1.1.1.1.1.1.0 path at l);
       branches = λ path at l. Any-from_list_any (λ d. same_pair d.at at) (directories_in_thread ps) (led k ps whole (λ path at. begins ps at) t.1.1.1.1.1.1.1.0 path at l);
       once = λ path other at to l m same. one path other at to same (led k ps whole (λ other to. not (same_pair at to) || same_path path other) (led k ps whole (is_once (outline_in k ps)) t.1.1.1.1.1.1.1.1.0 path at l) other to m);
-      reached = λ clear. let here = rw clear at t.1.1.1.1.1.1.1.1.1.0 in all_from (λ d. list_any (λ f. leads_to ps d.at f.0) (outline_in k ps)) (λ d. IsDirectoryReached ps d.at) (λ d. reached_from ps d.at (outline_in k ps)) (directories_in_thread ps) here;
-      move = move_from ps (gstate_of ps) t.1.1.1.1.1.1.1.1.1.1.0;
-      lists = All-from_recursion (λ s. IsListIfCtz disk s.struct) (all_slots_not_moved ps) h.lists;
+      reached = λ clear. let here = rw clear at t.1.1.1.1.1.1.1.1.1.0 in all_from (λ d. list_any (λ f. leads_to ps d.at f.0) (outline_in k ps)) (λ d. IsDirectoryAddressReachedBySomePath ps d.at) (λ d. reached_from ps d.at (outline_in k ps)) (directories_in_thread ps) here;
+      move = move_from ps (gstate_of_pairs ps) t.1.1.1.1.1.1.1.1.1.1.0;
+      lists = All-from_recursion (λ s. IsSkipListIfCtzStruct disk s.struct) (all_slots_not_moved ps) h.lists;
       owned_once = distinct_from (used_blocks disk ps) t.1.1.1.1.1.1.1.1.1.1.1.0;
     }
   where

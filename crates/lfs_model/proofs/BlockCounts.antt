@@ -3,31 +3,31 @@ use Rattle.std.proofs.Common.{ℕ, ◌≡◌, ◌+◌, ◌≤◌, ◌⊎◌, inl
 use Rattle.std.specs.List.{Contains, count_by, slice_get}
 use Rattle.std.proofs.lemmas.Bool.{cases_eq}
 use Rattle.std.proofs.lemmas.Option.{slice_get_within, same_Some}
-use Rattle.lfs_model.specs.BlockSets.{BlockState, BlockStateList, IsFree, IsInFlight, IsUsed, is_in_flight, is_used, in_flight_count, used_count}
+use Rattle.lfs_model.specs.BlockSets.{BlockState, BlockStateList, IsBlockFree, IsBlockInFlight, IsBlockUsed, is_block_state_in_flight, is_used, in_flight_block_count, used_count}
 use Rattle.lfs_model.specs.BlockSets.BlockState.{Free, InFlight, Used}
 use Rattle.lfs_model.proofs.BlockSets.{Contains-cons, slice_get-set_same, slice_get-set_other, count_by-set, count_by-none, IsTestOf, used_test, in_flight_test}
 
 -- ---- one block's state changed
 
 -- a free block is handed out
-pub in_flight-taken : (sets : BlockStateList) (b : ℕ) → IsFree sets b → in_flight_count (set sets b InFlight) ≡ in_flight_count sets + 1
-in_flight-taken sets b free = let e = count_by-set is_in_flight sets b Free InFlight free in omega (arith, e)
+pub in_flight-taken : (sets : BlockStateList) (b : ℕ) → IsBlockFree sets b → in_flight_block_count (set sets b InFlight) ≡ in_flight_block_count sets + 1
+in_flight-taken sets b free = let e = count_by-set is_block_state_in_flight sets b Free InFlight free in omega (arith, e)
 
-pub used-taken : (sets : BlockStateList) (b : ℕ) → IsFree sets b → used_count (set sets b InFlight) ≡ used_count sets
+pub used-taken : (sets : BlockStateList) (b : ℕ) → IsBlockFree sets b → used_count (set sets b InFlight) ≡ used_count sets
 used-taken sets b free = let e = count_by-set is_used sets b Free InFlight free in omega (arith, e)
 
 -- a block in flight is given back
-pub in_flight-freed : (sets : BlockStateList) (b : ℕ) → IsInFlight sets b → in_flight_count (set sets b Free) + 1 ≡ in_flight_count sets
-in_flight-freed sets b flying = let e = count_by-set is_in_flight sets b InFlight Free flying in omega (arith, e)
+pub in_flight-freed : (sets : BlockStateList) (b : ℕ) → IsBlockInFlight sets b → in_flight_block_count (set sets b Free) + 1 ≡ in_flight_block_count sets
+in_flight-freed sets b flying = let e = count_by-set is_block_state_in_flight sets b InFlight Free flying in omega (arith, e)
 
-pub used-freed_in_flight : (sets : BlockStateList) (b : ℕ) → IsInFlight sets b → used_count (set sets b Free) ≡ used_count sets
+pub used-freed_in_flight : (sets : BlockStateList) (b : ℕ) → IsBlockInFlight sets b → used_count (set sets b Free) ≡ used_count sets
 used-freed_in_flight sets b flying = let e = count_by-set is_used sets b InFlight Free flying in omega (arith, e)
 
-pub used-settled : (sets : BlockStateList) (b : ℕ) → IsInFlight sets b → used_count (set sets b Used) ≡ used_count sets + 1
+pub used-settled : (sets : BlockStateList) (b : ℕ) → IsBlockInFlight sets b → used_count (set sets b Used) ≡ used_count sets + 1
 used-settled sets b flying = let e = count_by-set is_used sets b InFlight Used flying in omega (arith, e)
 
 -- a used block is released
-pub used-freed : (sets : BlockStateList) (b : ℕ) → IsUsed sets b → used_count (set sets b Free) + 1 ≡ used_count sets
+pub used-freed : (sets : BlockStateList) (b : ℕ) → IsBlockUsed sets b → used_count (set sets b Free) + 1 ≡ used_count sets
 used-freed sets b used = let e = count_by-set is_used sets b Used Free used in omega (arith, e)
 
 -- ---- at most so many
@@ -70,8 +70,8 @@ module _ (p : BlockState → Bool) (state : BlockState) (test : IsTestOf p state
       omega (arith, behind))
       (cases_state p state test sets x)
 
-pub few_flying : (bs : List ℕ) (sets : BlockStateList) → ((b : ℕ) → IsInFlight sets b → Contains bs b) → in_flight_count sets ≤ length bs
-few_flying bs sets all = few_in is_in_flight InFlight in_flight_test bs sets all
+pub few_flying : (bs : List ℕ) (sets : BlockStateList) → ((b : ℕ) → IsBlockInFlight sets b → Contains bs b) → in_flight_block_count sets ≤ length bs
+few_flying bs sets all = few_in is_block_state_in_flight InFlight in_flight_test bs sets all
 
-pub few_used : (bs : List ℕ) (sets : BlockStateList) → ((b : ℕ) → IsUsed sets b → Contains bs b) → used_count sets ≤ length bs
+pub few_used : (bs : List ℕ) (sets : BlockStateList) → ((b : ℕ) → IsBlockUsed sets b → Contains bs b) → used_count sets ≤ length bs
 few_used bs sets all = few_in is_used Used used_test bs sets all

@@ -3,12 +3,12 @@ use Rattle.std.specs.Prelude.{ℕ, ◌≡◌, true, false, List, [], ◌∷◌, 
 use Rattle.std.proofs.Common.{refl, replicate}
 use Rattle.lfs_model.specs.Slots.{zero_gstate}
 use Rattle.lfs_model.specs.Log.{LogEntry}
-use Rattle.lfs_model.specs.Content.{RawSlot, RawContent, empty_raw_content, content_after_log_entries}
+use Rattle.lfs_model.specs.Content.{RawSlot, RawPairContent, empty_raw_pair_content, content_after_log_entries}
 use Rattle.lfs_model.specs.EntryTypes.{file_name_type, superblock_name_type, inline_struct_type}
 use Rattle.lfs_model.specs.WrittenContent.{log_entries_of_content}
-use Rattle.lfs_model.specs.Changes.{ContentChange, Create, Delete, PutStruct, PutAttribute, PutTail, PutMove, log_entries_of_changes, content_after_changes}
+use Rattle.lfs_model.specs.Changes.{PairContentChange, Create, Delete, PutStruct, PutAttribute, PutTail, PutMove, log_entries_of_changes, raw_pair_content_after_changes}
 
-abbrev empty_file : ℕ → List ℕ → List ContentChange
+abbrev empty_file : ℕ → List ℕ → List PairContentChange
 empty_file id name = Create id file_name_type name ∷ PutStruct id inline_struct_type [] ∷ []
 
 abbrev superblock : RawSlot
@@ -17,11 +17,11 @@ superblock = record { name = Some (superblock_name_type, codes "littlefs"); stru
 abbrev file : RawSlot
 file = record { name = Some (file_name_type, codes "b"); struct = Some (inline_struct_type, []); attributes = (0x41, codes "x") ∷ [] }
 
-abbrev holding : List RawSlot → RawContent
+abbrev holding : List RawSlot → RawPairContent
 holding slots = record { slots = slots; tail = None; move = zero_gstate }
 
 -- file b comes, then a before it, which goes again; b gets an attribute
-abbrev changes : List ContentChange
+abbrev changes : List PairContentChange
 changes = empty_file 1 (codes "b") ++ (empty_file 1 (codes "a") ++ (Delete 1 ∷ PutAttribute 1 0x41 (codes "x") ∷ []))
 
 pub tags : map (λ (e : LogEntry). e.tag) (log_entries_of_changes changes)
@@ -29,12 +29,12 @@ pub tags : map (λ (e : LogEntry). e.tag) (log_entries_of_changes changes)
 tags = refl
 
 -- without a change the content stays; a slot that isn't there can't go
-pub stays : content_after_changes (holding (superblock ∷ [])) [] ≡ Some (holding (superblock ∷ []))
+pub stays : raw_pair_content_after_changes (holding (superblock ∷ [])) [] ≡ Some (holding (superblock ∷ []))
 stays = refl
 
-pub malformed : content_after_changes (holding (superblock ∷ [])) (Delete 1 ∷ []) ≡ None
+pub malformed : raw_pair_content_after_changes (holding (superblock ∷ [])) (Delete 1 ∷ []) ≡ None
 malformed = refl
 
 -- a tail and a move state, and none again
-abbrev going : RawContent
+abbrev going : RawPairContent
 going = record { slots = superblock ∷ []; tail = Some (record { hard = false; to = (2, 3) }); move = record { sync = true; kind = 0x4ff; id = 2; pair = (2, 3) } }

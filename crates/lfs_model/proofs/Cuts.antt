@@ -4,20 +4,20 @@ use Rattle.std.specs.Prelude.{slice_range}
 use Rattle.std.proofs.Math.Nat.{mul-le-mul_left}
 use Rattle.std.proofs.Math.Seq.{take-append-add, drop-append-add}
 use Rattle.std.proofs.lemmas.List.{take-take, drop-drop, drop-take, take-append-le, drop-append-le, length-take-le}
-use Rattle.lfs_model.specs.Blocks.{HasBlocksOfCountAndSize, block_bytes_in, bytes_after_overwrite_at, programmed, cut}
+use Rattle.lfs_model.specs.Blocks.{HasBlocksOfCountAndSize, block_bytes_by_number, bytes_after_overwrite_at, programmed, cut}
 
 pub length-cut : (size count : ℕ) (bytes : List ℕ) → length (cut size count bytes) ≡ count
 length-cut size zero bytes = refl
 length-cut size (suc count) bytes = ap suc (length-cut size count (drop size bytes))
 
 -- a block's place
-pub block_bytes_in-cut : (size count : ℕ) (bytes : List ℕ) (block : ℕ) → block < count → block_bytes_in (cut size count bytes) block ≡ take size (drop (size * block) bytes)
-block_bytes_in-cut size zero bytes block lt = absurd (omega arith)
-block_bytes_in-cut size (suc count) bytes zero lt =
+pub block_bytes_by_number-cut : (size count : ℕ) (bytes : List ℕ) (block : ℕ) → block < count → block_bytes_by_number (cut size count bytes) block ≡ take size (drop (size * block) bytes)
+block_bytes_by_number-cut size zero bytes block lt = absurd (omega arith)
+block_bytes_by_number-cut size (suc count) bytes zero lt =
     let none : 0 ≡ size * 0 = omega arith in ap (λ n. take size (drop n bytes)) none
-block_bytes_in-cut size (suc count) bytes (suc block) lt =
+block_bytes_by_number-cut size (suc count) bytes (suc block) lt =
     let next : size + size * block ≡ size * suc block = omega arith in
-    block_bytes_in-cut size count (drop size bytes) block (omega arith)
+    block_bytes_by_number-cut size count (drop size bytes) block (omega arith)
     ∙ ap (λ (l : List ℕ). take size l) (drop-drop (size * block) size bytes ∙ ap (λ n. drop n bytes) next)
 
 pub size_fits : (size count block n : ℕ) → block < count → n ≡ size * count → size * block + size ≤ n
@@ -27,7 +27,7 @@ size_fits size count block n lt is =
 pub HasBlocksOfCountAndSize-cut : (size count : ℕ) (bytes : List ℕ) → length bytes ≡ size * count → HasBlocksOfCountAndSize size count (cut size count bytes)
 HasBlocksOfCountAndSize-cut size count bytes is = record {
   count = length-cut size count bytes;
-  sizes = λ block lt. ap length (block_bytes_in-cut size count bytes block lt)
+  sizes = λ block lt. ap length (block_bytes_by_number-cut size count bytes block lt)
       ∙ length-take-le size (drop (size * block) bytes) (omega (arith, length-drop (size * block) bytes, size_fits size count block (length bytes) lt is));
 }
 
@@ -97,9 +97,9 @@ cut-bytes_after_overwrite_at size (suc count) bytes (suc block) off new is lt fi
     ∙ cut-bytes_after_overwrite_at size count (drop size bytes) block off new rest (omega arith) fits)
 
 -- a read from a block
-pub slice_range-block_bytes_in : (size count : ℕ) (bytes : List ℕ) (block off n : ℕ) → block < count → off + n ≤ size
-    → slice_range bytes (size * block + off) (size * block + off + n) ≡ slice_range (block_bytes_in (cut size count bytes) block) off (off + n)
-slice_range-block_bytes_in size count bytes block off n lt fits =
+pub slice_range-block_bytes_by_number : (size count : ℕ) (bytes : List ℕ) (block off n : ℕ) → block < count → off + n ≤ size
+    → slice_range bytes (size * block + off) (size * block + off + n) ≡ slice_range (block_bytes_by_number (cut size count bytes) block) off (off + n)
+slice_range-block_bytes_by_number size count bytes block off n lt fits =
     let left : size * block + off + n - (size * block + off) ≡ n = omega arith in
     let right : off + n - off ≡ n = omega arith in
     ap (λ k. take k (drop (size * block + off) bytes)) left
@@ -107,5 +107,5 @@ slice_range-block_bytes_in size count bytes block off n lt fits =
     ∙ sym (drop-take off n (drop (size * block) bytes))
     ∙ ap (drop off) (sym (take-take (off + n) size (drop (size * block) bytes) fits))
     ∙ drop-take off n (take size (drop (size * block) bytes))
-    ∙ ap (λ (b : List ℕ). take n (drop off b)) (sym (block_bytes_in-cut size count bytes block lt))
-    ∙ ap (λ k. take k (drop off (block_bytes_in (cut size count bytes) block))) (sym right)
+    ∙ ap (λ (b : List ℕ). take n (drop off b)) (sym (block_bytes_by_number-cut size count bytes block lt))
+    ∙ ap (λ k. take k (drop off (block_bytes_by_number (cut size count bytes) block))) (sym right)

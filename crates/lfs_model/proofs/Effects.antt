@@ -7,80 +7,80 @@ use Rattle.std.proofs.lemmas.Bool.{ne_eqb, le-leb, lt-ltb, and_from, or_right}
 use Rattle.std.proofs.lemmas.List.{append-nil, length-take-le}
 use Rattle.std.proofs.lemmas.List.Edits.{length-insert}
 use Rattle.std.proofs.Math.Seq.{set-append_seam, get_or-append_seam}
-use Rattle.lfs_model.specs.Tag.{tag_of_type_id_and_length, kind_of, id_of, len_of, class_of}
+use Rattle.lfs_model.specs.Tag.{tag_of_type_id_and_length, type_of_tag, id_of_tag, length_of_tag, abstract_type_of_tag}
 use Rattle.lfs_model.specs.Log.{LogEntry}
 use Rattle.lfs_model.specs.Slots.{Gstate}
-use Rattle.lfs_model.specs.Content.{RawSlot, RawContent, content_after_log_entry, content_after_log_entries, slots_after_log_entry, raw_slots_after_slot_change, slots_padded_to_id, empty_slot, slot_of_id, attributes_with_attribute, attributes_without_attribute}
-use Rattle.lfs_model.specs.EntryTypes.{is_known_type_and_length, allows_any_length, requires_eight_bytes, requires_no_bytes, move_state_type, has_id_if_needed, is_attribute_removal, no_id, create_type, delete_type, tail_to_pair_if_any}
-use Rattle.lfs_model.specs.WrittenContent.{log_entry_with, first_attribute_type}
-use Rattle.lfs_model.specs.LoggedContent.{IsNameOrStructOfClass, Are32BitPairAddresses, IsWellFormedMoveState}
-use Rattle.lfs_model.specs.Changes.{ContentChange, Create, Delete, PutStruct, PutAttribute, RemoveAttribute, PutTail, PutMove, log_entries_of_change, log_entries_of_changes, is_storable_change, content_after_changes}
-use Rattle.lfs_model.proofs.WrittenAnew.{kind_of-tag_of_type_id_and_length, id_of-tag_of_type_id_and_length, len_of-tag_of_type_id_and_length, then, pair_address_of_bytes-bytes_of_pair_address, gstate_of_bytes-bytes_of_move_state}
+use Rattle.lfs_model.specs.Content.{RawSlot, RawPairContent, content_after_log_entry, content_after_log_entries, slots_after_log_entry, raw_slots_with_function_applied_at_id, slots_padded_to_id, empty_slot, slot_of_id, attributes_with_attribute, attributes_without_attribute}
+use Rattle.lfs_model.specs.EntryTypes.{is_tag_of_known_type_and_length, tag_type_allows_any_length, tag_type_requires_eight_data_bytes, tag_type_requires_no_data_bytes, move_state_type, has_tag_id_if_needed, is_attribute_removal, no_id, create_tag_type, delete_tag_type, tail_to_pair_if_any}
+use Rattle.lfs_model.specs.WrittenContent.{log_entry_of_type_id_and_bytes, lowest_attribute_type}
+use Rattle.lfs_model.specs.LoggedContent.{IsNameOrStructTheFormatAllows, Are32BitPairAddresses, AreMoveStateFieldsWithinBitWidths}
+use Rattle.lfs_model.specs.Changes.{PairContentChange, Create, Delete, PutStruct, PutAttribute, RemoveAttribute, PutTail, PutMove, log_entries_of_change, log_entries_of_changes, is_storable_pair_content_change, raw_pair_content_after_changes}
+use Rattle.lfs_model.proofs.WrittenAnew.{type_of_tag-tag_of_type_id_and_length, id_of_tag-tag_of_type_id_and_length, length_of_tag-tag_of_type_id_and_length, then, pair_address_of_bytes-bytes_of_pair_address, gstate_of_bytes-bytes_of_move_state}
 
 -- ---- one after the other
 
 -- the change can be stored, and makes that
-pub record Does (change : ContentChange) (c d : RawContent) : Type 0 where
-  pub storable : is_storable_change change ≡ true
+pub record Does (change : PairContentChange) (c d : RawPairContent) : Type 0 where
+  pub storable : is_storable_pair_content_change change ≡ true
   pub makes : content_after_log_entries c (log_entries_of_change change) ≡ Some d
 
-pub does_nothing : (c : RawContent) → content_after_changes c [] ≡ Some c
+pub does_nothing : (c : RawPairContent) → raw_pair_content_after_changes c [] ≡ Some c
 does_nothing c = refl
 
-pub does_first : (change : ContentChange) (changes : List ContentChange) (c d e : RawContent) → Does change c d → content_after_changes d changes ≡ Some e → content_after_changes c (change ∷ changes) ≡ Some e
-does_first change changes c d e first others = go (list_all is_storable_change changes) refl others
+pub does_first : (change : PairContentChange) (changes : List PairContentChange) (c d e : RawPairContent) → Does change c d → raw_pair_content_after_changes d changes ≡ Some e → raw_pair_content_after_changes c (change ∷ changes) ≡ Some e
+does_first change changes c d e first others = go (list_all is_storable_pair_content_change changes) refl others
   where
-    go : (b : Bool) → list_all is_storable_change changes ≡ b → cond b (content_after_log_entries d (log_entries_of_changes changes)) None ≡ Some e → content_after_changes c (change ∷ changes) ≡ Some e
-    go true s f = ap (λ b. cond b (content_after_log_entries c (log_entries_of_changes (change ∷ changes))) None) (and_from (is_storable_change change) (list_all is_storable_change changes) first.storable s)
+    go : (b : Bool) → list_all is_storable_pair_content_change changes ≡ b → cond b (content_after_log_entries d (log_entries_of_changes changes)) None ≡ Some e → raw_pair_content_after_changes c (change ∷ changes) ≡ Some e
+    go true s f = ap (λ b. cond b (content_after_log_entries c (log_entries_of_changes (change ∷ changes))) None) (and_from (is_storable_pair_content_change change) (list_all is_storable_pair_content_change changes) first.storable s)
         ∙ then c d (log_entries_of_change change) (log_entries_of_changes changes) (Some e) first.makes f
     go false s f = absurd (cc)
 
 -- ---- an entry about a slot
 
-by_slots : (c : RawContent) (e : LogEntry) → class_of e.tag < 5 → is_known_type_and_length e.tag ≡ true → id_of e.tag < 0x3ff
+by_slots : (c : RawPairContent) (e : LogEntry) → abstract_type_of_tag e.tag < 5 → is_tag_of_known_type_and_length e.tag ≡ true → id_of_tag e.tag < 0x3ff
     → content_after_log_entry c e ≡ option_map (λ slots. record c { slots = slots }) (slots_after_log_entry c.slots e)
 by_slots c e k t i =
-    let five : class_of e.tag == 5 ≡ false = ne_eqb (class_of e.tag) 5 (λ h. omega arith) in
-    let six : class_of e.tag == 6 ≡ false = ne_eqb (class_of e.tag) 6 (λ h. omega arith) in
-    let seven : class_of e.tag == 7 ≡ false = ne_eqb (class_of e.tag) 7 (λ h. omega arith) in
-    let other : id_of e.tag == no_id ≡ false = ne_eqb (id_of e.tag) no_id (λ h. omega arith) in
-    let its : has_id_if_needed e.tag ≡ true = or_right (nat_le 5 (class_of e.tag)) (not (id_of e.tag == no_id)) (ap not other) in
+    let five : abstract_type_of_tag e.tag == 5 ≡ false = ne_eqb (abstract_type_of_tag e.tag) 5 (λ h. omega arith) in
+    let six : abstract_type_of_tag e.tag == 6 ≡ false = ne_eqb (abstract_type_of_tag e.tag) 6 (λ h. omega arith) in
+    let seven : abstract_type_of_tag e.tag == 7 ≡ false = ne_eqb (abstract_type_of_tag e.tag) 7 (λ h. omega arith) in
+    let other : id_of_tag e.tag == no_id ≡ false = ne_eqb (id_of_tag e.tag) no_id (λ h. omega arith) in
+    let its : has_tag_id_if_needed e.tag ≡ true = or_right (nat_le 5 (abstract_type_of_tag e.tag)) (not (id_of_tag e.tag == no_id)) (ap not other) in
     rw (five, t, its, six, seven) refl
 
-one_entry : (c d : RawContent) (e : LogEntry) → content_after_log_entry c e ≡ Some d → content_after_log_entries c (e ∷ []) ≡ Some d
+one_entry : (c d : RawPairContent) (e : LogEntry) → content_after_log_entry c e ≡ Some d → content_after_log_entries c (e ∷ []) ≡ Some d
 one_entry c d e h = ap (option_and_then (λ x. Some x)) h
 
 -- the part is in the table under any id
-in_table_at : (class : ℕ) (part : ℕ × List ℕ) (id : ℕ) → class < 5 → id < 2 ^ 10 → IsNameOrStructOfClass class part → is_known_type_and_length (tag_of_type_id_and_length part.0 id (length part.1)) ≡ true
+in_table_at : (class : ℕ) (part : ℕ × List ℕ) (id : ℕ) → class < 5 → id < 2 ^ 10 → IsNameOrStructTheFormatAllows class part → is_tag_of_known_type_and_length (tag_of_type_id_and_length part.0 id (length part.1)) ≡ true
 in_table_at class part id c i h =
     let of : part.0 / 2 ^ 8 ≡ class = h.of_class in
     let short : length part.1 < 0x3ff = h.short in
-    let kind : kind_of (tag_of_type_id_and_length part.0 id (length part.1)) ≡ kind_of (tag_of_type_id_and_length part.0 0 (length part.1)) = omega arith in
-    let len : len_of (tag_of_type_id_and_length part.0 id (length part.1)) ≡ len_of (tag_of_type_id_and_length part.0 0 (length part.1)) = omega arith in
+    let kind : type_of_tag (tag_of_type_id_and_length part.0 id (length part.1)) ≡ type_of_tag (tag_of_type_id_and_length part.0 0 (length part.1)) = omega arith in
+    let len : length_of_tag (tag_of_type_id_and_length part.0 id (length part.1)) ≡ length_of_tag (tag_of_type_id_and_length part.0 0 (length part.1)) = omega arith in
     rw (kind, len) h.in_table
 
 -- ---- delete
 
-pub deletes : (c : RawContent) (id : ℕ) → id < 0x3ff → id < length c.slots → Does (Delete id) c (record c { slots = remove c.slots id })
+pub deletes : (c : RawPairContent) (id : ℕ) → id < 0x3ff → id < length c.slots → Does (Delete id) c (record c { slots = remove c.slots id })
 deletes c id small there = record {
   storable = lt-ltb id no_id small;
-  makes = one_entry c (record c { slots = remove c.slots id }) (log_entry_with delete_type id [])
-      (by_slots c (log_entry_with delete_type id []) (omega arith) in_table (omega arith) ∙ ap (option_map (λ slots. record c { slots = slots })) after);
+  makes = one_entry c (record c { slots = remove c.slots id }) (log_entry_of_type_id_and_bytes delete_tag_type id [])
+      (by_slots c (log_entry_of_type_id_and_bytes delete_tag_type id []) (omega arith) in_table (omega arith) ∙ ap (option_map (λ slots. record c { slots = slots })) after);
 }
   where
-    kind : kind_of (tag_of_type_id_and_length delete_type id 0) ≡ delete_type
-    kind = kind_of-tag_of_type_id_and_length delete_type id 0 (omega arith) (omega arith) (omega arith)
+    kind : type_of_tag (tag_of_type_id_and_length delete_tag_type id 0) ≡ delete_tag_type
+    kind = type_of_tag-tag_of_type_id_and_length delete_tag_type id 0 (omega arith) (omega arith) (omega arith)
 
-    len : len_of (tag_of_type_id_and_length delete_type id 0) ≡ 0
-    len = len_of-tag_of_type_id_and_length delete_type id 0 (omega arith)
+    len : length_of_tag (tag_of_type_id_and_length delete_tag_type id 0) ≡ 0
+    len = length_of_tag-tag_of_type_id_and_length delete_tag_type id 0 (omega arith)
 
-    at : id_of (tag_of_type_id_and_length delete_type id 0) ≡ id
-    at = id_of-tag_of_type_id_and_length delete_type id 0 (omega arith) (omega arith)
+    at : id_of_tag (tag_of_type_id_and_length delete_tag_type id 0) ≡ id
+    at = id_of_tag-tag_of_type_id_and_length delete_tag_type id 0 (omega arith) (omega arith)
 
-    in_table : is_known_type_and_length (tag_of_type_id_and_length delete_type id 0) ≡ true
+    in_table : is_tag_of_known_type_and_length (tag_of_type_id_and_length delete_tag_type id 0) ≡ true
     in_table = rw (kind, len) refl
 
-    after : slots_after_log_entry c.slots (log_entry_with delete_type id []) ≡ Some (remove c.slots id)
+    after : slots_after_log_entry c.slots (log_entry_of_type_id_and_bytes delete_tag_type id []) ≡ Some (remove c.slots id)
     after = rw (kind, at, lt-ltb id (length c.slots) there) refl
 
 -- ---- structs and attributes
@@ -91,12 +91,12 @@ IsNamed slots id = is_some (slot_of_id slots id).name ≡ true
 abbrev pub with_struct : ℕ × List ℕ → RawSlot → RawSlot
 with_struct part s = record s { struct = Some part }
 
-pub puts_struct : (c : RawContent) (id kind : ℕ) (bytes : List ℕ) → id < 0x3ff → IsNamed c.slots id → IsNameOrStructOfClass 2 (kind, bytes)
-    → Does (PutStruct id kind bytes) c (record c { slots = raw_slots_after_slot_change (with_struct (kind, bytes)) c.slots id })
+pub puts_struct : (c : RawPairContent) (id kind : ℕ) (bytes : List ℕ) → id < 0x3ff → IsNamed c.slots id → IsNameOrStructTheFormatAllows 2 (kind, bytes)
+    → Does (PutStruct id kind bytes) c (record c { slots = raw_slots_with_function_applied_at_id (with_struct (kind, bytes)) c.slots id })
 puts_struct c id type bytes small named part = record {
   storable = and_from _ _ (lt-ltb id no_id small) (and_from _ _ (and_from _ _ (le-leb 0x200 type (omega arith)) (lt-ltb type 0x300 (omega arith))) (le-leb (length bytes) 1022 (omega arith)));
-  makes = one_entry c (record c { slots = raw_slots_after_slot_change (with_struct (type, bytes)) c.slots id }) (log_entry_with type id bytes)
-      (by_slots c (log_entry_with type id bytes) (omega arith) (in_table_at 2 (type, bytes) id (omega arith) (omega arith) part) (omega arith)
+  makes = one_entry c (record c { slots = raw_slots_with_function_applied_at_id (with_struct (type, bytes)) c.slots id }) (log_entry_of_type_id_and_bytes type id bytes)
+      (by_slots c (log_entry_of_type_id_and_bytes type id bytes) (omega arith) (in_table_at 2 (type, bytes) id (omega arith) (omega arith) part) (omega arith)
       ∙ ap (option_map (λ slots. record c { slots = slots })) after);
 }
   where
@@ -106,38 +106,38 @@ puts_struct c id type bytes small named part = record {
     short : length bytes < 0x3ff
     short = part.short
 
-    kind : kind_of (tag_of_type_id_and_length type id (length bytes)) ≡ type
-    kind = kind_of-tag_of_type_id_and_length type id (length bytes) (omega arith) (omega arith) (omega arith)
+    kind : type_of_tag (tag_of_type_id_and_length type id (length bytes)) ≡ type
+    kind = type_of_tag-tag_of_type_id_and_length type id (length bytes) (omega arith) (omega arith) (omega arith)
 
-    at : id_of (tag_of_type_id_and_length type id (length bytes)) ≡ id
-    at = id_of-tag_of_type_id_and_length type id (length bytes) (omega arith) (omega arith)
+    at : id_of_tag (tag_of_type_id_and_length type id (length bytes)) ≡ id
+    at = id_of_tag-tag_of_type_id_and_length type id (length bytes) (omega arith) (omega arith)
 
-    after : slots_after_log_entry c.slots (log_entry_with type id bytes) ≡ Some (raw_slots_after_slot_change (with_struct (type, bytes)) c.slots id)
+    after : slots_after_log_entry c.slots (log_entry_of_type_id_and_bytes type id bytes) ≡ Some (raw_slots_with_function_applied_at_id (with_struct (type, bytes)) c.slots id)
     after =
         let not_name : type / 2 ^ 8 == 0 ≡ false = ne_eqb (type / 2 ^ 8) 0 (λ h. omega arith) in
-        let not_create : type == create_type ≡ false = ne_eqb type create_type (λ h. omega arith) in
-        let not_delete : type == delete_type ≡ false = ne_eqb type delete_type (λ h. omega arith) in
+        let not_create : type == create_tag_type ≡ false = ne_eqb type create_tag_type (λ h. omega arith) in
+        let not_delete : type == delete_tag_type ≡ false = ne_eqb type delete_tag_type (λ h. omega arith) in
         let is_struct : type / 2 ^ 8 == 2 ≡ true = eq-eqb (type / 2 ^ 8) 2 of_class in
         rw (kind, at) (rw (not_name, not_create, not_delete, is_struct, named) refl)
 
 -- an entry of an attribute's type
-attribute_after : (slots : List RawSlot) (e : LogEntry) (id attribute : ℕ) → attribute < 0x100 → kind_of e.tag ≡ first_attribute_type + attribute → id_of e.tag ≡ id → IsNamed slots id
-    → slots_after_log_entry slots e ≡ Some (raw_slots_after_slot_change (λ s. record s { attributes = cond (is_attribute_removal e.tag) (attributes_without_attribute attribute s.attributes) (attributes_with_attribute attribute e.bytes s.attributes) }) slots id)
+attribute_after : (slots : List RawSlot) (e : LogEntry) (id attribute : ℕ) → attribute < 0x100 → type_of_tag e.tag ≡ lowest_attribute_type + attribute → id_of_tag e.tag ≡ id → IsNamed slots id
+    → slots_after_log_entry slots e ≡ Some (raw_slots_with_function_applied_at_id (λ s. record s { attributes = cond (is_attribute_removal e.tag) (attributes_without_attribute attribute s.attributes) (attributes_with_attribute attribute e.bytes s.attributes) }) slots id)
 attribute_after slots e id attribute small kind at named =
-    let not_name : (first_attribute_type + attribute) / 2 ^ 8 == 0 ≡ false = ne_eqb ((first_attribute_type + attribute) / 2 ^ 8) 0 (λ h. omega arith) in
-    let not_create : first_attribute_type + attribute == create_type ≡ false = ne_eqb (first_attribute_type + attribute) create_type (λ h. omega arith) in
-    let not_delete : first_attribute_type + attribute == delete_type ≡ false = ne_eqb (first_attribute_type + attribute) delete_type (λ h. omega arith) in
-    let not_struct : (first_attribute_type + attribute) / 2 ^ 8 == 2 ≡ false = ne_eqb ((first_attribute_type + attribute) / 2 ^ 8) 2 (λ h. omega arith) in
-    let chunk : (first_attribute_type + attribute) % 2 ^ 8 ≡ attribute = omega arith in
+    let not_name : (lowest_attribute_type + attribute) / 2 ^ 8 == 0 ≡ false = ne_eqb ((lowest_attribute_type + attribute) / 2 ^ 8) 0 (λ h. omega arith) in
+    let not_create : lowest_attribute_type + attribute == create_tag_type ≡ false = ne_eqb (lowest_attribute_type + attribute) create_tag_type (λ h. omega arith) in
+    let not_delete : lowest_attribute_type + attribute == delete_tag_type ≡ false = ne_eqb (lowest_attribute_type + attribute) delete_tag_type (λ h. omega arith) in
+    let not_struct : (lowest_attribute_type + attribute) / 2 ^ 8 == 2 ≡ false = ne_eqb ((lowest_attribute_type + attribute) / 2 ^ 8) 2 (λ h. omega arith) in
+    let chunk : (lowest_attribute_type + attribute) % 2 ^ 8 ≡ attribute = omega arith in
     rw (kind, at) (rw (not_name, not_create, not_delete, not_struct, chunk, named) refl)
 
-attribute_in_table : (tag attribute : ℕ) → attribute < 0x100 → kind_of tag ≡ first_attribute_type + attribute → is_known_type_and_length tag ≡ true
+attribute_in_table : (tag attribute : ℕ) → attribute < 0x100 → type_of_tag tag ≡ lowest_attribute_type + attribute → is_tag_of_known_type_and_length tag ≡ true
 attribute_in_table tag attribute small kind = go (is_attribute_removal tag)
   where
-    third : (first_attribute_type + attribute) / 2 ^ 8 == 3 ≡ true
-    third = eq-eqb ((first_attribute_type + attribute) / 2 ^ 8) 3 (omega arith)
+    third : (lowest_attribute_type + attribute) / 2 ^ 8 == 3 ≡ true
+    third = eq-eqb ((lowest_attribute_type + attribute) / 2 ^ 8) 3 (omega arith)
 
-    go : (b : Bool) → cond b (class_of tag == 3) (cond (allows_any_length tag) true (cond (requires_eight_bytes tag) (len_of tag == 8) (cond (requires_no_bytes tag) (len_of tag == 0) (kind_of tag == move_state_type && len_of tag == 12)))) ≡ true
+    go : (b : Bool) → cond b (abstract_type_of_tag tag == 3) (cond (tag_type_allows_any_length tag) true (cond (tag_type_requires_eight_data_bytes tag) (length_of_tag tag == 8) (cond (tag_type_requires_no_data_bytes tag) (length_of_tag tag == 0) (type_of_tag tag == move_state_type && length_of_tag tag == 12)))) ≡ true
     go true = rw (kind, third) refl
     go false = rw (kind, third) refl
 
@@ -148,48 +148,48 @@ abbrev pub with_attribute_removed : ℕ → RawSlot → RawSlot
 with_attribute_removed attribute s = record s { attributes = attributes_without_attribute attribute s.attributes }
 
 abbrev put_entry : ℕ → ℕ → List ℕ → LogEntry
-put_entry id attribute bytes = log_entry_with (first_attribute_type + attribute) id bytes
+put_entry id attribute bytes = log_entry_of_type_id_and_bytes (lowest_attribute_type + attribute) id bytes
 
 abbrev remove_entry : ℕ → ℕ → LogEntry
-remove_entry id attribute = record { tag = tag_of_type_id_and_length (first_attribute_type + attribute) id 0x3ff; bytes = [] }
+remove_entry id attribute = record { tag = tag_of_type_id_and_length (lowest_attribute_type + attribute) id 0x3ff; bytes = [] }
 
-pub puts_attribute : (c : RawContent) (id attribute : ℕ) (bytes : List ℕ) → id < 0x3ff → attribute < 0x100 → length bytes < 0x3ff → IsNamed c.slots id
-    → Does (PutAttribute id attribute bytes) c (record c { slots = raw_slots_after_slot_change (with_attribute_put attribute bytes) c.slots id })
+pub puts_attribute : (c : RawPairContent) (id attribute : ℕ) (bytes : List ℕ) → id < 0x3ff → attribute < 0x100 → length bytes < 0x3ff → IsNamed c.slots id
+    → Does (PutAttribute id attribute bytes) c (record c { slots = raw_slots_with_function_applied_at_id (with_attribute_put attribute bytes) c.slots id })
 puts_attribute c id attribute bytes small low short named = record {
   storable = and_from _ _ (lt-ltb id no_id small) (and_from _ _ (lt-ltb attribute 0x100 low) (le-leb (length bytes) 1022 (omega arith)));
-  makes = one_entry c (record c { slots = raw_slots_after_slot_change (with_attribute_put attribute bytes) c.slots id }) (put_entry id attribute bytes)
+  makes = one_entry c (record c { slots = raw_slots_with_function_applied_at_id (with_attribute_put attribute bytes) c.slots id }) (put_entry id attribute bytes)
       (by_slots c (put_entry id attribute bytes) (omega arith) (attribute_in_table (put_entry id attribute bytes).tag attribute low kind) (omega arith) ∙ ap (option_map (λ slots. record c { slots = slots }))
       (attribute_after c.slots (put_entry id attribute bytes) id attribute low kind at named
-      ∙ ap (λ b. Some (raw_slots_after_slot_change (λ s. record s { attributes = cond b (attributes_without_attribute attribute s.attributes) (attributes_with_attribute attribute bytes s.attributes) }) c.slots id)) stays));
+      ∙ ap (λ b. Some (raw_slots_with_function_applied_at_id (λ s. record s { attributes = cond b (attributes_without_attribute attribute s.attributes) (attributes_with_attribute attribute bytes s.attributes) }) c.slots id)) stays));
 }
   where
-    kind : kind_of (tag_of_type_id_and_length (first_attribute_type + attribute) id (length bytes)) ≡ first_attribute_type + attribute
-    kind = kind_of-tag_of_type_id_and_length (first_attribute_type + attribute) id (length bytes) (omega arith) (omega arith) (omega arith)
+    kind : type_of_tag (tag_of_type_id_and_length (lowest_attribute_type + attribute) id (length bytes)) ≡ lowest_attribute_type + attribute
+    kind = type_of_tag-tag_of_type_id_and_length (lowest_attribute_type + attribute) id (length bytes) (omega arith) (omega arith) (omega arith)
 
-    at : id_of (tag_of_type_id_and_length (first_attribute_type + attribute) id (length bytes)) ≡ id
-    at = id_of-tag_of_type_id_and_length (first_attribute_type + attribute) id (length bytes) (omega arith) (omega arith)
+    at : id_of_tag (tag_of_type_id_and_length (lowest_attribute_type + attribute) id (length bytes)) ≡ id
+    at = id_of_tag-tag_of_type_id_and_length (lowest_attribute_type + attribute) id (length bytes) (omega arith) (omega arith)
 
-    stays : is_attribute_removal (tag_of_type_id_and_length (first_attribute_type + attribute) id (length bytes)) ≡ false
-    stays = ne_eqb (len_of (tag_of_type_id_and_length (first_attribute_type + attribute) id (length bytes))) 0x3ff (λ h. omega arith)
+    stays : is_attribute_removal (tag_of_type_id_and_length (lowest_attribute_type + attribute) id (length bytes)) ≡ false
+    stays = ne_eqb (length_of_tag (tag_of_type_id_and_length (lowest_attribute_type + attribute) id (length bytes))) 0x3ff (λ h. omega arith)
 
-pub removes_attribute : (c : RawContent) (id attribute : ℕ) → id < 0x3ff → attribute < 0x100 → IsNamed c.slots id
-    → Does (RemoveAttribute id attribute) c (record c { slots = raw_slots_after_slot_change (with_attribute_removed attribute) c.slots id })
+pub removes_attribute : (c : RawPairContent) (id attribute : ℕ) → id < 0x3ff → attribute < 0x100 → IsNamed c.slots id
+    → Does (RemoveAttribute id attribute) c (record c { slots = raw_slots_with_function_applied_at_id (with_attribute_removed attribute) c.slots id })
 removes_attribute c id attribute small low named = record {
   storable = and_from _ _ (lt-ltb id no_id small) (lt-ltb attribute 0x100 low);
-  makes = one_entry c (record c { slots = raw_slots_after_slot_change (with_attribute_removed attribute) c.slots id }) (remove_entry id attribute)
+  makes = one_entry c (record c { slots = raw_slots_with_function_applied_at_id (with_attribute_removed attribute) c.slots id }) (remove_entry id attribute)
       (by_slots c (remove_entry id attribute) (omega arith) (attribute_in_table (remove_entry id attribute).tag attribute low kind) (omega arith) ∙ ap (option_map (λ slots. record c { slots = slots }))
       (attribute_after c.slots (remove_entry id attribute) id attribute low kind at named
-      ∙ ap (λ b. Some (raw_slots_after_slot_change (λ s. record s { attributes = cond b (attributes_without_attribute attribute s.attributes) (attributes_with_attribute attribute [] s.attributes) }) c.slots id)) goes));
+      ∙ ap (λ b. Some (raw_slots_with_function_applied_at_id (λ s. record s { attributes = cond b (attributes_without_attribute attribute s.attributes) (attributes_with_attribute attribute [] s.attributes) }) c.slots id)) goes));
 }
   where
-    kind : kind_of (tag_of_type_id_and_length (first_attribute_type + attribute) id 0x3ff) ≡ first_attribute_type + attribute
-    kind = kind_of-tag_of_type_id_and_length (first_attribute_type + attribute) id 0x3ff (omega arith) (omega arith) (omega arith)
+    kind : type_of_tag (tag_of_type_id_and_length (lowest_attribute_type + attribute) id 0x3ff) ≡ lowest_attribute_type + attribute
+    kind = type_of_tag-tag_of_type_id_and_length (lowest_attribute_type + attribute) id 0x3ff (omega arith) (omega arith) (omega arith)
 
-    at : id_of (tag_of_type_id_and_length (first_attribute_type + attribute) id 0x3ff) ≡ id
-    at = id_of-tag_of_type_id_and_length (first_attribute_type + attribute) id 0x3ff (omega arith) (omega arith)
+    at : id_of_tag (tag_of_type_id_and_length (lowest_attribute_type + attribute) id 0x3ff) ≡ id
+    at = id_of_tag-tag_of_type_id_and_length (lowest_attribute_type + attribute) id 0x3ff (omega arith) (omega arith)
 
-    goes : is_attribute_removal (tag_of_type_id_and_length (first_attribute_type + attribute) id 0x3ff) ≡ true
-    goes = eq-eqb (len_of (tag_of_type_id_and_length (first_attribute_type + attribute) id 0x3ff)) 0x3ff (len_of-tag_of_type_id_and_length (first_attribute_type + attribute) id 0x3ff (omega arith))
+    goes : is_attribute_removal (tag_of_type_id_and_length (lowest_attribute_type + attribute) id 0x3ff) ≡ true
+    goes = eq-eqb (length_of_tag (tag_of_type_id_and_length (lowest_attribute_type + attribute) id 0x3ff)) 0x3ff (length_of_tag-tag_of_type_id_and_length (lowest_attribute_type + attribute) id 0x3ff (omega arith))
 
 -- ---- create
 
@@ -205,7 +205,7 @@ put_inserted : (slots : List RawSlot) (id : ℕ) (s t : RawSlot) → id ≤ leng
 put_inserted slots id s t fits =
     ap (λ k. slice_set (insert slots id s) k t) (sym (length-take-le id slots fits)) ∙ set-append_seam (take id slots) s (drop id slots) t
 
-pub changed_inserted : (f : RawSlot → RawSlot) (slots : List RawSlot) (id : ℕ) (s : RawSlot) → id ≤ length slots → raw_slots_after_slot_change f (insert slots id s) id ≡ insert slots id (f s)
+pub changed_inserted : (f : RawSlot → RawSlot) (slots : List RawSlot) (id : ℕ) (s : RawSlot) → id ≤ length slots → raw_slots_with_function_applied_at_id f (insert slots id s) id ≡ insert slots id (f s)
 changed_inserted f slots id s fits = ap (λ t. slice_set (insert slots id s) id (f t)) (inserted_at slots id s fits) ∙ put_inserted slots id s (f s) fits
 
 -- slots that reach past an id stay
@@ -214,15 +214,15 @@ long_enough slots id there =
     let none : id + 1 - length slots ≡ 0 = omega arith in
     ap (λ n. slots ++ replicate n empty_slot) none ∙ append-nil slots
 
-pub creates : (c : RawContent) (id type : ℕ) (name : List ℕ) → id < 0x3ff → id ≤ length c.slots → IsNameOrStructOfClass 0 (type, name)
+pub creates : (c : RawPairContent) (id type : ℕ) (name : List ℕ) → id < 0x3ff → id ≤ length c.slots → IsNameOrStructTheFormatAllows 0 (type, name)
     → Does (Create id type name) c (record c { slots = insert c.slots id (slot_named (type, name)) })
 creates c id type name small fits part = record {
   storable = and_from _ _ (lt-ltb id no_id small) (and_from _ _ (lt-ltb type 0x100 (omega arith)) (le-leb (length name) 1022 (omega arith)));
-  makes = then c (record c { slots = insert c.slots id empty_slot }) (log_entry_with create_type id [] ∷ []) (log_entry_with type id name ∷ []) _
-      (one_entry c (record c { slots = insert c.slots id empty_slot }) (log_entry_with create_type id [])
-      (by_slots c (log_entry_with create_type id []) (omega arith) create_in_table (omega arith) ∙ ap (option_map (λ slots. record c { slots = slots })) create_after))
-      (one_entry (record c { slots = insert c.slots id empty_slot }) (record c { slots = insert c.slots id (slot_named (type, name)) }) (log_entry_with type id name)
-      (by_slots (record c { slots = insert c.slots id empty_slot }) (log_entry_with type id name) (omega arith) (in_table_at 0 (type, name) id (omega arith) (omega arith) part) (omega arith)
+  makes = then c (record c { slots = insert c.slots id empty_slot }) (log_entry_of_type_id_and_bytes create_tag_type id [] ∷ []) (log_entry_of_type_id_and_bytes type id name ∷ []) _
+      (one_entry c (record c { slots = insert c.slots id empty_slot }) (log_entry_of_type_id_and_bytes create_tag_type id [])
+      (by_slots c (log_entry_of_type_id_and_bytes create_tag_type id []) (omega arith) create_in_table (omega arith) ∙ ap (option_map (λ slots. record c { slots = slots })) create_after))
+      (one_entry (record c { slots = insert c.slots id empty_slot }) (record c { slots = insert c.slots id (slot_named (type, name)) }) (log_entry_of_type_id_and_bytes type id name)
+      (by_slots (record c { slots = insert c.slots id empty_slot }) (log_entry_of_type_id_and_bytes type id name) (omega arith) (in_table_at 0 (type, name) id (omega arith) (omega arith) part) (omega arith)
       ∙ ap (option_map (λ slots. record c { slots = slots })) name_after));
 }
   where
@@ -232,70 +232,70 @@ creates c id type name small fits part = record {
     short : length name < 0x3ff
     short = part.short
 
-    create_kind : kind_of (tag_of_type_id_and_length create_type id 0) ≡ create_type
-    create_kind = kind_of-tag_of_type_id_and_length create_type id 0 (omega arith) (omega arith) (omega arith)
+    create_kind : type_of_tag (tag_of_type_id_and_length create_tag_type id 0) ≡ create_tag_type
+    create_kind = type_of_tag-tag_of_type_id_and_length create_tag_type id 0 (omega arith) (omega arith) (omega arith)
 
-    create_len : len_of (tag_of_type_id_and_length create_type id 0) ≡ 0
-    create_len = len_of-tag_of_type_id_and_length create_type id 0 (omega arith)
+    create_len : length_of_tag (tag_of_type_id_and_length create_tag_type id 0) ≡ 0
+    create_len = length_of_tag-tag_of_type_id_and_length create_tag_type id 0 (omega arith)
 
-    create_at : id_of (tag_of_type_id_and_length create_type id 0) ≡ id
-    create_at = id_of-tag_of_type_id_and_length create_type id 0 (omega arith) (omega arith)
+    create_at : id_of_tag (tag_of_type_id_and_length create_tag_type id 0) ≡ id
+    create_at = id_of_tag-tag_of_type_id_and_length create_tag_type id 0 (omega arith) (omega arith)
 
-    create_in_table : is_known_type_and_length (tag_of_type_id_and_length create_type id 0) ≡ true
+    create_in_table : is_tag_of_known_type_and_length (tag_of_type_id_and_length create_tag_type id 0) ≡ true
     create_in_table = rw (create_kind, create_len) refl
 
-    create_after : slots_after_log_entry c.slots (log_entry_with create_type id []) ≡ Some (insert c.slots id empty_slot)
+    create_after : slots_after_log_entry c.slots (log_entry_of_type_id_and_bytes create_tag_type id []) ≡ Some (insert c.slots id empty_slot)
     create_after = rw (create_kind, create_at, le-leb id (length c.slots) fits) refl
 
-    kind : kind_of (tag_of_type_id_and_length type id (length name)) ≡ type
-    kind = kind_of-tag_of_type_id_and_length type id (length name) (omega arith) (omega arith) (omega arith)
+    kind : type_of_tag (tag_of_type_id_and_length type id (length name)) ≡ type
+    kind = type_of_tag-tag_of_type_id_and_length type id (length name) (omega arith) (omega arith) (omega arith)
 
-    at : id_of (tag_of_type_id_and_length type id (length name)) ≡ id
-    at = id_of-tag_of_type_id_and_length type id (length name) (omega arith) (omega arith)
+    at : id_of_tag (tag_of_type_id_and_length type id (length name)) ≡ id
+    at = id_of_tag-tag_of_type_id_and_length type id (length name) (omega arith) (omega arith)
 
     longer : length (insert c.slots id empty_slot) ≡ length c.slots + 1
     longer = length-insert c.slots id empty_slot fits
 
-    name_after : slots_after_log_entry (insert c.slots id empty_slot) (log_entry_with type id name) ≡ Some (insert c.slots id (slot_named (type, name)))
+    name_after : slots_after_log_entry (insert c.slots id empty_slot) (log_entry_of_type_id_and_bytes type id name) ≡ Some (insert c.slots id (slot_named (type, name)))
     name_after =
         let is_name : type / 2 ^ 8 == 0 ≡ true = eq-eqb (type / 2 ^ 8) 0 of_class in
-        rw (kind, at) (rw is_name (ap (λ slots. Some (raw_slots_after_slot_change (λ s. record s { name = Some (type, name) }) slots id)) (long_enough (insert c.slots id empty_slot) id (omega (arith, longer)))
+        rw (kind, at) (rw is_name (ap (λ slots. Some (raw_slots_with_function_applied_at_id (λ s. record s { name = Some (type, name) }) slots id)) (long_enough (insert c.slots id empty_slot) id (omega (arith, longer)))
         ∙ ap Some (changed_inserted (λ s. record s { name = Some (type, name) }) c.slots id empty_slot fits)))
 
 -- a slot with its struct
 abbrev pub slot_with : ℕ × List ℕ → ℕ × List ℕ → RawSlot
 slot_with name part = record { name = Some name; struct = Some part; attributes = [] }
 
-pub creates_with_struct : (c : RawContent) (id type : ℕ) (name : List ℕ) (kind : ℕ) (bytes : List ℕ) (changes : List ContentChange) (e : RawContent) →
-    id < 0x3ff → id ≤ length c.slots → IsNameOrStructOfClass 0 (type, name) → IsNameOrStructOfClass 2 (kind, bytes) →
-    content_after_changes (record c { slots = insert c.slots id (slot_with (type, name) (kind, bytes)) }) changes ≡ Some e →
-    content_after_changes c (Create id type name ∷ PutStruct id kind bytes ∷ changes) ≡ Some e
+pub creates_with_struct : (c : RawPairContent) (id type : ℕ) (name : List ℕ) (kind : ℕ) (bytes : List ℕ) (changes : List PairContentChange) (e : RawPairContent) →
+    id < 0x3ff → id ≤ length c.slots → IsNameOrStructTheFormatAllows 0 (type, name) → IsNameOrStructTheFormatAllows 2 (kind, bytes) →
+    raw_pair_content_after_changes (record c { slots = insert c.slots id (slot_with (type, name) (kind, bytes)) }) changes ≡ Some e →
+    raw_pair_content_after_changes c (Create id type name ∷ PutStruct id kind bytes ∷ changes) ≡ Some e
 creates_with_struct c id type name kind bytes changes e small fits is_name is_struct others =
     does_first (Create id type name) (PutStruct id kind bytes ∷ changes) c created e (creates c id type name small fits is_name)
-    (does_first (PutStruct id kind bytes) changes created (record c { slots = raw_slots_after_slot_change (with_struct (kind, bytes)) created.slots id }) e
+    (does_first (PutStruct id kind bytes) changes created (record c { slots = raw_slots_with_function_applied_at_id (with_struct (kind, bytes)) created.slots id }) e
     (puts_struct created id kind bytes small (ap (λ s. is_some s.name) (inserted_at c.slots id (slot_named (type, name)) fits)) is_struct)
-    (ap (λ slots. content_after_changes (record c { slots = slots }) changes) (changed_inserted (with_struct (kind, bytes)) c.slots id (slot_named (type, name)) fits) ∙ others))
+    (ap (λ slots. raw_pair_content_after_changes (record c { slots = slots }) changes) (changed_inserted (with_struct (kind, bytes)) c.slots id (slot_named (type, name)) fits) ∙ others))
   where
-    created : RawContent
+    created : RawPairContent
     created = record c { slots = insert c.slots id (slot_named (type, name)) }
 
 -- ---- tails and move states
 
-tail_after : (c : RawContent) (hard : Bool) (pair : ℕ × ℕ) → Are32BitPairAddresses pair → content_after_log_entries c (log_entries_of_change (PutTail hard (Some pair))) ≡ Some (record c { tail = tail_to_pair_if_any hard pair })
+tail_after : (c : RawPairContent) (hard : Bool) (pair : ℕ × ℕ) → Are32BitPairAddresses pair → content_after_log_entries c (log_entries_of_change (PutTail hard (Some pair))) ≡ Some (record c { tail = tail_to_pair_if_any hard pair })
 tail_after c true pair h = ap (λ p. Some (record c { tail = tail_to_pair_if_any true p })) (pair_address_of_bytes-bytes_of_pair_address pair h)
 tail_after c false pair h = ap (λ p. Some (record c { tail = tail_to_pair_if_any false p })) (pair_address_of_bytes-bytes_of_pair_address pair h)
 
-pub puts_tail : (c : RawContent) (hard : Bool) (pair : ℕ × ℕ) → Are32BitPairAddresses pair → Does (PutTail hard (Some pair)) c (record c { tail = tail_to_pair_if_any hard pair })
+pub puts_tail : (c : RawPairContent) (hard : Bool) (pair : ℕ × ℕ) → Are32BitPairAddresses pair → Does (PutTail hard (Some pair)) c (record c { tail = tail_to_pair_if_any hard pair })
 puts_tail c hard pair h = record {
   storable = and_from _ _ (lt-ltb pair.0 (2 ^ 32) h.0) (lt-ltb pair.1 (2 ^ 32) h.1);
   makes = tail_after c hard pair h;
 }
 
-pub ends_tail : (c : RawContent) (hard : Bool) → Does (PutTail hard None) c (record c { tail = None })
+pub ends_tail : (c : RawPairContent) (hard : Bool) → Does (PutTail hard None) c (record c { tail = None })
 ends_tail c true = record { storable = refl; makes = refl }
 ends_tail c false = record { storable = refl; makes = refl }
 
-pub puts_move : (c : RawContent) (g : Gstate) → IsWellFormedMoveState g → Does (PutMove g) c (record c { move = g })
+pub puts_move : (c : RawPairContent) (g : Gstate) → AreMoveStateFieldsWithinBitWidths g → Does (PutMove g) c (record c { move = g })
 puts_move c g h = record {
   storable = and_from _ _ (lt-ltb g.kind (2 ^ 11) h.kind) (and_from _ _ (lt-ltb g.id (2 ^ 10) h.id) (and_from _ _ (lt-ltb g.pair.0 (2 ^ 32) h.pair.0) (lt-ltb g.pair.1 (2 ^ 32) h.pair.1)));
   makes = ap (λ m. Some (record c { move = m })) (gstate_of_bytes-bytes_of_move_state g h);

@@ -7,14 +7,14 @@ use Rattle.lfs_model.specs.Slots.{zero_gstate}
 use Rattle.lfs_model.specs.Thread.{Pair, AreLinkedByTails, anchor_pair_address, blocks_of_pairs}
 use Rattle.lfs_model.specs.Tree.{Tree}
 use Rattle.lfs_model.specs.View.{IsAcceptedImage}
-use Rattle.lfs_model.specs.Profile.{IsAcceptedAndWritable}
+use Rattle.lfs_model.specs.Profile.{IsAcceptedWritableDisk}
 use Rattle.lfs_model.specs.Shown.{tree_on_disk}
-use Rattle.lfs_model.specs.Fresh.{fresh_pair, empty_tree}
+use Rattle.lfs_model.specs.Fresh.{only_pair_of_fresh_disk, empty_tree}
 use Rattle.lfs_model.specs.Operations.{Operation}
 use Rattle.lfs_model.specs.Session.{Session, DiskSummary}
-use Rattle.lfs_model.specs.State.{IsSummaryOfDisk, SessionHealth, HasFailed, Healthy, mounted}
-use Rattle.lfs_model.specs.Effects.{refusal_or_effect}
-use Rattle.lfs_model.specs.PowerLoss.{ShowsTreeBeforeOrAfter, IsHealthyInWritingProfile, IsOperationSurvivingPowerLoss}
+use Rattle.lfs_model.specs.State.{IsSummaryOfDisk, SessionHealth, HasFailed, Healthy, session_after_mount}
+use Rattle.lfs_model.specs.Effects.{refusal_or_effect_of_operation}
+use Rattle.lfs_model.specs.PowerLoss.{HasTreeBeforeOrAfterOperation, IsHealthySessionOnWritableDisk, IsOperationSurvivingPowerLoss}
 use Rattle.lfs_model.specs.examples.Images.{small_fresh_image, image_of_two_commits}
 use Rattle.lfs_model.specs.examples.Runs.{fresh_system_state, disk_without_blocks}
 use Rattle.lfs_model.proofs.Uniqueness.{one_thread}
@@ -22,12 +22,12 @@ use Rattle.lfs_model.proofs.Fresh.{accepted, writable, shows}
 use Rattle.lfs_model.proofs.Example.{fresh}
 
 abbrev pub pairs : List Pair
-pairs = fresh_pair small_fresh_image ∷ []
+pairs = only_pair_of_fresh_disk small_fresh_image ∷ []
 
 pub are_accepted : IsAcceptedImage small_fresh_image pairs
 are_accepted = accepted small_fresh_image fresh
 
-pub in_profile : IsAcceptedAndWritable small_fresh_image
+pub in_profile : IsAcceptedWritableDisk small_fresh_image
 in_profile = (pairs, (are_accepted, writable small_fresh_image fresh))
 
 -- the tree of any accepted thread of it
@@ -40,10 +40,10 @@ around = record { writable = true; block_size = 1024; page = 128; block_count = 
 pub surrounds : IsSummaryOfDisk small_fresh_image pairs around
 surrounds = record { block_size = refl; page = refl; block_count = refl; used = refl; gstate = refl; writable = ((λ e. writable small_fresh_image fresh), λ w. refl) }
 
-pub is_at_work : IsHealthyInWritingProfile fresh_system_state (mounted empty_tree) pairs around
+pub is_at_work : IsHealthySessionOnWritableDisk fresh_system_state (session_after_mount empty_tree) pairs around
 is_at_work = record { healthy = refl; accepted = are_accepted; writable = writable small_fresh_image fresh; surrounds = surrounds }
 
-pub still_there : (before after : Tree) → before ≡ empty_tree → ShowsTreeBeforeOrAfter small_fresh_image before after
+pub still_there : (before after : Tree) → before ≡ empty_tree → HasTreeBeforeOrAfterOperation small_fresh_image before after
 still_there before after e = record { pairs = pairs; accepted = are_accepted; writable = writable small_fresh_image fresh; tree = inl (shows small_fresh_image ∙ sym e) }
 
 -- a disk without blocks has no thread
@@ -64,7 +64,7 @@ differ e = apart (slice_index (block_bytes_on_disk small_fresh_image 0) 128) (sl
 pub surviving : (op : Operation) (state : SessionHealth) → IsOperationSurvivingPowerLoss fresh_system_state op (record fresh_system_state { state = state })
 surviving op state = record {
   stops = λ s ps a work clean. record { events = []; extends = refl; each = tt };
-  stands = λ s ps a work clean fails. still_there s.tree (refusal_or_effect a s op).1.tree (sym (ap (λ (z : Session). z.tree) (same_session (mounted empty_tree) s work.healthy)));
+  stands = λ s ps a work clean fails. still_there s.tree (refusal_or_effect_of_operation a s op).1.tree (sym (ap (λ (z : Session). z.tree) (same_session (session_after_mount empty_tree) s work.healthy)));
 }
   where
     same_session : (s t : Session) → Healthy s ≡ Healthy t → s ≡ t

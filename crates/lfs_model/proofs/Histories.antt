@@ -4,226 +4,226 @@ use Rattle.std.specs.Prelude.{All}
 use Rattle.std.proofs.lemmas.Bool.Decides.{nat_tests}
 use Rattle.std.proofs.lemmas.List.{append_cancel_right}
 use Rattle.lfs_model.specs.Blocks.{Blocks}
-use Rattle.lfs_model.specs.Stops.{IsLeftByStopIn, is_left_by_stop_in}
-use Rattle.lfs_model.specs.History.{Call, CallEvent, call_event_with, Read, Program, Erase, read_count_of_call, is_worst_outcome_of_stopped_call, reads, program_count_of_history, erases, faults, unprogrammed, is_byte_unprogrammed_after_call, AreBytesUnprogrammed, AreBytesStillUnprogrammed, IsTrueOfEachCall, IsTrueOfEachCallSince, IsReadThatKeepsBlocks, AreCallsSinceOnlyReads, IsWorstOutcomeOfStop, IsTrueAfterEachStopSince}
+use Rattle.lfs_model.specs.Stops.{AreBlocksLeftByPowerLossInCall, are_blocks_after_stopped_call}
+use Rattle.lfs_model.specs.History.{DeviceCall, DeviceCallEvent, device_call_event_with_blocks, Read, Program, Erase, read_count_of_call, are_possible_blocks_after_interrupted_call, read_count_of_history, program_count_of_history, erase_count_of_history, fault_count_of_history, is_byte_unprogrammed, is_byte_unprogrammed_after_call, AreBytesUnprogrammed, AreBytesStillUnprogrammed, IsTrueOfEachCall, IsTrueOfEachCallSince, IsReadThatKeepsBlocks, AreCallsSinceOnlyReads, ArePossibleBlocksAfterPowerLossInCall, IsTrueAfterAnyPowerLossSince}
 
 -- Calls that all have P: none yet, one more, those of another stretch, and what P implies.
 
-pub began : {P : CallEvent → Type 0} {old : List CallEvent} → IsTrueOfEachCallSince P old old
+pub began : {P : DeviceCallEvent → Type 0} {old : List DeviceCallEvent} → IsTrueOfEachCallSince P old old
 began = record { events = []; extends = refl; each = tt }
 
-pub goes_on : {P : CallEvent → Type 0} {old mid new : List CallEvent} {e : CallEvent} → IsTrueOfEachCallSince P old mid → new ≡ e ∷ mid → P e → IsTrueOfEachCallSince P old new
+pub goes_on : {P : DeviceCallEvent → Type 0} {old mid new : List DeviceCallEvent} {e : DeviceCallEvent} → IsTrueOfEachCallSince P old mid → new ≡ e ∷ mid → P e → IsTrueOfEachCallSince P old new
 goes_on {e = e} so_far is here = record {
   events = e ∷ so_far.events;
-  extends = is ∙ ap (λ (l : List CallEvent). e ∷ l) so_far.extends;
+  extends = is ∙ ap (λ (l : List DeviceCallEvent). e ∷ l) so_far.extends;
   each = (here, so_far.each);
 }
 
-IsTrueOfEachCall-append : (P : CallEvent → Type 0) (first second : List CallEvent) → IsTrueOfEachCall P first → IsTrueOfEachCall P second → IsTrueOfEachCall P (first ++ second)
+IsTrueOfEachCall-append : (P : DeviceCallEvent → Type 0) (first second : List DeviceCallEvent) → IsTrueOfEachCall P first → IsTrueOfEachCall P second → IsTrueOfEachCall P (first ++ second)
 IsTrueOfEachCall-append P [] second a b = b
 IsTrueOfEachCall-append P (e ∷ first) second a b = (a.0, IsTrueOfEachCall-append P first second a.1 b)
 
-pub goes_on_by : {P : CallEvent → Type 0} {old mid new : List CallEvent} → IsTrueOfEachCallSince P old mid → IsTrueOfEachCallSince P mid new → IsTrueOfEachCallSince P old new
+pub goes_on_by : {P : DeviceCallEvent → Type 0} {old mid new : List DeviceCallEvent} → IsTrueOfEachCallSince P old mid → IsTrueOfEachCallSince P mid new → IsTrueOfEachCallSince P old new
 goes_on_by {P} {old} first second = record {
   events = second.events ++ first.events;
-  extends = second.extends ∙ ap (λ (l : List CallEvent). second.events ++ l) first.extends ∙ sym (append_assoc second.events first.events old);
+  extends = second.extends ∙ ap (λ (l : List DeviceCallEvent). second.events ++ l) first.extends ∙ sym (append_assoc second.events first.events old);
   each = IsTrueOfEachCall-append P second.events first.events second.each first.each;
 }
 
-IsTrueOfEachCall-weaker : (P Q : CallEvent → Type 0) (events : List CallEvent) → ((e : CallEvent) → P e → Q e) → IsTrueOfEachCall P events → IsTrueOfEachCall Q events
+IsTrueOfEachCall-weaker : (P Q : DeviceCallEvent → Type 0) (events : List DeviceCallEvent) → ((e : DeviceCallEvent) → P e → Q e) → IsTrueOfEachCall P events → IsTrueOfEachCall Q events
 IsTrueOfEachCall-weaker P Q [] of all = tt
 IsTrueOfEachCall-weaker P Q (e ∷ events) of all = (of e all.0, IsTrueOfEachCall-weaker P Q events of all.1)
 
-pub IsTrueOfEachCallSince-weaker : {P Q : CallEvent → Type 0} {old new : List CallEvent} → ((e : CallEvent) → P e → Q e) → IsTrueOfEachCallSince P old new → IsTrueOfEachCallSince Q old new
+pub IsTrueOfEachCallSince-weaker : {P Q : DeviceCallEvent → Type 0} {old new : List DeviceCallEvent} → ((e : DeviceCallEvent) → P e → Q e) → IsTrueOfEachCallSince P old new → IsTrueOfEachCallSince Q old new
 IsTrueOfEachCallSince-weaker {P} {Q} of since = record { events = since.events; extends = since.extends; each = IsTrueOfEachCall-weaker P Q since.events of since.each }
 
 -- What holds of all calls holds of those up to a history between, of those after it, and of the only one.
 
-same_events : {P Q R : CallEvent → Type 0} {old mid new : List CallEvent} (all : IsTrueOfEachCallSince P old new) (first : IsTrueOfEachCallSince Q old mid) (second : IsTrueOfEachCallSince R mid new) → all.events ≡ second.events ++ first.events
+same_events : {P Q R : DeviceCallEvent → Type 0} {old mid new : List DeviceCallEvent} (all : IsTrueOfEachCallSince P old new) (first : IsTrueOfEachCallSince Q old mid) (second : IsTrueOfEachCallSince R mid new) → all.events ≡ second.events ++ first.events
 same_events {old = old} all first second =
     append_cancel_right all.events (second.events ++ first.events) old
-    (sym all.extends ∙ second.extends ∙ ap (λ (l : List CallEvent). second.events ++ l) first.extends ∙ sym (append_assoc second.events first.events old))
+    (sym all.extends ∙ second.extends ∙ ap (λ (l : List DeviceCallEvent). second.events ++ l) first.extends ∙ sym (append_assoc second.events first.events old))
 
-IsTrueOfEachCall-parts : (P : CallEvent → Type 0) (first second : List CallEvent) → IsTrueOfEachCall P (first ++ second) → IsTrueOfEachCall P first × IsTrueOfEachCall P second
+IsTrueOfEachCall-parts : (P : DeviceCallEvent → Type 0) (first second : List DeviceCallEvent) → IsTrueOfEachCall P (first ++ second) → IsTrueOfEachCall P first × IsTrueOfEachCall P second
 IsTrueOfEachCall-parts P [] second all = (tt, all)
 IsTrueOfEachCall-parts P (e ∷ first) second all = let rest = IsTrueOfEachCall-parts P first second all.1 in ((all.0, rest.0), rest.1)
 
-pub IsTrueOfEachCallSince-until : {P Q R : CallEvent → Type 0} {old mid new : List CallEvent} → IsTrueOfEachCallSince P old new → IsTrueOfEachCallSince Q old mid → IsTrueOfEachCallSince R mid new → IsTrueOfEachCallSince P old mid
+pub IsTrueOfEachCallSince-until : {P Q R : DeviceCallEvent → Type 0} {old mid new : List DeviceCallEvent} → IsTrueOfEachCallSince P old new → IsTrueOfEachCallSince Q old mid → IsTrueOfEachCallSince R mid new → IsTrueOfEachCallSince P old mid
 IsTrueOfEachCallSince-until {P} all first second = record {
   events = first.events;
   extends = first.extends;
   each = (IsTrueOfEachCall-parts P second.events first.events (subst (IsTrueOfEachCall P) (same_events all first second) all.each)).1;
 }
 
-pub IsTrueOfEachCallSince-behind : {P Q R : CallEvent → Type 0} {old mid new : List CallEvent} → IsTrueOfEachCallSince P old new → IsTrueOfEachCallSince Q old mid → IsTrueOfEachCallSince R mid new → IsTrueOfEachCallSince P mid new
+pub IsTrueOfEachCallSince-behind : {P Q R : DeviceCallEvent → Type 0} {old mid new : List DeviceCallEvent} → IsTrueOfEachCallSince P old new → IsTrueOfEachCallSince Q old mid → IsTrueOfEachCallSince R mid new → IsTrueOfEachCallSince P mid new
 IsTrueOfEachCallSince-behind {P} all first second = record {
   events = second.events;
   extends = second.extends;
   each = (IsTrueOfEachCall-parts P second.events first.events (subst (IsTrueOfEachCall P) (same_events all first second) all.each)).0;
 }
 
-pub IsTrueOfEachCallSince-only : {P : CallEvent → Type 0} {old new : List CallEvent} {e : CallEvent} → IsTrueOfEachCallSince P old new → new ≡ e ∷ old → P e
+pub IsTrueOfEachCallSince-only : {P : DeviceCallEvent → Type 0} {old new : List DeviceCallEvent} {e : DeviceCallEvent} → IsTrueOfEachCallSince P old new → new ≡ e ∷ old → P e
 IsTrueOfEachCallSince-only {P} {old} {new} {e} all is = (subst (IsTrueOfEachCall P) (append_cancel_right all.events (e ∷ []) old (sym all.extends ∙ is)) all.each).0
 
 -- What a stop leaves, over one call more, over another stretch, and what that implies.
 
-pub IsTrueAfterEachStopSince-trans : {stops : CallEvent → Blocks → Type 0} {P : Blocks → Type 0} {old mid new : List CallEvent} → IsTrueAfterEachStopSince stops old mid P → IsTrueAfterEachStopSince stops mid new P → IsTrueAfterEachStopSince stops old new P
-IsTrueAfterEachStopSince-trans first second = goes_on_by first second
+pub IsTrueAfterAnyPowerLossSince-trans : {stops : DeviceCallEvent → Blocks → Type 0} {P : Blocks → Type 0} {old mid new : List DeviceCallEvent} → IsTrueAfterAnyPowerLossSince stops old mid P → IsTrueAfterAnyPowerLossSince stops mid new P → IsTrueAfterAnyPowerLossSince stops old new P
+IsTrueAfterAnyPowerLossSince-trans first second = goes_on_by first second
 
-pub IsTrueAfterEachStopSince-weaker : {stops : CallEvent → Blocks → Type 0} {P Q : Blocks → Type 0} {old new : List CallEvent}
-    → ((disk : Blocks) → P disk → Q disk) → IsTrueAfterEachStopSince stops old new P → IsTrueAfterEachStopSince stops old new Q
-IsTrueAfterEachStopSince-weaker of leaves = IsTrueOfEachCallSince-weaker (λ e here disk left. of disk (here disk left)) leaves
+pub IsTrueAfterAnyPowerLossSince-weaker : {stops : DeviceCallEvent → Blocks → Type 0} {P Q : Blocks → Type 0} {old new : List DeviceCallEvent}
+    → ((disk : Blocks) → P disk → Q disk) → IsTrueAfterAnyPowerLossSince stops old new P → IsTrueAfterAnyPowerLossSince stops old new Q
+IsTrueAfterAnyPowerLossSince-weaker of leaves = IsTrueOfEachCallSince-weaker (λ e here disk left. of disk (here disk left)) leaves
 
 -- Counts never fall.
 
-reads-append : (events old : List CallEvent) → reads old ≤ reads (events ++ old)
-reads-append [] old = omega arith
-reads-append (e ∷ events) old = let rest = reads-append events old in omega arith
+read_count_of_history-append : (events old : List DeviceCallEvent) → read_count_of_history old ≤ read_count_of_history (events ++ old)
+read_count_of_history-append [] old = omega arith
+read_count_of_history-append (e ∷ events) old = let rest = read_count_of_history-append events old in omega arith
 
-faults-append : (events old : List CallEvent) → faults old ≤ faults (events ++ old)
-faults-append [] old = omega arith
-faults-append (e ∷ events) old = let rest = faults-append events old in omega arith
+fault_count_of_history-append : (events old : List DeviceCallEvent) → fault_count_of_history old ≤ fault_count_of_history (events ++ old)
+fault_count_of_history-append [] old = omega arith
+fault_count_of_history-append (e ∷ events) old = let rest = fault_count_of_history-append events old in omega arith
 
-pub reads-since : {P : CallEvent → Type 0} {old new : List CallEvent} → IsTrueOfEachCallSince P old new → reads old ≤ reads new
-reads-since {old = old} since = rw since.extends (reads-append since.events old)
+pub read_count_of_history-since : {P : DeviceCallEvent → Type 0} {old new : List DeviceCallEvent} → IsTrueOfEachCallSince P old new → read_count_of_history old ≤ read_count_of_history new
+read_count_of_history-since {old = old} since = rw since.extends (read_count_of_history-append since.events old)
 
-pub faults-since : {P : CallEvent → Type 0} {old new : List CallEvent} → IsTrueOfEachCallSince P old new → faults old ≤ faults new
-faults-since {old = old} since = rw since.extends (faults-append since.events old)
+pub fault_count_of_history-since : {P : DeviceCallEvent → Type 0} {old new : List DeviceCallEvent} → IsTrueOfEachCallSince P old new → fault_count_of_history old ≤ fault_count_of_history new
+fault_count_of_history-since {old = old} since = rw since.extends (fault_count_of_history-append since.events old)
 
 -- Where all calls are reads, nothing is written, and a stop leaves what is there.
 
-pub AreCallsSinceOnlyReads-read : {blocks : Blocks} {old mid new : List CallEvent} {block off len : ℕ} {before after : Blocks} {failed : Bool}
-    → AreCallsSinceOnlyReads blocks old mid → new ≡ call_event_with (Read block off len) before after failed ∷ mid → before ≡ blocks → after ≡ blocks → AreCallsSinceOnlyReads blocks old new
+pub AreCallsSinceOnlyReads-read : {blocks : Blocks} {old mid new : List DeviceCallEvent} {block off len : ℕ} {before after : Blocks} {failed : Bool}
+    → AreCallsSinceOnlyReads blocks old mid → new ≡ device_call_event_with_blocks (Read block off len) before after failed ∷ mid → before ≡ blocks → after ≡ blocks → AreCallsSinceOnlyReads blocks old new
 AreCallsSinceOnlyReads-read so_far is was stays = goes_on so_far is (record { reads = refl; before = was; after = stays })
 
 -- another stretch of reads, of the same blocks
-pub AreCallsSinceOnlyReads-trans : {blocks same : Blocks} {old mid new : List CallEvent} → AreCallsSinceOnlyReads blocks old mid → AreCallsSinceOnlyReads same mid new → same ≡ blocks → AreCallsSinceOnlyReads blocks old new
+pub AreCallsSinceOnlyReads-trans : {blocks same : Blocks} {old mid new : List DeviceCallEvent} → AreCallsSinceOnlyReads blocks old mid → AreCallsSinceOnlyReads same mid new → same ≡ blocks → AreCallsSinceOnlyReads blocks old new
 AreCallsSinceOnlyReads-trans {mid = mid} {new = new} first second is = goes_on_by first (subst (λ d. AreCallsSinceOnlyReads d mid new) is second)
 
-writes_in_read : (call : Call) → read_count_of_call call ≡ 1 → (program_count_of_history (call_event_with call [] [] false ∷ []) ≡ 0) × (erases (call_event_with call [] [] false ∷ []) ≡ 0)
+writes_in_read : (call : DeviceCall) → read_count_of_call call ≡ 1 → (program_count_of_history (device_call_event_with_blocks call [] [] false ∷ []) ≡ 0) × (erase_count_of_history (device_call_event_with_blocks call [] [] false ∷ []) ≡ 0)
 writes_in_read (Read block off len) is = (refl, refl)
 writes_in_read (Program block off bytes) is = absurd (cc)
 writes_in_read (Erase block) is = absurd (cc)
 
-programs_in_reads : (blocks : Blocks) (events old : List CallEvent) → IsTrueOfEachCall (IsReadThatKeepsBlocks blocks) events → program_count_of_history (events ++ old) ≡ program_count_of_history old
+programs_in_reads : (blocks : Blocks) (events old : List DeviceCallEvent) → IsTrueOfEachCall (IsReadThatKeepsBlocks blocks) events → program_count_of_history (events ++ old) ≡ program_count_of_history old
 programs_in_reads blocks [] old each = refl
 programs_in_reads blocks (e ∷ events) old each =
     let here = (writes_in_read e.call each.0.reads).0 in
     let rest = programs_in_reads blocks events old each.1 in
     omega arith
 
-erases_in_reads : (blocks : Blocks) (events old : List CallEvent) → IsTrueOfEachCall (IsReadThatKeepsBlocks blocks) events → erases (events ++ old) ≡ erases old
+erases_in_reads : (blocks : Blocks) (events old : List DeviceCallEvent) → IsTrueOfEachCall (IsReadThatKeepsBlocks blocks) events → erase_count_of_history (events ++ old) ≡ erase_count_of_history old
 erases_in_reads blocks [] old each = refl
 erases_in_reads blocks (e ∷ events) old each =
     let here = (writes_in_read e.call each.0.reads).1 in
     let rest = erases_in_reads blocks events old each.1 in
     omega arith
 
-unprogrammed_by_read : (call : Call) (failed : Bool) (block k : ℕ) (was : Bool) → read_count_of_call call ≡ 1 → is_byte_unprogrammed_after_call call failed block k was ≡ was
+unprogrammed_by_read : (call : DeviceCall) (failed : Bool) (block k : ℕ) (was : Bool) → read_count_of_call call ≡ 1 → is_byte_unprogrammed_after_call call failed block k was ≡ was
 unprogrammed_by_read (Read at off len) failed block k was is = refl
 unprogrammed_by_read (Program at off bytes) failed block k was is = absurd (cc)
 unprogrammed_by_read (Erase at) failed block k was is = absurd (cc)
 
-unprogrammed_in_reads : (blocks : Blocks) (events old : List CallEvent) (block k : ℕ) → IsTrueOfEachCall (IsReadThatKeepsBlocks blocks) events → unprogrammed (events ++ old) block k ≡ unprogrammed old block k
+unprogrammed_in_reads : (blocks : Blocks) (events old : List DeviceCallEvent) (block k : ℕ) → IsTrueOfEachCall (IsReadThatKeepsBlocks blocks) events → is_byte_unprogrammed (events ++ old) block k ≡ is_byte_unprogrammed old block k
 unprogrammed_in_reads blocks [] old block k each = refl
-unprogrammed_in_reads blocks (e ∷ events) old block k each = unprogrammed_by_read e.call e.failed block k (unprogrammed (events ++ old) block k) each.0.reads ∙ unprogrammed_in_reads blocks events old block k each.1
+unprogrammed_in_reads blocks (e ∷ events) old block k each = unprogrammed_by_read e.call e.failed block k (is_byte_unprogrammed (events ++ old) block k) each.0.reads ∙ unprogrammed_in_reads blocks events old block k each.1
 
-pub program_count_of_history-reads : {blocks : Blocks} {old new : List CallEvent} → AreCallsSinceOnlyReads blocks old new → program_count_of_history new ≡ program_count_of_history old
-program_count_of_history-reads {blocks} {old} since = ap program_count_of_history since.extends ∙ programs_in_reads blocks since.events old since.each
+pub program_count_of_history-read_count_of_history : {blocks : Blocks} {old new : List DeviceCallEvent} → AreCallsSinceOnlyReads blocks old new → program_count_of_history new ≡ program_count_of_history old
+program_count_of_history-read_count_of_history {blocks} {old} since = ap program_count_of_history since.extends ∙ programs_in_reads blocks since.events old since.each
 
-pub erases-reads : {blocks : Blocks} {old new : List CallEvent} → AreCallsSinceOnlyReads blocks old new → erases new ≡ erases old
-erases-reads {blocks} {old} since = ap erases since.extends ∙ erases_in_reads blocks since.events old since.each
+pub erase_count_of_history-read_count_of_history : {blocks : Blocks} {old new : List DeviceCallEvent} → AreCallsSinceOnlyReads blocks old new → erase_count_of_history new ≡ erase_count_of_history old
+erase_count_of_history-read_count_of_history {blocks} {old} since = ap erase_count_of_history since.extends ∙ erases_in_reads blocks since.events old since.each
 
-pub unprogrammed-reads : {blocks : Blocks} {old new : List CallEvent} (block k : ℕ) → AreCallsSinceOnlyReads blocks old new → unprogrammed new block k ≡ unprogrammed old block k
-unprogrammed-reads {blocks} {old} block k since = ap (λ (h : List CallEvent). unprogrammed h block k) since.extends ∙ unprogrammed_in_reads blocks since.events old block k since.each
+pub is_byte_unprogrammed-read_count_of_history : {blocks : Blocks} {old new : List DeviceCallEvent} (block k : ℕ) → AreCallsSinceOnlyReads blocks old new → is_byte_unprogrammed new block k ≡ is_byte_unprogrammed old block k
+is_byte_unprogrammed-read_count_of_history {blocks} {old} block k since = ap (λ (h : List DeviceCallEvent). is_byte_unprogrammed h block k) since.extends ∙ unprogrammed_in_reads blocks since.events old block k since.each
 
-pub AreBytesUnprogrammed-reads : {blocks : Blocks} {old new : List CallEvent} {low high : ℕ} (block : ℕ) → AreCallsSinceOnlyReads blocks old new → AreBytesUnprogrammed old block low high → AreBytesUnprogrammed new block low high
-AreBytesUnprogrammed-reads block since was k above below = unprogrammed-reads block k since ∙ was k above below
+pub AreBytesUnprogrammed-read_count_of_history : {blocks : Blocks} {old new : List DeviceCallEvent} {low high : ℕ} (block : ℕ) → AreCallsSinceOnlyReads blocks old new → AreBytesUnprogrammed old block low high → AreBytesUnprogrammed new block low high
+AreBytesUnprogrammed-read_count_of_history block since was k above below = is_byte_unprogrammed-read_count_of_history block k since ∙ was k above below
 
 -- under any statement of stops in which a stopped read leaves the disk alone
-pub IsTrueAfterEachStopSince-reads : {stops : CallEvent → Blocks → Type 0} {P : Blocks → Type 0} {blocks : Blocks} {old new : List CallEvent}
-    → ((e : CallEvent) (disk : Blocks) → read_count_of_call e.call ≡ 1 → stops e disk → disk ≡ e.before) → AreCallsSinceOnlyReads blocks old new → P blocks → IsTrueAfterEachStopSince stops old new P
-IsTrueAfterEachStopSince-reads {P = P} stopped since here = IsTrueOfEachCallSince-weaker (λ e is disk left. subst P (sym (stopped e disk is.reads left ∙ is.before)) here) since
+pub IsTrueAfterAnyPowerLossSince-read_count_of_history : {stops : DeviceCallEvent → Blocks → Type 0} {P : Blocks → Type 0} {blocks : Blocks} {old new : List DeviceCallEvent}
+    → ((e : DeviceCallEvent) (disk : Blocks) → read_count_of_call e.call ≡ 1 → stops e disk → disk ≡ e.before) → AreCallsSinceOnlyReads blocks old new → P blocks → IsTrueAfterAnyPowerLossSince stops old new P
+IsTrueAfterAnyPowerLossSince-read_count_of_history {P = P} stopped since here = IsTrueOfEachCallSince-weaker (λ e is disk left. subst P (sym (stopped e disk is.reads left ∙ is.before)) here) since
 
-pub IsWorstOutcomeOfStop-read : (e : CallEvent) (disk : Blocks) → read_count_of_call e.call ≡ 1 → IsWorstOutcomeOfStop e disk → disk ≡ e.before
-IsWorstOutcomeOfStop-read e = at_call e.call e.before
+pub ArePossibleBlocksAfterPowerLossInCall-read : (e : DeviceCallEvent) (disk : Blocks) → read_count_of_call e.call ≡ 1 → ArePossibleBlocksAfterPowerLossInCall e disk → disk ≡ e.before
+ArePossibleBlocksAfterPowerLossInCall-read e = at_call e.call e.before
   where
-    at_call : (call : Call) (before disk : Blocks) → read_count_of_call call ≡ 1 → is_worst_outcome_of_stopped_call call before disk → disk ≡ before
+    at_call : (call : DeviceCall) (before disk : Blocks) → read_count_of_call call ≡ 1 → are_possible_blocks_after_interrupted_call call before disk → disk ≡ before
     at_call (Read block off len) before disk is left = left
     at_call (Program block off bytes) before disk is left = absurd (cc)
     at_call (Erase block) before disk is left = absurd (cc)
 
-pub IsLeftByStopIn-read : (e : CallEvent) (disk : Blocks) → read_count_of_call e.call ≡ 1 → IsLeftByStopIn e disk → disk ≡ e.before
-IsLeftByStopIn-read e = at_call e.call e.before
+pub AreBlocksLeftByPowerLossInCall-read : (e : DeviceCallEvent) (disk : Blocks) → read_count_of_call e.call ≡ 1 → AreBlocksLeftByPowerLossInCall e disk → disk ≡ e.before
+AreBlocksLeftByPowerLossInCall-read e = at_call e.call e.before
   where
-    at_call : (call : Call) (before disk : Blocks) → read_count_of_call call ≡ 1 → is_left_by_stop_in call before disk → disk ≡ before
+    at_call : (call : DeviceCall) (before disk : Blocks) → read_count_of_call call ≡ 1 → are_blocks_after_stopped_call call before disk → disk ≡ before
     at_call (Read block off len) before disk is left = left
     at_call (Program block off bytes) before disk is left = absurd (cc)
     at_call (Erase block) before disk is left = absurd (cc)
 
 -- Which bytes are unprogrammed after a call.
 
-pub AreBytesUnprogrammed-part : (history : List CallEvent) (block : ℕ) {low high from to : ℕ} → AreBytesUnprogrammed history block low high → low ≤ from → to ≤ high → AreBytesUnprogrammed history block from to
+pub AreBytesUnprogrammed-part : (history : List DeviceCallEvent) (block : ℕ) {low high from to : ℕ} → AreBytesUnprogrammed history block low high → low ≤ from → to ≤ high → AreBytesUnprogrammed history block from to
 AreBytesUnprogrammed-part history block was above below k from to = was k (omega arith) (omega arith)
 
 -- after an erase each byte of the block
-pub unprogrammed-erase : {old new : List CallEvent} {block low high : ℕ} {before after : Blocks} → new ≡ call_event_with (Erase block) before after false ∷ old → AreBytesUnprogrammed new block low high
-unprogrammed-erase {block = block} is k above below = ap (λ (h : List CallEvent). unprogrammed h block k) is ∙ grind (arith, nat_tests)
+pub is_byte_unprogrammed-erase : {old new : List DeviceCallEvent} {block low high : ℕ} {before after : Blocks} → new ≡ device_call_event_with_blocks (Erase block) before after false ∷ old → AreBytesUnprogrammed new block low high
+is_byte_unprogrammed-erase {block = block} is k above below = ap (λ (h : List DeviceCallEvent). is_byte_unprogrammed h block k) is ∙ grind (arith, nat_tests)
 
 -- after a program the bytes after it, also one that failed
-pub unprogrammed-program : {old new : List CallEvent} {block off : ℕ} {bytes : List ℕ} {before after : Blocks} {failed : Bool} {low high later : ℕ} → new ≡ call_event_with (Program block off bytes) before after failed ∷ old
+pub is_byte_unprogrammed-program : {old new : List DeviceCallEvent} {block off : ℕ} {bytes : List ℕ} {before after : Blocks} {failed : Bool} {low high later : ℕ} → new ≡ device_call_event_with_blocks (Program block off bytes) before after failed ∷ old
     → AreBytesUnprogrammed old block low high → low ≤ later → off + length bytes ≤ later → AreBytesUnprogrammed new block later high
-unprogrammed-program {old} {block = block} {off = off} {bytes = bytes} is was le behind k above below =
-    let still : unprogrammed old block k ≡ true = was k (omega arith) below in
+is_byte_unprogrammed-program {old} {block = block} {off = off} {bytes = bytes} is was le behind k above below =
+    let still : is_byte_unprogrammed old block k ≡ true = was k (omega arith) below in
     let past : nat_lt k (off + length bytes) ≡ false = grind (arith, nat_tests) in
-    ap (λ (h : List CallEvent). unprogrammed h block k) is ∙ grind (arith, nat_tests, still, past)
+    ap (λ (h : List DeviceCallEvent). is_byte_unprogrammed h block k) is ∙ grind (arith, nat_tests, still, past)
 
 -- What was unprogrammed outside some blocks and still is.
 
-pub AreBytesStillUnprogrammed-refl : (bs : List ℕ) (history : List CallEvent) → AreBytesStillUnprogrammed bs history history
+pub AreBytesStillUnprogrammed-refl : (bs : List ℕ) (history : List DeviceCallEvent) → AreBytesStillUnprogrammed bs history history
 AreBytesStillUnprogrammed-refl bs history = record { stays = λ b k apart was. was }
 
-pub AreBytesStillUnprogrammed-trans : {bs : List ℕ} {old mid new : List CallEvent} → AreBytesStillUnprogrammed bs old mid → AreBytesStillUnprogrammed bs mid new → AreBytesStillUnprogrammed bs old new
+pub AreBytesStillUnprogrammed-trans : {bs : List ℕ} {old mid new : List DeviceCallEvent} → AreBytesStillUnprogrammed bs old mid → AreBytesStillUnprogrammed bs mid new → AreBytesStillUnprogrammed bs old new
 AreBytesStillUnprogrammed-trans first second = record { stays = λ b k apart was. second.stays b k apart (first.stays b k apart was) }
 
 -- outside more blocks
-pub AreBytesStillUnprogrammed-wider : {bs : List ℕ} (cs : List ℕ) {old new : List CallEvent} → ((b : ℕ) → All (λ c. c ≢ b) cs → All (λ c. c ≢ b) bs) → AreBytesStillUnprogrammed bs old new → AreBytesStillUnprogrammed cs old new
+pub AreBytesStillUnprogrammed-wider : {bs : List ℕ} (cs : List ℕ) {old new : List DeviceCallEvent} → ((b : ℕ) → All (λ c. c ≢ b) cs → All (λ c. c ≢ b) bs) → AreBytesStillUnprogrammed bs old new → AreBytesStillUnprogrammed cs old new
 AreBytesStillUnprogrammed-wider cs among same = record { stays = λ b k apart was. same.stays b k (among b apart) was }
 
-pub AreBytesStillUnprogrammed-reads : (bs : List ℕ) {blocks : Blocks} {old new : List CallEvent} → AreCallsSinceOnlyReads blocks old new → AreBytesStillUnprogrammed bs old new
-AreBytesStillUnprogrammed-reads bs since = record { stays = λ b k apart was. unprogrammed-reads b k since ∙ was }
+pub AreBytesStillUnprogrammed-read_count_of_history : (bs : List ℕ) {blocks : Blocks} {old new : List DeviceCallEvent} → AreCallsSinceOnlyReads blocks old new → AreBytesStillUnprogrammed bs old new
+AreBytesStillUnprogrammed-read_count_of_history bs since = record { stays = λ b k apart was. is_byte_unprogrammed-read_count_of_history b k since ∙ was }
 
-pub AreBytesStillUnprogrammed-erase : {old new : List CallEvent} {erased : ℕ} {before after : Blocks} {failed : Bool} → new ≡ call_event_with (Erase erased) before after failed ∷ old → AreBytesStillUnprogrammed (erased ∷ []) old new
+pub AreBytesStillUnprogrammed-erase : {old new : List DeviceCallEvent} {erased : ℕ} {before after : Blocks} {failed : Bool} → new ≡ device_call_event_with_blocks (Erase erased) before after failed ∷ old → AreBytesStillUnprogrammed (erased ∷ []) old new
 AreBytesStillUnprogrammed-erase {old} {new} {erased} is = record { stays = step }
   where
-    step : (b k : ℕ) → All (λ c. c ≢ b) (erased ∷ []) → unprogrammed old b k ≡ true → unprogrammed new b k ≡ true
+    step : (b k : ℕ) → All (λ c. c ≢ b) (erased ∷ []) → is_byte_unprogrammed old b k ≡ true → is_byte_unprogrammed new b k ≡ true
     step b k apart was =
         let differs : erased ≢ b = apart 0 0 (omega arith) in
         let other : (b == erased) ≡ false = grind (arith, nat_tests, differs) in
-        ap (λ (h : List CallEvent). unprogrammed h b k) is ∙ grind (arith, nat_tests, was, other)
+        ap (λ (h : List DeviceCallEvent). is_byte_unprogrammed h b k) is ∙ grind (arith, nat_tests, was, other)
 
-pub AreBytesStillUnprogrammed-program : {old new : List CallEvent} {programmed off : ℕ} {bytes : List ℕ} {before after : Blocks} {failed : Bool} → new ≡ call_event_with (Program programmed off bytes) before after failed ∷ old
+pub AreBytesStillUnprogrammed-program : {old new : List DeviceCallEvent} {programmed off : ℕ} {bytes : List ℕ} {before after : Blocks} {failed : Bool} → new ≡ device_call_event_with_blocks (Program programmed off bytes) before after failed ∷ old
     → AreBytesStillUnprogrammed (programmed ∷ []) old new
 AreBytesStillUnprogrammed-program {old} {new} {programmed} is = record { stays = step }
   where
-    step : (b k : ℕ) → All (λ c. c ≢ b) (programmed ∷ []) → unprogrammed old b k ≡ true → unprogrammed new b k ≡ true
+    step : (b k : ℕ) → All (λ c. c ≢ b) (programmed ∷ []) → is_byte_unprogrammed old b k ≡ true → is_byte_unprogrammed new b k ≡ true
     step b k apart was =
         let differs : programmed ≢ b = apart 0 0 (omega arith) in
         let other : (b == programmed) ≡ false = grind (arith, nat_tests, differs) in
-        ap (λ (h : List CallEvent). unprogrammed h b k) is ∙ grind (arith, nat_tests, was, other)
+        ap (λ (h : List DeviceCallEvent). is_byte_unprogrammed h b k) is ∙ grind (arith, nat_tests, was, other)
 
 -- where a part of a block is unprogrammed and stays so
-pub AreBytesUnprogrammed-stays : {bs : List ℕ} {old new : List CallEvent} {low high : ℕ} (block : ℕ) → AreBytesStillUnprogrammed bs old new → All (λ c. c ≢ block) bs → AreBytesUnprogrammed old block low high → AreBytesUnprogrammed new block low high
+pub AreBytesUnprogrammed-stays : {bs : List ℕ} {old new : List DeviceCallEvent} {low high : ℕ} (block : ℕ) → AreBytesStillUnprogrammed bs old new → All (λ c. c ≢ block) bs → AreBytesUnprogrammed old block low high → AreBytesUnprogrammed new block low high
 AreBytesUnprogrammed-stays block same apart was k above below = same.stays block k apart (was k above below)
 
 -- what a stop leaves in the sharper sense it leaves at worst
-pub IsLeftByStopIn-worst : (e : CallEvent) (disk : Blocks) → IsLeftByStopIn e disk → IsWorstOutcomeOfStop e disk
-IsLeftByStopIn-worst e = at_call e.call e.before
+pub AreBlocksLeftByPowerLossInCall-worst : (e : DeviceCallEvent) (disk : Blocks) → AreBlocksLeftByPowerLossInCall e disk → ArePossibleBlocksAfterPowerLossInCall e disk
+AreBlocksLeftByPowerLossInCall-worst e = at_call e.call e.before
   where
-    at_call : (call : Call) (before disk : Blocks) → is_left_by_stop_in call before disk → is_worst_outcome_of_stopped_call call before disk
+    at_call : (call : DeviceCall) (before disk : Blocks) → are_blocks_after_stopped_call call before disk → are_possible_blocks_after_interrupted_call call before disk
     at_call (Read block off len) before disk left = left
     at_call (Program block off bytes) before disk left = left.0
     at_call (Erase block) before disk left = left.0
 
-pub IsTrueAfterEachStopSince-worst : {P : Blocks → Type 0} {old new : List CallEvent} → IsTrueAfterEachStopSince IsWorstOutcomeOfStop old new P → IsTrueAfterEachStopSince IsLeftByStopIn old new P
-IsTrueAfterEachStopSince-worst since = IsTrueOfEachCallSince-weaker (λ e worst disk left. worst disk (IsLeftByStopIn-worst e disk left)) since
+pub IsTrueAfterAnyPowerLossSince-worst : {P : Blocks → Type 0} {old new : List DeviceCallEvent} → IsTrueAfterAnyPowerLossSince ArePossibleBlocksAfterPowerLossInCall old new P → IsTrueAfterAnyPowerLossSince AreBlocksLeftByPowerLossInCall old new P
+IsTrueAfterAnyPowerLossSince-worst since = IsTrueOfEachCallSince-weaker (λ e worst disk left. worst disk (AreBlocksLeftByPowerLossInCall-worst e disk left)) since

@@ -7,26 +7,26 @@ use Rattle.lfs_model.specs.Slots.{Slot, Struct, Inline, Ctz, Branch, Attributes}
 use Rattle.lfs_model.specs.Thread.{Pair}
 use Rattle.lfs_model.specs.Tree.{Path, Node, Tree, branch_address_of_struct, node_of_struct_and_attributes}
 use Rattle.lfs_model.specs.Shown.{skip_list_bytes_on_disk, entries_by_directory_in_thread, tree_on_disk}
-use Rattle.lfs_model.specs.TreeEdits.{same_path, path_without_prefix, is_file, tree_after_creation, tree_after_removal, renamed, tree_after_change_of_node}
+use Rattle.lfs_model.specs.TreeEdits.{same_path, path_without_prefix, is_file, tree_after_creation, tree_after_removal, tree_after_rename, tree_after_change_of_node}
 use Rattle.lfs_model.specs.Operations as ops
 use Rattle.lfs_model.specs.Operations.{Operation}
-use Rattle.lfs_model.specs.Session.{Session, Writing, Writer, open_file_of}
-use Rattle.lfs_model.specs.Refusals.{path_or_root}
+use Rattle.lfs_model.specs.Session.{Session, Writing, FileWriter, open_file_with_number}
+use Rattle.lfs_model.specs.Refusals.{path_of_bytes_or_root}
 use Rattle.lfs_model.specs.Effects.{node_with_bytes}
 use Rattle.lfs_model.specs.SlotEdits.{slot_of_path}
-use Rattle.lfs_model.specs.Keeping.{removes_or_moves_path, is_open_file_at_path, may_store_contents_at_path, struct_of_path, KeepsStructsOfUntouchedFiles}
+use Rattle.lfs_model.specs.Keeping.{removes_or_moves_path_or_ancestor, is_optional_open_file_at_path, may_store_contents_at_path, struct_of_path, KeepsStructsOfUntouchedFiles}
 use Rattle.lfs_model.proofs.Paths.{Paths, path_alike, path_unlike, paths}
 use Rattle.lfs_model.proofs.Trees.{not_before}
-use Rattle.lfs_model.proofs.Laws.{Walk}
-use Rattle.lfs_model.proofs.LeftFiles.{LeavesBytes, StaysFile, added_leaves, removed_leaves, renamed_leaves, change_leaves}
-use Rattle.lfs_model.proofs.Changes.{Follows}
+use Rattle.lfs_model.proofs.Laws.{DirectoryAddressByPath}
+use Rattle.lfs_model.proofs.LeftFiles.{LeavesBytesOfFileAtPathUnchanged, KeepsStructOfFileSlot, added_leaves, removed_leaves, renamed_leaves, change_leaves}
+use Rattle.lfs_model.proofs.Changes.{IsImageAfterTreeChange}
 
 -- what the change makes of a tree leaves the bytes of the files that the operation isn't about
 abbrev pub LeavesFiles : Tree → Session → Operation → (Tree → Tree) → Type 0
-LeavesFiles t s op change = (q : Path) → is_file (t q) ≡ true → removes_or_moves_path op q ≡ false → may_store_contents_at_path s op q ≡ false → LeavesBytes change q
+LeavesFiles t s op change = (q : Path) → is_file (t q) ≡ true → removes_or_moves_path_or_ancestor op q ≡ false → may_store_contents_at_path s op q ≡ false → LeavesBytesOfFileAtPathUnchanged change q
 
 -- where a tree shows a file there is a file's slot
-pub struct_stays : (disk : Disk) (ps qs : List Pair) (q : Path) → is_file (tree_on_disk disk ps q) ≡ true → StaysFile (slot_of_path ps q) (slot_of_path qs q) → struct_of_path qs q ≡ struct_of_path ps q
+pub struct_stays : (disk : Disk) (ps qs : List Pair) (q : Path) → is_file (tree_on_disk disk ps q) ≡ true → KeepsStructOfFileSlot (slot_of_path ps q) (slot_of_path qs q) → struct_of_path qs q ≡ struct_of_path ps q
 struct_stays disk ps qs q file stays = go (slot_of_path ps q) refl file
   where
     none : (attributes : Attributes) (t : Struct) → is_file (Some (node_of_struct_and_attributes (skip_list_bytes_on_disk disk) (entries_by_directory_in_thread ps) attributes t)) ≡ true → branch_address_of_struct t ≡ None
@@ -40,8 +40,8 @@ struct_stays disk ps qs q file stays = go (slot_of_path ps q) refl file
         let k = stays u e (none u.attributes u.struct h) in
         ap (option_map (λ (z : Slot). z.struct)) k.1.0 ∙ ap Some k.1.1 ∙ sym (ap (option_map (λ (z : Slot). z.struct)) e)
 
-pub structs_left : (disk : Disk) (ps : List Pair) (new : Disk) (qs : List Pair) (change : Tree → Tree) (walk : Walk → Walk) (s : Session) (op : Operation) →
-    Follows disk ps new qs change walk → LeavesFiles (tree_on_disk disk ps) s op change → KeepsStructsOfUntouchedFiles disk ps s op qs
+pub structs_left : (disk : Disk) (ps : List Pair) (new : Disk) (qs : List Pair) (change : Tree → Tree) (walk : DirectoryAddressByPath → DirectoryAddressByPath) (s : Session) (op : Operation) →
+    IsImageAfterTreeChange disk ps new qs change walk → LeavesFiles (tree_on_disk disk ps) s op change → KeepsStructsOfUntouchedFiles disk ps s op qs
 structs_left disk ps new qs change walk s op follows leaves q file off elsewhere = struct_stays disk ps qs q file (follows.stays q (leaves q file off elsewhere))
 
 -- ---- the operations
@@ -58,25 +58,25 @@ neither false b e = (refl, e)
 pub creation_leaves : (t : Tree) (s : Session) (op : Operation) (p : Path) (node : Node) → t p ≡ None → LeavesFiles t s op (tree_after_creation p node)
 creation_leaves t s op p node absent q file off elsewhere = go (paths p q)
   where
-    go : Paths p q → LeavesBytes (tree_after_creation p node) q
+    go : Paths p q → LeavesBytesOfFileAtPathUnchanged (tree_after_creation p node) q
     go (path_alike e f) = absurd (let k = sym (ap (λ z. is_file (t z)) (sym e) ∙ ap is_file absent) ∙ file in cc)
     go (path_unlike n f) = added_leaves p node q f
 
-pub removal_leaves : (t : Tree) (s : Session) (path : List ℕ) (p : Path) → path_or_root path ≡ p → LeavesFiles t s (ops.Remove path) (tree_after_removal p)
+pub removal_leaves : (t : Tree) (s : Session) (path : List ℕ) (p : Path) → path_of_bytes_or_root path ≡ p → LeavesFiles t s (ops.Remove path) (tree_after_removal p)
 removal_leaves t s path p is q file off elsewhere = removed_leaves p q (not_before p q (none_left (path_without_prefix p q) (ap (λ z. is_some (path_without_prefix z q)) (sym is) ∙ off)))
 
-pub renaming_leaves : (t : Tree) (s : Session) (old_bytes new_bytes : List ℕ) (old new : Path) → path_or_root old_bytes ≡ old → path_or_root new_bytes ≡ new →
-    LeavesFiles t s (ops.Rename old_bytes new_bytes) (renamed old new)
+pub renaming_leaves : (t : Tree) (s : Session) (old_bytes new_bytes : List ℕ) (old new : Path) → path_of_bytes_or_root old_bytes ≡ old → path_of_bytes_or_root new_bytes ≡ new →
+    LeavesFiles t s (ops.Rename old_bytes new_bytes) (tree_after_rename old new)
 renaming_leaves t s old_bytes new_bytes old new old_is new_is q file off elsewhere =
-    let both = neither (is_some (path_without_prefix (path_or_root old_bytes) q)) (is_some (path_without_prefix (path_or_root new_bytes) q)) off in
+    let both = neither (is_some (path_without_prefix (path_of_bytes_or_root old_bytes) q)) (is_some (path_without_prefix (path_of_bytes_or_root new_bytes) q)) off in
     renamed_leaves old new q (none_left (path_without_prefix old q) (ap (λ z. is_some (path_without_prefix z q)) (sym old_is) ∙ both.0))
     (none_left (path_without_prefix new q) (ap (λ z. is_some (path_without_prefix z q)) (sym new_is) ∙ both.1))
 
 -- a writer's contents come into its own slot
-pub storing_leaves : (s : Session) (fd : ℕ) (writer : Writer) (p : Path) (bytes : List ℕ) → open_file_of s.files fd ≡ Some (Writing writer) → writer.path ≡ p →
-    (q : Path) → is_open_file_at_path (open_file_of s.files fd) q ≡ false → LeavesBytes (tree_after_change_of_node p (node_with_bytes bytes)) q
+pub storing_leaves : (s : Session) (fd : ℕ) (writer : FileWriter) (p : Path) (bytes : List ℕ) → open_file_with_number s.files fd ≡ Some (Writing writer) → writer.path ≡ p →
+    (q : Path) → is_optional_open_file_at_path (open_file_with_number s.files fd) q ≡ false → LeavesBytesOfFileAtPathUnchanged (tree_after_change_of_node p (node_with_bytes bytes)) q
 storing_leaves s fd writer p bytes opened is q elsewhere =
-    change_leaves p (node_with_bytes bytes) q (ap (λ z. same_path z q) (sym is) ∙ ap (λ o. is_open_file_at_path o q) (sym opened) ∙ elsewhere)
+    change_leaves p (node_with_bytes bytes) q (ap (λ z. same_path z q) (sym is) ∙ ap (λ o. is_optional_open_file_at_path o q) (sym opened) ∙ elsewhere)
 
 -- with no open file nothing is stored
 pub none_stored : (t : Tree) (op : Operation) (q : Path) → may_store_contents_at_path (record { tree = t; files = [] }) op q ≡ false

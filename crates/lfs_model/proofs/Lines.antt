@@ -6,7 +6,7 @@ use Rattle.lfs_model.specs.Tree.{Path, Node, FileNode, DirectoryNode, Tree}
 use Rattle.lfs_model.specs.TreeEdits.{same_path}
 use Rattle.lfs_model.specs.Operations as ops
 use Rattle.lfs_model.specs.Operations.{Operation}
-use Rattle.lfs_model.specs.Listing.{PathAndNode, IsWalkOfTree, lines_of, IsListingOfTree, MakeDirectory, PutFile, AreActionsUnpackingTree, new_file_flags, AreOperationsCopyingTree}
+use Rattle.lfs_model.specs.Listing.{PathAndNode, IsWalkOfTree, listing_lines_of_entries, IsListingOfTree, MakeDirectory, PutFile, AreActionsUnpackingTree, new_file_flags, AreOperationsCopyingTree}
 
 -- file `a` with `hello`, and directory `d` with an empty file `x`
 abbrev nodes : List PathAndNode
@@ -33,6 +33,6 @@ pub unpacked : AreActionsUnpackingTree tree (PutFile (codes "/a") (codes "hello"
 unpacked = (nodes, (walk, refl))
 
 -- a name with a newline, a backslash and two bytes above 0x7e
-pub escapes : lines_of (record { path = (0x61 ∷ 0x0a ∷ 0x5c ∷ 0xc3 ∷ 0xa9 ∷ []) ∷ []; node = FileNode [] [] } ∷ [])
+pub escapes : listing_lines_of_entries (record { path = (0x61 ∷ 0x0a ∷ 0x5c ∷ 0xc3 ∷ 0xa9 ∷ []) ∷ []; node = FileNode [] [] } ∷ [])
     ≡ codes "f 0 /a" ++ 0x5c ∷ codes "x0a" ++ 0x5c ∷ codes "x5c" ++ 0x5c ∷ codes "xc3" ++ 0x5c ∷ codes "xa9" ++ 0x0a ∷ []
 escapes = rw (decimal_digit 0 (omega arith)) refl

@@ -3,30 +3,30 @@ use Rattle.std.proofs.Common.{ℕ, ◌≡◌, true, List, [], ◌∷◌, ◌++�
 use Rattle.lfs_model.specs.Disk.{Disk}
 use Rattle.lfs_model.specs.Names.{Name}
 use Rattle.lfs_model.specs.Slots.{Slot, zero_gstate, same_pair, IsContentFittingPair}
-use Rattle.lfs_model.specs.Thread.{Pair, first_pair_address, gstate_of, pair_count_before_root}
-use Rattle.lfs_model.specs.Tree.{Path, Tree, DirectoryNode, directory_address_from_slot}
+use Rattle.lfs_model.specs.Thread.{Pair, first_pair_address, gstate_of_pairs, pair_count_before_root}
+use Rattle.lfs_model.specs.Tree.{Path, Tree, DirectoryNode, directory_address_at_path_from_slot}
 use Rattle.lfs_model.specs.View.{IsAcceptedImage}
-use Rattle.lfs_model.specs.Profile.{IsWritable}
+use Rattle.lfs_model.specs.Profile.{IsWritableImage}
 use Rattle.lfs_model.specs.Shown.{IsPathToDirectory, entries_by_directory_in_thread, tree_on_disk}
 use Rattle.lfs_model.specs.TreeEdits.{tree_after_creation, tree_after_subtree_replacement}
 use Rattle.lfs_model.specs.Operations as ops
 use Rattle.lfs_model.specs.Session.{Session}
-use Rattle.lfs_model.specs.Refusals.{path_or_root}
+use Rattle.lfs_model.specs.Refusals.{path_of_bytes_or_root}
 use Rattle.lfs_model.specs.SlotEdits.{pair_with_slots, new_directory_slot}
-use Rattle.lfs_model.specs.Layout.{FitsPairOnDisk}
-use Rattle.lfs_model.specs.PowerLoss.{ShowsTreeBeforeOrAfter}
+use Rattle.lfs_model.specs.Layout.{IsContentFittingPairOnDisk}
+use Rattle.lfs_model.specs.PowerLoss.{HasTreeBeforeOrAfterOperation}
 use Rattle.lfs_model.proofs.Names.{IsPlace}
 use Rattle.lfs_model.proofs.Sites.{Site, thread_at, begin_of}
 use Rattle.lfs_model.proofs.Moves.{IsStep, place_at}
 use Rattle.lfs_model.proofs.Beside.{last_site, IsStepBeside, directory_comes_beside, threaded}
-use Rattle.lfs_model.proofs.Alike.{AreAlike, alike_itself, alike_append}
-use Rattle.lfs_model.proofs.Committed.{IsCompleted, recovered_from}
+use Rattle.lfs_model.proofs.Alike.{ArePairsWithSameAddressesAndSlots, alike_itself, alike_append}
+use Rattle.lfs_model.proofs.Committed.{IsImageAfterCompletedOperation, recovered_from}
 use Rattle.lfs_model.proofs.MadeDirectory.{Cut, IsMkdir, mkdir_completed, none_there}
-use Rattle.lfs_model.proofs.Changes.{Follows}
+use Rattle.lfs_model.proofs.Changes.{IsImageAfterTreeChange}
 use Rattle.lfs_model.proofs.Became.{Became}
 use Rattle.lfs_model.proofs.Profiles.{step_writable}
 use Rattle.lfs_model.proofs.Chained.{InTwo, mkdir_in_two}
-use Rattle.lfs_model.proofs.StepsTaken.{IsOnlyStep, IsPut, IsPutBeside, beside_taken, put_within, put_filled}
+use Rattle.lfs_model.proofs.StepsTaken.{IsWritableImageAfterTreeChange, IsPut, IsPutBeside, beside_taken, put_within, put_filled}
 
 -- ---- in one commit
 
@@ -35,13 +35,13 @@ module _ (disk new : Disk) (chain before left after : List Pair) (p q : Pair) (m
     (put : IsPutBeside disk (last_site chain before left after) p q more f l [] (new_directory_slot name f.at ∷ []) r)
     (a : ℕ × ℕ) (leads : IsPathToDirectory (thread_at (last_site chain before left after) (p ∷ [])) P a) (same : same_pair (begin_of (last_site chain before left after) (p ∷ [])) a ≡ true)
     (place : IsPlace disk.order (entries_by_directory_in_thread (thread_at (last_site chain before left after) (p ∷ [])) a) (place_at (last_site chain before left after) l) name)
-    (settled : gstate_of (thread_at (last_site chain before left after) (p ∷ [])) ≡ zero_gstate)
-    (still : gstate_of (thread_at (last_site chain before left after) (q ∷ (more ++ f ∷ []))) ≡ zero_gstate) where
+    (settled : gstate_of_pairs (thread_at (last_site chain before left after) (p ∷ [])) ≡ zero_gstate)
+    (still : gstate_of_pairs (thread_at (last_site chain before left after) (q ∷ (more ++ f ∷ []))) ≡ zero_gstate) where
   abbrev w : Site
   w = last_site chain before left after
 
-  taken : IsOnlyStep disk (thread_at (last_site chain before left after) (p ∷ [])) new (thread_at (last_site chain before left after) (q ∷ (more ++ f ∷ []))) (tree_after_creation (P ++ name ∷ []) (DirectoryNode [] []))
-      (tree_after_subtree_replacement (P ++ name ∷ []) (directory_address_from_slot (entries_by_directory_in_thread (thread_at (last_site chain before left after) (p ∷ []))) (new_directory_slot name f.at)))
+  taken : IsWritableImageAfterTreeChange disk (thread_at (last_site chain before left after) (p ∷ [])) new (thread_at (last_site chain before left after) (q ∷ (more ++ f ∷ []))) (tree_after_creation (P ++ name ∷ []) (DirectoryNode [] []))
+      (tree_after_subtree_replacement (P ++ name ∷ []) (directory_address_at_path_from_slot (entries_by_directory_in_thread (thread_at (last_site chain before left after) (p ∷ []))) (new_directory_slot name f.at)))
   taken = beside_taken disk new chain before left after p q more f l [] (new_directory_slot name f.at ∷ []) r put extra [] _ _ step P a leads same
       (directory_comes_beside disk new chain before left after p [] q more f extra l r (new_directory_slot name f.at) step P a leads same place refl (λ e. (recovered_from disk (thread_at (last_site chain before left after) (p ∷ [])) step.accepted settled).reached))
 
@@ -66,7 +66,7 @@ module _ (disk new : Disk) (chain before left after : List Pair) (p q : Pair) (m
     cut = put.cut;
     empty = put.empty;
     placed = placed;
-    alike = subst (AreAlike (chain ++ ((before ++ left) ++ ((q ∷ more) ++ after))))
+    alike = subst (ArePairsWithSameAddressesAndSlots (chain ++ ((before ++ left) ++ ((q ∷ more) ++ after))))
         (ap (λ z. chain ++ z) (sym (append_assoc (before ++ left) (q ∷ more) after)) ∙ sym (append_assoc chain ((before ++ left) ++ (q ∷ more)) after))
         (alike_itself (chain ++ ((before ++ left) ++ ((q ∷ more) ++ after))));
   }
@@ -82,9 +82,9 @@ module _ (disk middle new : Disk) (chain before front mid after : List Pair) (x 
     (same : same_pair (begin_of (last_site chain before (front ++ p ∷ mid) after) (x ∷ [])) a ≡ true)
     (place : IsPlace middle.order (entries_by_directory_in_thread (thread_at (record { chain = chain; before = before; left = front; right = mid ++ y ∷ []; after = f ∷ after }) (p ∷ [])) a)
     (place_at (record { chain = chain; before = before; left = front; right = mid ++ y ∷ []; after = f ∷ after }) l) name)
-    (sync : (gstate_of (thread_at (last_site chain before (front ++ p ∷ mid) after) (y ∷ ([] ++ f ∷ [])))).sync ≡ true)
-    (settled : gstate_of (thread_at (last_site chain before (front ++ p ∷ mid) after) (x ∷ [])) ≡ zero_gstate)
-    (still : gstate_of (thread_at (record { chain = chain; before = before; left = front; right = mid ++ y ∷ []; after = f ∷ after }) (q ∷ more)) ≡ zero_gstate) where
+    (sync : (gstate_of_pairs (thread_at (last_site chain before (front ++ p ∷ mid) after) (y ∷ ([] ++ f ∷ [])))).sync ≡ true)
+    (settled : gstate_of_pairs (thread_at (last_site chain before (front ++ p ∷ mid) after) (x ∷ [])) ≡ zero_gstate)
+    (still : gstate_of_pairs (thread_at (record { chain = chain; before = before; left = front; right = mid ++ y ∷ []; after = f ∷ after }) (q ∷ more)) ≡ zero_gstate) where
   abbrev here : Site
   here = last_site chain before (front ++ p ∷ mid) after
 
@@ -104,7 +104,7 @@ module _ (disk middle new : Disk) (chain before front mid after : List Pair) (x 
   same_thread : thread_at (last_site chain before (front ++ p ∷ mid) after) (y ∷ ([] ++ f ∷ [])) ≡ thread_at (record { chain = chain; before = before; left = front; right = mid ++ y ∷ []; after = f ∷ after }) (p ∷ [])
   same_thread = ap (λ z. chain ++ z) (turned (p ∷ []) (y ∷ f ∷ after) ∙ ap (λ z. (before ++ front) ++ (p ∷ z)) (sym (append_assoc mid (y ∷ []) (f ∷ after))))
 
-  first : IsOnlyStep disk (thread_at (last_site chain before (front ++ p ∷ mid) after) (x ∷ [])) middle (thread_at (last_site chain before (front ++ p ∷ mid) after) (y ∷ ([] ++ f ∷ []))) (λ t. t) (λ d. d)
+  first : IsWritableImageAfterTreeChange disk (thread_at (last_site chain before (front ++ p ∷ mid) after) (x ∷ [])) middle (thread_at (last_site chain before (front ++ p ∷ mid) after) (y ∷ ([] ++ f ∷ []))) (λ t. t) (λ d. d)
   first = beside_taken disk middle chain before (front ++ p ∷ mid) after x y [] f l0 [] [] r0 put extra [] (λ t. t) (λ d. d) step P a leads same
       (threaded disk middle chain before (front ++ p ∷ mid) after x [] y [] f extra l0 r0 step P a leads same sync)
 
@@ -124,7 +124,7 @@ module _ (disk middle new : Disk) (chain before front mid after : List Pair) (x 
       (record { chain = chain; before = before; left = front; right = mid ++ y ∷ []; after = f ∷ after }) p q more extra2 l r (new_directory_slot name f.at) step2 same_thread P a leads2 same2 place refl
       (recovered_from disk (thread_at (last_site chain before (front ++ p ∷ mid) after) (x ∷ [])) step.accepted settled).reached
 
-  second : IsWritable new (thread_at (record { chain = chain; before = before; left = front; right = mid ++ y ∷ []; after = f ∷ after }) (q ∷ more))
+  second : IsWritableImage new (thread_at (record { chain = chain; before = before; left = front; right = mid ++ y ∷ []; after = f ∷ after }) (q ∷ more))
   second = step_writable middle new (record { chain = chain; before = before; left = front; right = mid ++ y ∷ []; after = f ∷ after }) p [] q more extra2 [] l [] (new_directory_slot name f.at ∷ []) r step2 put2.writable
       (put_within middle there p q more l [] (new_directory_slot name f.at ∷ []) r put2) (put_filled middle there p q more l [] (new_directory_slot name f.at ∷ []) r put2)
 
@@ -143,8 +143,8 @@ module _ (disk middle new : Disk) (chain before front mid after : List Pair) (x 
   same_slots : y.content.slots ≡ x.content.slots
   same_slots = sym (append-nil y.content.slots) ∙ put.is ∙ sym put.was
 
-  alike : AreAlike (chain ++ ((before ++ front) ++ ((q ∷ more) ++ (mid ++ x ∷ after)))) ((chain ++ ((before ++ front) ++ ((q ∷ more) ++ (mid ++ y ∷ [])))) ++ after)
-  alike = subst (AreAlike (chain ++ ((before ++ front) ++ ((q ∷ more) ++ (mid ++ x ∷ after))))) (ap (λ z. chain ++ ((before ++ front) ++ ((q ∷ more) ++ z))) (sym (append_assoc mid (y ∷ []) after)) ∙ parted after)
+  alike : ArePairsWithSameAddressesAndSlots (chain ++ ((before ++ front) ++ ((q ∷ more) ++ (mid ++ x ∷ after)))) ((chain ++ ((before ++ front) ++ ((q ∷ more) ++ (mid ++ y ∷ [])))) ++ after)
+  alike = subst (ArePairsWithSameAddressesAndSlots (chain ++ ((before ++ front) ++ ((q ∷ more) ++ (mid ++ x ∷ after))))) (ap (λ z. chain ++ ((before ++ front) ++ ((q ∷ more) ++ z))) (sym (append_assoc mid (y ∷ []) after)) ∙ parted after)
       (alike_append chain ((before ++ front) ++ ((q ∷ more) ++ (mid ++ x ∷ after))) chain ((before ++ front) ++ ((q ∷ more) ++ (mid ++ y ∷ after))) (alike_itself chain)
       (alike_append (before ++ front) ((q ∷ more) ++ (mid ++ x ∷ after)) (before ++ front) ((q ∷ more) ++ (mid ++ y ∷ after)) (alike_itself (before ++ front))
       (alike_append (q ∷ more) (mid ++ x ∷ after) (q ∷ more) (mid ++ y ∷ after) (alike_itself (q ∷ more))
@@ -155,11 +155,11 @@ module _ (disk middle new : Disk) (chain before front mid after : List Pair) (x 
   made2 = record {
     is_chain = ap pair_count_before_root (sym were) ∙ step.site.chain;
     accepted = subst (IsAcceptedImage disk) were step.accepted;
-    writable = subst (IsWritable disk) were put.writable;
-    settled = ap gstate_of (sym were) ∙ settled;
+    writable = subst (IsWritableImage disk) were put.writable;
+    settled = ap gstate_of_pairs (sym were) ∙ settled;
     still = still;
     walk = both.walk_on;
-    follows = subst (λ z. Follows disk z new (thread_at (record { chain = chain; before = before; left = front; right = mid ++ y ∷ []; after = f ∷ after }) (q ∷ more)) (tree_after_creation (P ++ name ∷ []) (DirectoryNode [] [])) both.walk_on) were both.end;
+    follows = subst (λ z. IsImageAfterTreeChange disk z new (thread_at (record { chain = chain; before = before; left = front; right = mid ++ y ∷ []; after = f ∷ after }) (q ∷ more)) (tree_after_creation (P ++ name ∷ []) (DirectoryNode [] [])) both.walk_on) were both.end;
     still_writable = second;
     absent = ap (λ z. tree_on_disk disk z (P ++ name ∷ [])) (sym were) ∙ sym (ap (λ t. t (P ++ name ∷ [])) both.between.shows)
         ∙ none_there middle (thread_at there (p ∷ [])) P a (place_at there l) name leads2 place;
@@ -173,10 +173,10 @@ module _ (disk middle new : Disk) (chain before front mid after : List Pair) (x 
   }
     where
       -- the tails don't matter, and the sizes are the same on both disks
-      sized : (d : Pair) → FitsPairOnDisk middle d → FitsPairOnDisk disk d
+      sized : (d : Pair) → IsContentFittingPairOnDisk middle d → IsContentFittingPairOnDisk disk d
       sized d h = subst₂ (λ b g. IsContentFittingPair b g d.content) step.device.geometry.block_size step.device.geometry.page h
 
-      resized : (d : Pair) → FitsPairOnDisk disk d → FitsPairOnDisk middle d
+      resized : (d : Pair) → IsContentFittingPairOnDisk disk d → IsContentFittingPairOnDisk middle d
       resized d h = subst₂ (λ b g. IsContentFittingPair b g d.content) (sym step.device.geometry.block_size) (sym step.device.geometry.page) h
 
       became_cut : (more : List Pair) → Became middle p (pair_with_slots (l ++ (new_directory_slot name f.at ∷ [] ++ r)) p) q more → Cut disk (pair_with_slots (l ++ new_directory_slot name f.at ∷ r) p) q more
@@ -184,8 +184,8 @@ module _ (disk middle new : Disk) (chain before front mid after : List Pair) (x 
       became_cut (g ∷ []) h = ((λ k. h.2 (resized (pair_with_slots (l ++ new_directory_slot name f.at ∷ r) p) k)), sized q h.3, sized g h.4)
       became_cut (g ∷ i ∷ more) h = absurd h
 
-  pub mkdir_in_two_completed : (s : Session) (path : List ℕ) → s.tree ≡ tree_on_disk disk (thread_at (last_site chain before (front ++ p ∷ mid) after) (x ∷ [])) → path_or_root path ≡ P ++ name ∷ []
-      → IsCompleted disk (thread_at (last_site chain before (front ++ p ∷ mid) after) (x ∷ [])) s (ops.Mkdir path) new (thread_at (record { chain = chain; before = before; left = front; right = mid ++ y ∷ []; after = f ∷ after }) (q ∷ more))
+  pub mkdir_in_two_completed : (s : Session) (path : List ℕ) → s.tree ≡ tree_on_disk disk (thread_at (last_site chain before (front ++ p ∷ mid) after) (x ∷ [])) → path_of_bytes_or_root path ≡ P ++ name ∷ []
+      → IsImageAfterCompletedOperation disk (thread_at (last_site chain before (front ++ p ∷ mid) after) (x ∷ [])) s (ops.Mkdir path) new (thread_at (record { chain = chain; before = before; left = front; right = mid ++ y ∷ []; after = f ∷ after }) (q ∷ more))
   mkdir_in_two_completed s path tree is =
-      subst (λ z. IsCompleted disk z s (ops.Mkdir path) new (thread_at (record { chain = chain; before = before; left = front; right = mid ++ y ∷ []; after = f ∷ after }) (q ∷ more))) (sym were)
+      subst (λ z. IsImageAfterCompletedOperation disk z s (ops.Mkdir path) new (thread_at (record { chain = chain; before = before; left = front; right = mid ++ y ∷ []; after = f ∷ after }) (q ∷ more))) (sym were)
       (mkdir_completed disk new rs chain (before ++ front) (mid ++ x ∷ after) p q more (chain ++ ((before ++ front) ++ ((q ∷ more) ++ (mid ++ y ∷ [])))) after f l r P name made2 s path (tree ∙ ap (tree_on_disk disk) were) is)

@@ -5,7 +5,7 @@ use Rattle.std.proofs.lemmas.Cmp.{ranked, nat_list_cmp_total, nat_cmp_total, tie
 use Rattle.std.specs.Cmp.{IsTotalOrder}
 use Rattle.lfs_model.specs.declared.order.NameOrder.{NameOrder}
 use Rattle.lfs_model.specs.declared.order.NameOrder.TheVariants.{ShorterFirst, LongerFirst}
-use Rattle.lfs_model.specs.Names.{Name, name_cmp_longer_first, name_cmp, same_name, is_same, is_less_ordering, ordered_names_with_name, names_sorted_in_order}
+use Rattle.lfs_model.specs.Names.{Name, name_cmp_longer_first, name_cmp, same_name, is_equal_ordering, is_less_ordering, ordered_names_with_name, names_sorted_in_order}
 use Rattle.lfs_model.specs.TreeEdits.{names_without_name}
 use Rattle.lfs_model.proofs.Paths.{name_from_equal, same_itself, unlike_test}
 
@@ -260,10 +260,10 @@ length_in_order o (x ∷ xs) = length_put o x (names_sorted_in_order o xs) ∙ a
 
 -- ---- the same names, in each order
 
-pub same_by : (o : NameOrder) (a b : Name) → is_same (name_cmp o a b) ≡ same_name a b
+pub same_by : (o : NameOrder) (a b : Name) → is_equal_ordering (name_cmp o a b) ≡ same_name a b
 same_by o a b = go (name_cmp o a b) refl
   where
-    go : (r : Ordering) → name_cmp o a b ≡ r → is_same (name_cmp o a b) ≡ same_name a b
-    go Less e = ap is_same e ∙ sym (less_apart o a b e)
-    go Equal e = ap is_same e ∙ sym (ap (same_name a) (sym (equal_names o a b e)) ∙ same_itself a)
-    go Greater e = ap is_same e ∙ sym (more_apart o b a ((name_order o).antisymm b a ∙ ap ordering_reverse e))
+    go : (r : Ordering) → name_cmp o a b ≡ r → is_equal_ordering (name_cmp o a b) ≡ same_name a b
+    go Less e = ap is_equal_ordering e ∙ sym (less_apart o a b e)
+    go Equal e = ap is_equal_ordering e ∙ sym (ap (same_name a) (sym (equal_names o a b e)) ∙ same_itself a)
+    go Greater e = ap is_equal_ordering e ∙ sym (more_apart o b a ((name_order o).antisymm b a ∙ ap ordering_reverse e))

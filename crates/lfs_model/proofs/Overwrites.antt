@@ -4,7 +4,7 @@ use Rattle.std.proofs.Common.{◌≡◌, ◌≢◌, ℕ, ◌+◌, ◌-◌, ◌<�
 use Rattle.std.proofs.Math.Seq.{drop-append-add}
 use Rattle.std.proofs.lemmas.List.{append-nil, take_at, take-take, drop-take, drop_all, take_all, take-append-drop, drop-append-le, drop-drop, length-take-le, length-set, get_or-set_other, get_or-set_same, ext_get_or, set-get_or}
 use Rattle.std.proofs.lemmas.Bool.{cases_eq}
-use Rattle.lfs_model.specs.Blocks.{Blocks, block_bytes_in, HasBlocksOfCountAndSize, bytes_after_overwrite_at, programmed, AreBlocksEqualExceptOne, AreBlocksEqualExceptThese, AreBytesEqualOutsideRange}
+use Rattle.lfs_model.specs.Blocks.{Blocks, block_bytes_by_number, HasBlocksOfCountAndSize, bytes_after_overwrite_at, programmed, AreBlocksEqualExceptOne, AreBlocksEqualExceptThese, AreBytesEqualOutsideRange}
 
 -- Bytes of one block.
 
@@ -91,35 +91,35 @@ AreBlocksEqualExceptOne-trans first second = record {
 }
 
 -- the block has these bytes then
-pub block_bytes_in-set : (blocks : Blocks) (b : ℕ) (bytes : List ℕ) → b < length blocks → block_bytes_in (slice_set blocks b bytes) b ≡ bytes
-block_bytes_in-set blocks b bytes lt = get_or-set_same blocks b bytes [] lt
+pub block_bytes_by_number-set : (blocks : Blocks) (b : ℕ) (bytes : List ℕ) → b < length blocks → block_bytes_by_number (slice_set blocks b bytes) b ≡ bytes
+block_bytes_by_number-set blocks b bytes lt = get_or-set_same blocks b bytes [] lt
 
-pub AreBlocksEqualExceptOne-set : (blocks : Blocks) (b : ℕ) (bytes : List ℕ) → b < length blocks → length bytes ≡ length (block_bytes_in blocks b) → AreBlocksEqualExceptOne b blocks (slice_set blocks b bytes)
+pub AreBlocksEqualExceptOne-set : (blocks : Blocks) (b : ℕ) (bytes : List ℕ) → b < length blocks → length bytes ≡ length (block_bytes_by_number blocks b) → AreBlocksEqualExceptOne b blocks (slice_set blocks b bytes)
 AreBlocksEqualExceptOne-set blocks b bytes lt size = record {
   count = length-set blocks b bytes;
-  size = ap length (block_bytes_in-set blocks b bytes lt) ∙ size;
+  size = ap length (block_bytes_by_number-set blocks b bytes lt) ∙ size;
   others = λ other ne. get_or-set_other blocks b other bytes [] ne;
 }
 
 -- only the block's bytes are new
-pub AreBlocksEqualExceptOne-is : (b : ℕ) (old new : Blocks) (bytes : List ℕ) → b < length old → AreBlocksEqualExceptOne b old new → block_bytes_in new b ≡ bytes → new ≡ slice_set old b bytes
+pub AreBlocksEqualExceptOne-is : (b : ℕ) (old new : Blocks) (bytes : List ℕ) → b < length old → AreBlocksEqualExceptOne b old new → block_bytes_by_number new b ≡ bytes → new ≡ slice_set old b bytes
 AreBlocksEqualExceptOne-is b old new bytes lt same is =
     ext_get_or [] new (slice_set old b bytes) (same.count ∙ sym (length-set old b bytes)) (λ k below. elim (cases_eq k b) [
-      | inl at ↦ ap (block_bytes_in new) at ∙ is ∙ sym (block_bytes_in-set old b bytes lt) ∙ ap (block_bytes_in (slice_set old b bytes)) (sym at)
+      | inl at ↦ ap (block_bytes_by_number new) at ∙ is ∙ sym (block_bytes_by_number-set old b bytes lt) ∙ ap (block_bytes_by_number (slice_set old b bytes)) (sym at)
       | inr ne ↦ same.others k ne ∙ sym (get_or-set_other old b k bytes [] ne)
     ])
 
-pub AreBlocksEqualExceptOne-programmed : (blocks : Blocks) (b at : ℕ) (new : List ℕ) → b < length blocks → at + length new ≤ length (block_bytes_in blocks b) → AreBlocksEqualExceptOne b blocks (programmed blocks b at new)
-AreBlocksEqualExceptOne-programmed blocks b at new lt fits = AreBlocksEqualExceptOne-set blocks b (bytes_after_overwrite_at (block_bytes_in blocks b) at new) lt (length-overwritten (block_bytes_in blocks b) at new fits)
+pub AreBlocksEqualExceptOne-programmed : (blocks : Blocks) (b at : ℕ) (new : List ℕ) → b < length blocks → at + length new ≤ length (block_bytes_by_number blocks b) → AreBlocksEqualExceptOne b blocks (programmed blocks b at new)
+AreBlocksEqualExceptOne-programmed blocks b at new lt fits = AreBlocksEqualExceptOne-set blocks b (bytes_after_overwrite_at (block_bytes_by_number blocks b) at new) lt (length-overwritten (block_bytes_by_number blocks b) at new fits)
 
-pub block_bytes_in-programmed : (blocks : Blocks) (b at : ℕ) (new : List ℕ) → b < length blocks → block_bytes_in (programmed blocks b at new) b ≡ bytes_after_overwrite_at (block_bytes_in blocks b) at new
-block_bytes_in-programmed blocks b at new lt = block_bytes_in-set blocks b (bytes_after_overwrite_at (block_bytes_in blocks b) at new) lt
+pub block_bytes_by_number-programmed : (blocks : Blocks) (b at : ℕ) (new : List ℕ) → b < length blocks → block_bytes_by_number (programmed blocks b at new) b ≡ bytes_after_overwrite_at (block_bytes_by_number blocks b) at new
+block_bytes_by_number-programmed blocks b at new lt = block_bytes_by_number-set blocks b (bytes_after_overwrite_at (block_bytes_by_number blocks b) at new) lt
 
-pub block_bytes_in-programmed_whole : (blocks : Blocks) (b : ℕ) (new : List ℕ) → b < length blocks → length new ≡ length (block_bytes_in blocks b) → block_bytes_in (programmed blocks b 0 new) b ≡ new
-block_bytes_in-programmed_whole blocks b new lt size = block_bytes_in-programmed blocks b 0 new lt ∙ overwritten_whole (block_bytes_in blocks b) new size
+pub block_bytes_by_number-programmed_whole : (blocks : Blocks) (b : ℕ) (new : List ℕ) → b < length blocks → length new ≡ length (block_bytes_by_number blocks b) → block_bytes_by_number (programmed blocks b 0 new) b ≡ new
+block_bytes_by_number-programmed_whole blocks b new lt size = block_bytes_by_number-programmed blocks b 0 new lt ∙ overwritten_whole (block_bytes_by_number blocks b) new size
 
-pub AreBytesEqualOutsideRange-programmed : (blocks : Blocks) (b at : ℕ) (new : List ℕ) → b < length blocks → at ≤ length (block_bytes_in blocks b) → AreBytesEqualOutsideRange at (at + length new) (block_bytes_in blocks b) (block_bytes_in (programmed blocks b at new) b)
-AreBytesEqualOutsideRange-programmed blocks b at new lt fits = rw (block_bytes_in-programmed blocks b at new lt) (AreBytesEqualOutsideRange-bytes_after_overwrite_at (block_bytes_in blocks b) at new fits)
+pub AreBytesEqualOutsideRange-programmed : (blocks : Blocks) (b at : ℕ) (new : List ℕ) → b < length blocks → at ≤ length (block_bytes_by_number blocks b) → AreBytesEqualOutsideRange at (at + length new) (block_bytes_by_number blocks b) (block_bytes_by_number (programmed blocks b at new) b)
+AreBytesEqualOutsideRange-programmed blocks b at new lt fits = rw (block_bytes_by_number-programmed blocks b at new lt) (AreBytesEqualOutsideRange-bytes_after_overwrite_at (block_bytes_by_number blocks b) at new fits)
 
 -- a write of nothing
 pub overwritten_none : (block : List ℕ) (at : ℕ) → bytes_after_overwrite_at block at [] ≡ block
@@ -129,21 +129,21 @@ overwritten_none block at =
     ∙ take-append-drop at block
 
 pub programmed_none : (blocks : Blocks) (b at : ℕ) → programmed blocks b at [] ≡ blocks
-programmed_none blocks b at = ap (slice_set blocks b) (overwritten_none (block_bytes_in blocks b) at) ∙ set-get_or blocks b []
+programmed_none blocks b at = ap (slice_set blocks b) (overwritten_none (block_bytes_by_number blocks b) at) ∙ set-get_or blocks b []
 
 -- one program after another is one program of both
-pub programmed_next : (blocks : Blocks) (b at : ℕ) (first second : List ℕ) → b < length blocks → at + length first + length second ≤ length (block_bytes_in blocks b)
+pub programmed_next : (blocks : Blocks) (b at : ℕ) (first second : List ℕ) → b < length blocks → at + length first + length second ≤ length (block_bytes_by_number blocks b)
     → programmed (programmed blocks b at first) b (at + length first) second ≡ programmed blocks b at (first ++ second)
 programmed_next blocks b at first second lt room =
     let mid : Blocks = programmed blocks b at first in
-    let there : b < length mid = omega (arith, length-set blocks b (bytes_after_overwrite_at (block_bytes_in blocks b) at first)) in
-    let fits : at + length first ≤ length (block_bytes_in blocks b) = omega arith in
-    let size : length (block_bytes_in mid b) ≡ length (block_bytes_in blocks b) = ap length (block_bytes_in-programmed blocks b at first lt) ∙ length-overwritten (block_bytes_in blocks b) at first fits in
-    AreBlocksEqualExceptOne-is b blocks (programmed mid b (at + length first) second) (bytes_after_overwrite_at (block_bytes_in blocks b) at (first ++ second)) lt
+    let there : b < length mid = omega (arith, length-set blocks b (bytes_after_overwrite_at (block_bytes_by_number blocks b) at first)) in
+    let fits : at + length first ≤ length (block_bytes_by_number blocks b) = omega arith in
+    let size : length (block_bytes_by_number mid b) ≡ length (block_bytes_by_number blocks b) = ap length (block_bytes_by_number-programmed blocks b at first lt) ∙ length-overwritten (block_bytes_by_number blocks b) at first fits in
+    AreBlocksEqualExceptOne-is b blocks (programmed mid b (at + length first) second) (bytes_after_overwrite_at (block_bytes_by_number blocks b) at (first ++ second)) lt
     (AreBlocksEqualExceptOne-trans (AreBlocksEqualExceptOne-programmed blocks b at first lt fits) (AreBlocksEqualExceptOne-programmed mid b (at + length first) second there (omega (arith, size))))
-    (block_bytes_in-programmed mid b (at + length first) second there
-    ∙ ap (λ (l : List ℕ). bytes_after_overwrite_at l (at + length first) second) (block_bytes_in-programmed blocks b at first lt)
-    ∙ overwritten_next (block_bytes_in blocks b) at first second (omega arith))
+    (block_bytes_by_number-programmed mid b (at + length first) second there
+    ∙ ap (λ (l : List ℕ). bytes_after_overwrite_at l (at + length first) second) (block_bytes_by_number-programmed blocks b at first lt)
+    ∙ overwritten_next (block_bytes_by_number blocks b) at first second (omega arith))
 
 -- a write of more, of which the rest is what was there
 pub overwritten_beginning : (block : List ℕ) (at n : ℕ) (new : List ℕ) → length new ≤ n → at + n ≤ length block → bytes_after_overwrite_at block at (new ++ drop (length new) (take n (drop at block))) ≡ bytes_after_overwrite_at block at new
@@ -172,7 +172,7 @@ pub AreBlocksEqualExceptThese-one : (bs : List ℕ) (block : ℕ) (old mid new :
 AreBlocksEqualExceptThese-one bs block old mid new among first second = record {
   count = second.count ∙ first.count;
   sizes = λ b. elim (cases_eq b block) [
-    | inl is ↦ ap (λ k. length (block_bytes_in new k)) is ∙ second.size ∙ ap (λ k. length (block_bytes_in mid k)) (sym is) ∙ first.sizes b
+    | inl is ↦ ap (λ k. length (block_bytes_by_number new k)) is ∙ second.size ∙ ap (λ k. length (block_bytes_by_number mid k)) (sym is) ∙ first.sizes b
     | inr ne ↦ ap length (second.others b ne) ∙ first.sizes b
   ];
   others = λ other apart. second.others other (λ is. among other apart (sym is)) ∙ first.others other apart;

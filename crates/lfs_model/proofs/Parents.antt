@@ -5,7 +5,7 @@ use Rattle.lfs_model.proofs.Orders.{contains_in_order, contains_back}
 use Rattle.lfs_model.specs.declared.order.NameOrder.TheVariants.{ShorterFirst}
 use Rattle.lfs_model.specs.Names.{names_sorted_in_order, Name}
 use Rattle.lfs_model.specs.Slots.{Slot, Struct, Inline, Ctz, Branch, Attributes}
-use Rattle.lfs_model.specs.Tree.{Path, Node, DirectoryNode, EntriesByDirectory, entry_of_name, branch_address_of_struct, slot_at_path, node_of_struct_and_attributes, names_of_directory_at, tree_beneath_slot}
+use Rattle.lfs_model.specs.Tree.{Path, Node, DirectoryNode, EntriesByDirectory, entry_of_name, branch_address_of_struct, slot_at_path, node_of_struct_and_attributes, names_of_directory_at_address, tree_beneath_slot}
 use Rattle.lfs_model.proofs.Paths.{Names, alike, unlike, names}
 use Rattle.lfs_model.proofs.Walks.{walk_append}
 
@@ -32,7 +32,7 @@ pub parent_has_name : (c : ℕ → ℕ → List ℕ) (E : EntriesByDirectory) (s
     → (attributes : Attributes) × (ns : List Name) × (tree_beneath_slot c E s path ≡ Some (DirectoryNode attributes ns)) × Contains ns n
 parent_has_name c E s path n node e = go (slot_at_path E s path) (sym (ap (option_map (λ u. node_of_struct_and_attributes c E u.attributes u.struct)) (walk_append E s path (n ∷ []))) ∙ e)
   where
-    found : (to : ℕ × ℕ) (o : Option Slot) → entry_of_name n (E to) ≡ o → option_map (λ u. node_of_struct_and_attributes c E u.attributes u.struct) (option_and_then (λ u. Some u) o) ≡ Some node → Contains (names_of_directory_at E to) n
+    found : (to : ℕ × ℕ) (o : Option Slot) → entry_of_name n (E to) ≡ o → option_map (λ u. node_of_struct_and_attributes c E u.attributes u.struct) (option_and_then (λ u. Some u) o) ≡ Some node → Contains (names_of_directory_at_address E to) n
     found to None is h = absurd (cc)
     found to (Some u) is h = found_contained n (E to) u is
 
@@ -40,7 +40,7 @@ parent_has_name c E s path n node e = go (slot_at_path E s path) (sym (ap (optio
         → (others : Attributes) × (ns : List Name) × (Some (node_of_struct_and_attributes c E attributes t) ≡ Some (DirectoryNode others ns)) × Contains ns n
     below attributes (Inline bytes) h = absurd (cc)
     below attributes (Ctz head size) h = absurd (cc)
-    below attributes (Branch to) h = (attributes, names_sorted_in_order ShorterFirst (names_of_directory_at E to), refl, contains_in_order ShorterFirst (names_of_directory_at E to) n (found to (entry_of_name n (E to)) refl h))
+    below attributes (Branch to) h = (attributes, names_sorted_in_order ShorterFirst (names_of_directory_at_address E to), refl, contains_in_order ShorterFirst (names_of_directory_at_address E to) n (found to (entry_of_name n (E to)) refl h))
 
     go : (o : Option Slot) → option_map (λ u. node_of_struct_and_attributes c E u.attributes u.struct) (option_and_then (λ t. slot_at_path E t (n ∷ [])) o) ≡ Some node
         → (attributes : Attributes) × (ns : List Name) × (option_map (λ u. node_of_struct_and_attributes c E u.attributes u.struct) o ≡ Some (DirectoryNode attributes ns)) × Contains ns n
@@ -60,8 +60,8 @@ name_has_node c E s path attributes ns n e has = ap (λ o. is_some (option_map (
     below others (Inline bytes) h = absurd (cc)
     below others (Ctz head size) h = absurd (cc)
     below others (Branch to) h =
-        let same : ns ≡ names_sorted_in_order ShorterFirst (names_of_directory_at E to) = cc in
-        kept (entry_of_name n (E to)) (contained_found n (E to) (contains_back ShorterFirst (names_of_directory_at E to) n (subst (λ ms. Contains ms n) same has)))
+        let same : ns ≡ names_sorted_in_order ShorterFirst (names_of_directory_at_address E to) = cc in
+        kept (entry_of_name n (E to)) (contained_found n (E to) (contains_back ShorterFirst (names_of_directory_at_address E to) n (subst (λ ms. Contains ms n) same has)))
 
     go : (o : Option Slot) → option_map (λ u. node_of_struct_and_attributes c E u.attributes u.struct) o ≡ Some (DirectoryNode attributes ns)
         → is_some (option_map (λ u. node_of_struct_and_attributes c E u.attributes u.struct) (option_and_then (λ t. slot_at_path E t (n ∷ [])) o)) ≡ true

@@ -10,16 +10,16 @@ use Rattle.std.proofs.lemmas.List.Folds.{list_any-from_Any}
 use Rattle.byteorder.specs.Endian.{little_number}
 use Rattle.lfs_model.specs.declared.order.NameOrder.{NameOrder}
 use Rattle.lfs_model.specs.Disk.{Disk, block_count, block_bytes_on_disk}
-use Rattle.lfs_model.specs.Names.{Name, name_cmp, is_less_ordering, is_name}
-use Rattle.lfs_model.specs.Slots.{Content, Slot, KindOfSlot, File, Directory, Superblock, Struct, Inline, Ctz, Branch, Gstate, same_pair}
+use Rattle.lfs_model.specs.Names.{Name, name_cmp, is_less_ordering, is_valid_name}
+use Rattle.lfs_model.specs.Slots.{PairContent, Slot, KindOfSlot, File, Directory, Superblock, Struct, Inline, Ctz, Branch, Gstate, same_pair}
 use Rattle.lfs_model.specs.Content.{content_of_pair_at, has_commit}
-use Rattle.lfs_model.specs.Thread.{Pair, anchor_pair_address, AreLinkedByTails, pair_named_by_tail, blocks_of_pairs, pairs_of_all_directories, starts_with_superblock, gstate_of, root_directory_of_pairs, ThreadDirectory}
-use Rattle.lfs_model.specs.Tree.{Path, root_slot, names_of_directory_at}
+use Rattle.lfs_model.specs.Thread.{Pair, anchor_pair_address, AreLinkedByTails, pair_address_named_by_tail, blocks_of_pairs, pairs_from_root_directory_on, starts_with_superblock, gstate_of_pairs, root_directory_address_of_pairs, ThreadDirectory}
+use Rattle.lfs_model.specs.Tree.{Path, root_slot, names_of_directory_at_address}
 use Rattle.lfs_model.specs.TreeEdits.{same_path}
-use Rattle.lfs_model.specs.View.{IsAcceptedImage, first_pair_slots, IsMoveOrNone, IsSlotInThread, IsNoSuperblockSlot, IsFileOrDirectoryEntry, IsStructOfKind, HasSuperblockOfBytesIfAny, IsSuperblockStruct, pairs_of_superblock_chain, pairs_after_superblock_chain, IsListIfCtz}
-use Rattle.lfs_model.specs.Profile.{IsWritable, FitsSlotLimits}
-use Rattle.lfs_model.specs.Shown.{IsPathToDirectory, IsDirectoryReached, directories_in_thread, entries_by_directory_in_thread, used_blocks, all_slots_not_moved}
-use Rattle.lfs_model.specs.examples.Images.{IsNoAcceptedImage, IsOutsideWritingProfile}
+use Rattle.lfs_model.specs.View.{IsAcceptedImage, first_pair_slots, HasValidMoveOrNone, IsEntrySlotInThread, IsSomeSlotButNotSuperblock, IsFileOrDirectoryEntry, IsStructOfKind, HasSuperblockWithInlineBytesIfAnySlot, IsSuperblockStruct, pairs_of_superblock_chain, pairs_after_superblock_chain, IsSkipListIfCtzStruct}
+use Rattle.lfs_model.specs.Profile.{IsWritableImage, IsSlotWithinWritableLimits}
+use Rattle.lfs_model.specs.Shown.{IsPathToDirectory, IsDirectoryAddressReachedBySomePath, directories_in_thread, entries_by_directory_in_thread, used_blocks, all_slots_not_moved}
+use Rattle.lfs_model.specs.examples.Images.{IsNoAcceptedImage, IsNoWritableImage}
 use Rattle.lfs_model.proofs.Acceptance.{are_apart, apart_from, all_to, rise, begins, led, on_branches, outline_in, is_move, names_slot, is_other, is_entry, has_struct_of_its_kind, is_inline, has_superblock, is_struct}
 use Rattle.lfs_model.proofs.Outlines.{is_outlined}
 use Rattle.lfs_model.proofs.Paths.{path_itself, same_itself}
@@ -29,13 +29,13 @@ use Rattle.lfs_model.proofs.Uniqueness.{one_way}
 -- ---- the thread
 
 -- what the thread begins with
-record Begun (disk : Disk) (at : Option (ℕ × ℕ)) (ps : List Pair) (c : Content) (here : ℕ × ℕ) : Type 0 where
+record Begun (disk : Disk) (at : Option (ℕ × ℕ)) (ps : List Pair) (c : PairContent) (here : ℕ × ℕ) : Type 0 where
   rest : List Pair
   is : ps ≡ record { at = here; content = c } ∷ rest
-  links : AreLinkedByTails (pair_named_by_tail c.tail) rest
+  links : AreLinkedByTails (pair_address_named_by_tail c.tail) rest
   contents : All (λ p. content_of_pair_at disk p.at ≡ Some p.content) rest
 
-begun : (disk : Disk) (ps : List Pair) (c : Content) (here : ℕ × ℕ) → AreLinkedByTails (Some here) ps → All (λ p. content_of_pair_at disk p.at ≡ Some p.content) ps → content_of_pair_at disk here ≡ Some c → Begun disk (Some here) ps c here
+begun : (disk : Disk) (ps : List Pair) (c : PairContent) (here : ℕ × ℕ) → AreLinkedByTails (Some here) ps → All (λ p. content_of_pair_at disk p.at ≡ Some p.content) ps → content_of_pair_at disk here ≡ Some c → Begun disk (Some here) ps c here
 begun disk [] c here l all is = absurd (cc)
 begun disk (p ∷ ps) c here l all is =
     let P : Pair → Type 0 = λ p. content_of_pair_at disk p.at ≡ Some p.content in
@@ -59,13 +59,13 @@ pub no_commit : (disk : Disk) → has_commit (block_bytes_on_disk disk 0) ≡ fa
 no_commit disk first second = no_first disk (rw (first, second) refl)
 
 -- the second pair holds nothing
-pub no_second : (disk : Disk) (c : Content) (to : ℕ × ℕ) → content_of_pair_at disk anchor_pair_address ≡ Some c → pair_named_by_tail c.tail ≡ Some to → content_of_pair_at disk to ≡ None → IsNoAcceptedImage disk
+pub no_second : (disk : Disk) (c : PairContent) (to : ℕ × ℕ) → content_of_pair_at disk anchor_pair_address ≡ Some c → pair_address_named_by_tail c.tail ≡ Some to → content_of_pair_at disk to ≡ None → IsNoAcceptedImage disk
 no_second disk c to first next none ps a =
     let b = begun disk ps c anchor_pair_address a.thread.links a.thread.contents first in
     none_stands disk b.rest to (rw (← next) b.links) b.contents none
 
 -- the second pair has a block of the first, or one block twice
-pub no_distinct : (disk : Disk) (c d : Content) (to : ℕ × ℕ) → content_of_pair_at disk anchor_pair_address ≡ Some c → pair_named_by_tail c.tail ≡ Some to → content_of_pair_at disk to ≡ Some d →
+pub no_distinct : (disk : Disk) (c d : PairContent) (to : ℕ × ℕ) → content_of_pair_at disk anchor_pair_address ≡ Some c → pair_address_named_by_tail c.tail ≡ Some to → content_of_pair_at disk to ≡ Some d →
     are_apart (0 ∷ 1 ∷ to.0 ∷ to.1 ∷ []) ≡ false → IsNoAcceptedImage disk
 unfolding IsDistinct
 no_distinct disk c d to first next second twice ps a =
@@ -104,8 +104,8 @@ pub fails_range : (disk : Disk) (ps : List Pair) → list_all (λ b. nat_lt b (b
 fails_range disk ps fails a = let e = all_to (λ b. nat_lt b (block_count disk)) (λ b. b < block_count disk) (λ b. lt-ltb b (block_count disk)) (blocks_of_pairs ps) a.thread.in_range in cc
 
 -- the names of a directory don't rise
-pub fails_order : (disk : Disk) (ps : List Pair) (path : Path) (at : ℕ × ℕ) → IsPathToDirectory ps path at → rise disk.order (names_of_directory_at (entries_by_directory_in_thread ps) at) ≡ false → IsAcceptedImage disk ps → ⊥
-fails_order disk ps path at leads fails a = let e = rise_to disk.order (names_of_directory_at (entries_by_directory_in_thread ps) at) (a.order path at leads) in cc
+pub fails_order : (disk : Disk) (ps : List Pair) (path : Path) (at : ℕ × ℕ) → IsPathToDirectory ps path at → rise disk.order (names_of_directory_at_address (entries_by_directory_in_thread ps) at) ≡ false → IsAcceptedImage disk ps → ⊥
+fails_order disk ps path at leads fails a = let e = rise_to disk.order (names_of_directory_at_address (entries_by_directory_in_thread ps) at) (a.order path at leads) in cc
 
 -- a path leads to what is no directory
 pub fails_branches : (disk : Disk) (ps : List Pair) (path : Path) (at : ℕ × ℕ) → IsPathToDirectory ps path at → begins ps at ≡ false → IsAcceptedImage disk ps → ⊥
@@ -120,17 +120,17 @@ fails_once disk ps path other at to leads second same apart a =
     cc
 
 -- no path leads to a directory, and the sync bit is clear
-pub fails_reached : (disk : Disk) (ps : List Pair) (k : ℕ) → (gstate_of ps).sync ≡ false → is_outlined k (entries_by_directory_in_thread ps) (root_slot (root_directory_of_pairs ps)) ≡ true →
+pub fails_reached : (disk : Disk) (ps : List Pair) (k : ℕ) → (gstate_of_pairs ps).sync ≡ false → is_outlined k (entries_by_directory_in_thread ps) (root_slot (root_directory_address_of_pairs ps)) ≡ true →
     (i : ℕ) (d : ThreadDirectory) → slice_get (directories_in_thread ps) i ≡ Some d → on_branches (λ path at. not (same_pair d.at at)) (outline_in k ps) ≡ true → IsAcceptedImage disk ps → ⊥
 fails_reached disk ps k clear whole i d is none a =
     let within = slice_get_within (directories_in_thread ps) i d is in
     let here : get_or (directories_in_thread ps) i d ≡ d = get_or_from_slice_get (directories_in_thread ps) i d d is in
-    let r : IsDirectoryReached ps d.at = subst (λ x. IsDirectoryReached ps x.at) here (a.reached clear i d within) in
+    let r : IsDirectoryAddressReachedBySomePath ps d.at = subst (λ x. IsDirectoryAddressReachedBySomePath ps x.at) here (a.reached clear i d within) in
     let e = led k ps whole (λ path at. not (same_pair d.at at)) none r.0 r.1 r.2.0 in
     let f : not (same_pair d.at r.1) ≡ not true = ap not r.2.1 in
     cc
 
-move_to : (ps : List Pair) (g : Gstate) → IsMoveOrNone ps g → is_move ps g ≡ true
+move_to : (ps : List Pair) (g : Gstate) → HasValidMoveOrNone ps g → is_move ps g ≡ true
 move_to ps g (inl h) =
     or_left (g.kind == 0x000 && (g.id == 0 && (g.pair.0 == 0 && g.pair.1 == 0))) (g.kind == 0x4ff && names_slot ps g.pair g.id)
     (and_from _ _ (eq-eqb g.kind 0 h.0) (and_from _ _ (eq-eqb g.id 0 h.1) (and_from _ _ (eq-eqb g.pair.0 0 (ap (λ (x : ℕ × ℕ). x.0) h.2)) (eq-eqb g.pair.1 0 (ap (λ (x : ℕ × ℕ). x.1) h.2)))))
@@ -138,17 +138,17 @@ move_to ps g (inr h) =
     or_right (g.kind == 0x000 && (g.id == 0 && (g.pair.0 == 0 && g.pair.1 == 0))) (g.kind == 0x4ff && names_slot ps g.pair g.id)
     (and_from _ _ (eq-eqb g.kind 0x4ff h.0) (named_to h.1))
   where
-    other_to : (o : Option Slot) → IsNoSuperblockSlot o → is_other o ≡ true
+    other_to : (o : Option Slot) → IsSomeSlotButNotSuperblock o → is_other o ≡ true
     other_to None e = absurd e
     other_to (Some s) e = ap not e
 
-    named_to : IsSlotInThread ps g.pair g.id → names_slot ps g.pair g.id ≡ true
+    named_to : IsEntrySlotInThread ps g.pair g.id → names_slot ps g.pair g.id ≡ true
     named_to n = list_any-from_Any (λ p. same_pair g.pair p.at && is_other (slice_get p.content.slots g.id)) ps
         (n.0, n.1, n.2, n.3, and_from (same_pair g.pair n.1.at) (is_other (slice_get n.1.content.slots g.id)) n.4.0 (other_to (slice_get n.1.content.slots g.id) n.4.1))
 
 -- the global state names no slot, and isn't zero
-pub fails_move : (disk : Disk) (ps : List Pair) → is_move ps (gstate_of ps) ≡ false → IsAcceptedImage disk ps → ⊥
-fails_move disk ps fails a = let e = move_to ps (gstate_of ps) a.move in cc
+pub fails_move : (disk : Disk) (ps : List Pair) → is_move ps (gstate_of_pairs ps) ≡ false → IsAcceptedImage disk ps → ⊥
+fails_move disk ps fails a = let e = move_to ps (gstate_of_pairs ps) a.move in cc
 
 -- a block is owned twice
 pub fails_owners : (disk : Disk) (ps : List Pair) → are_apart (used_blocks disk ps) ≡ false → IsAcceptedImage disk ps → ⊥
@@ -164,20 +164,20 @@ suits_to Directory (Branch to) e = refl
 suits_to Superblock s e = absurd e
 
 entry_to : (s : Slot) → IsFileOrDirectoryEntry s → is_entry s ≡ true
-entry_to s h = and_from (is_name s.name) (has_struct_of_its_kind s.kind s.struct) h.name (suits_to s.kind s.struct h.struct)
+entry_to s h = and_from (is_valid_name s.name) (has_struct_of_its_kind s.kind s.struct) h.name (suits_to s.kind s.struct h.struct)
 
 -- a slot after the superblock's pairs is no entry
 pub fails_slots : (disk : Disk) (ps : List Pair) → list_all (λ p. list_all is_entry p.content.slots) (pairs_after_superblock_chain ps) ≡ false → IsAcceptedImage disk ps → ⊥
 fails_slots disk ps fails a = let e = all_to (λ p. list_all is_entry p.content.slots) (λ p. All IsFileOrDirectoryEntry p.content.slots) (λ p. all_to is_entry IsFileOrDirectoryEntry entry_to p.content.slots) (pairs_after_superblock_chain ps) a.slots in cc
 
 -- the root directory doesn't begin with a superblock
-pub fails_root : (disk : Disk) (ps : List Pair) → starts_with_superblock (first_pair_slots (pairs_of_all_directories ps)) ≡ false → IsAcceptedImage disk ps → ⊥
+pub fails_root : (disk : Disk) (ps : List Pair) → starts_with_superblock (first_pair_slots (pairs_from_root_directory_on ps)) ≡ false → IsAcceptedImage disk ps → ⊥
 fails_root disk ps fails a = let e = sym a.root ∙ fails in cc
 
 inline_to : (bytes : List ℕ) (s : Struct) → s ≡ Inline bytes → is_inline bytes s ≡ true
 inline_to bytes s e = rw e (same_itself bytes)
 
-superblock_to : (bytes : List ℕ) (slots : List Slot) → HasSuperblockOfBytesIfAny bytes slots → has_superblock bytes slots ≡ true
+superblock_to : (bytes : List ℕ) (slots : List Slot) → HasSuperblockWithInlineBytesIfAnySlot bytes slots → has_superblock bytes slots ≡ true
 superblock_to bytes [] h = refl
 superblock_to bytes (s ∷ slots) h = and_from _ _ h.0 (and_from _ _ (inline_to bytes s.struct h.1) (all_to is_entry IsFileOrDirectoryEntry entry_to slots h.2))
 
@@ -187,15 +187,15 @@ struct_to disk bytes h =
     (and_from _ _ (eq-eqb (little_number 4 (drop 4 bytes)) disk.block_size h.block_size) (eq-eqb (little_number 4 (drop 8 bytes)) (block_count disk) h.block_count)))
 
 -- the superblock's bytes aren't those of the disk, or not those of each of its pairs
-pub fails_superblock : (disk : Disk) (ps : List Pair) (p : Pair) (rest : List Pair) (bytes : List ℕ) → pairs_of_superblock_chain ps ≡ p ∷ rest → ((held : List ℕ) → HasSuperblockOfBytesIfAny held p.content.slots → Inline bytes ≡ Inline held) →
+pub fails_superblock : (disk : Disk) (ps : List Pair) (p : Pair) (rest : List Pair) (bytes : List ℕ) → pairs_of_superblock_chain ps ≡ p ∷ rest → ((held : List ℕ) → HasSuperblockWithInlineBytesIfAnySlot held p.content.slots → Inline bytes ≡ Inline held) →
     (is_struct disk bytes && list_all (λ q. has_superblock bytes q.content.slots) (pairs_of_superblock_chain ps)) ≡ false → IsAcceptedImage disk ps → ⊥
 fails_superblock disk ps p rest bytes are first fails a =
     let held = a.superblock.0 in
     let each = a.superblock.1.1 in
-    let here : HasSuperblockOfBytesIfAny held p.content.slots = All-head (λ q. HasSuperblockOfBytesIfAny held q.content.slots) p rest (subst (All (λ q. HasSuperblockOfBytesIfAny held q.content.slots)) are each) in
+    let here : HasSuperblockWithInlineBytesIfAnySlot held p.content.slots = All-head (λ q. HasSuperblockWithInlineBytesIfAnySlot held q.content.slots) p rest (subst (All (λ q. HasSuperblockWithInlineBytesIfAnySlot held q.content.slots)) are each) in
     let same : bytes ≡ held = let e = first held here in cc in
     let struct = struct_to disk held a.superblock.1.0 in
-    let pairs = all_to (λ q. has_superblock held q.content.slots) (λ q. HasSuperblockOfBytesIfAny held q.content.slots) (λ q. superblock_to held q.content.slots) (pairs_of_superblock_chain ps) each in
+    let pairs = all_to (λ q. has_superblock held q.content.slots) (λ q. HasSuperblockWithInlineBytesIfAnySlot held q.content.slots) (λ q. superblock_to held q.content.slots) (pairs_of_superblock_chain ps) each in
     let pass : (is_struct disk held && list_all (λ q. has_superblock held q.content.slots) (pairs_of_superblock_chain ps)) ≡ true = and_from (is_struct disk held) (list_all (λ q. has_superblock held q.content.slots) (pairs_of_superblock_chain ps)) struct pairs in
     let now = rw (← same) at pass in
     cc
@@ -205,25 +205,25 @@ is_list_if_ctz disk (Ctz head size) = is_list disk.blocks disk.block_size head s
 is_list_if_ctz disk (Inline bytes) = true
 is_list_if_ctz disk (Branch to) = true
 
-ctz_to : (disk : Disk) (s : Struct) → IsListIfCtz disk s → is_list_if_ctz disk s ≡ true
+ctz_to : (disk : Disk) (s : Struct) → IsSkipListIfCtzStruct disk s → is_list_if_ctz disk s ≡ true
 ctz_to disk (Ctz head size) h = list_to disk.blocks disk.block_size head size h
 ctz_to disk (Inline bytes) h = refl
 ctz_to disk (Branch to) h = refl
 
 -- a file's list isn't well formed
 pub fails_lists : (disk : Disk) (ps : List Pair) → list_all (λ s. is_list_if_ctz disk s.struct) (all_slots_not_moved ps) ≡ false → IsAcceptedImage disk ps → ⊥
-fails_lists disk ps fails a = let e = all_to (λ s. is_list_if_ctz disk s.struct) (λ s. IsListIfCtz disk s.struct) (λ s. ctz_to disk s.struct) (all_slots_not_moved ps) a.lists in cc
+fails_lists disk ps fails a = let e = all_to (λ s. is_list_if_ctz disk s.struct) (λ s. IsSkipListIfCtzStruct disk s.struct) (λ s. ctz_to disk s.struct) (all_slots_not_moved ps) a.lists in cc
 
 -- ---- images that may not be written
 
-pub read_only_with : (disk : Disk) (qs : List Pair) → AreLinkedByTails (Some anchor_pair_address) qs → AllByRecursion (λ p. content_of_pair_at disk p.at ≡ Some p.content) qs → (IsWritable disk qs → ⊥) → IsOutsideWritingProfile disk
+pub read_only_with : (disk : Disk) (qs : List Pair) → AreLinkedByTails (Some anchor_pair_address) qs → AllByRecursion (λ p. content_of_pair_at disk p.at ≡ Some p.content) qs → (IsWritableImage disk qs → ⊥) → IsNoWritableImage disk
 read_only_with disk qs links contents never ps a w =
     let is : ps ≡ qs = one_way (content_of_pair_at disk) (Some anchor_pair_address) ps qs a.thread.links links a.thread.contents (All-from_recursion (λ p. content_of_pair_at disk p.at ≡ Some p.content) qs contents) in
-    never (subst (IsWritable disk) is w)
+    never (subst (IsWritableImage disk) is w)
 
 -- a slot of a pair that doesn't fit
-pub fails_slot : (disk : Disk) (ps : List Pair) (i k : ℕ) (p : Pair) (s : Slot) → slice_get ps i ≡ Some p → slice_get p.content.slots k ≡ Some s → (FitsSlotLimits disk.block_size disk.page s → ⊥) → IsWritable disk ps → ⊥
+pub fails_slot : (disk : Disk) (ps : List Pair) (i k : ℕ) (p : Pair) (s : Slot) → slice_get ps i ≡ Some p → slice_get p.content.slots k ≡ Some s → (IsSlotWithinWritableLimits disk.block_size disk.page s → ⊥) → IsWritableImage disk ps → ⊥
 fails_slot disk ps i k p s pair slot never w =
-    let P : Pair → Type 0 = λ p. All (FitsSlotLimits disk.block_size disk.page) p.content.slots in
+    let P : Pair → Type 0 = λ p. All (IsSlotWithinWritableLimits disk.block_size disk.page) p.content.slots in
     let held : P p = subst P (get_or_from_slice_get ps i p p pair) (w.slots i p (slice_get_within ps i p pair)) in
-    never (subst (FitsSlotLimits disk.block_size disk.page) (get_or_from_slice_get p.content.slots k s s slot) (held k s (slice_get_within p.content.slots k s slot)))
+    never (subst (IsSlotWithinWritableLimits disk.block_size disk.page) (get_or_from_slice_get p.content.slots k s s slot) (held k s (slice_get_within p.content.slots k s slot)))

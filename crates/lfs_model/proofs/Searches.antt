@@ -10,13 +10,13 @@ use Rattle.std.proofs.lemmas.Bool.{false_from_ne_true}
 use Rattle.lfs_model.specs.Disk.{Disk}
 use Rattle.lfs_model.specs.Names.{Name, name_cmp}
 use Rattle.lfs_model.specs.Slots.{Slot, is_superblock, same_pair}
-use Rattle.lfs_model.specs.Thread.{Pair, is_hard_tail, blocks_of_pairs, gstate_of, pair_count_before_root, pairs_of_all_directories}
+use Rattle.lfs_model.specs.Thread.{Pair, is_hard_tail, blocks_of_pairs, gstate_of_pairs, pair_count_before_root, pairs_from_root_directory_on}
 use Rattle.lfs_model.specs.Tree.{Path}
 use Rattle.lfs_model.specs.View.{IsAcceptedImage, IsFileOrDirectoryEntry}
 use Rattle.lfs_model.specs.Shown.{IsPathToDirectory, entries_by_directory_in_thread}
 use Rattle.lfs_model.specs.SlotEdits.{slot_of_path}
 use Rattle.lfs_model.specs.Frame.{pairs_joined_by_hard_tails, pairs_of_directory, pair_count_of_directory_at}
-use Rattle.lfs_model.specs.InDirectory.{entries_only, slots_in, BeginsWithGreaterName, HaveNoSuperblock, HasHardTail, hard_tail_joined_pair_count, HaveHardTailsButLast, last_has_hard_tail, IsPairOfDirectory, IsPairAtAddress, IsPlaceOfNameInDirectory, IsPlaceWhereNameBelongs}
+use Rattle.lfs_model.specs.InDirectory.{slots_without_superblock, slots_of_pairs_in_order, HasFirstSlotGreaterName, ArePairsWithoutSuperblock, HasHardTail, hard_tail_joined_pair_count, HaveHardTailsButLast, last_pair_has_hard_tail, IsPairOfDirectory, IsPairAtAddress, IsPlaceOfNameInDirectory, IsPlaceWhereNameBelongs}
 use Rattle.lfs_model.proofs.Counts.{Each, each_append, each_right, each_weaker}
 use Rattle.lfs_model.proofs.Global.{HasNoMove}
 use Rattle.lfs_model.proofs.Pairs.{pair_back, pair_on}
@@ -53,13 +53,13 @@ get_behind (x ∷ xs) p ys = get_behind xs p ys
 
 -- the pair at a directory's address is the directory's first
 pub record IsDirectory (ps : List Pair) (a : ℕ × ℕ) (first : ℕ) : Type 0 where
-  pub directory : HasDirectory (pairs_of_all_directories ps) a
+  pub directory : HasDirectory (pairs_from_root_directory_on ps) a
   pub number : first ≡ pair_count_before_root ps + length directory.before
 
 pub begins_directory : (disk : Disk) (ps : List Pair) (P : Path) (a : ℕ × ℕ) (first : ℕ) → IsAcceptedImage disk ps → IsPathToDirectory ps P a → IsPairAtAddress ps a first → IsDirectory ps a first
 begins_directory disk ps P a first ok leads b = record { directory = d; number = number }
   where
-    d : HasDirectory (pairs_of_all_directories ps) a
+    d : HasDirectory (pairs_from_root_directory_on ps) a
     d = led_directory disk ps P a ok leads
 
     chain : List Pair
@@ -109,7 +109,7 @@ length_run p [] after h = ap (λ b. cond b (1 + hard_tail_joined_pair_count afte
 length_run p (q ∷ run) after h = ap (λ b. cond b (1 + hard_tail_joined_pair_count (q ∷ (run ++ after))) 1) h.0 ∙ (let e = length_run q run after h.1 in omega (arith, e))
 
 -- the pairs of a directory that a path leads to, and how many they are
-pub directory_pairs_at : (disk : Disk) (ps : List Pair) (P : Path) (a : ℕ × ℕ) (ok : IsAcceptedImage disk ps) → IsPathToDirectory ps P a → (d : HasDirectory (pairs_of_all_directories ps) a) → pairs_of_directory ps a ≡ d.first ∷ d.run
+pub directory_pairs_at : (disk : Disk) (ps : List Pair) (P : Path) (a : ℕ × ℕ) (ok : IsAcceptedImage disk ps) → IsPathToDirectory ps P a → (d : HasDirectory (pairs_from_root_directory_on ps) a) → pairs_of_directory ps a ≡ d.first ∷ d.run
 directory_pairs_at disk ps P a ok leads d =
     let whole : ps ≡ (take (pair_count_before_root ps) ps ++ d.before) ++ (d.first ∷ (d.run ++ d.after))
     = (chain_of_thread ps).0 ∙ ap (λ z. take (pair_count_before_root ps) ps ++ z) d.is ∙ sym (append_assoc (take (pair_count_before_root ps) ps) d.before (d.first ∷ (d.run ++ d.after))) in
@@ -172,7 +172,7 @@ run_parts (r ∷ q ∷ run) (l ∷ left) pair rest after some is joined e =
 record Goes (pair : Pair) (ys later : List Pair) : Type 0 where
   more : List Pair
   is : ys ≡ later ++ more
-  last : last_has_hard_tail pair later ≡ false → more ≡ []
+  last : last_pair_has_hard_tail pair later ≡ false → more ≡ []
 
 goes : (pair : Pair) (ys later rest after : List Pair) → IsRun (pair ∷ ys) → HaveHardTailsButLast pair later → later ++ rest ≡ ys ++ after → Goes pair ys later
 goes pair [] [] rest after is runs e = record { more = []; is = refl; last = λ k. refl }
@@ -193,7 +193,7 @@ module _ (disk : Disk) (ps : List Pair) (P : Path) (a : ℕ × ℕ) (ok : IsAcce
   pub begun : IsDirectory ps a first
   begun = begins_directory disk ps P a first ok leads begins
 
-  abbrev d : HasDirectory (pairs_of_all_directories ps) a
+  abbrev d : HasDirectory (pairs_from_root_directory_on ps) a
   d = begun.directory
 
   chain_length : length chain ≡ pair_count_before_root ps
@@ -215,8 +215,8 @@ module _ (disk : Disk) (ps : List Pair) (P : Path) (a : ℕ × ℕ) (ok : IsAcce
   pub site : Site
   site = record { chain = chain; before = d.before; left = b.left; right = parted.ys; after = d.after }
 
-  in_directory : IsInDirectory chain (pairs_of_all_directories ps) a pair (record { chain = chain; before = d.before; left = b.left; right = parted.ys; after = d.after })
-  in_directory = site_in_directory chain (pairs_of_all_directories ps) a (chain_of_thread ps).1 d b.left pair parted.ys parted.is
+  in_directory : IsInDirectory chain (pairs_from_root_directory_on ps) a pair (record { chain = chain; before = d.before; left = b.left; right = parted.ys; after = d.after })
+  in_directory = site_in_directory chain (pairs_from_root_directory_on ps) a (chain_of_thread ps).1 d b.left pair parted.ys parted.is
 
   pub thread_is : ps ≡ thread_at site (pair ∷ [])
   unfolding site
@@ -236,7 +236,7 @@ module _ (disk : Disk) (ps : List Pair) (P : Path) (a : ℕ × ℕ) (ok : IsAcce
 
 -- ---- a name that stands there
 
-pub slot_of_stands : (disk : Disk) (ps : List Pair) (P : Path) (a : ℕ × ℕ) (ok : IsAcceptedImage disk ps) (leads : IsPathToDirectory ps P a) (first index id : ℕ) (name : Name) → HasNoMove (gstate_of ps)
+pub slot_of_stands : (disk : Disk) (ps : List Pair) (P : Path) (a : ℕ × ℕ) (ok : IsAcceptedImage disk ps) (leads : IsPathToDirectory ps P a) (first index id : ℕ) (name : Name) → HasNoMove (gstate_of_pairs ps)
     → (s : IsPlaceOfNameInDirectory ps first name index id) → IsPairAtAddress ps a first → slot_of_path ps (P ++ name ∷ []) ≡ Some s.stands.slot
 slot_of_stands disk ps P a ok leads first index id name none s begins =
     let w = site disk ps P a ok leads first index s.pair s.rest s.place begins in
@@ -244,7 +244,7 @@ slot_of_stands disk ps P a ok leads first index id name none s begins =
     subst (λ z. slot_of_path ps (P ++ z ∷ []) ≡ Some s.stands.slot) s.stands.named
     (subst (λ z. slot_of_path z (P ++ s.stands.slot.name ∷ []) ≡ Some s.stands.slot) (sym is)
     (slot_found disk w s.pair s.stands.left s.stands.slot s.stands.right P a (subst (IsAcceptedImage disk) is ok) (is_site disk ps P a ok leads first index s.pair s.rest s.place begins)
-    (subst (λ z. HasNoMove (gstate_of z)) is none) (subst (λ z. IsPathToDirectory z P a) is leads) (same disk ps P a ok leads first index s.pair s.rest s.place begins) s.stands.held s.stands.entry))
+    (subst (λ z. HasNoMove (gstate_of_pairs z)) is none) (subst (λ z. IsPathToDirectory z P a) is leads) (same disk ps P a ok leads first index s.pair s.rest s.place begins) s.stands.held s.stands.entry))
 
 -- ---- a name that belongs there
 
@@ -259,7 +259,7 @@ last_of [] n = absurd (n refl)
 last_of (x ∷ []) n = record { front = []; last = x; is = refl }
 last_of (x ∷ y ∷ xs) n = let l = last_of (y ∷ xs) (λ e. absurd (cc)) in record { front = x ∷ l.front; last = l.last; is = ap (λ z. x ∷ z) l.is }
 
-module _ (disk : Disk) (ps : List Pair) (P : Path) (a : ℕ × ℕ) (ok : IsAcceptedImage disk ps) (leads : IsPathToDirectory ps P a) (first index id : ℕ) (name : Name) (none : HasNoMove (gstate_of ps))
+module _ (disk : Disk) (ps : List Pair) (P : Path) (a : ℕ × ℕ) (ok : IsAcceptedImage disk ps) (leads : IsPathToDirectory ps P a) (first index id : ℕ) (name : Name) (none : HasNoMove (gstate_of_pairs ps))
     (b : IsPlaceWhereNameBelongs disk.order ps first name index id) (begins : IsPairAtAddress ps a first) where
   abbrev at_site : Site
   at_site = site disk ps P a ok leads first index b.pair (b.later ++ b.rest) b.place begins
@@ -276,7 +276,7 @@ module _ (disk : Disk) (ps : List Pair) (P : Path) (a : ℕ × ℕ) (ok : IsAcce
   shows : entries_by_directory_in_thread ps a ≡ shown_before at_site b.left ++ shown_behind at_site b.right
   shows = ap (λ z. entries_by_directory_in_thread z a) whole
       ∙ site_shows disk at_site b.pair b.left [] b.right a (subst (IsAcceptedImage disk) whole ok) (is_site disk ps P a ok leads first index b.pair (b.later ++ b.rest) b.place begins)
-      (subst (λ z. HasNoMove (gstate_of z)) whole none) (same disk ps P a ok leads first index b.pair (b.later ++ b.rest) b.place begins) b.held
+      (subst (λ z. HasNoMove (gstate_of_pairs z)) whole none) (same disk ps P a ok leads first index b.pair (b.later ++ b.rest) b.place begins) b.held
 
   rises : Rise disk.order (shown_before at_site b.left ++ shown_behind at_site b.right)
   rises = subst (Rise disk.order) shows (ok.order P a leads)
@@ -288,16 +288,16 @@ module _ (disk : Disk) (ps : List Pair) (P : Path) (a : ℕ × ℕ) (ok : IsAcce
   less : Each (λ s. name_cmp disk.order s.name name ≡ Less) (shown_before at_site b.left)
   less = go b.not_before
     where
-      before_is : entries_only (slots_in at_site.left ++ b.left) ≡ entries_only (slots_in at_site.left) ++ entries_only b.left
-      before_is = filter-append (λ (s : Slot). not (is_superblock s)) (slots_in at_site.left) b.left
+      before_is : slots_without_superblock (slots_of_pairs_in_order at_site.left ++ b.left) ≡ slots_without_superblock (slots_of_pairs_in_order at_site.left) ++ slots_without_superblock b.left
+      before_is = filter-append (λ (s : Slot). not (is_superblock s)) (slots_of_pairs_in_order at_site.left) b.left
 
-      go : (b.place.left ≡ []) ⊎ (entries_only b.left ≢ []) → Each (λ s. name_cmp disk.order s.name name ≡ Less) (entries_only (slots_in at_site.left ++ b.left))
-      go (inl e) = subst (λ (z : List Pair). Each (λ s. name_cmp disk.order s.name name ≡ Less) (entries_only (slots_in z ++ b.left))) (sym (left_is ∙ e)) b.less
+      go : (b.place.left ≡ []) ⊎ (slots_without_superblock b.left ≢ []) → Each (λ s. name_cmp disk.order s.name name ≡ Less) (slots_without_superblock (slots_of_pairs_in_order at_site.left ++ b.left))
+      go (inl e) = subst (λ (z : List Pair). Each (λ s. name_cmp disk.order s.name name ≡ Less) (slots_without_superblock (slots_of_pairs_in_order z ++ b.left))) (sym (left_is ∙ e)) b.less
       go (inr n) =
-          let l = last_of (entries_only b.left) n in
-          let f = entries_only (slots_in at_site.left) in
+          let l = last_of (slots_without_superblock b.left) n in
+          let f = slots_without_superblock (slots_of_pairs_in_order at_site.left) in
           let last = each_right (λ s. name_cmp disk.order s.name name ≡ Less) l.front (l.last ∷ []) (subst (Each (λ s. name_cmp disk.order s.name name ≡ Less)) l.is b.less) in
-          let are : entries_only (slots_in at_site.left ++ b.left) ≡ (f ++ l.front) ++ l.last ∷ [] = before_is ∙ ap (λ z. f ++ z) l.is ∙ sym (append_assoc f l.front (l.last ∷ [])) in
+          let are : slots_without_superblock (slots_of_pairs_in_order at_site.left ++ b.left) ≡ (f ++ l.front) ++ l.last ∷ [] = before_is ∙ ap (λ z. f ++ z) l.is ∙ sym (append_assoc f l.front (l.last ∷ [])) in
           let up : Rise disk.order ((f ++ l.front) ++ l.last ∷ shown_behind at_site b.right) =
           subst (Rise disk.order) (ap (λ z. z ++ shown_behind at_site b.right) are ∙ append_assoc (f ++ l.front) (l.last ∷ []) (shown_behind at_site b.right)) rises in
           subst (Each (λ s. name_cmp disk.order s.name name ≡ Less)) (sym are)
@@ -306,24 +306,24 @@ module _ (disk : Disk) (ps : List Pair) (P : Path) (a : ℕ × ℕ) (ok : IsAcce
   greater : Each (λ s. name_cmp disk.order name s.name ≡ Less) (shown_behind at_site b.right)
   greater = go b.not_behind
     where
-      behind_is : entries_only (b.right ++ slots_in at_site.right) ≡ entries_only (b.right ++ slots_in b.later) ++ entries_only (slots_in goes_there.more)
-      behind_is = ap (λ z. entries_only (b.right ++ slots_in z)) goes_there.is
-          ∙ ap (λ z. entries_only (b.right ++ z)) (flat_map-append (λ (p : Pair). p.content.slots) b.later goes_there.more)
-          ∙ ap entries_only (sym (append_assoc b.right (slots_in b.later) (slots_in goes_there.more)))
-          ∙ filter-append (λ (s : Slot). not (is_superblock s)) (b.right ++ slots_in b.later) (slots_in goes_there.more)
+      behind_is : slots_without_superblock (b.right ++ slots_of_pairs_in_order at_site.right) ≡ slots_without_superblock (b.right ++ slots_of_pairs_in_order b.later) ++ slots_without_superblock (slots_of_pairs_in_order goes_there.more)
+      behind_is = ap (λ z. slots_without_superblock (b.right ++ slots_of_pairs_in_order z)) goes_there.is
+          ∙ ap (λ z. slots_without_superblock (b.right ++ z)) (flat_map-append (λ (p : Pair). p.content.slots) b.later goes_there.more)
+          ∙ ap slots_without_superblock (sym (append_assoc b.right (slots_of_pairs_in_order b.later) (slots_of_pairs_in_order goes_there.more)))
+          ∙ filter-append (λ (s : Slot). not (is_superblock s)) (b.right ++ slots_of_pairs_in_order b.later) (slots_of_pairs_in_order goes_there.more)
 
-      go : BeginsWithGreaterName disk.order name (entries_only (b.right ++ slots_in b.later)) ⊎ ((entries_only (b.right ++ slots_in b.later) ≡ []) × (last_has_hard_tail b.pair b.later ≡ false)) →
-          Each (λ s. name_cmp disk.order name s.name ≡ Less) (entries_only (b.right ++ slots_in at_site.right))
+      go : HasFirstSlotGreaterName disk.order name (slots_without_superblock (b.right ++ slots_of_pairs_in_order b.later)) ⊎ ((slots_without_superblock (b.right ++ slots_of_pairs_in_order b.later) ≡ []) × (last_pair_has_hard_tail b.pair b.later ≡ false)) →
+          Each (λ s. name_cmp disk.order name s.name ≡ Less) (slots_without_superblock (b.right ++ slots_of_pairs_in_order at_site.right))
       go (inl begins) =
-          let are : entries_only (b.right ++ slots_in at_site.right) ≡ begins.first ∷ (begins.rest ++ entries_only (slots_in goes_there.more)) =
-          behind_is ∙ ap (λ z. z ++ entries_only (slots_in goes_there.more)) begins.are in
+          let are : slots_without_superblock (b.right ++ slots_of_pairs_in_order at_site.right) ≡ begins.first ∷ (begins.rest ++ slots_without_superblock (slots_of_pairs_in_order goes_there.more)) =
+          behind_is ∙ ap (λ z. z ++ slots_without_superblock (slots_of_pairs_in_order goes_there.more)) begins.are in
           subst (Each (λ s. name_cmp disk.order name s.name ≡ Less)) (sym are) (
             begins.above,
-            greater_behind disk.order begins.first (begins.rest ++ entries_only (slots_in goes_there.more)) name
-                (rise_right disk.order (shown_before at_site b.left) (begins.first ∷ (begins.rest ++ entries_only (slots_in goes_there.more))) (subst (λ z. Rise disk.order (shown_before at_site b.left ++ z)) are rises)) begins.above,
+            greater_behind disk.order begins.first (begins.rest ++ slots_without_superblock (slots_of_pairs_in_order goes_there.more)) name
+                (rise_right disk.order (shown_before at_site b.left) (begins.first ∷ (begins.rest ++ slots_without_superblock (slots_of_pairs_in_order goes_there.more))) (subst (λ z. Rise disk.order (shown_before at_site b.left ++ z)) are rises)) begins.above,
           )
       go (inr (nothing, last)) =
-          subst (Each (λ s. name_cmp disk.order name s.name ≡ Less)) (sym (behind_is ∙ ap₂ (λ x (y : List Pair). x ++ entries_only (slots_in y)) nothing (goes_there.last last))) tt
+          subst (Each (λ s. name_cmp disk.order name s.name ≡ Less)) (sym (behind_is ∙ ap₂ (λ x (y : List Pair). x ++ slots_without_superblock (slots_of_pairs_in_order y)) nothing (goes_there.last last))) tt
 
   pub place_of_belongs : IsPlace disk.order (entries_by_directory_in_thread ps a) (place_at at_site b.left) name
   place_of_belongs = subst (λ z. IsPlace disk.order z (place_at at_site b.left) name) (sym shows) (place_between (shown_before at_site b.left) (shown_behind at_site b.right) name less greater)
@@ -339,7 +339,7 @@ each_dropped P (suc m) (suc n) [] l h = tt
 each_dropped P (suc m) (suc n) (p ∷ ps) l h = each_dropped P m n ps (omega arith) h
 
 -- after the first pair of a directory
-pub plain_behind : (disk : Disk) (ps : List Pair) (first : ℕ) → IsAcceptedImage disk ps → pair_count_before_root ps ≤ first → HaveNoSuperblock (drop (first + 1) ps)
+pub plain_behind : (disk : Disk) (ps : List Pair) (first : ℕ) → IsAcceptedImage disk ps → pair_count_before_root ps ≤ first → ArePairsWithoutSuperblock (drop (first + 1) ps)
 plain_behind disk ps first ok low =
     each_weaker (λ (p : Pair). All IsFileOrDirectoryEntry p.content.slots) (λ (p : Pair). Each (λ s. is_superblock s ≡ false) p.content.slots)
     (λ p h. each_weaker IsFileOrDirectoryEntry (λ s. is_superblock s ≡ false) entry_is_other p.content.slots (recursion_from_All IsFileOrDirectoryEntry p.content.slots h)) (drop (first + 1) ps)

@@ -4,15 +4,15 @@ use Rattle.std.proofs.lemmas.List.{append_cancel_right}
 use Rattle.std.proofs.lemmas.List.Elements.{All-head}
 use Rattle.lfs_model.specs.Blocks.{Blocks}
 use Rattle.lfs_model.specs.Disk.{Disk}
-use Rattle.lfs_model.specs.History.{CallEvent, IsTrueOfEachCall, IsTrueOfEachCallSince, IsLeftByNewestCall, IsTrueAfterEachStopSince}
-use Rattle.lfs_model.specs.Conformance.{IsConformingCall, AreConformingCalls}
-use Rattle.lfs_model.specs.Stops.{IsLeftByStopIn, LeavesNoNewLogIfErase}
-use Rattle.lfs_model.specs.FailedCalls.{AreFailedCallsSinceLikeStops}
+use Rattle.lfs_model.specs.History.{DeviceCallEvent, IsTrueOfEachCall, IsTrueOfEachCallSince, AreBlocksLeftByNewestCall, IsTrueAfterAnyPowerLossSince}
+use Rattle.lfs_model.specs.Conformance.{IsConformingDeviceCall, AreConformingDeviceCalls}
+use Rattle.lfs_model.specs.Stops.{AreBlocksLeftByPowerLossInCall, LeavesNoNewLogIfSuccessfulErase}
+use Rattle.lfs_model.specs.FailedCalls.{AreFailedDeviceCallsLikePowerLossSince}
 use Rattle.lfs_model.specs.Operations.{Operation}
-use Rattle.lfs_model.specs.PowerLoss.{IsLikeStopIfFailed, IsHealthyInWritingProfile, ShowsTreeBeforeOrAfter, IsOperationSurvivingStops, IsOperationSurvivingPowerLoss, with_blocks}
-use Rattle.lfs_model.specs.Run.{HasDiskTreeIfHealthy, SystemState}
+use Rattle.lfs_model.specs.PowerLoss.{IsLikePowerLossIfCallFailed, IsHealthySessionOnWritableDisk, HasTreeBeforeOrAfterOperation, IsOperationSurvivingPowerLossInCalls, IsOperationSurvivingPowerLoss, disk_with_blocks}
+use Rattle.lfs_model.specs.Run.{HealthySessionHasTreeOfDisk, SystemState}
 use Rattle.lfs_model.specs.Session.{Session, DiskSummary}
-use Rattle.lfs_model.specs.Effects.{refusal_or_effect}
+use Rattle.lfs_model.specs.Effects.{refusal_or_effect_of_operation}
 use Rattle.lfs_model.specs.Shown.{tree_on_disk}
 use Rattle.lfs_model.specs.Standing.{AreStatesOfConformingDevice}
 use Rattle.lfs_model.specs.Thread.{Pair}
@@ -24,65 +24,65 @@ use Rattle.lfs_model.proofs.Conformance.{conforming_stops}
 -- ---- the newest call
 
 -- where there was a call, the newest shows the blocks
-pub same_blocks : (history : List CallEvent) (one other : Blocks) → history ≢ [] → IsLeftByNewestCall history one → IsLeftByNewestCall history other → one ≡ other
+pub same_blocks : (history : List DeviceCallEvent) (one other : Blocks) → history ≢ [] → AreBlocksLeftByNewestCall history one → AreBlocksLeftByNewestCall history other → one ≡ other
 same_blocks [] one other called first second = absurd (called refl)
 same_blocks (e ∷ older) one other called first second = sym (first e older refl) ∙ second e older refl
 
 -- what all calls since have, the newest has
-newest_has : {P : CallEvent → Type 0} {old new : List CallEvent} (e : CallEvent) (events : List CallEvent) → IsTrueOfEachCallSince P old new → new ≡ (e ∷ events) ++ old → P e
+newest_has : {P : DeviceCallEvent → Type 0} {old new : List DeviceCallEvent} (e : DeviceCallEvent) (events : List DeviceCallEvent) → IsTrueOfEachCallSince P old new → new ≡ (e ∷ events) ++ old → P e
 newest_has {P} {old} e events all is = (subst (IsTrueOfEachCall P) (append_cancel_right all.events (e ∷ events) old (sym all.extends ∙ is)) all.each).0
 
 -- what a call left is among what a stop in it may leave, whether it failed or not
-left_as_stopped : (e : CallEvent) → IsConformingCall e → LeavesNoNewLogIfErase e → IsLikeStopIfFailed e → IsLeftByStopIn e e.after
+left_as_stopped : (e : DeviceCallEvent) → IsConformingDeviceCall e → LeavesNoNewLogIfSuccessfulErase e → IsLikePowerLossIfCallFailed e → AreBlocksLeftByPowerLossInCall e e.after
 left_as_stopped e conforms clean fails = go e.failed refl
   where
-    go : (failed : Bool) → e.failed ≡ failed → IsLeftByStopIn e e.after
+    go : (failed : Bool) → e.failed ≡ failed → AreBlocksLeftByPowerLossInCall e e.after
     go true is = fails is
     go false is = conforming_stops e conforms is clean
 
 -- ---- what stands
 
 -- What stops leave has P, and so has what stands where there was no call: what is after the last call has it, too.
-pub stands : {P : Blocks → Type 0} {old new : List CallEvent} (last : Blocks) → (new ≡ old → P last) → IsLeftByNewestCall new last → AreConformingCalls new
-    → IsTrueAfterEachStopSince IsLeftByStopIn old new P → IsTrueOfEachCallSince LeavesNoNewLogIfErase old new → AreFailedCallsSinceLikeStops old new → P last
+pub stands : {P : Blocks → Type 0} {old new : List DeviceCallEvent} (last : Blocks) → (new ≡ old → P last) → AreBlocksLeftByNewestCall new last → AreConformingDeviceCalls new
+    → IsTrueAfterAnyPowerLossSince AreBlocksLeftByPowerLossInCall old new P → IsTrueOfEachCallSince LeavesNoNewLogIfSuccessfulErase old new → AreFailedDeviceCallsLikePowerLossSince old new → P last
 stands {P} {old} {new} last untouched newest conforms since cleanly fails = go since.events since.extends since.each
   where
-    go : (events : List CallEvent) → new ≡ events ++ old → IsTrueOfEachCall (λ e. (disk : Blocks) → IsLeftByStopIn e disk → P disk) events → P last
+    go : (events : List DeviceCallEvent) → new ≡ events ++ old → IsTrueOfEachCall (λ e. (disk : Blocks) → AreBlocksLeftByPowerLossInCall e disk → P disk) events → P last
     go [] same each = untouched same
     go (e ∷ events) same each =
-        let done = All-head IsConformingCall e (events ++ old) (subst AreConformingCalls same conforms) in
+        let done = All-head IsConformingDeviceCall e (events ++ old) (subst AreConformingDeviceCalls same conforms) in
         let left = left_as_stopped e done (newest_has e events cleanly same) (newest_has e events fails same) in
         subst P (newest e (events ++ old) same) (each.0 e.after left)
 
 -- the same of a device that had been called before, from what stood then
-pub stands_since : {P : Blocks → Type 0} {old new : List CallEvent} (first last : Blocks) → old ≢ [] → IsLeftByNewestCall old first → IsLeftByNewestCall new last → AreConformingCalls new
-    → IsTrueAfterEachStopSince IsLeftByStopIn old new P → IsTrueOfEachCallSince LeavesNoNewLogIfErase old new → AreFailedCallsSinceLikeStops old new → P first → P last
+pub stands_since : {P : Blocks → Type 0} {old new : List DeviceCallEvent} (first last : Blocks) → old ≢ [] → AreBlocksLeftByNewestCall old first → AreBlocksLeftByNewestCall new last → AreConformingDeviceCalls new
+    → IsTrueAfterAnyPowerLossSince AreBlocksLeftByPowerLossInCall old new P → IsTrueOfEachCallSince LeavesNoNewLogIfSuccessfulErase old new → AreFailedDeviceCallsLikePowerLossSince old new → P first → P last
 stands_since {P} {old} {new} first last called then now conforms since cleanly fails here =
-    stands {P = P} {old = old} {new = new} last (λ same. subst P (same_blocks old first last called then (subst (λ (history : List CallEvent). IsLeftByNewestCall history last) same now)) here) now conforms since cleanly fails
+    stands {P = P} {old = old} {new = new} last (λ same. subst P (same_blocks old first last called then (subst (λ (history : List DeviceCallEvent). AreBlocksLeftByNewestCall history last) same now)) here) now conforms since cleanly fails
 
 -- ---- an operation
 
 -- two states of a device that had been called before
-pub one_device : (from to : SystemState) → from.calls ≢ [] → IsLeftByNewestCall from.calls from.disk.blocks → IsLeftByNewestCall to.calls to.disk.blocks → AreConformingCalls to.calls
-    → to.disk ≡ with_blocks to.disk.blocks from.disk → AreStatesOfConformingDevice from to
+pub one_device : (from to : SystemState) → from.calls ≢ [] → AreBlocksLeftByNewestCall from.calls from.disk.blocks → AreBlocksLeftByNewestCall to.calls to.disk.blocks → AreConformingDeviceCalls to.calls
+    → to.disk ≡ disk_with_blocks to.disk.blocks from.disk → AreStatesOfConformingDevice from to
 one_device from to called then now conforms same = record {
-  stays = λ silent. same ∙ ap (λ (blocks : Blocks). with_blocks blocks from.disk)
-      (sym (same_blocks from.calls from.disk.blocks to.disk.blocks called then (subst (λ (history : List CallEvent). IsLeftByNewestCall history to.disk.blocks) silent now)));
+  stays = λ silent. same ∙ ap (λ (blocks : Blocks). disk_with_blocks blocks from.disk)
+      (sym (same_blocks from.calls from.disk.blocks to.disk.blocks called then (subst (λ (history : List DeviceCallEvent). AreBlocksLeftByNewestCall history to.disk.blocks) silent now)));
   same = same;
   newest = now;
   conforms = conforms;
 }
 
-pub device_survives_loss : (from to : SystemState) (op : Operation) → HasDiskTreeIfHealthy from.disk from.state → AreStatesOfConformingDevice from to → IsOperationSurvivingStops from op to → IsOperationSurvivingPowerLoss from op to
+pub device_survives_loss : (from to : SystemState) (op : Operation) → HealthySessionHasTreeOfDisk from.disk from.state → AreStatesOfConformingDevice from to → IsOperationSurvivingPowerLossInCalls from op to → IsOperationSurvivingPowerLoss from op to
 device_survives_loss from to op agrees device survives = record { stops = survives; stands = behind }
   where
-    behind : (s : Session) (ps : List Pair) (around : DiskSummary) → IsHealthyInWritingProfile from s ps around
-        → IsTrueOfEachCallSince LeavesNoNewLogIfErase from.calls to.calls → IsTrueOfEachCallSince IsLikeStopIfFailed from.calls to.calls → ShowsTreeBeforeOrAfter to.disk s.tree (refusal_or_effect around s op).1.tree
+    behind : (s : Session) (ps : List Pair) (around : DiskSummary) → IsHealthySessionOnWritableDisk from s ps around
+        → IsTrueOfEachCallSince LeavesNoNewLogIfSuccessfulErase from.calls to.calls → IsTrueOfEachCallSince IsLikePowerLossIfCallFailed from.calls to.calls → HasTreeBeforeOrAfterOperation to.disk s.tree (refusal_or_effect_of_operation around s op).1.tree
     behind s ps around work cleanly fails =
-        let after : Tree = (refusal_or_effect around s op).1.tree in
-        let tree = one_tree from.disk (tree_on_disk from.disk ps) s.tree (ps, (work.accepted, refl)) (subst (HasDiskTreeIfHealthy from.disk) work.healthy agrees) in
+        let after : Tree = (refusal_or_effect_of_operation around s op).1.tree in
+        let tree = one_tree from.disk (tree_on_disk from.disk ps) s.tree (ps, (work.accepted, refl)) (subst (HealthySessionHasTreeOfDisk from.disk) work.healthy agrees) in
         let here = left_before from.disk ps s.tree after work.accepted work.writable tree in
-        subst (λ (disk : Disk). ShowsTreeBeforeOrAfter disk s.tree after) (sym device.same)
-        (stands {P = λ blocks. ShowsTreeBeforeOrAfter (with_blocks blocks from.disk) s.tree after} to.disk.blocks
-        (λ silent. subst (λ (disk : Disk). ShowsTreeBeforeOrAfter disk s.tree after) (sym (device.stays silent) ∙ device.same) here)
+        subst (λ (disk : Disk). HasTreeBeforeOrAfterOperation disk s.tree after) (sym device.same)
+        (stands {P = λ blocks. HasTreeBeforeOrAfterOperation (disk_with_blocks blocks from.disk) s.tree after} to.disk.blocks
+        (λ silent. subst (λ (disk : Disk). HasTreeBeforeOrAfterOperation disk s.tree after) (sym (device.stays silent) ∙ device.same) here)
         device.newest device.conforms (survives s ps around work cleanly) cleanly fails)

@@ -3,11 +3,11 @@ use Rattle.std.specs.Prelude.{All}
 use Rattle.std.proofs.Common.{ℕ, ◌≡◌, ◌≢◌, List, get_or, ap, ap₂}
 use Rattle.std.specs.Option.{option_and_then}
 use Rattle.std.proofs.lemmas.List.Elements.{recursion_from_All}
-use Rattle.lfs_model.specs.Blocks.{Blocks, AreBlocksEqualExceptThese, block_bytes_in}
+use Rattle.lfs_model.specs.Blocks.{Blocks, AreBlocksEqualExceptThese, block_bytes_by_number}
 use Rattle.lfs_model.specs.Disk.{Disk, block_bytes_on_disk}
 use Rattle.lfs_model.specs.Log.{log_entries_of_block}
-use Rattle.lfs_model.specs.Content.{current_block_of_two, current_block_of_pair_at, raw_content_of_pair_at, content_of_pair_at, content_after_log_entries, empty_raw_content}
-use Rattle.lfs_model.specs.SkipLists.{list_block_count_for_size, list_blocks_from_head, AreListBlocks, IsSkipList, bytes_of}
+use Rattle.lfs_model.specs.Content.{current_block_of_two, current_block_of_pair_at, raw_content_of_pair_at, content_of_pair_at, content_after_log_entries, empty_raw_pair_content}
+use Rattle.lfs_model.specs.SkipLists.{list_block_count_for_size, list_blocks_from_head, AreListBlocks, IsSkipList, bytes_of_skip_list}
 use Rattle.lfs_model.proofs.Files.{Same, list_same, bytes_same}
 
 -- ---- at an address
@@ -29,7 +29,7 @@ pub holder_same : {at : ℕ × ℕ} {disk new : Disk} → IsSameAt disk new at �
 holder_same {at} {disk} {new} same = ap₂ current_block_of_two same.first same.second
 
 pub raw_same : {at : ℕ × ℕ} {disk new : Disk} → IsSameAt disk new at → raw_content_of_pair_at new at ≡ raw_content_of_pair_at disk at
-raw_same same = ap (option_and_then (λ block. content_after_log_entries empty_raw_content (log_entries_of_block block))) (holder_same same)
+raw_same same = ap (option_and_then (λ block. content_after_log_entries empty_raw_pair_content (log_entries_of_block block))) (holder_same same)
 
 -- with other blocks changed
 pub current_block_of_pair_at-stays : {at : ℕ × ℕ} {bs : List ℕ} (disk : Disk) {blocks : Blocks} → AreElsewhere at bs → AreBlocksEqualExceptThese bs disk.blocks blocks
@@ -47,11 +47,11 @@ abbrev pub AreApart : List ℕ → List ℕ → Type 0
 AreApart own bs = All (λ c. All (λ b. b ≢ c) bs) own
 
 pub same_apart : (own : List ℕ) {bs : List ℕ} (old new : Blocks) → AreApart own bs → AreBlocksEqualExceptThese bs old new → Same old new own
-same_apart own old new apart same = recursion_from_All (λ b. block_bytes_in new b ≡ block_bytes_in old b) own (λ k x l. same.others (get_or own k x) (apart k x l))
+same_apart own old new apart same = recursion_from_All (λ b. block_bytes_by_number new b ≡ block_bytes_by_number old b) own (λ k x l. same.others (get_or own k x) (apart k x l))
 
 module _ (old new : Blocks) (bs : List ℕ) (same : AreBlocksEqualExceptThese bs old new) where
   pub list-stays : (block_size head size : ℕ) → AreApart (list_blocks_from_head old (list_block_count_for_size block_size size) head) bs → IsSkipList old block_size head size → IsSkipList new block_size head size
   list-stays block_size head size apart ok = list_same old new block_size head size same.count (same_apart (list_blocks_from_head old (list_block_count_for_size block_size size) head) old new apart same) ok
 
-  pub bytes-stay : (block_size head size : ℕ) → AreApart (list_blocks_from_head old (list_block_count_for_size block_size size) head) bs → bytes_of new block_size head size ≡ bytes_of old block_size head size
+  pub bytes-stay : (block_size head size : ℕ) → AreApart (list_blocks_from_head old (list_block_count_for_size block_size size) head) bs → bytes_of_skip_list new block_size head size ≡ bytes_of_skip_list old block_size head size
   bytes-stay block_size head size apart = bytes_same old new block_size head size (same_apart (list_blocks_from_head old (list_block_count_for_size block_size size) head) old new apart same)

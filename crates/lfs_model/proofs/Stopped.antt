@@ -2,17 +2,17 @@
 use Rattle.std.specs.Prelude.{ℕ, ◌≡◌, ◌+◌, ◌≤◌, ◌<◌, take, drop}
 use Rattle.std.proofs.Common.{List, [], ◌∷◌, ◌++◌, true, length, inl, inr, refl, ap, ◌∙◌, arith, replicate, length-append}
 use Rattle.std.proofs.lemmas.List.{length-set, length-take-le, length-drop, get_or-set_same, get_or-set_other}
-use Rattle.lfs_model.specs.Blocks.{Blocks, block_bytes_in, bytes_after_overwrite_at, programmed, AreBlocksEqualExceptOne}
+use Rattle.lfs_model.specs.Blocks.{Blocks, block_bytes_by_number, bytes_after_overwrite_at, programmed, AreBlocksEqualExceptOne}
 use Rattle.lfs_model.specs.Crc.{crc_of, next_bits}
 use Rattle.lfs_model.specs.Log.{log_of_block, chain_of, chain_within, commit_within, entry_at, closes}
-use Rattle.lfs_model.specs.History.{Call, Read, Program, Erase, call_event_with}
-use Rattle.lfs_model.specs.Stops.{is_left_by_stop_in, IsLeftByStopIn}
+use Rattle.lfs_model.specs.History.{DeviceCall, Read, Program, Erase, device_call_event_with_blocks}
+use Rattle.lfs_model.specs.Stops.{are_blocks_after_stopped_call, AreBlocksLeftByPowerLossInCall}
 use Rattle.lfs_model.specs.examples.Images.{fresh_commit_of_small_image}
 
 same_but_nothing : (b : ℕ) (blocks : Blocks) → AreBlocksEqualExceptOne b blocks blocks
 same_but_nothing b blocks = record { count = refl; size = refl; others = λ other d. refl }
 
-pub stops_before : (call : Call) (before : Blocks) → is_left_by_stop_in call before before
+pub stops_before : (call : DeviceCall) (before : Blocks) → are_blocks_after_stopped_call call before before
 stops_before (Read block off len) before = refl
 stops_before (Program block off bytes) before = (same_but_nothing block before, inl refl)
 stops_before (Erase block) before = (same_but_nothing block before, inl refl)
@@ -21,21 +21,21 @@ length_overwritten : (block : List ℕ) (off : ℕ) (bytes : List ℕ) → off +
 length_overwritten block off bytes fits =
     omega (arith, length-append (take off block ++ bytes) (drop (off + length bytes) block), length-append (take off block) bytes, length-take-le off block (omega arith), length-drop (off + length bytes) block)
 
-pub stops_whole : (b off : ℕ) (bytes : List ℕ) (before : Blocks) → b < length before → off + length bytes ≤ length (block_bytes_in before b) →
-    is_left_by_stop_in (Program b off bytes) before (programmed before b off bytes)
+pub stops_whole : (b off : ℕ) (bytes : List ℕ) (before : Blocks) → b < length before → off + length bytes ≤ length (block_bytes_by_number before b) →
+    are_blocks_after_stopped_call (Program b off bytes) before (programmed before b off bytes)
 stops_whole b off bytes before below fits = (
   record {
     count = length-set before b written;
-    size = ap length is ∙ length_overwritten (block_bytes_in before b) off bytes fits;
+    size = ap length is ∙ length_overwritten (block_bytes_by_number before b) off bytes fits;
     others = λ other d. get_or-set_other before b other written [] d;
   },
   inr (inl (ap log_of_block is)),
 )
   where
     written : List ℕ
-    written = bytes_after_overwrite_at (block_bytes_in before b) off bytes
+    written = bytes_after_overwrite_at (block_bytes_by_number before b) off bytes
 
-    is : block_bytes_in (programmed before b off bytes) b ≡ written
+    is : block_bytes_by_number (programmed before b off bytes) b ≡ written
     is = get_or-set_same before b written [] below
 
 -- ---- a program that was torn: the first 10 bytes of a second commit are there

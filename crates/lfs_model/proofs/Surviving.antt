@@ -3,12 +3,12 @@ use Rattle.std.proofs.Common.{ℕ, ◌≡◌, Bool, true, false, cond, List, Opt
 use Rattle.lfs_model.specs.Content.{content_of_pair_at}
 use Rattle.lfs_model.specs.Disk.{Disk, block_count}
 use Rattle.lfs_model.specs.Operations.{Operation, Reply}
-use Rattle.lfs_model.specs.PowerLoss.{IsHealthyInWritingProfile, ShowsTreeBeforeOrAfter, IsOperationSurvivingStops, IsOperationSurvivingPowerLoss}
-use Rattle.lfs_model.specs.Run.{HasDiskTreeIfHealthy, IsSessionStep, SystemState, is_refusal}
+use Rattle.lfs_model.specs.PowerLoss.{IsHealthySessionOnWritableDisk, HasTreeBeforeOrAfterOperation, IsOperationSurvivingPowerLossInCalls, IsOperationSurvivingPowerLoss}
+use Rattle.lfs_model.specs.Run.{HealthySessionHasTreeOfDisk, IsSessionStep, SystemState, is_refusal}
 use Rattle.lfs_model.specs.Session.{Session, DiskSummary}
 use Rattle.lfs_model.specs.Slots.{Gstate}
-use Rattle.lfs_model.specs.State.{Healthy, SessionHealth, IsSummaryOfDisk, reply_and_state_unless_remount, is_remount_operation, remounted}
-use Rattle.lfs_model.specs.Effects.{refusal_or_effect}
+use Rattle.lfs_model.specs.State.{Healthy, SessionHealth, IsSummaryOfDisk, reply_and_session_health_unless_remount, is_remount_operation, reply_and_session_health_after_remount}
+use Rattle.lfs_model.specs.Effects.{refusal_or_effect_of_operation}
 use Rattle.lfs_model.specs.Thread.{Pair}
 use Rattle.lfs_model.specs.View.{IsAcceptedImage}
 use Rattle.lfs_model.specs.Shown.{tree_on_disk}
@@ -37,33 +37,33 @@ same_surroundings disk ps qs a b one other around about =
 -- ---- a turn
 
 -- What is at the end of a session step is what the definitions have there, so a session step that survives stops survives them.
-pub session_step_survives_loss : (from : SystemState) (op : Operation) (reply : Reply) (to : SystemState) → HasDiskTreeIfHealthy from.disk from.state → IsSessionStep from op reply to → IsOperationSurvivingStops from op to → IsOperationSurvivingPowerLoss from op to
+pub session_step_survives_loss : (from : SystemState) (op : Operation) (reply : Reply) (to : SystemState) → HealthySessionHasTreeOfDisk from.disk from.state → IsSessionStep from op reply to → IsOperationSurvivingPowerLossInCalls from op to → IsOperationSurvivingPowerLoss from op to
 session_step_survives_loss from op reply to agrees turn survives = record { stops = survives; stands = λ s ps around work clean fails. stands s ps around work }
   where
-    stands : (s : Session) (ps : List Pair) (around : DiskSummary) → IsHealthyInWritingProfile from s ps around → ShowsTreeBeforeOrAfter to.disk s.tree (refusal_or_effect around s op).1.tree
+    stands : (s : Session) (ps : List Pair) (around : DiskSummary) → IsHealthySessionOnWritableDisk from s ps around → HasTreeBeforeOrAfterOperation to.disk s.tree (refusal_or_effect_of_operation around s op).1.tree
     stands s ps around work = by_op (is_remount_operation op) refl
       where
-        untouched : to.disk ≡ from.disk → ShowsTreeBeforeOrAfter to.disk s.tree (refusal_or_effect around s op).1.tree
-        untouched e = subst (λ d. ShowsTreeBeforeOrAfter d s.tree (refusal_or_effect around s op).1.tree) (sym e)
-            (left_before from.disk ps s.tree (refusal_or_effect around s op).1.tree work.accepted work.writable
-            (one_tree from.disk (tree_on_disk from.disk ps) s.tree (ps, (work.accepted, refl)) (subst (HasDiskTreeIfHealthy from.disk) work.healthy agrees)))
+        untouched : to.disk ≡ from.disk → HasTreeBeforeOrAfterOperation to.disk s.tree (refusal_or_effect_of_operation around s op).1.tree
+        untouched e = subst (λ d. HasTreeBeforeOrAfterOperation d s.tree (refusal_or_effect_of_operation around s op).1.tree) (sym e)
+            (left_before from.disk ps s.tree (refusal_or_effect_of_operation around s op).1.tree work.accepted work.writable
+            (one_tree from.disk (tree_on_disk from.disk ps) s.tree (ps, (work.accepted, refl)) (subst (HealthySessionHasTreeOfDisk from.disk) work.healthy agrees)))
 
-        done : is_remount_operation op ≡ false → is_refusal reply ≡ false → ShowsTreeBeforeOrAfter to.disk s.tree (refusal_or_effect around s op).1.tree
+        done : is_remount_operation op ≡ false → is_refusal reply ≡ false → HasTreeBeforeOrAfterOperation to.disk s.tree (refusal_or_effect_of_operation around s op).1.tree
         done other accepted =
             let a = turn.answered in
             let about = a.surrounds s work.healthy in
             let same = same_surroundings from.disk about.0 ps a.around around about.1.0 work.accepted about.1.1 work.surrounds in
-            let state : Healthy (refusal_or_effect around s op).1 ≡ to.state =
+            let state : Healthy (refusal_or_effect_of_operation around s op).1 ≡ to.state =
             ap (λ (z : Option Reply × SessionHealth). z.1)
-            (sym (ap (λ z. reply_and_state_unless_remount z (Healthy s) op) same) ∙ sym (ap (λ z. reply_and_state_unless_remount a.around z op) work.healthy) ∙ sym (ap (λ b. cond b (remounted a.shown) (reply_and_state_unless_remount a.around from.state op)) other) ∙ a.answers) in
-            let shown = subst (HasDiskTreeIfHealthy to.disk) (sym state) turn.agrees in
-            left_after to.disk shown.0 s.tree (refusal_or_effect around s op).1.tree shown.1.0
+            (sym (ap (λ z. reply_and_session_health_unless_remount z (Healthy s) op) same) ∙ sym (ap (λ z. reply_and_session_health_unless_remount a.around z op) work.healthy) ∙ sym (ap (λ b. cond b (reply_and_session_health_after_remount a.shown) (reply_and_session_health_unless_remount a.around from.state op)) other) ∙ a.answers) in
+            let shown = subst (HealthySessionHasTreeOfDisk to.disk) (sym state) turn.agrees in
+            left_after to.disk shown.0 s.tree (refusal_or_effect_of_operation around s op).1.tree shown.1.0
             ((turn.effect_on_disk accepted s work.healthy ps shown.0 work.accepted shown.1.0).profile work.writable) (sym shown.1.1)
 
-        by_reply : (b : Bool) → is_refusal reply ≡ b → is_remount_operation op ≡ false → ShowsTreeBeforeOrAfter to.disk s.tree (refusal_or_effect around s op).1.tree
+        by_reply : (b : Bool) → is_refusal reply ≡ b → is_remount_operation op ≡ false → HasTreeBeforeOrAfterOperation to.disk s.tree (refusal_or_effect_of_operation around s op).1.tree
         by_reply true e other = untouched (turn.refused e).0
         by_reply false e other = done other e
 
-        by_op : (b : Bool) → is_remount_operation op ≡ b → ShowsTreeBeforeOrAfter to.disk s.tree (refusal_or_effect around s op).1.tree
+        by_op : (b : Bool) → is_remount_operation op ≡ b → HasTreeBeforeOrAfterOperation to.disk s.tree (refusal_or_effect_of_operation around s op).1.tree
         by_op true e = untouched (turn.remounted e).0
         by_op false e = by_reply (is_refusal reply) refl e

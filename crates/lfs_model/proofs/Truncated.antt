@@ -1,12 +1,12 @@
 -- What a ghost field says of a device's calls, as a truncated fact, is so: each case of it is decided.
 use Rattle.std.proofs.Common.{ℕ, ◌≡◌, ◌==◌, ◌⊎◌, inl, inr, Bool, true, false, List, [], ◌∷◌, Option, Some, None, refl, ap, ◌∙◌, eqb-true, eq-eqb}
 use Rattle.std.proofs.Math.Logic.{∥∥₁_map, ∥∥₁_elim}
-use Rattle.lfs_model.specs.Blocks.{Blocks, AreBlocksEqualExceptOne, block_bytes_in, bytes_after_overwrite_at}
+use Rattle.lfs_model.specs.Blocks.{Blocks, AreBlocksEqualExceptOne, block_bytes_by_number, bytes_after_overwrite_at}
 use Rattle.lfs_model.specs.Log.{LogEntry, BlockLog, log_of_block}
-use Rattle.lfs_model.specs.History.{Call, Read, Program, Erase, CallEvent, IsTrueOfEachCall}
-use Rattle.lfs_model.specs.Stops.{IsLeftByStoppedErase, IsLeftByStoppedProgram, is_left_by_stop_in, LeavesNoNewLogIfErase, leaves_no_new_log_if_erase}
-use Rattle.lfs_model.specs.PowerLoss.{IsLikeStopIfFailed}
-use Rattle.lfs_model.specs.Premises.{MeetsPowerLossPremises}
+use Rattle.lfs_model.specs.History.{DeviceCall, Read, Program, Erase, DeviceCallEvent, IsTrueOfEachCall}
+use Rattle.lfs_model.specs.Stops.{IsBlockLeftByStoppedEraseCall, IsBlockLeftByStoppedProgramCall, are_blocks_after_stopped_call, LeavesNoNewLogIfSuccessfulErase, leaves_no_new_log_if_successful_erase}
+use Rattle.lfs_model.specs.PowerLoss.{IsLikePowerLossIfCallFailed}
+use Rattle.lfs_model.specs.Premises.{IsHistoryMeetingPowerLossPremises}
 
 abbrev Decided : Type 0 → Type 0
 Decided A = A ⊎ (A → ⊥)
@@ -68,10 +68,10 @@ same_logs (Some x) (Some y) = elim (same_log x y) [
   | inr differs ↦ inr (λ is. let logs : x ≡ y = cc in differs logs)
 ]
 
-by_erase : (old new : List ℕ) → Decided (IsLeftByStoppedErase old new)
+by_erase : (old new : List ℕ) → Decided (IsBlockLeftByStoppedEraseCall old new)
 by_erase old new = either (same_logs (log_of_block new) (log_of_block old)) (same_logs (log_of_block new) None)
 
-by_program : (off : ℕ) (bytes old new : List ℕ) → Decided (IsLeftByStoppedProgram off bytes old new)
+by_program : (off : ℕ) (bytes old new : List ℕ) → Decided (IsBlockLeftByStoppedProgramCall off bytes old new)
 by_program off bytes old new =
     either (same_logs (log_of_block new) (log_of_block old))
     (either (same_logs (log_of_block new) (log_of_block (bytes_after_overwrite_at old off bytes))) (both (same_number off 0) (same_logs (log_of_block new) None)))
@@ -89,28 +89,28 @@ same_but : (b : ℕ) (old new : Blocks) → ∥ AreBlocksEqualExceptOne b old ne
 same_but b old new is = record {
   count = from_decided (same_number _ _) (∥∥₁_map is (λ s. s.count));
   size = from_decided (same_number _ _) (∥∥₁_map is (λ s. s.size));
-  others = λ other d. from_decided (same_list same_number (block_bytes_in new other) (block_bytes_in old other)) (∥∥₁_map is (λ s. s.others other d));
+  others = λ other d. from_decided (same_list same_number (block_bytes_by_number new other) (block_bytes_by_number old other)) (∥∥₁_map is (λ s. s.others other d));
 }
 
-stopped : (call : Call) (before disk : Blocks) → ∥ is_left_by_stop_in call before disk ∥₁ → is_left_by_stop_in call before disk
+stopped : (call : DeviceCall) (before disk : Blocks) → ∥ are_blocks_after_stopped_call call before disk ∥₁ → are_blocks_after_stopped_call call before disk
 stopped (Read block off len) before disk is = from_decided (same_list (same_list same_number) disk before) is
 stopped (Program block off bytes) before disk is =
-    (same_but block before disk (∥∥₁_map is (λ s. s.0)), from_decided (by_program off bytes (block_bytes_in before block) (block_bytes_in disk block)) (∥∥₁_map is (λ s. s.1)))
+    (same_but block before disk (∥∥₁_map is (λ s. s.0)), from_decided (by_program off bytes (block_bytes_by_number before block) (block_bytes_by_number disk block)) (∥∥₁_map is (λ s. s.1)))
 stopped (Erase block) before disk is =
-    (same_but block before disk (∥∥₁_map is (λ s. s.0)), from_decided (by_erase (block_bytes_in before block) (block_bytes_in disk block)) (∥∥₁_map is (λ s. s.1)))
+    (same_but block before disk (∥∥₁_map is (λ s. s.0)), from_decided (by_erase (block_bytes_by_number before block) (block_bytes_by_number disk block)) (∥∥₁_map is (λ s. s.1)))
 
-cleanly : (call : Call) (failed : Bool) (before after : Blocks) → ∥ leaves_no_new_log_if_erase call failed before after ∥₁ → leaves_no_new_log_if_erase call failed before after
+cleanly : (call : DeviceCall) (failed : Bool) (before after : Blocks) → ∥ leaves_no_new_log_if_successful_erase call failed before after ∥₁ → leaves_no_new_log_if_successful_erase call failed before after
 cleanly (Read block off len) failed before after is = tt
 cleanly (Program block off bytes) failed before after is = tt
 cleanly (Erase block) true before after is = tt
-cleanly (Erase block) false before after is = from_decided (by_erase (block_bytes_in before block) (block_bytes_in after block)) is
+cleanly (Erase block) false before after is = from_decided (by_erase (block_bytes_by_number before block) (block_bytes_by_number after block)) is
 
-each : (P : CallEvent → Type 0) → ((e : CallEvent) → ∥ P e ∥₁ → P e) → (events : List CallEvent) → ∥ IsTrueOfEachCall P events ∥₁ → IsTrueOfEachCall P events
+each : (P : DeviceCallEvent → Type 0) → ((e : DeviceCallEvent) → ∥ P e ∥₁ → P e) → (events : List DeviceCallEvent) → ∥ IsTrueOfEachCall P events ∥₁ → IsTrueOfEachCall P events
 each P one [] is = tt
 each P one (e ∷ events) is = (one e (∥∥₁_map is (λ all. all.0)), each P one events (∥∥₁_map is (λ all. all.1)))
 
-pub premises_hold : (history : List CallEvent) → ∥ MeetsPowerLossPremises history ∥₁ → MeetsPowerLossPremises history
+pub premises_hold : (history : List DeviceCallEvent) → ∥ IsHistoryMeetingPowerLossPremises history ∥₁ → IsHistoryMeetingPowerLossPremises history
 premises_hold history is = record {
-  erases = each LeavesNoNewLogIfErase (λ e one. cleanly e.call e.failed e.before e.after one) history (∥∥₁_map is (λ m. m.erases));
-  failed = each IsLikeStopIfFailed (λ e one failed. stopped e.call e.before e.after (∥∥₁_map one (λ f. f failed))) history (∥∥₁_map is (λ m. m.failed));
+  erases = each LeavesNoNewLogIfSuccessfulErase (λ e one. cleanly e.call e.failed e.before e.after one) history (∥∥₁_map is (λ m. m.erases));
+  failed = each IsLikePowerLossIfCallFailed (λ e one failed. stopped e.call e.before e.after (∥∥₁_map one (λ f. f failed))) history (∥∥₁_map is (λ m. m.failed));
 }

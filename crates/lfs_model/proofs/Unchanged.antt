@@ -6,14 +6,14 @@ use Rattle.std.proofs.lemmas.List.Elements.{All-from_recursion, recursion_from_A
 use Rattle.std.proofs.lemmas.List.Concat.{flat_map-append}
 use Rattle.lfs_model.specs.Disk.{Disk, block_count}
 use Rattle.lfs_model.specs.Slots.{Slot, gstate_xor}
-use Rattle.lfs_model.specs.Thread.{Pair, blocks_of_pairs, pairs_from_first_slot, gstate_of, starts_with_superblock, slots_not_moved}
-use Rattle.lfs_model.specs.View.{IsListIfCtz, IsAcceptedImage, first_slot_name}
+use Rattle.lfs_model.specs.Thread.{Pair, blocks_of_pairs, pairs_from_first_with_slots, gstate_of_pairs, starts_with_superblock, slots_not_moved}
+use Rattle.lfs_model.specs.View.{IsSkipListIfCtzStruct, IsAcceptedImage, first_slot_name}
 use Rattle.lfs_model.specs.Shown.{all_slots_not_moved, used_blocks}
-use Rattle.lfs_model.proofs.Counts.{Each, each_always, each_both, each_right, count}
+use Rattle.lfs_model.proofs.Counts.{Each, each_always, each_both, each_right, occurrence_count_of_number}
 use Rattle.lfs_model.specs.SlotEdits.{slot_of_path}
 use Rattle.lfs_model.proofs.LeftFiles.{stays_same}
-use Rattle.lfs_model.proofs.Changes.{Follows, SameFiles, rearranged_follows, owned_same}
-use Rattle.lfs_model.proofs.Files.{HasSameFile, is_list_same}
+use Rattle.lfs_model.proofs.Changes.{IsImageAfterTreeChange, SameFiles, rearranged_follows, owned_same}
+use Rattle.lfs_model.proofs.Files.{HasSameFileBlocksOfStructOnDisks, is_list_same}
 use Rattle.lfs_model.proofs.Splices.{IsDevice}
 use Rattle.lfs_model.proofs.Superblocks.{IsChain, meets_first, meets_from}
 use Rattle.lfs_model.proofs.Uses.{accepted_sound}
@@ -29,16 +29,16 @@ pub record HasFirst (slots : List Slot) : Type 0 where
 pub record HasFilled (ps : List Pair) : Type 0 where
   pub pair : Pair
   pub rest : List Pair
-  pub is : pairs_from_first_slot ps ≡ pair ∷ rest
+  pub is : pairs_from_first_with_slots ps ≡ pair ∷ rest
 
 pub accepted_filled : (disk : Disk) (ps : List Pair) → IsAcceptedImage disk ps → HasFilled ps
-accepted_filled disk ps ok = go (pairs_from_first_slot ps) refl ok.named
+accepted_filled disk ps ok = go (pairs_from_first_with_slots ps) refl ok.named
   where
-    go : (qs : List Pair) → pairs_from_first_slot ps ≡ qs → first_slot_name qs ≡ Some (codes "littlefs") → HasFilled ps
+    go : (qs : List Pair) → pairs_from_first_with_slots ps ≡ qs → first_slot_name qs ≡ Some (codes "littlefs") → HasFilled ps
     go [] e k = absurd (cc)
     go (p ∷ rest) e k = record { pair = p; rest = rest; is = e }
 
-pub accepted_first : (disk : Disk) (ps : List Pair) (p : Pair) (rest : List Pair) → IsAcceptedImage disk ps → pairs_from_first_slot ps ≡ p ∷ rest → HasFirst p.content.slots
+pub accepted_first : (disk : Disk) (ps : List Pair) (p : Pair) (rest : List Pair) → IsAcceptedImage disk ps → pairs_from_first_with_slots ps ≡ p ∷ rest → HasFirst p.content.slots
 accepted_first disk ps p rest ok is = record { kind = meets_first ps p rest is (meets_from ps ok.root); name = ap first_slot_name (sym is) ∙ ok.named }
 
 -- ---- the global state
@@ -52,11 +52,11 @@ module _ (disk new : Disk) (chain : List Pair) (p : Pair) (rest : List Pair) (is
   same_pairs = chain ++ p ∷ rest
 
   files_same : SameFiles disk new (all_slots_not_moved same_pairs)
-  files_same = recursion_from_All (λ (s : Slot). HasSameFile disk new s.struct) (all_slots_not_moved same_pairs) device_same.files
+  files_same = recursion_from_All (λ (s : Slot). HasSameFileBlocksOfStructOnDisks disk new s.struct) (all_slots_not_moved same_pairs) device_same.files
 
   owns_same : used_blocks new same_pairs ≡ used_blocks disk same_pairs
-  owns_same = owned_same disk new (gstate_of same_pairs) (gstate_of same_pairs) same_pairs device_same.geometry
-      (each_always (λ r. slots_not_moved (gstate_of same_pairs) r ≡ slots_not_moved (gstate_of same_pairs) r) (λ r. refl) same_pairs) files_same
+  owns_same = owned_same disk new (gstate_of_pairs same_pairs) (gstate_of_pairs same_pairs) same_pairs device_same.geometry
+      (each_always (λ r. slots_not_moved (gstate_of_pairs same_pairs) r ≡ slots_not_moved (gstate_of_pairs same_pairs) r) (λ r. refl) same_pairs) files_same
 
   in_range_here : Each (λ b. b < block_count disk) (blocks_of_pairs (p ∷ []))
   in_range_here =
@@ -64,7 +64,7 @@ module _ (disk new : Disk) (chain : List Pair) (p : Pair) (rest : List Pair) (is
       let k = each_right (λ b. b < block_count disk) (blocks_of_pairs chain) (blocks_of_pairs (p ∷ rest)) (subst (Each (λ b. b < block_count disk)) (flat_map-append (λ (s : Pair). s.at.0 ∷ s.at.1 ∷ []) chain (p ∷ rest)) e) in
       (k.0, (k.1.0, tt))
 
-  pub same_follows : Follows disk same_pairs new same_pairs (λ t. t) (λ d. d)
+  pub same_follows : IsImageAfterTreeChange disk same_pairs new same_pairs (λ t. t) (λ d. d)
   same_follows = rearranged_follows disk new chain [] p [] p [] rest [] is_chain ok
       (record {
         geometry = device_same.geometry;
@@ -76,11 +76,11 @@ module _ (disk new : Disk) (chain : List Pair) (p : Pair) (rest : List Pair) (is
         slots = λ m root h. h;
         move = ok.move;
         in_range = All-from_recursion (λ b. b < block_count disk) (blocks_of_pairs (p ∷ [])) in_range_here;
-        blocks = λ b. let e = ap (count b) owns_same in omega arith;
+        blocks = λ b. let e = ap (occurrence_count_of_number b) owns_same in omega arith;
         free = ok.owned_once;
-        lists = All-from_recursion (λ s. IsListIfCtz new s.struct) (all_slots_not_moved same_pairs)
-            (each_both (λ s. HasSameFile disk new s.struct) (λ s. IsListIfCtz disk s.struct) (λ s. IsListIfCtz new s.struct) (λ s. is_list_same disk new s.struct device_same.geometry) (all_slots_not_moved same_pairs)
-            files_same (recursion_from_All (λ (s : Slot). IsListIfCtz disk s.struct) (all_slots_not_moved same_pairs) ok.lists));
+        lists = All-from_recursion (λ s. IsSkipListIfCtzStruct new s.struct) (all_slots_not_moved same_pairs)
+            (each_both (λ s. HasSameFileBlocksOfStructOnDisks disk new s.struct) (λ s. IsSkipListIfCtzStruct disk s.struct) (λ s. IsSkipListIfCtzStruct new s.struct) (λ s. is_list_same disk new s.struct device_same.geometry) (all_slots_not_moved same_pairs)
+            files_same (recursion_from_All (λ (s : Slot). IsSkipListIfCtzStruct disk s.struct) (all_slots_not_moved same_pairs) ok.lists));
       })
       (λ t. t) (λ d. d) (record {
         shows = refl;

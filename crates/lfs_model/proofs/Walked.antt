@@ -2,7 +2,7 @@
 use Rattle.std.proofs.Common.{◌≡◌, List, [], ◌∷◌, ◌++◌, Some, refl, ap, sym, ◌∙◌, subst}
 use Rattle.std.proofs.lemmas.List.{append_assoc}
 use Rattle.lfs_model.specs.Tree.{Path, Node, Tree}
-use Rattle.lfs_model.specs.Listing.{PathAndNode, entry_paths_in, IsDepthFirstWalk}
+use Rattle.lfs_model.specs.Listing.{PathAndNode, entry_paths_in_directory, IsDepthFirstWalk}
 
 abbrev entry : Path → Node → PathAndNode
 entry path node = record { path = path; node = node }
@@ -21,7 +21,7 @@ same_walk tree (p ∷ ps) [] fs w v = absurd w
 same_walk tree (p ∷ ps) (e ∷ es) [] w v = absurd v
 same_walk tree (p ∷ ps) (e ∷ es) (f ∷ fs) w v =
     let same : e ≡ f = same_entry e f (w.0 ∙ sym v.0) (same_node e.node f.node (sym w.1 ∙ v.1)) in
-    let rest : es ≡ fs = same_walk tree (entry_paths_in tree p ++ ps) es fs w.2 v.2 in
+    let rest : es ≡ fs = same_walk tree (entry_paths_in_directory tree p ++ ps) es fs w.2 v.2 in
     ap (λ x. x ∷ es) same ∙ ap (λ xs. f ∷ xs) rest
 
 pub joined : (tree : Tree) (ps qs : List Path) (es fs : List PathAndNode) → IsDepthFirstWalk tree ps es → IsDepthFirstWalk tree qs fs → IsDepthFirstWalk tree (ps ++ qs) (es ++ fs)
@@ -29,7 +29,7 @@ joined tree [] qs [] fs w v = v
 joined tree [] qs (e ∷ es) fs w v = absurd w
 joined tree (p ∷ ps) qs [] fs w v = absurd w
 joined tree (p ∷ ps) qs (e ∷ es) fs w v =
-    (w.0, w.1, subst (λ xs. IsDepthFirstWalk tree xs (es ++ fs)) (append_assoc (entry_paths_in tree p) ps qs) (joined tree (entry_paths_in tree p ++ ps) qs es fs w.2 v))
+    (w.0, w.1, subst (λ xs. IsDepthFirstWalk tree xs (es ++ fs)) (append_assoc (entry_paths_in_directory tree p) ps qs) (joined tree (entry_paths_in_directory tree p ++ ps) qs es fs w.2 v))
 
 -- the entries of the first paths, and those of the others
 pub parted : (tree : Tree) (ps qs : List Path) (es : List PathAndNode) → IsDepthFirstWalk tree (ps ++ qs) es
@@ -37,6 +37,6 @@ pub parted : (tree : Tree) (ps qs : List Path) (es : List PathAndNode) → IsDep
 parted tree [] qs es w = ([], es, (refl, (tt, w)))
 parted tree (p ∷ ps) qs [] w = absurd w
 parted tree (p ∷ ps) qs (e ∷ es) w =
-    let further : IsDepthFirstWalk tree ((entry_paths_in tree p ++ ps) ++ qs) es = subst (λ xs. IsDepthFirstWalk tree xs es) (sym (append_assoc (entry_paths_in tree p) ps qs)) w.2 in
-    let (front, back, (cut, (first, second))) = parted tree (entry_paths_in tree p ++ ps) qs es further in
+    let further : IsDepthFirstWalk tree ((entry_paths_in_directory tree p ++ ps) ++ qs) es = subst (λ xs. IsDepthFirstWalk tree xs es) (sym (append_assoc (entry_paths_in_directory tree p) ps qs)) w.2 in
+    let (front, back, (cut, (first, second))) = parted tree (entry_paths_in_directory tree p ++ ps) qs es further in
     (e ∷ front, back, (ap (λ xs. e ∷ xs) cut, ((w.0, w.1, first), second)))

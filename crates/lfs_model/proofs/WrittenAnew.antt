@@ -7,58 +7,58 @@ use Rattle.std.proofs.lemmas.List.{append-nil}
 use Rattle.std.proofs.Math.Seq.{set-append_seam, get_or-append_seam}
 use Rattle.byteorder.specs.Endian.{little_number, little_bytes}
 use Rattle.byteorder.specs.Numbers.{little_number-reads_back}
-use Rattle.lfs_model.specs.Tag.{tag_of_type_id_and_length, kind_of, id_of, len_of, class_of, chunk_of}
+use Rattle.lfs_model.specs.Tag.{tag_of_type_id_and_length, type_of_tag, id_of_tag, length_of_tag, abstract_type_of_tag, chunk_of_tag}
 use Rattle.lfs_model.specs.Log.{LogEntry}
 use Rattle.lfs_model.specs.Slots.{Attributes, Tail, Gstate, zero_gstate}
-use Rattle.lfs_model.specs.Content.{RawSlot, RawContent, content_after_log_entry, content_after_log_entries, slots_after_log_entry, attributes_with_attribute, empty_raw_content}
-use Rattle.lfs_model.specs.EntryTypes.{is_known_type_and_length, has_id_if_needed, no_id, create_type, delete_type, is_attribute_removal, pair_address_of_bytes, tail_to_pair_if_any, gstate_of_bytes, gstate_of_word_and_pair, move_state_type}
-use Rattle.lfs_model.specs.WrittenContent.{log_entry_with, log_entries_of_name_or_struct, log_entries_of_attributes, log_entries_of_slot, log_entries_of_slots, bytes_of_pair_address, log_entries_of_tail, first_word_of_move_state, bytes_of_move_state, log_entries_of_move_state, is_zero_gstate, log_entries_of_content}
-use Rattle.lfs_model.specs.LoggedContent.{IsNameOrStructOfClass, IsNameOrStructIfSome, AreAttributesInTypeOrder, IsWellFormedRawSlot, AreWellFormedRawSlots, AreNamedSlots, Are32BitPairAddresses, IsWellFormedTailIfSome, IsWellFormedMoveState, IsStorableRawContent}
+use Rattle.lfs_model.specs.Content.{RawSlot, RawPairContent, content_after_log_entry, content_after_log_entries, slots_after_log_entry, attributes_with_attribute, empty_raw_pair_content}
+use Rattle.lfs_model.specs.EntryTypes.{is_tag_of_known_type_and_length, has_tag_id_if_needed, no_id, create_tag_type, delete_tag_type, is_attribute_removal, pair_address_of_bytes, tail_to_pair_if_any, gstate_of_bytes, gstate_of_word_and_pair, move_state_type}
+use Rattle.lfs_model.specs.WrittenContent.{log_entry_of_type_id_and_bytes, log_entries_of_name_or_struct, log_entries_of_attributes, log_entries_of_slot, log_entries_of_slots, bytes_of_pair_address, log_entries_of_tail, first_word_of_move_state, bytes_of_move_state, log_entries_of_move_state, is_zero_gstate, log_entries_of_content}
+use Rattle.lfs_model.specs.LoggedContent.{IsNameOrStructTheFormatAllows, IsNameOrStructTheFormatAllowsIfSome, AreAttributesInTypeOrder, IsWellFormedRawSlot, AreWellFormedRawSlots, AreNamedSlots, Are32BitPairAddresses, IsNonNull32BitTailIfSome, AreMoveStateFieldsWithinBitWidths, IsStorableRawPairContent}
 
 -- ---- the fields of a tag
 
-pub kind_of-tag_of_type_id_and_length : (type id len : ℕ) → type < 2 ^ 11 → id < 2 ^ 10 → len < 2 ^ 10 → kind_of (tag_of_type_id_and_length type id len) ≡ type
-kind_of-tag_of_type_id_and_length type id len t i l = omega arith
+pub type_of_tag-tag_of_type_id_and_length : (type id len : ℕ) → type < 2 ^ 11 → id < 2 ^ 10 → len < 2 ^ 10 → type_of_tag (tag_of_type_id_and_length type id len) ≡ type
+type_of_tag-tag_of_type_id_and_length type id len t i l = omega arith
 
-pub id_of-tag_of_type_id_and_length : (type id len : ℕ) → id < 2 ^ 10 → len < 2 ^ 10 → id_of (tag_of_type_id_and_length type id len) ≡ id
-id_of-tag_of_type_id_and_length type id len i l = omega arith
+pub id_of_tag-tag_of_type_id_and_length : (type id len : ℕ) → id < 2 ^ 10 → len < 2 ^ 10 → id_of_tag (tag_of_type_id_and_length type id len) ≡ id
+id_of_tag-tag_of_type_id_and_length type id len i l = omega arith
 
-pub len_of-tag_of_type_id_and_length : (type id len : ℕ) → len < 2 ^ 10 → len_of (tag_of_type_id_and_length type id len) ≡ len
-len_of-tag_of_type_id_and_length type id len l = omega arith
+pub length_of_tag-tag_of_type_id_and_length : (type id len : ℕ) → len < 2 ^ 10 → length_of_tag (tag_of_type_id_and_length type id len) ≡ len
+length_of_tag-tag_of_type_id_and_length type id len l = omega arith
 
 -- ---- runs of entries
 
-pub content_after_log_entries-append : (c : RawContent) (xs ys : List LogEntry) → content_after_log_entries c (xs ++ ys) ≡ option_and_then (λ d. content_after_log_entries d ys) (content_after_log_entries c xs)
+pub content_after_log_entries-append : (c : RawPairContent) (xs ys : List LogEntry) → content_after_log_entries c (xs ++ ys) ≡ option_and_then (λ d. content_after_log_entries d ys) (content_after_log_entries c xs)
 content_after_log_entries-append c [] ys = refl
 content_after_log_entries-append c (x ∷ xs) ys = go (content_after_log_entry c x) (λ d. content_after_log_entries-append d xs ys)
   where
-    go : (o : Option RawContent) → ((d : RawContent) → content_after_log_entries d (xs ++ ys) ≡ option_and_then (λ d. content_after_log_entries d ys) (content_after_log_entries d xs))
+    go : (o : Option RawPairContent) → ((d : RawPairContent) → content_after_log_entries d (xs ++ ys) ≡ option_and_then (λ d. content_after_log_entries d ys) (content_after_log_entries d xs))
         → option_and_then (λ d. content_after_log_entries d (xs ++ ys)) o ≡ option_and_then (λ d. content_after_log_entries d ys) (option_and_then (λ d. content_after_log_entries d xs) o)
     go None h = refl
     go (Some d) h = h d
 
 -- one after the other
-pub then : (c d : RawContent) (xs ys : List LogEntry) (e : Option RawContent) → content_after_log_entries c xs ≡ Some d → content_after_log_entries d ys ≡ e → content_after_log_entries c (xs ++ ys) ≡ e
+pub then : (c d : RawPairContent) (xs ys : List LogEntry) (e : Option RawPairContent) → content_after_log_entries c xs ≡ Some d → content_after_log_entries d ys ≡ e → content_after_log_entries c (xs ++ ys) ≡ e
 then c d xs ys e f g = content_after_log_entries-append c xs ys ∙ ap (option_and_then (λ d. content_after_log_entries d ys)) f ∙ g
 
 -- ---- an entry of a slot
 
 -- an entry of a class below 5 that is in the table changes the slots
-by_slots : (c : RawContent) (e : LogEntry) → class_of e.tag < 5 → is_known_type_and_length e.tag ≡ true → id_of e.tag < 0x3ff
+by_slots : (c : RawPairContent) (e : LogEntry) → abstract_type_of_tag e.tag < 5 → is_tag_of_known_type_and_length e.tag ≡ true → id_of_tag e.tag < 0x3ff
     → content_after_log_entry c e ≡ option_map (λ slots. record c { slots = slots }) (slots_after_log_entry c.slots e)
 by_slots c e k t i =
-    let five : class_of e.tag == 5 ≡ false = ne_eqb (class_of e.tag) 5 (λ h. omega arith) in
-    let six : class_of e.tag == 6 ≡ false = ne_eqb (class_of e.tag) 6 (λ h. omega arith) in
-    let seven : class_of e.tag == 7 ≡ false = ne_eqb (class_of e.tag) 7 (λ h. omega arith) in
-    let other : id_of e.tag == no_id ≡ false = ne_eqb (id_of e.tag) no_id (λ h. omega arith) in
-    let its : has_id_if_needed e.tag ≡ true = or_right (nat_le 5 (class_of e.tag)) (not (id_of e.tag == no_id)) (ap not other) in
+    let five : abstract_type_of_tag e.tag == 5 ≡ false = ne_eqb (abstract_type_of_tag e.tag) 5 (λ h. omega arith) in
+    let six : abstract_type_of_tag e.tag == 6 ≡ false = ne_eqb (abstract_type_of_tag e.tag) 6 (λ h. omega arith) in
+    let seven : abstract_type_of_tag e.tag == 7 ≡ false = ne_eqb (abstract_type_of_tag e.tag) 7 (λ h. omega arith) in
+    let other : id_of_tag e.tag == no_id ≡ false = ne_eqb (id_of_tag e.tag) no_id (λ h. omega arith) in
+    let its : has_tag_id_if_needed e.tag ≡ true = or_right (nat_le 5 (abstract_type_of_tag e.tag)) (not (id_of_tag e.tag == no_id)) (ap not other) in
     rw (five, t, its, six, seven) refl
 
 -- a name at the end makes a slot
-name_at_end : (slots : List RawSlot) (e : LogEntry) → class_of e.tag ≡ 0 → id_of e.tag ≡ length slots
-    → slots_after_log_entry slots e ≡ Some (slots ++ record { name = Some (kind_of e.tag, e.bytes); struct = None; attributes = [] } ∷ [])
+name_at_end : (slots : List RawSlot) (e : LogEntry) → abstract_type_of_tag e.tag ≡ 0 → id_of_tag e.tag ≡ length slots
+    → slots_after_log_entry slots e ≡ Some (slots ++ record { name = Some (type_of_tag e.tag, e.bytes); struct = None; attributes = [] } ∷ [])
 name_at_end slots e k i =
-    let zero_class : class_of e.tag == 0 ≡ true = eq-eqb (class_of e.tag) 0 k in
+    let zero_class : abstract_type_of_tag e.tag == 0 ≡ true = eq-eqb (abstract_type_of_tag e.tag) 0 k in
     let one : length slots + 1 - length slots ≡ 1 = omega arith in
     rw (zero_class, i) (rw (one, get_or-append_seam, set-append_seam) refl)
 
@@ -67,24 +67,24 @@ abbrev last : List RawSlot → RawSlot → List RawSlot
 last slots s = slots ++ s ∷ []
 
 -- a struct for the last slot
-struct_at_end : (slots : List RawSlot) (s : RawSlot) (e : LogEntry) → is_some s.name ≡ true → class_of e.tag ≡ 2 → id_of e.tag ≡ length slots
-    → slots_after_log_entry (last slots s) e ≡ Some (last slots (record s { struct = Some (kind_of e.tag, e.bytes) }))
+struct_at_end : (slots : List RawSlot) (s : RawSlot) (e : LogEntry) → is_some s.name ≡ true → abstract_type_of_tag e.tag ≡ 2 → id_of_tag e.tag ≡ length slots
+    → slots_after_log_entry (last slots s) e ≡ Some (last slots (record s { struct = Some (type_of_tag e.tag, e.bytes) }))
 struct_at_end slots s e n k i =
-    let not_name : class_of e.tag == 0 ≡ false = ne_eqb (class_of e.tag) 0 (λ h. omega arith) in
-    let not_create : kind_of e.tag == create_type ≡ false = ne_eqb (kind_of e.tag) create_type (λ h. omega arith) in
-    let not_delete : kind_of e.tag == delete_type ≡ false = ne_eqb (kind_of e.tag) delete_type (λ h. omega arith) in
-    let is_struct : class_of e.tag == 2 ≡ true = eq-eqb (class_of e.tag) 2 k in
+    let not_name : abstract_type_of_tag e.tag == 0 ≡ false = ne_eqb (abstract_type_of_tag e.tag) 0 (λ h. omega arith) in
+    let not_create : type_of_tag e.tag == create_tag_type ≡ false = ne_eqb (type_of_tag e.tag) create_tag_type (λ h. omega arith) in
+    let not_delete : type_of_tag e.tag == delete_tag_type ≡ false = ne_eqb (type_of_tag e.tag) delete_tag_type (λ h. omega arith) in
+    let is_struct : abstract_type_of_tag e.tag == 2 ≡ true = eq-eqb (abstract_type_of_tag e.tag) 2 k in
     rw (not_name, not_create, not_delete, i) (rw (get_or-append_seam, n, is_struct) (rw set-append_seam refl))
 
 -- an attribute for the last slot
-attribute_at_end : (slots : List RawSlot) (s : RawSlot) (e : LogEntry) → is_some s.name ≡ true → class_of e.tag ≡ 3 → id_of e.tag ≡ length slots → len_of e.tag < 0x3ff
-    → slots_after_log_entry (last slots s) e ≡ Some (last slots (record s { attributes = attributes_with_attribute (chunk_of e.tag) e.bytes s.attributes }))
+attribute_at_end : (slots : List RawSlot) (s : RawSlot) (e : LogEntry) → is_some s.name ≡ true → abstract_type_of_tag e.tag ≡ 3 → id_of_tag e.tag ≡ length slots → length_of_tag e.tag < 0x3ff
+    → slots_after_log_entry (last slots s) e ≡ Some (last slots (record s { attributes = attributes_with_attribute (chunk_of_tag e.tag) e.bytes s.attributes }))
 attribute_at_end slots s e n k i l =
-    let not_name : class_of e.tag == 0 ≡ false = ne_eqb (class_of e.tag) 0 (λ h. omega arith) in
-    let not_create : kind_of e.tag == create_type ≡ false = ne_eqb (kind_of e.tag) create_type (λ h. omega arith) in
-    let not_delete : kind_of e.tag == delete_type ≡ false = ne_eqb (kind_of e.tag) delete_type (λ h. omega arith) in
-    let not_struct : class_of e.tag == 2 ≡ false = ne_eqb (class_of e.tag) 2 (λ h. omega arith) in
-    let stays : is_attribute_removal e.tag ≡ false = ne_eqb (len_of e.tag) 0x3ff (λ h. omega arith) in
+    let not_name : abstract_type_of_tag e.tag == 0 ≡ false = ne_eqb (abstract_type_of_tag e.tag) 0 (λ h. omega arith) in
+    let not_create : type_of_tag e.tag == create_tag_type ≡ false = ne_eqb (type_of_tag e.tag) create_tag_type (λ h. omega arith) in
+    let not_delete : type_of_tag e.tag == delete_tag_type ≡ false = ne_eqb (type_of_tag e.tag) delete_tag_type (λ h. omega arith) in
+    let not_struct : abstract_type_of_tag e.tag == 2 ≡ false = ne_eqb (abstract_type_of_tag e.tag) 2 (λ h. omega arith) in
+    let stays : is_attribute_removal e.tag ≡ false = ne_eqb (length_of_tag e.tag) 0x3ff (λ h. omega arith) in
     rw (not_name, not_create, not_delete, i) (rw (get_or-append_seam, n, not_struct, stays) (rw set-append_seam refl))
 
 -- ---- attributes one after the other
@@ -110,58 +110,58 @@ below_later low high (a ∷ others) l h = (omega arith, below_later low high oth
 
 -- ---- the entries that are written
 
-in_table_at : (part : ℕ × List ℕ) (class id : ℕ) → class < 5 → id < 2 ^ 10 → IsNameOrStructOfClass class part → is_known_type_and_length (tag_of_type_id_and_length part.0 id (length part.1)) ≡ true
+in_table_at : (part : ℕ × List ℕ) (class id : ℕ) → class < 5 → id < 2 ^ 10 → IsNameOrStructTheFormatAllows class part → is_tag_of_known_type_and_length (tag_of_type_id_and_length part.0 id (length part.1)) ≡ true
 in_table_at part class id c i h =
     let of : part.0 / 2 ^ 8 ≡ class = h.of_class in
     let short : length part.1 < 0x3ff = h.short in
-    let kind : kind_of (tag_of_type_id_and_length part.0 id (length part.1)) ≡ kind_of (tag_of_type_id_and_length part.0 0 (length part.1)) = omega arith in
-    let len : len_of (tag_of_type_id_and_length part.0 id (length part.1)) ≡ len_of (tag_of_type_id_and_length part.0 0 (length part.1)) = omega arith in
+    let kind : type_of_tag (tag_of_type_id_and_length part.0 id (length part.1)) ≡ type_of_tag (tag_of_type_id_and_length part.0 0 (length part.1)) = omega arith in
+    let len : length_of_tag (tag_of_type_id_and_length part.0 id (length part.1)) ≡ length_of_tag (tag_of_type_id_and_length part.0 0 (length part.1)) = omega arith in
     rw (kind, len) h.in_table
 
-name_written : (c : RawContent) (part : ℕ × List ℕ) → length c.slots < 0x3ff → IsNameOrStructOfClass 0 part
-    → content_after_log_entry c (log_entry_with part.0 (length c.slots) part.1) ≡ Some (record c { slots = c.slots ++ record { name = Some part; struct = None; attributes = [] } ∷ [] })
+name_written : (c : RawPairContent) (part : ℕ × List ℕ) → length c.slots < 0x3ff → IsNameOrStructTheFormatAllows 0 part
+    → content_after_log_entry c (log_entry_of_type_id_and_bytes part.0 (length c.slots) part.1) ≡ Some (record c { slots = c.slots ++ record { name = Some part; struct = None; attributes = [] } ∷ [] })
 name_written c part n h =
     let of : part.0 / 2 ^ 8 ≡ 0 = h.of_class in
     let short : length part.1 < 0x3ff = h.short in
-    let kind : kind_of (tag_of_type_id_and_length part.0 (length c.slots) (length part.1)) ≡ part.0 = kind_of-tag_of_type_id_and_length part.0 (length c.slots) (length part.1) (omega arith) (omega arith) (omega arith) in
-    let id : id_of (tag_of_type_id_and_length part.0 (length c.slots) (length part.1)) ≡ length c.slots = id_of-tag_of_type_id_and_length part.0 (length c.slots) (length part.1) (omega arith) (omega arith) in
-    by_slots c (log_entry_with part.0 (length c.slots) part.1) (omega arith) (in_table_at part 0 (length c.slots) (omega arith) (omega arith) h) (omega arith)
-    ∙ ap (option_map (λ slots. record c { slots = slots })) (name_at_end c.slots (log_entry_with part.0 (length c.slots) part.1) (omega arith) id)
+    let kind : type_of_tag (tag_of_type_id_and_length part.0 (length c.slots) (length part.1)) ≡ part.0 = type_of_tag-tag_of_type_id_and_length part.0 (length c.slots) (length part.1) (omega arith) (omega arith) (omega arith) in
+    let id : id_of_tag (tag_of_type_id_and_length part.0 (length c.slots) (length part.1)) ≡ length c.slots = id_of_tag-tag_of_type_id_and_length part.0 (length c.slots) (length part.1) (omega arith) (omega arith) in
+    by_slots c (log_entry_of_type_id_and_bytes part.0 (length c.slots) part.1) (omega arith) (in_table_at part 0 (length c.slots) (omega arith) (omega arith) h) (omega arith)
+    ∙ ap (option_map (λ slots. record c { slots = slots })) (name_at_end c.slots (log_entry_of_type_id_and_bytes part.0 (length c.slots) part.1) (omega arith) id)
     ∙ ap (λ k. Some (record c { slots = c.slots ++ record { name = Some (k, part.1); struct = None; attributes = [] } ∷ [] })) kind
 
-struct_written : (c : RawContent) (slots : List RawSlot) (s : RawSlot) (part : ℕ × List ℕ) → is_some s.name ≡ true → length slots < 0x3ff → IsNameOrStructOfClass 2 part
-    → content_after_log_entry (record c { slots = last slots s }) (log_entry_with part.0 (length slots) part.1) ≡ Some (record c { slots = last slots (record s { struct = Some part }) })
+struct_written : (c : RawPairContent) (slots : List RawSlot) (s : RawSlot) (part : ℕ × List ℕ) → is_some s.name ≡ true → length slots < 0x3ff → IsNameOrStructTheFormatAllows 2 part
+    → content_after_log_entry (record c { slots = last slots s }) (log_entry_of_type_id_and_bytes part.0 (length slots) part.1) ≡ Some (record c { slots = last slots (record s { struct = Some part }) })
 struct_written c slots s part named n h =
     let of : part.0 / 2 ^ 8 ≡ 2 = h.of_class in
     let short : length part.1 < 0x3ff = h.short in
-    let kind : kind_of (tag_of_type_id_and_length part.0 (length slots) (length part.1)) ≡ part.0 = kind_of-tag_of_type_id_and_length part.0 (length slots) (length part.1) (omega arith) (omega arith) (omega arith) in
-    let id : id_of (tag_of_type_id_and_length part.0 (length slots) (length part.1)) ≡ length slots = id_of-tag_of_type_id_and_length part.0 (length slots) (length part.1) (omega arith) (omega arith) in
-    by_slots (record c { slots = last slots s }) (log_entry_with part.0 (length slots) part.1) (omega arith) (in_table_at part 2 (length slots) (omega arith) (omega arith) h) (omega arith)
-    ∙ ap (option_map (λ all. record c { slots = all })) (struct_at_end slots s (log_entry_with part.0 (length slots) part.1) named (omega arith) id)
+    let kind : type_of_tag (tag_of_type_id_and_length part.0 (length slots) (length part.1)) ≡ part.0 = type_of_tag-tag_of_type_id_and_length part.0 (length slots) (length part.1) (omega arith) (omega arith) (omega arith) in
+    let id : id_of_tag (tag_of_type_id_and_length part.0 (length slots) (length part.1)) ≡ length slots = id_of_tag-tag_of_type_id_and_length part.0 (length slots) (length part.1) (omega arith) (omega arith) in
+    by_slots (record c { slots = last slots s }) (log_entry_of_type_id_and_bytes part.0 (length slots) part.1) (omega arith) (in_table_at part 2 (length slots) (omega arith) (omega arith) h) (omega arith)
+    ∙ ap (option_map (λ all. record c { slots = all })) (struct_at_end slots s (log_entry_of_type_id_and_bytes part.0 (length slots) part.1) named (omega arith) id)
     ∙ ap (λ k. Some (record c { slots = last slots (record s { struct = Some (k, part.1) }) })) kind
 
-attribute_written : (c : RawContent) (slots : List RawSlot) (s : RawSlot) (type : ℕ) (bytes : List ℕ) → is_some s.name ≡ true → length slots < 0x3ff → type < 2 ^ 8 → length bytes < 0x3ff
-    → content_after_log_entry (record c { slots = last slots s }) (log_entry_with (0x300 + type) (length slots) bytes)
+attribute_written : (c : RawPairContent) (slots : List RawSlot) (s : RawSlot) (type : ℕ) (bytes : List ℕ) → is_some s.name ≡ true → length slots < 0x3ff → type < 2 ^ 8 → length bytes < 0x3ff
+    → content_after_log_entry (record c { slots = last slots s }) (log_entry_of_type_id_and_bytes (0x300 + type) (length slots) bytes)
     ≡ Some (record c { slots = last slots (record s { attributes = attributes_with_attribute type bytes s.attributes }) })
 attribute_written c slots s type bytes named n t short =
-    let kind : kind_of (tag_of_type_id_and_length (0x300 + type) (length slots) (length bytes)) ≡ 0x300 + type = kind_of-tag_of_type_id_and_length (0x300 + type) (length slots) (length bytes) (omega arith) (omega arith) (omega arith) in
-    let id : id_of (tag_of_type_id_and_length (0x300 + type) (length slots) (length bytes)) ≡ length slots = id_of-tag_of_type_id_and_length (0x300 + type) (length slots) (length bytes) (omega arith) (omega arith) in
-    let len : len_of (tag_of_type_id_and_length (0x300 + type) (length slots) (length bytes)) ≡ length bytes = len_of-tag_of_type_id_and_length (0x300 + type) (length slots) (length bytes) (omega arith) in
-    let class : class_of (tag_of_type_id_and_length (0x300 + type) (length slots) (length bytes)) ≡ 3 = omega arith in
-    let chunk : chunk_of (tag_of_type_id_and_length (0x300 + type) (length slots) (length bytes)) ≡ type = omega arith in
-    by_slots (record c { slots = last slots s }) (log_entry_with (0x300 + type) (length slots) bytes) (omega arith)
-    (attribute_in_table (log_entry_with (0x300 + type) (length slots) bytes) class (omega arith)) (omega arith)
-    ∙ ap (option_map (λ all. record c { slots = all })) (attribute_at_end slots s (log_entry_with (0x300 + type) (length slots) bytes) named class id (omega arith))
+    let kind : type_of_tag (tag_of_type_id_and_length (0x300 + type) (length slots) (length bytes)) ≡ 0x300 + type = type_of_tag-tag_of_type_id_and_length (0x300 + type) (length slots) (length bytes) (omega arith) (omega arith) (omega arith) in
+    let id : id_of_tag (tag_of_type_id_and_length (0x300 + type) (length slots) (length bytes)) ≡ length slots = id_of_tag-tag_of_type_id_and_length (0x300 + type) (length slots) (length bytes) (omega arith) (omega arith) in
+    let len : length_of_tag (tag_of_type_id_and_length (0x300 + type) (length slots) (length bytes)) ≡ length bytes = length_of_tag-tag_of_type_id_and_length (0x300 + type) (length slots) (length bytes) (omega arith) in
+    let class : abstract_type_of_tag (tag_of_type_id_and_length (0x300 + type) (length slots) (length bytes)) ≡ 3 = omega arith in
+    let chunk : chunk_of_tag (tag_of_type_id_and_length (0x300 + type) (length slots) (length bytes)) ≡ type = omega arith in
+    by_slots (record c { slots = last slots s }) (log_entry_of_type_id_and_bytes (0x300 + type) (length slots) bytes) (omega arith)
+    (attribute_in_table (log_entry_of_type_id_and_bytes (0x300 + type) (length slots) bytes) class (omega arith)) (omega arith)
+    ∙ ap (option_map (λ all. record c { slots = all })) (attribute_at_end slots s (log_entry_of_type_id_and_bytes (0x300 + type) (length slots) bytes) named class id (omega arith))
     ∙ ap (λ k. Some (record c { slots = last slots (record s { attributes = attributes_with_attribute k bytes s.attributes }) })) chunk
   where
-    attribute_in_table : (e : LogEntry) → class_of e.tag ≡ 3 → len_of e.tag < 0x3ff → is_known_type_and_length e.tag ≡ true
+    attribute_in_table : (e : LogEntry) → abstract_type_of_tag e.tag ≡ 3 → length_of_tag e.tag < 0x3ff → is_tag_of_known_type_and_length e.tag ≡ true
     attribute_in_table e k l =
-        let stays : is_attribute_removal e.tag ≡ false = ne_eqb (len_of e.tag) 0x3ff (λ h. omega arith) in
-        let is_attribute : class_of e.tag == 3 ≡ true = eq-eqb (class_of e.tag) 3 k in
+        let stays : is_attribute_removal e.tag ≡ false = ne_eqb (length_of_tag e.tag) 0x3ff (λ h. omega arith) in
+        let is_attribute : abstract_type_of_tag e.tag == 3 ≡ true = eq-eqb (abstract_type_of_tag e.tag) 3 k in
         rw (stays, is_attribute) refl
 
 -- attributes after those that the last slot has
-attributes_written : (c : RawContent) (slots : List RawSlot) (s : RawSlot) (low : ℕ) (rest : Attributes) → is_some s.name ≡ true → length slots < 0x3ff → Below low s.attributes → AreAttributesInTypeOrder low rest
+attributes_written : (c : RawPairContent) (slots : List RawSlot) (s : RawSlot) (low : ℕ) (rest : Attributes) → is_some s.name ≡ true → length slots < 0x3ff → Below low s.attributes → AreAttributesInTypeOrder low rest
     → content_after_log_entries (record c { slots = last slots s }) (log_entries_of_attributes (length slots) rest) ≡ Some (record c { slots = last slots (record s { attributes = s.attributes ++ rest }) })
 attributes_written c slots s low [] named n below up =
     ap (λ z. Some (record c { slots = last slots (record s { attributes = z }) })) (sym (append-nil s.attributes))
@@ -174,13 +174,13 @@ attributes_written c slots s low (a ∷ rest) named n below up =
     ∙ ap (λ z. Some (record c { slots = last slots (record s { attributes = z }) })) (sym more)
 
 -- a struct, if there is one, after a name
-struct_part_written : (c : RawContent) (slots : List RawSlot) (s : RawSlot) (part : Option (ℕ × List ℕ)) → s.struct ≡ None → is_some s.name ≡ true → length slots < 0x3ff → IsNameOrStructIfSome 2 part
+struct_part_written : (c : RawPairContent) (slots : List RawSlot) (s : RawSlot) (part : Option (ℕ × List ℕ)) → s.struct ≡ None → is_some s.name ≡ true → length slots < 0x3ff → IsNameOrStructTheFormatAllowsIfSome 2 part
     → content_after_log_entries (record c { slots = last slots s }) (log_entries_of_name_or_struct (length slots) part) ≡ Some (record c { slots = last slots (record s { struct = part }) })
 struct_part_written c slots s None none named n h = ap (λ z. Some (record c { slots = last slots (record s { struct = z }) })) none
 struct_part_written c slots s (Some part) none named n h = ap (option_and_then (λ d. content_after_log_entries d [])) (struct_written c slots s part named n h)
 
 -- a slot after others
-pub slot_written : (c : RawContent) (s : RawSlot) → length c.slots < 0x3ff → is_some s.name ≡ true → IsWellFormedRawSlot s
+pub slot_written : (c : RawPairContent) (s : RawSlot) → length c.slots < 0x3ff → is_some s.name ≡ true → IsWellFormedRawSlot s
     → content_after_log_entries c (log_entries_of_slot (length c.slots) s) ≡ Some (record c { slots = last c.slots s })
 slot_written c s n has_name h =
     then c (record c { slots = last c.slots (named s.struct) }) (log_entries_of_name_or_struct (length c.slots) s.name ++ log_entries_of_name_or_struct (length c.slots) s.struct) (log_entries_of_attributes (length c.slots) s.attributes) _
@@ -194,12 +194,12 @@ slot_written c s n has_name h =
     front : content_after_log_entries c (log_entries_of_name_or_struct (length c.slots) s.name) ≡ Some (record c { slots = last c.slots (named None) })
     front = go s.name has_name h.name
       where
-        go : (o : Option (ℕ × List ℕ)) → is_some o ≡ true → IsNameOrStructIfSome 0 o → content_after_log_entries c (log_entries_of_name_or_struct (length c.slots) o) ≡ Some (record c { slots = last c.slots (record { name = o; struct = None; attributes = [] }) })
+        go : (o : Option (ℕ × List ℕ)) → is_some o ≡ true → IsNameOrStructTheFormatAllowsIfSome 0 o → content_after_log_entries c (log_entries_of_name_or_struct (length c.slots) o) ≡ Some (record c { slots = last c.slots (record { name = o; struct = None; attributes = [] }) })
         go None e p = absurd (cc)
         go (Some part) e p = ap (option_and_then (λ d. content_after_log_entries d [])) (name_written c part n p)
 
 -- slots after others
-pub slots_written : (c : RawContent) (slots : List RawSlot) → length c.slots + length slots < 0x400 → AreNamedSlots slots → AreWellFormedRawSlots slots
+pub slots_written : (c : RawPairContent) (slots : List RawSlot) → length c.slots + length slots < 0x400 → AreNamedSlots slots → AreWellFormedRawSlots slots
     → content_after_log_entries c (log_entries_of_slots (length c.slots) slots) ≡ Some (record c { slots = c.slots ++ slots })
 slots_written c [] n m h = ap (λ z. Some (record c { slots = z })) (sym (append-nil c.slots))
 slots_written c (s ∷ slots) n m h =
@@ -218,7 +218,7 @@ pair_address_of_bytes-bytes_of_pair_address pair h =
     let second : little_number 4 (little_bytes 4 pair.1 ++ []) ≡ pair.1 = little_number-reads_back 4 pair.1 [] h.1 in
     ap₂ (λ x y. (x, y)) first (ap (little_number 4) (sym (append-nil (little_bytes 4 pair.1))) ∙ second)
 
-tail_written : (c : RawContent) (t : Option Tail) → c.tail ≡ None → IsWellFormedTailIfSome t → content_after_log_entries c (log_entries_of_tail t) ≡ Some (record c { tail = t })
+tail_written : (c : RawPairContent) (t : Option Tail) → c.tail ≡ None → IsNonNull32BitTailIfSome t → content_after_log_entries c (log_entries_of_tail t) ≡ Some (record c { tail = t })
 tail_written c None none h = ap (λ t. Some (record c { tail = t })) none
 tail_written c (Some t) none h = go t.hard
   where
@@ -230,14 +230,14 @@ tail_written c (Some t) none h = go t.hard
     go false = ap (λ z. Some (record c { tail = z })) (shown false)
 
 -- the fields of a move state's word
-word_small : (g : Gstate) → IsWellFormedMoveState g → first_word_of_move_state g < 2 ^ 32
+word_small : (g : Gstate) → AreMoveStateFieldsWithinBitWidths g → first_word_of_move_state g < 2 ^ 32
 word_small g h = go g.sync
   where
     go : (sync : Bool) → first_word_of_move_state (record g { sync = sync }) < 2 ^ 32
     go true = omega (arith, h.kind, h.id)
     go false = omega (arith, h.kind, h.id)
 
-word_fields : (g : Gstate) → IsWellFormedMoveState g → gstate_of_word_and_pair (first_word_of_move_state g) g.pair ≡ g
+word_fields : (g : Gstate) → AreMoveStateFieldsWithinBitWidths g → gstate_of_word_and_pair (first_word_of_move_state g) g.pair ≡ g
 word_fields g h = go g.sync
   where
     fields : (sync : Bool) (word : ℕ) → nat_le (2 ^ 31) word ≡ sync → word / 2 ^ 20 % 2 ^ 11 ≡ g.kind → word / 2 ^ 10 % 2 ^ 10 ≡ g.id → gstate_of_word_and_pair word g.pair ≡ record g { sync = sync }
@@ -247,7 +247,7 @@ word_fields g h = go g.sync
     go true = fields true (2 ^ 31 + g.kind * 2 ^ 20 + g.id * 2 ^ 10) (le-leb (2 ^ 31) (2 ^ 31 + g.kind * 2 ^ 20 + g.id * 2 ^ 10) (omega arith)) (omega (arith, h.kind, h.id)) (omega (arith, h.kind, h.id))
     go false = fields false (0 + g.kind * 2 ^ 20 + g.id * 2 ^ 10) (lt-leb (2 ^ 31) (0 + g.kind * 2 ^ 20 + g.id * 2 ^ 10) (omega (arith, h.kind, h.id))) (omega (arith, h.kind, h.id)) (omega (arith, h.kind, h.id))
 
-pub gstate_of_bytes-bytes_of_move_state : (g : Gstate) → IsWellFormedMoveState g → gstate_of_bytes (bytes_of_move_state g) ≡ g
+pub gstate_of_bytes-bytes_of_move_state : (g : Gstate) → AreMoveStateFieldsWithinBitWidths g → gstate_of_bytes (bytes_of_move_state g) ≡ g
 gstate_of_bytes-bytes_of_move_state g h =
     ap₂ gstate_of_word_and_pair (little_number-reads_back 4 (first_word_of_move_state g) (bytes_of_pair_address g.pair) (word_small g h)) (pair_address_of_bytes-bytes_of_pair_address g.pair h.pair)
     ∙ word_fields g h
@@ -269,19 +269,19 @@ zero_is_none g z = go g.sync refl
         ap (λ s. record g { sync = s }) e ∙ ap (λ k. record g { sync = false; kind = k }) kind
         ∙ ap₂ (λ i p. record { sync = false; kind = 0; id = i; pair = p }) id pair
 
-move_written : (c : RawContent) (g : Gstate) → c.move ≡ zero_gstate → IsWellFormedMoveState g → content_after_log_entries c (log_entries_of_move_state g) ≡ Some (record c { move = g })
+move_written : (c : RawPairContent) (g : Gstate) → c.move ≡ zero_gstate → AreMoveStateFieldsWithinBitWidths g → content_after_log_entries c (log_entries_of_move_state g) ≡ Some (record c { move = g })
 move_written c g none h = go (is_zero_gstate g) refl
   where
-    go : (z : Bool) → is_zero_gstate g ≡ z → content_after_log_entries c (cond z [] (log_entry_with move_state_type no_id (bytes_of_move_state g) ∷ [])) ≡ Some (record c { move = g })
+    go : (z : Bool) → is_zero_gstate g ≡ z → content_after_log_entries c (cond z [] (log_entry_of_type_id_and_bytes move_state_type no_id (bytes_of_move_state g) ∷ [])) ≡ Some (record c { move = g })
     go true z = ap (λ m. Some (record c { move = m })) (none ∙ sym (zero_is_none g z))
     go false z = ap (λ m. Some (record c { move = m })) (gstate_of_bytes-bytes_of_move_state g h)
 
 -- ---- the whole
 
-pub entries_of-reads : (c : RawContent) → IsStorableRawContent c → content_after_log_entries empty_raw_content (log_entries_of_content c) ≡ Some c
+pub entries_of-reads : (c : RawPairContent) → IsStorableRawPairContent c → content_after_log_entries empty_raw_pair_content (log_entries_of_content c) ≡ Some c
 entries_of-reads c h =
-    then empty_raw_content (record { slots = c.slots; tail = c.tail; move = zero_gstate }) (log_entries_of_slots 0 c.slots ++ log_entries_of_tail c.tail) (log_entries_of_move_state c.move) _
-    (then empty_raw_content (record { slots = c.slots; tail = None; move = zero_gstate }) (log_entries_of_slots 0 c.slots) (log_entries_of_tail c.tail) _
-    (slots_written empty_raw_content c.slots (omega (arith, h.few)) h.names h.logged.slots)
+    then empty_raw_pair_content (record { slots = c.slots; tail = c.tail; move = zero_gstate }) (log_entries_of_slots 0 c.slots ++ log_entries_of_tail c.tail) (log_entries_of_move_state c.move) _
+    (then empty_raw_pair_content (record { slots = c.slots; tail = None; move = zero_gstate }) (log_entries_of_slots 0 c.slots) (log_entries_of_tail c.tail) _
+    (slots_written empty_raw_pair_content c.slots (omega (arith, h.few)) h.names h.logged.slots)
     (tail_written (record { slots = c.slots; tail = None; move = zero_gstate }) c.tail refl h.logged.tail))
     (move_written (record { slots = c.slots; tail = c.tail; move = zero_gstate }) c.move refl h.logged.move)

@@ -4,8 +4,8 @@ use Rattle.std.specs.Prelude.{sum_by}
 use Rattle.std.proofs.lemmas.List.Sums.{sum_by-append, sum_by-cons}
 use Rattle.lfs_model.specs.Slots.{Attributes, Tail, Gstate, attributes_size}
 use Rattle.lfs_model.specs.Log.{LogEntry}
-use Rattle.lfs_model.specs.Content.{RawSlot, RawContent}
-use Rattle.lfs_model.specs.WrittenContent.{log_entry_with, first_attribute_type, log_entries_of_name_or_struct, log_entries_of_attributes, log_entries_of_slot, log_entries_of_slots, log_entries_of_tail, move_state_log_entry, log_entries_of_move_state, is_zero_gstate, log_entries_of_content, name_or_struct_size, raw_slot_size, raw_content_size}
+use Rattle.lfs_model.specs.Content.{RawSlot, RawPairContent}
+use Rattle.lfs_model.specs.WrittenContent.{log_entry_of_type_id_and_bytes, lowest_attribute_type, log_entries_of_name_or_struct, log_entries_of_attributes, log_entries_of_slot, log_entries_of_slots, log_entries_of_tail, move_state_log_entry, log_entries_of_move_state, is_zero_gstate, log_entries_of_content, name_or_struct_size, raw_slot_size, slots_size_of_raw_pair_content}
 
 abbrev entry_size : LogEntry → ℕ
 entry_size e = 4 + length e.bytes
@@ -17,7 +17,7 @@ part_entries_size id (Some part) = omega arith
 attribute_entries_size : (id : ℕ) (attributes : Attributes) → sum_by entry_size (log_entries_of_attributes id attributes) ≡ attributes_size attributes
 attribute_entries_size id [] = refl
 attribute_entries_size id (a ∷ attributes) =
-    let left = sum_by-cons entry_size (log_entry_with (first_attribute_type + a.0) id a.1) (log_entries_of_attributes id attributes) in
+    let left = sum_by-cons entry_size (log_entry_of_type_id_and_bytes (lowest_attribute_type + a.0) id a.1) (log_entries_of_attributes id attributes) in
     let right = sum_by-cons (λ (b : ℕ × List ℕ). 4 + length b.1) a attributes in
     let rest = attribute_entries_size id attributes in
     omega (arith, left, right, rest)
@@ -52,7 +52,7 @@ move_size_written g = go (is_zero_gstate g)
     go false = omega arith
 
 -- the slots' bytes, a tail and a move state
-pub written_size : (c : RawContent) → sum_by (λ (e : LogEntry). 4 + length e.bytes) (log_entries_of_content c) ≤ raw_content_size c + 28
+pub written_size : (c : RawPairContent) → sum_by (λ (e : LogEntry). 4 + length e.bytes) (log_entries_of_content c) ≤ slots_size_of_raw_pair_content c + 28
 written_size c =
     let all = sum_by-append entry_size (log_entries_of_slots 0 c.slots ++ log_entries_of_tail c.tail) (log_entries_of_move_state c.move) in
     let front = sum_by-append entry_size (log_entries_of_slots 0 c.slots) (log_entries_of_tail c.tail) in

@@ -5,40 +5,40 @@ use Rattle.lfs_model.specs.Log.{LogEntry}
 use Rattle.lfs_model.specs.Commit.{encoded_bytes_of_log_entries}
 use Rattle.lfs_model.specs.Names.{Name}
 use Rattle.lfs_model.specs.EntryTypes.{file_name_type, directory_name_type, directory_struct_type, inline_struct_type, ctz_struct_type, move_state_type, no_id}
-use Rattle.lfs_model.specs.WrittenContent.{log_entry_with, bytes_of_pair_address}
+use Rattle.lfs_model.specs.WrittenContent.{log_entry_of_type_id_and_bytes, bytes_of_pair_address}
 use Rattle.lfs_model.specs.View.{superblock_name_log_entry}
 use Rattle.lfs_model.specs.Fresh.{superblock_struct_bytes}
 
 -- storage that nothing was written to
-abbrev pub unwritten : ℕ → List ℕ
-unwritten size = replicate size 0xff
+abbrev pub unwritten_storage_bytes : ℕ → List ℕ
+unwritten_storage_bytes size = replicate size 0xff
 
 -- these bytes, and unwritten storage to the end of the block
 abbrev pub bytes_padded_to_block_size : ℕ → List ℕ → List ℕ
-bytes_padded_to_block_size size bytes = bytes ++ unwritten (size - length bytes)
+bytes_padded_to_block_size size bytes = bytes ++ unwritten_storage_bytes (size - length bytes)
 
 -- ---- entries
 
 -- a slot's name and struct
-abbrev pub inline_file_log_entries : ℕ → Name → List ℕ → List LogEntry
-inline_file_log_entries id name bytes = log_entry_with file_name_type id name ∷ log_entry_with inline_struct_type id bytes ∷ []
+abbrev pub inline_file_name_and_struct_entries : ℕ → Name → List ℕ → List LogEntry
+inline_file_name_and_struct_entries id name bytes = log_entry_of_type_id_and_bytes file_name_type id name ∷ log_entry_of_type_id_and_bytes inline_struct_type id bytes ∷ []
 
-abbrev pub ctz_file_log_entries : ℕ → Name → ℕ → ℕ → List LogEntry
-ctz_file_log_entries id name head size = log_entry_with file_name_type id name ∷ log_entry_with ctz_struct_type id (bytes_of_pair_address (head, size)) ∷ []
+abbrev pub ctz_file_name_and_struct_entries : ℕ → Name → ℕ → ℕ → List LogEntry
+ctz_file_name_and_struct_entries id name head size = log_entry_of_type_id_and_bytes file_name_type id name ∷ log_entry_of_type_id_and_bytes ctz_struct_type id (bytes_of_pair_address (head, size)) ∷ []
 
-abbrev pub directory_slot_log_entries : ℕ → Name → ℕ × ℕ → List LogEntry
-directory_slot_log_entries id name to = log_entry_with directory_name_type id name ∷ log_entry_with directory_struct_type id (bytes_of_pair_address to) ∷ []
+abbrev pub directory_name_and_struct_entries : ℕ → Name → ℕ × ℕ → List LogEntry
+directory_name_and_struct_entries id name to = log_entry_of_type_id_and_bytes directory_name_type id name ∷ log_entry_of_type_id_and_bytes directory_struct_type id (bytes_of_pair_address to) ∷ []
 
-abbrev pub superblock_log_entries : ℕ → ℕ → List LogEntry
-superblock_log_entries block_size block_count = superblock_name_log_entry ∷ log_entry_with inline_struct_type 0 (superblock_struct_bytes block_size block_count) ∷ []
+abbrev pub superblock_name_and_struct_entries : ℕ → ℕ → List LogEntry
+superblock_name_and_struct_entries block_size block_count = superblock_name_log_entry ∷ log_entry_of_type_id_and_bytes inline_struct_type 0 (superblock_struct_bytes block_size block_count) ∷ []
 
 -- a move state by its first word
-abbrev pub move_state_entry_of_word : ℕ → ℕ × ℕ → LogEntry
-move_state_entry_of_word word pair = log_entry_with move_state_type no_id (little_bytes 4 word ++ bytes_of_pair_address pair)
+abbrev pub move_state_entry_with_first_word : ℕ → ℕ × ℕ → LogEntry
+move_state_entry_with_first_word word pair = log_entry_of_type_id_and_bytes move_state_type no_id (little_bytes 4 word ++ bytes_of_pair_address pair)
 
 -- the checksum, and so many bytes of padding
 abbrev pub checksum_entry : ℕ → ℕ → LogEntry
-checksum_entry number padding = log_entry_with 0x500 no_id (little_bytes 4 number ++ unwritten padding)
+checksum_entry number padding = log_entry_of_type_id_and_bytes 0x500 no_id (little_bytes 4 number ++ unwritten_storage_bytes padding)
 
 -- ---- in bytes
 

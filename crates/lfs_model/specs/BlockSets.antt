@@ -11,35 +11,35 @@ pub data BlockState : Type 0 where
 abbrev pub BlockStateList : Type 0
 BlockStateList = List BlockState
 
-abbrev pub IsFree : BlockStateList → ℕ → Type 0
-IsFree sets b = slice_get sets b ≡ Some Free
+abbrev pub IsBlockFree : BlockStateList → ℕ → Type 0
+IsBlockFree sets b = slice_get sets b ≡ Some Free
 
-abbrev pub IsInFlight : BlockStateList → ℕ → Type 0
-IsInFlight sets b = slice_get sets b ≡ Some InFlight
+abbrev pub IsBlockInFlight : BlockStateList → ℕ → Type 0
+IsBlockInFlight sets b = slice_get sets b ≡ Some InFlight
 
-abbrev pub IsUsed : BlockStateList → ℕ → Type 0
-IsUsed sets b = slice_get sets b ≡ Some Used
+abbrev pub IsBlockUsed : BlockStateList → ℕ → Type 0
+IsBlockUsed sets b = slice_get sets b ≡ Some Used
 
-abbrev pub is_in_flight : BlockState → Bool
-is_in_flight Free = false
-is_in_flight InFlight = true
-is_in_flight Used = false
+abbrev pub is_block_state_in_flight : BlockState → Bool
+is_block_state_in_flight Free = false
+is_block_state_in_flight InFlight = true
+is_block_state_in_flight Used = false
 
 abbrev pub is_used : BlockState → Bool
 is_used Free = false
 is_used InFlight = false
 is_used Used = true
 
-abbrev pub in_flight_count : BlockStateList → ℕ
-in_flight_count sets = count_by is_in_flight sets
+abbrev pub in_flight_block_count : BlockStateList → ℕ
+in_flight_block_count sets = count_by is_block_state_in_flight sets
 
 abbrev pub used_count : BlockStateList → ℕ
 used_count sets = count_by is_used sets
 
 -- the blocks of the list are those in flight
 abbrev pub AreExactlyTheInFlightBlocks : BlockStateList → List ℕ → Type 0
-AreExactlyTheInFlightBlocks sets bs = (b : ℕ) → IsInFlight sets b ↔ Contains bs b
+AreExactlyTheInFlightBlocks sets bs = (b : ℕ) → IsBlockInFlight sets b ↔ Contains bs b
 
 -- the blocks of the list are the used ones
 abbrev pub AreExactlyTheUsedBlocks : BlockStateList → List ℕ → Type 0
-AreExactlyTheUsedBlocks sets bs = (b : ℕ) → IsUsed sets b ↔ Contains bs b
+AreExactlyTheUsedBlocks sets bs = (b : ℕ) → IsBlockUsed sets b ↔ Contains bs b

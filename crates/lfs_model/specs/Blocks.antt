@@ -6,13 +6,13 @@ abbrev pub Blocks : Type 0
 Blocks = List (List ℕ)
 
 -- a block's bytes; none where there is no such block
-abbrev pub block_bytes_in : Blocks → ℕ → List ℕ
-block_bytes_in blocks b = slice_index_or blocks b []
+abbrev pub block_bytes_by_number : Blocks → ℕ → List ℕ
+block_bytes_by_number blocks b = slice_index_or blocks b []
 
 -- so many blocks of this size
 pub record HasBlocksOfCountAndSize (block_size block_count : ℕ) (blocks : Blocks) : Type 0 where
   pub count : length blocks ≡ block_count
-  pub sizes : (b : ℕ) → b < block_count → length (block_bytes_in blocks b) ≡ block_size
+  pub sizes : (b : ℕ) → b < block_count → length (block_bytes_by_number blocks b) ≡ block_size
 
 -- bytes with others in their place, from an offset on
 abbrev pub bytes_after_overwrite_at : List ℕ → ℕ → List ℕ → List ℕ
@@ -20,13 +20,13 @@ bytes_after_overwrite_at block at bytes = take at block ++ bytes ++ drop (at + l
 
 -- the blocks with other bytes in one of them, from an offset on
 abbrev pub programmed : Blocks → ℕ → ℕ → List ℕ → Blocks
-programmed blocks b at bytes = slice_set blocks b (bytes_after_overwrite_at (block_bytes_in blocks b) at bytes)
+programmed blocks b at bytes = slice_set blocks b (bytes_after_overwrite_at (block_bytes_by_number blocks b) at bytes)
 
 -- the blocks differ at most in the bytes of this one
 pub record AreBlocksEqualExceptOne (b : ℕ) (old new : Blocks) : Type 0 where
   pub count : length new ≡ length old
-  pub size : length (block_bytes_in new b) ≡ length (block_bytes_in old b)
-  pub others : (other : ℕ) → other ≢ b → block_bytes_in new other ≡ block_bytes_in old other
+  pub size : length (block_bytes_by_number new b) ≡ length (block_bytes_by_number old b)
+  pub others : (other : ℕ) → other ≢ b → block_bytes_by_number new other ≡ block_bytes_by_number old other
 
 -- bytes that differ at most from an offset up to another
 pub record AreBytesEqualOutsideRange (low high : ℕ) (old new : List ℕ) : Type 0 where
@@ -36,8 +36,8 @@ pub record AreBytesEqualOutsideRange (low high : ℕ) (old new : List ℕ) : Typ
 -- the blocks differ at most in the bytes of these
 pub record AreBlocksEqualExceptThese (bs : List ℕ) (old new : Blocks) : Type 0 where
   pub count : length new ≡ length old
-  pub sizes : (b : ℕ) → length (block_bytes_in new b) ≡ length (block_bytes_in old b)
-  pub others : (other : ℕ) → All (λ b. b ≢ other) bs → block_bytes_in new other ≡ block_bytes_in old other
+  pub sizes : (b : ℕ) → length (block_bytes_by_number new b) ≡ length (block_bytes_by_number old b)
+  pub others : (other : ℕ) → All (λ b. b ≢ other) bs → block_bytes_by_number new other ≡ block_bytes_by_number old other
 
 -- bytes cut into so many blocks of a size
 abbrev pub cut : ℕ → ℕ → List ℕ → Blocks

@@ -2,13 +2,13 @@
 use Rattle.std.specs.Prelude.{ℕ, ◌+◌, nat_lt, if◌then◌else◌, List, [], ◌∷◌, ◌++◌, length, take, drop, slice_index, sum_by, bit_xor, Option, Some, None}
 use Rattle.std.specs.Int.{next_multiple_of}
 use Rattle.byteorder.specs.Endian.{big_bytes}
-use Rattle.lfs_model.specs.Tag.{carried}
+use Rattle.lfs_model.specs.Tag.{tag_for_decoding_next_tag}
 use Rattle.lfs_model.specs.Log.{LogEntry}
 
 -- each tag XORed with the one before it, then its bytes
 abbrev pub encoded_bytes_of_log_entries : ℕ → List LogEntry → List ℕ
 encoded_bytes_of_log_entries before [] = []
-encoded_bytes_of_log_entries before (e ∷ es) = big_bytes 4 (bit_xor e.tag before) ++ e.bytes ++ encoded_bytes_of_log_entries (carried e.tag) es
+encoded_bytes_of_log_entries before (e ∷ es) = big_bytes 4 (bit_xor e.tag before) ++ e.bytes ++ encoded_bytes_of_log_entries (tag_for_decoding_next_tag e.tag) es
 
 -- the bytes that entries take, each with its tag
 abbrev pub encoded_size_of_log_entries : List LogEntry → ℕ
@@ -23,6 +23,6 @@ abbrev pub four_bytes_from_offset : List ℕ → ℕ → Option (List ℕ)
 four_bytes_from_offset block at = if nat_lt (length block) (at + 4) then None else Some (take 4 (drop at block))
 
 -- The type of the checksum before these bytes. They must decode as an invalid tag, and 0x501 inverts the top bit of that tag.
-abbrev pub checksum_type_before_bytes : Option (List ℕ) → ℕ
-checksum_type_before_bytes None = 0x500
-checksum_type_before_bytes (Some next) = if nat_lt (slice_index next 0) 0x80 then 0x501 else 0x500
+abbrev pub checksum_tag_type_for_following_bytes : Option (List ℕ) → ℕ
+checksum_tag_type_for_following_bytes None = 0x500
+checksum_tag_type_for_following_bytes (Some next) = if nat_lt (slice_index next 0) 0x80 then 0x501 else 0x500

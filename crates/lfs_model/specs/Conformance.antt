@@ -1,16 +1,16 @@
 -- What the calls of a device do that don't fail.
 use Rattle.std.specs.Prelude.{ℕ, ◌≡◌, false, List, All}
 use Rattle.lfs_model.specs.Blocks.{AreBlocksEqualExceptOne, programmed}
-use Rattle.lfs_model.specs.History.{Read, Program, Erase, CallEvent}
+use Rattle.lfs_model.specs.History.{Read, Program, Erase, DeviceCallEvent}
 
 -- A call that didn't fail conforms. A read left the blocks as they were. A program left its bytes at its place. Neither a program
 -- nor an erase changed another block.
-pub record IsConformingCall (e : CallEvent) : Type 0 where
+pub record IsConformingDeviceCall (e : DeviceCallEvent) : Type 0 where
   pub reads : (block off len : ℕ) → e.call ≡ Read block off len → e.failed ≡ false → e.after ≡ e.before
   pub programs : (block off : ℕ) (bytes : List ℕ) → e.call ≡ Program block off bytes → e.failed ≡ false → e.after ≡ programmed e.before block off bytes
   pub others : (block off : ℕ) (bytes : List ℕ) → e.call ≡ Program block off bytes → e.failed ≡ false → AreBlocksEqualExceptOne block e.before e.after
   pub erases : (block : ℕ) → e.call ≡ Erase block → e.failed ≡ false → AreBlocksEqualExceptOne block e.before e.after
 
 -- each call conforms
-abbrev pub AreConformingCalls : List CallEvent → Type 0
-AreConformingCalls history = All IsConformingCall history
+abbrev pub AreConformingDeviceCalls : List DeviceCallEvent → Type 0
+AreConformingDeviceCalls history = All IsConformingDeviceCall history

@@ -5,16 +5,16 @@ use Rattle.lfs_model.specs.Content.{RawSlot}
 use Rattle.lfs_model.specs.WrittenContent.{raw_slot_size}
 
 -- a pair that is written may have these slots
-pub record FitSlots (block_size page : ℕ) (slots : List RawSlot) : Type 0 where
+pub record AreSlotsFittingPair (block_size page : ℕ) (slots : List RawSlot) : Type 0 where
   pub size : sum_by raw_slot_size slots ≤ pair_capacity block_size page
   pub count : length slots ≤ slots_per_pair_limit
 
 -- so many slots are before the cut, and both parts fit
-pub record IsCutOfSlots (block_size page : ℕ) (slots : List RawSlot) (cut : ℕ) : Type 0 where
+pub record IsFittingSplitOfSlots (block_size page : ℕ) (slots : List RawSlot) (cut : ℕ) : Type 0 where
   pub within : cut ≤ length slots
-  pub front : FitSlots block_size page (take cut slots)
-  pub back : FitSlots block_size page (drop cut slots)
+  pub front : AreSlotsFittingPair block_size page (take cut slots)
+  pub back : AreSlotsFittingPair block_size page (drop cut slots)
 
-pub record CanBeCut (block_size page : ℕ) (slots : List RawSlot) : Type 0 where
+pub record CanSplitSlotsIntoTwoPairs (block_size page : ℕ) (slots : List RawSlot) : Type 0 where
   pub cut : ℕ
-  pub is_cut : IsCutOfSlots block_size page slots cut
+  pub is_cut : IsFittingSplitOfSlots block_size page slots cut

@@ -1,6 +1,6 @@
 -- A device's bytes under a geometry.
 use Rattle.std.specs.Prelude.{ℕ, ◌≡◌, ◌-◌, ◌/◌, ◌%◌, min, List, length}
-use Rattle.lfs_model.specs.Blocks.{Blocks, block_bytes_in, cut}
+use Rattle.lfs_model.specs.Blocks.{Blocks, block_bytes_by_number, cut}
 use Rattle.lfs_model.specs.declared.order.NameOrder.{NameOrder}
 use Rattle.lfs_model.specs.Geometry.{IsValidGeometry}
 use Rattle.lfs_model.specs.Tag.{tag_data_limit}
@@ -16,7 +16,7 @@ abbrev pub block_count : Disk → ℕ
 block_count disk = length disk.blocks
 
 abbrev pub block_bytes_on_disk : Disk → ℕ → List ℕ
-block_bytes_on_disk disk b = block_bytes_in disk.blocks b
+block_bytes_on_disk disk b = block_bytes_by_number disk.blocks b
 
 -- as many blocks and pages, of the same size, and the same order of names
 pub record SameGeometry (disk new : Disk) : Type 0 where
@@ -43,8 +43,8 @@ inline_limit block_size = min (block_size / 8) tag_data_limit
 abbrev pub pair_capacity : ℕ → ℕ → ℕ
 pair_capacity block_size page = block_size - 39 - page
 
-abbrev pub entry_charge_limit : ℕ → ℕ → ℕ
-entry_charge_limit block_size page = pair_capacity block_size page / 2
+abbrev pub charged_entry_size_limit_in_pair : ℕ → ℕ → ℕ
+charged_entry_size_limit_in_pair block_size page = pair_capacity block_size page / 2
 
 abbrev pub slots_per_pair_limit : ℕ
 slots_per_pair_limit = 1000

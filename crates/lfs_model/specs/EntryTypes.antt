@@ -1,9 +1,9 @@
 -- The types of entries, and the fields of their bytes.
 use Rattle.std.specs.Prelude.{ℕ, ◌/◌, ◌%◌, ◌^◌, ◌==◌, ◌&&◌, ◌||◌, not, nat_le, if◌then◌else◌, Bool, true, List, drop, Option, Some, None}
 use Rattle.byteorder.specs.Endian.{little_number}
-use Rattle.lfs_model.specs.Tag.{kind_of, id_of, len_of, class_of, attribute_removal_length}
+use Rattle.lfs_model.specs.Tag.{type_of_tag, id_of_tag, length_of_tag, abstract_type_of_tag, attribute_removal_length}
 use Rattle.lfs_model.specs.Log.{LogEntry}
-use Rattle.lfs_model.specs.Slots.{Tail, Gstate, null_address}
+use Rattle.lfs_model.specs.Slots.{Tail, Gstate, null_block_address}
 
 -- ---- types
 
@@ -25,11 +25,11 @@ inline_struct_type = 0x201
 abbrev pub ctz_struct_type : ℕ
 ctz_struct_type = 0x202
 
-abbrev pub create_type : ℕ
-create_type = 0x401
+abbrev pub create_tag_type : ℕ
+create_tag_type = 0x401
 
-abbrev pub delete_type : ℕ
-delete_type = 0x4ff
+abbrev pub delete_tag_type : ℕ
+delete_tag_type = 0x4ff
 
 abbrev pub soft_tail_type : ℕ
 soft_tail_type = 0x600
@@ -42,37 +42,37 @@ move_state_type = 0x7ff
 
 -- the length that removes an attribute is allowed in no other entry
 abbrev pub is_attribute_removal : ℕ → Bool
-is_attribute_removal tag = len_of tag == attribute_removal_length
+is_attribute_removal tag = length_of_tag tag == attribute_removal_length
 
 abbrev pub no_id : ℕ
 no_id = 0x3ff
 
 -- a user attribute, a name or an inline struct: of any length
-abbrev pub allows_any_length : ℕ → Bool
-allows_any_length tag =
-    class_of tag == 3 || (kind_of tag == file_name_type || (kind_of tag == directory_name_type || kind_of tag == inline_struct_type))
+abbrev pub tag_type_allows_any_length : ℕ → Bool
+tag_type_allows_any_length tag =
+    abstract_type_of_tag tag == 3 || (type_of_tag tag == file_name_type || (type_of_tag tag == directory_name_type || type_of_tag tag == inline_struct_type))
 
 -- a superblock's name, a list's struct, or what names a pair: of 8 bytes
-abbrev pub requires_eight_bytes : ℕ → Bool
-requires_eight_bytes tag =
-    kind_of tag == superblock_name_type
-    || (kind_of tag == directory_struct_type || (kind_of tag == ctz_struct_type || (kind_of tag == soft_tail_type || kind_of tag == hard_tail_type)))
+abbrev pub tag_type_requires_eight_data_bytes : ℕ → Bool
+tag_type_requires_eight_data_bytes tag =
+    type_of_tag tag == superblock_name_type
+    || (type_of_tag tag == directory_struct_type || (type_of_tag tag == ctz_struct_type || (type_of_tag tag == soft_tail_type || type_of_tag tag == hard_tail_type)))
 
-abbrev pub requires_no_bytes : ℕ → Bool
-requires_no_bytes tag = kind_of tag == create_type || kind_of tag == delete_type
+abbrev pub tag_type_requires_no_data_bytes : ℕ → Bool
+tag_type_requires_no_data_bytes tag = type_of_tag tag == create_tag_type || type_of_tag tag == delete_tag_type
 
 -- the format has the type, with the length; a checksum's type is not among these
-abbrev pub is_known_type_and_length : ℕ → Bool
-is_known_type_and_length tag =
-    if is_attribute_removal tag then class_of tag == 3
-    else (if allows_any_length tag then true
-    else (if requires_eight_bytes tag then len_of tag == 8
-    else (if requires_no_bytes tag then len_of tag == 0
-    else kind_of tag == move_state_type && len_of tag == 12)))
+abbrev pub is_tag_of_known_type_and_length : ℕ → Bool
+is_tag_of_known_type_and_length tag =
+    if is_attribute_removal tag then abstract_type_of_tag tag == 3
+    else (if tag_type_allows_any_length tag then true
+    else (if tag_type_requires_eight_data_bytes tag then length_of_tag tag == 8
+    else (if tag_type_requires_no_data_bytes tag then length_of_tag tag == 0
+    else type_of_tag tag == move_state_type && length_of_tag tag == 12)))
 
 -- an entry about a slot has an id; the ids of others are ignored
-abbrev pub has_id_if_needed : ℕ → Bool
-has_id_if_needed tag = nat_le 5 (class_of tag) || not (id_of tag == no_id)
+abbrev pub has_tag_id_if_needed : ℕ → Bool
+has_tag_id_if_needed tag = nat_le 5 (abstract_type_of_tag tag) || not (id_of_tag tag == no_id)
 
 -- ---- fields
 
@@ -80,10 +80,10 @@ abbrev pub pair_address_of_bytes : List ℕ → ℕ × ℕ
 pair_address_of_bytes bytes = (little_number 4 bytes, little_number 4 (drop 4 bytes))
 
 abbrev pub tail_to_pair_if_any : Bool → ℕ × ℕ → Option Tail
-tail_to_pair_if_any hard to = if to.0 == null_address && to.1 == null_address then None else Some (record { hard = hard; to = to })
+tail_to_pair_if_any hard to = if to.0 == null_block_address && to.1 == null_block_address then None else Some (record { hard = hard; to = to })
 
-abbrev pub tail_of : LogEntry → Option Tail
-tail_of e = tail_to_pair_if_any (kind_of e.tag == hard_tail_type) (pair_address_of_bytes e.bytes)
+abbrev pub tail_of_log_entry : LogEntry → Option Tail
+tail_of_log_entry e = tail_to_pair_if_any (type_of_tag e.tag == hard_tail_type) (pair_address_of_bytes e.bytes)
 
 -- the sync bit, the move type and the move id of the first word
 abbrev pub gstate_of_word_and_pair : ℕ → ℕ × ℕ → Gstate
@@ -101,8 +101,8 @@ pub record SuperblockFields : Type 0 where
   pub file_max : ℕ
   pub attr_max : ℕ
 
-abbrev pub superblock_fields_at : List ℕ → SuperblockFields
-superblock_fields_at bytes = record {
+abbrev pub superblock_fields_of_struct_bytes : List ℕ → SuperblockFields
+superblock_fields_of_struct_bytes bytes = record {
   version = little_number 4 bytes;
   block_size = little_number 4 (drop 4 bytes);
   block_count = little_number 4 (drop 8 bytes);

@@ -2,16 +2,16 @@
 use Rattle.std.specs.Prelude.{ℕ, ◌≡◌, ◌≤◌, Bool, true, false, if◌then◌else◌, not, List, [], ◌∷◌, ◌++◌, length, map, Option, Some, None, All, Any, Contains, sum_by}
 use Rattle.lfs_model.specs.Disk.{Disk, block_bytes_on_disk}
 use Rattle.lfs_model.specs.Slots.{Slot, same_pair, is_superblock}
-use Rattle.lfs_model.specs.Thread.{Pair, is_hard_tail, root_directory_of_pairs}
+use Rattle.lfs_model.specs.Thread.{Pair, is_hard_tail, root_directory_address_of_pairs}
 use Rattle.lfs_model.specs.Tree.{Path, directory_address_at_path}
 use Rattle.lfs_model.specs.Names.{Name, same_name}
 use Rattle.lfs_model.specs.TreeEdits.{parent_path_of, last_name_of_path}
 use Rattle.lfs_model.specs.Shown.{entries_by_directory_in_thread, all_slots_not_moved, skip_list_blocks_of_struct, IsPathToDirectory}
-use Rattle.lfs_model.specs.History.{CallEvent, reads}
+use Rattle.lfs_model.specs.History.{DeviceCallEvent, read_count_of_history}
 use Rattle.lfs_model.specs.Operations as ops
 use Rattle.lfs_model.specs.Operations.{Operation, Refusal, Reply, BadFile, Invalid, ReadOnly, Failed}
-use Rattle.lfs_model.specs.Session.{Session, OpenFile, path_of_open_file, open_file_of}
-use Rattle.lfs_model.specs.Refusals.{path_or_root, is_root}
+use Rattle.lfs_model.specs.Session.{Session, OpenFile, path_of_open_file, open_file_with_number}
+use Rattle.lfs_model.specs.Refusals.{path_of_bytes_or_root, is_root_path}
 use Rattle.lfs_model.specs.State.{is_remount_operation}
 use Rattle.lfs_model.specs.Run.{is_write_or_truncate, needs_no_device_call}
 
@@ -35,46 +35,46 @@ path_list_of_open_file (Some file) = path_of_open_file file ∷ []
 
 -- the paths that an operation is about
 abbrev pub paths_changed_by_operation : Session → Operation → List Path
-paths_changed_by_operation s (ops.Open path flags) = path_or_root path ∷ []
-paths_changed_by_operation s (ops.Mkdir path) = path_or_root path ∷ []
-paths_changed_by_operation s (ops.Remove path) = path_or_root path ∷ []
-paths_changed_by_operation s (ops.Rename old new) = path_or_root old ∷ path_or_root new ∷ []
-paths_changed_by_operation s (ops.SetAttr path kind bytes) = path_or_root path ∷ []
-paths_changed_by_operation s (ops.RemoveAttr path kind) = path_or_root path ∷ []
-paths_changed_by_operation s (ops.Sync fd) = path_list_of_open_file (open_file_of s.files fd)
-paths_changed_by_operation s (ops.Close fd) = path_list_of_open_file (open_file_of s.files fd)
+paths_changed_by_operation s (ops.Open path flags) = path_of_bytes_or_root path ∷ []
+paths_changed_by_operation s (ops.Mkdir path) = path_of_bytes_or_root path ∷ []
+paths_changed_by_operation s (ops.Remove path) = path_of_bytes_or_root path ∷ []
+paths_changed_by_operation s (ops.Rename old new) = path_of_bytes_or_root old ∷ path_of_bytes_or_root new ∷ []
+paths_changed_by_operation s (ops.SetAttr path kind bytes) = path_of_bytes_or_root path ∷ []
+paths_changed_by_operation s (ops.RemoveAttr path kind) = path_of_bytes_or_root path ∷ []
+paths_changed_by_operation s (ops.Sync fd) = path_list_of_open_file (open_file_with_number s.files fd)
+paths_changed_by_operation s (ops.Close fd) = path_list_of_open_file (open_file_with_number s.files fd)
 paths_changed_by_operation s _ = []
 
 -- the slot is an entry of that name; a superblock's slot isn't
-abbrev pub IsEntryNamed : Name → Slot → Type 0
-IsEntryNamed name s = (is_superblock s ≡ false) × (same_name name s.name ≡ true)
+abbrev pub IsEntrySlotWithName : Name → Slot → Type 0
+IsEntrySlotWithName name s = (is_superblock s ≡ false) × (same_name name s.name ≡ true)
 
 -- the pair holds the slot of that path
 abbrev pub IsPairWithSlotOfPath : List Pair → Pair → Path → Type 0
 IsPairWithSlotOfPath ps p path = (at : ℕ × ℕ) × (IsPathToDirectory ps (parent_path_of path) at × Contains (pairs_of_directory ps at) p
-    × Any (IsEntryNamed (last_name_of_path path)) p.content.slots)
+    × Any (IsEntrySlotWithName (last_name_of_path path)) p.content.slots)
 
-abbrev pub KeepsPairBlocks : Disk → Disk → Pair → Type 0
-KeepsPairBlocks disk new p = (block_bytes_on_disk new p.at.0 ≡ block_bytes_on_disk disk p.at.0) × (block_bytes_on_disk new p.at.1 ≡ block_bytes_on_disk disk p.at.1)
+abbrev pub ArePairBlocksEqualOnBothDisks : Disk → Disk → Pair → Type 0
+ArePairBlocksEqualOnBothDisks disk new p = (block_bytes_on_disk new p.at.0 ≡ block_bytes_on_disk disk p.at.0) × (block_bytes_on_disk new p.at.1 ≡ block_bytes_on_disk disk p.at.1)
 
 -- Every block of a file's list keeps its bytes. So do both blocks of a pair that stays with what it holds. Excepted are pairs
 -- that hold a slot that the operation is about.
 pub record LeavesUnrelatedBlocksUnchanged (disk : Disk) (ps : List Pair) (s : Session) (op : Operation) (new : Disk) (qs : List Pair) : Type 0 where
   pub files : All (λ t. All (λ b. block_bytes_on_disk new b ≡ block_bytes_on_disk disk b) (skip_list_blocks_of_struct disk t.struct)) (all_slots_not_moved ps)
-  pub pairs : (p : Pair) → Contains ps p → Contains qs p → (Any (IsPairWithSlotOfPath ps p) (paths_changed_by_operation s op) → ⊥) → KeepsPairBlocks disk new p
+  pub pairs : (p : Pair) → Contains ps p → Contains qs p → (Any (IsPairWithSlotOfPath ps p) (paths_changed_by_operation s op) → ⊥) → ArePairBlocksEqualOnBothDisks disk new p
 
 -- ---- reads
 
 -- the paths above one, the root's first
-abbrev pub parents : Path → List Path
-parents [] = []
-parents (name ∷ path) = [] ∷ map (λ p. name ∷ p) (parents path)
+abbrev pub ancestor_paths_of_path : Path → List Path
+ancestor_paths_of_path [] = []
+ancestor_paths_of_path (name ∷ path) = [] ∷ map (λ p. name ∷ p) (ancestor_paths_of_path path)
 
 -- the directories that a look-up searches, by their paths
 abbrev pub paths_of_searched_directories : Operation → List Path
-paths_of_searched_directories (ops.Stat path) = parents (path_or_root path)
-paths_of_searched_directories (ops.GetAttr path kind) = parents (path_or_root path)
-paths_of_searched_directories (ops.ListAll path) = parents (path_or_root path) ++ path_or_root path ∷ []
+paths_of_searched_directories (ops.Stat path) = ancestor_paths_of_path (path_of_bytes_or_root path)
+paths_of_searched_directories (ops.GetAttr path kind) = ancestor_paths_of_path (path_of_bytes_or_root path)
+paths_of_searched_directories (ops.ListAll path) = ancestor_paths_of_path (path_of_bytes_or_root path) ++ path_of_bytes_or_root path ∷ []
 paths_of_searched_directories _ = []
 
 abbrev pub is_look_up_operation : Operation → Bool
@@ -85,15 +85,15 @@ is_look_up_operation _ = false
 
 -- how many pairs the directory at a path has, if it is one
 abbrev pub pair_count_of_directory_at : List Pair → Path → ℕ
-pair_count_of_directory_at ps path = count (directory_address_at_path (entries_by_directory_in_thread ps) (root_directory_of_pairs ps) path)
+pair_count_of_directory_at ps path = count (directory_address_at_path (entries_by_directory_in_thread ps) (root_directory_address_of_pairs ps) path)
   where
     count : Option (ℕ × ℕ) → ℕ
     count None = 0
     count (Some at) = length (pairs_of_directory ps at)
 
 -- a look-up reads no more pairs than its directories have
-abbrev pub AreReadsWithinPairCount : List Pair → Operation → List CallEvent → Type 0
-AreReadsWithinPairCount ps op calls = is_look_up_operation op ≡ true → reads calls ≤ sum_by (pair_count_of_directory_at ps) (paths_of_searched_directories op)
+abbrev pub AreLookUpReadsWithinPairCount : List Pair → Operation → List DeviceCallEvent → Type 0
+AreLookUpReadsWithinPairCount ps op calls = is_look_up_operation op ≡ true → read_count_of_history calls ≤ sum_by (pair_count_of_directory_at ps) (paths_of_searched_directories op)
 
 -- the session answers the operation from its own state, without the device
 abbrev pub is_answered_from_memory : Operation → Bool
@@ -103,10 +103,10 @@ is_answered_from_memory ops.UsedCount = true
 is_answered_from_memory _ = false
 
 -- The operation looks up in directories that the one before has just searched, at most eight of one pair each.
-pub record IsLookUpOfCachedDirectories (ps : List Pair) (before op : Operation) : Type 0 where
+pub record IsLookUpInDirectoriesJustSearched (ps : List Pair) (before op : Operation) : Type 0 where
   pub path : List ℕ
   pub stat : before ≡ ops.Stat path
-  pub below : is_root (path_or_root path) ≡ false
+  pub below : is_root_path (path_of_bytes_or_root path) ≡ false
   pub again : is_look_up_operation op ≡ true
   pub within : All (λ p. Contains (paths_of_searched_directories before) p) (paths_of_searched_directories op)
   pub few : length (paths_of_searched_directories before) ≤ 8

@@ -4,7 +4,7 @@ use Rattle.std.specs.List.{flat_map}
 use Rattle.byteorder.specs.Endian.{little_bytes}
 use Rattle.lfs_model.specs.Geometry.{IsValidGeometry}
 use Rattle.lfs_model.specs.Disk.{Disk, block_count, file_size_limit, attribute_size_limit}
-use Rattle.lfs_model.specs.Slots.{Slot, Superblock, Inline, Content, zero_gstate}
+use Rattle.lfs_model.specs.Slots.{Slot, Superblock, Inline, PairContent, zero_gstate}
 use Rattle.lfs_model.specs.Content.{content_of_pair_at, current_block_of_pair_at}
 use Rattle.lfs_model.specs.Thread.{Pair, anchor_pair_address}
 use Rattle.lfs_model.specs.Tree.{Tree, DirectoryNode}
@@ -18,12 +18,12 @@ superblock_struct_bytes block_size blocks = flat_map (little_bytes 4) (0x0002000
 abbrev pub superblock_slot : ℕ → ℕ → Slot
 superblock_slot block_size blocks = record { kind = Superblock; name = codes "littlefs"; struct = Inline (superblock_struct_bytes block_size blocks); attributes = [] }
 
-abbrev pub content_of_fresh_disk : ℕ → ℕ → Content
+abbrev pub content_of_fresh_disk : ℕ → ℕ → PairContent
 content_of_fresh_disk block_size blocks = record { slots = superblock_slot block_size blocks ∷ []; tail = None; move = zero_gstate }
 
 -- the only pair of the thread
-abbrev pub fresh_pair : Disk → Pair
-fresh_pair disk = record { at = anchor_pair_address; content = content_of_fresh_disk disk.block_size (block_count disk) }
+abbrev pub only_pair_of_fresh_disk : Disk → Pair
+only_pair_of_fresh_disk disk = record { at = anchor_pair_address; content = content_of_fresh_disk disk.block_size (block_count disk) }
 
 -- The pair {0, 1} holds the superblock and nothing else. The other blocks may have any bytes.
 pub record IsFreshDisk (disk : Disk) : Type 0 where

@@ -10,12 +10,12 @@ use Rattle.lfs_model.specs.Thread.{Pair, is_hard_tail, starts_with_superblock}
 -- ---- in one pair
 
 -- the entries among slots: all but a superblock
-abbrev pub entries_only : List Slot → List Slot
-entries_only slots = filter (λ s. not (is_superblock s)) slots
+abbrev pub slots_without_superblock : List Slot → List Slot
+slots_without_superblock slots = filter (λ s. not (is_superblock s)) slots
 
 -- the slots of pairs, in order
-abbrev pub slots_in : List Pair → List Slot
-slots_in ps = flat_map (λ p. p.content.slots) ps
+abbrev pub slots_of_pairs_in_order : List Pair → List Slot
+slots_of_pairs_in_order ps = flat_map (λ p. p.content.slots) ps
 
 -- the entry at the id has the name
 pub record HasEntryOfNameAtId (slots : List Slot) (name : Name) (id : ℕ) : Type 0 where
@@ -28,7 +28,7 @@ pub record HasEntryOfNameAtId (slots : List Slot) (name : Name) (id : ℕ) : Typ
   pub named : slot.name ≡ name
 
 -- these slots begin with a greater name
-pub record BeginsWithGreaterName (order : NameOrder) (name : Name) (slots : List Slot) : Type 0 where
+pub record HasFirstSlotGreaterName (order : NameOrder) (name : Name) (slots : List Slot) : Type 0 where
   pub first : Slot
   pub rest : List Slot
   pub are : slots ≡ first ∷ rest
@@ -40,8 +40,8 @@ pub record IsIdWhereNameBelongs (order : NameOrder) (slots : List Slot) (name : 
   pub right : List Slot
   pub held : slots ≡ left ++ right
   pub number : length left ≡ id
-  pub less : AllByRecursion (λ s. name_cmp order s.name name ≡ Less) (entries_only left)
-  pub greater : (right ≡ []) ⊎ BeginsWithGreaterName order name (entries_only right)
+  pub less : AllByRecursion (λ s. name_cmp order s.name name ≡ Less) (slots_without_superblock left)
+  pub greater : (right ≡ []) ⊎ HasFirstSlotGreaterName order name (slots_without_superblock right)
   pub fronted : starts_with_superblock right ≡ false
 
 -- ---- in a directory
@@ -50,8 +50,8 @@ abbrev pub HasHardTail : Pair → Type 0
 HasHardTail p = is_hard_tail p.content.tail ≡ true
 
 -- only the first pair of a directory may have a superblock
-abbrev pub HaveNoSuperblock : List Pair → Type 0
-HaveNoSuperblock ps = AllByRecursion (λ p. AllByRecursion (λ s. is_superblock s ≡ false) p.content.slots) ps
+abbrev pub ArePairsWithoutSuperblock : List Pair → Type 0
+ArePairsWithoutSuperblock ps = AllByRecursion (λ p. AllByRecursion (λ s. is_superblock s ≡ false) p.content.slots) ps
 
 -- how many pairs hard tails join to the first, with the first
 abbrev pub hard_tail_joined_pair_count : List Pair → ℕ
@@ -63,9 +63,9 @@ abbrev pub HaveHardTailsButLast : Pair → List Pair → Type 0
 HaveHardTailsButLast p [] = Unit {0}
 HaveHardTailsButLast p (q ∷ qs) = HasHardTail p × HaveHardTailsButLast q qs
 
-abbrev pub last_has_hard_tail : Pair → List Pair → Bool
-last_has_hard_tail p [] = is_hard_tail p.content.tail
-last_has_hard_tail p (q ∷ qs) = last_has_hard_tail q qs
+abbrev pub last_pair_has_hard_tail : Pair → List Pair → Bool
+last_pair_has_hard_tail p [] = is_hard_tail p.content.tail
+last_pair_has_hard_tail p (q ∷ qs) = last_pair_has_hard_tail q qs
 
 -- a pair of the directory that begins with the pair of number `first`, and the directory's pairs before it
 pub record IsPairOfDirectory (ps : List Pair) (first index : ℕ) (pair : Pair) (rest : List Pair) : Type 0 where
@@ -101,8 +101,8 @@ pub record IsPlaceWhereNameBelongs (order : NameOrder) (ps : List Pair) (first :
   pub right : List Slot
   pub held : pair.content.slots ≡ left ++ right
   pub number : length left ≡ id
-  pub less : AllByRecursion (λ s. name_cmp order s.name name ≡ Less) (entries_only left)
+  pub less : AllByRecursion (λ s. name_cmp order s.name name ≡ Less) (slots_without_superblock left)
   pub fronted : starts_with_superblock right ≡ false
-  pub not_before : (place.left ≡ []) ⊎ (entries_only left ≢ [])
-  pub not_behind : BeginsWithGreaterName order name (entries_only (right ++ slots_in later))
-      ⊎ ((entries_only (right ++ slots_in later) ≡ []) × (last_has_hard_tail pair later ≡ false))
+  pub not_before : (place.left ≡ []) ⊎ (slots_without_superblock left ≢ [])
+  pub not_behind : HasFirstSlotGreaterName order name (slots_without_superblock (right ++ slots_of_pairs_in_order later))
+      ⊎ ((slots_without_superblock (right ++ slots_of_pairs_in_order later) ≡ []) × (last_pair_has_hard_tail pair later ≡ false))

@@ -5,7 +5,7 @@ use Rattle.std.specs.Fmt.{decimal}
 use Rattle.lfs_model.specs.Tree.{Path, Node, FileNode, DirectoryNode, Tree}
 use Rattle.lfs_model.specs.TreeEdits.{names_of_directory_node}
 use Rattle.lfs_model.specs.Operations as ops
-use Rattle.lfs_model.specs.Operations.{Operation, Flags, path_bytes}
+use Rattle.lfs_model.specs.Operations.{Operation, FlagsOfOpen, path_bytes}
 
 -- what a path leads to
 pub record PathAndNode : Type 0 where
@@ -13,54 +13,54 @@ pub record PathAndNode : Type 0 where
   pub node : Node
 
 -- the paths of the entries of the directory at a path, in name order
-abbrev pub entry_paths_in : Tree → Path → List Path
-entry_paths_in tree path = map (λ name. path ++ name ∷ []) (names_of_directory_node (tree path))
+abbrev pub entry_paths_in_directory : Tree → Path → List Path
+entry_paths_in_directory tree path = map (λ name. path ++ name ∷ []) (names_of_directory_node (tree path))
 
 -- The entries that the paths lead to, in order, each followed by the entries beneath it.
 abbrev pub IsDepthFirstWalk : Tree → List Path → List PathAndNode → Type 0
 IsDepthFirstWalk tree [] [] = Unit {0}
 IsDepthFirstWalk tree [] (e ∷ es) = ⊥
 IsDepthFirstWalk tree (p ∷ ps) [] = ⊥
-IsDepthFirstWalk tree (p ∷ ps) (e ∷ es) = (e.path ≡ p) × (tree p ≡ Some e.node) × IsDepthFirstWalk tree (entry_paths_in tree p ++ ps) es
+IsDepthFirstWalk tree (p ∷ ps) (e ∷ es) = (e.path ≡ p) × (tree p ≡ Some e.node) × IsDepthFirstWalk tree (entry_paths_in_directory tree p ++ ps) es
 
 -- all entries beneath the root
 abbrev pub IsWalkOfTree : Tree → List PathAndNode → Type 0
-IsWalkOfTree tree entries = IsDepthFirstWalk tree (entry_paths_in tree []) entries
+IsWalkOfTree tree entries = IsDepthFirstWalk tree (entry_paths_in_directory tree []) entries
 
 -- ---- lines
 
 -- the bytes from the space to `~` are shown as themselves, but not the backslash
-abbrev pub is_plain : ℕ → Bool
-is_plain b = nat_le 0x20 b && (nat_le b 0x7e && not (b == 0x5c))
+abbrev pub is_byte_listed_unescaped : ℕ → Bool
+is_byte_listed_unescaped b = nat_le 0x20 b && (nat_le b 0x7e && not (b == 0x5c))
 
 -- a hexadecimal digit, in lower case
 abbrev pub hex_digit : ℕ → ℕ
 hex_digit d = if nat_lt d 10 then 0x30 + d else 0x57 + d
 
 -- a byte as it is shown: itself, or `\x` and two digits
-abbrev pub escaped : ℕ → List ℕ
-escaped b = if is_plain b then b ∷ [] else 0x5c ∷ 0x78 ∷ hex_digit (b / 16) ∷ hex_digit (b % 16) ∷ []
+abbrev pub byte_escaped_for_listing : ℕ → List ℕ
+byte_escaped_for_listing b = if is_byte_listed_unescaped b then b ∷ [] else 0x5c ∷ 0x78 ∷ hex_digit (b / 16) ∷ hex_digit (b % 16) ∷ []
 
 abbrev pub escaped_text : List ℕ → List ℕ
-escaped_text = flat_map escaped
+escaped_text = flat_map byte_escaped_for_listing
 
 abbrev pub newline : List ℕ
 newline = 0x0a ∷ []
 
 -- the part of a line before the path
-abbrev pub listing_line_before_path : Node → List ℕ
-listing_line_before_path (FileNode attributes bytes) = codes "f " ++ decimal (length bytes) ++ codes " "
-listing_line_before_path (DirectoryNode attributes names) = codes "d 0 "
+abbrev pub beginning_of_listing_line_before_path : Node → List ℕ
+beginning_of_listing_line_before_path (FileNode attributes bytes) = codes "f " ++ decimal (length bytes) ++ codes " "
+beginning_of_listing_line_before_path (DirectoryNode attributes names) = codes "d 0 "
 
-abbrev pub line_of : PathAndNode → List ℕ
-line_of e = listing_line_before_path e.node ++ escaped_text (path_bytes e.path) ++ newline
+abbrev pub listing_line_of_entry : PathAndNode → List ℕ
+listing_line_of_entry e = beginning_of_listing_line_before_path e.node ++ escaped_text (path_bytes e.path) ++ newline
 
-abbrev pub lines_of : List PathAndNode → List ℕ
-lines_of entries = flat_map line_of entries
+abbrev pub listing_lines_of_entries : List PathAndNode → List ℕ
+listing_lines_of_entries entries = flat_map listing_line_of_entry entries
 
 -- the text that lists a tree
 abbrev pub IsListingOfTree : Tree → List ℕ → Type 0
-IsListingOfTree tree text = (entries : List PathAndNode) × (IsWalkOfTree tree entries × (text ≡ lines_of entries))
+IsListingOfTree tree text = (entries : List PathAndNode) × (IsWalkOfTree tree entries × (text ≡ listing_lines_of_entries entries))
 
 -- ---- actions
 
@@ -83,7 +83,7 @@ AreActionsUnpackingTree tree actions = (entries : List PathAndNode) × (IsWalkOf
 -- ---- operations
 
 -- the flags to write and to create a file
-abbrev pub new_file_flags : Flags
+abbrev pub new_file_flags : FlagsOfOpen
 new_file_flags = record { read = false; write = true; create = true; exclusive = false; truncate = false; append = false; unknown = false }
 
 -- the operations that copy a file or a directory into a session without open files: a file gets number 0

@@ -6,21 +6,21 @@ use Rattle.lfs_model.specs.Disk.{Disk}
 use Rattle.lfs_model.specs.Thread.{Pair}
 use Rattle.lfs_model.specs.Tree.{Tree}
 use Rattle.lfs_model.specs.View.{IsAcceptedImage}
-use Rattle.lfs_model.specs.Profile.{IsWritable, IsAcceptedAndWritable}
+use Rattle.lfs_model.specs.Profile.{IsWritableImage, IsAcceptedWritableDisk}
 use Rattle.lfs_model.specs.Shown.{tree_on_disk}
-use Rattle.lfs_model.specs.History.{CallEvent, IsTrueOfEachCallSince}
-use Rattle.lfs_model.specs.Stops.{IsLeftByStopIn, LeavesNoNewLogIfErase}
+use Rattle.lfs_model.specs.History.{DeviceCallEvent, IsTrueOfEachCallSince}
+use Rattle.lfs_model.specs.Stops.{AreBlocksLeftByPowerLossInCall, LeavesNoNewLogIfSuccessfulErase}
 use Rattle.lfs_model.specs.Operations as ops
 use Rattle.lfs_model.specs.Operations.{Operation, Reply}
 use Rattle.lfs_model.specs.Session.{Session, DiskSummary}
-use Rattle.lfs_model.specs.Effects.{refusal_or_effect}
-use Rattle.lfs_model.specs.State.{Healthy, mounted}
+use Rattle.lfs_model.specs.Effects.{refusal_or_effect_of_operation}
+use Rattle.lfs_model.specs.State.{Healthy, session_after_mount}
 use Rattle.lfs_model.specs.Recovery.{IsNothingLeftToRecover}
-use Rattle.lfs_model.specs.Run.{SystemState, ShowsTree, IsSessionStep}
-use Rattle.lfs_model.specs.Headline.{IsHealthyWithDiskTree}
-use Rattle.lfs_model.specs.Performed.{ArePerformedOperations, IsRunOfOperations}
-use Rattle.lfs_model.specs.ReadBounds.{operation_unless_refusal}
-use Rattle.lfs_model.specs.PowerLoss.{with_blocks, IsLikeStopIfFailed, IsHealthyInWritingProfile}
+use Rattle.lfs_model.specs.Run.{SystemState, IsTreeOfDiskOrNone, IsSessionStep}
+use Rattle.lfs_model.specs.Headline.{IsSessionHealthyWithDiskTree}
+use Rattle.lfs_model.specs.Performed.{AreStepsSurvivingLossWithinReadBounds, IsRunOfOperationsOrEndedByError}
+use Rattle.lfs_model.specs.ReadBounds.{operation_unless_reply_is_refusal}
+use Rattle.lfs_model.specs.PowerLoss.{disk_with_blocks, IsLikePowerLossIfCallFailed, IsHealthySessionOnWritableDisk}
 
 -- ---- a mount and a recovery
 
@@ -28,8 +28,8 @@ use Rattle.lfs_model.specs.PowerLoss.{with_blocks, IsLikeStopIfFailed, IsHealthy
 pub record IsJustMounted (disk : Disk) (begin : SystemState) : Type 0 where
   pub on : begin.disk ≡ disk
   pub tree : Tree
-  pub shows : ShowsTree disk (Some tree)
-  pub healthy : begin.state ≡ Healthy (mounted tree)
+  pub shows : IsTreeOfDiskOrNone disk (Some tree)
+  pub healthy : begin.state ≡ Healthy (session_after_mount tree)
 
 -- both disks have the same bytes; a mount may take the other order of names
 abbrev pub HasSameDiskBytes : Disk → Disk → Type 0
@@ -40,88 +40,88 @@ pub record IsRecoveredWithTree (tree : Tree) (reply : Reply) (disk : Disk) : Typ
   pub done : reply ≡ ops.Done
   pub pairs : List Pair
   pub accepted : IsAcceptedImage disk pairs
-  pub writable : IsWritable disk pairs
+  pub writable : IsWritableImage disk pairs
   pub recovered : IsNothingLeftToRecover pairs
   pub kept : tree_on_disk disk pairs ≡ tree
 
 -- The disk is accepted and in the writing profile, and has that tree. A session that mounts it has the tree, and a recovery keeps it.
-pub record IsSafeDiskOfTree (tree : Tree) (disk : Disk) : Type 0 where
+pub record IsWritableDiskWhoseTreeRecoveryKeeps (tree : Tree) (disk : Disk) : Type 0 where
   pub pairs : List Pair
   pub accepted : IsAcceptedImage disk pairs
-  pub writable : IsWritable disk pairs
+  pub writable : IsWritableImage disk pairs
   pub shows : tree_on_disk disk pairs ≡ tree
-  pub mounts : (other : Disk) (begin : SystemState) → HasSameDiskBytes disk other → IsJustMounted other begin → begin.state ≡ Healthy (mounted tree)
+  pub mounts : (other : Disk) (begin : SystemState) → HasSameDiskBytes disk other → IsJustMounted other begin → begin.state ≡ Healthy (session_after_mount tree)
   pub recovers : (other : Disk) (begin to : SystemState) (reply : Reply) → HasSameDiskBytes disk other → IsJustMounted other begin → IsSessionStep begin ops.Recover reply to
       → IsRecoveredWithTree tree reply to.disk
 
 -- ---- a stop
 
 -- a stop in one of the calls since the old history left these blocks
-pub record IsLeftByStopSince (old new : List CallEvent) (blocks : Blocks) : Type 0 where
-  pub events : List CallEvent
+pub record AreBlocksLeftByPowerLossInLaterCall (old new : List DeviceCallEvent) (blocks : Blocks) : Type 0 where
+  pub events : List DeviceCallEvent
   pub extends : new ≡ events ++ old
-  pub stopped : Any (λ e. IsLeftByStopIn e blocks) events
+  pub stopped : Any (λ e. AreBlocksLeftByPowerLossInCall e blocks) events
 
 -- Power was lost before the first call between these states, or in one of the calls, or after the last one. After the last one,
 -- each call that failed left what a stop in it may leave.
-abbrev pub IsLeftByStopBetween : SystemState → SystemState → Disk → Type 0
-IsLeftByStopBetween from to left =
+abbrev pub IsDiskLeftByPowerLossBetweenStates : SystemState → SystemState → Disk → Type 0
+IsDiskLeftByPowerLossBetweenStates from to left =
     (left ≡ from.disk)
-    ⊎ (((blocks : Blocks) × ((left ≡ with_blocks blocks from.disk) × IsLeftByStopSince from.calls to.calls blocks))
-    ⊎ ((left ≡ to.disk) × IsTrueOfEachCallSince IsLikeStopIfFailed from.calls to.calls))
+    ⊎ (((blocks : Blocks) × ((left ≡ disk_with_blocks blocks from.disk) × AreBlocksLeftByPowerLossInLaterCall from.calls to.calls blocks))
+    ⊎ ((left ≡ to.disk) × IsTrueOfEachCallSince IsLikePowerLossIfCallFailed from.calls to.calls))
 
 -- Power was lost in this operation of a run. The tree is the one from before the operation, or the one from after it.
-pub record IsRunStoppedInOperation (from : SystemState) (op : Operation) (next : SystemState) (left : Disk) (tree : Tree) : Type 0 where
-  pub stop : IsLeftByStopBetween from next left
+pub record IsPowerLostInOperationOfRun (from : SystemState) (op : Operation) (next : SystemState) (left : Disk) (tree : Tree) : Type 0 where
+  pub stop : IsDiskLeftByPowerLossBetweenStates from next left
   pub session : Session
   pub pairs : List Pair
   pub around : DiskSummary
-  pub work : IsHealthyInWritingProfile from session pairs around
-  pub either : (tree ≡ session.tree) ⊎ (tree ≡ (refusal_or_effect around session op).1.tree)
+  pub work : IsHealthySessionOnWritableDisk from session pairs around
+  pub either : (tree ≡ session.tree) ⊎ (tree ≡ (refusal_or_effect_of_operation around session op).1.tree)
 
 -- Power was lost after all operations of a run. The tree is the session's.
-pub record IsRunStoppedAtEnd (at : SystemState) (left : Disk) (tree : Tree) : Type 0 where
+pub record IsPowerLostAfterRun (at : SystemState) (left : Disk) (tree : Tree) : Type 0 where
   pub stays : left ≡ at.disk
   pub session : Session
   pub healthy : at.state ≡ Healthy session
   pub is : tree ≡ session.tree
 
 -- Power was lost in one of the operations that were performed, or after all of them.
-abbrev pub IsRunStoppedWithinOrAtEnd : (before : Option Operation) (from : SystemState) (operations : List Operation) (replies : List Reply) (to : SystemState) → ArePerformedOperations before from operations replies to → Disk → Tree → Type 0 → Type 0
-IsRunStoppedWithinOrAtEnd before from [] replies to steps left tree AtEnd = AtEnd
-IsRunStoppedWithinOrAtEnd before from (op ∷ operations) [] to steps left tree AtEnd = ⊥
-IsRunStoppedWithinOrAtEnd before from (op ∷ operations) (reply ∷ replies) to (next, (one, others)) left tree AtEnd =
-    IsRunStoppedInOperation from op next left tree ⊎ IsRunStoppedWithinOrAtEnd (operation_unless_refusal op reply) next operations replies to others left tree AtEnd
+abbrev pub IsPowerLostInOrAfterOperations : (before : Option Operation) (from : SystemState) (operations : List Operation) (replies : List Reply) (to : SystemState) → AreStepsSurvivingLossWithinReadBounds before from operations replies to → Disk → Tree → Type 0 → Type 0
+IsPowerLostInOrAfterOperations before from [] replies to steps left tree AtEnd = AtEnd
+IsPowerLostInOrAfterOperations before from (op ∷ operations) [] to steps left tree AtEnd = ⊥
+IsPowerLostInOrAfterOperations before from (op ∷ operations) (reply ∷ replies) to (next, (one, others)) left tree AtEnd =
+    IsPowerLostInOperationOfRun from op next left tree ⊎ IsPowerLostInOrAfterOperations (operation_unless_reply_is_refusal op reply) next operations replies to others left tree AtEnd
 
 -- Power was lost in one of the operations of this run, or after all of them. An error may have ended the last operation.
-abbrev pub IsRunStopped : (from : SystemState) (operations : List Operation) (to : SystemState) → IsRunOfOperations from operations to → Disk → Tree → Type 0
-IsRunStopped from operations to (inl (replies, steps)) left tree = IsRunStoppedWithinOrAtEnd None from operations replies to steps left tree (IsRunStoppedAtEnd to left tree)
-IsRunStopped from operations to (inr short) left tree = IsRunStoppedWithinOrAtEnd None from short.done short.replies short.at short.performed left tree (IsRunStoppedInOperation short.at short.next to left tree)
+abbrev pub IsPowerLostInOrAfterRun : (from : SystemState) (operations : List Operation) (to : SystemState) → IsRunOfOperationsOrEndedByError from operations to → Disk → Tree → Type 0
+IsPowerLostInOrAfterRun from operations to (inl (replies, steps)) left tree = IsPowerLostInOrAfterOperations None from operations replies to steps left tree (IsPowerLostAfterRun to left tree)
+IsPowerLostInOrAfterRun from operations to (inr short) left tree = IsPowerLostInOrAfterOperations None from short.done short.replies short.at short.performed left tree (IsPowerLostInOperationOfRun short.at short.next to left tree)
 
 -- ---- a loss of power in a run
 
 -- The disk that was left has the tree from before the operation that was cut, or from after it. A mount and a recovery keep that tree.
-pub record IsPowerLossSurvived (from : SystemState) (operations : List Operation) (to : SystemState) (run : IsRunOfOperations from operations to) (left : Disk) : Type 0 where
+pub record IsPowerLossSurvived (from : SystemState) (operations : List Operation) (to : SystemState) (run : IsRunOfOperationsOrEndedByError from operations to) (left : Disk) : Type 0 where
   pub tree : Tree
-  pub cut : IsRunStopped from operations to run left tree
-  pub safe : IsSafeDiskOfTree tree left
+  pub cut : IsPowerLostInOrAfterRun from operations to run left tree
+  pub safe : IsWritableDiskWhoseTreeRecoveryKeeps tree left
 
 -- A session mounts the disk and performs operations, a recovery for example. Power is lost during them, and another disk is left.
-pub record IsDiskLeftByPowerLossInRun (disk left : Disk) : Type 0 where
+pub record IsDiskLeftByPowerLossAfterMount (disk left : Disk) : Type 0 where
   pub other : Disk
   pub same : HasSameDiskBytes disk other
   pub begin : SystemState
   pub mounts : IsJustMounted other begin
   pub operations : List Operation
   pub to : SystemState
-  pub run : IsRunOfOperations begin operations to
-  pub cleanly : IsTrueOfEachCallSince LeavesNoNewLogIfErase begin.calls to.calls
-  pub stop : IsLeftByStopBetween begin to left
+  pub run : IsRunOfOperationsOrEndedByError begin operations to
+  pub cleanly : IsTrueOfEachCallSince LeavesNoNewLogIfSuccessfulErase begin.calls to.calls
+  pub stop : IsDiskLeftByPowerLossBetweenStates begin to left
 
 -- power is lost on the disk, then on the one that was left, and so on
 abbrev pub AreDisksLeftByPowerLosses : Disk → List Disk → Type 0
 AreDisksLeftByPowerLosses disk [] = Unit {0}
-AreDisksLeftByPowerLosses disk (left ∷ others) = IsDiskLeftByPowerLossInRun disk left × AreDisksLeftByPowerLosses left others
+AreDisksLeftByPowerLosses disk (left ∷ others) = IsDiskLeftByPowerLossAfterMount disk left × AreDisksLeftByPowerLosses left others
 
 -- and each time it is survived
 abbrev pub ArePowerLossesSurvived : (disk : Disk) (lefts : List Disk) → AreDisksLeftByPowerLosses disk lefts → Type 0
@@ -129,14 +129,14 @@ ArePowerLossesSurvived disk [] losses = Unit {0}
 ArePowerLossesSurvived disk (left ∷ others) losses = IsPowerLossSurvived losses.0.begin losses.0.operations losses.0.to losses.0.run left × ArePowerLossesSurvived left others losses.1
 
 -- a session with its disk's tree, on an image in the writing profile, where each erase leaves no log, or the one that was there
-pub record IsReadyForPowerLoss (from to : SystemState) : Type 0 where
-  pub agrees : IsHealthyWithDiskTree from
-  pub profile : IsAcceptedAndWritable from.disk
-  pub cleanly : IsTrueOfEachCallSince LeavesNoNewLogIfErase from.calls to.calls
+pub record MeetsPremisesForSurvivingPowerLoss (from to : SystemState) : Type 0 where
+  pub agrees : IsSessionHealthyWithDiskTree from
+  pub profile : IsAcceptedWritableDisk from.disk
+  pub cleanly : IsTrueOfEachCallSince LeavesNoNewLogIfSuccessfulErase from.calls to.calls
 
 -- The operations were a run between these states. Wherever power is lost in that run, it is survived, in the operation that was
 -- cut. So is any number of losses after it, also in the recovery.
 pub record IsRunSurvivingPowerLosses (from : SystemState) (operations : List Operation) (to : SystemState) : Type 0 where
-  pub run : IsRunOfOperations from operations to
-  pub once : (left : Disk) → IsLeftByStopBetween from to left → IsPowerLossSurvived from operations to run left
-  pub again : (left : Disk) (lefts : List Disk) → IsLeftByStopBetween from to left → (losses : AreDisksLeftByPowerLosses left lefts) → ArePowerLossesSurvived left lefts losses
+  pub run : IsRunOfOperationsOrEndedByError from operations to
+  pub once : (left : Disk) → IsDiskLeftByPowerLossBetweenStates from to left → IsPowerLossSurvived from operations to run left
+  pub again : (left : Disk) (lefts : List Disk) → IsDiskLeftByPowerLossBetweenStates from to left → (losses : AreDisksLeftByPowerLosses left lefts) → ArePowerLossesSurvived left lefts losses

@@ -3,10 +3,10 @@ use Rattle.std.specs.Prelude.{ℕ, ◌+◌, ◌*◌, ◌^◌, ◌≤◌, ◌==�
 use Rattle.std.specs.List.{flat_map}
 use Rattle.byteorder.specs.Endian.{little_bytes}
 use Rattle.lfs_model.specs.Disk.{pair_capacity, slots_per_pair_limit}
-use Rattle.lfs_model.specs.Slots.{Attributes, Tail, Gstate, attributes_size, null_address}
+use Rattle.lfs_model.specs.Slots.{Attributes, Tail, Gstate, attributes_size, null_block_address}
 use Rattle.lfs_model.specs.Tag.{tag_of_type_id_and_length}
 use Rattle.lfs_model.specs.Log.{LogEntry}
-use Rattle.lfs_model.specs.Content.{RawSlot, RawContent}
+use Rattle.lfs_model.specs.Content.{RawSlot, RawPairContent}
 use Rattle.lfs_model.specs.EntryTypes.{SuperblockFields, soft_tail_type, hard_tail_type, move_state_type, no_id}
 
 -- ---- fields
@@ -26,37 +26,37 @@ bytes_of_move_state g = little_bytes 4 (first_word_of_move_state g) ++ bytes_of_
 
 -- the pair that a tail names; without one, two null addresses
 abbrev pub tail_pair_or_null : Option (ℕ × ℕ) → ℕ × ℕ
-tail_pair_or_null None = (null_address, null_address)
+tail_pair_or_null None = (null_block_address, null_block_address)
 tail_pair_or_null (Some pair) = pair
 
 -- ---- entries
 
 -- the entry of that type and id with these bytes
-abbrev pub log_entry_with : ℕ → ℕ → List ℕ → LogEntry
-log_entry_with type id bytes = record { tag = tag_of_type_id_and_length type id (length bytes); bytes = bytes }
+abbrev pub log_entry_of_type_id_and_bytes : ℕ → ℕ → List ℕ → LogEntry
+log_entry_of_type_id_and_bytes type id bytes = record { tag = tag_of_type_id_and_length type id (length bytes); bytes = bytes }
 
 -- the types of attributes begin here
-abbrev pub first_attribute_type : ℕ
-first_attribute_type = 0x300
+abbrev pub lowest_attribute_type : ℕ
+lowest_attribute_type = 0x300
 
 abbrev pub tail_type : Bool → ℕ
 tail_type hard = if hard then hard_tail_type else soft_tail_type
 
 abbrev pub tail_log_entry : Bool → Option (ℕ × ℕ) → LogEntry
-tail_log_entry hard pair = log_entry_with (tail_type hard) no_id (bytes_of_pair_address (tail_pair_or_null pair))
+tail_log_entry hard pair = log_entry_of_type_id_and_bytes (tail_type hard) no_id (bytes_of_pair_address (tail_pair_or_null pair))
 
 abbrev pub move_state_log_entry : Gstate → LogEntry
-move_state_log_entry g = log_entry_with move_state_type no_id (bytes_of_move_state g)
+move_state_log_entry g = log_entry_of_type_id_and_bytes move_state_type no_id (bytes_of_move_state g)
 
 -- ---- what a pair holds, written anew
 
 -- a name or a struct
 abbrev pub log_entries_of_name_or_struct : ℕ → Option (ℕ × List ℕ) → List LogEntry
 log_entries_of_name_or_struct id None = []
-log_entries_of_name_or_struct id (Some part) = log_entry_with part.0 id part.1 ∷ []
+log_entries_of_name_or_struct id (Some part) = log_entry_of_type_id_and_bytes part.0 id part.1 ∷ []
 
 abbrev pub log_entries_of_attributes : ℕ → Attributes → List LogEntry
-log_entries_of_attributes id attributes = map (λ a. log_entry_with (first_attribute_type + a.0) id a.1) attributes
+log_entries_of_attributes id attributes = map (λ a. log_entry_of_type_id_and_bytes (lowest_attribute_type + a.0) id a.1) attributes
 
 abbrev pub log_entries_of_slot : ℕ → RawSlot → List LogEntry
 log_entries_of_slot id s = log_entries_of_name_or_struct id s.name ++ log_entries_of_name_or_struct id s.struct ++ log_entries_of_attributes id s.attributes
@@ -78,7 +78,7 @@ log_entries_of_move_state g = if is_zero_gstate g then [] else move_state_log_en
 
 -- Each slot's name, struct and attributes by ascending type, then the tail where there is one, then the move state where
 -- it isn't zero.
-abbrev pub log_entries_of_content : RawContent → List LogEntry
+abbrev pub log_entries_of_content : RawPairContent → List LogEntry
 log_entries_of_content c = log_entries_of_slots 0 c.slots ++ log_entries_of_tail c.tail ++ log_entries_of_move_state c.move
 
 -- ---- sizes
@@ -91,10 +91,10 @@ abbrev pub raw_slot_size : RawSlot → ℕ
 raw_slot_size s = name_or_struct_size s.name + name_or_struct_size s.struct + attributes_size s.attributes
 
 -- the bytes that the slots take
-abbrev pub raw_content_size : RawContent → ℕ
-raw_content_size c = sum_by raw_slot_size c.slots
+abbrev pub slots_size_of_raw_pair_content : RawPairContent → ℕ
+slots_size_of_raw_pair_content c = sum_by raw_slot_size c.slots
 
 -- the limits of a written pair
-pub record IsRawContentFittingPair (block_size page : ℕ) (c : RawContent) : Type 0 where
-  pub size : raw_content_size c ≤ pair_capacity block_size page
+pub record IsRawContentFittingPair (block_size page : ℕ) (c : RawPairContent) : Type 0 where
+  pub size : slots_size_of_raw_pair_content c ≤ pair_capacity block_size page
   pub count : length c.slots ≤ slots_per_pair_limit

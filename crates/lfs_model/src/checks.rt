@@ -4,15 +4,15 @@ ghost use Rattle.std.specs.Prelude.{◌≡◌, true, false, List, [], ◌∷◌,
 ghost use Rattle.lfs_model.specs.Slots.{zero_gstate};
 ghost use Rattle.lfs_model.specs.Operations as ops;
 ghost use Rattle.lfs_model.specs.Operations.{NoEnt, BadFile, Exist, NotDir, IsDir, Invalid, NoSpace, ReadOnly, NameTooLong, NotEmpty, NoAttr, EntryFull};
-ghost use Rattle.lfs_model.specs.State.{mounted};
+ghost use Rattle.lfs_model.specs.State.{session_after_mount};
 ghost use Rattle.lfs_model.specs.Fresh.{empty_tree};
 ghost use Rattle.lfs_model.specs.Frame.{refusal_needs_no_look_up, needs_no_device_or_memory};
-ghost use Rattle.lfs_model.specs.examples.Runs.{all_refusals, session_with_writer_at};
-ghost use Rattle.lfs_model.specs.examples.Sessions.{around, replies, replies_from_fresh_disk, operations_with_used_count, read_flags, write_flags, flags_to_open_new_file};
+ghost use Rattle.lfs_model.specs.examples.Runs.{all_refusals, session_with_writer_of_path};
+ghost use Rattle.lfs_model.specs.examples.Sessions.{writable_disk_summary, replies_to_operations, replies_from_fresh_disk, operations_each_paired_with_used_block_count, read_flags, write_flags, flags_to_open_new_file};
 
 /// A disk outside the writing profile is read. Each call that would change it is refused before any other check.
 pub fn read_only_is_checked_first()
-    ensures { replies (λ used. record (around 4096 256 16 used) { writable = false }) (mounted empty_tree) (operations_with_used_count 2
+    ensures { replies_to_operations (λ used. record (writable_disk_summary 4096 256 16 used) { writable = false }) (session_after_mount empty_tree) (operations_each_paired_with_used_block_count 2
         (ops.Open [] write_flags ∷ ops.Open (codes "/a") (record write_flags { read = true }) ∷ ops.Mkdir [] ∷ ops.Remove (codes "/")
         ∷ ops.Rename (codes "/") [] ∷ ops.SetAttr (codes "/") 0x41 [] ∷ ops.RemoveAttr (codes "/x/y") 0x41 ∷ ops.Recover
         ∷ ops.Open [] read_flags ∷ ops.Write 0 [] ∷ ops.ListAll (codes "/") ∷ ops.Stat (codes "/") ∷ ops.GetAttr (codes "/") 0x41 ∷ []))
@@ -22,29 +22,29 @@ pub fn read_only_is_checked_first()
 {}
 
 /// Which refusals need no look-up, and which operations take neither the device nor memory.
-pub fn refusals_need_no_look_up()
+pub fn some_refusals_need_no_look_up()
     ensures made { filter (refusal_needs_no_look_up (ops.Mkdir (codes "/d"))) all_refusals ≡ BadFile ∷ Invalid ∷ ReadOnly ∷ ops.Failed ∷ [] }
     ensures written { filter (refusal_needs_no_look_up (ops.Write 0 [])) all_refusals ≡ all_refusals }
     ensures remounted { refusal_needs_no_look_up ops.Remount ops.Failed ≡ false }
-    ensures moved { filter (needs_no_device_or_memory (session_with_writer_at [] true [])) (ops.Seek 0 1 ∷ ops.Read 0 1 ∷ ops.Write 0 [] ∷ ops.Sync 0 ∷ ops.UsedCount ∷ [])
+    ensures moved { filter (needs_no_device_or_memory (session_with_writer_of_path [] true [])) (ops.Seek 0 1 ∷ ops.Read 0 1 ∷ ops.Write 0 [] ∷ ops.Sync 0 ∷ ops.UsedCount ∷ [])
         ≡ ops.Seek 0 1 ∷ ops.Write 0 [] ∷ ops.UsedCount ∷ [] }
 {}
 
 /// The queries of a disk.
 pub fn queries_of_disk_are_answered()
-    ensures plain { replies (around 4096 256 16) (mounted empty_tree) (operations_with_used_count 1
+    ensures plain { replies_to_operations (writable_disk_summary 4096 256 16) (session_after_mount empty_tree) (operations_each_paired_with_used_block_count 1
         (ops.AskGstate ∷ ops.IsUsed 0 ∷ ops.IsUsed 15 ∷ ops.IsUsed 16 ∷ ops.UsedCount ∷ ops.Recover ∷ []))
         ≡ ops.GstateIs false None ∷ ops.Yes true ∷ ops.Yes false ∷ ops.Refused Invalid ∷ ops.Count 1 ∷ ops.Done ∷ [] }
-    ensures set_move { replies (λ used. record (around 4096 256 16 used) { gstate = record zero_gstate { sync = true; kind = 0x4ff; id = 3; pair = (3, 2) } }) (mounted empty_tree)
-        (operations_with_used_count 4 (ops.AskGstate ∷ []))
+    ensures set_move { replies_to_operations (λ used. record (writable_disk_summary 4096 256 16 used) { gstate = record zero_gstate { sync = true; kind = 0x4ff; id = 3; pair = (3, 2) } }) (session_after_mount empty_tree)
+        (operations_each_paired_with_used_block_count 4 (ops.AskGstate ∷ []))
         ≡ ops.GstateIs true (Some ((3, 2), 3)) ∷ [] }
 {}
 
 /// Two blocks are needed, and one is free.
 pub fn changes_need_two_free_blocks()
     ensures { replies_from_fresh_disk 1024 128 4
-        (operations_with_used_count 2 (ops.Open (codes "/a") flags_to_open_new_file ∷ ops.Write 0 (1 ∷ []) ∷ ops.Close 0 ∷ [])
-        ++ operations_with_used_count 3 (ops.Rename (codes "/a") (codes "/b") ∷ ops.Rename (codes "/a") (codes "/a") ∷ ops.SetAttr (codes "/a") 0x41 []
+        (operations_each_paired_with_used_block_count 2 (ops.Open (codes "/a") flags_to_open_new_file ∷ ops.Write 0 (1 ∷ []) ∷ ops.Close 0 ∷ [])
+        ++ operations_each_paired_with_used_block_count 3 (ops.Rename (codes "/a") (codes "/b") ∷ ops.Rename (codes "/a") (codes "/a") ∷ ops.SetAttr (codes "/a") 0x41 []
         ∷ ops.RemoveAttr (codes "/a") 0x41 ∷ ops.Open (codes "/a") (record write_flags { truncate = true })
         ∷ ops.Open (codes "/a") write_flags ∷ ops.Truncate 0 0 ∷ ops.Truncate 0 1 ∷ ops.Write 0 [] ∷ ops.Close 0 ∷ ops.Remove (codes "/a") ∷ []))
         ≡ ops.Opened 0 ∷ ops.Count 1 ∷ ops.Done
@@ -53,8 +53,8 @@ pub fn changes_need_two_free_blocks()
 {}
 
 /// A rename's new name counts, and its own path may be too long.
-pub fn rename_charges_new_name()
-    ensures { replies_from_fresh_disk 1024 128 64 (operations_with_used_count 2
+pub fn rename_counts_size_of_new_name()
+    ensures { replies_from_fresh_disk 1024 128 64 (operations_each_paired_with_used_block_count 2
         (ops.Open (codes "/a") flags_to_open_new_file ∷ ops.Close 0 ∷ ops.SetAttr (codes "/a") 0x41 (replicate 200 1)
         ∷ ops.Rename (codes "/a") (47 ∷ replicate 255 97) ∷ ops.Rename (47 ∷ replicate 256 97) (47 ∷ replicate 256 97)
         ∷ ops.Rename (codes "/x/y") (codes "/a/b") ∷ ops.Rename (codes "/a") (codes "/x/y") ∷ ops.Rename (codes "/a/b") (codes "/x/y") ∷ []))
@@ -63,28 +63,28 @@ pub fn rename_charges_new_name()
 
 /// Where a write begins, and how a truncate and a sync change the end of the last write: three blocks are free, and a
 /// nonsequential writer holds four.
-pub fn end_of_last_write_is_kept()
-    ensures gap { replies_from_fresh_disk 1024 128 5 (operations_with_used_count 2
+pub fn truncate_and_sync_change_end_of_last_write()
+    ensures gap { replies_from_fresh_disk 1024 128 5 (operations_each_paired_with_used_block_count 2
         (ops.Open (codes "/a") flags_to_open_new_file ∷ ops.Write 0 (replicate 500 7) ∷ ops.Seek 0 600 ∷ ops.Write 0 (1 ∷ []) ∷ ops.Seek 0 0 ∷ ops.Write 0 (1 ∷ []) ∷ []))
         ≡ ops.Opened 0 ∷ ops.Count 500 ∷ ops.Done ∷ ops.Count 1 ∷ ops.Done ∷ ops.Refused NoSpace ∷ [] }
-    ensures lengthened { replies_from_fresh_disk 1024 128 5 (operations_with_used_count 2
+    ensures lengthened { replies_from_fresh_disk 1024 128 5 (operations_each_paired_with_used_block_count 2
         (ops.Open (codes "/a") flags_to_open_new_file ∷ ops.Truncate 0 500 ∷ ops.Write 0 (1 ∷ []) ∷ ops.Seek 0 500 ∷ ops.Write 0 (1 ∷ []) ∷ []))
         ≡ ops.Opened 0 ∷ ops.Done ∷ ops.Refused NoSpace ∷ ops.Done ∷ ops.Count 1 ∷ [] }
     ensures synced { replies_from_fresh_disk 1024 128 6
-        (operations_with_used_count 2 (ops.Open (codes "/a") flags_to_open_new_file ∷ ops.Write 0 (replicate 500 7) ∷ ops.Sync 0 ∷ [])
-        ++ operations_with_used_count 3 (ops.Seek 0 0 ∷ ops.Write 0 (1 ∷ []) ∷ []))
+        (operations_each_paired_with_used_block_count 2 (ops.Open (codes "/a") flags_to_open_new_file ∷ ops.Write 0 (replicate 500 7) ∷ ops.Sync 0 ∷ [])
+        ++ operations_each_paired_with_used_block_count 3 (ops.Seek 0 0 ∷ ops.Write 0 (1 ∷ []) ∷ []))
         ≡ ops.Opened 0 ∷ ops.Count 500 ∷ ops.Done ∷ ops.Done ∷ ops.Count 1 ∷ [] }
 {}
 
 /// The first check that fails decides.
-pub fn checks_have_precedence()
-    ensures directories { replies_from_fresh_disk 4096 256 64 ((2, ops.Mkdir (codes "/d")) ∷ operations_with_used_count 4
+pub fn first_failing_check_decides_refusal()
+    ensures directories { replies_from_fresh_disk 4096 256 64 ((2, ops.Mkdir (codes "/d")) ∷ operations_each_paired_with_used_block_count 4
         (ops.Open (codes "/d") (record flags_to_open_new_file { exclusive = true }) ∷ ops.Open (codes "/d") flags_to_open_new_file ∷ ops.Open (codes "/") read_flags
         ∷ ops.Open (codes "/d/f") flags_to_open_new_file ∷ ops.Remove (codes "/d") ∷ ops.Remove (codes "/") ∷ ops.GetAttr (codes "/") 0 ∷ ops.RemoveAttr (codes "/") 0
         ∷ ops.Rename (codes "/x/y") (codes "/d/f/z") ∷ ops.Rename (codes "/d/f/z") (codes "/x/y") ∷ []))
         ≡ ops.Done ∷ ops.Refused Exist ∷ ops.Refused IsDir ∷ ops.Refused IsDir ∷ ops.Opened 0 ∷ ops.Refused NotEmpty
         ∷ ops.Refused Invalid ∷ ops.Refused Invalid ∷ ops.Refused Invalid ∷ ops.Refused NoEnt ∷ ops.Refused NotDir ∷ [] }
-    ensures readers { replies_from_fresh_disk 4096 256 16 (operations_with_used_count 2
+    ensures readers { replies_from_fresh_disk 4096 256 16 (operations_each_paired_with_used_block_count 2
         (ops.Open (codes "/a") flags_to_open_new_file ∷ ops.Write 0 (codes "hello") ∷ ops.Close 0 ∷ ops.Open (codes "/a") read_flags ∷ ops.Sync 0 ∷ ops.Seek 0 3 ∷ ops.Read 0 9
         ∷ ops.Truncate 0 0 ∷ ops.Seek 7 2147483648 ∷ ops.Truncate 7 2147483648 ∷ []))
         ≡ ops.Opened 0 ∷ ops.Count 5 ∷ ops.Done ∷ ops.Opened 0 ∷ ops.Done ∷ ops.Done ∷ ops.Bytes (codes "lo")

@@ -2,30 +2,30 @@
 
 ghost use Rattle.std.specs.Prelude.{◌≡◌, ℕ, ◌+◌, ◌≤◌, ◌<◌, ◌^◌, ◌++◌, true, false, List, [], ◌∷◌, Some, None, length, take, slice_set, All, codes};
 ghost use Rattle.byteorder.specs.Endian.{little_bytes};
-ghost use Rattle.lfs_model.specs.Crc.{IsCrcOfBytes, crc_of};
-ghost use Rattle.lfs_model.specs.Log.{LogEntry, IsCommitSequenceOfBlock, chain_of, revision_of_block};
+ghost use Rattle.lfs_model.specs.Crc.{IsCrcOfBytesFromStartValue, crc_of};
+ghost use Rattle.lfs_model.specs.Log.{LogEntry, AreAdjacentCommitsFromBlockStart, chain_of, revision_of_block};
 ghost use Rattle.lfs_model.specs.Content.{has_commit, is_later_revision, current_block_of_two};
-ghost use Rattle.lfs_model.specs.EntryTypes.{create_type, no_id};
-ghost use Rattle.lfs_model.specs.WrittenContent.{log_entry_with};
-ghost use Rattle.lfs_model.specs.BlockBytes.{unwritten, metadata_block_bytes, checksum_entry};
+ghost use Rattle.lfs_model.specs.EntryTypes.{create_tag_type, no_id};
+ghost use Rattle.lfs_model.specs.WrittenContent.{log_entry_of_type_id_and_bytes};
+ghost use Rattle.lfs_model.specs.BlockBytes.{unwritten_storage_bytes, metadata_block_bytes, checksum_entry};
 ghost use Rattle.lfs_model.specs.examples.Images.{IsNoAcceptedImage, fresh_block_of_small_image, small_disk_with_first_block, block_with_wrong_checksum_bit, block_with_shifted_slots};
 
 /// The checksum that is computed is the remainder of the polynomials, and no other number of 32 bits is.
 pub fn checksum_is_remainder()
     ensures small { (start : ℕ) (bytes : List ℕ) → start < 2 ^ 32 → All (λ b. b < 2 ^ 8) bytes → crc_of start bytes < 2 ^ 32 }
     ensures remainder { (start : ℕ) (bytes : List ℕ) → start < 2 ^ 32 → All (λ b. b < 2 ^ 8) bytes
-        → IsCrcOfBytes start bytes (crc_of start bytes) }
+        → IsCrcOfBytesFromStartValue start bytes (crc_of start bytes) }
     ensures only { (start : ℕ) (bytes : List ℕ) (other : ℕ) → start < 2 ^ 32 → All (λ b. b < 2 ^ 8) bytes → other < 2 ^ 32
-        → IsCrcOfBytes start bytes other → other ≡ crc_of start bytes }
+        → IsCrcOfBytesFromStartValue start bytes other → other ≡ crc_of start bytes }
     ensures example { crc_of 0xffffffff (codes "123456789") ≡ 0x340bc6d9 }
 {}
 
 /// A block's log is a chain of commits, none is longer, and each other is a beginning of it.
 pub fn log_is_longest_commit_sequence()
-    ensures chain { (block : List ℕ) → IsCommitSequenceOfBlock block (chain_of block).commits (chain_of block).end (chain_of block).last }
-    ensures longest { (block : List ℕ) (others : List (List LogEntry)) (end last : ℕ) → IsCommitSequenceOfBlock block others end last
+    ensures chain { (block : List ℕ) → AreAdjacentCommitsFromBlockStart block (chain_of block).commits (chain_of block).end (chain_of block).last }
+    ensures longest { (block : List ℕ) (others : List (List LogEntry)) (end last : ℕ) → AreAdjacentCommitsFromBlockStart block others end last
         → length others ≤ length (chain_of block).commits }
-    ensures beginning { (block : List ℕ) (others : List (List LogEntry)) (end last : ℕ) → IsCommitSequenceOfBlock block others end last
+    ensures beginning { (block : List ℕ) (others : List (List LogEntry)) (end last : ℕ) → AreAdjacentCommitsFromBlockStart block others end last
         → take (length others) (chain_of block).commits ≡ others }
 {}
 
@@ -49,24 +49,24 @@ pub fn altered_commit_ends_log()
 
 /// What ends a commit: a checksum of type 0x500 or 0x501 and of 4 to 1,022 bytes, over all before it and its own tag.
 pub fn checksum_ends_commit()
-    ensures shortest { has_commit (metadata_block_bytes 64 1 (log_entry_with create_type 0 [] ∷ checksum_entry 0x3316d230 0 ∷ [])) ≡ true }
-    ensures longest { has_commit (metadata_block_bytes 1100 1 (log_entry_with create_type 0 [] ∷ checksum_entry 0x45539af1 1018 ∷ []))
+    ensures shortest { has_commit (metadata_block_bytes 64 1 (log_entry_of_type_id_and_bytes create_tag_type 0 [] ∷ checksum_entry 0x3316d230 0 ∷ [])) ≡ true }
+    ensures longest { has_commit (metadata_block_bytes 1100 1 (log_entry_of_type_id_and_bytes create_tag_type 0 [] ∷ checksum_entry 0x45539af1 1018 ∷ []))
         ≡ true }
-    ensures other_type { has_commit (metadata_block_bytes 64 1 (log_entry_with create_type 0 []
-        ∷ log_entry_with 0x501 no_id (little_bytes 4 0x2f307140) ∷ [])) ≡ true }
+    ensures other_type { has_commit (metadata_block_bytes 64 1 (log_entry_of_type_id_and_bytes create_tag_type 0 []
+        ∷ log_entry_of_type_id_and_bytes 0x501 no_id (little_bytes 4 0x2f307140) ∷ [])) ≡ true }
 
     // Three bytes of a right number; a type of the same class; a number that leaves out its own tag.
-    ensures too_short { has_commit (metadata_block_bytes 64 1 (log_entry_with create_type 0 []
-        ∷ log_entry_with 0x500 no_id (little_bytes 3 0xad724793) ∷ [])) ≡ false }
-    ensures no_checksum { has_commit (metadata_block_bytes 64 1 (log_entry_with create_type 0 []
-        ∷ log_entry_with 0x502 no_id (little_bytes 4 0x0b5b94d0) ∷ [])) ≡ false }
-    ensures not_its_tag { has_commit (metadata_block_bytes 64 1 (log_entry_with create_type 0 [] ∷ checksum_entry 0x0ffefba6 0 ∷ [])) ≡ false }
+    ensures too_short { has_commit (metadata_block_bytes 64 1 (log_entry_of_type_id_and_bytes create_tag_type 0 []
+        ∷ log_entry_of_type_id_and_bytes 0x500 no_id (little_bytes 3 0xad724793) ∷ [])) ≡ false }
+    ensures no_checksum { has_commit (metadata_block_bytes 64 1 (log_entry_of_type_id_and_bytes create_tag_type 0 []
+        ∷ log_entry_of_type_id_and_bytes 0x502 no_id (little_bytes 4 0x0b5b94d0) ∷ [])) ≡ false }
+    ensures not_its_tag { has_commit (metadata_block_bytes 64 1 (log_entry_of_type_id_and_bytes create_tag_type 0 [] ∷ checksum_entry 0x0ffefba6 0 ∷ [])) ≡ false }
 
     // Its padding exceeds the end of the block; there is none at all.
-    ensures past_the_end { has_commit (take 64 (metadata_block_bytes 64 1 (log_entry_with create_type 0 [] ∷ checksum_entry 0x7ea4b368 96 ∷ [])))
+    ensures past_the_end { has_commit (take 64 (metadata_block_bytes 64 1 (log_entry_of_type_id_and_bytes create_tag_type 0 [] ∷ checksum_entry 0x7ea4b368 96 ∷ [])))
         ≡ false }
-    ensures within { has_commit (metadata_block_bytes 64 1 (log_entry_with create_type 0 [] ∷ checksum_entry 0x7ea4b368 96 ∷ [])) ≡ true }
-    ensures absent { has_commit (unwritten 64) ≡ false }
+    ensures within { has_commit (metadata_block_bytes 64 1 (log_entry_of_type_id_and_bytes create_tag_type 0 [] ∷ checksum_entry 0x7ea4b368 96 ∷ [])) ≡ true }
+    ensures absent { has_commit (unwritten_storage_bytes 64) ≡ false }
 {}
 
 /// Of two blocks with a commit the later one holds, by the sign of the difference of their revisions.

@@ -3,19 +3,19 @@
 ghost use Rattle.std.specs.Prelude.{◌≡◌, true, false, List, [], ◌∷◌, ◌++◌, Some, None, replicate, codes};
 ghost use Rattle.lfs_model.specs.Operations as ops;
 ghost use Rattle.lfs_model.specs.Operations.{NoEnt, BadFile, Busy, Exist, NotDir, IsDir, Invalid, TooBig, NoSpace, NameTooLong, NotEmpty, NoAttr, EntryFull, Failed};
-ghost use Rattle.lfs_model.specs.State.{SessionHealth, HasFailed, Healthy, mounted, answered};
+ghost use Rattle.lfs_model.specs.State.{SessionHealth, HasFailed, Healthy, session_after_mount, reply_and_session_health_after_operation};
 ghost use Rattle.lfs_model.specs.Fresh.{empty_tree};
-ghost use Rattle.lfs_model.specs.examples.Sessions.{around, replies_from_fresh_disk, operations_with_used_count, no_flags, read_flags, write_flags, flags_to_open_new_file};
+ghost use Rattle.lfs_model.specs.examples.Sessions.{writable_disk_summary, replies_from_fresh_disk, operations_each_paired_with_used_block_count, no_flags, read_flags, write_flags, flags_to_open_new_file};
 
 /// Paths that are refused, and names of the greatest length.
 pub fn paths_are_checked()
-    ensures forms { replies_from_fresh_disk 4096 256 16 (operations_with_used_count 2
+    ensures forms { replies_from_fresh_disk 4096 256 16 (operations_each_paired_with_used_block_count 2
         (ops.Stat [] ∷ ops.Stat (codes "a") ∷ ops.Stat (codes "/a/") ∷ ops.Stat (codes "//a") ∷ ops.Stat (codes "/.") ∷ ops.Stat (codes "/a/../b")
         ∷ ops.Stat (47 ∷ 0 ∷ []) ∷ ops.Stat (codes "/") ∷ ops.Stat (codes "/a") ∷ ops.Stat (codes "/a/b") ∷ []))
         ≡ ops.Refused Invalid ∷ ops.Refused Invalid ∷ ops.Refused Invalid ∷ ops.Refused Invalid
         ∷ ops.Refused Invalid ∷ ops.Refused Invalid
         ∷ ops.Refused Invalid ∷ ops.StatIs None ∷ ops.Refused NoEnt ∷ ops.Refused NoEnt ∷ [] }
-    ensures lengths { replies_from_fresh_disk 4096 256 16 (operations_with_used_count 2
+    ensures lengths { replies_from_fresh_disk 4096 256 16 (operations_each_paired_with_used_block_count 2
         (ops.Mkdir (47 ∷ replicate 255 97) ∷ ops.Mkdir (47 ∷ replicate 256 97) ∷ ops.Mkdir (codes "/")
         ∷ ops.Mkdir (codes "/x/y") ∷ ops.Mkdir (codes "/littlefs") ∷ []))
         ≡ ops.Done ∷ ops.Refused NameTooLong ∷ ops.Refused Exist ∷ ops.Refused NoEnt ∷ ops.Done ∷ [] }
@@ -23,7 +23,7 @@ pub fn paths_are_checked()
 
 /// Which flags an open takes, and what they do.
 pub fn flags_are_checked()
-    ensures refused { replies_from_fresh_disk 4096 256 16 (operations_with_used_count 2
+    ensures refused { replies_from_fresh_disk 4096 256 16 (operations_each_paired_with_used_block_count 2
         (ops.Open (codes "/a") no_flags ∷ ops.Open (codes "/a") (record flags_to_open_new_file { read = true })
         ∷ ops.Open (codes "/a") (record read_flags { create = true })
         ∷ ops.Open (codes "/a") (record write_flags { exclusive = true })
@@ -32,7 +32,7 @@ pub fn flags_are_checked()
         ∷ ops.Refused Invalid ∷ ops.Refused NoEnt ∷ [] }
 
     // Truncate empties a file at the next sync, and append writes at its end.
-    ensures used { replies_from_fresh_disk 4096 256 16 (operations_with_used_count 2
+    ensures used { replies_from_fresh_disk 4096 256 16 (operations_each_paired_with_used_block_count 2
         (ops.Open (codes "/a") flags_to_open_new_file ∷ ops.Write 0 (codes "hello") ∷ ops.Close 0
         ∷ ops.Open (codes "/a") (record flags_to_open_new_file { exclusive = true })
         ∷ ops.Open (codes "/a") (record write_flags { append = true }) ∷ ops.Write 0 (codes "!") ∷ ops.Close 0
@@ -47,7 +47,7 @@ pub fn flags_are_checked()
 
 /// Positions, gaps and the greatest size of a file.
 pub fn file_positions_are_kept()
-    ensures { replies_from_fresh_disk 1024 128 64 (operations_with_used_count 2
+    ensures { replies_from_fresh_disk 1024 128 64 (operations_each_paired_with_used_block_count 2
         (ops.Open (codes "/a") flags_to_open_new_file ∷ ops.Seek 0 2147483647 ∷ ops.Write 0 (0 ∷ []) ∷ ops.Write 0 []
         ∷ ops.Seek 0 2147483648 ∷ ops.Truncate 0 2147483648
         ∷ ops.Seek 0 3 ∷ ops.Write 0 (codes "x") ∷ ops.Stat (codes "/a") ∷ ops.Sync 0 ∷ ops.Stat (codes "/a")
@@ -60,7 +60,7 @@ pub fn file_positions_are_kept()
 
 /// One writer and 16 readers, and what can't be done to an open file.
 pub fn open_files_are_busy()
-    ensures { replies_from_fresh_disk 4096 256 16 (operations_with_used_count 2
+    ensures { replies_from_fresh_disk 4096 256 16 (operations_each_paired_with_used_block_count 2
         (ops.Open (codes "/a") flags_to_open_new_file ∷ ops.Open (codes "/b") flags_to_open_new_file ∷ ops.Open (codes "/a") read_flags
         ∷ ops.Remove (codes "/a") ∷ ops.Close 0
         ∷ replicate 17 (ops.Open (codes "/a") read_flags)
@@ -79,7 +79,7 @@ pub fn open_files_are_busy()
 
 /// What a rename replaces, and what it moves.
 pub fn rename_moves_subtree()
-    ensures onto_itself { replies_from_fresh_disk 4096 256 16 (operations_with_used_count 2
+    ensures onto_itself { replies_from_fresh_disk 4096 256 16 (operations_each_paired_with_used_block_count 2
         (ops.Rename (codes "/a") (codes "/a/b/c") ∷ ops.Rename (codes "/") (codes "/a")
         ∷ ops.Rename (codes "/a") (codes "/b") ∷ ops.Open (codes "/a") flags_to_open_new_file ∷ ops.Remove (codes "/a")
         ∷ ops.Close 0
@@ -89,7 +89,7 @@ pub fn rename_moves_subtree()
 
     // A file leaves its directory, which can then be removed.
     ensures across { replies_from_fresh_disk 4096 256 16
-        ((2, ops.Mkdir (codes "/s")) ∷ operations_with_used_count 4 (ops.Open (codes "/s/f") flags_to_open_new_file ∷ ops.Close 0
+        ((2, ops.Mkdir (codes "/s")) ∷ operations_each_paired_with_used_block_count 4 (ops.Open (codes "/s/f") flags_to_open_new_file ∷ ops.Close 0
         ∷ ops.Remove (codes "/s") ∷ ops.Rename (codes "/s/f") (codes "/g") ∷ ops.Remove (codes "/s") ∷ [])
         ++ (2, ops.ListAll (codes "/")) ∷ [])
         ≡ ops.Done ∷ ops.Opened 0 ∷ ops.Done ∷ ops.Refused NotEmpty ∷ ops.Done ∷ ops.Done
@@ -97,7 +97,7 @@ pub fn rename_moves_subtree()
 
     // A directory moves with the entries beneath it, and replaces an empty one.
     ensures directories { replies_from_fresh_disk 4096 256 64
-        ((2, ops.Mkdir (codes "/a")) ∷ (4, ops.Mkdir (codes "/a/b")) ∷ (6, ops.Mkdir (codes "/c")) ∷ operations_with_used_count 8
+        ((2, ops.Mkdir (codes "/a")) ∷ (4, ops.Mkdir (codes "/a/b")) ∷ (6, ops.Mkdir (codes "/c")) ∷ operations_each_paired_with_used_block_count 8
         (ops.Open (codes "/a/b/f") flags_to_open_new_file ∷ ops.Write 0 (codes "hello") ∷ ops.Rename (codes "/a") (codes "/c")
         ∷ ops.Close 0 ∷ ops.SetAttr (codes "/a") 0x41 (codes "x")
         ∷ ops.Rename (codes "/c") (codes "/a") ∷ ops.Rename (codes "/a") (codes "/c") ∷ ops.Stat (codes "/a")
@@ -118,31 +118,31 @@ pub fn rename_moves_subtree()
 /// What space an operation needs, and what a writer holds.
 pub fn space_for_blocks_is_checked()
     ensures two_blocks { replies_from_fresh_disk 1024 128 2 ((2, ops.Open (codes "/a") flags_to_open_new_file) ∷ []) ≡ ops.Refused NoSpace ∷ [] }
-    ensures four_blocks { replies_from_fresh_disk 1024 128 4 (operations_with_used_count 2
+    ensures four_blocks { replies_from_fresh_disk 1024 128 4 (operations_each_paired_with_used_block_count 2
         (ops.Mkdir (codes "/d") ∷ ops.Open (codes "/a") flags_to_open_new_file ∷ ops.Write 0 (1 ∷ []) ∷ ops.Mkdir (codes "/d")
         ∷ ops.Close 0 ∷ ops.UsedCount ∷ []))
         ≡ ops.Refused NoSpace ∷ ops.Opened 0 ∷ ops.Count 1 ∷ ops.Refused NoSpace ∷ ops.Done ∷ ops.Count 2 ∷ [] }
 
     // 5,000 bytes take five blocks. A write elsewhere makes the writer nonsequential, and it then holds them twice.
     ensures not_turned { replies_from_fresh_disk 1024 128 13
-        (operations_with_used_count 2 (ops.Open (codes "/a") flags_to_open_new_file ∷ ops.Write 0 (replicate 5000 7) ∷ ops.Seek 0 10
+        (operations_each_paired_with_used_block_count 2 (ops.Open (codes "/a") flags_to_open_new_file ∷ ops.Write 0 (replicate 5000 7) ∷ ops.Seek 0 10
         ∷ ops.Write 0 (1 ∷ []) ∷ ops.Close 0 ∷ []) ++ (7, ops.Stat (codes "/a")) ∷ [])
         ≡ ops.Opened 0 ∷ ops.Count 5000 ∷ ops.Done ∷ ops.Refused NoSpace ∷ ops.Done ∷ ops.StatIs (Some 5000) ∷ [] }
     ensures turned { replies_from_fresh_disk 1024 128 14
-        (operations_with_used_count 2 (ops.Open (codes "/a") flags_to_open_new_file ∷ ops.Write 0 (replicate 5000 7) ∷ ops.Seek 0 10
+        (operations_each_paired_with_used_block_count 2 (ops.Open (codes "/a") flags_to_open_new_file ∷ ops.Write 0 (replicate 5000 7) ∷ ops.Seek 0 10
         ∷ ops.Write 0 (1 ∷ []) ∷ ops.Seek 0 20 ∷ ops.Write 0 (1 ∷ []) ∷ ops.Close 0 ∷ [])
         ++ (7, ops.Stat (codes "/a")) ∷ [])
         ≡ ops.Opened 0 ∷ ops.Count 5000 ∷ ops.Done ∷ ops.Count 1 ∷ ops.Done ∷ ops.Count 1 ∷ ops.Done
         ∷ ops.StatIs (Some 5000) ∷ [] }
     ensures truncated { replies_from_fresh_disk 1024 128 13
-        (operations_with_used_count 2 (ops.Open (codes "/a") flags_to_open_new_file ∷ ops.Write 0 (replicate 5000 7) ∷ ops.Truncate 0 4000
+        (operations_each_paired_with_used_block_count 2 (ops.Open (codes "/a") flags_to_open_new_file ∷ ops.Write 0 (replicate 5000 7) ∷ ops.Truncate 0 4000
         ∷ ops.Truncate 0 5000 ∷ ops.Close 0 ∷ []) ++ (6, ops.Stat (codes "/a")) ∷ [])
         ≡ ops.Opened 0 ∷ ops.Count 5000 ∷ ops.Done ∷ ops.Refused NoSpace ∷ ops.Done ∷ ops.StatIs (Some 4000) ∷ [] }
 {}
 
 /// What attributes are kept, and how many bytes fit an entry: 428 here, with 128 reserved for contents.
-pub fn attributes_are_kept()
-    ensures limit { replies_from_fresh_disk 1024 128 64 (operations_with_used_count 2
+pub fn attributes_are_kept_up_to_charge_limit()
+    ensures limit { replies_from_fresh_disk 1024 128 64 (operations_each_paired_with_used_block_count 2
         (ops.Open (47 ∷ replicate 255 97) flags_to_open_new_file ∷ ops.Close 0
         ∷ ops.SetAttr (47 ∷ replicate 255 97) 0x41 (replicate 33 1)
         ∷ ops.SetAttr (47 ∷ replicate 255 97) 0x41 (replicate 34 2)
@@ -152,7 +152,7 @@ pub fn attributes_are_kept()
         ∷ ops.Bytes (replicate 33 1) ∷ ops.Done ∷ ops.Refused NoAttr ∷ ops.Refused NoAttr ∷ [] }
 
     // A missing file is reported before too many bytes, and these before a full entry.
-    ensures order { replies_from_fresh_disk 1024 128 64 (operations_with_used_count 2
+    ensures order { replies_from_fresh_disk 1024 128 64 (operations_each_paired_with_used_block_count 2
         (ops.SetAttr (codes "/none") 0x41 (replicate 1023 1) ∷ ops.Open (codes "/f") flags_to_open_new_file
         ∷ ops.SetAttr (codes "/f") 0x41 (replicate 1023 1) ∷ ops.SetAttr (codes "/f") 0x41 (replicate 1022 1)
         ∷ ops.SetAttr (codes "/") 0x41 [] ∷ []))
@@ -162,11 +162,11 @@ pub fn attributes_are_kept()
 /// A session from a directory to a file of the root.
 pub fn replies_of_a_whole_session()
     ensures { replies_from_fresh_disk 1024 128 64
-        ((2, ops.Mkdir (codes "/d")) ∷ operations_with_used_count 4 (ops.Open (codes "/d/f") flags_to_open_new_file ∷ ops.Write 0 (replicate 5000 7)
+        ((2, ops.Mkdir (codes "/d")) ∷ operations_each_paired_with_used_block_count 4 (ops.Open (codes "/d/f") flags_to_open_new_file ∷ ops.Write 0 (replicate 5000 7)
         ∷ ops.Seek 0 10 ∷ ops.Write 0 (1 ∷ []) ∷ ops.Close 0 ∷ [])
-        ++ operations_with_used_count 9 (ops.SetAttr (codes "/d/f") 0x41 (codes "x") ∷ ops.Rename (codes "/d/f") (codes "/g")
+        ++ operations_each_paired_with_used_block_count 9 (ops.SetAttr (codes "/d/f") 0x41 (codes "x") ∷ ops.Rename (codes "/d/f") (codes "/g")
         ∷ ops.Remove (codes "/d") ∷ [])
-        ++ operations_with_used_count 7 (ops.ListAll (codes "/") ∷ ops.Open (codes "/g") read_flags ∷ ops.Read 0 5000 ∷ ops.Close 0
+        ++ operations_each_paired_with_used_block_count 7 (ops.ListAll (codes "/") ∷ ops.Open (codes "/g") read_flags ∷ ops.Read 0 5000 ∷ ops.Close 0
         ∷ ops.GetAttr (codes "/g") 0x41 ∷ ops.UsedCount ∷ []))
         ≡ ops.Done ∷ ops.Opened 0 ∷ ops.Count 5000 ∷ ops.Done ∷ ops.Count 1 ∷ ops.Done
         ∷ ops.Done ∷ ops.Done ∷ ops.Done
@@ -175,9 +175,9 @@ pub fn replies_of_a_whole_session()
 {}
 
 /// A failed session refuses all but a remount, which begins a session with the tree of the disk.
-pub fn failed_session_refuses()
-    ensures stat { answered (around 4096 256 16 2) (Some empty_tree) HasFailed (ops.Stat (codes "/")) ≡ (Some (ops.Refused Failed), HasFailed) }
-    ensures remount { answered (around 4096 256 16 2) (Some empty_tree) HasFailed ops.Remount ≡ (Some ops.Done, Healthy (mounted empty_tree)) }
-    ensures after_it { answered (around 4096 256 16 2) (Some empty_tree) (Healthy (mounted empty_tree)) (ops.Stat (codes "/d")) ≡ (Some (ops.Refused NoEnt), Healthy (mounted empty_tree)) }
-    ensures not_accepted { (state : SessionHealth) → answered (around 4096 256 16 2) None state ops.Remount ≡ (None, HasFailed) }
+pub fn failed_session_refuses_all_but_remount()
+    ensures stat { reply_and_session_health_after_operation (writable_disk_summary 4096 256 16 2) (Some empty_tree) HasFailed (ops.Stat (codes "/")) ≡ (Some (ops.Refused Failed), HasFailed) }
+    ensures remount { reply_and_session_health_after_operation (writable_disk_summary 4096 256 16 2) (Some empty_tree) HasFailed ops.Remount ≡ (Some ops.Done, Healthy (session_after_mount empty_tree)) }
+    ensures after_it { reply_and_session_health_after_operation (writable_disk_summary 4096 256 16 2) (Some empty_tree) (Healthy (session_after_mount empty_tree)) (ops.Stat (codes "/d")) ≡ (Some (ops.Refused NoEnt), Healthy (session_after_mount empty_tree)) }
+    ensures not_accepted { (state : SessionHealth) → reply_and_session_health_after_operation (writable_disk_summary 4096 256 16 2) None state ops.Remount ≡ (None, HasFailed) }
 {}

@@ -3,15 +3,15 @@
 ghost use Rattle.std.specs.Prelude.{◌≡◌, List, [], ◌∷◌, map, Some, None, codes};
 ghost use Rattle.lfs_model.specs.Tree.{FileNode, DirectoryNode};
 ghost use Rattle.lfs_model.specs.Fresh.{empty_tree};
-ghost use Rattle.lfs_model.specs.Source.{HaveBadOrRepeatedName, AFile, AFolder, source_node_from_folder, IsTreeOfSource};
-ghost use Rattle.lfs_model.specs.examples.Sources.{source_of_one_file, endless_source};
+ghost use Rattle.lfs_model.specs.Source.{HaveBadOrRepeatedName, AFile, AFolder, source_node_at_path_from_folder, IsTreeMadeFromSource};
+ghost use Rattle.lfs_model.specs.examples.Sources.{tree_source_of_one_file, tree_source_of_endless_folders};
 ghost use Rattle.lfs_model.specs.examples.Images.{tree_of_nodes};
 
 /// A source makes the tree that has what its folders name, and no other.
-pub fn source_makes_its_tree()
-    ensures one { IsTreeOfSource source_of_one_file (tree_of_nodes (([], DirectoryNode [] (codes "a" ∷ [])) ∷ (codes "a" ∷ [], FileNode [] (codes "hello")) ∷ [])) }
-    ensures not_empty { IsTreeOfSource source_of_one_file empty_tree → ⊥ }
-    ensures depths { map (source_node_from_folder endless_source []) ([] ∷ (codes "d" ∷ codes "a" ∷ []) ∷ (codes "a" ∷ codes "a" ∷ []) ∷ (codes "x" ∷ []) ∷ [])
+pub fn tree_mirrors_source_folders()
+    ensures one { IsTreeMadeFromSource tree_source_of_one_file (tree_of_nodes (([], DirectoryNode [] (codes "a" ∷ [])) ∷ (codes "a" ∷ [], FileNode [] (codes "hello")) ∷ [])) }
+    ensures not_empty { IsTreeMadeFromSource tree_source_of_one_file empty_tree → ⊥ }
+    ensures depths { map (source_node_at_path_from_folder tree_source_of_endless_folders []) ([] ∷ (codes "d" ∷ codes "a" ∷ []) ∷ (codes "a" ∷ codes "a" ∷ []) ∷ (codes "x" ∷ []) ∷ [])
         ≡ Some (AFolder (codes "d" ∷ codes "a" ∷ [])) ∷ Some (AFile (codes "/d/a")) ∷ None ∷ None ∷ [] }
 {}
 

@@ -5,7 +5,7 @@ use Rattle.lfs_device.specs.Calls.{ReadsOnly, ReportsFaults}
 use Rattle.lfs_device.specs.declared.device.BlockDevice.{Ghosts}
 use Rattle.lfs_device.specs.declared.error.Error.{Error}
 use Rattle.lfs_device.specs.declared.error.Error.TheVariants.{Corrupt, Io, NoMemory}
-use Rattle.lfs_model.specs.History.{faults}
+use Rattle.lfs_model.specs.History.{fault_count_of_history}
 use Rattle.lfs_mount.specs.Device.{ReportsMountErrorsAndFaults}
 use Rattle.lfs_model.proofs.Histories.{began, AreCallsSinceOnlyReads-trans}
 
@@ -28,11 +28,11 @@ module _ {D : Type 0} (g : Ghosts D) where
   }
 
   -- a call that succeeds has no fault
-  pub quiet : {X : Type 0} {old new : D} {x : X} → ReportsFaults g old new (Ok x) → faults (g.history new) ≡ faults (g.history old)
+  pub quiet : {X : Type 0} {old new : D} {x : X} → ReportsFaults g old new (Ok x) → fault_count_of_history (g.history new) ≡ fault_count_of_history (g.history old)
   quiet reported = reported.no_fault (λ is. absurd (cc))
 
   -- an error passed on behind calls without a fault
-  pub reported_on : {X Y : Type 0} {old mid new : D} {r : Result X Error} {e f : Error} → r ≡ Err e → e ≡ f → faults (g.history mid) ≡ faults (g.history old)
+  pub reported_on : {X Y : Type 0} {old mid new : D} {r : Result X Error} {e f : Error} → r ≡ Err e → e ≡ f → fault_count_of_history (g.history mid) ≡ fault_count_of_history (g.history old)
       → ReportsFaults {X = Y} g mid new (Err f) → ReportsFaults g old new r
   reported_on {Y = Y} {f = f} is from same reported = record {
     fault = λ gives. let io : f ≡ Io = same_error is from gives in let rose = reported.fault (ap Err io) in omega (arith, same, rose);
@@ -40,7 +40,7 @@ module _ {D : Type 0} (g : Ghosts D) where
   }
 
   -- and which error it is
-  pub passed_on : {X Y : Type 0} {old mid new : D} {r : Result X Error} {e f : Error} → r ≡ Err e → e ≡ f → faults (g.history mid) ≡ faults (g.history old)
+  pub passed_on : {X Y : Type 0} {old mid new : D} {r : Result X Error} {e f : Error} → r ≡ Err e → e ≡ f → fault_count_of_history (g.history mid) ≡ fault_count_of_history (g.history old)
       → ReportsMountErrorsAndFaults {X = Y} g mid new (Err f) → ReportsMountErrorsAndFaults g old new r
   passed_on {X} {r = r} {e = e} {f = f} is from same reported = record {
     errors = subst (λ (x : Result X Error). IfErr x (λ y. (y ≡ Io) ⊎ (y ≡ Corrupt) ⊎ (y ≡ NoMemory))) (sym is) (subst (λ (y : Error). (y ≡ Io) ⊎ (y ≡ Corrupt) ⊎ (y ≡ NoMemory)) (sym from) reported.errors);

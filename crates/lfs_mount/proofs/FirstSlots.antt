@@ -4,8 +4,8 @@ use Rattle.std.specs.Str.{bytes_eq}
 use Rattle.std.proofs.lemmas.Bool.{and_parts, and_from}
 use Rattle.std.proofs.lemmas.Option.{same_Some}
 use Rattle.std.proofs.lemmas.Slice.Eq.{bytes_eq-Decides}
-use Rattle.lfs_model.specs.Content.{RawSlot, complete, slots_if_all_complete, kind_of_name_type, struct_of_type_and_bytes}
-use Rattle.lfs_model.specs.EntryTypes.{inline_struct_type, directory_struct_type, superblock_fields_at}
+use Rattle.lfs_model.specs.Content.{RawSlot, slot_if_name_and_struct_present, slots_if_names_and_structs_present, kind_of_name_type, struct_of_type_and_bytes}
+use Rattle.lfs_model.specs.EntryTypes.{inline_struct_type, directory_struct_type, superblock_fields_of_struct_bytes}
 use Rattle.lfs_model.specs.Disk.{Disk, block_count}
 use Rattle.lfs_model.specs.Slots.{Slot, Struct, Inline, Ctz, Branch, is_superblock}
 use Rattle.lfs_model.specs.Thread.{starts_with_superblock}
@@ -13,7 +13,7 @@ use Rattle.lfs_model.specs.View.{HasInlineStruct, IsSuperblockStruct}
 use Rattle.lfs_model.proofs.Completed.{complete_parts}
 use Rattle.lfs_tag.specs.KindView.{is_superblock_name}
 use Rattle.lfs_mount.specs.Checked.{BeginsWithSuperblockSlot}
-use Rattle.lfs_mount.specs.SuperblockChain.{has_name_bytes, inline_struct_bytes, describes, superblock_struct_if_of_geometry, superblock_struct_in_first_slot, some_true_if_same_bytes, first_slot_repeats_superblock}
+use Rattle.lfs_mount.specs.SuperblockChain.{has_name_bytes, inline_struct_bytes, is_superblock_struct_of_geometry, superblock_struct_if_of_geometry, superblock_struct_in_first_slot, some_true_if_same_bytes_else_none, first_slot_repeats_superblock}
 
 -- ---- a slot with a name and a struct
 
@@ -24,7 +24,7 @@ record IsMadeOf (s : RawSlot) (t : Slot) : Type 0 where
   struct_is : s.struct ≡ Some struct
   made : t ≡ record { kind = kind_of_name_type name.0; name = name.1; struct = struct_of_type_and_bytes struct.0 struct.1; attributes = s.attributes }
 
-made_of : (s : RawSlot) (t : Slot) → complete s ≡ Some t → IsMadeOf s t
+made_of : (s : RawSlot) (t : Slot) → slot_if_name_and_struct_present s ≡ Some t → IsMadeOf s t
 made_of s t e = go s.name s.struct refl refl e
   where
     go : (n u : Option (ℕ × List ℕ)) → s.name ≡ n → s.struct ≡ u
@@ -60,7 +60,7 @@ slot_struct s t bytes m h = ap (λ (x : Slot). x.struct) m.made ∙ inline_back 
 
 -- ---- whether the superblock is repeated
 
-same_from : (bytes : List ℕ) (o : Option (List ℕ)) → some_true_if_same_bytes bytes o ≡ Some true → o ≡ Some bytes
+same_from : (bytes : List ℕ) (o : Option (List ℕ)) → some_true_if_same_bytes_else_none bytes o ≡ Some true → o ≡ Some bytes
 same_from bytes None e = absurd (cc)
 same_from bytes (Some other) e = go (bytes_eq other bytes) refl e
   where
@@ -68,7 +68,7 @@ same_from bytes (Some other) e = go (bytes_eq other bytes) refl e
     go true f k = ap (λ (x : List ℕ). Some x) ((bytes_eq-Decides other bytes).0 f)
     go false f k = absurd (cc)
 
-never_false : (bytes : List ℕ) (o : Option (List ℕ)) → some_true_if_same_bytes bytes o ≡ Some false → ⊥
+never_false : (bytes : List ℕ) (o : Option (List ℕ)) → some_true_if_same_bytes_else_none bytes o ≡ Some false → ⊥
 never_false bytes None e = absurd (cc)
 never_false bytes (Some other) e = go (bytes_eq other bytes) e
   where
@@ -76,33 +76,33 @@ never_false bytes (Some other) e = go (bytes_eq other bytes) e
     go true k = absurd (cc)
     go false k = absurd (cc)
 
-differs : (bytes : List ℕ) (o : Option (List ℕ)) → some_true_if_same_bytes bytes o ≡ None → o ≡ Some bytes → ⊥
+differs : (bytes : List ℕ) (o : Option (List ℕ)) → some_true_if_same_bytes_else_none bytes o ≡ None → o ≡ Some bytes → ⊥
 differs bytes o e f = absurd (
-    let same : some_true_if_same_bytes bytes o ≡ Some true = ap (some_true_if_same_bytes bytes) f ∙ ap (λ b. cond b (Some true) None) ((bytes_eq-Decides bytes bytes).1 refl) in
+    let same : some_true_if_same_bytes_else_none bytes o ≡ Some true = ap (some_true_if_same_bytes_else_none bytes) f ∙ ap (λ b. cond b (Some true) None) ((bytes_eq-Decides bytes bytes).1 refl) in
     let clash : Some true ≡ None = sym same ∙ e in cc)
 
 module _ (bytes : List ℕ) where
-  pub repeats_true : (raws : List RawSlot) (slots : List Slot) → slots_if_all_complete raws ≡ Some slots → first_slot_repeats_superblock bytes raws ≡ Some true → BeginsWithSuperblockSlot bytes slots
+  pub repeats_true : (raws : List RawSlot) (slots : List Slot) → slots_if_names_and_structs_present raws ≡ Some slots → first_slot_repeats_superblock bytes raws ≡ Some true → BeginsWithSuperblockSlot bytes slots
   repeats_true [] slots c e = absurd (cc)
   repeats_true (s ∷ raws) slots c e =
       let p = complete_parts s raws slots c in
       subst (BeginsWithSuperblockSlot bytes) (sym p.all_are) (go p.first (made_of s p.first p.is_first) (is_superblock_name s.name) refl e)
     where
-      go : (t : Slot) → IsMadeOf s t → (b : Bool) → is_superblock_name s.name ≡ b → cond b (some_true_if_same_bytes bytes (inline_struct_bytes s.struct)) (Some false) ≡ Some true → (is_superblock t ≡ true) × HasInlineStruct bytes t
+      go : (t : Slot) → IsMadeOf s t → (b : Bool) → is_superblock_name s.name ≡ b → cond b (some_true_if_same_bytes_else_none bytes (inline_struct_bytes s.struct)) (Some false) ≡ Some true → (is_superblock t ≡ true) × HasInlineStruct bytes t
       go t m true n k = (slot_named s t m ∙ n, slot_struct s t bytes m (same_from bytes (inline_struct_bytes s.struct) k))
       go t m false n k = absurd (cc)
 
-  pub repeats_false : (raws : List RawSlot) (slots : List Slot) → slots_if_all_complete raws ≡ Some slots → first_slot_repeats_superblock bytes raws ≡ Some false → starts_with_superblock slots ≡ false
+  pub repeats_false : (raws : List RawSlot) (slots : List Slot) → slots_if_names_and_structs_present raws ≡ Some slots → first_slot_repeats_superblock bytes raws ≡ Some false → starts_with_superblock slots ≡ false
   repeats_false [] slots c e = ap starts_with_superblock (sym (same_Some [] slots c))
   repeats_false (s ∷ raws) slots c e =
       let p = complete_parts s raws slots c in
       ap starts_with_superblock p.all_are ∙ slot_named s p.first (made_of s p.first p.is_first) ∙ go (is_superblock_name s.name) refl e
     where
-      go : (b : Bool) → is_superblock_name s.name ≡ b → cond b (some_true_if_same_bytes bytes (inline_struct_bytes s.struct)) (Some false) ≡ Some false → b ≡ false
+      go : (b : Bool) → is_superblock_name s.name ≡ b → cond b (some_true_if_same_bytes_else_none bytes (inline_struct_bytes s.struct)) (Some false) ≡ Some false → b ≡ false
       go true n k = absurd (never_false bytes (inline_struct_bytes s.struct) k)
       go false n k = refl
 
-  pub repeats_none : (raws : List RawSlot) (slots : List Slot) → slots_if_all_complete raws ≡ Some slots → first_slot_repeats_superblock bytes raws ≡ None → (starts_with_superblock slots ≡ true) × (BeginsWithSuperblockSlot bytes slots → ⊥)
+  pub repeats_none : (raws : List RawSlot) (slots : List Slot) → slots_if_names_and_structs_present raws ≡ Some slots → first_slot_repeats_superblock bytes raws ≡ None → (starts_with_superblock slots ≡ true) × (BeginsWithSuperblockSlot bytes slots → ⊥)
   repeats_none [] slots c e = absurd (cc)
   repeats_none (s ∷ raws) slots c e =
       let p = complete_parts s raws slots c in
@@ -110,7 +110,7 @@ module _ (bytes : List ℕ) where
       let k = go (is_superblock_name s.name) refl e in
       (ap starts_with_superblock p.all_are ∙ slot_named s p.first m ∙ k.0, λ h. differs bytes (inline_struct_bytes s.struct) k.1 (slot_inline s p.first bytes m (subst (BeginsWithSuperblockSlot bytes) p.all_are h).1))
     where
-      go : (b : Bool) → is_superblock_name s.name ≡ b → cond b (some_true_if_same_bytes bytes (inline_struct_bytes s.struct)) (Some false) ≡ None → (b ≡ true) × (some_true_if_same_bytes bytes (inline_struct_bytes s.struct) ≡ None)
+      go : (b : Bool) → is_superblock_name s.name ≡ b → cond b (some_true_if_same_bytes_else_none bytes (inline_struct_bytes s.struct)) (Some false) ≡ None → (b ≡ true) × (some_true_if_same_bytes_else_none bytes (inline_struct_bytes s.struct) ≡ None)
       go true n k = (refl, k)
       go false n k = absurd (cc)
 
@@ -123,14 +123,14 @@ IsNamed slots = option_map (λ (s : Slot). s.name) (slice_get slots 0) ≡ Some 
 pub record IsFirst (block_size count : ℕ) (bytes : List ℕ) (slots : List Slot) : Type 0 where
   pub start : BeginsWithSuperblockSlot bytes slots
   pub named : IsNamed slots
-  pub describes : describes block_size count bytes ≡ true
+  pub describes : is_superblock_struct_of_geometry block_size count bytes ≡ true
 
-described : (block_size count : ℕ) (o : Option (List ℕ)) (bytes : List ℕ) → superblock_struct_if_of_geometry block_size count o ≡ Some bytes → (o ≡ Some bytes) × (describes block_size count bytes ≡ true)
+described : (block_size count : ℕ) (o : Option (List ℕ)) (bytes : List ℕ) → superblock_struct_if_of_geometry block_size count o ≡ Some bytes → (o ≡ Some bytes) × (is_superblock_struct_of_geometry block_size count bytes ≡ true)
 described block_size count None bytes e = absurd (cc)
-described block_size count (Some held) bytes e = go (describes block_size count held) refl e
+described block_size count (Some held) bytes e = go (is_superblock_struct_of_geometry block_size count held) refl e
   where
-    go : (b : Bool) → describes block_size count held ≡ b → cond b (Some held) None ≡ Some bytes → (Some held ≡ Some bytes) × (describes block_size count bytes ≡ true)
-    go true f k = (k, ap (describes block_size count) (sym (same_Some held bytes k)) ∙ f)
+    go : (b : Bool) → is_superblock_struct_of_geometry block_size count held ≡ b → cond b (Some held) None ≡ Some bytes → (Some held ≡ Some bytes) × (is_superblock_struct_of_geometry block_size count bytes ≡ true)
+    go true f k = (k, ap (is_superblock_struct_of_geometry block_size count) (sym (same_Some held bytes k)) ∙ f)
     go false f k = absurd (cc)
 
 called : (s : RawSlot) (t : Slot) (name : List ℕ) → IsMadeOf s t → has_name_bytes name s.name ≡ true → t.name ≡ name
@@ -139,7 +139,7 @@ called s t name m e = ap (λ (x : Slot). x.name) m.made ∙ (bytes_eq-Decides m.
 calls : (s : RawSlot) (t : Slot) (name : List ℕ) → IsMadeOf s t → t.name ≡ name → has_name_bytes name s.name ≡ true
 calls s t name m e = ap (has_name_bytes name) m.name_is ∙ (bytes_eq-Decides m.name.1 name).1 (sym (ap (λ (x : Slot). x.name) m.made) ∙ e)
 
-pub first_found : (block_size count : ℕ) (raws : List RawSlot) (slots : List Slot) (bytes : List ℕ) → slots_if_all_complete raws ≡ Some slots → superblock_struct_in_first_slot block_size count raws ≡ Some bytes
+pub first_found : (block_size count : ℕ) (raws : List RawSlot) (slots : List Slot) (bytes : List ℕ) → slots_if_names_and_structs_present raws ≡ Some slots → superblock_struct_in_first_slot block_size count raws ≡ Some bytes
     → IsFirst block_size count bytes slots
 first_found block_size count [] slots bytes c e = absurd (cc)
 first_found block_size count (s ∷ raws) slots bytes c e =
@@ -158,7 +158,7 @@ first_found block_size count (s ∷ raws) slots bytes c e =
           describes = d.1;
         }
 
-pub first_is : (block_size count : ℕ) (raws : List RawSlot) (slots : List Slot) (bytes : List ℕ) → slots_if_all_complete raws ≡ Some slots → IsFirst block_size count bytes slots
+pub first_is : (block_size count : ℕ) (raws : List RawSlot) (slots : List Slot) (bytes : List ℕ) → slots_if_names_and_structs_present raws ≡ Some slots → IsFirst block_size count bytes slots
     → superblock_struct_in_first_slot block_size count raws ≡ Some bytes
 first_is block_size count [] slots bytes c f = absurd (subst (BeginsWithSuperblockSlot bytes) (sym (same_Some [] slots c)) f.start)
 first_is block_size count (s ∷ raws) slots bytes c f =
@@ -171,13 +171,13 @@ first_is block_size count (s ∷ raws) slots bytes c f =
         (and_from (is_superblock_name s.name) (has_name_bytes (codes "littlefs") s.name) (sym (slot_named s t m) ∙ h.start.0) (calls s t (codes "littlefs") m (same_Some t.name (codes "littlefs") h.named)))
         ∙ ap (superblock_struct_if_of_geometry block_size count) (slot_inline s t bytes m h.start.1) ∙ ap (λ b. cond b (Some bytes) None) h.describes
 
-pub struct_described : (disk : Disk) (bytes : List ℕ) → describes disk.block_size (block_count disk) bytes ≡ true → IsSuperblockStruct disk bytes
+pub struct_described : (disk : Disk) (bytes : List ℕ) → is_superblock_struct_of_geometry disk.block_size (block_count disk) bytes ≡ true → IsSuperblockStruct disk bytes
 struct_described disk bytes e =
     let a = and_parts (length bytes == 24) _ e in
-    let b = and_parts ((superblock_fields_at bytes).version == 0x00020000) _ a.1 in
-    let c = and_parts ((superblock_fields_at bytes).block_size == disk.block_size) _ b.1 in
+    let b = and_parts ((superblock_fields_of_struct_bytes bytes).version == 0x00020000) _ a.1 in
+    let c = and_parts ((superblock_fields_of_struct_bytes bytes).block_size == disk.block_size) _ b.1 in
     record { len = eqb-true _ _ a.0; version = eqb-true _ _ b.0; block_size = eqb-true _ _ c.0; block_count = eqb-true _ _ c.1 }
 
-pub describes_struct : (disk : Disk) (bytes : List ℕ) → IsSuperblockStruct disk bytes → describes disk.block_size (block_count disk) bytes ≡ true
+pub describes_struct : (disk : Disk) (bytes : List ℕ) → IsSuperblockStruct disk bytes → is_superblock_struct_of_geometry disk.block_size (block_count disk) bytes ≡ true
 describes_struct disk bytes h =
     and_from _ _ (eq-eqb _ _ h.len) (and_from _ _ (eq-eqb _ _ h.version) (and_from _ _ (eq-eqb _ _ h.block_size) (eq-eqb _ _ h.block_count)))

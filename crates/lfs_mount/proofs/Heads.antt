@@ -4,20 +4,20 @@ use Rattle.std.proofs.lemmas.Bool.{and_from, and_parts, and_right, eqb-false}
 use Rattle.std.proofs.lemmas.List.{length-map}
 use Rattle.std.proofs.lemmas.List.Elements.{recursion_from_All}
 use Rattle.std.proofs.lemmas.Option.{same_Some, slice_get_read, slice_get_within}
-use Rattle.lfs_model.specs.Blocks.{Blocks, block_bytes_in}
+use Rattle.lfs_model.specs.Blocks.{Blocks, block_bytes_by_number}
 use Rattle.lfs_model.specs.Content.{content_of_pair_at, current_block_of_pair_at}
 use Rattle.lfs_model.specs.Disk.{Disk, block_bytes_on_disk, block_count}
-use Rattle.lfs_model.specs.History.{CallEvent}
+use Rattle.lfs_model.specs.History.{DeviceCallEvent}
 use Rattle.lfs_model.specs.Slots.{Slot, Inline}
 use Rattle.lfs_model.specs.Thread as Thread
-use Rattle.lfs_model.specs.Thread.{Pair, anchor_pair_address, IsThread, first_pair_address, pairs_from_first_slot, has_slots, is_empty_or_superblock, is_hard_tail, has_superblock_as_first_slot, starts_with_superblock, starts_with_superblock_if_any_slot, pair_count_before_root}
-use Rattle.lfs_model.specs.View.{BeginsWithLogEntry, HasSuperblockOfBytesIfAny, IsAcceptedImage, first_slot_name, superblock_name_log_entry, pairs_of_superblock_chain}
+use Rattle.lfs_model.specs.Thread.{Pair, anchor_pair_address, IsThreadOfMetadataPairs, first_pair_address, pairs_from_first_with_slots, has_slots, has_no_slot_or_only_superblock, is_hard_tail, has_superblock_in_first_nonempty_pair, starts_with_superblock, starts_with_superblock_or_default_without_slots, pair_count_before_root}
+use Rattle.lfs_model.specs.View.{BeginsWithLogEntry, HasSuperblockWithInlineBytesIfAnySlot, IsAcceptedImage, first_slot_name, superblock_name_log_entry, pairs_of_superblock_chain}
 use Rattle.lfs_model.proofs.Counts.{Each}
 use Rattle.lfs_model.proofs.Superblocks.{meets_first, meets_from, meets_starting}
 use Rattle.lfs_tag.specs.ContentView.{tail_view}
 use Rattle.lfs_thread.specs.Kept.{ArePairHeadersOnDisk, PairHeader, pairs_of_headers}
 use Rattle.lfs_mount.specs.Checked.{BeginsWithSuperblockSlot, HasSuperblockSlotAlone, HasAtMostSuperblockSlot}
-use Rattle.lfs_mount.specs.SuperblockChain.{AreHeadersOfDiskThread, HasSuperblockChainOfLength, IsSuperblockStructInBlock, first_pair_with_slots, leads_on, first_slot_repeats_superblock, block_repeats_superblock, superblock_struct_in_first_slot}
+use Rattle.lfs_mount.specs.SuperblockChain.{AreHeadersOfDiskThread, HasSuperblockChainOfLength, IsSuperblockStructInBlock, number_of_first_pair_with_nonzero_slot_count, superblock_chain_may_continue_after, first_slot_repeats_superblock, block_repeats_superblock, superblock_struct_in_first_slot}
 use Rattle.lfs_mount.proofs.FirstSlots.{IsFirst, describes_struct, first_found, first_is, repeats_false, repeats_none, repeats_true, struct_described}
 use Rattle.lfs_mount.proofs.Headers.{IsSeen, header_at, pair_at, pair_of, seen_from}
 
@@ -46,26 +46,26 @@ starts_so bytes (s ∷ slots) h = h.0
 alone_start : (bytes : List ℕ) (p : Pair) → HasSuperblockSlotAlone bytes p → BeginsWithSuperblockSlot bytes p.content.slots
 alone_start bytes p a = subst (BeginsWithSuperblockSlot bytes) (sym a.slots) (a.superblock, a.struct)
 
-link_bare : (bytes : List ℕ) (p : Pair) → HasAtMostSuperblockSlot bytes p → is_empty_or_superblock p.content.slots ≡ true
-link_bare bytes p (inl none) = ap is_empty_or_superblock none
-link_bare bytes p (inr alone) = ap is_empty_or_superblock alone.slots ∙ alone.superblock
+link_bare : (bytes : List ℕ) (p : Pair) → HasAtMostSuperblockSlot bytes p → has_no_slot_or_only_superblock p.content.slots ≡ true
+link_bare bytes p (inl none) = ap has_no_slot_or_only_superblock none
+link_bare bytes p (inr alone) = ap has_no_slot_or_only_superblock alone.slots ∙ alone.superblock
 
-link_leads : (bytes : List ℕ) (p : Pair) → IsLink bytes p → Thread.leads_on p ≡ true
-link_leads bytes p h = and_from (is_empty_or_superblock p.content.slots) (is_hard_tail p.content.tail) (link_bare bytes p h.0) h.1
+link_leads : (bytes : List ℕ) (p : Pair) → IsLink bytes p → Thread.may_superblock_chain_continue_after_pair p ≡ true
+link_leads bytes p h = and_from (has_no_slot_or_only_superblock p.content.slots) (is_hard_tail p.content.tail) (link_bare bytes p h.0) h.1
 
-link_meets : (bytes : List ℕ) (p : Pair) (ps : List Pair) → IsLink bytes p → has_superblock_as_first_slot ps ≡ true → has_superblock_as_first_slot (p ∷ ps) ≡ true
-link_meets bytes p ps (inl none, hard) e = ap (λ z. starts_with_superblock_if_any_slot z (is_hard_tail p.content.tail && has_superblock_as_first_slot ps)) none ∙ and_from (is_hard_tail p.content.tail) (has_superblock_as_first_slot ps) hard e
+link_meets : (bytes : List ℕ) (p : Pair) (ps : List Pair) → IsLink bytes p → has_superblock_in_first_nonempty_pair ps ≡ true → has_superblock_in_first_nonempty_pair (p ∷ ps) ≡ true
+link_meets bytes p ps (inl none, hard) e = ap (λ z. starts_with_superblock_or_default_without_slots z (is_hard_tail p.content.tail && has_superblock_in_first_nonempty_pair ps)) none ∙ and_from (is_hard_tail p.content.tail) (has_superblock_in_first_nonempty_pair ps) hard e
 link_meets bytes p ps (inr alone, hard) e = meets_starting p ps (starts_so bytes p.content.slots (alone_start bytes p alone))
 
-before_link : (bytes : List ℕ) (p : Pair) (ps : List Pair) → IsLink bytes p → has_superblock_as_first_slot ps ≡ true → pair_count_before_root (p ∷ ps) ≡ suc (pair_count_before_root ps)
-before_link bytes p ps h e = ap (λ b. cond b (1 + pair_count_before_root ps) 0) (and_from (has_superblock_as_first_slot ps) (Thread.leads_on p) e (link_leads bytes p h)) ∙ (let n = pair_count_before_root ps in omega arith)
+before_link : (bytes : List ℕ) (p : Pair) (ps : List Pair) → IsLink bytes p → has_superblock_in_first_nonempty_pair ps ≡ true → pair_count_before_root (p ∷ ps) ≡ suc (pair_count_before_root ps)
+before_link bytes p ps h e = ap (λ b. cond b (1 + pair_count_before_root ps) 0) (and_from (has_superblock_in_first_nonempty_pair ps) (Thread.may_superblock_chain_continue_after_pair p) e (link_leads bytes p h)) ∙ (let n = pair_count_before_root ps in omega arith)
 
-linked_meets : (bytes : List ℕ) (k : ℕ) (ps : List Pair) → Linked bytes k ps → has_superblock_as_first_slot (drop k ps) ≡ true → has_superblock_as_first_slot ps ≡ true
+linked_meets : (bytes : List ℕ) (k : ℕ) (ps : List Pair) → Linked bytes k ps → has_superblock_in_first_nonempty_pair (drop k ps) ≡ true → has_superblock_in_first_nonempty_pair ps ≡ true
 linked_meets bytes zero ps h e = e
 linked_meets bytes (suc k) [] h e = absurd h
 linked_meets bytes (suc k) (p ∷ ps) h e = link_meets bytes p ps h.0 (linked_meets bytes k ps h.1 e)
 
-linked_before : (bytes : List ℕ) (k : ℕ) (ps : List Pair) → Linked bytes k ps → has_superblock_as_first_slot (drop k ps) ≡ true → pair_count_before_root ps ≡ k + pair_count_before_root (drop k ps)
+linked_before : (bytes : List ℕ) (k : ℕ) (ps : List Pair) → Linked bytes k ps → has_superblock_in_first_nonempty_pair (drop k ps) ≡ true → pair_count_before_root ps ≡ k + pair_count_before_root (drop k ps)
 linked_before bytes zero ps h e = omega arith
 linked_before bytes (suc k) [] h e = absurd h
 linked_before bytes (suc k) (p ∷ ps) h e =
@@ -98,7 +98,7 @@ dropped [] k p e = absurd (cc)
 dropped (x ∷ ps) zero p e = ap (λ (z : Pair). z ∷ ps) (same_Some x p e)
 dropped (x ∷ ps) (suc k) p e = dropped ps k p e
 
-led_meets : (bytes : List ℕ) (k : ℕ) (ps : List Pair) → Led bytes k ps → has_superblock_as_first_slot (drop k ps) ≡ true
+led_meets : (bytes : List ℕ) (k : ℕ) (ps : List Pair) → Led bytes k ps → has_superblock_in_first_nonempty_pair (drop k ps) ≡ true
 led_meets bytes k [] l = absurd l
 led_meets bytes zero (p ∷ ps) l = meets_starting p ps (starts_so bytes p.content.slots l)
 led_meets bytes (suc k) (p ∷ ps) l = led_meets bytes k ps l.1
@@ -111,7 +111,7 @@ pub record IsWalked (bytes : List ℕ) (ps : List Pair) (root index : ℕ) : Typ
   pub linked : Linked bytes index ps
   pub below : root ≤ index
   pub bare : (p : Pair) → slice_get ps index ≡ Some p → (p.content.slots ≡ []) ⊎ BeginsWithSuperblockSlot bytes p.content.slots
-  pub ends : (p : Pair) → slice_get ps index ≡ Some p → (has_superblock_as_first_slot (drop (suc index) ps) && Thread.leads_on p) ≡ false → pair_count_before_root ps ≡ root
+  pub ends : (p : Pair) → slice_get ps index ≡ Some p → (has_superblock_in_first_nonempty_pair (drop (suc index) ps) && Thread.may_superblock_chain_continue_after_pair p) ≡ false → pair_count_before_root ps ≡ root
 
 walked_at : (bytes : List ℕ) (k : ℕ) (ps : List Pair) → Led bytes k ps → IsWalked bytes ps k k
 walked_at bytes k ps l = record {
@@ -142,20 +142,20 @@ bare_from bytes p (inr start) few = go p.content.slots refl start (few_le (lengt
     go (s ∷ []) is k f = inr (record { slot = s; slots = is; superblock = k.0; struct = k.1 })
     go (s ∷ t ∷ slots) is k f = absurd (let l = ap length is in omega arith)
 
-many_slots : (slots : List Slot) → (length slots == 0 || length slots == 1) ≡ false → is_empty_or_superblock slots ≡ false
+many_slots : (slots : List Slot) → (length slots == 0 || length slots == 1) ≡ false → has_no_slot_or_only_superblock slots ≡ false
 many_slots [] f = absurd (let clash : true ≡ false = f in cc)
 many_slots (s ∷ []) f = absurd (let clash : true ≡ false = f in cc)
 many_slots (s ∷ t ∷ slots) f = refl
 
 -- the chain stops at a pair that doesn't lead on
-stops : (p : Pair) → ((length p.content.slots == 0 || length p.content.slots == 1) && is_hard_tail p.content.tail) ≡ false → Thread.leads_on p ≡ false
+stops : (p : Pair) → ((length p.content.slots == 0 || length p.content.slots == 1) && is_hard_tail p.content.tail) ≡ false → Thread.may_superblock_chain_continue_after_pair p ≡ false
 stops p e = go (length p.content.slots == 0 || length p.content.slots == 1) refl e
   where
-    go : (b : Bool) → (length p.content.slots == 0 || length p.content.slots == 1) ≡ b → (b && is_hard_tail p.content.tail) ≡ false → Thread.leads_on p ≡ false
+    go : (b : Bool) → (length p.content.slots == 0 || length p.content.slots == 1) ≡ b → (b && is_hard_tail p.content.tail) ≡ false → Thread.may_superblock_chain_continue_after_pair p ≡ false
     go false f k = ap (λ b. b && is_hard_tail p.content.tail) (many_slots p.content.slots f)
-    go true f k = and_right (is_empty_or_superblock p.content.slots) (is_hard_tail p.content.tail) k
+    go true f k = and_right (has_no_slot_or_only_superblock p.content.slots) (is_hard_tail p.content.tail) k
 
-meets_slots : (slots : List Slot) (later : Bool) → (slots ≡ [] → ⊥) → starts_with_superblock_if_any_slot slots later ≡ starts_with_superblock slots
+meets_slots : (slots : List Slot) (later : Bool) → (slots ≡ [] → ⊥) → starts_with_superblock_or_default_without_slots slots later ≡ starts_with_superblock slots
 meets_slots [] later some = absurd (some refl)
 meets_slots (s ∷ slots) later some = refl
 
@@ -185,7 +185,7 @@ each_at P zero (x ∷ ps) k p low e h = absurd (omega arith)
 each_at P (suc n) (x ∷ ps) zero p low e h = subst P (same_Some x p e) h.0
 each_at P (suc n) (x ∷ ps) (suc k) p low e h = each_at P n ps k p (omega arith) e h.1
 
-start_of : (bytes : List ℕ) (slots : List Slot) → (slots ≡ [] → ⊥) → HasSuperblockOfBytesIfAny bytes slots → BeginsWithSuperblockSlot bytes slots
+start_of : (bytes : List ℕ) (slots : List Slot) → (slots ≡ [] → ⊥) → HasSuperblockWithInlineBytesIfAnySlot bytes slots → BeginsWithSuperblockSlot bytes slots
 start_of bytes [] some h = absurd (some refl)
 start_of bytes (s ∷ slots) some h = (h.0, h.1)
 
@@ -204,8 +204,8 @@ starting_some (s ∷ slots) h e = cc
 -- a pair of the chain that has a slot has the struct
 held : (disk : Disk) (ps : List Pair) (a : IsAcceptedImage disk ps) (k : ℕ) (p : Pair) → k ≤ pair_count_before_root ps → slice_get ps k ≡ Some p → (p.content.slots ≡ [] → ⊥) → BeginsWithSuperblockSlot a.superblock.0 p.content.slots
 held disk ps a k p low e some = start_of a.superblock.0 p.content.slots some
-    (each_at (λ (q : Pair). HasSuperblockOfBytesIfAny a.superblock.0 q.content.slots) (pair_count_before_root ps + 1) ps k p (omega arith) e
-    (recursion_from_All (λ (q : Pair). HasSuperblockOfBytesIfAny a.superblock.0 q.content.slots) (pairs_of_superblock_chain ps) a.superblock.1.1))
+    (each_at (λ (q : Pair). HasSuperblockWithInlineBytesIfAnySlot a.superblock.0 q.content.slots) (pair_count_before_root ps + 1) ps k p (omega arith) e
+    (recursion_from_All (λ (q : Pair). HasSuperblockWithInlineBytesIfAnySlot a.superblock.0 q.content.slots) (pairs_of_superblock_chain ps) a.superblock.1.1))
 
 get_some : (ps : List Pair) (k : ℕ) (bytes : List ℕ) → Led bytes k ps → (p : Pair) × (slice_get ps k ≡ Some p)
 get_some [] k bytes l = absurd l
@@ -218,7 +218,7 @@ refused : (disk : Disk) (bytes : List ℕ) (root n : ℕ) (ps : List Pair) (q : 
 refused disk bytes root n ps q led low linked e starts other a =
     let first = get_some ps root bytes led in
     let start = led_start bytes root ps first.0 led first.1 in
-    let meets = ap has_superblock_as_first_slot (dropped ps n q e) ∙ meets_starting q (drop (suc n) ps) starts in
+    let meets = ap has_superblock_in_first_nonempty_pair (dropped ps n q e) ∙ meets_starting q (drop (suc n) ps) starts in
     let all = linked_before bytes n ps linked meets in
     let is : a.superblock.0 ≡ bytes = same_bytes a.superblock.0 bytes first.0.content.slots (held disk ps a root first.0 (omega arith) first.1 (has_some bytes first.0.content.slots start)) start in
     other (subst (λ (z : List ℕ). BeginsWithSuperblockSlot z q.content.slots) is (held disk ps a n q (omega arith) e (starting_some q.content.slots starts)))
@@ -243,8 +243,8 @@ step_at hs index h next low high e f =
     }
 
 -- the same of other blocks, bytes and headers that are the same
-pub same_block : (blocks then : Blocks) (bytes read : List ℕ) (h k : PairHeader) (o : Option Bool) → then ≡ blocks → read ≡ bytes → h ≡ k → block_repeats_superblock read (block_bytes_in then k.active) ≡ o → block_repeats_superblock bytes (block_bytes_in blocks h.active) ≡ o
-same_block blocks then bytes read h k o b r e f = ap (λ (x : PairHeader). block_repeats_superblock bytes (block_bytes_in blocks x.active)) e ∙ ap₂ (λ (x : Blocks) (y : List ℕ). block_repeats_superblock y (block_bytes_in x k.active)) (sym b) (sym r) ∙ f
+pub same_block : (blocks then : Blocks) (bytes read : List ℕ) (h k : PairHeader) (o : Option Bool) → then ≡ blocks → read ≡ bytes → h ≡ k → block_repeats_superblock read (block_bytes_by_number then k.active) ≡ o → block_repeats_superblock bytes (block_bytes_by_number blocks h.active) ≡ o
+same_block blocks then bytes read h k o b r e f = ap (λ (x : PairHeader). block_repeats_superblock bytes (block_bytes_by_number blocks x.active)) e ∙ ap₂ (λ (x : Blocks) (y : List ℕ). block_repeats_superblock y (block_bytes_by_number x k.active)) (sym b) (sym r) ∙ f
 
 -- the first one of a pair that has a slot, with pairs of the chain in front of it
 record IsFilled (disk : Disk) (hs : List PairHeader) (k : ℕ) (bytes : List ℕ) : Type 0 where
@@ -253,7 +253,7 @@ record IsFilled (disk : Disk) (hs : List PairHeader) (k : ℕ) (bytes : List ℕ
   some : (pair_of disk header).content.slots ≡ [] → ⊥
   linked : Linked bytes k (pairs_of_headers disk hs)
   rest : List Pair
-  from : pairs_from_first_slot (pairs_of_headers disk hs) ≡ pair_of disk header ∷ rest
+  from : pairs_from_first_with_slots (pairs_of_headers disk hs) ≡ pair_of disk header ∷ rest
 
 no_slots : (slots : List Slot) → length slots ≡ 0 → slots ≡ []
 no_slots [] e = refl
@@ -263,23 +263,23 @@ filled_slots : (slots : List Slot) → (slots ≡ [] → ⊥) → has_slots slot
 filled_slots [] some = absurd (some refl)
 filled_slots (s ∷ slots) some = refl
 
-filled : (disk : Disk) (history : List CallEvent) (bytes : List ℕ) (hs : List PairHeader) (k : ℕ) → ArePairHeadersOnDisk disk history hs → first_pair_with_slots hs ≡ Some k → IsFilled disk hs k bytes
+filled : (disk : Disk) (history : List DeviceCallEvent) (bytes : List ℕ) (hs : List PairHeader) (k : ℕ) → ArePairHeadersOnDisk disk history hs → number_of_first_pair_with_nonzero_slot_count hs ≡ Some k → IsFilled disk hs k bytes
 filled disk history bytes [] k each e = absurd (cc)
 filled disk history bytes (x ∷ hs) k each e =
-    go (x.slot_count == 0) refl (is_hard_tail (option_map tail_view x.tail)) refl (first_pair_with_slots hs) refl e (λ j f. filled disk history bytes hs j each.1 f)
+    go (x.slot_count == 0) refl (is_hard_tail (option_map tail_view x.tail)) refl (number_of_first_pair_with_nonzero_slot_count hs) refl e (λ j f. filled disk history bytes hs j each.1 f)
   where
     seen : IsSeen disk x
     seen = seen_from disk history x each.0
 
-    go : (a : Bool) → (x.slot_count == 0) ≡ a → (b : Bool) → is_hard_tail (option_map tail_view x.tail) ≡ b → (o : Option ℕ) → first_pair_with_slots hs ≡ o
-        → cond a (cond b (option_map (λ n. suc n) o) None) (Some 0) ≡ Some k → ((j : ℕ) → first_pair_with_slots hs ≡ Some j → IsFilled disk hs j bytes) → IsFilled disk (x ∷ hs) k bytes
+    go : (a : Bool) → (x.slot_count == 0) ≡ a → (b : Bool) → is_hard_tail (option_map tail_view x.tail) ≡ b → (o : Option ℕ) → number_of_first_pair_with_nonzero_slot_count hs ≡ o
+        → cond a (cond b (option_map (λ n. suc n) o) None) (Some 0) ≡ Some k → ((j : ℕ) → number_of_first_pair_with_nonzero_slot_count hs ≡ Some j → IsFilled disk hs j bytes) → IsFilled disk (x ∷ hs) k bytes
     go false n b hard o f is next = subst (λ i. IsFilled disk (x ∷ hs) i bytes) (same_Some 0 k is) (record {
       header = x;
       here = refl;
       some = some;
       linked = tt;
       rest = pairs_of_headers disk hs;
-      from = ap (λ t. cond t (pair_of disk x ∷ pairs_of_headers disk hs) (pairs_from_first_slot (pairs_of_headers disk hs))) (filled_slots (pair_of disk x).content.slots some);
+      from = ap (λ t. cond t (pair_of disk x ∷ pairs_of_headers disk hs) (pairs_from_first_with_slots (pairs_of_headers disk hs))) (filled_slots (pair_of disk x).content.slots some);
     })
       where
         some : (pair_of disk x).content.slots ≡ [] → ⊥
@@ -292,31 +292,31 @@ filled disk history bytes (x ∷ hs) k each e =
       some = (next j f).some;
       linked = ((inl empty, sym seen.hard ∙ hard), (next j f).linked);
       rest = (next j f).rest;
-      from = ap (λ z. cond (has_slots z) (pair_of disk x ∷ pairs_of_headers disk hs) (pairs_from_first_slot (pairs_of_headers disk hs))) empty ∙ (next j f).from;
+      from = ap (λ z. cond (has_slots z) (pair_of disk x ∷ pairs_of_headers disk hs) (pairs_from_first_with_slots (pairs_of_headers disk hs))) empty ∙ (next j f).from;
     })
       where
         empty : (pair_of disk x).content.slots ≡ []
         empty = no_slots (pair_of disk x).content.slots (sym seen.count ∙ eqb-true x.slot_count 0 n)
 
-none_filled : (disk : Disk) (history : List CallEvent) (hs : List PairHeader) → ArePairHeadersOnDisk disk history hs → first_pair_with_slots hs ≡ None → has_superblock_as_first_slot (pairs_of_headers disk hs) ≡ false
+none_filled : (disk : Disk) (history : List DeviceCallEvent) (hs : List PairHeader) → ArePairHeadersOnDisk disk history hs → number_of_first_pair_with_nonzero_slot_count hs ≡ None → has_superblock_in_first_nonempty_pair (pairs_of_headers disk hs) ≡ false
 none_filled disk history [] each e = refl
-none_filled disk history (x ∷ hs) each e = go (x.slot_count == 0) refl (is_hard_tail (option_map tail_view x.tail)) refl (first_pair_with_slots hs) refl e (λ f. none_filled disk history hs each.1 f)
+none_filled disk history (x ∷ hs) each e = go (x.slot_count == 0) refl (is_hard_tail (option_map tail_view x.tail)) refl (number_of_first_pair_with_nonzero_slot_count hs) refl e (λ f. none_filled disk history hs each.1 f)
   where
     seen : IsSeen disk x
     seen = seen_from disk history x each.0
 
-    go : (a : Bool) → (x.slot_count == 0) ≡ a → (b : Bool) → is_hard_tail (option_map tail_view x.tail) ≡ b → (o : Option ℕ) → first_pair_with_slots hs ≡ o
-        → cond a (cond b (option_map (λ n. suc n) o) None) (Some 0) ≡ None → (first_pair_with_slots hs ≡ None → has_superblock_as_first_slot (pairs_of_headers disk hs) ≡ false) → has_superblock_as_first_slot (pairs_of_headers disk (x ∷ hs)) ≡ false
+    go : (a : Bool) → (x.slot_count == 0) ≡ a → (b : Bool) → is_hard_tail (option_map tail_view x.tail) ≡ b → (o : Option ℕ) → number_of_first_pair_with_nonzero_slot_count hs ≡ o
+        → cond a (cond b (option_map (λ n. suc n) o) None) (Some 0) ≡ None → (number_of_first_pair_with_nonzero_slot_count hs ≡ None → has_superblock_in_first_nonempty_pair (pairs_of_headers disk hs) ≡ false) → has_superblock_in_first_nonempty_pair (pairs_of_headers disk (x ∷ hs)) ≡ false
     go false n b hard o f is next = absurd (cc)
     go true n true hard (Some j) f is next = absurd (cc)
     go true n true hard None f is next = empty ∙ ap (λ b. is_hard_tail (pair_of disk x).content.tail && b) (next f) ∙ and_right (is_hard_tail (pair_of disk x).content.tail) false refl
       where
-        empty : has_superblock_as_first_slot (pairs_of_headers disk (x ∷ hs)) ≡ (is_hard_tail (pair_of disk x).content.tail && has_superblock_as_first_slot (pairs_of_headers disk hs))
-        empty = ap (λ z. starts_with_superblock_if_any_slot z (is_hard_tail (pair_of disk x).content.tail && has_superblock_as_first_slot (pairs_of_headers disk hs))) (no_slots (pair_of disk x).content.slots (sym seen.count ∙ eqb-true x.slot_count 0 n))
-    go true n false hard o f is next = empty ∙ ap (λ b. b && has_superblock_as_first_slot (pairs_of_headers disk hs)) (sym seen.hard ∙ hard)
+        empty : has_superblock_in_first_nonempty_pair (pairs_of_headers disk (x ∷ hs)) ≡ (is_hard_tail (pair_of disk x).content.tail && has_superblock_in_first_nonempty_pair (pairs_of_headers disk hs))
+        empty = ap (λ z. starts_with_superblock_or_default_without_slots z (is_hard_tail (pair_of disk x).content.tail && has_superblock_in_first_nonempty_pair (pairs_of_headers disk hs))) (no_slots (pair_of disk x).content.slots (sym seen.count ∙ eqb-true x.slot_count 0 n))
+    go true n false hard o f is next = empty ∙ ap (λ b. b && has_superblock_in_first_nonempty_pair (pairs_of_headers disk hs)) (sym seen.hard ∙ hard)
       where
-        empty : has_superblock_as_first_slot (pairs_of_headers disk (x ∷ hs)) ≡ (is_hard_tail (pair_of disk x).content.tail && has_superblock_as_first_slot (pairs_of_headers disk hs))
-        empty = ap (λ z. starts_with_superblock_if_any_slot z (is_hard_tail (pair_of disk x).content.tail && has_superblock_as_first_slot (pairs_of_headers disk hs))) (no_slots (pair_of disk x).content.slots (sym seen.count ∙ eqb-true x.slot_count 0 n))
+        empty : has_superblock_in_first_nonempty_pair (pairs_of_headers disk (x ∷ hs)) ≡ (is_hard_tail (pair_of disk x).content.tail && has_superblock_in_first_nonempty_pair (pairs_of_headers disk hs))
+        empty = ap (λ z. starts_with_superblock_or_default_without_slots z (is_hard_tail (pair_of disk x).content.tail && has_superblock_in_first_nonempty_pair (pairs_of_headers disk hs))) (no_slots (pair_of disk x).content.slots (sym seen.count ∙ eqb-true x.slot_count 0 n))
 
 with_true : (b : Bool) → (b && true) ≡ b
 with_true true = refl
@@ -328,19 +328,19 @@ turned true false = refl
 turned false true = refl
 turned false false = refl
 
-module _ (disk : Disk) (history : List CallEvent) (hs : List PairHeader) (has : AreHeadersOfDiskThread disk history hs) where
+module _ (disk : Disk) (history : List DeviceCallEvent) (hs : List PairHeader) (has : AreHeadersOfDiskThread disk history hs) where
   abbrev ps : List Pair
   ps = pairs_of_headers disk hs
 
   -- ---- one step
 
-  leads_seen : (h : PairHeader) → IsSeen disk h → leads_on h ≡ ((length (pair_of disk h).content.slots == 0 || length (pair_of disk h).content.slots == 1) && is_hard_tail (pair_of disk h).content.tail)
+  leads_seen : (h : PairHeader) → IsSeen disk h → superblock_chain_may_continue_after h ≡ ((length (pair_of disk h).content.slots == 0 || length (pair_of disk h).content.slots == 1) && is_hard_tail (pair_of disk h).content.tail)
   leads_seen h seen = ap₂ (λ n b. (n == 0 || n == 1) && b) seen.count seen.hard
 
   -- the chain stops at a pair that doesn't lead on
-  pub halts : (bytes : List ℕ) (root index : ℕ) (h : PairHeader) → slice_get hs index ≡ Some h → IsWalked bytes ps root index → leads_on h ≡ false → pair_count_before_root ps ≡ root
+  pub halts : (bytes : List ℕ) (root index : ℕ) (h : PairHeader) → slice_get hs index ≡ Some h → IsWalked bytes ps root index → superblock_chain_may_continue_after h ≡ false → pair_count_before_root ps ≡ root
   halts bytes root index h here w e = w.ends (pair_of disk h) (pair_at disk hs index h here)
-      (and_right (has_superblock_as_first_slot (drop (suc index) ps)) (Thread.leads_on (pair_of disk h)) (stops (pair_of disk h) (sym (leads_seen h (header_at disk history hs index h has.each here)) ∙ e)))
+      (and_right (has_superblock_in_first_nonempty_pair (drop (suc index) ps)) (Thread.may_superblock_chain_continue_after_pair (pair_of disk h)) (stops (pair_of disk h) (sym (leads_seen h (header_at disk history hs index h has.each here)) ∙ e)))
 
   module _ (bytes : List ℕ) (root index : ℕ) (h next : PairHeader) (s : IsStep hs index h next) (walked : IsWalked bytes ps root (index - 1)) where
     abbrev p : Pair
@@ -370,10 +370,10 @@ module _ (disk : Disk) (history : List CallEvent) (hs : List PairHeader) (has : 
     pub within : next.active < block_count disk
     within = seen_next.active
 
-    leads_is : leads_on h ≡ ((length p.content.slots == 0 || length p.content.slots == 1) && is_hard_tail p.content.tail)
+    leads_is : superblock_chain_may_continue_after h ≡ ((length p.content.slots == 0 || length p.content.slots == 1) && is_hard_tail p.content.tail)
     leads_is = leads_seen h seen
 
-    module _ (leads : leads_on h ≡ true) where
+    module _ (leads : superblock_chain_may_continue_after h ≡ true) where
       link : IsLink bytes p
       link =
           let both = and_parts (length p.content.slots == 0 || length p.content.slots == 1) (is_hard_tail p.content.tail) (sym leads_is ∙ leads) in
@@ -382,11 +382,11 @@ module _ (disk : Disk) (history : List CallEvent) (hs : List PairHeader) (has : 
       linked : Linked bytes (suc s.k) ps
       linked = linked_more bytes s.k ps p w.linked p_at link
 
-      goes : (has_superblock_as_first_slot (drop (suc s.k) ps) && Thread.leads_on p) ≡ has_superblock_as_first_slot (drop (suc s.k) ps)
-      goes = ap (λ b. has_superblock_as_first_slot (drop (suc s.k) ps) && b) (link_leads bytes p link) ∙ with_true (has_superblock_as_first_slot (drop (suc s.k) ps))
+      goes : (has_superblock_in_first_nonempty_pair (drop (suc s.k) ps) && Thread.may_superblock_chain_continue_after_pair p) ≡ has_superblock_in_first_nonempty_pair (drop (suc s.k) ps)
+      goes = ap (λ b. has_superblock_in_first_nonempty_pair (drop (suc s.k) ps) && b) (link_leads bytes p link) ∙ with_true (has_superblock_in_first_nonempty_pair (drop (suc s.k) ps))
 
-      meets : has_superblock_as_first_slot (drop (suc s.k) ps) ≡ starts_with_superblock_if_any_slot q.content.slots (is_hard_tail q.content.tail && has_superblock_as_first_slot (drop (suc (suc s.k)) ps))
-      meets = ap has_superblock_as_first_slot (dropped ps (suc s.k) q q_at)
+      meets : has_superblock_in_first_nonempty_pair (drop (suc s.k) ps) ≡ starts_with_superblock_or_default_without_slots q.content.slots (is_hard_tail q.content.tail && has_superblock_in_first_nonempty_pair (drop (suc (suc s.k)) ps))
+      meets = ap has_superblock_in_first_nonempty_pair (dropped ps (suc s.k) q q_at)
 
       -- no slot
       pub passes : next.slot_count ≡ 0 → IsWalked bytes ps root (index + 1 - 1)
@@ -395,9 +395,9 @@ module _ (disk : Disk) (history : List CallEvent) (hs : List PairHeader) (has : 
         linked = linked;
         below = (let b = w.below in omega arith);
         bare = λ x e. inl (subst (λ (z : Pair). z.content.slots ≡ []) (same_Some q x (sym q_at ∙ e)) empty);
-        ends = λ x e k. w.ends p p_at (goes ∙ meets ∙ ap (λ z. starts_with_superblock_if_any_slot z (is_hard_tail q.content.tail && has_superblock_as_first_slot (drop (suc (suc s.k)) ps))) empty ∙ turned (is_hard_tail q.content.tail) (has_superblock_as_first_slot (drop (suc (suc s.k)) ps))
-            ∙ ap (λ z. has_superblock_as_first_slot (drop (suc (suc s.k)) ps) && (is_empty_or_superblock z && is_hard_tail q.content.tail)) (sym empty)
-            ∙ ap (λ (z : Pair). has_superblock_as_first_slot (drop (suc (suc s.k)) ps) && Thread.leads_on z) (same_Some q x (sym q_at ∙ e)) ∙ k);
+        ends = λ x e k. w.ends p p_at (goes ∙ meets ∙ ap (λ z. starts_with_superblock_or_default_without_slots z (is_hard_tail q.content.tail && has_superblock_in_first_nonempty_pair (drop (suc (suc s.k)) ps))) empty ∙ turned (is_hard_tail q.content.tail) (has_superblock_in_first_nonempty_pair (drop (suc (suc s.k)) ps))
+            ∙ ap (λ z. has_superblock_in_first_nonempty_pair (drop (suc (suc s.k)) ps) && (has_no_slot_or_only_superblock z && is_hard_tail q.content.tail)) (sym empty)
+            ∙ ap (λ (z : Pair). has_superblock_in_first_nonempty_pair (drop (suc (suc s.k)) ps) && Thread.may_superblock_chain_continue_after_pair z) (same_Some q x (sym q_at ∙ e)) ∙ k);
       })
         where
           empty : q.content.slots ≡ []
@@ -413,7 +413,7 @@ module _ (disk : Disk) (history : List CallEvent) (hs : List PairHeader) (has : 
 
       -- other slots
       pub ends : (next.slot_count ≡ 0 → ⊥) → block_repeats_superblock bytes (block_bytes_on_disk disk next.active) ≡ Some false → pair_count_before_root ps ≡ root
-      ends filled is = w.ends p p_at (goes ∙ meets ∙ meets_slots q.content.slots (is_hard_tail q.content.tail && has_superblock_as_first_slot (drop (suc (suc s.k)) ps)) (some filled)
+      ends filled is = w.ends p p_at (goes ∙ meets ∙ meets_slots q.content.slots (is_hard_tail q.content.tail && has_superblock_in_first_nonempty_pair (drop (suc (suc s.k)) ps)) (some filled)
           ∙ repeats_false bytes seen_next.held.slots q.content.slots seen_next.slots (sym repeats ∙ is))
 
       pub fails : block_repeats_superblock bytes (block_bytes_on_disk disk next.active) ≡ None → IsAcceptedImage disk ps → ⊥
@@ -423,10 +423,10 @@ module _ (disk : Disk) (history : List CallEvent) (hs : List PairHeader) (has : 
 
   -- ---- the first header of a pair that has a slot, as it is read
 
-  pub refused_none : first_pair_with_slots hs ≡ None → IsAcceptedImage disk ps → ⊥
+  pub refused_none : number_of_first_pair_with_nonzero_slot_count hs ≡ None → IsAcceptedImage disk ps → ⊥
   refused_none none a = let e = sym (meets_from ps a.root) ∙ none_filled disk history hs has.each none in cc
 
-  module _ (k : ℕ) (found : first_pair_with_slots hs ≡ Some k) where
+  module _ (k : ℕ) (found : number_of_first_pair_with_nonzero_slot_count hs ≡ Some k) where
     pub within_first : k < length hs
     within_first = let f = filled disk history [] hs k has.each found in slice_get_within hs k f.header f.here
 
@@ -455,13 +455,13 @@ module _ (disk : Disk) (history : List CallEvent) (hs : List PairHeader) (has : 
       linked_first : (bytes : List ℕ) → Linked bytes k ps
       linked_first bytes = (f bytes).linked
 
-      from : pairs_from_first_slot ps ≡ pair_of disk h ∷ (f []).rest
+      from : pairs_from_first_with_slots ps ≡ pair_of disk h ∷ (f []).rest
       from = (f []).from ∙ ap (λ (x : PairHeader). pair_of disk x ∷ (f []).rest) (same_header [])
 
       some_slot : (pair_of disk h).content.slots ≡ [] → ⊥
       some_slot = subst (λ (x : PairHeader). (pair_of disk x).content.slots ≡ [] → ⊥) (same_header []) (f []).some
 
-      held_first : current_block_of_pair_at disk (first_pair_address (pairs_from_first_slot ps)) ≡ Some (block_bytes_on_disk disk h.active)
+      held_first : current_block_of_pair_at disk (first_pair_address (pairs_from_first_with_slots ps)) ≡ Some (block_bytes_on_disk disk h.active)
       held_first = ap (λ (qs : List Pair). current_block_of_pair_at disk (first_pair_address qs)) from ∙ first_seen.holds
 
       -- the superblock that its block has, by the header as it is read
@@ -484,7 +484,7 @@ module _ (disk : Disk) (history : List CallEvent) (hs : List PairHeader) (has : 
       refused_first never a =
           let bytes = a.superblock.0 in
           let starts = meets_first ps (pair_of disk h) (f []).rest from (meets_from ps a.root) in
-          let meets = ap has_superblock_as_first_slot (dropped ps k (pair_of disk h) first_pair) ∙ meets_starting (pair_of disk h) (drop (suc k) ps) starts in
+          let meets = ap has_superblock_in_first_nonempty_pair (dropped ps k (pair_of disk h) first_pair) ∙ meets_starting (pair_of disk h) (drop (suc k) ps) starts in
           let all = linked_before bytes k ps (linked_first bytes) meets in
           let first_is_so : IsFirst disk.block_size (block_count disk) bytes (pair_of disk h).content.slots =
           record {
@@ -513,9 +513,9 @@ module _ (disk : Disk) (history : List CallEvent) (hs : List PairHeader) (has : 
             before = before;
             bytes = bytes;
             head = record {
-              first = subst (λ (qs : List Pair). BeginsWithLogEntry (current_block_of_pair_at disk (first_pair_address (pairs_from_first_slot qs))) superblock_name_log_entry) apart.parts
+              first = subst (λ (qs : List Pair). BeginsWithLogEntry (current_block_of_pair_at disk (first_pair_address (pairs_from_first_with_slots qs))) superblock_name_log_entry) apart.parts
                   (subst (λ o. BeginsWithLogEntry o superblock_name_log_entry) (sym held_first) (there bytes s).begins);
-              named = ap (λ (qs : List Pair). first_slot_name (pairs_from_first_slot qs)) (sym apart.parts) ∙ ap first_slot_name from ∙ d.named;
+              named = ap (λ (qs : List Pair). first_slot_name (pairs_from_first_with_slots qs)) (sym apart.parts) ∙ ap first_slot_name from ∙ d.named;
               struct = struct_described disk bytes d.describes;
               bare = apart.bare;
               start = apart.start;
@@ -541,5 +541,5 @@ module _ (disk : Disk) (history : List CallEvent) (hs : List PairHeader) (has : 
           beyond (x ∷ qs) (suc n) l e = beyond qs n (omega arith) e
 
           go : (o : Option Pair) → slice_get ps index ≡ o → pair_count_before_root ps ≡ root
-          go (Some p) e = w.ends p e (ap (λ (qs : List Pair). has_superblock_as_first_slot qs && Thread.leads_on p) (none_behind ps (let l = length-map hs (pair_of disk) in omega arith)))
+          go (Some p) e = w.ends p e (ap (λ (qs : List Pair). has_superblock_in_first_nonempty_pair qs && Thread.may_superblock_chain_continue_after_pair p) (none_behind ps (let l = length-map hs (pair_of disk) in omega arith)))
           go None e = absurd (beyond ps index (let l = length-map hs (pair_of disk) in omega arith) e)

@@ -3,50 +3,50 @@ use Rattle.std.proofs.Common.{ℕ, zero, suc, ◌≡◌, ◌⊎◌, inl, inr, �
 use Rattle.std.proofs.lemmas.Bool.{and_parts, and_from}
 use Rattle.std.proofs.lemmas.List.{drop-map, length-map}
 use Rattle.lfs_model.specs.Disk.{Disk}
-use Rattle.lfs_model.specs.History.{CallEvent}
+use Rattle.lfs_model.specs.History.{DeviceCallEvent}
 use Rattle.lfs_model.specs.Slots.{Gstate, Slot, gstate_xor, zero_gstate, same_pair}
-use Rattle.lfs_model.specs.Thread.{Pair, gstate_of, is_empty_or_superblock, is_hard_tail, leads_on, has_superblock_as_first_slot, pair_count_before_root}
-use Rattle.lfs_model.specs.View.{IsAcceptedImage, IsFileOrDirectoryEntry, IsMoveOrNone, IsNoSuperblockSlot}
+use Rattle.lfs_model.specs.Thread.{Pair, gstate_of_pairs, has_no_slot_or_only_superblock, is_hard_tail, may_superblock_chain_continue_after_pair, has_superblock_in_first_nonempty_pair, pair_count_before_root}
+use Rattle.lfs_model.specs.View.{IsAcceptedImage, IsFileOrDirectoryEntry, HasValidMoveOrNone, IsSomeSlotButNotSuperblock}
 use Rattle.lfs_model.proofs.Counts.{Each}
-use Rattle.lfs_model.proofs.Sites.{SomeIn, among_from, among_parts, among_right, any_from}
+use Rattle.lfs_model.proofs.Sites.{IsTrueOfSomeElement, among_from, among_parts, among_right, any_from}
 use Rattle.lfs_model.proofs.Superblocks.{IsChain, entry_is_other}
 use Rattle.lfs_tag.specs.FieldsView.{move_view}
-use Rattle.lfs_pair.specs.Pair.{address_of_header}
+use Rattle.lfs_pair.specs.Pair.{pair_address_in_header}
 use Rattle.lfs_thread.specs.Kept.{ArePairHeadersOnDisk, PairHeader, pairs_of_headers}
-use Rattle.lfs_mount.specs.Described.{moved_id_in_pair}
+use Rattle.lfs_mount.specs.Described.{id_of_moved_slot_in_pair}
 use Rattle.lfs_mount.specs.SuperblockChain.{AreHeadersOfDiskThread, HasSuperblockChainOfLength}
-use Rattle.lfs_mount.specs.Moves.{AreDirectoryHeadersWithGstate, IsEntryAtIdIfSome, IsMovedSlotEntry, gstate_of_headers, move_is_none_or_known, is_pair_among_addresses}
+use Rattle.lfs_mount.specs.Moves.{AreDirectoryHeadersWithGstate, IsEntryAtIdIfSome, HasEntryAtSlotNamedBySetMove, gstate_of_headers, is_move_none_or_at_addresses, is_pair_among_addresses}
 use Rattle.lfs_mount.proofs.Headers.{pair_of, seen_from}
 
 -- ---- the global state
 
-deltas : (disk : Disk) (history : List CallEvent) (hs : List PairHeader) → ArePairHeadersOnDisk disk history hs → map (λ h. move_view h.move_state) hs ≡ map (λ p. p.content.move) (pairs_of_headers disk hs)
+deltas : (disk : Disk) (history : List DeviceCallEvent) (hs : List PairHeader) → ArePairHeadersOnDisk disk history hs → map (λ h. move_view h.move_state) hs ≡ map (λ p. p.content.move) (pairs_of_headers disk hs)
 deltas disk history [] is = refl
 deltas disk history (h ∷ hs) is = ap₂ (λ (m : Gstate) (ms : List Gstate). m ∷ ms) (seen_from disk history h is.0).move (deltas disk history hs is.1)
 
-pub joined_global : (disk : Disk) (history : List CallEvent) (hs : List PairHeader) → ArePairHeadersOnDisk disk history hs → gstate_of_headers hs ≡ gstate_of (pairs_of_headers disk hs)
+pub joined_global : (disk : Disk) (history : List DeviceCallEvent) (hs : List PairHeader) → ArePairHeadersOnDisk disk history hs → gstate_of_headers hs ≡ gstate_of_pairs (pairs_of_headers disk hs)
 joined_global disk history hs is = ap (fold gstate_xor zero_gstate) (deltas disk history hs is)
 
 -- ---- a pair that the move names
 
 abbrev Named : Gstate → Pair → Type 0
-Named g q = (same_pair g.pair q.at ≡ true) × IsNoSuperblockSlot (slice_get q.content.slots g.id)
+Named g q = (same_pair g.pair q.at ≡ true) × IsSomeSlotButNotSuperblock (slice_get q.content.slots g.id)
 
-other_slot : (g : Gstate) (q : Pair) → g.kind ≡ 0x4ff → same_pair g.pair q.at ≡ true → IsEntryAtIdIfSome (moved_id_in_pair g q) q.content.slots → IsNoSuperblockSlot (slice_get q.content.slots g.id)
+other_slot : (g : Gstate) (q : Pair) → g.kind ≡ 0x4ff → same_pair g.pair q.at ≡ true → IsEntryAtIdIfSome (id_of_moved_slot_in_pair g q) q.content.slots → IsSomeSlotButNotSuperblock (slice_get q.content.slots g.id)
 other_slot g q kind same h =
-    let is : moved_id_in_pair g q ≡ Some g.id = ap (λ b. cond b (Some g.id) None) (and_from (g.kind == 0x4ff) (same_pair g.pair q.at) (eq-eqb g.kind 0x4ff kind) same) in
+    let is : id_of_moved_slot_in_pair g q ≡ Some g.id = ap (λ b. cond b (Some g.id) None) (and_from (g.kind == 0x4ff) (same_pair g.pair q.at) (eq-eqb g.kind 0x4ff kind) same) in
     let there : (t : Slot) × ((slice_get q.content.slots g.id ≡ Some t) × IsFileOrDirectoryEntry t) = subst (λ o. IsEntryAtIdIfSome o q.content.slots) is h in
-    subst IsNoSuperblockSlot (sym there.1.0) (entry_is_other there.0 there.1.1)
+    subst IsSomeSlotButNotSuperblock (sym there.1.0) (entry_is_other there.0 there.1.1)
 
-among_named : (g : Gstate) (qs : List Pair) → g.kind ≡ 0x4ff → is_pair_among_addresses g.pair (map (λ q. q.at) qs) ≡ true → IsMovedSlotEntry g qs → SomeIn (Named g) qs
+among_named : (g : Gstate) (qs : List Pair) → g.kind ≡ 0x4ff → is_pair_among_addresses g.pair (map (λ q. q.at) qs) ≡ true → HasEntryAtSlotNamedBySetMove g qs → IsTrueOfSomeElement (Named g) qs
 among_named g [] kind e h = absurd (cc)
 among_named g (q ∷ qs) kind e h = go (same_pair g.pair q.at) refl e (λ k. among_named g qs kind k h.1)
   where
-    go : (b : Bool) → same_pair g.pair q.at ≡ b → (b || is_pair_among_addresses g.pair (map (λ r. r.at) qs)) ≡ true → (is_pair_among_addresses g.pair (map (λ r. r.at) qs) ≡ true → SomeIn (Named g) qs) → SomeIn (Named g) (q ∷ qs)
+    go : (b : Bool) → same_pair g.pair q.at ≡ b → (b || is_pair_among_addresses g.pair (map (λ r. r.at) qs)) ≡ true → (is_pair_among_addresses g.pair (map (λ r. r.at) qs) ≡ true → IsTrueOfSomeElement (Named g) qs) → IsTrueOfSomeElement (Named g) (q ∷ qs)
     go true is k next = inl (is, other_slot g q kind is h.0)
     go false is k next = inr (next k)
 
-names_among : (g : Gstate) (qs : List Pair) → SomeIn (Named g) qs → is_pair_among_addresses g.pair (map (λ q. q.at) qs) ≡ true
+names_among : (g : Gstate) (qs : List Pair) → IsTrueOfSomeElement (Named g) qs → is_pair_among_addresses g.pair (map (λ q. q.at) qs) ≡ true
 names_among g [] k = absurd k
 names_among g (q ∷ qs) (inl k) = ap (λ b. b || is_pair_among_addresses g.pair (map (λ r. r.at) qs)) k.0
 names_among g (q ∷ qs) (inr k) = go (same_pair g.pair q.at) (names_among g qs k)
@@ -67,52 +67,52 @@ no_move g e =
     let c = and_parts (g.pair.0 == 0) (g.pair.1 == 0) a.1 in
     (eqb-true g.kind 0 b.0, eqb-true g.id 0 b.1, ap₂ (λ (x y : ℕ). (x, y)) (eqb-true g.pair.0 0 c.0) (eqb-true g.pair.1 0 c.1))
 
-move_right : (g : Gstate) (chain dirs : List Pair) → move_is_none_or_known g (map (λ q. q.at) dirs) ≡ true → IsMovedSlotEntry g dirs → IsMoveOrNone (chain ++ dirs) g
+move_right : (g : Gstate) (chain dirs : List Pair) → is_move_none_or_at_addresses g (map (λ q. q.at) dirs) ≡ true → HasEntryAtSlotNamedBySetMove g dirs → HasValidMoveOrNone (chain ++ dirs) g
 move_right g chain dirs e h = go (is_none g) refl e
   where
-    go : (b : Bool) → is_none g ≡ b → (b || (g.kind == 0x4ff && is_pair_among_addresses g.pair (map (λ q. q.at) dirs))) ≡ true → IsMoveOrNone (chain ++ dirs) g
+    go : (b : Bool) → is_none g ≡ b → (b || (g.kind == 0x4ff && is_pair_among_addresses g.pair (map (λ q. q.at) dirs))) ≡ true → HasValidMoveOrNone (chain ++ dirs) g
     go true is k = inl (no_move g is)
     go false is k =
         let both = and_parts (g.kind == 0x4ff) (is_pair_among_addresses g.pair (map (λ q. q.at) dirs)) k in
         let kind = eqb-true g.kind 0x4ff both.0 in
         inr (kind, any_from (Named g) (chain ++ dirs) (among_right (Named g) chain dirs (among_named g dirs kind both.1 h)))
 
-pub known_right : (g : Gstate) (headers : List PairHeader) (chain : List Pair) (p : Pair) (rest : List Pair) → AreDirectoryHeadersWithGstate g headers chain p rest → move_is_none_or_known g (map address_of_header headers) ≡ true
-    → IsMovedSlotEntry g (p ∷ rest) → IsMoveOrNone (chain ++ p ∷ rest) g
-known_right g headers chain p rest has e h = move_right g chain (p ∷ rest) (ap (move_is_none_or_known g) has.at ∙ e) h
+pub known_right : (g : Gstate) (headers : List PairHeader) (chain : List Pair) (p : Pair) (rest : List Pair) → AreDirectoryHeadersWithGstate g headers chain p rest → is_move_none_or_at_addresses g (map pair_address_in_header headers) ≡ true
+    → HasEntryAtSlotNamedBySetMove g (p ∷ rest) → HasValidMoveOrNone (chain ++ p ∷ rest) g
+known_right g headers chain p rest has e h = move_right g chain (p ∷ rest) (ap (is_move_none_or_at_addresses g) has.at ∙ e) h
 
 -- ---- the move of an accepted image names one of the directories' pairs
 
 -- a pair of the superblock's chain in front of the root's first one has no slot, or the superblock alone
-have_bare : (chain : List Pair) (p : Pair) (rest : List Pair) → IsChain chain (p ∷ rest) → Each (λ q. is_empty_or_superblock q.content.slots ≡ true) chain
+have_bare : (chain : List Pair) (p : Pair) (rest : List Pair) → IsChain chain (p ∷ rest) → Each (λ q. has_no_slot_or_only_superblock q.content.slots ≡ true) chain
 have_bare [] p rest h = tt
-have_bare (c ∷ chain) p rest h = go (has_superblock_as_first_slot (chain ++ p ∷ rest) && leads_on c) refl h (have_bare chain p rest)
+have_bare (c ∷ chain) p rest h = go (has_superblock_in_first_nonempty_pair (chain ++ p ∷ rest) && may_superblock_chain_continue_after_pair c) refl h (have_bare chain p rest)
   where
-    go : (b : Bool) → (has_superblock_as_first_slot (chain ++ p ∷ rest) && leads_on c) ≡ b → cond b (1 + pair_count_before_root (chain ++ p ∷ rest)) 0 ≡ length (c ∷ chain)
-        → (IsChain chain (p ∷ rest) → Each (λ q. is_empty_or_superblock q.content.slots ≡ true) chain) → Each (λ q. is_empty_or_superblock q.content.slots ≡ true) (c ∷ chain)
-    go true e k next = ((and_parts (is_empty_or_superblock c.content.slots) (is_hard_tail c.content.tail) (and_parts (has_superblock_as_first_slot (chain ++ p ∷ rest)) (leads_on c) e).1).0, next (omega arith))
+    go : (b : Bool) → (has_superblock_in_first_nonempty_pair (chain ++ p ∷ rest) && may_superblock_chain_continue_after_pair c) ≡ b → cond b (1 + pair_count_before_root (chain ++ p ∷ rest)) 0 ≡ length (c ∷ chain)
+        → (IsChain chain (p ∷ rest) → Each (λ q. has_no_slot_or_only_superblock q.content.slots ≡ true) chain) → Each (λ q. has_no_slot_or_only_superblock q.content.slots ≡ true) (c ∷ chain)
+    go true e k next = ((and_parts (has_no_slot_or_only_superblock c.content.slots) (is_hard_tail c.content.tail) (and_parts (has_superblock_in_first_nonempty_pair (chain ++ p ∷ rest)) (may_superblock_chain_continue_after_pair c) e).1).0, next (omega arith))
     go false e k next = absurd (omega arith)
 
-no_other : (slots : List Slot) (id : ℕ) → is_empty_or_superblock slots ≡ true → IsNoSuperblockSlot (slice_get slots id) → ⊥
+no_other : (slots : List Slot) (id : ℕ) → has_no_slot_or_only_superblock slots ≡ true → IsSomeSlotButNotSuperblock (slice_get slots id) → ⊥
 no_other [] id h k = k
 no_other (s ∷ []) zero h k = absurd (let clash : true ≡ false = sym h ∙ k in cc)
 no_other (s ∷ []) (suc id) h k = k
 no_other (s ∷ t ∷ slots) id h k = absurd (let clash : false ≡ true = h in cc)
 
-none_named : (g : Gstate) (chain : List Pair) → Each (λ q. is_empty_or_superblock q.content.slots ≡ true) chain → SomeIn (Named g) chain → ⊥
+none_named : (g : Gstate) (chain : List Pair) → Each (λ q. has_no_slot_or_only_superblock q.content.slots ≡ true) chain → IsTrueOfSomeElement (Named g) chain → ⊥
 none_named g [] bare k = k
 none_named g (c ∷ chain) bare (inl k) = no_other c.content.slots g.id bare.0 k.1
 none_named g (c ∷ chain) bare (inr k) = none_named g chain bare.1 k
 
-move_known : (g : Gstate) (disk : Disk) (chain : List Pair) (p : Pair) (rest : List Pair) → IsChain chain (p ∷ rest) → IsAcceptedImage disk (chain ++ p ∷ rest) → gstate_of (chain ++ p ∷ rest) ≡ g
-    → move_is_none_or_known g (map (λ q. q.at) (p ∷ rest)) ≡ true
-move_known g disk chain p rest is a e = go (subst (IsMoveOrNone (chain ++ p ∷ rest)) e a.move)
+move_known : (g : Gstate) (disk : Disk) (chain : List Pair) (p : Pair) (rest : List Pair) → IsChain chain (p ∷ rest) → IsAcceptedImage disk (chain ++ p ∷ rest) → gstate_of_pairs (chain ++ p ∷ rest) ≡ g
+    → is_move_none_or_at_addresses g (map (λ q. q.at) (p ∷ rest)) ≡ true
+move_known g disk chain p rest is a e = go (subst (HasValidMoveOrNone (chain ++ p ∷ rest)) e a.move)
   where
-    named : SomeIn (Named g) chain ⊎ SomeIn (Named g) (p ∷ rest) → is_pair_among_addresses g.pair (map (λ q. q.at) (p ∷ rest)) ≡ true
+    named : IsTrueOfSomeElement (Named g) chain ⊎ IsTrueOfSomeElement (Named g) (p ∷ rest) → is_pair_among_addresses g.pair (map (λ q. q.at) (p ∷ rest)) ≡ true
     named (inl k) = absurd (none_named g chain (have_bare chain p rest is) k)
     named (inr k) = names_among g (p ∷ rest) k
 
-    go : IsMoveOrNone (chain ++ p ∷ rest) g → move_is_none_or_known g (map (λ q. q.at) (p ∷ rest)) ≡ true
+    go : HasValidMoveOrNone (chain ++ p ∷ rest) g → is_move_none_or_at_addresses g (map (λ q. q.at) (p ∷ rest)) ≡ true
     go (inl k) =
         ap (λ b. b || (g.kind == 0x4ff && is_pair_among_addresses g.pair (map (λ q. q.at) (p ∷ rest))))
         (and_from (g.kind == 0 && g.id == 0) (g.pair.0 == 0 && g.pair.1 == 0) (and_from (g.kind == 0) (g.id == 0) (eq-eqb g.kind 0 k.0) (eq-eqb g.id 0 k.1))
@@ -125,25 +125,25 @@ move_known g disk chain p rest is a e = go (subst (IsMoveOrNone (chain ++ p ∷ 
         either true y f = refl
         either false y f = f
 
-pub unknown_refused : (g : Gstate) (headers : List PairHeader) (disk : Disk) (chain : List Pair) (p : Pair) (rest : List Pair) → AreDirectoryHeadersWithGstate g headers chain p rest → move_is_none_or_known g (map address_of_header headers) ≡ false
+pub unknown_refused : (g : Gstate) (headers : List PairHeader) (disk : Disk) (chain : List Pair) (p : Pair) (rest : List Pair) → AreDirectoryHeadersWithGstate g headers chain p rest → is_move_none_or_at_addresses g (map pair_address_in_header headers) ≡ false
     → IsAcceptedImage disk (chain ++ p ∷ rest) → ⊥
 unknown_refused g headers disk chain p rest has e a = absurd (
     let known = move_known g disk chain p rest has.chain_is a has.global in
-    let clash : true ≡ false = sym known ∙ ap (move_is_none_or_known g) has.at ∙ e in cc)
+    let clash : true ≡ false = sym known ∙ ap (is_move_none_or_at_addresses g) has.at ∙ e in cc)
 
 -- ---- the headers of the directories' pairs are those behind the superblock's
 
-pub directories_behind : (disk : Disk) (history : List CallEvent) (hs : List PairHeader) (count : ℕ) → AreHeadersOfDiskThread disk history hs → (head : HasSuperblockChainOfLength disk (pairs_of_headers disk hs) count)
+pub directories_behind : (disk : Disk) (history : List DeviceCallEvent) (hs : List PairHeader) (count : ℕ) → AreHeadersOfDiskThread disk history hs → (head : HasSuperblockChainOfLength disk (pairs_of_headers disk hs) count)
     → AreDirectoryHeadersWithGstate (gstate_of_headers hs) (drop count hs) head.chain head.p head.rest
 directories_behind disk history hs count has head = record {
   at = ap (map (λ q. q.at)) (sym (ap (drop count) head.parts ∙ drop_at head.chain (head.p ∷ head.rest) count head.chain_is)) ∙ ap (map (λ q. q.at)) (drop-map (pair_of disk) count hs) ∙ addresses (drop count hs);
-  global = ap gstate_of (sym head.parts) ∙ sym (joined_global disk history hs has.each);
+  global = ap gstate_of_pairs (sym head.parts) ∙ sym (joined_global disk history hs has.each);
   chain_is = ap pair_count_before_root (sym head.parts) ∙ head.before ∙ sym head.chain_is;
 }
   where
-    addresses : (xs : List PairHeader) → map (λ q. q.at) (map (pair_of disk) xs) ≡ map address_of_header xs
+    addresses : (xs : List PairHeader) → map (λ q. q.at) (map (pair_of disk) xs) ≡ map pair_address_in_header xs
     addresses [] = refl
-    addresses (x ∷ xs) = ap (λ (ys : List (ℕ × ℕ)). address_of_header x ∷ ys) (addresses xs)
+    addresses (x ∷ xs) = ap (λ (ys : List (ℕ × ℕ)). pair_address_in_header x ∷ ys) (addresses xs)
 
 -- there is one of them
 pub directories_within : (disk : Disk) (hs : List PairHeader) (count : ℕ) → HasSuperblockChainOfLength disk (pairs_of_headers disk hs) count → count < length hs

@@ -13,7 +13,7 @@ use Rattle.lfs_model.specs.SkipLists.{IsSkipList}
 use Rattle.lfs_tag.specs.declared.content.Slot.{Slot}
 use Rattle.lfs_tag.specs.ContentView.{slot_view}
 use Rattle.lfs_mount.specs.Entries.{directory_entry_of_raw_slot}
-use Rattle.lfs_mount.specs.Marking.{MarksFreeBlocksUsed, MarksFreeBlocksOfList, MarksFreeBlocksOfLists, list_of_entry, file_lists_of_raw_slots, list_blocks_to_mark}
+use Rattle.lfs_mount.specs.Marking.{MarksFreeBlocksUsed, MarksFreeBlocksOfList, MarksFreeBlocksOfLists, skip_list_of_entry, file_lists_of_raw_slots, skip_list_blocks_from_last_to_first}
 use Rattle.lfs_mount.specs.ListsView.{file_lists_view}
 use Rattle.lfs_mount.proofs.Found.{get_left, get_right}
 
@@ -35,12 +35,12 @@ marks_split (x ∷ xs) ys old new (free, n) = let r = marks_split xs ys _ new n 
 pub lists_joined : (disk : Disk) (xs ys : List (ℕ × ℕ)) (old mid new : BlockStateList) → MarksFreeBlocksOfLists disk old xs mid → MarksFreeBlocksOfLists disk mid ys new → MarksFreeBlocksOfLists disk old (xs ++ ys) new
 lists_joined disk xs ys old mid new h k = record {
   lists = All-append (λ (x : ℕ × ℕ). IsSkipList disk.blocks disk.block_size x.0 x.1) xs ys h.lists k.lists;
-  marked = subst (λ bs. MarksFreeBlocksUsed old bs new) (sym (flat_map-append (list_blocks_to_mark disk) xs ys)) (marks_append (flat_map (list_blocks_to_mark disk) xs) (flat_map (list_blocks_to_mark disk) ys) old mid new h.marked k.marked);
+  marked = subst (λ bs. MarksFreeBlocksUsed old bs new) (sym (flat_map-append (skip_list_blocks_from_last_to_first disk) xs ys)) (marks_append (flat_map (skip_list_blocks_from_last_to_first disk) xs) (flat_map (skip_list_blocks_from_last_to_first disk) ys) old mid new h.marked k.marked);
 }
 
 pub lists_parted : (disk : Disk) (xs ys : List (ℕ × ℕ)) (old new : BlockStateList) → MarksFreeBlocksOfLists disk old (xs ++ ys) new → (mid : BlockStateList) × MarksFreeBlocksOfLists disk old xs mid × MarksFreeBlocksOfLists disk mid ys new
 lists_parted disk xs ys old new h =
-    let s = marks_split (flat_map (list_blocks_to_mark disk) xs) (flat_map (list_blocks_to_mark disk) ys) old new (subst (λ bs. MarksFreeBlocksUsed old bs new) (flat_map-append (list_blocks_to_mark disk) xs ys) h.marked) in
+    let s = marks_split (flat_map (skip_list_blocks_from_last_to_first disk) xs) (flat_map (skip_list_blocks_from_last_to_first disk) ys) old new (subst (λ bs. MarksFreeBlocksUsed old bs new) (flat_map-append (skip_list_blocks_from_last_to_first disk) xs ys) h.marked) in
     let P : ℕ × ℕ → Type 0 = λ x. IsSkipList disk.blocks disk.block_size x.0 x.1 in
     let all = recursion_from_All P (xs ++ ys) h.lists in
     (s.0, record { lists = All-from_recursion P xs (each_left P xs ys all); marked = s.1 }, record { lists = All-from_recursion P ys (each_right P xs ys all); marked = s.2 })
@@ -48,10 +48,10 @@ lists_parted disk xs ys old new h =
 -- ---- the lists of slots
 
 abbrev pub list_view : Slot → Option (ℕ × ℕ)
-list_view s = option_and_then list_of_entry (directory_entry_of_raw_slot (slot_view s))
+list_view s = option_and_then skip_list_of_entry (directory_entry_of_raw_slot (slot_view s))
 
 lists-append : (xs ys : List Slot) → file_lists_view (xs ++ ys) ≡ file_lists_view xs ++ file_lists_view ys
-lists-append xs ys = ap file_lists_of_raw_slots (map-append slot_view xs ys) ∙ filter_map-append (λ (s : RawSlot). option_and_then list_of_entry (directory_entry_of_raw_slot s)) (map slot_view xs) (map slot_view ys)
+lists-append xs ys = ap file_lists_of_raw_slots (map-append slot_view xs ys) ∙ filter_map-append (λ (s : RawSlot). option_and_then skip_list_of_entry (directory_entry_of_raw_slot s)) (map slot_view xs) (map slot_view ys)
 
 pub lists_next : (slots : List Slot) (i : ℕ) (s : Slot) (o : Option (ℕ × ℕ)) → slice_get slots i ≡ Some s → list_view s ≡ o → file_lists_view (take (i + 1) slots) ≡ file_lists_view (take i slots) ++ cons_option o []
 lists_next slots i s o e f =
@@ -70,8 +70,8 @@ pub lists_more : (disk : Disk) (slots : List Slot) (i : ℕ) (s : Slot) (l : ℕ
 lists_more disk slots i s l old mid new e f h k = subst (λ ls. MarksFreeBlocksOfLists disk old ls new) (sym (lists_next slots i s (Some l) e f)) (record {
   lists = All-append (λ (x : ℕ × ℕ). IsSkipList disk.blocks disk.block_size x.0 x.1) (file_lists_view (take i slots)) (l ∷ []) h.lists
       (All-cons (λ (x : ℕ × ℕ). IsSkipList disk.blocks disk.block_size x.0 x.1) l [] k.list (λ j d lt. absurd (omega arith)));
-  marked = subst (λ bs. MarksFreeBlocksUsed old bs new) (sym (flat_map-append (list_blocks_to_mark disk) (file_lists_view (take i slots)) (l ∷ []) ∙ ap (λ bs. flat_map (list_blocks_to_mark disk) (file_lists_view (take i slots)) ++ bs) (append-nil (list_blocks_to_mark disk l))))
-      (marks_append (flat_map (list_blocks_to_mark disk) (file_lists_view (take i slots))) (list_blocks_to_mark disk l) old mid new h.marked k.marked);
+  marked = subst (λ bs. MarksFreeBlocksUsed old bs new) (sym (flat_map-append (skip_list_blocks_from_last_to_first disk) (file_lists_view (take i slots)) (l ∷ []) ∙ ap (λ bs. flat_map (skip_list_blocks_from_last_to_first disk) (file_lists_view (take i slots)) ++ bs) (append-nil (skip_list_blocks_from_last_to_first disk l))))
+      (marks_append (flat_map (skip_list_blocks_from_last_to_first disk) (file_lists_view (take i slots))) (skip_list_blocks_from_last_to_first disk l) old mid new h.marked k.marked);
 })
 
 -- one that can't be marked
@@ -87,14 +87,14 @@ lists_fail disk slots i s l old mid new e f h fails all =
     let list : IsSkipList disk.blocks disk.block_size l.0 l.1 =
     subst (λ (x : ℕ × ℕ). IsSkipList disk.blocks disk.block_size x.0 x.1) (get_or_from_slice_get (file_lists_view slots) (length front + 0) l l at)
     (all.lists (length front + 0) l (slice_get_within (file_lists_view slots) (length front + 0) l at)) in
-    let whole : MarksFreeBlocksUsed old ((flat_map (list_blocks_to_mark disk) front ++ list_blocks_to_mark disk l) ++ flat_map (list_blocks_to_mark disk) back) new =
+    let whole : MarksFreeBlocksUsed old ((flat_map (skip_list_blocks_from_last_to_first disk) front ++ skip_list_blocks_from_last_to_first disk l) ++ flat_map (skip_list_blocks_from_last_to_first disk) back) new =
     subst (λ bs. MarksFreeBlocksUsed old bs new)
-    (ap (flat_map (list_blocks_to_mark disk)) parts ∙ flat_map-append (list_blocks_to_mark disk) (front ++ l ∷ []) back
-    ∙ ap (λ bs. bs ++ flat_map (list_blocks_to_mark disk) back) (flat_map-append (list_blocks_to_mark disk) front (l ∷ []) ∙ ap (λ bs. flat_map (list_blocks_to_mark disk) front ++ bs) (append-nil (list_blocks_to_mark disk l))))
+    (ap (flat_map (skip_list_blocks_from_last_to_first disk)) parts ∙ flat_map-append (skip_list_blocks_from_last_to_first disk) (front ++ l ∷ []) back
+    ∙ ap (λ bs. bs ++ flat_map (skip_list_blocks_from_last_to_first disk) back) (flat_map-append (skip_list_blocks_from_last_to_first disk) front (l ∷ []) ∙ ap (λ bs. flat_map (skip_list_blocks_from_last_to_first disk) front ++ bs) (append-nil (skip_list_blocks_from_last_to_first disk l))))
     all.marked in
-    let first = marks_split (flat_map (list_blocks_to_mark disk) front ++ list_blocks_to_mark disk l) (flat_map (list_blocks_to_mark disk) back) old new whole in
-    let second = marks_split (flat_map (list_blocks_to_mark disk) front) (list_blocks_to_mark disk l) old first.0 first.1 in
+    let first = marks_split (flat_map (skip_list_blocks_from_last_to_first disk) front ++ skip_list_blocks_from_last_to_first disk l) (flat_map (skip_list_blocks_from_last_to_first disk) back) old new whole in
+    let second = marks_split (flat_map (skip_list_blocks_from_last_to_first disk) front) (skip_list_blocks_from_last_to_first disk l) old first.0 first.1 in
     fails first.0 (record {
       list = list;
-      marked = subst (λ (m : BlockStateList). MarksFreeBlocksUsed m (list_blocks_to_mark disk l) first.0) (marks_same (flat_map (list_blocks_to_mark disk) front) old second.0 mid second.1 h.marked) second.2;
+      marked = subst (λ (m : BlockStateList). MarksFreeBlocksUsed m (skip_list_blocks_from_last_to_first disk l) first.0) (marks_same (flat_map (skip_list_blocks_from_last_to_first disk) front) old second.0 mid second.1 h.marked) second.2;
     })

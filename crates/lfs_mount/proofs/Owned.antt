@@ -6,17 +6,17 @@ use Rattle.std.proofs.lemmas.Bool.{cases_eq}
 use Rattle.std.proofs.lemmas.List.{get_or-set_same, get_or-set_other, length-set}
 use Rattle.std.proofs.lemmas.List.Elements.{All-head, All-tail}
 use Rattle.std.proofs.lemmas.Option.{same_Some, slice_get_within, slice_get-get_or, get_or_from_slice_get}
-use Rattle.lfs_model.specs.BlockSets.{AreExactlyTheInFlightBlocks, AreExactlyTheUsedBlocks, BlockState, BlockStateList, IsFree, IsUsed}
+use Rattle.lfs_model.specs.BlockSets.{AreExactlyTheInFlightBlocks, AreExactlyTheUsedBlocks, BlockState, BlockStateList, IsBlockFree, IsBlockUsed}
 use Rattle.lfs_model.specs.BlockSets.BlockState.{Free, InFlight, Used}
-use Rattle.lfs_model.proofs.BlockSets.{Contains-count, count-Contains}
-use Rattle.lfs_model.proofs.Counts.{count, count_here}
-use Rattle.lfs_mount.specs.Accepted.{MapUsesOnlyTheseBlocks}
+use Rattle.lfs_model.proofs.BlockSets.{Contains-occurrence_count_of_number, occurrence_count_of_number-Contains}
+use Rattle.lfs_model.proofs.Counts.{occurrence_count_of_number, count_here}
+use Rattle.lfs_mount.specs.Accepted.{MapUsesExactlyTheseBlocks}
 use Rattle.lfs_mount.proofs.ReadCounts.{marks_length}
-use Rattle.lfs_mount.specs.Marking.{MarksFreeBlocksUsed, HasExactlyUsedBlocks}
+use Rattle.lfs_mount.specs.Marking.{MarksFreeBlocksUsed, HasExactlyTheseUsedBlocks}
 use Rattle.lfs_mount.proofs.Found.{get_left, get_right, Part, left, right, part}
 use Rattle.lfs_mount.proofs.Searches.{place_once, distinct_by_places}
 
-one_owned : (sets : BlockStateList) (bs : List ℕ) (b : ℕ) → HasExactlyUsedBlocks sets bs → IsFree sets b → HasExactlyUsedBlocks (set sets b Used) (bs ++ b ∷ [])
+one_owned : (sets : BlockStateList) (bs : List ℕ) (b : ℕ) → HasExactlyTheseUsedBlocks sets bs → IsBlockFree sets b → HasExactlyTheseUsedBlocks (set sets b Used) (bs ++ b ∷ [])
 one_owned sets bs b h free = record {
   distinct = distinct_by_places (bs ++ b ∷ []) (λ i m x e f. once i m x (part bs (b ∷ []) i x e) (part bs (b ∷ []) m x f));
   used = λ i x e. each i x (part bs (b ∷ []) i x e);
@@ -54,9 +54,9 @@ one_owned sets bs b h free = record {
     each i x (right j p e) = subst (λ w. slice_get (set sets b Used) w ≡ Some Used) (sym (last j x e).1) here
 
 -- blocks that were marked are owned, and none of them twice
-pub owned_more : (sets : BlockStateList) (bs more : List ℕ) (new : BlockStateList) → HasExactlyUsedBlocks sets bs → MarksFreeBlocksUsed sets more new → HasExactlyUsedBlocks new (bs ++ more)
-owned_more sets bs [] new h e = subst (λ xs. HasExactlyUsedBlocks new xs) (sym (append-nil bs)) (subst (λ (s : BlockStateList). HasExactlyUsedBlocks s bs) e h)
-owned_more sets bs (b ∷ more) new h (free, marks) = subst (λ xs. HasExactlyUsedBlocks new xs) (append_assoc bs (b ∷ []) more) (owned_more (set sets b Used) (bs ++ b ∷ []) more new (one_owned sets bs b h free) marks)
+pub owned_more : (sets : BlockStateList) (bs more : List ℕ) (new : BlockStateList) → HasExactlyTheseUsedBlocks sets bs → MarksFreeBlocksUsed sets more new → HasExactlyTheseUsedBlocks new (bs ++ more)
+owned_more sets bs [] new h e = subst (λ xs. HasExactlyTheseUsedBlocks new xs) (sym (append-nil bs)) (subst (λ (s : BlockStateList). HasExactlyTheseUsedBlocks s bs) e h)
+owned_more sets bs (b ∷ more) new h (free, marks) = subst (λ xs. HasExactlyTheseUsedBlocks new xs) (append_assoc bs (b ∷ []) more) (owned_more (set sets b Used) (bs ++ b ∷ []) more new (one_owned sets bs b h free) marks)
 
 not_owned : (bs : List ℕ) (b : ℕ) (more : List ℕ) → IsDistinct nat_eq (bs ++ b ∷ more) → (i : ℕ) → slice_get bs i ≡ Some b → ⊥
 not_owned bs b more distinct i e =
@@ -65,7 +65,7 @@ not_owned bs b more distinct i e =
     absurd (omega arith)
 
 -- and blocks that no one owns can be marked
-pub can_mark : (sets : BlockStateList) (bs more : List ℕ) → HasExactlyUsedBlocks sets bs → All (λ b. b < length sets) more → IsDistinct nat_eq (bs ++ more) → (new : BlockStateList) × MarksFreeBlocksUsed sets more new
+pub can_mark : (sets : BlockStateList) (bs more : List ℕ) → HasExactlyTheseUsedBlocks sets bs → All (λ b. b < length sets) more → IsDistinct nat_eq (bs ++ more) → (new : BlockStateList) × MarksFreeBlocksUsed sets more new
 can_mark sets bs [] h within distinct = (sets, refl)
 can_mark sets bs (b ∷ more) h within distinct =
     let apart : (i : ℕ) → slice_get bs i ≡ Some b → ⊥ = not_owned bs b more distinct in
@@ -77,35 +77,35 @@ can_mark sets bs (b ∷ more) h within distinct =
 
 -- ---- which blocks a map has
 
-pub counted_place : (b : ℕ) (bs : List ℕ) → 1 ≤ count b bs → (i : ℕ) × (slice_get bs i ≡ Some b)
+pub counted_place : (b : ℕ) (bs : List ℕ) → 1 ≤ occurrence_count_of_number b bs → (i : ℕ) × (slice_get bs i ≡ Some b)
 counted_place b [] some = absurd (omega arith)
 counted_place b (x ∷ bs) some = go (nat_eq b x) refl some (counted_place b bs)
   where
-    go : (t : Bool) → nat_eq b x ≡ t → 1 ≤ cond t 1 0 + count b bs → (1 ≤ count b bs → (i : ℕ) × (slice_get bs i ≡ Some b)) → (i : ℕ) × (slice_get (x ∷ bs) i ≡ Some b)
+    go : (t : Bool) → nat_eq b x ≡ t → 1 ≤ cond t 1 0 + occurrence_count_of_number b bs → (1 ≤ occurrence_count_of_number b bs → (i : ℕ) × (slice_get bs i ≡ Some b)) → (i : ℕ) × (slice_get (x ∷ bs) i ≡ Some b)
     go true e k next = (0, ap (λ (y : ℕ). Some y) (sym (eqb-true b x e)))
     go false e k next = let i = next (omega arith) in (suc i.0, i.1)
 
-pub placed_count : (b : ℕ) (bs : List ℕ) (i : ℕ) → slice_get bs i ≡ Some b → 1 ≤ count b bs
+pub placed_count : (b : ℕ) (bs : List ℕ) (i : ℕ) → slice_get bs i ≡ Some b → 1 ≤ occurrence_count_of_number b bs
 placed_count b [] i e = absurd (cc)
-placed_count b (x ∷ bs) zero e = let h = count_here b bs in subst (λ (y : ℕ). 1 ≤ count b (y ∷ bs)) (sym (same_Some x b e)) (omega arith)
+placed_count b (x ∷ bs) zero e = let h = count_here b bs in subst (λ (y : ℕ). 1 ≤ occurrence_count_of_number b (y ∷ bs)) (sym (same_Some x b e)) (omega arith)
 placed_count b (x ∷ bs) (suc i) e = let h = placed_count b bs i e in omega arith
 
-module _ (sets : BlockStateList) (bs cs : List ℕ) (owns : HasExactlyUsedBlocks sets bs) (same : (b : ℕ) → count b cs ≡ count b bs) where
-  used_if : (b : ℕ) → Contains cs b → IsUsed sets b
-  used_if b c = let i = counted_place b bs (let k = count-Contains cs b c in let e = same b in omega arith) in owns.used i.0 b i.1
+module _ (sets : BlockStateList) (bs cs : List ℕ) (owns : HasExactlyTheseUsedBlocks sets bs) (same : (b : ℕ) → occurrence_count_of_number b cs ≡ occurrence_count_of_number b bs) where
+  used_if : (b : ℕ) → Contains cs b → IsBlockUsed sets b
+  used_if b c = let i = counted_place b bs (let k = occurrence_count_of_number-Contains cs b c in let e = same b in omega arith) in owns.used i.0 b i.1
 
-  free_if : (b : ℕ) → b < length sets → count b bs ≡ 0 → IsFree sets b
+  free_if : (b : ℕ) → b < length sets → occurrence_count_of_number b bs ≡ 0 → IsBlockFree sets b
   free_if b within none = owns.free b within (λ i e. absurd (let h = placed_count b bs i e in omega arith))
 
-  in_list : (b : ℕ) (s : BlockState) → slice_get sets b ≡ Some s → (s ≡ Free → ⊥) → 1 ≤ count b bs
-  in_list b s e taken = go (count b bs) refl
+  in_list : (b : ℕ) (s : BlockState) → slice_get sets b ≡ Some s → (s ≡ Free → ⊥) → 1 ≤ occurrence_count_of_number b bs
+  in_list b s e taken = go (occurrence_count_of_number b bs) refl
     where
-      go : (n : ℕ) → count b bs ≡ n → 1 ≤ n
+      go : (n : ℕ) → occurrence_count_of_number b bs ≡ n → 1 ≤ n
       go zero k = absurd (taken (same_Some s Free (sym e ∙ free_if b (slice_get_within sets b s e) k)))
       go (suc n) k = omega arith
 
   pub are_used : AreExactlyTheUsedBlocks sets cs
-  are_used b = (λ u. Contains-count cs b (let k = in_list b Used u (λ e. absurd (cc)) in let e = same b in omega arith), used_if b)
+  are_used b = (λ u. Contains-occurrence_count_of_number cs b (let k = in_list b Used u (λ e. absurd (cc)) in let e = same b in omega arith), used_if b)
 
   pub none_flies : AreExactlyTheInFlightBlocks sets []
   none_flies b = (
@@ -116,7 +116,7 @@ module _ (sets : BlockStateList) (bs cs : List ℕ) (owns : HasExactlyUsedBlocks
   )
 
 -- the blocks that were there and those that were marked, in any order
-pub has_only : (old new : BlockStateList) (bs more cs : List ℕ) → HasExactlyUsedBlocks old bs → MarksFreeBlocksUsed old more new → ((b : ℕ) → count b cs ≡ count b (bs ++ more)) → MapUsesOnlyTheseBlocks old new cs
+pub has_only : (old new : BlockStateList) (bs more cs : List ℕ) → HasExactlyTheseUsedBlocks old bs → MarksFreeBlocksUsed old more new → ((b : ℕ) → occurrence_count_of_number b cs ≡ occurrence_count_of_number b (bs ++ more)) → MapUsesExactlyTheseBlocks old new cs
 has_only old new bs more cs owns marks same =
     let all = owned_more old bs more new owns marks in
     record { len = marks_length more old new marks; used = are_used new (bs ++ more) cs all same; none_in_flight = none_flies new (bs ++ more) cs all same }

@@ -10,27 +10,27 @@ use Rattle.lfs_model.specs.BlockSets.{BlockStateList}
 use Rattle.lfs_model.specs.Disk.{Disk, block_count}
 use Rattle.lfs_model.specs.SkipLists.{IsSkipList, list_blocks_from_head, list_block_count_for_size}
 use Rattle.lfs_model.specs.Slots.{Slot, Struct, Inline, Ctz, Branch, Gstate, is_superblock, same_pair}
-use Rattle.lfs_model.specs.Thread.{Pair, blocks_of_pairs, gstate_of, slots_not_moved, entries_not_moved}
-use Rattle.lfs_model.specs.View.{IsFileOrDirectoryEntry, IsSuperblockThenEntries, HasInlineStruct, IsListIfCtz, IsMoveOrNone, IsNoSuperblockSlot, IsAcceptedImage}
+use Rattle.lfs_model.specs.Thread.{Pair, blocks_of_pairs, gstate_of_pairs, slots_not_moved, entries_not_moved}
+use Rattle.lfs_model.specs.View.{IsFileOrDirectoryEntry, IsSuperblockThenEntries, HasInlineStruct, IsSkipListIfCtzStruct, HasValidMoveOrNone, IsSomeSlotButNotSuperblock, IsAcceptedImage}
 use Rattle.lfs_model.specs.Shown.{skip_list_blocks_of_struct, all_slots_not_moved, used_blocks}
-use Rattle.lfs_model.proofs.Counts.{Each, each_append, each_left, each_right, count, count_append, each_counted, each_from_counted, once_from_distinct, distinct_from_once}
+use Rattle.lfs_model.proofs.Counts.{Each, each_append, each_left, each_right, occurrence_count_of_number, count_append, each_counted, each_from_counted, once_from_distinct, distinct_from_once}
 use Rattle.lfs_model.proofs.Listings.{blocks_avoid}
 use Rattle.lfs_model.proofs.Pairs.{pair_back, pair_on}
-use Rattle.lfs_model.proofs.Sites.{SomeIn, among_from}
+use Rattle.lfs_model.proofs.Sites.{IsTrueOfSomeElement, among_from}
 use Rattle.lfs_model.proofs.Superblocks.{StructMark, HoldSlots, SlotsAs, entry_is_other}
 use Rattle.lfs_mount.specs.Reaching.{DirectoryGraph}
-use Rattle.lfs_mount.specs.Marking.{HasExactlyUsedBlocks, list_blocks_to_mark}
-use Rattle.lfs_mount.specs.Described.{moved_id_in_pair}
+use Rattle.lfs_mount.specs.Marking.{HasExactlyTheseUsedBlocks, skip_list_blocks_from_last_to_first}
+use Rattle.lfs_mount.specs.Described.{id_of_moved_slot_in_pair}
 use Rattle.std.specs.List.{cons_option}
 use Rattle.lfs_model.proofs.Superblocks.{IsChain, hold_from_rules}
 use Rattle.lfs_mount.specs.Entries.{entry_reference_of_struct, empty_directory_scan}
-use Rattle.lfs_mount.specs.Marking.{list_of_entry}
-use Rattle.lfs_mount.specs.Described.{ArePairsDescribedByMembers}
-use Rattle.lfs_device.specs.Bytes.{HasBytes}
+use Rattle.lfs_mount.specs.Marking.{skip_list_of_entry}
+use Rattle.lfs_mount.specs.Described.{AreDescriptionsOfPairsOnDisk}
+use Rattle.lfs_device.specs.Bytes.{AreAllBlockElementsBelow256}
 use Rattle.lfs_mount.specs.Checked.{BeginsWithSuperblockSlot}
-use Rattle.lfs_mount.specs.Passed.{PassesOverDirectoryPairs}
-use Rattle.lfs_mount.specs.declared.pass.Member.{Member}
-use Rattle.lfs_mount.proofs.Accepts.{Starting, counted, count-reverse, fronted_pair}
+use Rattle.lfs_mount.specs.Passed.{ScansPairsIntoDirectoryGraph}
+use Rattle.lfs_mount.specs.declared.pass.DirectoryPair.{DirectoryPair}
+use Rattle.lfs_mount.proofs.Accepts.{Starting, counted, occurrence_count_of_number-reverse, fronted_pair}
 use Rattle.lfs_mount.proofs.Passable.{can_pass}
 use Rattle.lfs_mount.proofs.Owned.{can_mark}
 use Rattle.lfs_mount.proofs.Rules.{behind, without, unmoved-without, IsMovedEntry, lists_of, HaveEntries}
@@ -38,31 +38,31 @@ use Rattle.lfs_mount.proofs.Rules.{behind, without, unmoved-without, IsMovedEntr
 -- ---- the slot that a move names
 
 abbrev Named : Gstate → Pair → Type 0
-Named g q = (same_pair g.pair q.at ≡ true) × IsNoSuperblockSlot (slice_get q.content.slots g.id)
+Named g q = (same_pair g.pair q.at ≡ true) × IsSomeSlotButNotSuperblock (slice_get q.content.slots g.id)
 
 -- two pairs of a thread aren't at one address
-none_named : (g : Gstate) (at : ℕ × ℕ) (qs : List Pair) → same_pair g.pair at ≡ true → Each (λ r. same_pair at r.at ≡ false) qs → SomeIn (Named g) qs → ⊥
+none_named : (g : Gstate) (at : ℕ × ℕ) (qs : List Pair) → same_pair g.pair at ≡ true → Each (λ r. same_pair at r.at ≡ false) qs → IsTrueOfSomeElement (Named g) qs → ⊥
 none_named g at [] e h k = k
 none_named g at (r ∷ qs) e h (inl k) = absurd (let same = pair_on at g.pair r.at (pair_back g.pair at e) k.0 in let clash : true ≡ false = sym same ∙ h.0 in cc)
 none_named g at (r ∷ qs) e h (inr k) = none_named g at qs e h.1 k
 
-no_other : (g : Gstate) (at : ℕ × ℕ) (qs : List Pair) → same_pair g.pair at ≡ true → Each (λ r. same_pair at r.at ≡ false) qs → Each (λ r. same_pair g.pair r.at ≡ true → IsNoSuperblockSlot (slice_get r.content.slots g.id)) qs
+no_other : (g : Gstate) (at : ℕ × ℕ) (qs : List Pair) → same_pair g.pair at ≡ true → Each (λ r. same_pair at r.at ≡ false) qs → Each (λ r. same_pair g.pair r.at ≡ true → IsSomeSlotButNotSuperblock (slice_get r.content.slots g.id)) qs
 no_other g at [] e h = tt
 no_other g at (r ∷ qs) e h = ((λ f. absurd (let same = pair_on at g.pair r.at (pair_back g.pair at e) f in let clash : true ≡ false = sym same ∙ h.0 in cc)), no_other g at qs e h.1)
 
-each_named : (g : Gstate) (qs : List Pair) → IsDistinct nat_eq (blocks_of_pairs qs) → SomeIn (Named g) qs → Each (λ r. same_pair g.pair r.at ≡ true → IsNoSuperblockSlot (slice_get r.content.slots g.id)) qs
+each_named : (g : Gstate) (qs : List Pair) → IsDistinct nat_eq (blocks_of_pairs qs) → IsTrueOfSomeElement (Named g) qs → Each (λ r. same_pair g.pair r.at ≡ true → IsSomeSlotButNotSuperblock (slice_get r.content.slots g.id)) qs
 unfolding IsDistinct
 each_named g [] h k = tt
 each_named g (q ∷ qs) h (inl k) = ((λ e. k.1), no_other g q.at qs k.0 (blocks_avoid q.at qs h.0.1))
 each_named g (q ∷ qs) h (inr k) = ((λ e. absurd (none_named g q.at qs e (blocks_avoid q.at qs h.0.1) k)), each_named g qs h.1.1 k)
 
-entry_there : (slots : List Slot) (id : ℕ) (o : Option Slot) → slice_get slots id ≡ o → IsNoSuperblockSlot o → Each IsFileOrDirectoryEntry slots → (t : Slot) × ((slice_get slots id ≡ Some t) × IsFileOrDirectoryEntry t)
+entry_there : (slots : List Slot) (id : ℕ) (o : Option Slot) → slice_get slots id ≡ o → IsSomeSlotButNotSuperblock o → Each IsFileOrDirectoryEntry slots → (t : Slot) × ((slice_get slots id ≡ Some t) × IsFileOrDirectoryEntry t)
 entry_there slots id None e k h = absurd k
 entry_there [] id (Some t) e k h = absurd (cc)
 entry_there (s ∷ slots) zero (Some t) e k h = (s, (refl, h.0))
 entry_there (s ∷ slots) (suc id) (Some t) e k h = entry_there slots id (Some t) e k h.1
 
-entry_behind : (first : Bool) (bytes : List ℕ) (slots : List Slot) (id : ℕ) → SlotsAs (StructMark bytes) first slots → IsNoSuperblockSlot (slice_get slots id)
+entry_behind : (first : Bool) (bytes : List ℕ) (slots : List Slot) (id : ℕ) → SlotsAs (StructMark bytes) first slots → IsSomeSlotButNotSuperblock (slice_get slots id)
     → (t : Slot) × ((slice_get slots id ≡ Some t) × IsFileOrDirectoryEntry t)
 entry_behind false bytes slots id h k = entry_there slots id (slice_get slots id) refl k (recursion_from_All IsFileOrDirectoryEntry slots h)
 entry_behind true bytes [] id h k = absurd h
@@ -70,7 +70,7 @@ entry_behind true bytes (s ∷ slots) zero h k = absurd (let clash : true ≡ fa
 entry_behind true bytes (s ∷ slots) (suc id) h k = entry_there slots id (slice_get slots id) refl k (recursion_from_All IsFileOrDirectoryEntry slots h.2)
 
 moved_entry : (g : Gstate) (first : Bool) (bytes : List ℕ) (q : Pair) → SlotsAs (StructMark bytes) first q.content.slots
-    → (g.kind ≡ 0x4ff → same_pair g.pair q.at ≡ true → IsNoSuperblockSlot (slice_get q.content.slots g.id)) → IsMovedEntry (moved_id_in_pair g q) q.content.slots
+    → (g.kind ≡ 0x4ff → same_pair g.pair q.at ≡ true → IsSomeSlotButNotSuperblock (slice_get q.content.slots g.id)) → IsMovedEntry (id_of_moved_slot_in_pair g q) q.content.slots
 moved_entry g first bytes q h k = go (g.kind == 0x4ff && same_pair g.pair q.at) refl
   where
     go : (b : Bool) → (g.kind == 0x4ff && same_pair g.pair q.at) ≡ b → IsMovedEntry (cond b (Some g.id) None) q.content.slots
@@ -78,18 +78,18 @@ moved_entry g first bytes q h k = go (g.kind == 0x4ff && same_pair g.pair q.at) 
     go false e = tt
 
 pub moved_entries : (g : Gstate) (first : Bool) (bytes : List ℕ) (qs : List Pair) → HoldSlots (StructMark bytes) first qs
-    → Each (λ q. g.kind ≡ 0x4ff → same_pair g.pair q.at ≡ true → IsNoSuperblockSlot (slice_get q.content.slots g.id)) qs → Each (λ q. IsMovedEntry (moved_id_in_pair g q) q.content.slots) qs
+    → Each (λ q. g.kind ≡ 0x4ff → same_pair g.pair q.at ≡ true → IsSomeSlotButNotSuperblock (slice_get q.content.slots g.id)) qs → Each (λ q. IsMovedEntry (id_of_moved_slot_in_pair g q) q.content.slots) qs
 moved_entries g first bytes [] h k = tt
 moved_entries g first bytes (q ∷ qs) h k = (moved_entry g first bytes q h.0 k.0, moved_entries g false bytes qs h.1 k.1)
 
-if_set : (g : Gstate) (qs : List Pair) → (g.kind ≡ 0x4ff → Each (λ r. same_pair g.pair r.at ≡ true → IsNoSuperblockSlot (slice_get r.content.slots g.id)) qs)
-    → Each (λ q. g.kind ≡ 0x4ff → same_pair g.pair q.at ≡ true → IsNoSuperblockSlot (slice_get q.content.slots g.id)) qs
+if_set : (g : Gstate) (qs : List Pair) → (g.kind ≡ 0x4ff → Each (λ r. same_pair g.pair r.at ≡ true → IsSomeSlotButNotSuperblock (slice_get r.content.slots g.id)) qs)
+    → Each (λ q. g.kind ≡ 0x4ff → same_pair g.pair q.at ≡ true → IsSomeSlotButNotSuperblock (slice_get q.content.slots g.id)) qs
 if_set g [] h = tt
 if_set g (q ∷ qs) h = ((λ e. (h e).0), if_set g qs (λ e. (h e).1))
 
 -- what a right move names is an entry
-pub move_named : (g : Gstate) (ps : List Pair) → IsDistinct nat_eq (blocks_of_pairs ps) → IsMoveOrNone ps g
-    → Each (λ q. g.kind ≡ 0x4ff → same_pair g.pair q.at ≡ true → IsNoSuperblockSlot (slice_get q.content.slots g.id)) ps
+pub move_named : (g : Gstate) (ps : List Pair) → IsDistinct nat_eq (blocks_of_pairs ps) → HasValidMoveOrNone ps g
+    → Each (λ q. g.kind ≡ 0x4ff → same_pair g.pair q.at ≡ true → IsSomeSlotButNotSuperblock (slice_get q.content.slots g.id)) ps
 move_named g ps h (inl k) = if_set g ps (λ e. absurd (let clash : 0 ≡ 0x4ff = sym k.0 ∙ e in omega arith))
 move_named g ps h (inr k) = if_set g ps (λ e. each_named g ps h (among_from (Named g) ps k.1))
 
@@ -110,45 +110,45 @@ entries_left true bytes (Some zero) (s ∷ slots) h (t, (e, entry)) =
     absurd (let other = entry_is_other t entry in let same = ap is_superblock (same_Some s t e) in let clash : true ≡ false = sym h.0 ∙ same ∙ other in cc)
 entries_left true bytes (Some (suc id)) (s ∷ slots) h m = entries_without slots id (recursion_from_All IsFileOrDirectoryEntry slots h.2)
 
-pub have_entries : (g : Gstate) (first : Bool) (bytes : List ℕ) (qs : List Pair) → HoldSlots (StructMark bytes) first qs → Each (λ q. IsMovedEntry (moved_id_in_pair g q) q.content.slots) qs → HaveEntries g first qs
+pub have_entries : (g : Gstate) (first : Bool) (bytes : List ℕ) (qs : List Pair) → HoldSlots (StructMark bytes) first qs → Each (λ q. IsMovedEntry (id_of_moved_slot_in_pair g q) q.content.slots) qs → HaveEntries g first qs
 have_entries g first bytes [] h m = tt
 have_entries g first bytes (q ∷ qs) h m = (
   subst (λ ss. All IsFileOrDirectoryEntry (behind first ss)) (sym (unmoved-without g q))
-      (All-from_recursion IsFileOrDirectoryEntry (behind first (without (moved_id_in_pair g q) q.content.slots)) (entries_left first bytes (moved_id_in_pair g q) q.content.slots h.0 m.0)),
+      (All-from_recursion IsFileOrDirectoryEntry (behind first (without (id_of_moved_slot_in_pair g q) q.content.slots)) (entries_left first bytes (id_of_moved_slot_in_pair g q) q.content.slots h.0 m.0)),
   have_entries g false bytes qs h.1 m.1,
 )
 
 -- ---- lists that can be marked
 
-one_listed : (disk : Disk) (s : Slot) (slots : List Slot) (t : Struct) → s.struct ≡ t → IsListIfCtz disk t → Each (λ l. IsSkipList disk.blocks disk.block_size l.0 l.1) (lists_of slots)
+one_listed : (disk : Disk) (s : Slot) (slots : List Slot) (t : Struct) → s.struct ≡ t → IsSkipListIfCtzStruct disk t → Each (λ l. IsSkipList disk.blocks disk.block_size l.0 l.1) (lists_of slots)
     → Each (λ l. IsSkipList disk.blocks disk.block_size l.0 l.1) (lists_of (s ∷ slots))
-one_listed disk s slots (Inline bytes) e k h = subst (λ o. Each (λ l. IsSkipList disk.blocks disk.block_size l.0 l.1) (cons_option o (lists_of slots))) (sym (ap (λ t. list_of_entry (s.name, entry_reference_of_struct t)) e)) h
-one_listed disk s slots (Ctz head size) e k h = subst (λ o. Each (λ l. IsSkipList disk.blocks disk.block_size l.0 l.1) (cons_option o (lists_of slots))) (sym (ap (λ t. list_of_entry (s.name, entry_reference_of_struct t)) e)) (k, h)
-one_listed disk s slots (Branch to) e k h = subst (λ o. Each (λ l. IsSkipList disk.blocks disk.block_size l.0 l.1) (cons_option o (lists_of slots))) (sym (ap (λ t. list_of_entry (s.name, entry_reference_of_struct t)) e)) h
+one_listed disk s slots (Inline bytes) e k h = subst (λ o. Each (λ l. IsSkipList disk.blocks disk.block_size l.0 l.1) (cons_option o (lists_of slots))) (sym (ap (λ t. skip_list_of_entry (s.name, entry_reference_of_struct t)) e)) h
+one_listed disk s slots (Ctz head size) e k h = subst (λ o. Each (λ l. IsSkipList disk.blocks disk.block_size l.0 l.1) (cons_option o (lists_of slots))) (sym (ap (λ t. skip_list_of_entry (s.name, entry_reference_of_struct t)) e)) (k, h)
+one_listed disk s slots (Branch to) e k h = subst (λ o. Each (λ l. IsSkipList disk.blocks disk.block_size l.0 l.1) (cons_option o (lists_of slots))) (sym (ap (λ t. skip_list_of_entry (s.name, entry_reference_of_struct t)) e)) h
 
-are_lists : (disk : Disk) (slots : List Slot) → Each (λ s. IsListIfCtz disk s.struct) slots → Each (λ l. IsSkipList disk.blocks disk.block_size l.0 l.1) (lists_of slots)
+are_lists : (disk : Disk) (slots : List Slot) → Each (λ s. IsSkipListIfCtzStruct disk s.struct) slots → Each (λ l. IsSkipList disk.blocks disk.block_size l.0 l.1) (lists_of slots)
 are_lists disk [] h = tt
 are_lists disk (s ∷ slots) h = one_listed disk s slots s.struct refl h.0 (are_lists disk slots h.1)
 
-pairs_lists : (disk : Disk) (g : Gstate) (bytes : List ℕ) (first : Bool) (qs : List Pair) → Starting bytes first qs → HaveEntries g first qs → Each (λ q. IsMovedEntry (moved_id_in_pair g q) q.content.slots) qs
-    → Each (λ s. IsListIfCtz disk s.struct) (flat_map (slots_not_moved g) qs) → Each (λ l. IsSkipList disk.blocks disk.block_size l.0 l.1) (flat_map (λ q. lists_of (entries_not_moved g q)) qs)
+pairs_lists : (disk : Disk) (g : Gstate) (bytes : List ℕ) (first : Bool) (qs : List Pair) → Starting bytes first qs → HaveEntries g first qs → Each (λ q. IsMovedEntry (id_of_moved_slot_in_pair g q) q.content.slots) qs
+    → Each (λ s. IsSkipListIfCtzStruct disk s.struct) (flat_map (slots_not_moved g) qs) → Each (λ l. IsSkipList disk.blocks disk.block_size l.0 l.1) (flat_map (λ q. lists_of (entries_not_moved g q)) qs)
 pairs_lists disk g bytes first [] s h m k = tt
 pairs_lists disk g bytes first (q ∷ qs) s h m k =
     let f = fronted_pair g bytes first q s.0 m.0 h.0 in
     let P : ℕ × ℕ → Type 0 = λ x. IsSkipList disk.blocks disk.block_size x.0 x.1 in
-    let Q : Slot → Type 0 = λ x. IsListIfCtz disk x.struct in
+    let Q : Slot → Type 0 = λ x. IsSkipListIfCtzStruct disk x.struct in
     each_append P (lists_of (entries_not_moved g q)) (flat_map (λ r. lists_of (entries_not_moved g r)) qs)
     (are_lists disk (entries_not_moved g q) (each_right Q f.front (entries_not_moved g q) (subst (Each Q) f.parts (each_left Q (slots_not_moved g q) (flat_map (slots_not_moved g) qs) k))))
     (pairs_lists disk g bytes false qs s.1 h.1 m.1 (each_right Q (slots_not_moved g q) (flat_map (slots_not_moved g) qs) k))
 
-in_range : (disk : Disk) (n : ℕ) (ls : List (ℕ × ℕ)) → n ≡ block_count disk → Each (λ l. IsSkipList disk.blocks disk.block_size l.0 l.1) ls → Each (λ b. b < n) (flat_map (list_blocks_to_mark disk) ls)
+in_range : (disk : Disk) (n : ℕ) (ls : List (ℕ × ℕ)) → n ≡ block_count disk → Each (λ l. IsSkipList disk.blocks disk.block_size l.0 l.1) ls → Each (λ b. b < n) (flat_map (skip_list_blocks_from_last_to_first disk) ls)
 in_range disk n [] e h = tt
 in_range disk n (l ∷ ls) e h =
     let P : ℕ → Type 0 = λ b. b < n in
     let back : List ℕ = list_blocks_from_head disk.blocks (list_block_count_for_size disk.block_size l.1) l.0 in
     let there : Each P back = recursion_from_All P back (λ k d lt. let r = h.0.blocks.in_range k d lt in omega arith) in
-    each_append P (list_blocks_to_mark disk l) (flat_map (list_blocks_to_mark disk) ls)
-    (each_from_counted P (reverse back) (λ b le. each_counted P back there b (let same = count-reverse b back in omega arith)))
+    each_append P (skip_list_blocks_from_last_to_first disk l) (flat_map (skip_list_blocks_from_last_to_first disk) ls)
+    (each_from_counted P (reverse back) (λ b le. each_counted P back there b (let same = occurrence_count_of_number-reverse b back in omega arith)))
     (in_range disk n ls e h.1)
 
 others_start : (bytes : List ℕ) (qs : List Pair) → Starting bytes false qs
@@ -161,35 +161,35 @@ begins bytes (s ∷ slots) h = (h.0, h.1)
 
 -- ---- the pass
 
-pub accepted_passes : (disk : Disk) (chain : List Pair) (p : Pair) (rest : List Pair) (ms : List Member) (firsts : List (ℕ × ℕ)) (sets : BlockStateList)
-    → IsChain chain (p ∷ rest) → HasBytes disk.blocks → length sets ≡ block_count disk → HasExactlyUsedBlocks sets (blocks_of_pairs (chain ++ p ∷ rest)) → ArePairsDescribedByMembers disk (gstate_of (chain ++ p ∷ rest)) true (p ∷ rest) ms
-    → IsAcceptedImage disk (chain ++ p ∷ rest) → (graph : DirectoryGraph) × (end : BlockStateList) × PassesOverDirectoryPairs disk firsts empty_directory_scan sets ms graph end
+pub accepted_passes : (disk : Disk) (chain : List Pair) (p : Pair) (rest : List Pair) (ms : List DirectoryPair) (firsts : List (ℕ × ℕ)) (sets : BlockStateList)
+    → IsChain chain (p ∷ rest) → AreAllBlockElementsBelow256 disk.blocks → length sets ≡ block_count disk → HasExactlyTheseUsedBlocks sets (blocks_of_pairs (chain ++ p ∷ rest)) → AreDescriptionsOfPairsOnDisk disk (gstate_of_pairs (chain ++ p ∷ rest)) true (p ∷ rest) ms
+    → IsAcceptedImage disk (chain ++ p ∷ rest) → (graph : DirectoryGraph) × (end : BlockStateList) × ScansPairsIntoDirectoryGraph disk firsts empty_directory_scan sets ms graph end
 accepted_passes disk chain p rest ms firsts sets chain_is has_bytes len owns members a =
     let ps : List Pair = chain ++ p ∷ rest in
     let dirs : List Pair = p ∷ rest in
-    let g : Gstate = gstate_of ps in
+    let g : Gstate = gstate_of_pairs ps in
     let bytes : List ℕ = a.superblock.0 in
     let hold = (hold_from_rules (StructMark bytes) chain p rest chain_is a.superblock.1.1 a.root a.slots).1 in
     let starting : Starting bytes true dirs = ((λ e. begins bytes p.content.slots hold.0), others_start bytes rest) in
-    let moved : Each (λ q. IsMovedEntry (moved_id_in_pair g q) q.content.slots) dirs =
-    moved_entries g true bytes dirs hold (each_right (λ q. g.kind ≡ 0x4ff → same_pair g.pair q.at ≡ true → IsNoSuperblockSlot (slice_get q.content.slots g.id)) chain dirs (move_named g ps a.thread.distinct a.move)) in
+    let moved : Each (λ q. IsMovedEntry (id_of_moved_slot_in_pair g q) q.content.slots) dirs =
+    moved_entries g true bytes dirs hold (each_right (λ q. g.kind ≡ 0x4ff → same_pair g.pair q.at ≡ true → IsSomeSlotButNotSuperblock (slice_get q.content.slots g.id)) chain dirs (move_named g ps a.thread.distinct a.move)) in
     let entries : HaveEntries g true dirs = have_entries g true bytes dirs hold moved in
-    let Q : Slot → Type 0 = λ x. IsListIfCtz disk x.struct in
+    let Q : Slot → Type 0 = λ x. IsSkipListIfCtzStruct disk x.struct in
     let P : ℕ × ℕ → Type 0 = λ x. IsSkipList disk.blocks disk.block_size x.0 x.1 in
     let all : List (ℕ × ℕ) = flat_map (λ q. lists_of (entries_not_moved g q)) dirs in
     let parts : all_slots_not_moved ps ≡ flat_map (slots_not_moved g) chain ++ flat_map (slots_not_moved g) dirs = flat_map-append (slots_not_moved g) chain dirs in
     let lists : Each P all =
     pairs_lists disk g bytes true dirs starting entries moved (each_right Q (flat_map (slots_not_moved g) chain) (flat_map (slots_not_moved g) dirs) (subst (Each Q) parts (recursion_from_All Q (all_slots_not_moved ps) a.lists))) in
-    let marked : List ℕ = flat_map (list_blocks_to_mark disk) all in
+    let marked : List ℕ = flat_map (skip_list_blocks_from_last_to_first disk) all in
     let blocks : List Slot → List ℕ = λ slots. flat_map (λ s. skip_list_blocks_of_struct disk s.struct) slots in
     let within : Each (λ b. b < length sets) marked = in_range disk (length sets) all len lists in
     let distinct : IsDistinct nat_eq (blocks_of_pairs ps ++ marked) = distinct_from_once (blocks_of_pairs ps ++ marked) (λ b.
     let once = once_from_distinct (used_blocks disk ps) a.owned_once b in
     let used = count_append b (blocks_of_pairs ps) (blocks (all_slots_not_moved ps)) in
-    let both : count b (blocks (all_slots_not_moved ps)) ≡ count b (blocks (flat_map (slots_not_moved g) chain)) + count b (blocks (flat_map (slots_not_moved g) dirs)) =
-    ap (count b) (ap blocks parts ∙ flat_map-append (λ (s : Slot). skip_list_blocks_of_struct disk s.struct) (flat_map (slots_not_moved g) chain) (flat_map (slots_not_moved g) dirs))
+    let both : occurrence_count_of_number b (blocks (all_slots_not_moved ps)) ≡ occurrence_count_of_number b (blocks (flat_map (slots_not_moved g) chain)) + occurrence_count_of_number b (blocks (flat_map (slots_not_moved g) dirs)) =
+    ap (occurrence_count_of_number b) (ap blocks parts ∙ flat_map-append (λ (s : Slot). skip_list_blocks_of_struct disk s.struct) (flat_map (slots_not_moved g) chain) (flat_map (slots_not_moved g) dirs))
     ∙ count_append b (blocks (flat_map (slots_not_moved g) chain)) (blocks (flat_map (slots_not_moved g) dirs)) in
-    let same : count b (blocks (flat_map (slots_not_moved g) dirs)) ≡ count b marked = counted disk g bytes b true dirs starting entries moved in
+    let same : occurrence_count_of_number b (blocks (flat_map (slots_not_moved g) dirs)) ≡ occurrence_count_of_number b marked = counted disk g bytes b true dirs starting entries moved in
     let whole = count_append b (blocks_of_pairs ps) marked in
     omega arith) in
     let marks = can_mark sets (blocks_of_pairs ps) marked owns (All-from_recursion (λ b. b < length sets) marked within) distinct in

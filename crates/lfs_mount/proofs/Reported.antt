@@ -4,7 +4,7 @@ use Rattle.lfs_device.specs.declared.device.BlockDevice.{Ghosts}
 use Rattle.lfs_device.specs.declared.error.Error.{Error}
 use Rattle.lfs_device.specs.declared.error.Error.TheVariants.{Io}
 use Rattle.lfs_device.specs.Calls.{ReadsOnly, ReportsFaults}
-use Rattle.lfs_model.specs.History.{faults}
+use Rattle.lfs_model.specs.History.{fault_count_of_history}
 use Rattle.lfs_model.proofs.Histories.{AreCallsSinceOnlyReads-trans}
 
 pub then_reads : {D : Type 0} {g : Ghosts D} {old mid new : D} → ReadsOnly g old mid → ReadsOnly g mid new → ReadsOnly g old new
@@ -22,12 +22,12 @@ err_same : {Y : Type 0} {e f : Error} → ◌≡◌ {A = Result Y Error} (Err e)
 err_same same = cc
 
 -- the same faults, behind calls without one
-pub reports_error : {D X Y : Type 0} {g : Ghosts D} {old mid new : D} {r : Result X Error} {e f : Error} → r ≡ Err e → e ≡ f → faults (g.history mid) ≡ faults (g.history old) → ReportsFaults {X = Y} g mid new (Err f)
+pub reports_error : {D X Y : Type 0} {g : Ghosts D} {old mid new : D} {r : Result X Error} {e f : Error} → r ≡ Err e → e ≡ f → fault_count_of_history (g.history mid) ≡ fault_count_of_history (g.history old) → ReportsFaults {X = Y} g mid new (Err f)
     → ReportsFaults g old new r
 reports_error {Y = Y} {f = f} is from same reports = record {
   fault = λ gives. let io : f ≡ Io = same_error is from gives in let rose = reports.fault (ap Err io) in omega (arith, same, rose);
   no_fault = λ other. reports.no_fault (λ gives. other (is ∙ ap Err (from ∙ err_same {Y = Y} gives))) ∙ same;
 }
 
-pub reports_ok : {D X : Type 0} {g : Ghosts D} {old new : D} {x : X} → faults (g.history new) ≡ faults (g.history old) → ReportsFaults {X = X} g old new (Ok x)
+pub reports_ok : {D X : Type 0} {g : Ghosts D} {old new : D} {x : X} → fault_count_of_history (g.history new) ≡ fault_count_of_history (g.history old) → ReportsFaults {X = X} g old new (Ok x)
 reports_ok same = record { fault = λ gives. absurd (cc); no_fault = λ other. same }

@@ -9,32 +9,32 @@ use Rattle.lfs_model.specs.Disk.{Disk, block_bytes_on_disk}
 use Rattle.lfs_model.specs.Log.{log_entries_of_block}
 use Rattle.lfs_model.specs.Names.{Name}
 use Rattle.lfs_model.specs.BlockSets.{BlockStateList}
-use Rattle.lfs_model.specs.Content.{RawSlot, RawContent, slots_if_all_complete, content_if_slots_are_complete, content_after_log_entries, empty_raw_content}
+use Rattle.lfs_model.specs.Content.{RawSlot, RawPairContent, slots_if_names_and_structs_present, pair_content_if_slots_complete, content_after_log_entries, empty_raw_pair_content}
 use Rattle.lfs_model.specs.Slots.{Slot, Gstate, is_superblock, same_pair}
 use Rattle.lfs_model.specs.Thread.{Pair, starts_with_superblock, slots_not_moved, entries_not_moved, is_hard_tail}
 use Rattle.lfs_model.specs.View.{IsFileOrDirectoryEntry}
 use Rattle.lfs_model.proofs.Completed.{AreComplete, complete_parts, complete_remove, completed_parts}
 use Rattle.lfs_model.proofs.Counts.{Each}
 use Rattle.lfs_model.proofs.Superblocks.{entry_is_other}
-use Rattle.lfs_mount.specs.Reaching.{DirectoryVertex, DirectoryGraph}
-use Rattle.lfs_mount.specs.Entries.{NameAndReference, name_and_reference_of_slot, directory_entry_of_raw_slot, directory_scan_with_entries, directory_scan_with_entry, empty_directory_scan}
+use Rattle.lfs_mount.specs.Reaching.{DirectoryVertexWithSoundnessAndBranches, DirectoryGraph}
+use Rattle.lfs_mount.specs.Entries.{EntryNameAndReference, name_and_reference_of_slot, directory_entry_of_raw_slot, directory_scan_with_entries, directory_scan_with_entry, empty_directory_scan}
 use Rattle.lfs_mount.specs.Scanned.{directory_scan_after_slots}
-use Rattle.lfs_mount.specs.Marking.{MarksFreeBlocksOfLists, list_of_entry, file_lists_of_raw_slots}
-use Rattle.lfs_mount.specs.Taken.{AddsPairToDirectoryScan, raw_slots_not_moved, slots_after_superblock, entries_of_member}
-use Rattle.lfs_mount.specs.Described.{moved_id_in_pair, IsPairDescribedByMember, ArePairsDescribedByMembers}
-use Rattle.lfs_mount.specs.Passed.{directory_scan_after_pair, graph_with_ended_directory, PassesOverDirectoryPairs}
-use Rattle.lfs_mount.specs.declared.pass.Member.{Member}
+use Rattle.lfs_mount.specs.Marking.{MarksFreeBlocksOfLists, skip_list_of_entry, file_lists_of_raw_slots}
+use Rattle.lfs_mount.specs.Taken.{AddsPairToDirectoryScan, raw_slots_not_moved, slots_after_superblock, entries_of_described_pair}
+use Rattle.lfs_mount.specs.Described.{id_of_moved_slot_in_pair, IsDescriptionOfPairOnDisk, AreDescriptionsOfPairsOnDisk}
+use Rattle.lfs_mount.specs.Passed.{directory_scan_kept_only_after_hard_tail, graph_with_ended_directory, ScansPairsIntoDirectoryGraph}
+use Rattle.lfs_mount.specs.declared.pass.DirectoryPair.{DirectoryPair}
 use Rattle.std.proofs.Math.Seq.{drop-nil}
 use Rattle.std.specs.List.{flat_map}
 use Rattle.lfs_model.specs.Disk.{block_count}
 use Rattle.lfs_model.specs.Content.{content_of_pair_at}
 use Rattle.lfs_model.specs.Slots.{Tail}
-use Rattle.lfs_model.specs.Thread.{anchor_pair_address, pair_named_by_tail, AreLinkedByTails, IsThread, gstate_of, pair_count_before_root, pairs_of_all_directories, directories_of_pairs}
+use Rattle.lfs_model.specs.Thread.{anchor_pair_address, pair_address_named_by_tail, AreLinkedByTails, IsThreadOfMetadataPairs, gstate_of_pairs, pair_count_before_root, pairs_from_root_directory_on, directories_of_pairs}
 use Rattle.lfs_model.specs.Shown.{directories_in_thread}
 use Rattle.lfs_model.proofs.Listings.{Ends}
 use Rattle.lfs_mount.specs.Places.{IsGraphOfDirectories}
 use Rattle.lfs_mount.specs.Directories.{IsGraphOfThreadDirectories}
-use Rattle.lfs_mount.specs.Entries.{directory_first_addresses}
+use Rattle.lfs_mount.specs.Entries.{first_pair_addresses_of_directories}
 use Rattle.lfs_mount.proofs.Runs.{shown_in, vertices, entries_of, Named, thread_drawn}
 use Rattle.lfs_mount.proofs.MarkedLists.{lists_joined}
 use Rattle.lfs_mount.proofs.Scans.{entry_some, scan_some}
@@ -55,11 +55,11 @@ abbrev pub IsMovedEntry : Option ℕ → List Slot → Type 0
 IsMovedEntry None slots = Unit {0}
 IsMovedEntry (Some id) slots = (t : Slot) × ((slice_get slots id ≡ Some t) × IsFileOrDirectoryEntry t)
 
-some_entry : (o : Option NameAndReference) → is_some o ≡ true → (e : NameAndReference) × (o ≡ Some e)
+some_entry : (o : Option EntryNameAndReference) → is_some o ≡ true → (e : EntryNameAndReference) × (o ≡ Some e)
 some_entry None e = absurd (cc)
 some_entry (Some x) e = (x, refl)
 
-entry_at : (raws : List RawSlot) (slots : List Slot) (id : ℕ) → slots_if_all_complete raws ≡ Some slots → is_some (option_and_then {U = NameAndReference} directory_entry_of_raw_slot (slice_get raws id)) ≡ true
+entry_at : (raws : List RawSlot) (slots : List Slot) (id : ℕ) → slots_if_names_and_structs_present raws ≡ Some slots → is_some (option_and_then {U = EntryNameAndReference} directory_entry_of_raw_slot (slice_get raws id)) ≡ true
     → (t : Slot) × ((slice_get slots id ≡ Some t) × IsFileOrDirectoryEntry t)
 entry_at [] slots id c e = absurd (cc)
 entry_at (r ∷ raws) slots zero c e =
@@ -73,23 +73,23 @@ entry_at (r ∷ raws) slots (suc id) c e =
     (x.0, (ap (λ ss. slice_get ss (suc id)) p.all_are ∙ x.1.0, x.1.1))
 
 pub record IsWithout (moved : Option ℕ) (slots : List Slot) (raws : List RawSlot) : Type 0 where
-  pub are : slots_if_all_complete raws ≡ Some (without moved slots)
+  pub are : slots_if_names_and_structs_present raws ≡ Some (without moved slots)
   pub entry : IsMovedEntry moved slots
 
-pub without_moved : (moved : Option ℕ) (raws kept : List RawSlot) (slots : List Slot) → slots_if_all_complete raws ≡ Some slots → raw_slots_not_moved moved raws ≡ Some kept → IsWithout moved slots kept
-without_moved None raws kept slots c e = record { are = ap slots_if_all_complete (sym (same_Some raws kept e)) ∙ c; entry = tt }
-without_moved (Some id) raws kept slots c e = go (is_some (option_and_then {U = NameAndReference} directory_entry_of_raw_slot (slice_get raws id))) refl e
+pub without_moved : (moved : Option ℕ) (raws kept : List RawSlot) (slots : List Slot) → slots_if_names_and_structs_present raws ≡ Some slots → raw_slots_not_moved moved raws ≡ Some kept → IsWithout moved slots kept
+without_moved None raws kept slots c e = record { are = ap slots_if_names_and_structs_present (sym (same_Some raws kept e)) ∙ c; entry = tt }
+without_moved (Some id) raws kept slots c e = go (is_some (option_and_then {U = EntryNameAndReference} directory_entry_of_raw_slot (slice_get raws id))) refl e
   where
-    go : (b : Bool) → is_some (option_and_then {U = NameAndReference} directory_entry_of_raw_slot (slice_get raws id)) ≡ b → cond b (Some (remove raws id)) None ≡ Some kept → IsWithout (Some id) slots kept
-    go true f g = record { are = ap slots_if_all_complete (sym (same_Some (remove raws id) kept g)) ∙ complete_remove raws slots id c; entry = entry_at raws slots id c f }
+    go : (b : Bool) → is_some (option_and_then {U = EntryNameAndReference} directory_entry_of_raw_slot (slice_get raws id)) ≡ b → cond b (Some (remove raws id)) None ≡ Some kept → IsWithout (Some id) slots kept
+    go true f g = record { are = ap slots_if_names_and_structs_present (sym (same_Some (remove raws id) kept g)) ∙ complete_remove raws slots id c; entry = entry_at raws slots id c f }
     go false f g = absurd (cc)
 
-pub without_superblock : (first : Bool) (raws kept : List RawSlot) (slots : List Slot) → slots_if_all_complete raws ≡ Some slots → slots_after_superblock first raws ≡ Some kept → slots_if_all_complete kept ≡ Some (behind first slots)
-without_superblock false raws kept slots c e = ap slots_if_all_complete (sym (same_Some raws kept e)) ∙ c
+pub without_superblock : (first : Bool) (raws kept : List RawSlot) (slots : List Slot) → slots_if_names_and_structs_present raws ≡ Some slots → slots_after_superblock first raws ≡ Some kept → slots_if_names_and_structs_present kept ≡ Some (behind first slots)
+without_superblock false raws kept slots c e = ap slots_if_names_and_structs_present (sym (same_Some raws kept e)) ∙ c
 without_superblock true [] kept slots c e = absurd (cc)
 without_superblock true (r ∷ raws) kept slots c e =
     let p = complete_parts r raws slots c in
-    ap slots_if_all_complete (sym (same_Some raws kept e)) ∙ p.are_others ∙ ap (λ ss. Some (behind true ss)) (sym p.all_are)
+    ap slots_if_names_and_structs_present (sym (same_Some raws kept e)) ∙ p.are_others ∙ ap (λ ss. Some (behind true ss)) (sym p.all_are)
 
 -- ---- what is visible
 
@@ -114,7 +114,7 @@ visible_behind true [] s h = refl
 visible_behind true (x ∷ slots) s h =
     ap (λ b. cond (not b) (x ∷ filter (λ y. not (is_superblock y)) slots) (filter (λ y. not (is_superblock y)) slots)) (s refl) ∙ all_visible slots h
 
-pub unmoved-without : (g : Gstate) (p : Pair) → slots_not_moved g p ≡ without (moved_id_in_pair g p) p.content.slots
+pub unmoved-without : (g : Gstate) (p : Pair) → slots_not_moved g p ≡ without (id_of_moved_slot_in_pair g p) p.content.slots
 unmoved-without g p = go (g.kind == 0x4ff && same_pair g.pair p.at)
   where
     go : (b : Bool) → cond b (remove p.content.slots g.id) p.content.slots ≡ without (cond b (Some g.id) None) p.content.slots
@@ -123,21 +123,21 @@ unmoved-without g p = go (g.kind == 0x4ff && same_pair g.pair p.at)
 
 -- ---- the lists in slots
 
-some_parts : {X : Type 0} (f : NameAndReference → Option X) (y : X) (o : Option NameAndReference) → option_and_then f o ≡ Some y → (x : NameAndReference) × ((o ≡ Some x) × (f x ≡ Some y))
+some_parts : {X : Type 0} (f : EntryNameAndReference → Option X) (y : X) (o : Option EntryNameAndReference) → option_and_then f o ≡ Some y → (x : EntryNameAndReference) × ((o ≡ Some x) × (f x ≡ Some y))
 some_parts f y None e = absurd (cc)
 some_parts f y (Some x) e = (x, (refl, e))
 
-one_list : (r : RawSlot) (raws : List RawSlot) (slots : List Slot) (p : AreComplete r raws slots) (Q : NameAndReference → Type 0) → ((x : NameAndReference) → Q x → file_lists_of_raw_slots raws ≡ filter_map (λ s. list_of_entry (name_and_reference_of_slot s)) p.others)
-    → (x : NameAndReference) × ((directory_entry_of_raw_slot r ≡ Some x) × Q x) → file_lists_of_raw_slots (r ∷ raws) ≡ filter_map (λ s. list_of_entry (name_and_reference_of_slot s)) slots
+one_list : (r : RawSlot) (raws : List RawSlot) (slots : List Slot) (p : AreComplete r raws slots) (Q : EntryNameAndReference → Type 0) → ((x : EntryNameAndReference) → Q x → file_lists_of_raw_slots raws ≡ filter_map (λ s. skip_list_of_entry (name_and_reference_of_slot s)) p.others)
+    → (x : EntryNameAndReference) × ((directory_entry_of_raw_slot r ≡ Some x) × Q x) → file_lists_of_raw_slots (r ∷ raws) ≡ filter_map (λ s. skip_list_of_entry (name_and_reference_of_slot s)) slots
 one_list r raws slots p Q others (x, (f, q)) =
     let h = entry_some r x f in
-    ap₂ (λ o ls. cons_option (option_and_then list_of_entry o) ls) f (others x q)
-    ∙ ap (λ (y : NameAndReference). cons_option (list_of_entry y) (filter_map (λ s. list_of_entry (name_and_reference_of_slot s)) p.others)) (sym h.same ∙ ap name_and_reference_of_slot (same_Some h.slot p.first (sym h.is ∙ p.is_first)))
-    ∙ ap (filter_map (λ s. list_of_entry (name_and_reference_of_slot s))) (sym p.all_are)
+    ap₂ (λ o ls. cons_option (option_and_then skip_list_of_entry o) ls) f (others x q)
+    ∙ ap (λ (y : EntryNameAndReference). cons_option (skip_list_of_entry y) (filter_map (λ s. skip_list_of_entry (name_and_reference_of_slot s)) p.others)) (sym h.same ∙ ap name_and_reference_of_slot (same_Some h.slot p.first (sym h.is ∙ p.is_first)))
+    ∙ ap (filter_map (λ s. skip_list_of_entry (name_and_reference_of_slot s))) (sym p.all_are)
 
-pub same_lists : (by : NameOrder) (firsts : List (ℕ × ℕ)) (known new : Name × DirectoryVertex) (raws : List RawSlot) (slots : List Slot) → directory_scan_after_slots by firsts known raws ≡ Some new → slots_if_all_complete raws ≡ Some slots
-    → file_lists_of_raw_slots raws ≡ filter_map (λ s. list_of_entry (name_and_reference_of_slot s)) slots
-same_lists by firsts known new [] slots e c = ap (filter_map (λ s. list_of_entry (name_and_reference_of_slot s))) (same_Some [] slots c)
+pub same_lists : (by : NameOrder) (firsts : List (ℕ × ℕ)) (known new : Name × DirectoryVertexWithSoundnessAndBranches) (raws : List RawSlot) (slots : List Slot) → directory_scan_after_slots by firsts known raws ≡ Some new → slots_if_names_and_structs_present raws ≡ Some slots
+    → file_lists_of_raw_slots raws ≡ filter_map (λ s. skip_list_of_entry (name_and_reference_of_slot s)) slots
+same_lists by firsts known new [] slots e c = ap (filter_map (λ s. skip_list_of_entry (name_and_reference_of_slot s))) (same_Some [] slots c)
 same_lists by firsts known new (r ∷ raws) slots e c =
     let p = complete_parts r raws slots c in
     one_list r raws slots p (λ x. directory_scan_after_slots by firsts (directory_scan_with_entry by firsts known x) raws ≡ Some new) (λ x f. same_lists by firsts (directory_scan_with_entry by firsts known x) new raws p.others f p.are_others)
@@ -146,16 +146,16 @@ same_lists by firsts known new (r ∷ raws) slots e c =
 -- ---- one pair
 
 abbrev pub lists_of : List Slot → List (ℕ × ℕ)
-lists_of slots = filter_map (λ s. list_of_entry (name_and_reference_of_slot s)) slots
+lists_of slots = filter_map (λ s. skip_list_of_entry (name_and_reference_of_slot s)) slots
 
-pub record IsTaken (disk : Disk) (firsts : List (ℕ × ℕ)) (g : Gstate) (first : Bool) (p : Pair) (known : Name × DirectoryVertex) (sets : BlockStateList) (new : Name × DirectoryVertex) (marked : BlockStateList) : Type 0 where
+pub record IsTaken (disk : Disk) (firsts : List (ℕ × ℕ)) (g : Gstate) (first : Bool) (p : Pair) (known : Name × DirectoryVertexWithSoundnessAndBranches) (sets : BlockStateList) (new : Name × DirectoryVertexWithSoundnessAndBranches) (marked : BlockStateList) : Type 0 where
   pub kept : All IsFileOrDirectoryEntry (behind first (slots_not_moved g p))
   pub entries : All IsFileOrDirectoryEntry (entries_not_moved g p)
   pub known_is : new ≡ directory_scan_with_entries disk.order firsts known (map name_and_reference_of_slot (entries_not_moved g p))
   pub lists : MarksFreeBlocksOfLists disk sets (lists_of (entries_not_moved g p)) marked
-  pub moved : IsMovedEntry (moved_id_in_pair g p) p.content.slots
+  pub moved : IsMovedEntry (id_of_moved_slot_in_pair g p) p.content.slots
 
-pub kept_parts : (m : Member) (raws kept : List RawSlot) → entries_of_member m raws ≡ Some kept → (mid : List RawSlot) × ((raw_slots_not_moved m.moved raws ≡ Some mid) × (slots_after_superblock m.has_superblock mid ≡ Some kept))
+pub kept_parts : (m : DirectoryPair) (raws kept : List RawSlot) → entries_of_described_pair m raws ≡ Some kept → (mid : List RawSlot) × ((raw_slots_not_moved m.moved raws ≡ Some mid) × (slots_after_superblock m.has_superblock mid ≡ Some kept))
 kept_parts m raws kept e = go (raw_slots_not_moved m.moved raws) refl e
   where
     go : (o : Option (List RawSlot)) → raw_slots_not_moved m.moved raws ≡ o → option_and_then (slots_after_superblock m.has_superblock) o ≡ Some kept
@@ -164,29 +164,29 @@ kept_parts m raws kept e = go (raw_slots_not_moved m.moved raws) refl e
     go (Some mid) f h = (mid, (f, h))
 
 -- what the pair's active block holds is the pair's content
-pub held_slots : (disk : Disk) (g : Gstate) (first : Bool) (p : Pair) (m : Member) (held : RawContent) → IsPairDescribedByMember disk g first p m
-    → content_after_log_entries empty_raw_content (log_entries_of_block (block_bytes_on_disk disk m.active)) ≡ Some held → slots_if_all_complete held.slots ≡ Some p.content.slots
+pub held_slots : (disk : Disk) (g : Gstate) (first : Bool) (p : Pair) (m : DirectoryPair) (held : RawPairContent) → IsDescriptionOfPairOnDisk disk g first p m
+    → content_after_log_entries empty_raw_pair_content (log_entries_of_block (block_bytes_on_disk disk m.active)) ≡ Some held → slots_if_names_and_structs_present held.slots ≡ Some p.content.slots
 held_slots disk g first p m held h e =
     (completed_parts held p.content
-    (ap (option_and_then content_if_slots_are_complete) (sym (ap (option_and_then (λ block. content_after_log_entries empty_raw_content (log_entries_of_block block))) h.active ∙ e)) ∙ h.content)).slots
+    (ap (option_and_then pair_content_if_slots_complete) (sym (ap (option_and_then (λ block. content_after_log_entries empty_raw_pair_content (log_entries_of_block block))) h.active ∙ e)) ∙ h.content)).slots
 
-pub taken_rules : (disk : Disk) (firsts : List (ℕ × ℕ)) (g : Gstate) (first : Bool) (p : Pair) (m : Member) (known : Name × DirectoryVertex) (sets : BlockStateList) (new : Name × DirectoryVertex) (marked : BlockStateList)
-    → IsPairDescribedByMember disk g first p m → AddsPairToDirectoryScan disk firsts m known sets new marked → IsTaken disk firsts g first p known sets new marked
+pub taken_rules : (disk : Disk) (firsts : List (ℕ × ℕ)) (g : Gstate) (first : Bool) (p : Pair) (m : DirectoryPair) (known : Name × DirectoryVertexWithSoundnessAndBranches) (sets : BlockStateList) (new : Name × DirectoryVertexWithSoundnessAndBranches) (marked : BlockStateList)
+    → IsDescriptionOfPairOnDisk disk g first p m → AddsPairToDirectoryScan disk firsts m known sets new marked → IsTaken disk firsts g first p known sets new marked
 taken_rules disk firsts g first p m known sets new marked h t =
     let all = held_slots disk g first p m t.held h t.content in
     let parts = kept_parts m t.held.slots t.entries t.kept in
-    let w = without_moved (moved_id_in_pair g p) t.held.slots parts.0 p.content.slots all (ap (λ o. raw_slots_not_moved o t.held.slots) (sym h.moved) ∙ parts.1.0) in
-    let are = without_superblock first parts.0 t.entries (without (moved_id_in_pair g p) p.content.slots) w.are (ap (λ b. slots_after_superblock b parts.0) (sym h.first) ∙ parts.1.1) in
+    let w = without_moved (id_of_moved_slot_in_pair g p) t.held.slots parts.0 p.content.slots all (ap (λ o. raw_slots_not_moved o t.held.slots) (sym h.moved) ∙ parts.1.0) in
+    let are = without_superblock first parts.0 t.entries (without (id_of_moved_slot_in_pair g p) p.content.slots) w.are (ap (λ b. slots_after_superblock b parts.0) (sym h.first) ∙ parts.1.1) in
     let s = scan_some disk.order firsts known t.entries new t.scan in
-    let same : s.slots ≡ behind first (without (moved_id_in_pair g p) p.content.slots) = same_Some s.slots (behind first (without (moved_id_in_pair g p) p.content.slots)) (sym s.are ∙ are) in
-    let seen : behind first (without (moved_id_in_pair g p) p.content.slots) ≡ entries_not_moved g p =
-    sym (visible_behind first (without (moved_id_in_pair g p) p.content.slots) (λ e. starts_without (moved_id_in_pair g p) p.content.slots w.entry (h.starts e)) (subst (All IsFileOrDirectoryEntry) same s.entries))
+    let same : s.slots ≡ behind first (without (id_of_moved_slot_in_pair g p) p.content.slots) = same_Some s.slots (behind first (without (id_of_moved_slot_in_pair g p) p.content.slots)) (sym s.are ∙ are) in
+    let seen : behind first (without (id_of_moved_slot_in_pair g p) p.content.slots) ≡ entries_not_moved g p =
+    sym (visible_behind first (without (id_of_moved_slot_in_pair g p) p.content.slots) (λ e. starts_without (id_of_moved_slot_in_pair g p) p.content.slots w.entry (h.starts e)) (subst (All IsFileOrDirectoryEntry) same s.entries))
     ∙ ap (filter (λ x. not (is_superblock x))) (sym (unmoved-without g p)) in
     record {
       kept = subst (λ ss. All IsFileOrDirectoryEntry (behind first ss)) (sym (unmoved-without g p)) (subst (All IsFileOrDirectoryEntry) same s.entries);
       entries = subst (All IsFileOrDirectoryEntry) (same ∙ seen) s.entries;
       known_is = s.same ∙ ap (λ ss. directory_scan_with_entries disk.order firsts known (map name_and_reference_of_slot ss)) (same ∙ seen);
-      lists = subst (λ ls. MarksFreeBlocksOfLists disk sets ls marked) (same_lists disk.order firsts known new t.entries s.slots t.scan s.are ∙ ap (filter_map (λ x. list_of_entry (name_and_reference_of_slot x))) (same ∙ seen)) t.lists;
+      lists = subst (λ ls. MarksFreeBlocksOfLists disk sets ls marked) (same_lists disk.order firsts known new t.entries s.slots t.scan s.are ∙ ap (filter_map (λ x. skip_list_of_entry (name_and_reference_of_slot x))) (same ∙ seen)) t.lists;
       moved = w.entry;
     }
 
@@ -197,33 +197,33 @@ abbrev pub HaveEntries : Gstate → Bool → List Pair → Type 0
 HaveEntries g first [] = Unit {0}
 HaveEntries g first (p ∷ ps) = All IsFileOrDirectoryEntry (behind first (slots_not_moved g p)) × HaveEntries g false ps
 
-pub record HavePassed (disk : Disk) (firsts : List (ℕ × ℕ)) (g : Gstate) (first : Bool) (ps : List Pair) (known : Name × DirectoryVertex) (sets : BlockStateList) (graph : DirectoryGraph) (end : BlockStateList) : Type 0 where
+pub record HavePassed (disk : Disk) (firsts : List (ℕ × ℕ)) (g : Gstate) (first : Bool) (ps : List Pair) (known : Name × DirectoryVertexWithSoundnessAndBranches) (sets : BlockStateList) (graph : DirectoryGraph) (end : BlockStateList) : Type 0 where
   pub kept : HaveEntries g first ps
   pub entries : Each (λ p. All IsFileOrDirectoryEntry (entries_not_moved g p)) ps
   pub graph_is : graph ≡ vertices disk.order firsts known (map entries_of (shown_in g ps))
   pub lists : MarksFreeBlocksOfLists disk sets (flat_map (λ p. lists_of (entries_not_moved g p)) ps) end
-  pub moved : Each (λ p. IsMovedEntry (moved_id_in_pair g p) p.content.slots) ps
+  pub moved : Each (λ p. IsMovedEntry (id_of_moved_slot_in_pair g p) p.content.slots) ps
 
-ended-vertices : (by : NameOrder) (hard : Bool) (firsts : List (ℕ × ℕ)) (new : Name × DirectoryVertex) (rest : List (Bool × List NameAndReference))
-    → graph_with_ended_directory hard new (vertices by firsts (directory_scan_after_pair hard new) rest) ≡ cond hard (vertices by firsts new rest) (new.1 ∷ vertices by firsts empty_directory_scan rest)
+ended-vertices : (by : NameOrder) (hard : Bool) (firsts : List (ℕ × ℕ)) (new : Name × DirectoryVertexWithSoundnessAndBranches) (rest : List (Bool × List EntryNameAndReference))
+    → graph_with_ended_directory hard new (vertices by firsts (directory_scan_kept_only_after_hard_tail hard new) rest) ≡ cond hard (vertices by firsts new rest) (new.1 ∷ vertices by firsts empty_directory_scan rest)
 ended-vertices by true firsts new rest = refl
 ended-vertices by false firsts new rest = refl
 
-pub passed_rules : (disk : Disk) (firsts : List (ℕ × ℕ)) (g : Gstate) (first : Bool) (ps : List Pair) (ms : List Member) (known : Name × DirectoryVertex) (sets : BlockStateList) (graph : DirectoryGraph) (end : BlockStateList)
-    → ArePairsDescribedByMembers disk g first ps ms → PassesOverDirectoryPairs disk firsts known sets ms graph end → HavePassed disk firsts g first ps known sets graph end
+pub passed_rules : (disk : Disk) (firsts : List (ℕ × ℕ)) (g : Gstate) (first : Bool) (ps : List Pair) (ms : List DirectoryPair) (known : Name × DirectoryVertexWithSoundnessAndBranches) (sets : BlockStateList) (graph : DirectoryGraph) (end : BlockStateList)
+    → AreDescriptionsOfPairsOnDisk disk g first ps ms → ScansPairsIntoDirectoryGraph disk firsts known sets ms graph end → HavePassed disk firsts g first ps known sets graph end
 passed_rules disk firsts g first [] [] known sets graph end h (e, f) =
     record { kept = tt; entries = tt; graph_is = e; lists = record { lists = λ k d lt. absurd (omega arith); marked = f }; moved = tt }
 passed_rules disk firsts g first [] (m ∷ ms) known sets graph end h t = absurd h
 passed_rules disk firsts g first (p ∷ ps) [] known sets graph end h t = absurd h
 passed_rules disk firsts g first (p ∷ ps) (m ∷ ms) known sets graph end h (new, mid, rest, (takes, (e, more))) =
     let one = taken_rules disk firsts g first p m known sets new mid h.0 takes in
-    let others = passed_rules disk firsts g false ps ms (directory_scan_after_pair m.is_hard new) mid rest end h.1 more in
-    let tail : List (Bool × List NameAndReference) = map entries_of (shown_in g ps) in
+    let others = passed_rules disk firsts g false ps ms (directory_scan_kept_only_after_hard_tail m.is_hard new) mid rest end h.1 more in
+    let tail : List (Bool × List EntryNameAndReference) = map entries_of (shown_in g ps) in
     record {
       kept = (one.kept, others.kept);
       entries = (one.entries, others.entries);
       graph_is = e ∙ ap (graph_with_ended_directory m.is_hard new) others.graph_is ∙ ended-vertices disk.order m.is_hard firsts new tail
-          ∙ ap₂ (λ (b : Bool) (n : Name × DirectoryVertex). cond b (vertices disk.order firsts n tail) (n.1 ∷ vertices disk.order firsts empty_directory_scan tail)) h.0.hard one.known_is;
+          ∙ ap₂ (λ (b : Bool) (n : Name × DirectoryVertexWithSoundnessAndBranches). cond b (vertices disk.order firsts n tail) (n.1 ∷ vertices disk.order firsts empty_directory_scan tail)) h.0.hard one.known_is;
       lists = lists_joined disk (lists_of (entries_not_moved g p)) (flat_map (λ q. lists_of (entries_not_moved g q)) ps) sets mid end one.lists others.lists;
       moved = (one.moved, others.moved);
     }
@@ -234,10 +234,10 @@ named_all : (g : Gstate) (ps : List Pair) → Each (λ p. All IsFileOrDirectoryE
 named_all g [] h = tt
 named_all g (p ∷ ps) h = ((λ k d lt. (h.0 k d lt).name), named_all g ps h.1)
 
-pub passed_draws : (disk : Disk) (g : Gstate) (ps : List Pair) (ms : List Member) (sets : BlockStateList) (graph : DirectoryGraph) (end : BlockStateList) → Ends ps → ArePairsDescribedByMembers disk g true ps ms
-    → PassesOverDirectoryPairs disk (directory_first_addresses (directories_of_pairs g ps)) empty_directory_scan sets ms graph end → IsGraphOfDirectories disk.order (directories_of_pairs g ps) graph
+pub passed_draws : (disk : Disk) (g : Gstate) (ps : List Pair) (ms : List DirectoryPair) (sets : BlockStateList) (graph : DirectoryGraph) (end : BlockStateList) → Ends ps → AreDescriptionsOfPairsOnDisk disk g true ps ms
+    → ScansPairsIntoDirectoryGraph disk (first_pair_addresses_of_directories (directories_of_pairs g ps)) empty_directory_scan sets ms graph end → IsGraphOfDirectories disk.order (directories_of_pairs g ps) graph
 passed_draws disk g ps ms sets graph end ends members passes =
-    let h = passed_rules disk (directory_first_addresses (directories_of_pairs g ps)) g true ps ms empty_directory_scan sets graph end members passes in
+    let h = passed_rules disk (first_pair_addresses_of_directories (directories_of_pairs g ps)) g true ps ms empty_directory_scan sets graph end members passes in
     subst (IsGraphOfDirectories disk.order (directories_of_pairs g ps)) (sym h.graph_is) (thread_drawn disk.order g ps ends (named_all g ps h.entries))
 
 -- the last pair of a thread has no tail
@@ -245,10 +245,10 @@ pub links_end : (at : Option (ℕ × ℕ)) (ps : List Pair) → AreLinkedByTails
 links_end at [] h = tt
 links_end at (p ∷ []) h = no_tail p.content.tail h.1
   where
-    no_tail : (t : Option Tail) → pair_named_by_tail t ≡ None → is_hard_tail t ≡ false
+    no_tail : (t : Option Tail) → pair_address_named_by_tail t ≡ None → is_hard_tail t ≡ false
     no_tail None e = refl
     no_tail (Some t) e = absurd (cc)
-links_end at (p ∷ q ∷ ps) h = links_end (pair_named_by_tail p.content.tail) (q ∷ ps) h.1
+links_end at (p ∷ q ∷ ps) h = links_end (pair_address_named_by_tail p.content.tail) (q ∷ ps) h.1
 
 ends_behind : (n : ℕ) (ps : List Pair) → Ends ps → Ends (drop n ps)
 ends_behind zero ps h = h
@@ -256,10 +256,10 @@ ends_behind (suc n) [] h = tt
 ends_behind (suc n) (p ∷ []) h = subst Ends (sym (drop-nil n)) tt
 ends_behind (suc n) (p ∷ q ∷ ps) h = ends_behind n (q ∷ ps) h
 
-pub thread_shows : (disk : Disk) (ps : List Pair) (ms : List Member) (sets : BlockStateList) (graph : DirectoryGraph) (end : BlockStateList) → IsThread (content_of_pair_at disk) (block_count disk) ps
-    → ArePairsDescribedByMembers disk (gstate_of ps) true (pairs_of_all_directories ps) ms → PassesOverDirectoryPairs disk (directory_first_addresses (directories_in_thread ps)) empty_directory_scan sets ms graph end → IsGraphOfThreadDirectories disk.order graph (gstate_of ps).sync ps
+pub thread_shows : (disk : Disk) (ps : List Pair) (ms : List DirectoryPair) (sets : BlockStateList) (graph : DirectoryGraph) (end : BlockStateList) → IsThreadOfMetadataPairs (content_of_pair_at disk) (block_count disk) ps
+    → AreDescriptionsOfPairsOnDisk disk (gstate_of_pairs ps) true (pairs_from_root_directory_on ps) ms → ScansPairsIntoDirectoryGraph disk (first_pair_addresses_of_directories (directories_in_thread ps)) empty_directory_scan sets ms graph end → IsGraphOfThreadDirectories disk.order graph (gstate_of_pairs ps).sync ps
 thread_shows disk ps ms sets graph end thread members passes = record {
   distinct = thread.distinct;
-  draws = passed_draws disk (gstate_of ps) (pairs_of_all_directories ps) ms sets graph end (ends_behind (pair_count_before_root ps) ps (links_end (Some anchor_pair_address) ps thread.links)) members passes;
+  draws = passed_draws disk (gstate_of_pairs ps) (pairs_from_root_directory_on ps) ms sets graph end (ends_behind (pair_count_before_root ps) ps (links_end (Some anchor_pair_address) ps thread.links)) members passes;
   same = refl;
 }

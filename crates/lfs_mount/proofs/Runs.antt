@@ -4,14 +4,14 @@ use Rattle.std.specs.Prelude.{All}
 use Rattle.std.proofs.lemmas.Option.{same_Some}
 use Rattle.std.proofs.lemmas.List.{length-map}
 use Rattle.lfs_model.specs.declared.order.NameOrder.{NameOrder}
-use Rattle.lfs_model.specs.Names.{Name, is_name}
+use Rattle.lfs_model.specs.Names.{Name, is_valid_name}
 use Rattle.lfs_model.specs.Slots.{Slot, Gstate}
-use Rattle.lfs_model.specs.Thread.{Pair, ThreadDirectory, is_hard_tail, entries_not_moved, directories_with_pair_first, directories_of_pairs}
+use Rattle.lfs_model.specs.Thread.{Pair, ThreadDirectory, is_hard_tail, entries_not_moved, directories_with_pair_prepended, directories_of_pairs}
 use Rattle.lfs_model.proofs.Counts.{Each}
 use Rattle.lfs_model.proofs.Listings.{Ends}
-use Rattle.lfs_mount.specs.Reaching.{DirectoryVertex, DirectoryGraph}
-use Rattle.lfs_mount.specs.Places.{IsVertexOfDirectorySlots, IsGraphOfDirectories}
-use Rattle.lfs_mount.specs.Entries.{NameAndReference, name_and_reference_of_slot, directory_first_addresses, directory_scan_with_entries, empty_directory_scan}
+use Rattle.lfs_mount.specs.Reaching.{DirectoryVertexWithSoundnessAndBranches, DirectoryGraph}
+use Rattle.lfs_mount.specs.Places.{HasSoundnessAndBranchesOfDirectorySlots, IsGraphOfDirectories}
+use Rattle.lfs_mount.specs.Entries.{EntryNameAndReference, name_and_reference_of_slot, first_pair_addresses_of_directories, directory_scan_with_entries, empty_directory_scan}
 use Rattle.lfs_mount.proofs.Drawn.{IsKnown, known_more, nothing_drawn}
 
 -- ---- the run of pairs in hand, and the pairs to come
@@ -29,20 +29,20 @@ runs hand [] = []
 runs hand (p ∷ ps) = if p.0 then runs (hand ++ p.1) ps else (hand ++ p.1) ∷ runs [] ps
 
 -- what is known of each directory, the first one's behind what is known so far
-abbrev pub vertices : NameOrder → List (ℕ × ℕ) → Name × DirectoryVertex → List (Bool × List NameAndReference) → DirectoryGraph
+abbrev pub vertices : NameOrder → List (ℕ × ℕ) → Name × DirectoryVertexWithSoundnessAndBranches → List (Bool × List EntryNameAndReference) → DirectoryGraph
 vertices by firsts known [] = []
 vertices by firsts known (p ∷ ps) =
     if p.0 then vertices by firsts (directory_scan_with_entries by firsts known p.1) ps
     else (directory_scan_with_entries by firsts known p.1).1 ∷ vertices by firsts empty_directory_scan ps
 
-abbrev pub entries_of : Shown → Bool × List NameAndReference
+abbrev pub entries_of : Shown → Bool × List EntryNameAndReference
 entries_of p = (p.0, map name_and_reference_of_slot p.1)
 
 abbrev pub AreDrawn : NameOrder → List ThreadDirectory → List (List Slot) → DirectoryGraph → Type 0
 AreDrawn by ds [] [] = Unit {0}
 AreDrawn by ds [] (v ∷ vs) = ⊥
 AreDrawn by ds (s ∷ ss) [] = ⊥
-AreDrawn by ds (s ∷ ss) (v ∷ vs) = IsVertexOfDirectorySlots by ds s v × AreDrawn by ds ss vs
+AreDrawn by ds (s ∷ ss) (v ∷ vs) = HasSoundnessAndBranchesOfDirectorySlots by ds s v × AreDrawn by ds ss vs
 
 -- ---- the same directories from either end
 
@@ -57,7 +57,7 @@ nothing_in_front : (ss : List (List Slot)) → in_front [] ss ≡ ss
 nothing_in_front [] = refl
 nothing_in_front (s ∷ ss) = refl
 
-never_empty : (at : ℕ × ℕ) (hard : Bool) (slots : List Slot) (ds : List ThreadDirectory) → directories_with_pair_first at hard slots ds ≡ [] → ⊥
+never_empty : (at : ℕ × ℕ) (hard : Bool) (slots : List Slot) (ds : List ThreadDirectory) → directories_with_pair_prepended at hard slots ds ≡ [] → ⊥
 never_empty at hard slots [] e = absurd (cc)
 never_empty at true slots (d ∷ ds) e = absurd (cc)
 never_empty at false slots (d ∷ ds) e = absurd (cc)
@@ -65,7 +65,7 @@ never_empty at false slots (d ∷ ds) e = absurd (cc)
 -- one pair more in front of directories
 one_joined : (at : ℕ × ℕ) (hard : Bool) (slots hand : List Slot) (rest : List Shown) (ds : List ThreadDirectory) → (ds ≡ [] → ⊥)
     → ((more : List Slot) → runs more rest ≡ in_front more (slots_in ds))
-    → cond hard (runs (hand ++ slots) rest) ((hand ++ slots) ∷ runs [] rest) ≡ in_front hand (slots_in (directories_with_pair_first at hard slots ds))
+    → cond hard (runs (hand ++ slots) rest) ((hand ++ slots) ∷ runs [] rest) ≡ in_front hand (slots_in (directories_with_pair_prepended at hard slots ds))
 one_joined at hard slots hand rest [] some next = absurd (some refl)
 one_joined at true slots hand rest (d ∷ ds) some next = next (hand ++ slots) ∙ ap (λ s. s ∷ slots_in ds) (append_assoc hand slots d.slots)
 one_joined at false slots hand rest (d ∷ ds) some next = ap (λ ss. (hand ++ slots) ∷ ss) (next [])
@@ -83,13 +83,13 @@ directories_from_front g ps ends = runs_in_front g ps [] ends ∙ nothing_in_fro
 -- ---- what is known of them
 
 abbrev pub Named : Shown → Type 0
-Named p = All (λ s. is_name s.name ≡ true) p.1
+Named p = All (λ s. is_valid_name s.name ≡ true) p.1
 
-pub runs_drawn : {by : NameOrder} (ds : List ThreadDirectory) (ps : List Shown) (hand : List Slot) (known : Name × DirectoryVertex) → Each Named ps → IsKnown by ds hand known
-    → AreDrawn by ds (runs hand ps) (vertices by (directory_first_addresses ds) known (map entries_of ps))
+pub runs_drawn : {by : NameOrder} (ds : List ThreadDirectory) (ps : List Shown) (hand : List Slot) (known : Name × DirectoryVertexWithSoundnessAndBranches) → Each Named ps → IsKnown by ds hand known
+    → AreDrawn by ds (runs hand ps) (vertices by (first_pair_addresses_of_directories ds) known (map entries_of ps))
 runs_drawn {by} ds [] hand known named h = tt
 runs_drawn {by} ds ((true, slots) ∷ ps) hand known named h =
-    runs_drawn ds ps (hand ++ slots) (directory_scan_with_entries by (directory_first_addresses ds) known (map name_and_reference_of_slot slots)) named.1 (known_more ds hand slots known named.0 h)
+    runs_drawn ds ps (hand ++ slots) (directory_scan_with_entries by (first_pair_addresses_of_directories ds) known (map name_and_reference_of_slot slots)) named.1 (known_more ds hand slots known named.0 h)
 runs_drawn {by} ds ((false, slots) ∷ ps) hand known named h =
     ((known_more ds hand slots known named.0 h).drawn, runs_drawn ds ps [] empty_directory_scan named.1 (nothing_drawn by ds))
 
@@ -101,11 +101,11 @@ drawn_len by ds [] (v ∷ vs) h = absurd h
 drawn_len by ds (s ∷ ss) [] h = absurd h
 drawn_len by ds (s ∷ ss) (v ∷ vs) h = ap (λ n. suc n) (drawn_len by ds ss vs h.1)
 
-drawn_at : (by : NameOrder) (ds es : List ThreadDirectory) (graph : DirectoryGraph) → AreDrawn by ds (slots_in es) graph → (i : ℕ) (d : ThreadDirectory) (v : DirectoryVertex) → slice_get es i ≡ Some d → slice_get graph i ≡ Some v → IsVertexOfDirectorySlots by ds d.slots v
+drawn_at : (by : NameOrder) (ds es : List ThreadDirectory) (graph : DirectoryGraph) → AreDrawn by ds (slots_in es) graph → (i : ℕ) (d : ThreadDirectory) (v : DirectoryVertexWithSoundnessAndBranches) → slice_get es i ≡ Some d → slice_get graph i ≡ Some v → HasSoundnessAndBranchesOfDirectorySlots by ds d.slots v
 drawn_at by ds [] graph h i d v e f = absurd (cc)
 drawn_at by ds (x ∷ es) [] h i d v e f = absurd h
 drawn_at by ds (x ∷ es) (w ∷ vs) h zero d v e f =
-    subst (IsVertexOfDirectorySlots by ds d.slots) (same_Some w v f) (subst (λ (y : ThreadDirectory). IsVertexOfDirectorySlots by ds y.slots w) (same_Some x d e) h.0)
+    subst (HasSoundnessAndBranchesOfDirectorySlots by ds d.slots) (same_Some w v f) (subst (λ (y : ThreadDirectory). HasSoundnessAndBranchesOfDirectorySlots by ds y.slots w) (same_Some x d e) h.0)
 drawn_at by ds (x ∷ es) (w ∷ vs) h (suc i) d v e f = drawn_at by ds es vs h.1 i d v e f
 
 pub draws_from : (by : NameOrder) (ds : List ThreadDirectory) (graph : DirectoryGraph) → AreDrawn by ds (map (λ d. d.slots) ds) graph → IsGraphOfDirectories by ds graph
@@ -116,9 +116,9 @@ draws_from by ds graph h = record {
 
 -- pairs taken from the front draw the directories
 pub thread_drawn : (by : NameOrder) (g : Gstate) (ps : List Pair) → Ends ps → Each Named (shown_in g ps)
-    → IsGraphOfDirectories by (directories_of_pairs g ps) (vertices by (directory_first_addresses (directories_of_pairs g ps)) empty_directory_scan (map entries_of (shown_in g ps)))
+    → IsGraphOfDirectories by (directories_of_pairs g ps) (vertices by (first_pair_addresses_of_directories (directories_of_pairs g ps)) empty_directory_scan (map entries_of (shown_in g ps)))
 thread_drawn by g ps ends named =
-    draws_from by (directories_of_pairs g ps) (vertices by (directory_first_addresses (directories_of_pairs g ps)) empty_directory_scan (map entries_of (shown_in g ps)))
-    (subst (λ ss. AreDrawn by (directories_of_pairs g ps) ss (vertices by (directory_first_addresses (directories_of_pairs g ps)) empty_directory_scan (map entries_of (shown_in g ps))))
+    draws_from by (directories_of_pairs g ps) (vertices by (first_pair_addresses_of_directories (directories_of_pairs g ps)) empty_directory_scan (map entries_of (shown_in g ps)))
+    (subst (λ ss. AreDrawn by (directories_of_pairs g ps) ss (vertices by (first_pair_addresses_of_directories (directories_of_pairs g ps)) empty_directory_scan (map entries_of (shown_in g ps))))
     (directories_from_front g ps ends)
     (runs_drawn (directories_of_pairs g ps) (shown_in g ps) [] empty_directory_scan named (nothing_drawn by (directories_of_pairs g ps))))

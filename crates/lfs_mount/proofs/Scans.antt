@@ -5,17 +5,17 @@ use Rattle.std.proofs.lemmas.Bool.{and_parts, or_cases, ne_eqb}
 use Rattle.std.proofs.lemmas.List.Elements.{All-head, All-tail, All-cons}
 use Rattle.std.proofs.lemmas.Option.{same_Some}
 use Rattle.lfs_model.specs.declared.order.NameOrder.{NameOrder}
-use Rattle.lfs_model.specs.Names.{Name, is_name}
-use Rattle.lfs_model.specs.Tag.{tag_of_type_id_and_length, kind_of, len_of, class_of}
+use Rattle.lfs_model.specs.Names.{Name, is_valid_name}
+use Rattle.lfs_model.specs.Tag.{tag_of_type_id_and_length, type_of_tag, length_of_tag, abstract_type_of_tag}
 use Rattle.lfs_model.specs.Slots.{Slot, File, Directory, Superblock}
-use Rattle.lfs_model.specs.EntryTypes.{is_known_type_and_length, is_attribute_removal, allows_any_length, requires_no_bytes, requires_eight_bytes, superblock_name_type, create_type, delete_type, soft_tail_type, hard_tail_type, move_state_type, pair_address_of_bytes, file_name_type, directory_name_type, inline_struct_type, ctz_struct_type, directory_struct_type}
-use Rattle.lfs_model.specs.Content.{RawSlot, complete, slots_if_all_complete, kind_of_name_type, struct_of_type_and_bytes}
-use Rattle.lfs_model.specs.LoggedContent.{IsNameOrStructOfClass, IsNameOrStructIfSome, IsWellFormedRawSlot, AreWellFormedRawSlots}
+use Rattle.lfs_model.specs.EntryTypes.{is_tag_of_known_type_and_length, is_attribute_removal, tag_type_allows_any_length, tag_type_requires_no_data_bytes, tag_type_requires_eight_data_bytes, superblock_name_type, create_tag_type, delete_tag_type, soft_tail_type, hard_tail_type, move_state_type, pair_address_of_bytes, file_name_type, directory_name_type, inline_struct_type, ctz_struct_type, directory_struct_type}
+use Rattle.lfs_model.specs.Content.{RawSlot, slot_if_name_and_struct_present, slots_if_names_and_structs_present, kind_of_name_type, struct_of_type_and_bytes}
+use Rattle.lfs_model.specs.LoggedContent.{IsNameOrStructTheFormatAllows, IsNameOrStructTheFormatAllowsIfSome, IsWellFormedRawSlot, AreWellFormedRawSlots}
 use Rattle.lfs_model.specs.View.{IsFileOrDirectoryEntry, IsStructOfKind}
-use Rattle.lfs_model.proofs.WrittenAnew.{kind_of-tag_of_type_id_and_length, len_of-tag_of_type_id_and_length}
+use Rattle.lfs_model.proofs.WrittenAnew.{type_of_tag-tag_of_type_id_and_length, length_of_tag-tag_of_type_id_and_length}
 use Rattle.lfs_model.proofs.Completed.{AreComplete, complete_parts, complete_cons}
-use Rattle.lfs_mount.specs.Reaching.{DirectoryVertex}
-use Rattle.lfs_mount.specs.Entries.{EntryReference, InSlot, InList, Below, entry_reference_of_struct, NameAndReference, name_and_reference_of_slot, entry_reference_of_raw_struct, directory_entry_of_raw_slot, directory_scan_with_entry, directory_scan_with_entries}
+use Rattle.lfs_mount.specs.Reaching.{DirectoryVertexWithSoundnessAndBranches}
+use Rattle.lfs_mount.specs.Entries.{EntryReference, InSlot, InList, Below, entry_reference_of_struct, EntryNameAndReference, name_and_reference_of_slot, entry_reference_of_raw_struct, directory_entry_of_raw_slot, directory_scan_with_entry, directory_scan_with_entries}
 use Rattle.lfs_mount.specs.Scanned.{directory_scan_after_slots}
 
 -- ---- one slot that is an entry
@@ -51,48 +51,48 @@ suits_typed kind part stand (list k t is) =
 suits_typed kind part stand (below k t is) =
     (subst₂ IsStructOfKind (sym (ap kind_of_name_type k)) (sym (ap (λ (ty : ℕ). struct_of_type_and_bytes ty part.1) t)) tt, ap (λ (ty : ℕ). entry_reference_of_struct (struct_of_type_and_bytes ty part.1)) t ∙ sym is)
 
-pub record Holds (s : RawSlot) (e : NameAndReference) : Type 0 where
+pub record Holds (s : RawSlot) (e : EntryNameAndReference) : Type 0 where
   pub slot : Slot
-  pub is : complete s ≡ Some slot
+  pub is : slot_if_name_and_struct_present s ≡ Some slot
   pub entry : IsFileOrDirectoryEntry slot
   pub same : name_and_reference_of_slot slot ≡ e
 
-pub entry_some : (s : RawSlot) (e : NameAndReference) → directory_entry_of_raw_slot s ≡ Some e → Holds s e
+pub entry_some : (s : RawSlot) (e : EntryNameAndReference) → directory_entry_of_raw_slot s ≡ Some e → Holds s e
 entry_some s e is = go s.name s.struct refl refl is
   where
-    parts : (n p : ℕ × List ℕ) → s.name ≡ Some n → s.struct ≡ Some p → (b : Bool) → is_name n.1 ≡ b → (o : Option EntryReference) → entry_reference_of_raw_struct n.0 p ≡ o
+    parts : (n p : ℕ × List ℕ) → s.name ≡ Some n → s.struct ≡ Some p → (b : Bool) → is_valid_name n.1 ≡ b → (o : Option EntryReference) → entry_reference_of_raw_struct n.0 p ≡ o
         → cond b (option_map (λ stand. (n.1, stand)) o) None ≡ Some e → Holds s e
     parts n p f g true h None i is = absurd (cc)
     parts n p f g true h (Some stand) i is =
         let both = suits_typed n.0 p stand (suited n.0 p stand i) in
         record {
           slot = record { kind = kind_of_name_type n.0; name = n.1; struct = struct_of_type_and_bytes p.0 p.1; attributes = s.attributes };
-          is = ap₂ (λ (a b : Option (ℕ × List ℕ)). complete (record { name = a; struct = b; attributes = s.attributes })) f g;
+          is = ap₂ (λ (a b : Option (ℕ × List ℕ)). slot_if_name_and_struct_present (record { name = a; struct = b; attributes = s.attributes })) f g;
           entry = record { name = h; struct = both.0 };
           same = ap (λ (st : EntryReference). (n.1, st)) both.1 ∙ same_Some (n.1, stand) e is;
         }
     parts n p f g false h o i is = absurd (cc)
 
     go : (n p : Option (ℕ × List ℕ)) → s.name ≡ n → s.struct ≡ p
-        → option_and_then (λ name. option_and_then (λ struct. cond (is_name name.1) (option_map (λ stand. (name.1, stand)) (entry_reference_of_raw_struct name.0 struct)) None) p) n ≡ Some e → Holds s e
+        → option_and_then (λ name. option_and_then (λ struct. cond (is_valid_name name.1) (option_map (λ stand. (name.1, stand)) (entry_reference_of_raw_struct name.0 struct)) None) p) n ≡ Some e → Holds s e
     go None p f g is = absurd (cc)
     go (Some n) None f g is = absurd (cc)
-    go (Some n) (Some p) f g is = parts n p f g (is_name n.1) refl (entry_reference_of_raw_struct n.0 p) refl is
+    go (Some n) (Some p) f g is = parts n p f g (is_valid_name n.1) refl (entry_reference_of_raw_struct n.0 p) refl is
 
 -- ---- one slot that is none
 
 -- what is in the table, no attribute and of none of the other lengths, has 8 bytes
-eight_bytes : (tag : ℕ) → is_known_type_and_length tag ≡ true → is_attribute_removal tag ≡ false → allows_any_length tag ≡ false → requires_no_bytes tag ≡ false → (kind_of tag == move_state_type) ≡ false
-    → (requires_eight_bytes tag ≡ true) × (len_of tag ≡ 8)
-eight_bytes tag h a b c d = go (requires_eight_bytes tag) (len_of tag == 8) refl refl (ap (λ x. cond x (class_of tag == 3) (cond false true (cond (requires_eight_bytes tag) (len_of tag == 8) (cond false (len_of tag == 0) false)))) (sym a) ∙ rest)
+eight_bytes : (tag : ℕ) → is_tag_of_known_type_and_length tag ≡ true → is_attribute_removal tag ≡ false → tag_type_allows_any_length tag ≡ false → tag_type_requires_no_data_bytes tag ≡ false → (type_of_tag tag == move_state_type) ≡ false
+    → (tag_type_requires_eight_data_bytes tag ≡ true) × (length_of_tag tag ≡ 8)
+eight_bytes tag h a b c d = go (tag_type_requires_eight_data_bytes tag) (length_of_tag tag == 8) refl refl (ap (λ x. cond x (abstract_type_of_tag tag == 3) (cond false true (cond (tag_type_requires_eight_data_bytes tag) (length_of_tag tag == 8) (cond false (length_of_tag tag == 0) false)))) (sym a) ∙ rest)
   where
-    rest : cond (is_attribute_removal tag) (class_of tag == 3) (cond false true (cond (requires_eight_bytes tag) (len_of tag == 8) (cond false (len_of tag == 0) false))) ≡ true
-    rest = ap₂ (λ x y. cond (is_attribute_removal tag) (class_of tag == 3) (cond x true (cond (requires_eight_bytes tag) (len_of tag == 8) (cond y (len_of tag == 0) false)))) (sym b) (sym c)
-        ∙ ap (λ z. cond (is_attribute_removal tag) (class_of tag == 3) (cond (allows_any_length tag) true (cond (requires_eight_bytes tag) (len_of tag == 8) (cond (requires_no_bytes tag) (len_of tag == 0) (z && len_of tag == 12))))) (sym d)
+    rest : cond (is_attribute_removal tag) (abstract_type_of_tag tag == 3) (cond false true (cond (tag_type_requires_eight_data_bytes tag) (length_of_tag tag == 8) (cond false (length_of_tag tag == 0) false))) ≡ true
+    rest = ap₂ (λ x y. cond (is_attribute_removal tag) (abstract_type_of_tag tag == 3) (cond x true (cond (tag_type_requires_eight_data_bytes tag) (length_of_tag tag == 8) (cond y (length_of_tag tag == 0) false)))) (sym b) (sym c)
+        ∙ ap (λ z. cond (is_attribute_removal tag) (abstract_type_of_tag tag == 3) (cond (tag_type_allows_any_length tag) true (cond (tag_type_requires_eight_data_bytes tag) (length_of_tag tag == 8) (cond (tag_type_requires_no_data_bytes tag) (length_of_tag tag == 0) (z && length_of_tag tag == 12))))) (sym d)
         ∙ h
 
-    go : (e l : Bool) → requires_eight_bytes tag ≡ e → (len_of tag == 8) ≡ l → cond e l (cond false (len_of tag == 0) false) ≡ true → (requires_eight_bytes tag ≡ true) × (len_of tag ≡ 8)
-    go true true k f g = (k, eqb-true (len_of tag) 8 f)
+    go : (e l : Bool) → tag_type_requires_eight_data_bytes tag ≡ e → (length_of_tag tag == 8) ≡ l → cond e l (cond false (length_of_tag tag == 0) false) ≡ true → (tag_type_requires_eight_data_bytes tag ≡ true) × (length_of_tag tag ≡ 8)
+    go true true k f g = (k, eqb-true (length_of_tag tag) 8 f)
     go true false k f g = absurd (cc)
     go false l k f g = absurd (cc)
 
@@ -101,7 +101,7 @@ data PartType (type : ℕ) (bytes : List ℕ) : Type 0 where
   pair_there : type ≡ directory_struct_type → length bytes ≡ 8 → PartType type bytes
   list_there : type ≡ ctz_struct_type → length bytes ≡ 8 → PartType type bytes
 
-part_type : (type : ℕ) (bytes : List ℕ) → IsNameOrStructOfClass 2 (type, bytes) → PartType type bytes
+part_type : (type : ℕ) (bytes : List ℕ) → IsNameOrStructTheFormatAllows 2 (type, bytes) → PartType type bytes
 part_type type bytes h = go (type == inline_struct_type) refl
   where
     of_class : type / 2 ^ 8 ≡ 2
@@ -110,16 +110,16 @@ part_type type bytes h = go (type == inline_struct_type) refl
     short : length bytes < 0x3ff
     short = h.short
 
-    kind : kind_of (tag_of_type_id_and_length type 0 (length bytes)) ≡ type
-    kind = kind_of-tag_of_type_id_and_length type 0 (length bytes) (omega arith) (omega arith) (omega arith)
+    kind : type_of_tag (tag_of_type_id_and_length type 0 (length bytes)) ≡ type
+    kind = type_of_tag-tag_of_type_id_and_length type 0 (length bytes) (omega arith) (omega arith) (omega arith)
 
-    len : len_of (tag_of_type_id_and_length type 0 (length bytes)) ≡ length bytes
-    len = len_of-tag_of_type_id_and_length type 0 (length bytes) (omega arith)
+    len : length_of_tag (tag_of_type_id_and_length type 0 (length bytes)) ≡ length bytes
+    len = length_of_tag-tag_of_type_id_and_length type 0 (length bytes) (omega arith)
 
-    eight : (type == inline_struct_type) ≡ false → (requires_eight_bytes (tag_of_type_id_and_length type 0 (length bytes)) ≡ true) × (len_of (tag_of_type_id_and_length type 0 (length bytes)) ≡ 8)
+    eight : (type == inline_struct_type) ≡ false → (tag_type_requires_eight_data_bytes (tag_of_type_id_and_length type 0 (length bytes)) ≡ true) × (length_of_tag (tag_of_type_id_and_length type 0 (length bytes)) ≡ 8)
     eight other = eight_bytes (tag_of_type_id_and_length type 0 (length bytes)) h.in_table (rw len (ne_eqb (length bytes) 0x3ff (λ e. omega arith)))
         (rw kind (rw (ne_eqb (type / 2 ^ 8) 3 (λ e. omega arith), ne_eqb type file_name_type (λ e. omega arith), ne_eqb type directory_name_type (λ e. omega arith), other) refl))
-        (rw kind (rw (ne_eqb type create_type (λ e. omega arith), ne_eqb type delete_type (λ e. omega arith)) refl))
+        (rw kind (rw (ne_eqb type create_tag_type (λ e. omega arith), ne_eqb type delete_tag_type (λ e. omega arith)) refl))
         (rw kind (ne_eqb type move_state_type (λ e. omega arith)))
 
     five : (type == superblock_name_type || (type == directory_struct_type || (type == ctz_struct_type || (type == soft_tail_type || type == hard_tail_type)))) ≡ true → length bytes ≡ 8 → PartType type bytes
@@ -151,7 +151,7 @@ name_type kind = go (kind == file_name_type) (kind == directory_name_type) refl 
     go false false e f = other_there (ap₂ (λ x y. cond x File (cond y Directory Superblock)) e f)
 
 -- a kind and a struct that suit stand for something
-stands : (kind type : ℕ) (bytes : List ℕ) → IsNameOrStructOfClass 2 (type, bytes) → IsStructOfKind (kind_of_name_type kind) (struct_of_type_and_bytes type bytes) → entry_reference_of_raw_struct kind (type, bytes) ≡ None → ⊥
+stands : (kind type : ℕ) (bytes : List ℕ) → IsNameOrStructTheFormatAllows 2 (type, bytes) → IsStructOfKind (kind_of_name_type kind) (struct_of_type_and_bytes type bytes) → entry_reference_of_raw_struct kind (type, bytes) ≡ None → ⊥
 stands kind type bytes h has_struct_of_its_kind none = go (name_type kind) (part_type type bytes h)
   where
     -- the types written out
@@ -179,37 +179,37 @@ stands kind type bytes h has_struct_of_its_kind none = go (name_type kind) (part
     go (directory_there e) (list_there f l) = reported directory_name_type ctz_struct_type e f
     go (other_there e) p = subst (λ k. IsStructOfKind k (struct_of_type_and_bytes type bytes)) e has_struct_of_its_kind
 
-pub entry_none : (s : RawSlot) (t : Slot) → IsWellFormedRawSlot s → directory_entry_of_raw_slot s ≡ None → complete s ≡ Some t → IsFileOrDirectoryEntry t → ⊥
+pub entry_none : (s : RawSlot) (t : Slot) → IsWellFormedRawSlot s → directory_entry_of_raw_slot s ≡ None → slot_if_name_and_struct_present s ≡ Some t → IsFileOrDirectoryEntry t → ⊥
 entry_none s t parts none is entry = go s.name s.struct parts.struct none is
   where
-    below_name : (n p : ℕ × List ℕ) → IsNameOrStructOfClass 2 p → (b : Bool) → is_name n.1 ≡ b → (o : Option EntryReference) → entry_reference_of_raw_struct n.0 p ≡ o
-        → cond b (option_map {U = NameAndReference} (λ stand. (n.1, stand)) o) None ≡ None → record { kind = kind_of_name_type n.0; name = n.1; struct = struct_of_type_and_bytes p.0 p.1; attributes = s.attributes } ≡ t → ⊥
+    below_name : (n p : ℕ × List ℕ) → IsNameOrStructTheFormatAllows 2 p → (b : Bool) → is_valid_name n.1 ≡ b → (o : Option EntryReference) → entry_reference_of_raw_struct n.0 p ≡ o
+        → cond b (option_map {U = EntryNameAndReference} (λ stand. (n.1, stand)) o) None ≡ None → record { kind = kind_of_name_type n.0; name = n.1; struct = struct_of_type_and_bytes p.0 p.1; attributes = s.attributes } ≡ t → ⊥
     below_name n p h true f None g e same = stands n.0 p.0 p.1 h (subst (λ (u : Slot). IsStructOfKind u.kind u.struct) (sym same) entry.struct) g
     below_name n p h true f (Some stand) g e same = absurd (cc)
-    below_name n p h false f o g e same = true≢false (sym entry.name ∙ ap (λ (u : Slot). is_name u.name) (sym same) ∙ f)
+    below_name n p h false f o g e same = true≢false (sym entry.name ∙ ap (λ (u : Slot). is_valid_name u.name) (sym same) ∙ f)
 
-    go : (n p : Option (ℕ × List ℕ)) → IsNameOrStructIfSome 2 p
-        → option_and_then (λ name. option_and_then (λ struct. cond (is_name name.1) (option_map {U = NameAndReference} (λ stand. (name.1, stand)) (entry_reference_of_raw_struct name.0 struct)) None) p) n ≡ None
+    go : (n p : Option (ℕ × List ℕ)) → IsNameOrStructTheFormatAllowsIfSome 2 p
+        → option_and_then (λ name. option_and_then (λ struct. cond (is_valid_name name.1) (option_map {U = EntryNameAndReference} (λ stand. (name.1, stand)) (entry_reference_of_raw_struct name.0 struct)) None) p) n ≡ None
         → option_and_then (λ name. option_map (λ struct. record { kind = kind_of_name_type name.0; name = name.1; struct = struct_of_type_and_bytes struct.0 struct.1; attributes = s.attributes }) p) n ≡ Some t → ⊥
     go None p h e f = absurd (cc)
     go (Some n) None h e f = absurd (cc)
-    go (Some n) (Some p) h e f = below_name n p h (is_name n.1) refl (entry_reference_of_raw_struct n.0 p) refl e (same_Some _ t f)
+    go (Some n) (Some p) h e f = below_name n p h (is_valid_name n.1) refl (entry_reference_of_raw_struct n.0 p) refl e (same_Some _ t f)
 
 -- ---- all slots of a pair
 
 -- the slots are entries, and this is known then
-pub record IsScanned (by : NameOrder) (firsts : List (ℕ × ℕ)) (known : Name × DirectoryVertex) (raws : List RawSlot) (new : Name × DirectoryVertex) : Type 0 where
+pub record IsScanned (by : NameOrder) (firsts : List (ℕ × ℕ)) (known : Name × DirectoryVertexWithSoundnessAndBranches) (raws : List RawSlot) (new : Name × DirectoryVertexWithSoundnessAndBranches) : Type 0 where
   pub slots : List Slot
-  pub are : slots_if_all_complete raws ≡ Some slots
+  pub are : slots_if_names_and_structs_present raws ≡ Some slots
   pub entries : All IsFileOrDirectoryEntry slots
   pub same : new ≡ directory_scan_with_entries by firsts known (map name_and_reference_of_slot slots)
 
-pub scan_some : (by : NameOrder) (firsts : List (ℕ × ℕ)) (known : Name × DirectoryVertex) (raws : List RawSlot) (new : Name × DirectoryVertex) → directory_scan_after_slots by firsts known raws ≡ Some new → IsScanned by firsts known raws new
+pub scan_some : (by : NameOrder) (firsts : List (ℕ × ℕ)) (known : Name × DirectoryVertexWithSoundnessAndBranches) (raws : List RawSlot) (new : Name × DirectoryVertexWithSoundnessAndBranches) → directory_scan_after_slots by firsts known raws ≡ Some new → IsScanned by firsts known raws new
 scan_some by firsts known [] new e = record { slots = []; are = refl; entries = λ k d lt. absurd (omega arith); same = sym (same_Some known new e) }
 scan_some by firsts known (s ∷ raws) new e = go (directory_entry_of_raw_slot s) refl e (λ x. scan_some by firsts (directory_scan_with_entry by firsts known x) raws new)
   where
-    go : (o : Option NameAndReference) → directory_entry_of_raw_slot s ≡ o → option_and_then (λ x. directory_scan_after_slots by firsts (directory_scan_with_entry by firsts known x) raws) o ≡ Some new
-        → ((x : NameAndReference) → directory_scan_after_slots by firsts (directory_scan_with_entry by firsts known x) raws ≡ Some new → IsScanned by firsts (directory_scan_with_entry by firsts known x) raws new) → IsScanned by firsts known (s ∷ raws) new
+    go : (o : Option EntryNameAndReference) → directory_entry_of_raw_slot s ≡ o → option_and_then (λ x. directory_scan_after_slots by firsts (directory_scan_with_entry by firsts known x) raws) o ≡ Some new
+        → ((x : EntryNameAndReference) → directory_scan_after_slots by firsts (directory_scan_with_entry by firsts known x) raws ≡ Some new → IsScanned by firsts (directory_scan_with_entry by firsts known x) raws new) → IsScanned by firsts known (s ∷ raws) new
     go None f g next = absurd (cc)
     go (Some x) f g next =
         let h = entry_some s x f in
@@ -218,10 +218,10 @@ scan_some by firsts known (s ∷ raws) new e = go (directory_entry_of_raw_slot s
           slots = h.slot ∷ r.slots;
           are = complete_cons s raws h.slot r.slots h.is r.are;
           entries = All-cons IsFileOrDirectoryEntry h.slot r.slots h.entry r.entries;
-          same = r.same ∙ ap (λ (y : NameAndReference). directory_scan_with_entries by firsts (directory_scan_with_entry by firsts known y) (map name_and_reference_of_slot r.slots)) (sym h.same);
+          same = r.same ∙ ap (λ (y : EntryNameAndReference). directory_scan_with_entries by firsts (directory_scan_with_entry by firsts known y) (map name_and_reference_of_slot r.slots)) (sym h.same);
         }
 
-pub scan_none : (by : NameOrder) (firsts : List (ℕ × ℕ)) (known : Name × DirectoryVertex) (raws : List RawSlot) → AreWellFormedRawSlots raws → directory_scan_after_slots by firsts known raws ≡ None → (slots : List Slot) → slots_if_all_complete raws ≡ Some slots → All IsFileOrDirectoryEntry slots → ⊥
+pub scan_none : (by : NameOrder) (firsts : List (ℕ × ℕ)) (known : Name × DirectoryVertexWithSoundnessAndBranches) (raws : List RawSlot) → AreWellFormedRawSlots raws → directory_scan_after_slots by firsts known raws ≡ None → (slots : List Slot) → slots_if_names_and_structs_present raws ≡ Some slots → All IsFileOrDirectoryEntry slots → ⊥
 scan_none by firsts known [] parts e slots are entries = absurd (cc)
 scan_none by firsts known (s ∷ raws) parts e slots are entries = go (directory_entry_of_raw_slot s) refl e (λ x f. scan_none by firsts (directory_scan_with_entry by firsts known x) raws parts.1 f p.others p.are_others (All-tail IsFileOrDirectoryEntry p.first p.others all))
   where
@@ -231,7 +231,7 @@ scan_none by firsts known (s ∷ raws) parts e slots are entries = go (directory
     all : All IsFileOrDirectoryEntry (p.first ∷ p.others)
     all = subst (All IsFileOrDirectoryEntry) p.all_are entries
 
-    go : (o : Option NameAndReference) → directory_entry_of_raw_slot s ≡ o → option_and_then (λ x. directory_scan_after_slots by firsts (directory_scan_with_entry by firsts known x) raws) o ≡ None
-        → ((x : NameAndReference) → directory_scan_after_slots by firsts (directory_scan_with_entry by firsts known x) raws ≡ None → ⊥) → ⊥
+    go : (o : Option EntryNameAndReference) → directory_entry_of_raw_slot s ≡ o → option_and_then (λ x. directory_scan_after_slots by firsts (directory_scan_with_entry by firsts known x) raws) o ≡ None
+        → ((x : EntryNameAndReference) → directory_scan_after_slots by firsts (directory_scan_with_entry by firsts known x) raws ≡ None → ⊥) → ⊥
     go None f g next = entry_none s p.first parts.0 f p.is_first (All-head IsFileOrDirectoryEntry p.first p.others all)
     go (Some x) f g next = next x g

@@ -10,71 +10,71 @@ use Rattle.lfs_model.specs.Content.{RawSlot}
 use Rattle.lfs_model.specs.Disk.{Disk, block_count}
 use Rattle.lfs_model.specs.Names.{Name}
 use Rattle.lfs_model.specs.Slots.{Slot, Gstate, same_pair}
-use Rattle.lfs_model.specs.Thread.{Pair, ThreadDirectory, directories_with_pair_first, is_hard_tail, entries_not_moved, gstate_of, pairs_of_all_directories, directories_of_pairs}
+use Rattle.lfs_model.specs.Thread.{Pair, ThreadDirectory, directories_with_pair_prepended, is_hard_tail, entries_not_moved, gstate_of_pairs, pairs_from_root_directory_on, directories_of_pairs}
 use Rattle.lfs_model.specs.Shown.{directories_in_thread}
 use Rattle.lfs_model.proofs.Counts.{Each, each_append}
 use Rattle.lfs_model.proofs.Superblocks.{pairs_behind}
-use Rattle.lfs_mount.specs.Reaching.{DirectoryVertex, DirectoryGraph}
+use Rattle.lfs_mount.specs.Reaching.{DirectoryVertexWithSoundnessAndBranches, DirectoryGraph}
 use Rattle.lfs_mount.specs.DirectoryView.{directory_vertex_view, directory_graph_view}
-use Rattle.lfs_thread.specs.Places.{place_of_pair_address}
-use Rattle.lfs_mount.specs.Entries.{comes_after_name, InSlot, InList, Below, NameAndReference, directory_entry_of_raw_slot, vertex_with_branch, directory_scan_with_entry, empty_directory_scan}
+use Rattle.lfs_thread.specs.Places.{index_of_pair_address}
+use Rattle.lfs_mount.specs.Entries.{comes_after_name, InSlot, InList, Below, EntryNameAndReference, directory_entry_of_raw_slot, directory_vertex_with_branch, directory_scan_with_entry, empty_directory_scan}
 use Rattle.lfs_mount.specs.Scanned.{directory_scan_after_slots}
-use Rattle.lfs_mount.specs.Passed.{directory_scan_after_pair, graph_with_ended_directory, PassesOverDirectoryPairs}
-use Rattle.lfs_mount.specs.Described.{ArePairsDescribedByMembers}
-use Rattle.lfs_mount.specs.Checked.{HasThreadKnownFromHeaders}
-use Rattle.lfs_mount.specs.declared.pass.Member.{Member}
+use Rattle.lfs_mount.specs.Passed.{directory_scan_kept_only_after_hard_tail, graph_with_ended_directory, ScansPairsIntoDirectoryGraph}
+use Rattle.lfs_mount.specs.Described.{AreDescriptionsOfPairsOnDisk}
+use Rattle.lfs_mount.specs.Checked.{HasThreadMatchingMapAndPairDescriptions}
+use Rattle.lfs_mount.specs.declared.pass.DirectoryPair.{DirectoryPair}
 use Rattle.lfs_mount.specs.declared.reachability.Directory.{Directory}
 use Rattle.lfs_mount.proofs.Ending.{known_drawn}
 
-abbrev Below_all : ℕ → DirectoryVertex → Type 0
+abbrev Below_all : ℕ → DirectoryVertexWithSoundnessAndBranches → Type 0
 Below_all n v = Each (λ b. b < n) v.branches
 
-place_within : (firsts : List (ℕ × ℕ)) (at : ℕ × ℕ) (i : ℕ) → place_of_pair_address firsts at ≡ Some i → i < length firsts
+place_within : (firsts : List (ℕ × ℕ)) (at : ℕ × ℕ) (i : ℕ) → index_of_pair_address firsts at ≡ Some i → i < length firsts
 place_within [] at i e = absurd (cc)
-place_within (a ∷ firsts) at i e = go (same_pair a at) (place_of_pair_address firsts at) e (λ j f. place_within firsts at j f)
+place_within (a ∷ firsts) at i e = go (same_pair a at) (index_of_pair_address firsts at) e (λ j f. place_within firsts at j f)
   where
     go : (b : Bool) (o : Option ℕ) → cond b (Some 0) (option_map (λ j. suc j) o) ≡ Some i → ((j : ℕ) → o ≡ Some j → j < length firsts) → i < suc (length firsts)
     go true o g next = let h = same_Some 0 i g in omega arith
     go false None g next = absurd (cc)
     go false (Some j) g next = let h = same_Some (suc j) i g in let k = next j refl in omega arith
 
-branch_within : (firsts : List (ℕ × ℕ)) (v : DirectoryVertex) (to : ℕ × ℕ) → Below_all (length firsts) v → Below_all (length firsts) (vertex_with_branch v (place_of_pair_address firsts to))
-branch_within firsts v to h = go (place_of_pair_address firsts to) refl
+branch_within : (firsts : List (ℕ × ℕ)) (v : DirectoryVertexWithSoundnessAndBranches) (to : ℕ × ℕ) → Below_all (length firsts) v → Below_all (length firsts) (directory_vertex_with_branch v (index_of_pair_address firsts to))
+branch_within firsts v to h = go (index_of_pair_address firsts to) refl
   where
-    go : (o : Option ℕ) → place_of_pair_address firsts to ≡ o → Below_all (length firsts) (vertex_with_branch v o)
+    go : (o : Option ℕ) → index_of_pair_address firsts to ≡ o → Below_all (length firsts) (directory_vertex_with_branch v o)
     go None e = h
     go (Some i) e = each_append (λ b. b < length firsts) v.branches (i ∷ []) h (place_within firsts to i e, tt)
 
-entry_within : (by : NameOrder) (firsts : List (ℕ × ℕ)) (known : Name × DirectoryVertex) (e : NameAndReference) → Below_all (length firsts) known.1 → Below_all (length firsts) (directory_scan_with_entry by firsts known e).1
+entry_within : (by : NameOrder) (firsts : List (ℕ × ℕ)) (known : Name × DirectoryVertexWithSoundnessAndBranches) (e : EntryNameAndReference) → Below_all (length firsts) known.1 → Below_all (length firsts) (directory_scan_with_entry by firsts known e).1
 entry_within by firsts (last, v) (name, InSlot) h = h
 entry_within by firsts (last, v) (name, InList head size) h = h
 entry_within by firsts (last, v) (name, Below to) h = branch_within firsts (record v { is_sound = v.is_sound && comes_after_name by last name }) to h
 
-parts_of : {X : Type 0} (f : NameAndReference → Option X) (y : X) (o : Option NameAndReference) → option_and_then f o ≡ Some y → (x : NameAndReference) × (f x ≡ Some y)
+parts_of : {X : Type 0} (f : EntryNameAndReference → Option X) (y : X) (o : Option EntryNameAndReference) → option_and_then f o ≡ Some y → (x : EntryNameAndReference) × (f x ≡ Some y)
 parts_of f y None e = absurd (cc)
 parts_of f y (Some x) e = (x, e)
 
-scan_within : (by : NameOrder) (firsts : List (ℕ × ℕ)) (known new : Name × DirectoryVertex) (raws : List RawSlot) → directory_scan_after_slots by firsts known raws ≡ Some new → Below_all (length firsts) known.1 → Below_all (length firsts) new.1
-scan_within by firsts known new [] e h = subst (λ (k : Name × DirectoryVertex). Below_all (length firsts) k.1) (same_Some known new e) h
+scan_within : (by : NameOrder) (firsts : List (ℕ × ℕ)) (known new : Name × DirectoryVertexWithSoundnessAndBranches) (raws : List RawSlot) → directory_scan_after_slots by firsts known raws ≡ Some new → Below_all (length firsts) known.1 → Below_all (length firsts) new.1
+scan_within by firsts known new [] e h = subst (λ (k : Name × DirectoryVertexWithSoundnessAndBranches). Below_all (length firsts) k.1) (same_Some known new e) h
 scan_within by firsts known new (r ∷ raws) e h =
     let x = parts_of (λ y. directory_scan_after_slots by firsts (directory_scan_with_entry by firsts known y) raws) new (directory_entry_of_raw_slot r) e in
     scan_within by firsts (directory_scan_with_entry by firsts known x.0) new raws x.1 (entry_within by firsts known x.0 h)
 
-hand_within : (n : ℕ) (hard : Bool) (new : Name × DirectoryVertex) → Below_all n new.1 → Below_all n (directory_scan_after_pair hard new).1
+hand_within : (n : ℕ) (hard : Bool) (new : Name × DirectoryVertexWithSoundnessAndBranches) → Below_all n new.1 → Below_all n (directory_scan_kept_only_after_hard_tail hard new).1
 hand_within n true new h = h
 hand_within n false new h = tt
 
-ended_within : (n : ℕ) (hard : Bool) (new : Name × DirectoryVertex) (rest : DirectoryGraph) → Below_all n new.1 → Each (Below_all n) rest → Each (Below_all n) (graph_with_ended_directory hard new rest)
+ended_within : (n : ℕ) (hard : Bool) (new : Name × DirectoryVertexWithSoundnessAndBranches) (rest : DirectoryGraph) → Below_all n new.1 → Each (Below_all n) rest → Each (Below_all n) (graph_with_ended_directory hard new rest)
 ended_within n true new rest h k = k
 ended_within n false new rest h k = (h, k)
 
-passes_within : (disk : Disk) (firsts : List (ℕ × ℕ)) (known : Name × DirectoryVertex) (sets : BlockStateList) (ms : List Member) (graph : DirectoryGraph) (end : BlockStateList) → PassesOverDirectoryPairs disk firsts known sets ms graph end
+passes_within : (disk : Disk) (firsts : List (ℕ × ℕ)) (known : Name × DirectoryVertexWithSoundnessAndBranches) (sets : BlockStateList) (ms : List DirectoryPair) (graph : DirectoryGraph) (end : BlockStateList) → ScansPairsIntoDirectoryGraph disk firsts known sets ms graph end
     → Below_all (length firsts) known.1 → Each (Below_all (length firsts)) graph
 passes_within disk firsts known sets [] graph end (e, f) h = subst (Each (Below_all (length firsts))) (sym e) tt
 passes_within disk firsts known sets (m ∷ ms) graph end (new, mid, rest, (takes, (e, more))) h =
     let k = scan_within disk.order firsts known new takes.entries takes.scan h in
     subst (Each (Below_all (length firsts))) (sym e)
-    (ended_within (length firsts) m.is_hard new rest k (passes_within disk firsts (directory_scan_after_pair m.is_hard new) mid ms rest end more (hand_within (length firsts) m.is_hard new k)))
+    (ended_within (length firsts) m.is_hard new rest k (passes_within disk firsts (directory_scan_kept_only_after_hard_tail m.is_hard new) mid ms rest end more (hand_within (length firsts) m.is_hard new k)))
 
 -- ---- the directories of the code
 
@@ -82,13 +82,13 @@ each_within : (by : NameOrder) (n : ℕ) (ds : List Directory) → Each (Below_a
 each_within by n [] h = tt
 each_within by n (d ∷ ds) h = (All-from_recursion (λ b. b < n) d.branches.items h.0, each_within by n ds h.1)
 
-some_joined : (at : ℕ × ℕ) (hard : Bool) (slots : List Slot) (ds : List ThreadDirectory) → 0 < length (directories_with_pair_first at hard slots ds)
+some_joined : (at : ℕ × ℕ) (hard : Bool) (slots : List Slot) (ds : List ThreadDirectory) → 0 < length (directories_with_pair_prepended at hard slots ds)
 some_joined at hard slots [] = omega arith
 some_joined at true slots (d ∷ ds) = omega arith
 some_joined at false slots (d ∷ ds) = omega arith
 
-module _ (disk : Disk) (sets : BlockStateList) (firsts : List (ℕ × ℕ)) (ms : List Member) (sync : Bool) (known : HasThreadKnownFromHeaders disk sets firsts ms sync) (by : NameOrder) (ds : List Directory) (end : BlockStateList)
-    (passes : PassesOverDirectoryPairs disk firsts empty_directory_scan sets ms (directory_graph_view by ds) end) where
+module _ (disk : Disk) (sets : BlockStateList) (firsts : List (ℕ × ℕ)) (ms : List DirectoryPair) (sync : Bool) (known : HasThreadMatchingMapAndPairDescriptions disk sets firsts ms sync) (by : NameOrder) (ds : List Directory) (end : BlockStateList)
+    (passes : ScansPairsIntoDirectoryGraph disk firsts empty_directory_scan sets ms (directory_graph_view by ds) end) where
   abbrev ps : List Pair
   ps = known.0 ++ known.1 ∷ known.2
 
@@ -100,10 +100,10 @@ module _ (disk : Disk) (sets : BlockStateList) (firsts : List (ℕ × ℕ)) (ms 
 
   pub some_directory : 0 < length ds
   some_directory =
-      let e : pairs_of_all_directories ps ≡ known.1 ∷ known.2 = pairs_behind known.0 (known.1 ∷ known.2) known.3.chain_is in
-      let lt : 0 < length (directories_of_pairs (gstate_of ps) (known.1 ∷ known.2)) =
-      some_joined known.1.at (is_hard_tail known.1.content.tail) (entries_not_moved (gstate_of ps) known.1) (directories_of_pairs (gstate_of ps) known.2) in
-      let l = ap (λ qs. length (directories_of_pairs (gstate_of ps) qs)) e in
+      let e : pairs_from_root_directory_on ps ≡ known.1 ∷ known.2 = pairs_behind known.0 (known.1 ∷ known.2) known.3.chain_is in
+      let lt : 0 < length (directories_of_pairs (gstate_of_pairs ps) (known.1 ∷ known.2)) =
+      some_joined known.1.at (is_hard_tail known.1.content.tail) (entries_not_moved (gstate_of_pairs ps) known.1) (directories_of_pairs (gstate_of_pairs ps) known.2) in
+      let l = ap (λ qs. length (directories_of_pairs (gstate_of_pairs ps) qs)) e in
       let s = same_length.0 in
       omega arith
 
@@ -114,11 +114,11 @@ module _ (disk : Disk) (sets : BlockStateList) (firsts : List (ℕ × ℕ)) (ms 
 
 -- ---- the blocks that hold are on the device
 
-each_member : (disk : Disk) (g : Gstate) (is_first : Bool) (qs : List Pair) (ms : List Member) → ArePairsDescribedByMembers disk g is_first qs ms → Each (λ (m : Member). m.active < block_count disk) ms
+each_member : (disk : Disk) (g : Gstate) (is_first : Bool) (qs : List Pair) (ms : List DirectoryPair) → AreDescriptionsOfPairsOnDisk disk g is_first qs ms → Each (λ (m : DirectoryPair). m.active < block_count disk) ms
 each_member disk g is_first [] [] h = tt
 each_member disk g is_first [] (m ∷ ms) h = absurd h
 each_member disk g is_first (p ∷ qs) [] h = absurd h
 each_member disk g is_first (p ∷ qs) (m ∷ ms) h = (h.0.within, each_member disk g false qs ms h.1)
 
-pub members_within : (disk : Disk) (g : Gstate) (is_first : Bool) (qs : List Pair) (ms : List Member) → ArePairsDescribedByMembers disk g is_first qs ms → All (λ (m : Member). m.active < block_count disk) ms
-members_within disk g is_first qs ms h = All-from_recursion (λ (m : Member). m.active < block_count disk) ms (each_member disk g is_first qs ms h)
+pub members_within : (disk : Disk) (g : Gstate) (is_first : Bool) (qs : List Pair) (ms : List DirectoryPair) → AreDescriptionsOfPairsOnDisk disk g is_first qs ms → All (λ (m : DirectoryPair). m.active < block_count disk) ms
+members_within disk g is_first qs ms h = All-from_recursion (λ (m : DirectoryPair). m.active < block_count disk) ms (each_member disk g is_first qs ms h)

@@ -2,16 +2,16 @@
 use Rattle.std.specs.Prelude.{ℕ, ◌≡◌, Bool, true, false, List, [], ◌∷◌, ◌++◌, length}
 use Rattle.lfs_model.specs.BlockSets.{AreExactlyTheInFlightBlocks, AreExactlyTheUsedBlocks, BlockStateList}
 use Rattle.lfs_model.specs.Disk.{Disk, block_count}
-use Rattle.lfs_model.specs.Thread.{Pair, gstate_of}
-use Rattle.lfs_model.specs.View.{IsAcceptedImage, IsMoveOrNone}
+use Rattle.lfs_model.specs.Thread.{Pair, gstate_of_pairs}
+use Rattle.lfs_model.specs.View.{IsAcceptedImage, HasValidMoveOrNone}
 use Rattle.lfs_model.specs.Shown.{used_blocks}
-use Rattle.lfs_model.specs.History.{CallEvent, AreCallsSinceOnlyReads, faults}
+use Rattle.lfs_model.specs.History.{DeviceCallEvent, AreCallsSinceOnlyReads, fault_count_of_history}
 use Rattle.lfs_thread.specs.Kept.{PairHeader, ThreadView, pairs_of_headers}
 use Rattle.lfs_mount.specs.Checked.{HasSuperblockChain}
-use Rattle.lfs_mount.specs.Moves.{IsMovedSlotEntry}
+use Rattle.lfs_mount.specs.Moves.{HasEntryAtSlotNamedBySetMove}
 
 -- a map of as many blocks as before, of which these are used, and all others are free
-pub record MapUsesOnlyTheseBlocks (old new : BlockStateList) (bs : List ℕ) : Type 0 where
+pub record MapUsesExactlyTheseBlocks (old new : BlockStateList) (bs : List ℕ) : Type 0 where
   pub len : length new ≡ length old
   pub used : AreExactlyTheUsedBlocks new bs
   pub none_in_flight : AreExactlyTheInFlightBlocks new []
@@ -19,22 +19,22 @@ pub record MapUsesOnlyTheseBlocks (old new : BlockStateList) (bs : List ℕ) : T
 -- The slot that a set move names is an entry. Where the superblock's pairs are right, the map has the image's blocks. Where the
 -- move is right too, the image is accepted if the directories fit the disk's order of names. If they don't fit it, the image
 -- isn't accepted.
-pub record IsAcceptedIfDirectoriesFitOrder (disk : Disk) (fits : Bool) (old new : BlockStateList) (chain : List Pair) (p : Pair) (rest : List Pair) : Type 0 where
-  pub moved : IsMovedSlotEntry (gstate_of (chain ++ p ∷ rest)) (p ∷ rest)
-  pub marked : (bytes : List ℕ) → HasSuperblockChain disk chain p rest bytes → MapUsesOnlyTheseBlocks old new (used_blocks disk (chain ++ p ∷ rest))
-  pub accepted : fits ≡ true → (bytes : List ℕ) → HasSuperblockChain disk chain p rest bytes → IsMoveOrNone (chain ++ p ∷ rest) (gstate_of (chain ++ p ∷ rest)) → IsAcceptedImage disk (chain ++ p ∷ rest)
+pub record IsImageAcceptedIfDirectoriesFitNameOrder (disk : Disk) (fits : Bool) (old new : BlockStateList) (chain : List Pair) (p : Pair) (rest : List Pair) : Type 0 where
+  pub moved : HasEntryAtSlotNamedBySetMove (gstate_of_pairs (chain ++ p ∷ rest)) (p ∷ rest)
+  pub marked : (bytes : List ℕ) → HasSuperblockChain disk chain p rest bytes → MapUsesExactlyTheseBlocks old new (used_blocks disk (chain ++ p ∷ rest))
+  pub accepted : fits ≡ true → (bytes : List ℕ) → HasSuperblockChain disk chain p rest bytes → HasValidMoveOrNone (chain ++ p ∷ rest) (gstate_of_pairs (chain ++ p ∷ rest)) → IsAcceptedImage disk (chain ++ p ∷ rest)
   pub refused : fits ≡ false → IsAcceptedImage disk (chain ++ p ∷ rest) → ⊥
 
 -- The map has the image's blocks. The image is accepted if its directories fit the disk's order of names. If they don't fit it,
 -- no image is accepted.
-pub record HasAcceptedImageIfOrderFits (disk : Disk) (headers : List PairHeader) (fits : Bool) (old new : BlockStateList) : Type 0 where
-  pub marked : MapUsesOnlyTheseBlocks old new (used_blocks disk (pairs_of_headers disk headers))
+pub record HasAcceptedImageIfNameOrderFits (disk : Disk) (headers : List PairHeader) (fits : Bool) (old new : BlockStateList) : Type 0 where
+  pub marked : MapUsesExactlyTheseBlocks old new (used_blocks disk (pairs_of_headers disk headers))
   pub accepted : fits ≡ true → IsAcceptedImage disk (pairs_of_headers disk headers)
   pub refused : fits ≡ false → (ps : List Pair) → IsAcceptedImage disk ps → ⊥
 
 -- The thread of an accepted image, whose device was only read, without a fault. The map has all blocks. None but the image's are
 -- used, and none is in flight.
-pub record IsMountedThread (disk : Disk) (history : List CallEvent) (t : ThreadView) : Type 0 where
+pub record IsMountedThread (disk : Disk) (history : List DeviceCallEvent) (t : ThreadView) : Type 0 where
   pub works : t.failed ≡ false
   pub disk_is : t.kept.disk ≡ disk
   pub reads : AreCallsSinceOnlyReads disk.blocks history t.kept.history
@@ -42,4 +42,4 @@ pub record IsMountedThread (disk : Disk) (history : List CallEvent) (t : ThreadV
   pub used : AreExactlyTheUsedBlocks t.kept.map (used_blocks disk t.kept.pairs)
   pub none_in_flight : AreExactlyTheInFlightBlocks t.kept.map []
   pub size : length t.kept.map ≡ block_count disk
-  pub no_fault : faults t.kept.history ≡ faults history
+  pub no_fault : fault_count_of_history t.kept.history ≡ fault_count_of_history history

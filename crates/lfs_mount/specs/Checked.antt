@@ -5,13 +5,13 @@ use Rattle.lfs_model.specs.BlockSets.{BlockStateList}
 use Rattle.lfs_model.specs.Content.{current_block_of_pair_at, content_of_pair_at}
 use Rattle.lfs_model.specs.Disk.{Disk, block_count}
 use Rattle.lfs_model.specs.Slots.{Slot, is_superblock}
-use Rattle.lfs_model.specs.Thread.{Pair, IsThread, blocks_of_pairs, first_pair_address, pairs_from_first_slot, gstate_of, pair_count_before_root}
+use Rattle.lfs_model.specs.Thread.{Pair, IsThreadOfMetadataPairs, blocks_of_pairs, first_pair_address, pairs_from_first_with_slots, gstate_of_pairs, pair_count_before_root}
 use Rattle.lfs_model.specs.View.{HasInlineStruct, BeginsWithLogEntry, superblock_name_log_entry, IsSuperblockStruct, first_slot_name}
 use Rattle.lfs_model.specs.Shown.{directories_in_thread}
-use Rattle.lfs_mount.specs.Entries.{directory_first_addresses}
-use Rattle.lfs_mount.specs.Marking.{HasExactlyUsedBlocks}
-use Rattle.lfs_mount.specs.Described.{ArePairsDescribedByMembers}
-use Rattle.lfs_mount.specs.declared.pass.Member.{Member}
+use Rattle.lfs_mount.specs.Entries.{first_pair_addresses_of_directories}
+use Rattle.lfs_mount.specs.Marking.{HasExactlyTheseUsedBlocks}
+use Rattle.lfs_mount.specs.Described.{AreDescriptionsOfPairsOnDisk}
+use Rattle.lfs_mount.specs.declared.pass.DirectoryPair.{DirectoryPair}
 
 abbrev pub BeginsWithSuperblockSlot : List ℕ → List Slot → Type 0
 BeginsWithSuperblockSlot bytes [] = ⊥
@@ -30,22 +30,22 @@ HasAtMostSuperblockSlot bytes p = (p.content.slots ≡ []) ⊎ HasSuperblockSlot
 
 -- the superblock's chain up to the root's first pair
 pub record HasSuperblockChain (disk : Disk) (chain : List Pair) (p : Pair) (rest : List Pair) (bytes : List ℕ) : Type 0 where
-  pub first : BeginsWithLogEntry (current_block_of_pair_at disk (first_pair_address (pairs_from_first_slot (chain ++ p ∷ rest)))) superblock_name_log_entry
-  pub named : first_slot_name (pairs_from_first_slot (chain ++ p ∷ rest)) ≡ Some (codes "littlefs")
+  pub first : BeginsWithLogEntry (current_block_of_pair_at disk (first_pair_address (pairs_from_first_with_slots (chain ++ p ∷ rest)))) superblock_name_log_entry
+  pub named : first_slot_name (pairs_from_first_with_slots (chain ++ p ∷ rest)) ≡ Some (codes "littlefs")
   pub struct : IsSuperblockStruct disk bytes
   pub bare : AllByRecursion (HasAtMostSuperblockSlot bytes) chain
   pub start : BeginsWithSuperblockSlot bytes p.content.slots
 
 -- A thread in three parts: the chain before the root's first pair, that pair, and the others. The blocks of its pairs are marked,
 -- and its directories have their places.
-pub record IsThreadKnownFromHeaders (disk : Disk) (sets : BlockStateList) (firsts : List (ℕ × ℕ)) (members : List Member) (sync : Bool) (chain : List Pair) (p : Pair) (rest : List Pair) : Type 0 where
-  pub thread : IsThread (content_of_pair_at disk) (block_count disk) (chain ++ p ∷ rest)
+pub record IsThreadMatchingMapAndPairDescriptions (disk : Disk) (sets : BlockStateList) (firsts : List (ℕ × ℕ)) (members : List DirectoryPair) (sync : Bool) (chain : List Pair) (p : Pair) (rest : List Pair) : Type 0 where
+  pub thread : IsThreadOfMetadataPairs (content_of_pair_at disk) (block_count disk) (chain ++ p ∷ rest)
   pub chain_is : pair_count_before_root (chain ++ p ∷ rest) ≡ length chain
   pub sets_len : length sets ≡ block_count disk
-  pub owns : HasExactlyUsedBlocks sets (blocks_of_pairs (chain ++ p ∷ rest))
-  pub described : ArePairsDescribedByMembers disk (gstate_of (chain ++ p ∷ rest)) true (p ∷ rest) members
-  pub places : firsts ≡ directory_first_addresses (directories_in_thread (chain ++ p ∷ rest))
-  pub sync_is : (gstate_of (chain ++ p ∷ rest)).sync ≡ sync
+  pub owns : HasExactlyTheseUsedBlocks sets (blocks_of_pairs (chain ++ p ∷ rest))
+  pub described : AreDescriptionsOfPairsOnDisk disk (gstate_of_pairs (chain ++ p ∷ rest)) true (p ∷ rest) members
+  pub places : firsts ≡ first_pair_addresses_of_directories (directories_in_thread (chain ++ p ∷ rest))
+  pub sync_is : (gstate_of_pairs (chain ++ p ∷ rest)).sync ≡ sync
 
-abbrev pub HasThreadKnownFromHeaders : Disk → BlockStateList → List (ℕ × ℕ) → List Member → Bool → Type 0
-HasThreadKnownFromHeaders disk sets firsts members sync = (chain : List Pair) × (p : Pair) × (rest : List Pair) × IsThreadKnownFromHeaders disk sets firsts members sync chain p rest
+abbrev pub HasThreadMatchingMapAndPairDescriptions : Disk → BlockStateList → List (ℕ × ℕ) → List DirectoryPair → Bool → Type 0
+HasThreadMatchingMapAndPairDescriptions disk sets firsts members sync = (chain : List Pair) × (p : Pair) × (rest : List Pair) × IsThreadMatchingMapAndPairDescriptions disk sets firsts members sync chain p rest

@@ -4,24 +4,24 @@ use Rattle.lfs_model.specs.Disk.{Disk, block_bytes_on_disk, block_count}
 use Rattle.lfs_model.specs.Content.{current_block_of_pair_at, content_of_pair_at}
 use Rattle.lfs_model.specs.Slots.{Gstate, same_pair}
 use Rattle.lfs_model.specs.Thread.{Pair, is_hard_tail, starts_with_superblock}
-use Rattle.lfs_mount.specs.declared.pass.Member.{Member}
+use Rattle.lfs_mount.specs.declared.pass.DirectoryPair.{DirectoryPair}
 
 -- the id of the slot that a set move names in the pair
-abbrev pub moved_id_in_pair : Gstate → Pair → Option ℕ
-moved_id_in_pair g p = if g.kind == 0x4ff && same_pair g.pair p.at then Some g.id else None
+abbrev pub id_of_moved_slot_in_pair : Gstate → Pair → Option ℕ
+id_of_moved_slot_in_pair g p = if g.kind == 0x4ff && same_pair g.pair p.at then Some g.id else None
 
 -- The pair is on the disk, and this is what is known of it. The first pair has the superblock.
-pub record IsPairDescribedByMember (disk : Disk) (g : Gstate) (is_first : Bool) (p : Pair) (m : Member) : Type 0 where
+pub record IsDescriptionOfPairOnDisk (disk : Disk) (g : Gstate) (is_first : Bool) (p : Pair) (m : DirectoryPair) : Type 0 where
   pub content : content_of_pair_at disk p.at ≡ Some p.content
   pub within : m.active < block_count disk
   pub active : current_block_of_pair_at disk p.at ≡ Some (block_bytes_on_disk disk m.active)
   pub hard : m.is_hard ≡ is_hard_tail p.content.tail
   pub first : m.has_superblock ≡ is_first
   pub starts : is_first ≡ true → starts_with_superblock p.content.slots ≡ true
-  pub moved : m.moved ≡ moved_id_in_pair g p
+  pub moved : m.moved ≡ id_of_moved_slot_in_pair g p
 
-abbrev pub ArePairsDescribedByMembers : Disk → Gstate → Bool → List Pair → List Member → Type 0
-ArePairsDescribedByMembers disk g is_first [] [] = Unit {0}
-ArePairsDescribedByMembers disk g is_first [] (m ∷ ms) = ⊥
-ArePairsDescribedByMembers disk g is_first (p ∷ ps) [] = ⊥
-ArePairsDescribedByMembers disk g is_first (p ∷ ps) (m ∷ ms) = IsPairDescribedByMember disk g is_first p m × ArePairsDescribedByMembers disk g false ps ms
+abbrev pub AreDescriptionsOfPairsOnDisk : Disk → Gstate → Bool → List Pair → List DirectoryPair → Type 0
+AreDescriptionsOfPairsOnDisk disk g is_first [] [] = Unit {0}
+AreDescriptionsOfPairsOnDisk disk g is_first [] (m ∷ ms) = ⊥
+AreDescriptionsOfPairsOnDisk disk g is_first (p ∷ ps) [] = ⊥
+AreDescriptionsOfPairsOnDisk disk g is_first (p ∷ ps) (m ∷ ms) = IsDescriptionOfPairOnDisk disk g is_first p m × AreDescriptionsOfPairsOnDisk disk g false ps ms

@@ -2,13 +2,13 @@
 use Rattle.std.specs.Prelude.{ℕ, ◌==◌, ◌&&◌, Bool, true, false, if◌then◌else◌, List, [], ◌∷◌, ◌++◌, length, map, Option, Some, None}
 use Rattle.std.specs.Option.{option_and_then, option_map}
 use Rattle.lfs_model.specs.declared.order.NameOrder.{NameOrder}
-use Rattle.lfs_model.specs.Names.{Name, name_cmp, is_less_ordering, is_name}
+use Rattle.lfs_model.specs.Names.{Name, name_cmp, is_less_ordering, is_valid_name}
 use Rattle.lfs_model.specs.Slots.{Slot, Struct, Inline, Ctz, Branch}
 use Rattle.lfs_model.specs.Content.{RawSlot}
 use Rattle.lfs_model.specs.EntryTypes.{file_name_type, directory_name_type, inline_struct_type, ctz_struct_type, directory_struct_type, pair_address_of_bytes}
 use Rattle.lfs_model.specs.Thread.{ThreadDirectory}
-use Rattle.lfs_thread.specs.Places.{place_of_pair_address}
-use Rattle.lfs_mount.specs.Reaching.{DirectoryVertex}
+use Rattle.lfs_thread.specs.Places.{index_of_pair_address}
+use Rattle.lfs_mount.specs.Reaching.{DirectoryVertexWithSoundnessAndBranches}
 
 -- what an entry of a directory names, without a file's bytes
 pub data EntryReference : Type 0 where
@@ -22,10 +22,10 @@ entry_reference_of_struct (Ctz head size) = InList head size
 entry_reference_of_struct (Branch to) = Below to
 
 -- an entry: its name and what it names
-abbrev pub NameAndReference : Type 0
-NameAndReference = Name × EntryReference
+abbrev pub EntryNameAndReference : Type 0
+EntryNameAndReference = Name × EntryReference
 
-abbrev pub name_and_reference_of_slot : Slot → NameAndReference
+abbrev pub name_and_reference_of_slot : Slot → EntryNameAndReference
 name_and_reference_of_slot s = (s.name, entry_reference_of_struct s.struct)
 
 -- what an entry with this type of name and this struct names; none where the two don't suit
@@ -37,25 +37,25 @@ entry_reference_of_raw_struct kind part =
     else None))
 
 -- the entry that a slot of a log holds, where the slot may be in a directory
-abbrev pub directory_entry_of_raw_slot : RawSlot → Option NameAndReference
+abbrev pub directory_entry_of_raw_slot : RawSlot → Option EntryNameAndReference
 directory_entry_of_raw_slot s = option_and_then (λ name. option_and_then (λ struct.
-    if is_name name.1 then option_map (λ stand. (name.1, stand)) (entry_reference_of_raw_struct name.0 struct) else None) s.struct) s.name
+    if is_valid_name name.1 then option_map (λ stand. (name.1, stand)) (entry_reference_of_raw_struct name.0 struct) else None) s.struct) s.name
 
 -- ---- directories by their addresses
 
-abbrev pub directory_first_addresses : List ThreadDirectory → List (ℕ × ℕ)
-directory_first_addresses ds = map (λ d. d.at) ds
+abbrev pub first_pair_addresses_of_directories : List ThreadDirectory → List (ℕ × ℕ)
+first_pair_addresses_of_directories ds = map (λ d. d.at) ds
 
 -- ---- one entry more
 
-abbrev pub vertex_with_branch : DirectoryVertex → Option ℕ → DirectoryVertex
-vertex_with_branch v None = record v { is_sound = false }
-vertex_with_branch v (Some i) = record v { branches = v.branches ++ i ∷ [] }
+abbrev pub directory_vertex_with_branch : DirectoryVertexWithSoundnessAndBranches → Option ℕ → DirectoryVertexWithSoundnessAndBranches
+directory_vertex_with_branch v None = record v { is_sound = false }
+directory_vertex_with_branch v (Some i) = record v { branches = v.branches ++ i ∷ [] }
 
-abbrev pub vertex_with_branch_of_entry : List (ℕ × ℕ) → DirectoryVertex → EntryReference → DirectoryVertex
-vertex_with_branch_of_entry firsts v InSlot = v
-vertex_with_branch_of_entry firsts v (InList head size) = v
-vertex_with_branch_of_entry firsts v (Below to) = vertex_with_branch v (place_of_pair_address firsts to)
+abbrev pub directory_vertex_with_entry_branch : List (ℕ × ℕ) → DirectoryVertexWithSoundnessAndBranches → EntryReference → DirectoryVertexWithSoundnessAndBranches
+directory_vertex_with_entry_branch firsts v InSlot = v
+directory_vertex_with_entry_branch firsts v (InList head size) = v
+directory_vertex_with_entry_branch firsts v (Below to) = directory_vertex_with_branch v (index_of_pair_address firsts to)
 
 -- whether a name comes after the last one, which is empty where there is none
 abbrev pub comes_after_name : NameOrder → Name → Name → Bool
@@ -63,13 +63,13 @@ comes_after_name order [] name = true
 comes_after_name order (b ∷ last) name = is_less_ordering (name_cmp order (b ∷ last) name)
 
 -- what is known with one entry more
-abbrev pub directory_scan_with_entry : NameOrder → List (ℕ × ℕ) → Name × DirectoryVertex → NameAndReference → Name × DirectoryVertex
-directory_scan_with_entry order firsts (last, v) (name, stand) = (name, vertex_with_branch_of_entry firsts (record v { is_sound = v.is_sound && comes_after_name order last name }) stand)
+abbrev pub directory_scan_with_entry : NameOrder → List (ℕ × ℕ) → Name × DirectoryVertexWithSoundnessAndBranches → EntryNameAndReference → Name × DirectoryVertexWithSoundnessAndBranches
+directory_scan_with_entry order firsts (last, v) (name, stand) = (name, directory_vertex_with_entry_branch firsts (record v { is_sound = v.is_sound && comes_after_name order last name }) stand)
 
-abbrev pub directory_scan_with_entries : NameOrder → List (ℕ × ℕ) → Name × DirectoryVertex → List NameAndReference → Name × DirectoryVertex
+abbrev pub directory_scan_with_entries : NameOrder → List (ℕ × ℕ) → Name × DirectoryVertexWithSoundnessAndBranches → List EntryNameAndReference → Name × DirectoryVertexWithSoundnessAndBranches
 directory_scan_with_entries order firsts known [] = known
 directory_scan_with_entries order firsts known (e ∷ es) = directory_scan_with_entries order firsts (directory_scan_with_entry order firsts known e) es
 
 -- what is known before the first entry
-abbrev pub empty_directory_scan : Name × DirectoryVertex
+abbrev pub empty_directory_scan : Name × DirectoryVertexWithSoundnessAndBranches
 empty_directory_scan = ([], record { is_sound = true; branches = [] })

@@ -2,12 +2,12 @@
 use Rattle.std.specs.Prelude.{ℕ, ◌≡◌, ◌==◌, ◌&&◌, ◌||◌, Bool, false, List, [], ◌∷◌, ◌++◌, length, map, slice_get, Option, Some, None}
 use Rattle.std.specs.List.{AllByRecursion, fold}
 use Rattle.lfs_model.specs.Slots.{Gstate, Slot, gstate_xor, zero_gstate, same_pair}
-use Rattle.lfs_model.specs.Thread.{Pair, gstate_of, pair_count_before_root}
+use Rattle.lfs_model.specs.Thread.{Pair, gstate_of_pairs, pair_count_before_root}
 use Rattle.lfs_model.specs.View.{IsFileOrDirectoryEntry}
 use Rattle.lfs_tag.specs.FieldsView.{move_view}
-use Rattle.lfs_pair.specs.Pair.{address_of_header}
+use Rattle.lfs_pair.specs.Pair.{pair_address_in_header}
 use Rattle.lfs_thread.specs.Kept.{PairHeader}
-use Rattle.lfs_mount.specs.Described.{moved_id_in_pair}
+use Rattle.lfs_mount.specs.Described.{id_of_moved_slot_in_pair}
 
 -- the exclusive or of all pairs' deltas
 abbrev pub gstate_of_headers : List PairHeader → Gstate
@@ -19,13 +19,13 @@ is_pair_among_addresses pair [] = false
 is_pair_among_addresses pair (at ∷ ats) = same_pair pair at || is_pair_among_addresses pair ats
 
 -- whether no move is set, or one of a slot in one of the pairs at these addresses
-abbrev pub move_is_none_or_known : Gstate → List (ℕ × ℕ) → Bool
-move_is_none_or_known g ats = (g.kind == 0 && g.id == 0 && (g.pair.0 == 0 && g.pair.1 == 0)) || (g.kind == 0x4ff && is_pair_among_addresses g.pair ats)
+abbrev pub is_move_none_or_at_addresses : Gstate → List (ℕ × ℕ) → Bool
+is_move_none_or_at_addresses g ats = (g.kind == 0 && g.id == 0 && (g.pair.0 == 0 && g.pair.1 == 0)) || (g.kind == 0x4ff && is_pair_among_addresses g.pair ats)
 
 -- these are the headers of the directories' pairs in a thread with that global state
 pub record AreDirectoryHeadersWithGstate (g : Gstate) (headers : List PairHeader) (chain : List Pair) (p : Pair) (rest : List Pair) : Type 0 where
-  pub at : map (λ q. q.at) (p ∷ rest) ≡ map address_of_header headers
-  pub global : gstate_of (chain ++ p ∷ rest) ≡ g
+  pub at : map (λ q. q.at) (p ∷ rest) ≡ map pair_address_in_header headers
+  pub global : gstate_of_pairs (chain ++ p ∷ rest) ≡ g
   pub chain_is : pair_count_before_root (chain ++ p ∷ rest) ≡ length chain
 
 abbrev pub IsEntryAtIdIfSome : Option ℕ → List Slot → Type 0
@@ -33,5 +33,5 @@ IsEntryAtIdIfSome None slots = Unit {0}
 IsEntryAtIdIfSome (Some id) slots = (t : Slot) × ((slice_get slots id ≡ Some t) × IsFileOrDirectoryEntry t)
 
 -- the slot that a set move names is an entry of its pair
-abbrev pub IsMovedSlotEntry : Gstate → List Pair → Type 0
-IsMovedSlotEntry g ps = AllByRecursion (λ p. IsEntryAtIdIfSome (moved_id_in_pair g p) p.content.slots) ps
+abbrev pub HasEntryAtSlotNamedBySetMove : Gstate → List Pair → Type 0
+HasEntryAtSlotNamedBySetMove g ps = AllByRecursion (λ p. IsEntryAtIdIfSome (id_of_moved_slot_in_pair g p) p.content.slots) ps

@@ -5,42 +5,42 @@ use Rattle.std.specs.Option.{option_map_or}
 
 -- What is known of a directory by itself: whether its names rise and each directory in it is one of the graph's, and the numbers
 -- of these.
-pub record DirectoryVertex : Type 0 where
+pub record DirectoryVertexWithSoundnessAndBranches : Type 0 where
   pub is_sound : Bool
   pub branches : List ℕ
 
 -- the root is the first vertex
 abbrev pub DirectoryGraph : Type 0
-DirectoryGraph = List DirectoryVertex
+DirectoryGraph = List DirectoryVertexWithSoundnessAndBranches
 
 abbrev pub branches_of_vertex_at : DirectoryGraph → ℕ → List ℕ
 branches_of_vertex_at graph v = option_map_or (λ x. x.branches) (slice_get graph v) []
 
-abbrev pub is_vertex_sound_at : DirectoryGraph → ℕ → Bool
-is_vertex_sound_at graph v = option_map_or (λ x. x.is_sound) (slice_get graph v) false
+abbrev pub has_vertex_at_sorted_names_and_known_branches : DirectoryGraph → ℕ → Bool
+has_vertex_at_sorted_names_and_known_branches graph v = option_map_or (λ x. x.is_sound) (slice_get graph v) false
 
 abbrev pub branches_of_optional_vertex : DirectoryGraph → Option ℕ → List ℕ
 branches_of_optional_vertex graph None = []
 branches_of_optional_vertex graph (Some v) = branches_of_vertex_at graph v
 
 -- the directories found so far, and those that the one at place k leads to
-abbrev pub found_with_next_branches : DirectoryGraph → ℕ → List ℕ → List ℕ
-found_with_next_branches graph k found = found ++ branches_of_optional_vertex graph (slice_get found k)
+abbrev pub found_directories_with_next_branches : DirectoryGraph → ℕ → List ℕ → List ℕ
+found_directories_with_next_branches graph k found = found ++ branches_of_optional_vertex graph (slice_get found k)
 
 -- the directories found from the root, the first found first, after those at the first k places were looked into
-abbrev pub directories_found_after : DirectoryGraph → ℕ → List ℕ
-directories_found_after graph zero = 0 ∷ []
-directories_found_after graph (suc k) = found_with_next_branches graph k (directories_found_after graph k)
+abbrev pub directories_found_after_steps : DirectoryGraph → ℕ → List ℕ
+directories_found_after_steps graph zero = 0 ∷ []
+directories_found_after_steps graph (suc k) = found_directories_with_next_branches graph k (directories_found_after_steps graph k)
 
 -- The search has ended: each directory that was found was looked into and is sound. None was found twice.
-pub record HasSearchedAllDirectories (graph : DirectoryGraph) (k : ℕ) : Type 0 where
-  pub all : length (directories_found_after graph k) ≡ k
-  pub distinct : IsDistinct nat_eq (directories_found_after graph k)
-  pub sound : All (λ v. is_vertex_sound_at graph v ≡ true) (directories_found_after graph k)
+pub record EndsSearchWithoutUnsoundOrRepeatedVertex (graph : DirectoryGraph) (k : ℕ) : Type 0 where
+  pub all : length (directories_found_after_steps graph k) ≡ k
+  pub distinct : IsDistinct nat_eq (directories_found_after_steps graph k)
+  pub sound : All (λ v. has_vertex_at_sorted_names_and_known_branches graph v ≡ true) (directories_found_after_steps graph k)
 
 -- one directory was found twice, or the next one isn't sound
 abbrev pub MeetsUnsoundOrRepeatedVertex : DirectoryGraph → ℕ → Type 0
-MeetsUnsoundOrRepeatedVertex graph k = (IsDistinct nat_eq (directories_found_after graph k) → ⊥) ⊎ ((v : ℕ) × (slice_get (directories_found_after graph k) k ≡ Some v) × (is_vertex_sound_at graph v ≡ false))
+MeetsUnsoundOrRepeatedVertex graph k = (IsDistinct nat_eq (directories_found_after_steps graph k) → ⊥) ⊎ ((v : ℕ) × (slice_get (directories_found_after_steps graph k) k ≡ Some v) × (has_vertex_at_sorted_names_and_known_branches graph v ≡ false))
 
 -- the marks are those of the directories that were found, each once
 pub record AreMarksOfFoundDirectories (marks : List Bool) (found : List ℕ) : Type 0 where
@@ -57,6 +57,6 @@ pub record FindsNewDirectories (marks : List Bool) (found branches : List ℕ) (
 -- The marks are those of the directories that are found in the end, where each one was looked into.
 pub record AreMarksOfReachedDirectories (graph : DirectoryGraph) (marks : List Bool) : Type 0 where
   pub steps : ℕ
-  pub finished : HasSearchedAllDirectories graph steps
-  pub marked : AreMarksOfFoundDirectories marks (directories_found_after graph steps)
+  pub finished : EndsSearchWithoutUnsoundOrRepeatedVertex graph steps
+  pub marked : AreMarksOfFoundDirectories marks (directories_found_after_steps graph steps)
   pub len : length marks ≡ length graph

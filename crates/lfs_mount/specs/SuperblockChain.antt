@@ -2,12 +2,12 @@
 use Rattle.std.specs.Prelude.{ℕ, suc, ◌≡◌, ◌==◌, ◌&&◌, ◌||◌, Bool, true, false, if◌then◌else◌, List, [], ◌∷◌, ◌++◌, length, Option, Some, None, codes}
 use Rattle.std.specs.Option.{option_and_then, option_map}
 use Rattle.std.specs.Str.{bytes_eq}
-use Rattle.lfs_model.specs.Content.{RawSlot, content_after_log_entries, content_of_pair_at, empty_raw_content}
-use Rattle.lfs_model.specs.EntryTypes.{inline_struct_type, superblock_fields_at}
+use Rattle.lfs_model.specs.Content.{RawSlot, content_after_log_entries, content_of_pair_at, empty_raw_pair_content}
+use Rattle.lfs_model.specs.EntryTypes.{inline_struct_type, superblock_fields_of_struct_bytes}
 use Rattle.lfs_model.specs.Disk.{Disk, block_bytes_on_disk, block_count}
-use Rattle.lfs_model.specs.History.{CallEvent}
+use Rattle.lfs_model.specs.History.{DeviceCallEvent}
 use Rattle.lfs_model.specs.Log.{log_entries_of_block}
-use Rattle.lfs_model.specs.Thread.{Pair, IsThread, is_hard_tail, pair_count_before_root}
+use Rattle.lfs_model.specs.Thread.{Pair, IsThreadOfMetadataPairs, is_hard_tail, pair_count_before_root}
 use Rattle.lfs_model.specs.View.{BeginsWithLogEntry, superblock_name_log_entry}
 use Rattle.lfs_tag.specs.ContentView.{tail_view}
 use Rattle.lfs_tag.specs.KindView.{is_superblock_name}
@@ -27,13 +27,13 @@ has_name_bytes bytes None = false
 has_name_bytes bytes (Some name) = bytes_eq name.1 bytes
 
 -- whether these bytes are a superblock's struct of version 2.0, for `count` blocks of this size
-abbrev pub describes : ℕ → ℕ → List ℕ → Bool
-describes block_size count bytes =
-    length bytes == 24 && ((superblock_fields_at bytes).version == 0x00020000 && ((superblock_fields_at bytes).block_size == block_size && (superblock_fields_at bytes).block_count == count))
+abbrev pub is_superblock_struct_of_geometry : ℕ → ℕ → List ℕ → Bool
+is_superblock_struct_of_geometry block_size count bytes =
+    length bytes == 24 && ((superblock_fields_of_struct_bytes bytes).version == 0x00020000 && ((superblock_fields_of_struct_bytes bytes).block_size == block_size && (superblock_fields_of_struct_bytes bytes).block_count == count))
 
 abbrev pub superblock_struct_if_of_geometry : ℕ → ℕ → Option (List ℕ) → Option (List ℕ)
 superblock_struct_if_of_geometry block_size count None = None
-superblock_struct_if_of_geometry block_size count (Some bytes) = if describes block_size count bytes then Some bytes else None
+superblock_struct_if_of_geometry block_size count (Some bytes) = if is_superblock_struct_of_geometry block_size count bytes then Some bytes else None
 
 -- the struct in the first slot, where that is the superblock of a device of `count` blocks of this size
 abbrev pub superblock_struct_in_first_slot : ℕ → ℕ → List RawSlot → Option (List ℕ)
@@ -41,46 +41,46 @@ superblock_struct_in_first_slot block_size count [] = None
 superblock_struct_in_first_slot block_size count (s ∷ slots) =
     if is_superblock_name s.name && has_name_bytes (codes "littlefs") s.name then superblock_struct_if_of_geometry block_size count (inline_struct_bytes s.struct) else None
 
-abbrev pub some_true_if_same_bytes : List ℕ → Option (List ℕ) → Option Bool
-some_true_if_same_bytes bytes None = None
-some_true_if_same_bytes bytes (Some other) = if bytes_eq other bytes then Some true else None
+abbrev pub some_true_if_same_bytes_else_none : List ℕ → Option (List ℕ) → Option Bool
+some_true_if_same_bytes_else_none bytes None = None
+some_true_if_same_bytes_else_none bytes (Some other) = if bytes_eq other bytes then Some true else None
 
 -- whether the first slot is a superblock's; none where it is one with another struct
 abbrev pub first_slot_repeats_superblock : List ℕ → List RawSlot → Option Bool
 first_slot_repeats_superblock bytes [] = Some false
-first_slot_repeats_superblock bytes (s ∷ slots) = if is_superblock_name s.name then some_true_if_same_bytes bytes (inline_struct_bytes s.struct) else Some false
+first_slot_repeats_superblock bytes (s ∷ slots) = if is_superblock_name s.name then some_true_if_same_bytes_else_none bytes (inline_struct_bytes s.struct) else Some false
 
 -- ---- blocks
 
 -- the superblock's struct in the slots that a block's log comes to, and whether they repeat one
-abbrev pub superblock_of : ℕ → ℕ → List ℕ → Option (List ℕ)
-superblock_of block_size count block = option_and_then (λ c. superblock_struct_in_first_slot block_size count c.slots) (content_after_log_entries empty_raw_content (log_entries_of_block block))
+abbrev pub superblock_struct_in_block_log : ℕ → ℕ → List ℕ → Option (List ℕ)
+superblock_struct_in_block_log block_size count block = option_and_then (λ c. superblock_struct_in_first_slot block_size count c.slots) (content_after_log_entries empty_raw_pair_content (log_entries_of_block block))
 
 abbrev pub block_repeats_superblock : List ℕ → List ℕ → Option Bool
-block_repeats_superblock bytes block = option_and_then (λ c. first_slot_repeats_superblock bytes c.slots) (content_after_log_entries empty_raw_content (log_entries_of_block block))
+block_repeats_superblock bytes block = option_and_then (λ c. first_slot_repeats_superblock bytes c.slots) (content_after_log_entries empty_raw_pair_content (log_entries_of_block block))
 
 -- the block's log begins with the superblock's entry, and this is its struct
 pub record IsSuperblockStructInBlock (disk : Disk) (block : ℕ) (bytes : List ℕ) : Type 0 where
   pub begins : BeginsWithLogEntry (Some (block_bytes_on_disk disk block)) superblock_name_log_entry
-  pub struct : superblock_of disk.block_size (block_count disk) (block_bytes_on_disk disk block) ≡ Some bytes
+  pub struct : superblock_struct_in_block_log disk.block_size (block_count disk) (block_bytes_on_disk disk block) ≡ Some bytes
 
 -- ---- pairs
 
 -- whether the superblock's chain may continue after the pair: it has at most one slot and a hard tail
-abbrev pub leads_on : PairHeader → Bool
-leads_on h = (h.slot_count == 0 || h.slot_count == 1) && is_hard_tail (option_map tail_view h.tail)
+abbrev pub superblock_chain_may_continue_after : PairHeader → Bool
+superblock_chain_may_continue_after h = (h.slot_count == 0 || h.slot_count == 1) && is_hard_tail (option_map tail_view h.tail)
 
 -- the number of the first pair that has a slot, where the pairs before it have hard tails
-abbrev pub first_pair_with_slots : List PairHeader → Option ℕ
-first_pair_with_slots [] = None
-first_pair_with_slots (h ∷ hs) = if h.slot_count == 0 then (if is_hard_tail (option_map tail_view h.tail) then option_map (λ k. suc k) (first_pair_with_slots hs) else None) else Some 0
+abbrev pub number_of_first_pair_with_nonzero_slot_count : List PairHeader → Option ℕ
+number_of_first_pair_with_nonzero_slot_count [] = None
+number_of_first_pair_with_nonzero_slot_count (h ∷ hs) = if h.slot_count == 0 then (if is_hard_tail (option_map tail_view h.tail) then option_map (λ k. suc k) (number_of_first_pair_with_nonzero_slot_count hs) else None) else Some 0
 
 -- ---- the thread
 
 -- these are the headers of the disk's thread
-pub record AreHeadersOfDiskThread (disk : Disk) (history : List CallEvent) (headers : List PairHeader) : Type 0 where
+pub record AreHeadersOfDiskThread (disk : Disk) (history : List DeviceCallEvent) (headers : List PairHeader) : Type 0 where
   pub each : ArePairHeadersOnDisk disk history headers
-  pub thread : IsThread (content_of_pair_at disk) (block_count disk) (pairs_of_headers disk headers)
+  pub thread : IsThreadOfMetadataPairs (content_of_pair_at disk) (block_count disk) (pairs_of_headers disk headers)
 
 -- `count` pairs come before the root's first pair
 pub record HasSuperblockChainOfLength (disk : Disk) (ps : List Pair) (count : ℕ) : Type 0 where

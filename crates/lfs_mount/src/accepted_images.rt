@@ -1,29 +1,29 @@
 // A device's image, where it is accepted.
 
 ghost use Rattle.std.specs.Prelude.{ℕ, List, ◌≡◌, ◌≤◌, ◌<◌, ◌+◌, ◌%◌, ◌++◌, ◌∷◌, drop, length, sum_by, true, IfErr, IfNone, IfOk, IfSome, IsErrOf, OnOk};
-ghost use Rattle.lfs_alloc.specs.Next.{IsNextFree};
+ghost use Rattle.lfs_alloc.specs.Next.{IsNextFreeBlockInCircle};
 ghost use Rattle.lfs_device.specs.Calls.{ReadsOnly};
-ghost use Rattle.lfs_device.specs.Shown.{ordered};
-ghost use Rattle.lfs_model.specs.BlockSets.{IsFree};
-ghost use Rattle.lfs_model.specs.History.{reads};
+ghost use Rattle.lfs_device.specs.Shown.{disk_with_name_order};
+ghost use Rattle.lfs_model.specs.BlockSets.{IsBlockFree};
+ghost use Rattle.lfs_model.specs.History.{read_count_of_history};
 ghost use Rattle.lfs_model.specs.Thread.{Pair as ThreadPair};
 ghost use Rattle.lfs_model.specs.View.{IsAcceptedImage};
 ghost use Rattle.lfs_model.specs.declared.order.NameOrder.{NameOrder};
 ghost use Rattle.lfs_tag.specs.FieldsView.{move_view};
-ghost use Rattle.lfs_thread.specs.Device.{GivesDeviceBackWithError};
+ghost use Rattle.lfs_thread.specs.Device.{GivesDeviceBackOnlyReadWithError};
 ghost use Rattle.lfs_thread.specs.Kept.{disk_of_device, pairs_of_headers};
-ghost use Rattle.lfs_mount.specs.Accepted.{HasAcceptedImageIfOrderFits, IsAcceptedIfDirectoriesFitOrder, IsMountedThread};
+ghost use Rattle.lfs_mount.specs.Accepted.{HasAcceptedImageIfNameOrderFits, IsImageAcceptedIfDirectoriesFitNameOrder, IsMountedThread};
 ghost use Rattle.lfs_mount.specs.Device.{IsIoCorruptOrNoMemory, ReportsMountErrorsAndFaults};
-ghost use Rattle.lfs_mount.specs.Members.{AreDirectoryHeadersOfThread, IsThreadReadFromDisk, IsThreadOfDirectoryHeaders, members_of_headers};
+ghost use Rattle.lfs_mount.specs.Members.{AreDirectoryHeadersOfThread, IsThreadReadFromDisk, IsThreadMatchingMapAndDirectoryHeaders, pair_descriptions_of_headers};
 ghost use Rattle.lfs_mount.specs.Orders.{includes_name_order};
-ghost use Rattle.lfs_mount.specs.ReadImage.{IsAcceptedInOrders};
-ghost use Rattle.lfs_mount.specs.Reads.{check_reads, mount_reads, pair_reads};
+ghost use Rattle.lfs_mount.specs.ReadImage.{IsAcceptedInNameOrders};
+ghost use Rattle.lfs_mount.specs.Reads.{check_read_count, mount_read_count, pair_read_count};
 ghost use Rattle.lfs_mount.specs.Start.{allocation_seed};
 
-use crate::check::check_thread;
-use crate::members::{members_of_pair_headers, places_of};
+use crate::check::check_slots_and_mark_lists_of_thread;
+use crate::members::{directory_addresses_of_pairs, make_directory_pairs_from_headers};
 use crate::moves::check_move;
-use crate::orders::Orders;
+use crate::orders::NameOrderSet;
 use crate::superblock_chain::superblock_chain_length;
 use lfs_alloc::BlockMap;
 use lfs_device::{BlockDevice, Error};
@@ -43,13 +43,13 @@ pub fn mount<D: BlockDevice>(alloc: Global, device: D) -> Result<Thread<D>, (D, 
     ensures mounted { IfOk result (IsMountedThread (disk_of_device D.BlockDevice device) (D.history device)) }
     ensures corrupt { IfErr result (λ e. e.1 ≡ Error.Corrupt → (ps : List ThreadPair) → ¬ IsAcceptedImage (disk_of_device D.BlockDevice device) ps) }
     ensures errors { IfErr result (λ e. IsIoCorruptOrNoMemory e.1) }
-    ensures back { IfErr result (λ e. GivesDeviceBackWithError D.BlockDevice device e.0 e.1) }
-    ensures called { IfOk result (λ t. reads (D.history device) < reads t.kept.history) }
+    ensures back { IfErr result (λ e. GivesDeviceBackOnlyReadWithError D.BlockDevice device e.0 e.1) }
+    ensures called { IfOk result (λ t. read_count_of_history (D.history device) < read_count_of_history t.kept.history) }
     // Those of a fetch and one more for each pair, two more, and one for each block of a file's list.
-    ensures few { IfOk result (λ t. reads t.kept.history ≤ reads (D.history device) + mount_reads (disk_of_device D.BlockDevice device) t.kept.pairs) }
+    ensures few { IfOk result (λ t. read_count_of_history t.kept.history ≤ read_count_of_history (D.history device) + mount_read_count (disk_of_device D.BlockDevice device) t.kept.pairs) }
 {
-    let (thread, orders) = read_image(alloc, device)?;
-    if !orders.has(thread.device().geometry().order) {
+    let (thread, orders) = read_and_check_image(alloc, device)?;
+    if !orders.has_name_order(thread.device().geometry().order) {
         return Err((thread.into_device(), Error::Corrupt));
     }
     Ok(thread)
@@ -57,14 +57,14 @@ pub fn mount<D: BlockDevice>(alloc: Global, device: D) -> Result<Thread<D>, (D, 
 
 // Reads the image of a device, and finds the orders of names in which it is accepted. There may be
 // none; `Corrupt` says so too, and comes where something else than its names is wrong.
-pub(crate) fn read_image<D: BlockDevice>(
+pub(crate) fn read_and_check_image<D: BlockDevice>(
     alloc: Global,
     device: D,
-) -> Result<(Thread<D>, Orders), (D, Error)>
-    ensures read { IfOk result (λ r. IsAcceptedInOrders (disk_of_device D.BlockDevice device) (D.history device) r.0 r.1) }
-    ensures corrupt { IfErr result (λ e. e.1 ≡ Error.Corrupt → (order : NameOrder) (ps : List ThreadPair) → ¬ IsAcceptedImage (ordered order (disk_of_device D.BlockDevice device)) ps) }
+) -> Result<(Thread<D>, NameOrderSet), (D, Error)>
+    ensures read { IfOk result (λ r. IsAcceptedInNameOrders (disk_of_device D.BlockDevice device) (D.history device) r.0 r.1) }
+    ensures corrupt { IfErr result (λ e. e.1 ≡ Error.Corrupt → (order : NameOrder) (ps : List ThreadPair) → ¬ IsAcceptedImage (disk_with_name_order order (disk_of_device D.BlockDevice device)) ps) }
     ensures errors { IfErr result (λ e. IsIoCorruptOrNoMemory e.1) }
-    ensures back { IfErr result (λ e. GivesDeviceBackWithError D.BlockDevice device e.0 e.1) }
+    ensures back { IfErr result (λ e. GivesDeviceBackOnlyReadWithError D.BlockDevice device e.0 e.1) }
 {
     let thread = Thread::read(alloc, device)?;
     let state = thread.state();
@@ -89,17 +89,17 @@ fn check_image<D: BlockDevice>(
     map: &mut BlockMap,
     pairs: &[Pair],
     state: &MoveState,
-) -> Result<Orders, Error>
+) -> Result<NameOrderSet, Error>
     requires { IsThreadReadFromDisk (disk_of_device D.BlockDevice device.old) (D.history device.old) pairs.now map.old (move_view state.now) }
-    ensures image { IfOk result (λ orders. (order : NameOrder) → HasAcceptedImageIfOrderFits (ordered order (disk_of_device D.BlockDevice device.old)) pairs.now (includes_name_order order orders) map.old map.new) }
-    ensures corrupt { IsErrOf result Error.Corrupt → (order : NameOrder) (ps : List ThreadPair) → ¬ IsAcceptedImage (ordered order (disk_of_device D.BlockDevice device.old)) ps }
+    ensures image { IfOk result (λ orders. (order : NameOrder) → HasAcceptedImageIfNameOrderFits (disk_with_name_order order (disk_of_device D.BlockDevice device.old)) pairs.now (includes_name_order order orders) map.old map.new) }
+    ensures corrupt { IsErrOf result Error.Corrupt → (order : NameOrder) (ps : List ThreadPair) → ¬ IsAcceptedImage (disk_with_name_order order (disk_of_device D.BlockDevice device.old)) ps }
     ensures device { ReadsOnly D.BlockDevice device.old device.new }
     ensures errors { ReportsMountErrorsAndFaults D.BlockDevice device.old device.new result }
     ensures few { IfOk result (λ orders. (order : NameOrder) → includes_name_order order orders ≡ true
-        → reads (D.history device.new) ≤ reads (D.history device.old) + check_reads (disk_of_device D.BlockDevice device.old) (pairs_of_headers (disk_of_device D.BlockDevice device.old) pairs.now)) }
+        → read_count_of_history (D.history device.new) ≤ read_count_of_history (D.history device.old) + check_read_count (disk_of_device D.BlockDevice device.old) (pairs_of_headers (disk_of_device D.BlockDevice device.old) pairs.now)) }
 {
     let count = superblock_chain_length(alloc, device, pairs)?;
-    let directories = pairs_from(pairs, count);
+    let directories = pairs_from_index(pairs, count);
     check_move(state, directories)?;
     let orders = check_directories(alloc, device, map, directories, state)?;
     start_allocation_elsewhere(map, pairs);
@@ -108,7 +108,7 @@ fn check_image<D: BlockDevice>(
 
 // A number made of the image: how many blocks are used, and the pairs' revisions, which rise with
 // each mount that writes.
-fn image_number(map: &BlockMap, pairs: &[Pair]) -> u32
+fn allocation_seed_of_image(map: &BlockMap, pairs: &[Pair]) -> u32
     ensures { result ≡ allocation_seed map.now pairs.now }
 {
     let mut number = map.used_count();
@@ -121,16 +121,16 @@ fn image_number(map: &BlockMap, pairs: &[Pair]) -> u32
 // Lets the map hand out blocks from another one on after each mount, so that wear spreads, and
 // answers that block.
 fn start_allocation_elsewhere(map: &mut BlockMap, pairs: &[Pair]) -> Option<u32>
-    ensures next { IfSome result (IsNextFree map.old (allocation_seed map.old pairs.now % length map.old)) }
-    ensures none { IfNone result ((block : ℕ) → ¬ (IsFree map.old block)) }
+    ensures next { IfSome result (IsNextFreeBlockInCircle map.old (allocation_seed map.old pairs.now % length map.old)) }
+    ensures none { IfNone result ((block : ℕ) → ¬ (IsBlockFree map.old block)) }
     ensures same { map.new ≡ map.old }
 {
-    let number = image_number(map, pairs);
-    map.go_on_at(number)
+    let number = allocation_seed_of_image(map, pairs);
+    map.set_search_start_to_first_free_from(number)
 }
 
 // The pairs from an index on.
-fn pairs_from(pairs: &[Pair], index: usize) -> &[Pair]
+fn pairs_from_index(pairs: &[Pair], index: usize) -> &[Pair]
     requires { index ≤ length pairs.now }
     ensures { result.now ≡ drop index pairs.now }
 {
@@ -145,20 +145,22 @@ fn check_directories<D: BlockDevice>(
     map: &mut BlockMap,
     pairs: &[Pair],
     state: &MoveState,
-) -> Result<Orders, Error>
+) -> Result<NameOrderSet, Error>
     requires { AreDirectoryHeadersOfThread (disk_of_device D.BlockDevice device.old) map.old (move_view state.now) pairs.now }
     ensures ok { IfOk result (λ orders. (order : NameOrder) (chain : List ThreadPair) (p : ThreadPair) (rest : List ThreadPair)
-        → IsThreadOfDirectoryHeaders (ordered order (disk_of_device D.BlockDevice device.old)) map.old (move_view state.now) pairs.now chain p rest
-        → IsAcceptedIfDirectoriesFitOrder (ordered order (disk_of_device D.BlockDevice device.old)) (includes_name_order order orders) map.old map.new chain p rest) }
+        → IsThreadMatchingMapAndDirectoryHeaders (disk_with_name_order order (disk_of_device D.BlockDevice device.old)) map.old (move_view state.now) pairs.now chain p rest
+        → IsImageAcceptedIfDirectoriesFitNameOrder (disk_with_name_order order (disk_of_device D.BlockDevice device.old)) (includes_name_order order orders) map.old map.new chain p rest) }
     ensures corrupt { IsErrOf result Error.Corrupt → (order : NameOrder) (chain : List ThreadPair) (p : ThreadPair) (rest : List ThreadPair)
-        → IsThreadOfDirectoryHeaders (ordered order (disk_of_device D.BlockDevice device.old)) map.old (move_view state.now) pairs.now chain p rest
-        → ¬ IsAcceptedImage (ordered order (disk_of_device D.BlockDevice device.old)) (chain ++ p ∷ rest) }
+        → IsThreadMatchingMapAndDirectoryHeaders (disk_with_name_order order (disk_of_device D.BlockDevice device.old)) map.old (move_view state.now) pairs.now chain p rest
+        → ¬ IsAcceptedImage (disk_with_name_order order (disk_of_device D.BlockDevice device.old)) (chain ++ p ∷ rest) }
     ensures device { ReadsOnly D.BlockDevice device.old device.new }
     ensures errors { ReportsMountErrorsAndFaults D.BlockDevice device.old device.new result }
-    ensures few { OnOk result (reads (D.history device.new) ≤ reads (D.history device.old) + sum_by (pair_reads (disk_of_device D.BlockDevice device.old)) (members_of_headers (move_view state.now) true pairs.now)) }
+    ensures few { OnOk result (read_count_of_history (D.history device.new) ≤ read_count_of_history (D.history device.old) + sum_by (pair_read_count (disk_of_device D.BlockDevice device.old)) (pair_descriptions_of_headers (move_view state.now) true pairs.now)) }
 {
-    let members = members_of_pair_headers(alloc, state, pairs)?;
-    let places = places_of(alloc, pairs)?;
-    let orders = check_thread(alloc, device, map, &places, &members, state.sync)?;
+    let members = make_directory_pairs_from_headers(alloc, state, pairs)?;
+    let places = directory_addresses_of_pairs(alloc, pairs)?;
+    let orders = check_slots_and_mark_lists_of_thread(
+        alloc, device, map, &places, &members, state.sync,
+    )?;
     Ok(orders)
 }

@@ -2,21 +2,21 @@
 
 ghost use Rattle.std.specs.Prelude.{List, ◌≡◌, ◌≤◌, ◌+◌, ◌++◌, ◌∷◌, IfOk, OnOk, IsErrOf, sum_by};
 ghost use Rattle.lfs_device.specs.Calls.{ReadsOnly};
-ghost use Rattle.lfs_device.specs.Shown.{ordered};
-ghost use Rattle.lfs_model.specs.History.{reads};
+ghost use Rattle.lfs_device.specs.Shown.{disk_with_name_order};
+ghost use Rattle.lfs_model.specs.History.{read_count_of_history};
 ghost use Rattle.lfs_model.specs.Thread.{Pair};
 ghost use Rattle.lfs_model.specs.View.{IsAcceptedImage};
 ghost use Rattle.lfs_model.specs.declared.order.NameOrder.{NameOrder};
-ghost use Rattle.lfs_mount.specs.Checked.{HasThreadKnownFromHeaders, IsThreadKnownFromHeaders};
-ghost use Rattle.lfs_mount.specs.Accepted.{IsAcceptedIfDirectoriesFitOrder};
+ghost use Rattle.lfs_mount.specs.Checked.{HasThreadMatchingMapAndPairDescriptions, IsThreadMatchingMapAndPairDescriptions};
+ghost use Rattle.lfs_mount.specs.Accepted.{IsImageAcceptedIfDirectoriesFitNameOrder};
 ghost use Rattle.lfs_mount.specs.Device.{ReportsMountErrorsAndFaults};
 ghost use Rattle.lfs_thread.specs.Kept.{disk_of_device};
 ghost use Rattle.lfs_mount.specs.Orders.{includes_name_order};
-ghost use Rattle.lfs_mount.specs.Reads.{pair_reads};
+ghost use Rattle.lfs_mount.specs.Reads.{pair_read_count};
 
-use crate::orders::Orders;
-use crate::pass::{Member, scan_pairs_and_mark_lists};
-use crate::reachability::orders_of_sound_directories;
+use crate::orders::NameOrderSet;
+use crate::pass::{DirectoryPair, scan_pairs_and_mark_lists};
+use crate::reachability::name_orders_that_make_directories_a_tree;
 use lfs_alloc::BlockMap;
 use lfs_device::{BlockDevice, Error};
 use lfs_thread::PairAddressList;
@@ -37,27 +37,27 @@ use std::alloc::Global;
 // list isn't well formed, or a block is owned twice (SPEC.md of littlefs, "Metadata types";
 // DESIGN.md, "CTZ skip-lists", "Directories" and "The move problem"). `NoMemory` where memory isn't
 // granted, and `Io` where the device failed. After an error nothing is known of the map.
-pub(crate) fn check_thread<D: BlockDevice>(
+pub(crate) fn check_slots_and_mark_lists_of_thread<D: BlockDevice>(
     alloc: Global,
     device: &mut D,
     map: &mut BlockMap,
     places: &PairAddressList,
-    members: &[Member],
+    members: &[DirectoryPair],
     sync: bool,
-) -> Result<Orders, Error>
-    requires { HasThreadKnownFromHeaders (disk_of_device D.BlockDevice device.old) map.old places.now members.now sync }
+) -> Result<NameOrderSet, Error>
+    requires { HasThreadMatchingMapAndPairDescriptions (disk_of_device D.BlockDevice device.old) map.old places.now members.now sync }
     ensures ok { IfOk result (λ orders. (order : NameOrder) (chain : List Pair) (p : Pair) (rest : List Pair)
-        → IsThreadKnownFromHeaders (ordered order (disk_of_device D.BlockDevice device.old)) map.old places.now members.now sync chain p rest
-        → IsAcceptedIfDirectoriesFitOrder (ordered order (disk_of_device D.BlockDevice device.old)) (includes_name_order order orders) map.old map.new chain p rest) }
+        → IsThreadMatchingMapAndPairDescriptions (disk_with_name_order order (disk_of_device D.BlockDevice device.old)) map.old places.now members.now sync chain p rest
+        → IsImageAcceptedIfDirectoriesFitNameOrder (disk_with_name_order order (disk_of_device D.BlockDevice device.old)) (includes_name_order order orders) map.old map.new chain p rest) }
     ensures corrupt { IsErrOf result Error.Corrupt → (order : NameOrder) (chain : List Pair) (p : Pair) (rest : List Pair)
-        → IsThreadKnownFromHeaders (ordered order (disk_of_device D.BlockDevice device.old)) map.old places.now members.now sync chain p rest
-        → ¬ IsAcceptedImage (ordered order (disk_of_device D.BlockDevice device.old)) (chain ++ p ∷ rest) }
+        → IsThreadMatchingMapAndPairDescriptions (disk_with_name_order order (disk_of_device D.BlockDevice device.old)) map.old places.now members.now sync chain p rest
+        → ¬ IsAcceptedImage (disk_with_name_order order (disk_of_device D.BlockDevice device.old)) (chain ++ p ∷ rest) }
     ensures device { ReadsOnly D.BlockDevice device.old device.new }
     ensures errors { ReportsMountErrorsAndFaults D.BlockDevice device.old device.new result }
     // One read for each pair, and those of the files' lists.
-    ensures few { OnOk result (reads (D.history device.new) ≤ reads (D.history device.old) + sum_by (pair_reads (disk_of_device D.BlockDevice device.old)) members.now) }
+    ensures few { OnOk result (read_count_of_history (D.history device.new) ≤ read_count_of_history (D.history device.old) + sum_by (pair_read_count (disk_of_device D.BlockDevice device.old)) members.now) }
 {
     let directories = scan_pairs_and_mark_lists(alloc, device, map, places, members)?;
-    let orders = orders_of_sound_directories(alloc, &directories, sync)?;
+    let orders = name_orders_that_make_directories_a_tree(alloc, &directories, sync)?;
     Ok(orders)
 }

@@ -8,8 +8,8 @@ ghost use Rattle.lfs_mount.specs.EntryView.{entry_view};
 ghost use Rattle.lfs_mount.specs.Orders.{includes_name_order};
 ghost use Rattle.lfs_mount.specs.Scanned.{directory_scan_after_slots};
 
-use crate::entry::{NamedStruct, entry_of};
-use crate::orders::Orders;
+use crate::entry::{NamedStruct, file_or_directory_entry_in_slot};
+use crate::orders::NameOrderSet;
 use crate::reachability::Directory;
 use lfs_device::{Error, NameOrder};
 use lfs_tag::{Slot, Struct, name_cmp};
@@ -25,10 +25,10 @@ fn comes_after_name(order: NameOrder, last: &[u8], name: &[u8]) -> bool
 }
 
 // Returns the orders in which a name comes after the last one.
-fn orders_in_which_name_follows(last: &[u8], name: &[u8]) -> Orders
+fn orders_in_which_name_follows(last: &[u8], name: &[u8]) -> NameOrderSet
     ensures { (order : NameOrder) → includes_name_order order result ≡ comes_after_name order last.now name.now }
 {
-    Orders {
+    NameOrderSet {
         longer_first: comes_after_name(NameOrder::LongerFirst, last, name),
         shorter_first: comes_after_name(NameOrder::ShorterFirst, last, name),
     }
@@ -36,24 +36,24 @@ fn orders_in_which_name_follows(last: &[u8], name: &[u8]) -> Orders
 
 // What is known of a directory by the entries that were read so far.
 #[derive(Drop)]
-pub(crate) struct Known {
+pub(crate) struct ScannedDirectory {
     // The name of the last entry, or no bytes where there was none.
     last: Vec<u8>,
     directory: Directory,
 }
 
-impl Known {
+impl ScannedDirectory {
     ghost use Rattle.lfs_mount.specs.KnownView.{directory_scan_view};
     ghost use Rattle.lfs_mount.specs.DirectoryView.{directory_vertex_view};
 
     // Makes what is known before the first entry of a directory, which is nothing.
-    pub fn nothing(alloc: Global) -> Known
+    pub fn begin_directory_scan(alloc: Global) -> ScannedDirectory
         ensures { (order : NameOrder) → directory_scan_view order result ≡ empty_directory_scan }
     {
-        Known {
+        ScannedDirectory {
             last: Vec::new(alloc),
             directory: Directory {
-                sound_in: Orders::both_or_none(true),
+                sound_in: NameOrderSet::both_or_no_name_orders(true),
                 branches: Vec::new(alloc),
             },
         }
@@ -70,17 +70,21 @@ impl Known {
     }
 
     // Adds one entry.
-    fn add(&mut self, places: &PairAddressList, entry: &NamedStruct<'_>) -> Result<(), Error>
+    fn add_directory_entry(
+        &mut self,
+        places: &PairAddressList,
+        entry: &NamedStruct<'_>,
+    ) -> Result<(), Error>
         ensures ok { OnOk result ((order : NameOrder) → directory_scan_view order self.new ≡ directory_scan_with_entry order places.now (directory_scan_view order self.old) (entry_view entry.now)) }
         ensures error { IfErr result (λ e. e ≡ Error.NoMemory) }
     {
         let rises = orders_in_which_name_follows(&self.last, entry.name);
-        self.directory.sound_in = self.directory.sound_in.and(rises);
+        self.directory.sound_in = self.directory.sound_in.intersect_name_orders(rises);
         self.set_last_name(entry.name)?;
         if let Struct::Branch(pair) = entry.target {
             match places.find(pair) {
                 Some(place) => self.directory.branches.push(place)?,
-                None => self.directory.sound_in = Orders::both_or_none(false),
+                None => self.directory.sound_in = NameOrderSet::both_or_no_name_orders(false),
             }
         }
         Ok(())
@@ -88,24 +92,28 @@ impl Known {
 
     // Returns the directory, whose last entry was read. Nothing is known of the next directory
     // then.
-    pub fn end(&mut self, alloc: Global) -> Directory
+    pub fn take_scanned_directory(&mut self, alloc: Global) -> Directory
         ensures directory { (order : NameOrder) → directory_vertex_view order result ≡ (directory_scan_view order self.old).1 }
         ensures nothing { (order : NameOrder) → directory_scan_view order self.new ≡ empty_directory_scan }
     {
-        std::mem::replace(self, Known::nothing(alloc)).directory
+        std::mem::replace(self, ScannedDirectory::begin_directory_scan(alloc)).directory
     }
 
     // Adds the entries in these slots of a pair. Corrupt exactly where one of the slots holds none.
-    pub fn scan(&mut self, places: &PairAddressList, slots: &[Slot<'_>]) -> Result<(), Error>
+    pub fn scan_directory_slots(
+        &mut self,
+        places: &PairAddressList,
+        slots: &[Slot<'_>],
+    ) -> Result<(), Error>
         ensures ok { OnOk result ((order : NameOrder) → directory_scan_after_slots order places.now (directory_scan_view order self.old) (map slot_view slots.now) ≡ Some (directory_scan_view order self.new)) }
         ensures corrupt { IsErrOf result Error.Corrupt → (order : NameOrder) → directory_scan_after_slots order places.now (directory_scan_view order self.old) (map slot_view slots.now) ≡ None }
         ensures errors { IfErr result (λ e. (e ≡ Error.Corrupt) ⊎ (e ≡ Error.NoMemory)) }
     {
         for slot in slots {
-            let Some(entry) = entry_of(slot) else {
+            let Some(entry) = file_or_directory_entry_in_slot(slot) else {
                 return Err(Error::Corrupt);
             };
-            self.add(places, &entry)?;
+            self.add_directory_entry(places, &entry)?;
         }
         Ok(())
     }

@@ -2,12 +2,12 @@
 
 ghost use Rattle.std.specs.Prelude.{◌≡◌};
 ghost use Rattle.std.specs.Option.{option_map};
-ghost use Rattle.lfs_tag.specs.ContentView.{part_view, slot_view};
+ghost use Rattle.lfs_tag.specs.ContentView.{name_or_struct_view, slot_view};
 ghost use Rattle.lfs_tag.specs.StructView.{struct_view};
 ghost use Rattle.lfs_mount.specs.Entries.{directory_entry_of_raw_slot, entry_reference_of_raw_struct, entry_reference_of_struct};
 ghost use Rattle.lfs_mount.specs.EntryView.{entry_view};
 
-use lfs_tag::{Part, Slot, SlotNameKind, Struct, is_name};
+use lfs_tag::{NameOrStruct, Slot, SlotNameKind, Struct, is_name};
 
 // An entry of a directory: its name and what it names.
 #[derive(Clone, Copy, Drop)]
@@ -17,8 +17,11 @@ pub(crate) struct NamedStruct<'a> {
 }
 
 // Returns what a struct says, where it suits the type of the name.
-fn struct_suited_to_name_type<'a>(name: &Part<'_>, structure: &Part<'a>) -> Option<Struct<'a>>
-    ensures { option_map (λ s. entry_reference_of_struct (struct_view s)) result ≡ entry_reference_of_raw_struct name.now.kind (part_view structure.now) }
+fn struct_suited_to_name_type<'a>(
+    name: &NameOrStruct<'_>,
+    structure: &NameOrStruct<'a>,
+) -> Option<Struct<'a>>
+    ensures { option_map (λ s. entry_reference_of_struct (struct_view s)) result ≡ entry_reference_of_raw_struct name.now.kind (name_or_struct_view structure.now) }
 {
     let Some(target) = Struct::of(structure) else {
         return None;
@@ -34,7 +37,7 @@ fn struct_suited_to_name_type<'a>(name: &Part<'_>, structure: &Part<'a>) -> Opti
 // Reads the entry in a slot of a directory (SPEC.md of littlefs, "Metadata types"). Returns None
 // exactly where the slot has no name that a directory may have, or no struct that suits the type of
 // its name.
-pub(crate) fn entry_of<'a>(slot: &Slot<'a>) -> Option<NamedStruct<'a>>
+pub(crate) fn file_or_directory_entry_in_slot<'a>(slot: &Slot<'a>) -> Option<NamedStruct<'a>>
     ensures { option_map entry_view result ≡ directory_entry_of_raw_slot (slot_view slot.now) }
 {
     let (Some(name), Some(structure)) = (slot.name, slot.structure) else {

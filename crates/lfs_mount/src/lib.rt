@@ -16,4 +16,4 @@ mod reachability;
 mod superblock_chain;
 
 pub use accepted_images::mount;
-pub use order_choice::mount_either;
+pub use order_choice::mount_with_either_name_order;

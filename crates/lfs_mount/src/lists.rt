@@ -4,17 +4,17 @@ ghost use Rattle.std.specs.Prelude.{◌≡◌, ◌⊎◌, ◌≤◌, ◌+◌, sl
 ghost use Rattle.std.specs.Bool.{OnFalse, OnTrue};
 ghost use Rattle.std.specs.Option.{option_and_then};
 ghost use Rattle.lfs_device.specs.Calls.{ReadsOnly, ReportsFaults};
-ghost use Rattle.lfs_model.specs.BlockSets.{BlockStateList, IsFree};
+ghost use Rattle.lfs_model.specs.BlockSets.{BlockStateList, IsBlockFree};
 ghost use Rattle.lfs_model.specs.BlockSets.BlockState.{Used};
-ghost use Rattle.lfs_model.specs.History.{reads};
+ghost use Rattle.lfs_model.specs.History.{read_count_of_history};
 ghost use Rattle.lfs_thread.specs.Kept.{disk_of_device};
 ghost use Rattle.lfs_mount.specs.Entries.{directory_entry_of_raw_slot};
 ghost use Rattle.lfs_mount.specs.ListsView.{file_lists_view};
-ghost use Rattle.lfs_mount.specs.Marking.{MarksFreeBlocksOfList, MarksFreeBlocksOfLists, MarksBlockIfFree, list_of_entry};
-ghost use Rattle.lfs_mount.specs.Reads.{list_reads};
+ghost use Rattle.lfs_mount.specs.Marking.{MarksFreeBlocksOfList, MarksFreeBlocksOfLists, MarksBlockIfFree, skip_list_of_entry};
+ghost use Rattle.lfs_mount.specs.Reads.{list_read_count};
 ghost use Rattle.lfs_tag.specs.ContentView.{slot_view};
 
-use crate::entry::entry_of;
+use crate::entry::file_or_directory_entry_in_slot;
 use lfs_alloc::BlockMap;
 use lfs_ctz::walk;
 use lfs_device::{BlockDevice, Error};
@@ -22,8 +22,8 @@ use lfs_tag::{Slot, Struct};
 
 // Marks a free block as used, and returns whether it was free. A block that the map doesn't have
 // isn't free.
-fn mark(map: &mut BlockMap, block: u32) -> bool
-    ensures free { IsTrue result ↔ IsFree map.old block }
+fn mark_block_if_free(map: &mut BlockMap, block: u32) -> bool
+    ensures free { IsTrue result ↔ IsBlockFree map.old block }
     ensures marked { OnTrue result (map.new ≡ slice_set map.old block Used) }
     ensures same { OnFalse result (map.new ≡ map.old) }
 {
@@ -33,7 +33,7 @@ fn mark(map: &mut BlockMap, block: u32) -> bool
 // Marks the blocks of a file's list as used. The list has its last block at `head`, and `size`
 // bytes. Corrupt exactly where the list isn't well formed, or where one of its blocks was marked
 // before. Some of its blocks may be marked then.
-fn mark_list<D: BlockDevice>(
+fn mark_list_blocks_as_used<D: BlockDevice>(
     device: &mut D,
     map: &mut BlockMap,
     head: u32,
@@ -44,7 +44,7 @@ fn mark_list<D: BlockDevice>(
     ensures device { ReadsOnly D.BlockDevice device.old device.new }
     ensures faults { ReportsFaults D.BlockDevice device.old device.new result }
     ensures errors { IfErr result (λ e. (e ≡ Error.Io) ⊎ (e ≡ Error.Corrupt)) }
-    ensures few { OnOk result (reads (D.history device.new) ≤ reads (D.history device.old) + list_reads (D.geometry device.old).block_size (head, size)) }
+    ensures few { OnOk result (read_count_of_history (D.history device.new) ≤ read_count_of_history (D.history device.old) + list_read_count (D.geometry device.old).block_size (head, size)) }
 {
     let mut is_free = true;
     walk(
@@ -54,7 +54,7 @@ fn mark_list<D: BlockDevice>(
         &mut |block: u32|
             ensures { MarksBlockIfFree map.entry.now is_free.entry block map.exit.now is_free.exit }
         {
-            let was_free = mark(map, block);
+            let was_free = mark_block_if_free(map, block);
             is_free = is_free && was_free;
         },
     )?;
@@ -62,10 +62,10 @@ fn mark_list<D: BlockDevice>(
 }
 
 // Returns the head and the size of the list that a slot's entry has, if it has one.
-fn list_of(slot: &Slot<'_>) -> Option<(u32, u32)>
-    ensures { result ≡ option_and_then list_of_entry (directory_entry_of_raw_slot (slot_view slot.now)) }
+fn skip_list_of_slot(slot: &Slot<'_>) -> Option<(u32, u32)>
+    ensures { result ≡ option_and_then skip_list_of_entry (directory_entry_of_raw_slot (slot_view slot.now)) }
 {
-    let Some(entry) = entry_of(slot) else {
+    let Some(entry) = file_or_directory_entry_in_slot(slot) else {
         return None;
     };
     match entry.target {
@@ -76,7 +76,7 @@ fn list_of(slot: &Slot<'_>) -> Option<(u32, u32)>
 
 // Marks the blocks of all lists of these slots as used. Corrupt exactly where one of the lists
 // isn't well formed, or where a block was marked before. Some blocks may be marked then.
-pub(crate) fn mark_lists<D: BlockDevice>(
+pub(crate) fn mark_lists_of_slots_used<D: BlockDevice>(
     device: &mut D,
     map: &mut BlockMap,
     slots: &[Slot<'_>],
@@ -86,11 +86,11 @@ pub(crate) fn mark_lists<D: BlockDevice>(
     ensures device { ReadsOnly D.BlockDevice device.old device.new }
     ensures faults { ReportsFaults D.BlockDevice device.old device.new result }
     ensures errors { IfErr result (λ e. (e ≡ Error.Io) ⊎ (e ≡ Error.Corrupt)) }
-    ensures few { OnOk result (reads (D.history device.new) ≤ reads (D.history device.old) + sum_by (list_reads (D.geometry device.old).block_size) (file_lists_view slots.now)) }
+    ensures few { OnOk result (read_count_of_history (D.history device.new) ≤ read_count_of_history (D.history device.old) + sum_by (list_read_count (D.geometry device.old).block_size) (file_lists_view slots.now)) }
 {
     for slot in slots {
-        if let Some((head, size)) = list_of(slot) {
-            mark_list(device, map, head, size)?;
+        if let Some((head, size)) = skip_list_of_slot(slot) {
+            mark_list_blocks_as_used(device, map, head, size)?;
         }
     }
     Ok(())

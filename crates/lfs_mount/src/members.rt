@@ -4,21 +4,21 @@ ghost use Rattle.std.specs.Prelude.{◌≡◌, IfErr, IfOk, nat_eq, true};
 ghost use Rattle.std.specs.List.{IsDistinct};
 ghost use Rattle.lfs_model.specs.Slots.{pair_address_of_array};
 ghost use Rattle.lfs_tag.specs.FieldsView.{move_view};
-ghost use Rattle.lfs_thread.specs.Places.{blocks_of_addresses};
-ghost use Rattle.lfs_mount.specs.Members.{directory_addresses, member_of_header, members_of_headers, moved_id_at_pair_address};
+ghost use Rattle.lfs_thread.specs.Places.{blocks_of_pair_addresses};
+ghost use Rattle.lfs_mount.specs.Members.{directory_addresses_in_headers, pair_description_of_header, pair_descriptions_of_headers, id_of_moved_slot_at_address};
 
-use crate::pass::Member;
+use crate::pass::DirectoryPair;
 use lfs_device::Error;
 use lfs_pair::{Pair, is_same_pair};
 use lfs_tag::kinds::DELETE;
-use lfs_tag::{MoveState, is_hard};
+use lfs_tag::{MoveState, has_hard_tail};
 use lfs_thread::PairAddressList;
 use std::alloc::Global;
 
 // Returns the id of the slot that a set move names in the pair at an address, if it names one
 // there.
-fn moved_at(state: &MoveState, at: [u32; 2]) -> Option<u32>
-    ensures { result ≡ moved_id_at_pair_address (move_view state.now) (pair_address_of_array at) }
+fn moved_slot_id_at(state: &MoveState, at: [u32; 2]) -> Option<u32>
+    ensures { result ≡ id_of_moved_slot_at_address (move_view state.now) (pair_address_of_array at) }
 {
     if state.kind == DELETE && is_same_pair(state.pair, at) {
         Some(u32::from(state.id))
@@ -27,38 +27,41 @@ fn moved_at(state: &MoveState, at: [u32; 2]) -> Option<u32>
     }
 }
 
-fn member_of_pair_header(state: &MoveState, is_first: bool, pair: &Pair) -> Member
-    ensures { result ≡ member_of_header (move_view state.now) is_first pair.now }
+fn make_directory_pair_from_header(state: &MoveState, is_first: bool, pair: &Pair) -> DirectoryPair
+    ensures { result ≡ pair_description_of_header (move_view state.now) is_first pair.now }
 {
-    Member {
+    DirectoryPair {
         active: pair.active,
-        is_hard: is_hard(pair.tail),
+        is_hard: has_hard_tail(pair.tail),
         has_superblock: is_first,
-        moved: moved_at(state, pair.blocks),
+        moved: moved_slot_id_at(state, pair.blocks),
     }
 }
 
 // Returns what is known of these pairs, from the root's first one on.
-pub(crate) fn members_of_pair_headers(
+pub(crate) fn make_directory_pairs_from_headers(
     alloc: Global,
     state: &MoveState,
     pairs: &[Pair],
-) -> Result<Vec<Member>, Error>
-    ensures members { IfOk result (λ members. members.items ≡ members_of_headers (move_view state.now) true pairs.now) }
+) -> Result<Vec<DirectoryPair>, Error>
+    ensures members { IfOk result (λ members. members.items ≡ pair_descriptions_of_headers (move_view state.now) true pairs.now) }
     ensures error { IfErr result (λ e. e ≡ Error.NoMemory) }
 {
     let mut members = Vec::new(alloc);
     for pair in pairs {
         let is_first = members.is_empty();
-        members.push(member_of_pair_header(state, is_first, pair))?;
+        members.push(make_directory_pair_from_header(state, is_first, pair))?;
     }
     Ok(members)
 }
 
 // Returns the addresses of the directories of these pairs, from the root's first pair on.
-pub(crate) fn places_of(alloc: Global, pairs: &[Pair]) -> Result<PairAddressList, Error>
-    requires { IsDistinct nat_eq (blocks_of_addresses (directory_addresses true pairs.now)) }
-    ensures places { IfOk result (λ places. places ≡ directory_addresses true pairs.now) }
+pub(crate) fn directory_addresses_of_pairs(
+    alloc: Global,
+    pairs: &[Pair],
+) -> Result<PairAddressList, Error>
+    requires { IsDistinct nat_eq (blocks_of_pair_addresses (directory_addresses_in_headers true pairs.now)) }
+    ensures places { IfOk result (λ places. places ≡ directory_addresses_in_headers true pairs.now) }
     ensures error { IfErr result (λ e. e ≡ Error.NoMemory) }
 {
     let mut places = PairAddressList::new(alloc);
@@ -67,7 +70,7 @@ pub(crate) fn places_of(alloc: Global, pairs: &[Pair]) -> Result<PairAddressList
         if begins {
             places.add(pair.blocks)?;
         }
-        begins = !is_hard(pair.tail);
+        begins = !has_hard_tail(pair.tail);
     }
     Ok(places)
 }

@@ -2,14 +2,14 @@
 
 ghost use Rattle.std.specs.Prelude.{◌≡◌, ◌++◌, ◌∷◌, IfErr, List, OnErr, OnOk, false, map, true};
 ghost use Rattle.lfs_model.specs.Disk.{Disk};
-ghost use Rattle.lfs_model.specs.History.{CallEvent};
+ghost use Rattle.lfs_model.specs.History.{DeviceCallEvent};
 ghost use Rattle.lfs_model.specs.Slots.{pair_address_of_array, gstate_xor};
-ghost use Rattle.lfs_model.specs.Thread.{Pair as ThreadPair, gstate_of};
-ghost use Rattle.lfs_model.specs.View.{IsAcceptedImage, IsMoveOrNone};
-ghost use Rattle.lfs_pair.specs.Pair.{address_of_header};
+ghost use Rattle.lfs_model.specs.Thread.{Pair as ThreadPair, gstate_of_pairs};
+ghost use Rattle.lfs_model.specs.View.{IsAcceptedImage, HasValidMoveOrNone};
+ghost use Rattle.lfs_pair.specs.Pair.{pair_address_in_header};
 ghost use Rattle.lfs_tag.specs.FieldsView.{move_view};
 ghost use Rattle.lfs_thread.specs.Kept.{ArePairHeadersOnDisk, pairs_of_headers};
-ghost use Rattle.lfs_mount.specs.Moves.{AreDirectoryHeadersWithGstate, IsMovedSlotEntry, gstate_of_headers, move_is_none_or_known, is_pair_among_addresses};
+ghost use Rattle.lfs_mount.specs.Moves.{AreDirectoryHeadersWithGstate, HasEntryAtSlotNamedBySetMove, gstate_of_headers, is_move_none_or_at_addresses, is_pair_among_addresses};
 
 use lfs_device::Error;
 use lfs_pair::{Pair, is_same_pair};
@@ -17,8 +17,8 @@ use lfs_tag::MoveState;
 use lfs_tag::kinds::DELETE;
 
 // Returns whether one of the pairs is at an address.
-fn names_one(address: [u32; 2], pairs: &[Pair]) -> bool
-    ensures { result ≡ is_pair_among_addresses (pair_address_of_array address) (map address_of_header pairs.now) }
+fn is_address_of_any_pair(address: [u32; 2], pairs: &[Pair]) -> bool
+    ensures { result ≡ is_pair_among_addresses (pair_address_of_array address) (map pair_address_in_header pairs.now) }
 {
     for pair in pairs {
         if is_same_pair(address, pair.blocks) {
@@ -35,14 +35,14 @@ fn names_one(address: [u32; 2], pairs: &[Pair]) -> bool
 //
 // Errors: `Corrupt` exactly where the move is neither. No accepted image has such a move.
 pub(crate) fn check_move(state: &MoveState, pairs: &[Pair]) -> Result<(), Error>
-    ensures ok { OnOk result (move_is_none_or_known (move_view state.now) (map address_of_header pairs.now) ≡ true) }
-    ensures corrupt { IfErr result (λ e. (e ≡ Error.Corrupt) × (move_is_none_or_known (move_view state.now) (map address_of_header pairs.now) ≡ false)) }
+    ensures ok { OnOk result (is_move_none_or_at_addresses (move_view state.now) (map pair_address_in_header pairs.now) ≡ true) }
+    ensures corrupt { IfErr result (λ e. (e ≡ Error.Corrupt) × (is_move_none_or_at_addresses (move_view state.now) (map pair_address_in_header pairs.now) ≡ false)) }
     ensures right { OnOk result ((chain : List ThreadPair) (p : ThreadPair) (rest : List ThreadPair)
-        → AreDirectoryHeadersWithGstate (move_view state.now) pairs.now chain p rest → IsMovedSlotEntry (move_view state.now) (p ∷ rest) → IsMoveOrNone (chain ++ p ∷ rest) (move_view state.now)) }
+        → AreDirectoryHeadersWithGstate (move_view state.now) pairs.now chain p rest → HasEntryAtSlotNamedBySetMove (move_view state.now) (p ∷ rest) → HasValidMoveOrNone (chain ++ p ∷ rest) (move_view state.now)) }
     ensures refused { OnErr result ((disk : Disk) (chain : List ThreadPair) (p : ThreadPair) (rest : List ThreadPair)
         → AreDirectoryHeadersWithGstate (move_view state.now) pairs.now chain p rest → ¬ IsAcceptedImage disk (chain ++ p ∷ rest)) }
 {
-    if is_move_none_or_known(state, pairs) {
+    if is_move_none_or_in_pairs(state, pairs) {
         Ok(())
     } else {
         Err(Error::Corrupt)
@@ -50,9 +50,9 @@ pub(crate) fn check_move(state: &MoveState, pairs: &[Pair]) -> Result<(), Error>
 }
 
 // Returns whether no move is set, or one of a slot in one of these pairs.
-fn is_move_none_or_known(state: &MoveState, pairs: &[Pair]) -> bool
-    ensures { result ≡ move_is_none_or_known (move_view state.now) (map address_of_header pairs.now) }
+fn is_move_none_or_in_pairs(state: &MoveState, pairs: &[Pair]) -> bool
+    ensures { result ≡ is_move_none_or_at_addresses (move_view state.now) (map pair_address_in_header pairs.now) }
 {
     let is_none = state.kind == 0 && state.id == 0 && state.pair[0] == 0 && state.pair[1] == 0;
-    is_none || (state.kind == DELETE && names_one(state.pair, pairs))
+    is_none || (state.kind == DELETE && is_address_of_any_pair(state.pair, pairs))
 }

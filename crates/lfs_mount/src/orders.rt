@@ -9,23 +9,23 @@ use lfs_device::NameOrder;
 
 // The orders of names in which something holds.
 #[derive(Clone, Copy, Drop)]
-pub(crate) struct Orders {
+pub(crate) struct NameOrderSet {
     pub longer_first: bool,
     pub shorter_first: bool,
 }
 
-impl Orders {
+impl NameOrderSet {
     // Returns both orders, or none.
-    pub fn both_or_none(both: bool) -> Orders
+    pub fn both_or_no_name_orders(both: bool) -> NameOrderSet
         ensures { (order : NameOrder) → includes_name_order order result ≡ both }
     {
-        Orders {
+        NameOrderSet {
             longer_first: both,
             shorter_first: both,
         }
     }
 
-    pub fn has(self, order: NameOrder) -> bool
+    pub fn has_name_order(self, order: NameOrder) -> bool
         ensures { result ≡ includes_name_order order self }
     {
         match order {
@@ -35,10 +35,10 @@ impl Orders {
     }
 
     // Returns the orders that are in both sets.
-    pub fn and(self, other: Orders) -> Orders
+    pub fn intersect_name_orders(self, other: NameOrderSet) -> NameOrderSet
         ensures { (order : NameOrder) → includes_name_order order result ≡ (includes_name_order order self && includes_name_order order other) }
     {
-        Orders {
+        NameOrderSet {
             longer_first: self.longer_first && other.longer_first,
             shorter_first: self.shorter_first && other.shorter_first,
         }
@@ -46,7 +46,7 @@ impl Orders {
 
     // Returns the order to take: the longer names first where both orders hold, as in littlefs's
     // own code.
-    pub fn first(self) -> Option<NameOrder>
+    pub fn preferred_name_order(self) -> Option<NameOrder>
         ensures holds { IfSome result (λ order. includes_name_order order self ≡ true) }
         ensures longer { result ≡ Some ShorterFirst → includes_name_order LongerFirst self ≡ false }
         ensures none { result ≡ None → (order : NameOrder) → includes_name_order order self ≡ false }

@@ -9,7 +9,7 @@ ghost use Rattle.lfs_mount.specs.DirectoryView.{directory_graph_view};
 ghost use Rattle.lfs_mount.specs.Orders.{includes_name_order};
 ghost use Rattle.lfs_mount.specs.Reaching.{AreMarksOfReachedDirectories, MeetsUnsoundOrRepeatedVertex, FindsNewDirectories, AreMarksOfFoundDirectories};
 
-use crate::orders::Orders;
+use crate::orders::NameOrderSet;
 use lfs_device::{Error, NameOrder};
 use std::alloc::Global;
 
@@ -18,13 +18,17 @@ use std::alloc::Global;
 pub(crate) struct Directory {
     // The orders of names in which the directory is sound: its names rise, and each directory in it
     // is one of the thread's.
-    pub sound_in: Orders,
+    pub sound_in: NameOrderSet,
     // The places of the directories in it, in the order of their names.
     pub branches: Vec<u32>,
 }
 
 // Marks each of these directories as found. Corrupt where one was found before.
-fn find(is_found: &mut Vec<bool>, found: &mut Vec<u32>, branches: &[u32]) -> Result<(), Error>
+fn mark_branches_found(
+    is_found: &mut Vec<bool>,
+    found: &mut Vec<u32>,
+    branches: &[u32],
+) -> Result<(), Error>
     requires marked { AreMarksOfFoundDirectories is_found.old.items found.old.items }
     requires within { All (λ b. b < length is_found.old.items) branches.now }
     ensures found { OnOk result (FindsNewDirectories is_found.old.items found.old.items branches.now is_found.new.items found.new.items) }
@@ -63,10 +67,10 @@ fn reached_directories(
     let mut next = 0;
     while next < found.len() {
         let directory = &directories[found[next] as usize];
-        if !directory.sound_in.has(order) {
+        if !directory.sound_in.has_name_order(order) {
             return Err(Error::Corrupt);
         }
-        find(&mut is_found, &mut found, &directory.branches)?;
+        mark_branches_found(&mut is_found, &mut found, &directory.branches)?;
         next += 1;
     }
     Ok(is_found)
@@ -75,7 +79,7 @@ fn reached_directories(
 // Checks the directories of a thread in an order of names. Those that are reached from the root,
 // which is the first, are sound, and none is reached twice. Unless the sync bit is set, all are
 // reached. Corrupt exactly where that isn't so.
-fn check_reachability(
+fn check_directories_form_tree_in_name_order(
     alloc: Global,
     directories: &[Directory],
     order: NameOrder,
@@ -95,7 +99,7 @@ fn check_reachability(
 }
 
 // Returns whether the directories of a thread are right in an order of names.
-fn are_right(
+fn are_directories_a_tree(
     alloc: Global,
     directories: &[Directory],
     order: NameOrder,
@@ -106,7 +110,7 @@ fn are_right(
     ensures right { IfOk result (λ right. (ps : List Pair) → IsGraphOfThreadDirectories order (directory_graph_view order directories.now) sync ps → (right ≡ true) ↔ IsTreeOfDirectories order ps) }
     ensures error { IfErr result (λ e. e ≡ Error.NoMemory) }
 {
-    match check_reachability(alloc, directories, order, sync) {
+    match check_directories_form_tree_in_name_order(alloc, directories, order, sync) {
         Ok(()) => Ok(true),
         Err(Error::Corrupt) => Ok(false),
         Err(error) => Err(error),
@@ -114,18 +118,18 @@ fn are_right(
 }
 
 // Returns the orders of names in which the directories of a thread are right.
-pub(crate) fn orders_of_sound_directories(
+pub(crate) fn name_orders_that_make_directories_a_tree(
     alloc: Global,
     directories: &[Directory],
     sync: bool,
-) -> Result<Orders, Error>
+) -> Result<NameOrderSet, Error>
     requires some { 0 < length directories.now }
     requires within { All (λ d. All (λ b. b < length directories.now) d.branches.items) directories.now }
     ensures right { IfOk result (λ orders. (order : NameOrder) (ps : List Pair) → IsGraphOfThreadDirectories order (directory_graph_view order directories.now) sync ps → (includes_name_order order orders ≡ true) ↔ IsTreeOfDirectories order ps) }
     ensures error { IfErr result (λ e. e ≡ Error.NoMemory) }
 {
-    Ok(Orders {
-        longer_first: are_right(alloc, directories, NameOrder::LongerFirst, sync)?,
-        shorter_first: are_right(alloc, directories, NameOrder::ShorterFirst, sync)?,
+    Ok(NameOrderSet {
+        longer_first: are_directories_a_tree(alloc, directories, NameOrder::LongerFirst, sync)?,
+        shorter_first: are_directories_a_tree(alloc, directories, NameOrder::ShorterFirst, sync)?,
     })
 }

@@ -3,19 +3,19 @@
 ghost use Rattle.std.specs.Prelude.{ℕ, List, ◌≡◌, ◌↔◌, ◌⊎◌, ◌<◌, ◌≤◌, ◌+◌, length, IsTrue, IfOk, IfErr, IsErrOf, OnOk, None, Some, codes, map};
 ghost use Rattle.std.specs.Option.{option_map};
 ghost use Rattle.lfs_device.specs.Calls.{ReadsOnly, ReportsFaults};
-ghost use Rattle.lfs_device.specs.Shown.{ordered};
-ghost use Rattle.lfs_model.specs.Blocks.{block_bytes_in};
-ghost use Rattle.lfs_model.specs.History.{reads};
+ghost use Rattle.lfs_device.specs.Shown.{disk_with_name_order};
+ghost use Rattle.lfs_model.specs.Blocks.{block_bytes_by_number};
+ghost use Rattle.lfs_model.specs.History.{read_count_of_history};
 ghost use Rattle.lfs_model.specs.View.{BeginsWithLogEntry, IsAcceptedImage, superblock_name_log_entry};
 ghost use Rattle.lfs_model.specs.declared.order.NameOrder.{NameOrder};
-ghost use Rattle.lfs_tag.specs.ContentView.{part_view, slot_view};
+ghost use Rattle.lfs_tag.specs.ContentView.{name_or_struct_view, slot_view};
 ghost use Rattle.lfs_thread.specs.Kept.{disk_of_device, pairs_of_headers};
-ghost use Rattle.lfs_mount.specs.SuperblockChain.{AreHeadersOfDiskThread, HasSuperblockChainOfLength, IsSuperblockStructInBlock, describes, first_pair_with_slots, inline_struct_bytes, has_name_bytes, leads_on, first_slot_repeats_superblock, block_repeats_superblock, superblock_struct_in_first_slot, superblock_of};
+ghost use Rattle.lfs_mount.specs.SuperblockChain.{AreHeadersOfDiskThread, HasSuperblockChainOfLength, IsSuperblockStructInBlock, is_superblock_struct_of_geometry, number_of_first_pair_with_nonzero_slot_count, inline_struct_bytes, has_name_bytes, superblock_chain_may_continue_after, first_slot_repeats_superblock, block_repeats_superblock, superblock_struct_in_first_slot, superblock_struct_in_block_log};
 
 use lfs_device::{BlockDevice, Error, Geometry, read_block};
 use lfs_pair::Pair;
 use lfs_tag::kinds::{INLINE_STRUCT, SUPERBLOCK_NAME};
-use lfs_tag::{Content, Log, Slot, Superblock, Tag, is_hard, superblock_of};
+use lfs_tag::{Content, Log, Slot, Superblock, Tag, has_hard_tail, superblock_of};
 use std::alloc::Global;
 
 const MAGIC: &[u8] = b"littlefs";
@@ -31,8 +31,8 @@ fn log_begins_with_superblock(log: &Log<'_>) -> bool
 }
 
 // Returns whether a superblock's struct has this version and the device's geometry.
-fn describes(geometry: &Geometry, bytes: &[u8]) -> bool
-    ensures { result ≡ describes geometry.now.block_size geometry.now.block_count bytes.now }
+fn is_superblock_of_geometry(geometry: &Geometry, bytes: &[u8]) -> bool
+    ensures { result ≡ is_superblock_struct_of_geometry geometry.now.block_size geometry.now.block_count bytes.now }
 {
     match <&[u8; 24]>::try_from(bytes) {
         Ok(bytes) => {
@@ -55,7 +55,7 @@ fn has_name_bytes(slot: &Slot<'_>, bytes: &[u8]) -> bool
 }
 
 // Returns the bytes of an inline struct.
-fn inline_in<'a>(slot: &Slot<'a>) -> Option<&'a [u8]>
+fn inline_bytes_in_slot<'a>(slot: &Slot<'a>) -> Option<&'a [u8]>
     ensures { option_map (λ b. b.now) result ≡ inline_struct_bytes (slot_view slot.now).struct }
 {
     match slot.structure {
@@ -66,7 +66,7 @@ fn inline_in<'a>(slot: &Slot<'a>) -> Option<&'a [u8]>
 
 // Returns the superblock's struct in the first slot. Returns None where that slot is no superblock
 // of this geometry.
-fn superblock_in<'a>(geometry: &Geometry, slots: &[Slot<'a>]) -> Option<&'a [u8]>
+fn superblock_struct_in_slots<'a>(geometry: &Geometry, slots: &[Slot<'a>]) -> Option<&'a [u8]>
     ensures { option_map (λ b. b.now) result ≡ superblock_struct_in_first_slot geometry.now.block_size geometry.now.block_count (map slot_view slots.now) }
 {
     let [first, ..] = slots else {
@@ -75,15 +75,15 @@ fn superblock_in<'a>(geometry: &Geometry, slots: &[Slot<'a>]) -> Option<&'a [u8]
     if !first.is_superblock() || !has_name_bytes(first, MAGIC) {
         return None;
     }
-    match inline_in(first) {
-        Some(bytes) if describes(geometry, bytes) => Some(bytes),
+    match inline_bytes_in_slot(first) {
+        Some(bytes) if is_superblock_of_geometry(geometry, bytes) => Some(bytes),
         _ => None,
     }
 }
 
 // Returns whether the first slot is a superblock's. Corrupt exactly where it is one with another
 // struct than `bytes`.
-fn repeats_first_slot(slots: &[Slot<'_>], bytes: &[u8]) -> Result<bool, Error>
+fn is_superblock_repeated_in_slots(slots: &[Slot<'_>], bytes: &[u8]) -> Result<bool, Error>
     ensures ok { IfOk result (λ repeats. first_slot_repeats_superblock bytes.now (map slot_view slots.now) ≡ Some repeats) }
     ensures corrupt { IfErr result (λ e. (e ≡ Error.Corrupt) × (first_slot_repeats_superblock bytes.now (map slot_view slots.now) ≡ None)) }
 {
@@ -93,7 +93,7 @@ fn repeats_first_slot(slots: &[Slot<'_>], bytes: &[u8]) -> Result<bool, Error>
     if !first.is_superblock() {
         return Ok(false);
     }
-    match inline_in(first) {
+    match inline_bytes_in_slot(first) {
         Some(other) if other == bytes => Ok(true),
         _ => Err(Error::Corrupt),
     }
@@ -107,8 +107,8 @@ fn superblock_struct_from_block(
     block: &[u8],
 ) -> Result<Vec<u8>, Error>
     ensures begins { OnOk result (BeginsWithLogEntry (Some block.now) superblock_name_log_entry) }
-    ensures holds { IfOk result (λ bytes. superblock_of geometry.now.block_size geometry.now.block_count block.now ≡ Some bytes.items) }
-    ensures corrupt { IsErrOf result Error.Corrupt → BeginsWithLogEntry (Some block.now) superblock_name_log_entry → superblock_of geometry.now.block_size geometry.now.block_count block.now ≡ None }
+    ensures holds { IfOk result (λ bytes. superblock_struct_in_block_log geometry.now.block_size geometry.now.block_count block.now ≡ Some bytes.items) }
+    ensures corrupt { IsErrOf result Error.Corrupt → BeginsWithLogEntry (Some block.now) superblock_name_log_entry → superblock_struct_in_block_log geometry.now.block_size geometry.now.block_count block.now ≡ None }
     ensures errors { IfErr result (λ e. (e ≡ Error.Corrupt) ⊎ (e ≡ Error.NoMemory)) }
 {
     let log = Log::read(block);
@@ -116,7 +116,7 @@ fn superblock_struct_from_block(
         return Err(Error::Corrupt);
     }
     let content = Content::read(alloc, &log)?;
-    match superblock_in(geometry, &content.slots) {
+    match superblock_struct_in_slots(geometry, &content.slots) {
         Some(bytes) => Ok(Vec::from_slice(alloc, bytes)?),
         None => Err(Error::Corrupt),
     }
@@ -124,26 +124,30 @@ fn superblock_struct_from_block(
 
 // Returns whether the first slot that a block's log comes to is a superblock's. Corrupt exactly
 // where it is one with another struct than `bytes`, or where the log is malformed.
-fn repeats(alloc: Global, block: &[u8], bytes: &[u8]) -> Result<bool, Error>
+fn is_superblock_repeated_in_block(alloc: Global, block: &[u8], bytes: &[u8]) -> Result<bool, Error>
     ensures ok { IfOk result (λ repeats. block_repeats_superblock bytes.now block.now ≡ Some repeats) }
     ensures corrupt { IsErrOf result Error.Corrupt → block_repeats_superblock bytes.now block.now ≡ None }
     ensures errors { IfErr result (λ e. (e ≡ Error.Corrupt) ⊎ (e ≡ Error.NoMemory)) }
 {
     let log = Log::read(block);
     let content = Content::read(alloc, &log)?;
-    repeats_first_slot(&content.slots, bytes)
+    is_superblock_repeated_in_slots(&content.slots, bytes)
 }
 
 // Reads a block of the device, and returns the superblock's struct in it. Corrupt exactly where the
 // block has none.
-fn superblock_at<D: BlockDevice>(alloc: Global, dev: &mut D, block: u32) -> Result<Vec<u8>, Error>
+fn read_superblock_struct_from_block<D: BlockDevice>(
+    alloc: Global,
+    dev: &mut D,
+    block: u32,
+) -> Result<Vec<u8>, Error>
     requires { block < (D.geometry dev.old).block_count }
     ensures found { IfOk result (λ bytes. IsSuperblockStructInBlock (disk_of_device D.BlockDevice dev.old) block bytes.items) }
     ensures corrupt { IsErrOf result Error.Corrupt → (bytes : List ℕ) → ¬ IsSuperblockStructInBlock (disk_of_device D.BlockDevice dev.old) block bytes }
     ensures device { ReadsOnly D.BlockDevice dev.old dev.new }
     ensures errors { IfErr result (λ e. (e ≡ Error.Corrupt) ⊎ ((e ≡ Error.Io) ⊎ (e ≡ Error.NoMemory))) }
     ensures faults { ReportsFaults D.BlockDevice dev.old dev.new result }
-    ensures reads { reads (D.history dev.new) ≤ reads (D.history dev.old) + 1 }
+    ensures reads { read_count_of_history (D.history dev.new) ≤ read_count_of_history (D.history dev.old) + 1 }
 {
     let geometry = dev.geometry();
     let bytes = read_block(alloc, dev, block)?;
@@ -152,43 +156,43 @@ fn superblock_at<D: BlockDevice>(alloc: Global, dev: &mut D, block: u32) -> Resu
 
 // Reads a block of the device, and returns whether its first slot is a superblock's. Corrupt
 // exactly where it is one with another struct than `bytes`, or where the log has no content.
-fn read_whether_superblock_repeats<D: BlockDevice>(
+fn read_whether_block_repeats_superblock<D: BlockDevice>(
     alloc: Global,
     dev: &mut D,
     block: u32,
     bytes: &[u8],
 ) -> Result<bool, Error>
     requires { block < (D.geometry dev.old).block_count }
-    ensures ok { IfOk result (λ repeats. block_repeats_superblock bytes.now (block_bytes_in (D.blocks dev.old) block) ≡ Some repeats) }
-    ensures corrupt { IsErrOf result Error.Corrupt → block_repeats_superblock bytes.now (block_bytes_in (D.blocks dev.old) block) ≡ None }
+    ensures ok { IfOk result (λ repeats. block_repeats_superblock bytes.now (block_bytes_by_number (D.blocks dev.old) block) ≡ Some repeats) }
+    ensures corrupt { IsErrOf result Error.Corrupt → block_repeats_superblock bytes.now (block_bytes_by_number (D.blocks dev.old) block) ≡ None }
     ensures device { ReadsOnly D.BlockDevice dev.old dev.new }
     ensures errors { IfErr result (λ e. (e ≡ Error.Corrupt) ⊎ ((e ≡ Error.Io) ⊎ (e ≡ Error.NoMemory))) }
     ensures faults { ReportsFaults D.BlockDevice dev.old dev.new result }
-    ensures reads { reads (D.history dev.new) ≤ reads (D.history dev.old) + 1 }
+    ensures reads { read_count_of_history (D.history dev.new) ≤ read_count_of_history (D.history dev.old) + 1 }
 {
     let block = read_block(alloc, dev, block)?;
-    repeats(alloc, &block, bytes)
+    is_superblock_repeated_in_block(alloc, &block, bytes)
 }
 
 // Returns whether a pair has at most one slot, and a hard tail.
-fn leads_on(pair: &Pair) -> bool
-    ensures { result ≡ leads_on pair.now }
+fn can_superblock_chain_continue(pair: &Pair) -> bool
+    ensures { result ≡ superblock_chain_may_continue_after pair.now }
 {
-    (pair.slot_count == 0 || pair.slot_count == 1) && is_hard(pair.tail)
+    (pair.slot_count == 0 || pair.slot_count == 1) && has_hard_tail(pair.tail)
 }
 
 // Returns the number of the first pair that has a slot. Corrupt exactly where there is none, or
 // where a pair before it has no hard tail.
 fn first_pair_with_slots(pairs: &[Pair]) -> Result<usize, Error>
-    ensures ok { IfOk result (λ index. first_pair_with_slots pairs.now ≡ Some index) }
+    ensures ok { IfOk result (λ index. number_of_first_pair_with_nonzero_slot_count pairs.now ≡ Some index) }
     ensures below { IfOk result (λ index. index < length pairs.now) }
-    ensures corrupt { IfErr result (λ e. (e ≡ Error.Corrupt) × (first_pair_with_slots pairs.now ≡ None)) }
+    ensures corrupt { IfErr result (λ e. (e ≡ Error.Corrupt) × (number_of_first_pair_with_nonzero_slot_count pairs.now ≡ None)) }
 {
     for index in 0..pairs.len() {
         if pairs[index].slot_count != 0 {
             return Ok(index);
         }
-        if !is_hard(pairs[index].tail) {
+        if !has_hard_tail(pairs[index].tail) {
             return Err(Error::Corrupt);
         }
     }
@@ -218,23 +222,23 @@ pub(crate) fn superblock_chain_length<D: BlockDevice>(
 ) -> Result<usize, Error>
     requires { AreHeadersOfDiskThread (disk_of_device D.BlockDevice dev.old) (D.history dev.old) pairs.now }
     ensures head { IfOk result (HasSuperblockChainOfLength (disk_of_device D.BlockDevice dev.old) (pairs_of_headers (disk_of_device D.BlockDevice dev.old) pairs.now)) }
-    ensures corrupt { IsErrOf result Error.Corrupt → (order : NameOrder) → ¬ IsAcceptedImage (ordered order (disk_of_device D.BlockDevice dev.old)) (pairs_of_headers (disk_of_device D.BlockDevice dev.old) pairs.now) }
+    ensures corrupt { IsErrOf result Error.Corrupt → (order : NameOrder) → ¬ IsAcceptedImage (disk_with_name_order order (disk_of_device D.BlockDevice dev.old)) (pairs_of_headers (disk_of_device D.BlockDevice dev.old) pairs.now) }
     ensures device { ReadsOnly D.BlockDevice dev.old dev.new }
     ensures errors { IfErr result (λ e. (e ≡ Error.Corrupt) ⊎ ((e ≡ Error.Io) ⊎ (e ≡ Error.NoMemory))) }
     ensures faults { ReportsFaults D.BlockDevice dev.old dev.new result }
-    ensures reads { IfOk result (λ count. reads (D.history dev.new) ≤ reads (D.history dev.old) + count + 2) }
+    ensures reads { IfOk result (λ count. read_count_of_history (D.history dev.new) ≤ read_count_of_history (D.history dev.old) + count + 2) }
 {
     let first = first_pair_with_slots(pairs)?;
-    let bytes = superblock_at(alloc, dev, pairs[first].active)?;
+    let bytes = read_superblock_struct_from_block(alloc, dev, pairs[first].active)?;
     let mut root = first;
     for index in first + 1..pairs.len() {
-        if !leads_on(&pairs[index - 1]) {
+        if !can_superblock_chain_continue(&pairs[index - 1]) {
             return Ok(root);
         }
         if pairs[index].slot_count == 0 {
             continue;
         }
-        if !read_whether_superblock_repeats(alloc, dev, pairs[index].active, &bytes)? {
+        if !read_whether_block_repeats_superblock(alloc, dev, pairs[index].active, &bytes)? {
             return Ok(root);
         }
         root = index;

@@ -6,7 +6,7 @@ use Rattle.std.proofs.Common.{nat_eq}
 use Rattle.std.proofs.lemmas.Option.{same_Some}
 use Rattle.lfs_model.specs.Disk.{Disk}
 use Rattle.lfs_model.specs.Slots.{Gstate, Slot, same_pair}
-use Rattle.lfs_model.specs.Thread.{AreLinkedByTails, Pair, anchor_pair_address, blocks_of_pairs, pair_named_by_tail}
+use Rattle.lfs_model.specs.Thread.{AreLinkedByTails, Pair, anchor_pair_address, blocks_of_pairs, pair_address_named_by_tail}
 use Rattle.lfs_model.specs.View.{IsAcceptedImage}
 use Rattle.lfs_model.specs.SlotEdits.{pair_with_slots}
 use Rattle.lfs_model.proofs.Became.{Became}
@@ -14,22 +14,22 @@ use Rattle.lfs_model.proofs.Committed.{IsCommit}
 use Rattle.lfs_model.proofs.Counts.{Each}
 use Rattle.lfs_model.proofs.Pairs.{pair_itself}
 use Rattle.lfs_model.proofs.Searches.{avoids_behind, avoids_front}
-use Rattle.lfs_model.proofs.Splices.{slots_in}
-use Rattle.lfs_model.proofs.Sites.{SomeIn, Site, among_parts, thread_at}
-use Rattle.lfs_operations.specs.Changing.{AltersPair}
-use Rattle.lfs_operations.specs.Dropping.{IsNextPairDropped, content_after_drop}
+use Rattle.lfs_model.proofs.Splices.{slots_of_pairs_in_order}
+use Rattle.lfs_model.proofs.Sites.{IsTrueOfSomeElement, Site, among_parts, thread_at}
+use Rattle.lfs_operations.specs.Changing.{IsPairAltered}
+use Rattle.lfs_operations.specs.Dropping.{IsNextPairDropped, content_after_next_pair_drop}
 use Rattle.lfs_operations.proofs.DroppedTails.{TwoAt, front_is, gone_is, over_next, two_at, without_is}
-use Rattle.lfs_thread.specs.Kept.{Kept}
-use Rattle.lfs_thread.specs.Steps.{kept_pair_at_index}
+use Rattle.lfs_thread.specs.Kept.{KeptThread}
+use Rattle.lfs_thread.specs.Steps.{thread_pair_at_index}
 
 -- ---- a pair in a thread
 
-pub among_contains : (p : Pair) (xs : List Pair) → Contains xs p → SomeIn (λ y. y ≡ p) xs
+pub among_contains : (p : Pair) (xs : List Pair) → Contains xs p → IsTrueOfSomeElement (λ y. y ≡ p) xs
 among_contains p [] (k, l, e) = absurd (omega arith)
 among_contains p (x ∷ xs) (zero, l, e) = inl e
 among_contains p (x ∷ xs) (suc k, l, e) = inr (among_contains p xs (k, omega arith, e))
 
-avoided : (p : Pair) (xs : List Pair) → Each (λ x. same_pair x.at p.at ≡ false) xs → SomeIn (λ y. y ≡ p) xs → ⊥
+avoided : (p : Pair) (xs : List Pair) → Each (λ x. same_pair x.at p.at ≡ false) xs → IsTrueOfSomeElement (λ y. y ≡ p) xs → ⊥
 avoided p [] h a = a
 avoided p (x ∷ xs) h (inl e) = absurd (let k = sym (pair_itself p.at) ∙ ap (λ (y : Pair). same_pair y.at p.at) (sym e) ∙ h.0 in cc)
 avoided p (x ∷ xs) h (inr a) = avoided p xs h.1 a
@@ -41,17 +41,17 @@ only_there xs q ys p distinct e has = go (among_parts (λ y. y ≡ p) xs (q ∷ 
     same : same_pair q.at p.at ≡ true
     same = ap (λ a. same_pair a p.at) e ∙ pair_itself p.at
 
-    go : SomeIn (λ y. y ≡ p) xs ⊎ SomeIn (λ y. y ≡ p) (q ∷ ys) → q ≡ p
+    go : IsTrueOfSomeElement (λ y. y ≡ p) xs ⊎ IsTrueOfSomeElement (λ y. y ≡ p) (q ∷ ys) → q ≡ p
     go (inl h) = absurd (avoided p xs (avoids_front xs q ys p.at distinct same) h)
     go (inr (inl h)) = h
     go (inr (inr h)) = absurd (avoided p ys (avoids_behind xs q ys p.at distinct same) h)
 
 pub links_behind : (at : Option (ℕ × ℕ)) (xs ys : List Pair) → AreLinkedByTails at (xs ++ ys) → (to : Option (ℕ × ℕ)) × AreLinkedByTails to ys
 links_behind at [] ys h = (at, h)
-links_behind at (x ∷ xs) ys h = links_behind (pair_named_by_tail x.content.tail) xs ys h.1
+links_behind at (x ∷ xs) ys h = links_behind (pair_address_named_by_tail x.content.tail) xs ys h.1
 
 -- no pair's tail names it
-names_another : (xs : List Pair) (f : Pair) (ys : List Pair) → AreLinkedByTails (Some anchor_pair_address) (xs ++ f ∷ ys) → IsDistinct nat_eq (blocks_of_pairs (xs ++ f ∷ ys)) → pair_named_by_tail f.content.tail ≡ Some f.at → ⊥
+names_another : (xs : List Pair) (f : Pair) (ys : List Pair) → AreLinkedByTails (Some anchor_pair_address) (xs ++ f ∷ ys) → IsDistinct nat_eq (blocks_of_pairs (xs ++ f ∷ ys)) → pair_address_named_by_tail f.content.tail ≡ Some f.at → ⊥
 names_another xs f [] links distinct e = absurd (let k = sym e ∙ (links_behind (Some anchor_pair_address) xs (f ∷ []) links).1.1 in cc)
 names_another xs f (g ∷ ys) links distinct e =
     let k = (links_behind (Some anchor_pair_address) xs (f ∷ g ∷ ys) links).1.1.0 in
@@ -79,10 +79,10 @@ module _ (disk new : Disk) (w : Site) (p q : Pair) (fresh : List ℕ) (l olds ne
       more (omega arith)
 
   -- or its tail names the new one
-  other_tail : (f : Pair) → q ≡ p → q.content.tail ≡ Some (record { hard = true; to = f.at }) → f.content.tail ≡ p.content.tail → pair_named_by_tail f.content.tail ≡ Some f.at
-  other_tail f e first second = ap pair_named_by_tail (second ∙ ap (λ (z : Pair). z.content.tail) (sym e) ∙ first)
+  other_tail : (f : Pair) → q ≡ p → q.content.tail ≡ Some (record { hard = true; to = f.at }) → f.content.tail ≡ p.content.tail → pair_address_named_by_tail f.content.tail ≡ Some f.at
+  other_tail f e first second = ap pair_address_named_by_tail (second ∙ ap (λ (z : Pair). z.content.tail) (sym e) ∙ first)
 
-  pub put_alters : (rest : List Pair) → IsAcceptedImage new (thread_at w (q ∷ rest)) → q.at ≡ p.at → p.content.slots ≡ l ++ (olds ++ r) → slots_in (q ∷ rest) ≡ l ++ (news ++ r) → Became disk p (pair_with_slots (l ++ (news ++ r)) p) q rest
+  pub put_alters : (rest : List Pair) → IsAcceptedImage new (thread_at w (q ∷ rest)) → q.at ≡ p.at → p.content.slots ≡ l ++ (olds ++ r) → slots_of_pairs_in_order (q ∷ rest) ≡ l ++ (news ++ r) → Became disk p (pair_with_slots (l ++ (news ++ r)) p) q rest
       → Contains (thread_at w (q ∷ rest)) p → ⊥
   put_alters [] ok at was now became has =
       let e = sym (append_assoc w.chain (w.before ++ w.left) (q ∷ behind)) in
@@ -100,22 +100,22 @@ module _ (disk new : Disk) (w : Site) (p q : Pair) (fresh : List ℕ) (l olds ne
 
 -- ---- a pair takes over the tail of the one behind it
 
-pub drop_alters : (t : Kept) (front : ℕ) (state : Gstate) (new : Kept) → front + 1 < length t.pairs → IsAcceptedImage t.disk t.pairs → IsNextPairDropped t front state new → AltersPair t front new
+pub drop_alters : (t : KeptThread) (front : ℕ) (state : Gstate) (new : KeptThread) → front + 1 < length t.pairs → IsAcceptedImage t.disk t.pairs → IsNextPairDropped t front state new → IsPairAltered t front new
 drop_alters t front state new low ok d = go (two_at t.pairs front low)
   where
-    go : TwoAt t.pairs front → AltersPair t front new
+    go : TwoAt t.pairs front → IsPairAltered t front new
     go two has =
         let p = two.one in
         let o = two.other in
-        let c = content_after_drop t front state in
+        let c = content_after_next_pair_drop t front state in
         let q : Pair = record { at = p.at; content = c } in
         let here = front_is t front two.ahead p o two.back two.is two.number in
         let next = gone_is t front two.ahead p o two.back two.is two.number in
         let now = d.pairs ∙ without_is t front two.ahead p o two.back two.is two.number c in
-        let same : q ≡ p = only_there two.ahead q two.back p (subst (λ z. IsDistinct nat_eq (blocks_of_pairs z)) now d.thread.distinct) refl (subst (Contains (two.ahead ++ q ∷ two.back)) here (subst (λ z. Contains z (kept_pair_at_index t front)) now has)) in
+        let same : q ≡ p = only_there two.ahead q two.back p (subst (λ z. IsDistinct nat_eq (blocks_of_pairs z)) now d.thread.distinct) refl (subst (Contains (two.ahead ++ q ∷ two.back)) here (subst (λ z. Contains z (thread_pair_at_index t front)) now has)) in
         let links = (links_behind (Some anchor_pair_address) two.ahead (p ∷ o ∷ two.back) (subst (λ z. AreLinkedByTails (Some anchor_pair_address) z) two.is ok.thread.links)).1 in
-        let taken : pair_named_by_tail c.tail ≡ pair_named_by_tail o.content.tail
-        = over_next (kept_pair_at_index t front).content.tail (kept_pair_at_index t (front + 1)).content.tail ∙ ap (λ (z : Pair). pair_named_by_tail z.content.tail) next in
-        let names : pair_named_by_tail o.content.tail ≡ Some o.at = sym taken ∙ ap (λ (z : Pair). pair_named_by_tail z.content.tail) same ∙ links.1.0 in
+        let taken : pair_address_named_by_tail c.tail ≡ pair_address_named_by_tail o.content.tail
+        = over_next (thread_pair_at_index t front).content.tail (thread_pair_at_index t (front + 1)).content.tail ∙ ap (λ (z : Pair). pair_address_named_by_tail z.content.tail) next in
+        let names : pair_address_named_by_tail o.content.tail ≡ Some o.at = sym taken ∙ ap (λ (z : Pair). pair_address_named_by_tail z.content.tail) same ∙ links.1.0 in
         let is = two.is ∙ sym (append_assoc two.ahead (p ∷ []) (o ∷ two.back)) in
         names_another (two.ahead ++ p ∷ []) o two.back (subst (λ z. AreLinkedByTails (Some anchor_pair_address) z) is ok.thread.links) (subst (λ z. IsDistinct nat_eq (blocks_of_pairs z)) is ok.thread.distinct) names

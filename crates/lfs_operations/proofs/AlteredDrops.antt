@@ -2,12 +2,12 @@
 use Rattle.std.proofs.Common.{ℕ, ◌≡◌, ◌+◌, ◌-◌, ◌<◌, ◌≤◌, false, [], ◌∷◌, length, Some, sym, ap, ◌∙◌, arith}
 use Rattle.lfs_model.specs.Slots.{Gstate, zero_gstate}
 use Rattle.lfs_model.specs.Thread.{AreLinkedByTails, Pair, anchor_pair_address, blocks_of_pairs}
-use Rattle.lfs_model.proofs.Counts.{count, count_here, once_from_distinct}
-use Rattle.lfs_model.proofs.Global.{sync_delta}
-use Rattle.lfs_operations.specs.Changing.{AltersPair}
-use Rattle.lfs_operations.specs.Dropping.{CanDropPairAt, IsNextPairDropped, content_after_drop}
+use Rattle.lfs_model.proofs.Counts.{occurrence_count_of_number, count_here, once_from_distinct}
+use Rattle.lfs_model.proofs.Global.{sync_bit_delta}
+use Rattle.lfs_operations.specs.Changing.{IsPairAltered}
+use Rattle.lfs_operations.specs.Dropping.{CanDropPairAt, IsNextPairDropped, content_after_next_pair_drop}
 use Rattle.lfs_operations.specs.Removing.{is_pair_dropped_with_slot}
-use Rattle.lfs_operations.specs.Unlinking.{AltersPairsBeforeDroppedOnes, CanRemoveDirectory, IsDirectoryEntryUnlinked, pair_number_after_drop}
+use Rattle.lfs_operations.specs.Unlinking.{ArePairsBeforeDroppedPairsAltered, CanRemoveDirectory, IsDirectoryEntryUnlinked, pair_number_after_drop}
 use Rattle.lfs_operations.proofs.AlteredTails.{names_next, tail_goes}
 use Rattle.lfs_operations.proofs.DroppedTails.{gone_is, two_at, without_is}
 use Rattle.lfs_operations.proofs.Placing.{blocks_append}
@@ -15,21 +15,21 @@ use Rattle.lfs_operations.proofs.RemovedWhole.{StandsWhole}
 use Rattle.lfs_operations.proofs.RmdirThread.{can_drop_gone}
 use Rattle.lfs_operations.proofs.UnlinkedSteps.{at_there}
 use Rattle.lfs_operations.proofs.UnlinkedWhole.{above_gone, can_drop_entry, can_drop_then, o_there}
-use Rattle.lfs_thread.specs.Device.{blocks_of_address}
-use Rattle.lfs_thread.specs.Kept.{Kept}
-use Rattle.lfs_thread.specs.Steps.{kept_pair_at_index}
+use Rattle.lfs_thread.specs.Device.{blocks_of_pair_address}
+use Rattle.lfs_thread.specs.Kept.{KeptThread}
+use Rattle.lfs_thread.specs.Steps.{thread_pair_at_index}
 
 -- ---- a pair goes
 
 -- with its blocks
-fewer_blocks : (t : Kept) (front : ℕ) (state : Gstate) (new : Kept) → front + 1 < length t.pairs → IsNextPairDropped t front state new → (b : ℕ)
-    → count b (blocks_of_pairs new.pairs) + count b (blocks_of_address (kept_pair_at_index t (front + 1)).at) ≡ count b (blocks_of_pairs t.pairs)
+fewer_blocks : (t : KeptThread) (front : ℕ) (state : Gstate) (new : KeptThread) → front + 1 < length t.pairs → IsNextPairDropped t front state new → (b : ℕ)
+    → occurrence_count_of_number b (blocks_of_pairs new.pairs) + occurrence_count_of_number b (blocks_of_pair_address (thread_pair_at_index t (front + 1)).at) ≡ occurrence_count_of_number b (blocks_of_pairs t.pairs)
 fewer_blocks t front state new low d b =
     let two = two_at t.pairs front low in
-    let q : Pair = record { at = two.one.at; content = content_after_drop t front state } in
-    let now = ap (λ z. count b (blocks_of_pairs z)) (d.pairs ∙ without_is t front two.ahead two.one two.other two.back two.is two.number (content_after_drop t front state)) in
-    let was = ap (λ z. count b (blocks_of_pairs z)) two.is in
-    let gone = ap (λ (z : Pair). count b (blocks_of_address z.at)) (gone_is t front two.ahead two.one two.other two.back two.is two.number) in
+    let q : Pair = record { at = two.one.at; content = content_after_next_pair_drop t front state } in
+    let now = ap (λ z. occurrence_count_of_number b (blocks_of_pairs z)) (d.pairs ∙ without_is t front two.ahead two.one two.other two.back two.is two.number (content_after_next_pair_drop t front state)) in
+    let was = ap (λ z. occurrence_count_of_number b (blocks_of_pairs z)) two.is in
+    let gone = ap (λ (z : Pair). occurrence_count_of_number b (blocks_of_pair_address z.at)) (gone_is t front two.ahead two.one two.other two.back two.is two.number) in
     let a = blocks_append two.ahead (q ∷ two.back) b in
     let c = blocks_append two.ahead (two.one ∷ two.other ∷ two.back) b in
     let e = blocks_append (q ∷ []) two.back b in
@@ -37,43 +37,43 @@ fewer_blocks t front state new low d b =
     let g = blocks_append (two.other ∷ []) two.back b in
     omega arith
 
-none_left : (t : Kept) (front : ℕ) (state : Gstate) (new : Kept) → front + 1 < length t.pairs → IsNextPairDropped t front state new → count (kept_pair_at_index t (front + 1)).at.0 (blocks_of_pairs t.pairs) ≤ 1
-    → count (kept_pair_at_index t (front + 1)).at.0 (blocks_of_pairs new.pairs) ≡ 0
+none_left : (t : KeptThread) (front : ℕ) (state : Gstate) (new : KeptThread) → front + 1 < length t.pairs → IsNextPairDropped t front state new → occurrence_count_of_number (thread_pair_at_index t (front + 1)).at.0 (blocks_of_pairs t.pairs) ≤ 1
+    → occurrence_count_of_number (thread_pair_at_index t (front + 1)).at.0 (blocks_of_pairs new.pairs) ≡ 0
 none_left t front state new low d once =
-    let at = (kept_pair_at_index t (front + 1)).at in
+    let at = (thread_pair_at_index t (front + 1)).at in
     let f = fewer_blocks t front state new low d at.0 in
     let c = count_here at.0 (at.1 ∷ []) in
     omega arith
 
 -- ---- an empty directory goes
 
-module _ (t : Kept) (index id first gone : ℕ) (take : CanRemoveDirectory t index id first gone) where
+module _ (t : KeptThread) (index id first gone : ℕ) (take : CanRemoveDirectory t index id first gone) where
   links_are : AreLinkedByTails (Some anchor_pair_address) t.pairs
   links_are = take.can.ready.accepted.thread.links
 
   -- its entry goes from a pair that stays
-  pub beside_alters : (goes : is_pair_dropped_with_slot t index first ≡ false) (m : Kept) (u : IsDirectoryEntryUnlinked t index id m) (new : Kept) → IsNextPairDropped m (gone - 1) zero_gstate new → AltersPairsBeforeDroppedOnes t index first gone new
+  pub beside_alters : (goes : is_pair_dropped_with_slot t index first ≡ false) (m : KeptThread) (u : IsDirectoryEntryUnlinked t index id m) (new : KeptThread) → IsNextPairDropped m (gone - 1) zero_gstate new → ArePairsBeforeDroppedPairsAltered t index first gone new
   beside_alters goes m u new d = record { front = front; entry = λ whole. absurd (let k = sym whole ∙ goes in cc) }
     where
       can : CanDropPairAt m gone zero_gstate
       can = can_drop_gone t index id first gone take goes m u
 
-      same : (kept_pair_at_index m (gone - 1 + 1)).at ≡ (kept_pair_at_index t (gone - 1 + 1)).at
+      same : (thread_pair_at_index m (gone - 1 + 1)).at ≡ (thread_pair_at_index t (gone - 1 + 1)).at
       same = at_there t m index id (gone - 1 + 1) u
 
-      front : AltersPair t (gone - 1) new
+      front : IsPairAltered t (gone - 1) new
       front =
           let above = can.above in
           let low = take.below in
           let low_now = can.below in
-          tail_goes t new (gone - 1) (kept_pair_at_index m (gone - 1 + 1)).at (names_next t (gone - 1) (omega arith) links_are ∙ ap (λ (a : ℕ × ℕ). Some a) (sym same)) d.thread.links
-          (none_left m (gone - 1) zero_gstate new (omega arith) d (once_from_distinct (blocks_of_pairs m.pairs) u.thread.distinct (kept_pair_at_index m (gone - 1 + 1)).at.0))
+          tail_goes t new (gone - 1) (thread_pair_at_index m (gone - 1 + 1)).at (names_next t (gone - 1) (omega arith) links_are ∙ ap (λ (a : ℕ × ℕ). Some a) (sym same)) d.thread.links
+          (none_left m (gone - 1) zero_gstate new (omega arith) d (once_from_distinct (blocks_of_pairs m.pairs) u.thread.distinct (thread_pair_at_index m (gone - 1 + 1)).at.0))
 
   -- its entry goes with its pair
-  pub whole_alters : (s : StandsWhole t index id take.can) (m : Kept) (h : IsNextPairDropped t (index - 1) sync_delta m) (new : Kept) → IsNextPairDropped m (pair_number_after_drop index gone - 1) zero_gstate new → AltersPairsBeforeDroppedOnes t index first gone new
+  pub whole_alters : (s : StandsWhole t index id take.can) (m : KeptThread) (h : IsNextPairDropped t (index - 1) sync_bit_delta m) (new : KeptThread) → IsNextPairDropped m (pair_number_after_drop index gone - 1) zero_gstate new → ArePairsBeforeDroppedPairsAltered t index first gone new
   whole_alters s m h new d = record { front = front; entry = λ whole. entry }
     where
-      can : CanDropPairAt t index sync_delta
+      can : CanDropPairAt t index sync_bit_delta
       can = can_drop_entry t index id first gone take s
 
       then : CanDropPairAt m (pair_number_after_drop index gone) zero_gstate
@@ -85,18 +85,18 @@ module _ (t : Kept) (index id first gone : ℕ) (take : CanRemoveDirectory t ind
       low_now : pair_number_after_drop index gone - 1 + 1 < length m.pairs
       low_now = let a = then.above in let b = then.below in omega arith
 
-      entry : AltersPair t (index - 1) new
+      entry : IsPairAltered t (index - 1) new
       entry =
-          let at = (kept_pair_at_index t (index - 1 + 1)).at in
-          let n = none_left t (index - 1) sync_delta m low h (once_from_distinct (blocks_of_pairs t.pairs) take.can.ready.accepted.thread.distinct at.0) in
+          let at = (thread_pair_at_index t (index - 1 + 1)).at in
+          let n = none_left t (index - 1) sync_bit_delta m low h (once_from_distinct (blocks_of_pairs t.pairs) take.can.ready.accepted.thread.distinct at.0) in
           let f = fewer_blocks m (pair_number_after_drop index gone - 1) zero_gstate new low_now d at.0 in
           tail_goes t new (index - 1) at (names_next t (index - 1) low links_are) d.thread.links (omega arith)
 
-      front : AltersPair t (gone - 1) new
+      front : IsPairAltered t (gone - 1) new
       front =
           let above = above_gone t index id first gone take s in
           let below = take.below in
           let number : gone ≡ gone - 1 + 1 = omega arith in
-          let same : kept_pair_at_index m (pair_number_after_drop index gone - 1 + 1) ≡ kept_pair_at_index t (gone - 1 + 1) = o_there t index id first gone take s m h ∙ ap (λ (i : ℕ). kept_pair_at_index t i) number in
-          tail_goes t new (gone - 1) (kept_pair_at_index m (pair_number_after_drop index gone - 1 + 1)).at (names_next t (gone - 1) (omega arith) links_are ∙ ap (λ (z : Pair). Some z.at) (sym same)) d.thread.links
-          (none_left m (pair_number_after_drop index gone - 1) zero_gstate new low_now d (once_from_distinct (blocks_of_pairs m.pairs) h.thread.distinct (kept_pair_at_index m (pair_number_after_drop index gone - 1 + 1)).at.0))
+          let same : thread_pair_at_index m (pair_number_after_drop index gone - 1 + 1) ≡ thread_pair_at_index t (gone - 1 + 1) = o_there t index id first gone take s m h ∙ ap (λ (i : ℕ). thread_pair_at_index t i) number in
+          tail_goes t new (gone - 1) (thread_pair_at_index m (pair_number_after_drop index gone - 1 + 1)).at (names_next t (gone - 1) (omega arith) links_are ∙ ap (λ (z : Pair). Some z.at) (sym same)) d.thread.links
+          (none_left m (pair_number_after_drop index gone - 1) zero_gstate new low_now d (once_from_distinct (blocks_of_pairs m.pairs) h.thread.distinct (thread_pair_at_index m (pair_number_after_drop index gone - 1 + 1)).at.0))

@@ -3,16 +3,16 @@ use Rattle.std.proofs.Common.{ℕ, ◌≢◌, ◌-◌, ◌<◌, ◌≤◌, ◌�
 use Rattle.std.specs.Prelude.{Contains}
 use Rattle.std.proofs.lemmas.Bool.{cases_lt}
 use Rattle.std.proofs.lemmas.List.Elements.{All-from_recursion, recursion_from_All}
-use Rattle.lfs_model.specs.BlockSets.{IsFree}
+use Rattle.lfs_model.specs.BlockSets.{IsBlockFree}
 use Rattle.lfs_model.specs.InDirectory.{IsPairAtAddress}
 use Rattle.lfs_model.specs.Names.{Name}
 use Rattle.lfs_model.specs.Slots.{zero_gstate}
 use Rattle.lfs_model.specs.Thread.{blocks_of_pairs}
-use Rattle.lfs_model.proofs.BlockSets.{Contains-count, count-Contains}
-use Rattle.lfs_model.proofs.Counts.{count, count_append, each_counted}
-use Rattle.lfs_thread.specs.Device.{blocks_of_two_addresses, blocks_of_address}
-use Rattle.lfs_thread.specs.Kept.{Kept}
-use Rattle.lfs_thread.specs.Steps.{ThreadChangesOnlyTheseBlocks, no_pair, kept_pair_at_index}
+use Rattle.lfs_model.proofs.BlockSets.{Contains-occurrence_count_of_number, occurrence_count_of_number-Contains}
+use Rattle.lfs_model.proofs.Counts.{occurrence_count_of_number, count_append, each_counted}
+use Rattle.lfs_thread.specs.Device.{blocks_of_two_pair_addresses, blocks_of_pair_address}
+use Rattle.lfs_thread.specs.Kept.{KeptThread}
+use Rattle.lfs_thread.specs.Steps.{ThreadChangesOnlyTheseBlocks, empty_pair_at_anchor, thread_pair_at_index}
 use Rattle.lfs_operations.specs.Altering.{ChangesOnlyGivenAlteredOrFreeBlocks}
 use Rattle.lfs_operations.specs.Dropping.{IsNextPairDropped}
 use Rattle.lfs_operations.specs.MovingSteps.{WritesTwoPairsAndTwoFreeBlocks, pair_written_by_second_move_commit}
@@ -27,23 +27,23 @@ use Rattle.lfs_operations.proofs.OntoWritten.{there_counted}
 use Rattle.lfs_operations.proofs.Putting.{with_history}
 use Rattle.lfs_operations.proofs.UnlinkedSteps.{writes_trans, writes_wider}
 
-module _ (t : Kept) (old_pair old_id first new_pair new_id : ℕ) (name : Name) (gone : ℕ) (rename : CanReplaceDirectoryAcrossPairs t old_pair old_id first new_pair new_id name gone) (m : Kept)
-    (h : IsEntryReplacedAcrossPairs t true old_pair old_id first new_pair new_id name m) (n : ℕ) (at : IsPairAtAddress m.pairs (kept_pair_at_index t gone).at n) (new : Kept) (g : IsNextPairDropped m (n - 1) zero_gstate new) where
-  abbrev later : Kept
+module _ (t : KeptThread) (old_pair old_id first new_pair new_id : ℕ) (name : Name) (gone : ℕ) (rename : CanReplaceDirectoryAcrossPairs t old_pair old_id first new_pair new_id name gone) (m : KeptThread)
+    (h : IsEntryReplacedAcrossPairs t true old_pair old_id first new_pair new_id name m) (n : ℕ) (at : IsPairAtAddress m.pairs (thread_pair_at_index t gone).at n) (new : KeptThread) (g : IsNextPairDropped m (n - 1) zero_gstate new) where
+  abbrev later : KeptThread
   later = with_history t h.from.history
 
   -- a block of the pair that the last step writes was a pair's, or free
-  before : (b : ℕ) → Contains (blocks_of_address (kept_pair_at_index m (n - 1)).at) b → (1 ≤ count b (blocks_of_pairs t.pairs)) ⊎ IsFree t.map b
-  before b own = go (cases_lt 0 (count b (blocks_of_pairs h.from.pairs)))
+  before : (b : ℕ) → Contains (blocks_of_pair_address (thread_pair_at_index m (n - 1)).at) b → (1 ≤ occurrence_count_of_number b (blocks_of_pairs t.pairs)) ⊎ IsBlockFree t.map b
+  before b own = go (cases_lt 0 (occurrence_count_of_number b (blocks_of_pairs h.from.pairs)))
     where
       within : Contains (blocks_of_pairs h.from.pairs ++ h.done.blocks.written.fresh) b
-      within = h.done.blocks.within b (Contains-count (blocks_of_pairs m.pairs) b
-          (there_counted m.pairs (n - 1) no_pair (let l = (can_drop_later t old_pair old_id first new_pair new_id name gone rename m h n at).below in omega (arith, l)) b (count-Contains (blocks_of_address (kept_pair_at_index m (n - 1)).at) b own)))
+      within = h.done.blocks.within b (Contains-occurrence_count_of_number (blocks_of_pairs m.pairs) b
+          (there_counted m.pairs (n - 1) empty_pair_at_anchor (let l = (can_drop_later t old_pair old_id first new_pair new_id name gone rename m h n at).below in omega (arith, l)) b (occurrence_count_of_number-Contains (blocks_of_pair_address (thread_pair_at_index m (n - 1)).at) b own)))
 
-      go : (0 < count b (blocks_of_pairs h.from.pairs)) ⊎ (count b (blocks_of_pairs h.from.pairs) ≤ 0) → (1 ≤ count b (blocks_of_pairs t.pairs)) ⊎ IsFree t.map b
-      go (inl l) = inl (subst (λ ps. 1 ≤ count b (blocks_of_pairs ps)) h.only.pairs l)
-      go (inr l) = inr (subst (λ map. IsFree map b) h.only.map (each_counted (IsFree h.from.map) h.done.blocks.written.fresh h.done.blocks.written.free b
-          (let k = count-Contains (blocks_of_pairs h.from.pairs ++ h.done.blocks.written.fresh) b within in let c = count_append b (blocks_of_pairs h.from.pairs) h.done.blocks.written.fresh in omega (arith, k, c, l))))
+      go : (0 < occurrence_count_of_number b (blocks_of_pairs h.from.pairs)) ⊎ (occurrence_count_of_number b (blocks_of_pairs h.from.pairs) ≤ 0) → (1 ≤ occurrence_count_of_number b (blocks_of_pairs t.pairs)) ⊎ IsBlockFree t.map b
+      go (inl l) = inl (subst (λ ps. 1 ≤ occurrence_count_of_number b (blocks_of_pairs ps)) h.only.pairs l)
+      go (inr l) = inr (subst (λ map. IsBlockFree map b) h.only.map (each_counted (IsBlockFree h.from.map) h.done.blocks.written.fresh h.done.blocks.written.free b
+          (let k = occurrence_count_of_number-Contains (blocks_of_pairs h.from.pairs ++ h.done.blocks.written.fresh) b within in let c = count_append b (blocks_of_pairs h.from.pairs) h.done.blocks.written.fresh in omega (arith, k, c, l))))
 
   -- said of the image from before the slot was read
   earlier : (bs : List ℕ) (b : ℕ) → IsKnown later new bs b → IsKnown t new bs b
@@ -51,21 +51,21 @@ module _ (t : Kept) (old_pair old_id first new_pair new_id : ℕ) (name : Name) 
   earlier bs b (inr (inl k)) = inr (inl (record { index = k.index; below = k.below; own = k.own; alters = k.alters }))
   earlier bs b (inr (inr free)) = inr (inr free)
 
-  pub altered_onto_directory : WritesTwoPairsAndTwoFreeBlocks t (pair_written_by_second_move_commit t old_pair first) new_pair m → ThreadChangesOnlyTheseBlocks (blocks_of_address (kept_pair_at_index m (n - 1)).at) m new → ChangesOnlyGivenAlteredOrFreeBlocks t (blocks_of_two_addresses (kept_pair_at_index t old_pair).at (kept_pair_at_index t new_pair).at) new
+  pub altered_onto_directory : WritesTwoPairsAndTwoFreeBlocks t (pair_written_by_second_move_commit t old_pair first) new_pair m → ThreadChangesOnlyTheseBlocks (blocks_of_pair_address (thread_pair_at_index m (n - 1)).at) m new → ChangesOnlyGivenAlteredOrFreeBlocks t (blocks_of_two_pair_addresses (thread_pair_at_index t old_pair).at (thread_pair_at_index t new_pair).at) new
   altered_onto_directory w second =
-      let y = (kept_pair_at_index m (n - 1)).at in
-      let p = (kept_pair_at_index t new_pair).at in
-      let q = (kept_pair_at_index t (pair_written_by_second_move_commit t old_pair first)).at in
+      let y = (thread_pair_at_index m (n - 1)).at in
+      let p = (thread_pair_at_index t new_pair).at in
+      let q = (thread_pair_at_index t (pair_written_by_second_move_commit t old_pair first)).at in
       let bs = p.0 ∷ p.1 ∷ q.0 ∷ q.1 ∷ w.fresh in
       let k = replacing_later t old_pair old_id first new_pair new_id name gone rename m h n at in
       record {
         blocks = y.0 ∷ y.1 ∷ bs;
         writes = writes_trans (writes_wider (y.0 ∷ y.1 ∷ bs) (λ b a. All-from_recursion (λ c. c ≢ b) bs (recursion_from_All (λ c. c ≢ b) (y.0 ∷ y.1 ∷ bs) a).1.1) w.writes)
-            (writes_wider (y.0 ∷ y.1 ∷ bs) (λ b a. let r = recursion_from_All (λ c. c ≢ b) (y.0 ∷ y.1 ∷ bs) a in All-from_recursion (λ c. c ≢ b) (blocks_of_address y) (r.0, (r.1.0, tt))) second);
-        each = each_known t new (blocks_of_two_addresses (kept_pair_at_index t old_pair).at p) y bs
-            (λ b own. earlier (blocks_of_two_addresses (kept_pair_at_index t old_pair).at p) b (last_known later m (rename.old.path ++ rename.old.name ∷ []) (rename.path ++ name ∷ []) rename.to gone n (gone_above_later t old_pair old_id first new_pair new_id name gone rename m h) rename.below k new g
-            (blocks_of_two_addresses (kept_pair_at_index t old_pair).at p) b (before b own) own))
+            (writes_wider (y.0 ∷ y.1 ∷ bs) (λ b a. let r = recursion_from_All (λ c. c ≢ b) (y.0 ∷ y.1 ∷ bs) a in All-from_recursion (λ c. c ≢ b) (blocks_of_pair_address y) (r.0, (r.1.0, tt))) second);
+        each = each_known t new (blocks_of_two_pair_addresses (thread_pair_at_index t old_pair).at p) y bs
+            (λ b own. earlier (blocks_of_two_pair_addresses (thread_pair_at_index t old_pair).at p) b (last_known later m (rename.old.path ++ rename.old.name ∷ []) (rename.path ++ name ∷ []) rename.to gone n (gone_above_later t old_pair old_id first new_pair new_id name gone rename m h) rename.below k new g
+            (blocks_of_two_pair_addresses (thread_pair_at_index t old_pair).at p) b (before b own) own))
             (onto_known true t h.from h.only old_pair old_id first new_pair new_id name (onto_directory rename) h.address m h.done new
             (renamed_directory t old_pair old_id first new_pair new_id name gone rename m h n at new g).now.ready.accepted
-            (end_fewer later m (rename.old.path ++ rename.old.name ∷ []) (rename.path ++ name ∷ []) rename.to (kept_pair_at_index t gone) n k new g) w);
+            (end_fewer later m (rename.old.path ++ rename.old.name ∷ []) (rename.path ++ name ∷ []) rename.to (thread_pair_at_index t gone) n k new g) w);
       }

@@ -3,50 +3,50 @@ use Rattle.std.proofs.Common.{ℕ, ◌≡◌, ◌+◌, ◌<◌, ◌≤◌, ◌�
 use Rattle.std.specs.Prelude.{Contains}
 use Rattle.std.specs.List.{IsDistinct}
 use Rattle.std.proofs.lemmas.Option.{same_Some}
-use Rattle.lfs_model.specs.BlockSets.{AreExactlyTheUsedBlocks, IsFree}
+use Rattle.lfs_model.specs.BlockSets.{AreExactlyTheUsedBlocks, IsBlockFree}
 use Rattle.lfs_model.specs.Shown.{all_slots_not_moved, used_blocks}
-use Rattle.lfs_model.specs.Thread.{AreLinkedByTails, Pair, anchor_pair_address, blocks_of_pairs, is_hard_tail, pair_named_by_tail}
-use Rattle.lfs_model.proofs.Counts.{count, count_append, count_here}
-use Rattle.lfs_model.proofs.Sites.{SomeIn}
-use Rattle.lfs_model.proofs.Splices.{files_of}
-use Rattle.lfs_operations.specs.Changing.{AltersPair}
+use Rattle.lfs_model.specs.Thread.{AreLinkedByTails, Pair, anchor_pair_address, blocks_of_pairs, is_hard_tail, pair_address_named_by_tail}
+use Rattle.lfs_model.proofs.Counts.{occurrence_count_of_number, count_append, count_here}
+use Rattle.lfs_model.proofs.Sites.{IsTrueOfSomeElement}
+use Rattle.lfs_model.proofs.Splices.{file_blocks_of_slots}
+use Rattle.lfs_operations.specs.Changing.{IsPairAltered}
 use Rattle.lfs_operations.specs.Ready.{IsImageReadyForChange}
 use Rattle.lfs_operations.proofs.Altered.{among_contains, links_behind, only_there}
 use Rattle.lfs_operations.proofs.DroppedTails.{front_is, gone_is, two_at}
 use Rattle.lfs_operations.proofs.Placing.{blocks_append}
 use Rattle.lfs_operations.proofs.Splicing.{not_used}
-use Rattle.lfs_thread.specs.Kept.{Kept}
-use Rattle.lfs_thread.specs.Steps.{kept_pair_at_index}
+use Rattle.lfs_thread.specs.Kept.{KeptThread}
+use Rattle.lfs_thread.specs.Steps.{thread_pair_at_index}
 
 -- ---- what a tail names
 
 -- it is a pair of the thread
-names_there : (at : Option (ℕ × ℕ)) (xs : List Pair) (p : Pair) (to : ℕ × ℕ) → AreLinkedByTails at xs → SomeIn (λ y. y ≡ p) xs → pair_named_by_tail p.content.tail ≡ Some to → 1 ≤ count to.0 (blocks_of_pairs xs)
+names_there : (at : Option (ℕ × ℕ)) (xs : List Pair) (p : Pair) (to : ℕ × ℕ) → AreLinkedByTails at xs → IsTrueOfSomeElement (λ y. y ≡ p) xs → pair_address_named_by_tail p.content.tail ≡ Some to → 1 ≤ occurrence_count_of_number to.0 (blocks_of_pairs xs)
 names_there at [] p to links h e = absurd h
 names_there at (x ∷ xs) p to links (inl same) e = go xs links.1
   where
-    named : pair_named_by_tail x.content.tail ≡ Some to
-    named = ap (λ (z : Pair). pair_named_by_tail z.content.tail) same ∙ e
+    named : pair_address_named_by_tail x.content.tail ≡ Some to
+    named = ap (λ (z : Pair). pair_address_named_by_tail z.content.tail) same ∙ e
 
-    go : (ys : List Pair) → AreLinkedByTails (pair_named_by_tail x.content.tail) ys → 1 ≤ count to.0 (blocks_of_pairs (x ∷ ys))
+    go : (ys : List Pair) → AreLinkedByTails (pair_address_named_by_tail x.content.tail) ys → 1 ≤ occurrence_count_of_number to.0 (blocks_of_pairs (x ∷ ys))
     go [] none = absurd (let k = sym none ∙ named in cc)
     go (y ∷ ys) l =
         let k : y.at ≡ to = same_Some y.at to (sym l.0 ∙ named) in
-        let h = ap (λ (a : ℕ × ℕ). count to.0 (a.0 ∷ a.1 ∷ blocks_of_pairs ys)) k in
+        let h = ap (λ (a : ℕ × ℕ). occurrence_count_of_number to.0 (a.0 ∷ a.1 ∷ blocks_of_pairs ys)) k in
         let c = count_here to.0 (to.1 ∷ blocks_of_pairs ys) in
         let a = blocks_append (x ∷ []) (y ∷ ys) to.0 in
         omega arith
-names_there at (x ∷ xs) p to links (inr h) e = let k = names_there (pair_named_by_tail x.content.tail) xs p to links.1 h e in let a = blocks_append (x ∷ []) xs to.0 in omega arith
+names_there at (x ∷ xs) p to links (inr h) e = let k = names_there (pair_address_named_by_tail x.content.tail) xs p to links.1 h e in let a = blocks_append (x ∷ []) xs to.0 in omega arith
 
 -- so it is no free block
-names_used : (t : Kept) (p : Pair) (to : ℕ × ℕ) → AreLinkedByTails (Some anchor_pair_address) t.pairs → AreExactlyTheUsedBlocks t.map (used_blocks t.disk t.pairs) → SomeIn (λ y. y ≡ p) t.pairs → pair_named_by_tail p.content.tail ≡ Some to → IsFree t.map to.0 → ⊥
+names_used : (t : KeptThread) (p : Pair) (to : ℕ × ℕ) → AreLinkedByTails (Some anchor_pair_address) t.pairs → AreExactlyTheUsedBlocks t.map (used_blocks t.disk t.pairs) → IsTrueOfSomeElement (λ y. y ≡ p) t.pairs → pair_address_named_by_tail p.content.tail ≡ Some to → IsBlockFree t.map to.0 → ⊥
 names_used t p to links used has e free =
     let k = names_there (Some anchor_pair_address) t.pairs p to links has e in
     let n = not_used t.map (used_blocks t.disk t.pairs) used to.0 free in
-    let c = count_append to.0 (blocks_of_pairs t.pairs) (files_of t.disk (all_slots_not_moved t.pairs)) in
+    let c = count_append to.0 (blocks_of_pairs t.pairs) (file_blocks_of_slots t.disk (all_slots_not_moved t.pairs)) in
     absurd (omega arith)
 
-parted : (xs : List Pair) (q : Pair) → SomeIn (λ y. y ≡ q) xs → (l : List Pair) × (r : List Pair) × (xs ≡ l ++ q ∷ r)
+parted : (xs : List Pair) (q : Pair) → IsTrueOfSomeElement (λ y. y ≡ q) xs → (l : List Pair) × (r : List Pair) × (xs ≡ l ++ q ∷ r)
 parted [] q h = absurd h
 parted (x ∷ xs) q (inl e) = ([], xs, ap (λ z. z ∷ xs) e)
 parted (x ∷ xs) q (inr h) = let k = parted xs q h in (x ∷ k.0, k.1, ap (λ z. x ∷ z) k.2)
@@ -54,8 +54,8 @@ parted (x ∷ xs) q (inr h) = let k = parted xs q h in (x ∷ k.0, k.1, ap (λ z
 -- ---- pairs with another tail
 
 -- the last pair of a directory, where the one that stands there now names one that was free, or goes on
-pub other_tail : (t : Kept) (z p : Pair) (fresh : ℕ × ℕ) → IsImageReadyForChange t → IsFree t.map fresh.0 → SomeIn (λ y. y ≡ p) t.pairs → is_hard_tail p.content.tail ≡ false
-    → (now : List Pair) → IsDistinct nat_eq (blocks_of_pairs now) → SomeIn (λ y. y ≡ z) now → z.at ≡ p.at → (pair_named_by_tail z.content.tail ≡ Some fresh) ⊎ (is_hard_tail z.content.tail ≡ true) → Contains now p → ⊥
+pub other_tail : (t : KeptThread) (z p : Pair) (fresh : ℕ × ℕ) → IsImageReadyForChange t → IsBlockFree t.map fresh.0 → IsTrueOfSomeElement (λ y. y ≡ p) t.pairs → is_hard_tail p.content.tail ≡ false
+    → (now : List Pair) → IsDistinct nat_eq (blocks_of_pairs now) → IsTrueOfSomeElement (λ y. y ≡ z) now → z.at ≡ p.at → (pair_address_named_by_tail z.content.tail ≡ Some fresh) ⊎ (is_hard_tail z.content.tail ≡ true) → Contains now p → ⊥
 other_tail t z p fresh ready free was soft now distinct there at tail has = go tail
   where
     k : (l : List Pair) × (r : List Pair) × (now ≡ l ++ z ∷ r)
@@ -64,17 +64,17 @@ other_tail t z p fresh ready free was soft now distinct there at tail has = go t
     same : z ≡ p
     same = only_there k.0 z k.1 p (subst (λ ps. IsDistinct nat_eq (blocks_of_pairs ps)) k.2 distinct) at (subst (λ ps. Contains ps p) k.2 has)
 
-    go : (pair_named_by_tail z.content.tail ≡ Some fresh) ⊎ (is_hard_tail z.content.tail ≡ true) → ⊥
-    go (inl names) = names_used t p fresh ready.accepted.thread.links ready.used was (ap (λ (y : Pair). pair_named_by_tail y.content.tail) (sym same) ∙ names) free
+    go : (pair_address_named_by_tail z.content.tail ≡ Some fresh) ⊎ (is_hard_tail z.content.tail ≡ true) → ⊥
+    go (inl names) = names_used t p fresh ready.accepted.thread.links ready.used was (ap (λ (y : Pair). pair_address_named_by_tail y.content.tail) (sym same) ∙ names) free
     go (inr hard) = absurd (let e = sym soft ∙ ap (λ (y : Pair). is_hard_tail y.content.tail) (sym same) ∙ hard in cc)
 
 -- a pair, where the thread hasn't the one that it named any more
-pub tail_goes : (t new : Kept) (index : ℕ) (to : ℕ × ℕ) → pair_named_by_tail (kept_pair_at_index t index).content.tail ≡ Some to → AreLinkedByTails (Some anchor_pair_address) new.pairs → count to.0 (blocks_of_pairs new.pairs) ≡ 0 → AltersPair t index new
-tail_goes t new index to names links none has = let k = names_there (Some anchor_pair_address) new.pairs (kept_pair_at_index t index) to links (among_contains (kept_pair_at_index t index) new.pairs has) names in absurd (omega arith)
+pub tail_goes : (t new : KeptThread) (index : ℕ) (to : ℕ × ℕ) → pair_address_named_by_tail (thread_pair_at_index t index).content.tail ≡ Some to → AreLinkedByTails (Some anchor_pair_address) new.pairs → occurrence_count_of_number to.0 (blocks_of_pairs new.pairs) ≡ 0 → IsPairAltered t index new
+tail_goes t new index to names links none has = let k = names_there (Some anchor_pair_address) new.pairs (thread_pair_at_index t index) to links (among_contains (thread_pair_at_index t index) new.pairs has) names in absurd (omega arith)
 
-pub names_next : (t : Kept) (front : ℕ) → front + 1 < length t.pairs → AreLinkedByTails (Some anchor_pair_address) t.pairs → pair_named_by_tail (kept_pair_at_index t front).content.tail ≡ Some (kept_pair_at_index t (front + 1)).at
+pub names_next : (t : KeptThread) (front : ℕ) → front + 1 < length t.pairs → AreLinkedByTails (Some anchor_pair_address) t.pairs → pair_address_named_by_tail (thread_pair_at_index t front).content.tail ≡ Some (thread_pair_at_index t (front + 1)).at
 names_next t front low links =
     let two = two_at t.pairs front low in
     let k = (links_behind (Some anchor_pair_address) two.ahead (two.one ∷ two.other ∷ two.back) (subst (λ z. AreLinkedByTails (Some anchor_pair_address) z) two.is links)).1 in
-    ap (λ (z : Pair). pair_named_by_tail z.content.tail) (front_is t front two.ahead two.one two.other two.back two.is two.number) ∙ k.1.0
+    ap (λ (z : Pair). pair_address_named_by_tail z.content.tail) (front_is t front two.ahead two.one two.other two.back two.is two.number) ∙ k.1.0
     ∙ ap (λ (z : Pair). Some z.at) (sym (gone_is t front two.ahead two.one two.other two.back two.is two.number))

@@ -4,28 +4,28 @@ use Rattle.std.specs.Prelude.{Contains, nat_le}
 use Rattle.std.specs.Option.{option_and_then}
 use Rattle.std.proofs.lemmas.Bool.{ne_eqb, leb-true}
 use Rattle.lfs_model.specs.TreeEdits.{tree_after_creation}
-use Rattle.lfs_model.specs.Changes.{content_after_changes}
-use Rattle.lfs_model.specs.Content.{RawContent, raw_content_of_pair_at, content_if_slots_are_complete}
+use Rattle.lfs_model.specs.Changes.{raw_pair_content_after_changes}
+use Rattle.lfs_model.specs.Content.{RawPairContent, raw_content_of_pair_at, pair_content_if_slots_complete}
 use Rattle.lfs_model.specs.EntryTypes.{file_name_type, inline_struct_type}
-use Rattle.lfs_model.specs.Cut.{CanBeCut}
+use Rattle.lfs_model.specs.Cut.{CanSplitSlotsIntoTwoPairs}
 use Rattle.lfs_model.specs.Disk.{Disk}
-use Rattle.lfs_model.specs.History.{CallEvent}
+use Rattle.lfs_model.specs.History.{DeviceCallEvent}
 use Rattle.lfs_model.specs.InDirectory.{IsPlaceWhereNameBelongs}
-use Rattle.lfs_model.specs.LoggedContent.{IsNameOrStructOfClass}
-use Rattle.lfs_model.specs.Names.{Name, is_name, is_path_component}
+use Rattle.lfs_model.specs.LoggedContent.{IsNameOrStructTheFormatAllows}
+use Rattle.lfs_model.specs.Names.{Name, is_valid_name, is_path_component}
 use Rattle.lfs_model.specs.Operations as ops
-use Rattle.lfs_model.specs.Operations.{Flags}
-use Rattle.lfs_model.specs.PowerLoss.{SurvivesStopsSince}
-use Rattle.lfs_model.specs.Slots.{Slot, Content, same_pair}
+use Rattle.lfs_model.specs.Operations.{FlagsOfOpen}
+use Rattle.lfs_model.specs.PowerLoss.{SurvivesPowerLossInCallsSince}
+use Rattle.lfs_model.specs.Slots.{Slot, PairContent, same_pair}
 use Rattle.lfs_model.specs.SlotEdits.{new_file_slot}
-use Rattle.lfs_model.specs.Refusals.{path_or_root}
-use Rattle.lfs_model.specs.Thread.{Pair, blocks_of_pairs, pair_named_by_tail}
+use Rattle.lfs_model.specs.Refusals.{path_of_bytes_or_root}
+use Rattle.lfs_model.specs.Thread.{Pair, blocks_of_pairs, pair_address_named_by_tail}
 use Rattle.lfs_model.specs.Session.{Session}
 use Rattle.lfs_model.specs.Tree.{Tree, FileNode}
 use Rattle.lfs_model.specs.View.{IsAcceptedImage}
 use Rattle.lfs_model.specs.Shown.{IsPathToDirectory, entries_by_directory_in_thread, tree_on_disk}
-use Rattle.lfs_model.proofs.Changes.{Follows}
-use Rattle.lfs_model.proofs.Committed.{IsCompleted, no_move_from, recovered_from, commit_step}
+use Rattle.lfs_model.proofs.Changes.{IsImageAfterTreeChange}
+use Rattle.lfs_model.proofs.Committed.{IsImageAfterCompletedOperation, no_move_from, recovered_from, commit_step}
 use Rattle.lfs_model.proofs.Completed.{complete_insert, complete_length, completed_parts, completed_from}
 use Rattle.lfs_model.proofs.Effects.{creates_with_struct, does_nothing, slot_with}
 use Rattle.lfs_model.proofs.Halves.{insert_cut}
@@ -36,12 +36,12 @@ use Rattle.lfs_model.proofs.OneCommit.{create_completed, some_filled}
 use Rattle.lfs_model.proofs.Searches.{site, thread_is, is_site, same, number_is, place_of_belongs}
 use Rattle.lfs_model.proofs.Sites.{Site, thread_at, begin_of}
 use Rattle.lfs_model.proofs.StoredChanges.{logged_changed}
-use Rattle.lfs_model.proofs.WrittenAnew.{kind_of-tag_of_type_id_and_length, len_of-tag_of_type_id_and_length}
+use Rattle.lfs_model.proofs.WrittenAnew.{type_of_tag-tag_of_type_id_and_length, length_of_tag-tag_of_type_id_and_length}
 use Rattle.lfs_pair.specs.Commit.{pair_content_after_changes}
-use Rattle.lfs_thread.specs.Device.{StopsAfterCleanErasesLeave}
-use Rattle.lfs_thread.specs.Kept.{Kept}
-use Rattle.lfs_thread.specs.Steps.{kept_pair_at_index, complete_content_after_changes}
-use Rattle.lfs_operations.specs.Changing.{AltersPair, CanChangeOrSplitPair, IsLeftByStoppedChangeOrSplit, IsPairChangedOrSplit}
+use Rattle.lfs_thread.specs.Device.{PowerLossLeavesSuchBlocksAfterCleanErases}
+use Rattle.lfs_thread.specs.Kept.{KeptThread}
+use Rattle.lfs_thread.specs.Steps.{thread_pair_at_index, complete_content_after_changes}
+use Rattle.lfs_operations.specs.Changing.{IsPairAltered, CanChangeOrSplitPair, IsLeftByStoppedChangeOrSplit, IsPairChangedOrSplit}
 use Rattle.lfs_operations.specs.Creating.{CanCreateFileInPair, IsFileCreated, file_creation_changes, tree_with_new_file}
 use Rattle.lfs_operations.proofs.Altered.{commit_alters}
 use Rattle.lfs_operations.proofs.Held.{CompletesTo, below, fits_there, here, raw_there}
@@ -50,27 +50,27 @@ use Rattle.lfs_operations.proofs.Stepped.{HasStep, becomes, put_step, ready_agai
 
 -- ---- the parts of a file's slot
 
-name_length : (name : Name) → is_name name ≡ true → length name ≤ 255
+name_length : (name : Name) → is_valid_name name ≡ true → length name ≤ 255
 name_length name h = leb-true (length name) 255 (and_second (is_path_component name) (nat_le (length name) 255) h)
   where
     and_second : (a b : Bool) → (a && b) ≡ true → b ≡ true
     and_second true b e = e
     and_second false b e = absurd (cc)
 
-file_name : (name : Name) → length name ≤ 255 → IsNameOrStructOfClass 0 (file_name_type, name)
+file_name : (name : Name) → length name ≤ 255 → IsNameOrStructTheFormatAllows 0 (file_name_type, name)
 file_name name short = record {
   of_class = refl;
   short = omega arith;
   in_table =
-      let kind = kind_of-tag_of_type_id_and_length file_name_type 0 (length name) (omega arith) (omega arith) (omega arith) in
-      let len = len_of-tag_of_type_id_and_length file_name_type 0 (length name) (omega arith) in
+      let kind = type_of_tag-tag_of_type_id_and_length file_name_type 0 (length name) (omega arith) (omega arith) (omega arith) in
+      let len = length_of_tag-tag_of_type_id_and_length file_name_type 0 (length name) (omega arith) in
       rw len (rw kind (rw (ne_eqb (length name) 0x3ff (λ e. omega arith)) refl));
 }
 
-no_bytes : IsNameOrStructOfClass 2 (inline_struct_type, [])
+no_bytes : IsNameOrStructTheFormatAllows 2 (inline_struct_type, [])
 no_bytes = record { of_class = refl; short = omega arith; in_table = refl }
 
-module _ (t : Kept) (index id : ℕ) (name : Name) (can : CanCreateFileInPair t index id name) where
+module _ (t : KeptThread) (index id : ℕ) (name : Name) (can : CanCreateFileInPair t index id name) where
   abbrev b : IsPlaceWhereNameBelongs t.disk.order t.pairs can.first name index id
   b = can.belongs
 
@@ -88,35 +88,35 @@ module _ (t : Kept) (index id : ℕ) (name : Name) (can : CanCreateFileInPair t 
   within : id ≤ length p.content.slots
   within = let h = ap length b.held in let l = length-append b.left b.right in let n = b.number in omega arith
 
-  abbrev c : CompletesTo (raw_content_of_pair_at t.disk (kept_pair_at_index t index).at) p.content
+  abbrev c : CompletesTo (raw_content_of_pair_at t.disk (thread_pair_at_index t index).at) p.content
   c = raw_there t can.ready can.first index p (b.later ++ b.rest) b.place
 
-  abbrev raw_now : RawContent
+  abbrev raw_now : RawPairContent
   raw_now = record c.raw { slots = insert c.raw.slots id (slot_with (file_name_type, name) (inline_struct_type, [])) }
 
-  changed : content_after_changes c.raw (file_creation_changes id name) ≡ Some raw_now
+  changed : raw_pair_content_after_changes c.raw (file_creation_changes id name) ≡ Some raw_now
   changed =
       let l = complete_length c.raw.slots p.content.slots (completed_parts c.raw p.content c.complete).slots in
       let few = (fits_there t can.ready can.first index p (b.later ++ b.rest) b.place).count in
       let m = within in
       creates_with_struct c.raw id file_name_type name inline_struct_type [] [] raw_now (omega arith) (omega arith) (file_name name (name_length name can.is_name)) no_bytes (does_nothing raw_now)
 
-  made_raw : pair_content_after_changes t.disk (kept_pair_at_index t index).at (file_creation_changes id name) ≡ Some raw_now
-  made_raw = ap (λ o. option_and_then (λ (r : RawContent). content_after_changes r (file_creation_changes id name)) o) c.is ∙ changed
+  made_raw : pair_content_after_changes t.disk (thread_pair_at_index t index).at (file_creation_changes id name) ≡ Some raw_now
+  made_raw = ap (λ o. option_and_then (λ (r : RawPairContent). raw_pair_content_after_changes r (file_creation_changes id name)) o) c.is ∙ changed
 
-  abbrev now : Content
+  abbrev now : PairContent
   now = record { slots = insert p.content.slots id (new_file_slot name); tail = p.content.tail; move = p.content.move }
 
-  now_complete : content_if_slots_are_complete raw_now ≡ Some now
+  now_complete : pair_content_if_slots_complete raw_now ≡ Some now
   now_complete =
       let parts = completed_parts c.raw p.content c.complete in
       completed_from raw_now (insert p.content.slots id (new_file_slot name)) (complete_insert c.raw.slots p.content.slots id (slot_with (file_name_type, name) (inline_struct_type, [])) (new_file_slot name) parts.slots refl)
       ∙ ap₂ (λ t m. Some (record { slots = insert p.content.slots id (new_file_slot name); tail = t; move = m })) (sym parts.tail) (sym parts.move)
 
   made : complete_content_after_changes t index (file_creation_changes id name) ≡ Some now
-  made = ap (λ o. option_and_then content_if_slots_are_complete o) made_raw ∙ now_complete
+  made = ap (λ o. option_and_then pair_content_if_slots_complete o) made_raw ∙ now_complete
 
-  cut : CanBeCut t.disk.block_size t.disk.page raw_now.slots
+  cut : CanSplitSlotsIntoTwoPairs t.disk.block_size t.disk.page raw_now.slots
   cut = insert_cut t.disk.block_size t.disk.page raw_now now p.content id (new_file_slot name) (logged_changed c.raw (file_creation_changes id name) raw_now (can.logged c.raw c.is) changed) now_complete refl
       (let f = can.fits.charge in omega arith) (fits_there t can.ready can.first index p (b.later ++ b.rest) b.place)
 
@@ -126,7 +126,7 @@ module _ (t : Kept) (index id : ℕ) (name : Name) (can : CanCreateFileInPair t 
       below = below t can.ready can.first index p (b.later ++ b.rest) b.place;
       content = now;
       made = made;
-      next = ap (λ (z : Pair). pair_named_by_tail z.content.tail) (sym (here t can.ready can.first index p (b.later ++ b.rest) b.place));
+      next = ap (λ (z : Pair). pair_address_named_by_tail z.content.tail) (sym (here t can.ready can.first index p (b.later ++ b.rest) b.place));
     };
     raw = raw_now;
     made = made_raw;
@@ -175,27 +175,27 @@ module _ (t : Kept) (index id : ℕ) (name : Name) (can : CanCreateFileInPair t 
   place_there = subst (λ z. IsPlace t.disk.order (entries_by_directory_in_thread z can.at) (place_at w b.left) name) there place
 
   follows : (disk : Disk) (q : Pair) (more : List Pair) → Commits t w p b.left [] (u ∷ []) b.right [] disk q more
-      → Follows t.disk (thread_at w (p ∷ [])) disk (thread_at w (q ∷ more)) (tree_after_creation (can.path ++ name ∷ []) (FileNode [] [])) (λ d. d)
+      → IsImageAfterTreeChange t.disk (thread_at w (p ∷ [])) disk (thread_at w (q ∷ more)) (tree_after_creation (can.path ++ name ∷ []) (FileNode [] [])) (λ d. d)
   follows disk q more commit = file_comes t.disk disk w p [] q more (blocks_of_pairs more) [] b.left b.right u (commit_step t.disk disk w p q more [] b.left [] (u ∷ []) b.right commit.commit) can.path can.at
       leads_there same_there place_there [] refl (λ e. (recovered_from t.disk (thread_at w (p ∷ [])) commit.commit.accepted commit.commit.settled).reached)
 
-  pub created : (new : Kept) → IsPairChangedOrSplit t index (file_creation_changes id name) new → IsFileCreated t new can.path name
+  pub created : (new : KeptThread) → IsPairChangedOrSplit t index (file_creation_changes id name) new → IsFileCreated t new can.path name
   created new is = go (put_step t index (file_creation_changes id name) w p b.left [] (u ∷ []) b.right [] [] splicing new is)
     where
       go : HasStep t w p b.left [] (u ∷ []) b.right [] [] new → IsFileCreated t new can.path name
       go s =
-          let done = λ (z : Session) (given : List ℕ) (flags : Flags) (tree : z.tree ≡ tree_on_disk t.disk t.pairs) (is_path : path_or_root given ≡ can.path ++ name ∷ []).
+          let done = λ (z : Session) (given : List ℕ) (flags : FlagsOfOpen) (tree : z.tree ≡ tree_on_disk t.disk t.pairs) (is_path : path_of_bytes_or_root given ≡ can.path ++ name ∷ []).
           create_completed t.disk new.disk w p s.q s.more b.left b.right name s.commit.commit can.path can.at leads_there same_there place_there z given flags (tree ∙ ap (tree_on_disk t.disk) there) is_path
           (ap₂ (λ (f : Tree) x. f x) tree is_path ∙ (nothing_there t.disk t.pairs can.path can.at (place_at w b.left) name can.leads place).1) in
           record {
             now = ready_again t new (tree_with_new_file t can.path name) (becomes t index (file_creation_changes id name) w p b.left [] (u ∷ []) b.right [] [] splicing (tree_after_creation (can.path ++ name ∷ []) (FileNode [] []))
                 (λ disk q more commit. ((λ d. d), follows disk q more commit)) (λ e. some_filled b.left b.right u) new s);
-            completed = λ z given flags tree is_path. subst (λ x. IsCompleted t.disk x z (ops.Open given flags) new.disk new.pairs) (sym there)
-                (subst (λ x. IsCompleted t.disk (thread_at w (p ∷ [])) z (ops.Open given flags) new.disk x) (sym s.pairs) (done z given flags tree is_path));
+            completed = λ z given flags tree is_path. subst (λ x. IsImageAfterCompletedOperation t.disk x z (ops.Open given flags) new.disk new.pairs) (sym there)
+                (subst (λ x. IsImageAfterCompletedOperation t.disk (thread_at w (p ∷ [])) z (ops.Open given flags) new.disk x) (sym s.pairs) (done z given flags tree is_path));
           }
 
   -- the pair has one slot more, or is cut
-  pub alters : (new : Kept) → IsPairChangedOrSplit t index (file_creation_changes id name) new → AltersPair t index new
+  pub alters : (new : KeptThread) → IsPairChangedOrSplit t index (file_creation_changes id name) new → IsPairAltered t index new
   alters new is has = go (put_step t index (file_creation_changes id name) w p b.left [] (u ∷ []) b.right [] [] splicing new is)
     where
       go : HasStep t w p b.left [] (u ∷ []) b.right [] [] new → ⊥
@@ -203,6 +203,6 @@ module _ (t : Kept) (index id : ℕ) (name : Name) (can : CanCreateFileInPair t 
           (subst (IsAcceptedImage new.disk) s.pairs (created new is).now.ready.accepted) s.commit.commit
           (subst (λ z. Contains z p) s.pairs (subst (Contains new.pairs) (pair_is t index (file_creation_changes id name) w p b.left [] (u ∷ []) b.right [] [] splicing) has))
 
-  pub create_survives : (new : List CallEvent) → StopsAfterCleanErasesLeave t.history new (IsLeftByStoppedChangeOrSplit t index (file_creation_changes id name)) → SurvivesStopsSince t.disk t.history new (tree_on_disk t.disk t.pairs) (tree_with_new_file t can.path name)
+  pub create_survives : (new : List DeviceCallEvent) → PowerLossLeavesSuchBlocksAfterCleanErases t.history new (IsLeftByStoppedChangeOrSplit t index (file_creation_changes id name)) → SurvivesPowerLossInCallsSince t.disk t.history new (tree_on_disk t.disk t.pairs) (tree_with_new_file t can.path name)
   create_survives new stops = survives t index (file_creation_changes id name) w p b.left [] (u ∷ []) b.right [] [] splicing (tree_after_creation (can.path ++ name ∷ []) (FileNode [] []))
       (λ disk q more commit. ((λ d. d), follows disk q more commit)) (λ e. some_filled b.left b.right u) new stops

@@ -4,33 +4,33 @@ use Rattle.std.specs.Prelude.{All}
 use Rattle.lfs_model.specs.Names.{Name}
 use Rattle.std.proofs.lemmas.List.Elements.{recursion_from_All}
 use Rattle.lfs_model.specs.TreeEdits.{attributes_of_node, tree_after_change_of_node, node_with_attributes}
-use Rattle.lfs_model.specs.Changes.{ContentChange, PutAttribute, RemoveAttribute}
+use Rattle.lfs_model.specs.Changes.{PairContentChange, PutAttribute, RemoveAttribute}
 use Rattle.lfs_model.specs.Content.{RawSlot, attributes_with_attribute, attributes_without_attribute}
 use Rattle.lfs_model.specs.Disk.{Disk}
-use Rattle.lfs_model.specs.History.{CallEvent}
+use Rattle.lfs_model.specs.History.{DeviceCallEvent}
 use Rattle.lfs_model.specs.Operations as ops
 use Rattle.lfs_model.specs.Operations.{Operation}
-use Rattle.lfs_model.specs.PowerLoss.{SurvivesStopsSince}
+use Rattle.lfs_model.specs.PowerLoss.{SurvivesPowerLossInCallsSince}
 use Rattle.lfs_model.specs.Session.{Session}
-use Rattle.lfs_model.specs.Refusals.{path_or_root}
+use Rattle.lfs_model.specs.Refusals.{path_of_bytes_or_root}
 use Rattle.lfs_model.specs.Slots.{Attributes, Slot, is_superblock, same_pair, slot_size}
 use Rattle.lfs_model.specs.Thread.{Pair, blocks_of_pairs}
 use Rattle.lfs_model.specs.Tree.{Tree}
-use Rattle.lfs_model.specs.View.{IsFileOrDirectoryEntry, IsListIfCtz}
-use Rattle.lfs_model.specs.Profile.{FitsEntryLimits, FitsSlotLimits}
+use Rattle.lfs_model.specs.View.{IsFileOrDirectoryEntry, IsSkipListIfCtzStruct}
+use Rattle.lfs_model.specs.Profile.{IsEntryWithinWritableLimits, IsSlotWithinWritableLimits}
 use Rattle.lfs_model.specs.Shown.{IsPathToDirectory, all_slots_not_moved, tree_on_disk}
-use Rattle.lfs_model.proofs.Changes.{Follows}
-use Rattle.lfs_model.proofs.Committed.{IsCompleted, recovered_from, commit_step}
-use Rattle.lfs_model.proofs.Counts.{Each, each_right, count}
+use Rattle.lfs_model.proofs.Changes.{IsImageAfterTreeChange}
+use Rattle.lfs_model.proofs.Committed.{IsImageAfterCompletedOperation, recovered_from, commit_step}
+use Rattle.lfs_model.proofs.Counts.{Each, each_right, occurrence_count_of_number}
 use Rattle.lfs_model.proofs.Effects.{puts_attribute, removes_attribute}
 use Rattle.lfs_model.proofs.Files.{file_blocks_same, is_list_same}
-use Rattle.lfs_model.proofs.Histories.{IsTrueAfterEachStopSince-weaker}
+use Rattle.lfs_model.proofs.Histories.{IsTrueAfterAnyPowerLossSince-weaker}
 use Rattle.lfs_model.proofs.Moves.{attributes_change}
 use Rattle.lfs_model.proofs.OneCommit.{remove_attr_completed, set_attr_completed, some_filled}
 use Rattle.lfs_model.proofs.Sites.{Site, thread_at, begin_of}
-use Rattle.lfs_thread.specs.Device.{StopsAfterCleanErasesLeave}
-use Rattle.lfs_thread.specs.Kept.{Kept}
-use Rattle.lfs_thread.specs.Steps.{CanChangePair, IsPairChanged, LeavesPairOldOrChanged, IsCommitRefused}
+use Rattle.lfs_thread.specs.Device.{PowerLossLeavesSuchBlocksAfterCleanErases}
+use Rattle.lfs_thread.specs.Kept.{KeptThread}
+use Rattle.lfs_thread.specs.Steps.{CanChangePair, IsPairChanged, PowerLossLeavesPairOldOrChanged, IsCommitRefused}
 use Rattle.lfs_operations.specs.Changing.{CanChangeOrSplitPair, IsLeftByStoppedChangeOrSplit, IsPairChangedOrSplit}
 use Rattle.lfs_operations.specs.Editing.{CanEditEntryOfPair, CanSetAttribute, HasRemovedAttribute, HasSetAttribute, slot_of_editable_entry, tree_with_attributes_at}
 use Rattle.lfs_operations.specs.Ready.{ShowsTreeReadyForChange}
@@ -42,11 +42,11 @@ use Rattle.lfs_operations.proofs.Splicing.{Commits, IsSplicing}
 use Rattle.lfs_operations.proofs.Stepped.{HasStep, becomes, put_step, ready_again, survives}
 
 -- the change gives the slot at the id those attributes
-abbrev pub ChangesAttributes : ContentChange → ℕ → (Attributes → Attributes) → Type 0
+abbrev pub ChangesAttributes : PairContentChange → ℕ → (Attributes → Attributes) → Type 0
 ChangesAttributes change id f = Makes change id (λ s. record s { attributes = f s.attributes })
 
-module _ (t : Kept) (index id : ℕ) (can : CanEditEntryOfPair t index id) (f : Attributes → Attributes) (change : ContentChange) (does : ChangesAttributes change id f)
-    (fits : FitsEntryLimits t.disk.block_size t.disk.page (record (slot_of_editable_entry can) { attributes = f (slot_of_editable_entry can).attributes })) where
+module _ (t : KeptThread) (index id : ℕ) (can : CanEditEntryOfPair t index id) (f : Attributes → Attributes) (change : PairContentChange) (does : ChangesAttributes change id f)
+    (fits : IsEntryWithinWritableLimits t.disk.block_size t.disk.page (record (slot_of_editable_entry can) { attributes = f (slot_of_editable_entry can).attributes })) where
   abbrev g : RawSlot → RawSlot
   g z = record z { attributes = f z.attributes }
 
@@ -74,7 +74,7 @@ module _ (t : Kept) (index id : ℕ) (can : CanEditEntryOfPair t index id) (f : 
   pub can_put_attributes : CanChangeOrSplitPair t index (change ∷ [])
   can_put_attributes = can_put t index id can g v change does turns fits
 
-  pub edit_not_refused : slot_size v ≤ slot_size u → (new : Kept) → IsCommitRefused t index (change ∷ []) new → ⊥
+  pub edit_not_refused : slot_size v ≤ slot_size u → (new : KeptThread) → IsCommitRefused t index (change ∷ []) new → ⊥
   edit_not_refused less = replacing.not_refused t index id can g v change does turns fits less
 
   there_now : t.pairs ≡ thread_at w (p ∷ [])
@@ -90,8 +90,8 @@ module _ (t : Kept) (index id : ℕ) (can : CanEditEntryOfPair t index id) (f : 
     flying = tt;
     apart = can.ready.accepted.owned_once;
     lists = λ disk geometry file come. is_list_same t.disk disk u.struct geometry file
-        (of_slot t index id can g v change does turns fits (λ x. IsListIfCtz t.disk x.struct) (recursion_from_All (λ (x : Slot). IsListIfCtz t.disk x.struct) (all_slots_not_moved t.pairs) can.ready.accepted.lists));
-    blocks = λ disk geometry file come b. let e = ap (count b) (file_blocks_same t.disk disk u.struct geometry file) in omega arith;
+        (of_slot t index id can g v change does turns fits (λ x. IsSkipListIfCtzStruct t.disk x.struct) (recursion_from_All (λ (x : Slot). IsSkipListIfCtzStruct t.disk x.struct) (all_slots_not_moved t.pairs) can.ready.accepted.lists));
+    blocks = λ disk geometry file come b. let e = ap (occurrence_count_of_number b) (file_blocks_same t.disk disk u.struct geometry file) in omega arith;
   }
 
   spliced : IsSplicing t index (change ∷ []) w p l (u ∷ []) (v ∷ []) r [] []
@@ -109,48 +109,48 @@ module _ (t : Kept) (index id : ℕ) (can : CanEditEntryOfPair t index id) (f : 
   abbrev turn : Tree → Tree
   turn = tree_after_change_of_node (can.path ++ can.name ∷ []) (λ n. node_with_attributes (f (attributes_of_node (Some n))) n)
 
-  follows : (disk : Disk) (q : Pair) (more : List Pair) → Commits t w p l (u ∷ []) (v ∷ []) r [] disk q more → Follows t.disk (thread_at w (p ∷ [])) disk (thread_at w (q ∷ more)) turn (λ d. d)
-  follows disk q more commit = subst (λ (n : Name). Follows t.disk (thread_at w (p ∷ [])) disk (thread_at w (q ∷ more)) (tree_after_change_of_node (can.path ++ n ∷ []) (λ z. node_with_attributes (f (attributes_of_node (Some z))) z)) (λ d. d)) can.stands.stands.named
+  follows : (disk : Disk) (q : Pair) (more : List Pair) → Commits t w p l (u ∷ []) (v ∷ []) r [] disk q more → IsImageAfterTreeChange t.disk (thread_at w (p ∷ [])) disk (thread_at w (q ∷ more)) turn (λ d. d)
+  follows disk q more commit = subst (λ (n : Name). IsImageAfterTreeChange t.disk (thread_at w (p ∷ [])) disk (thread_at w (q ∷ more)) (tree_after_change_of_node (can.path ++ n ∷ []) (λ z. node_with_attributes (f (attributes_of_node (Some z))) z)) (λ d. d)) can.stands.stands.named
       (attributes_change t.disk disk w p [] q more (blocks_of_pairs more) [] l r u v (commit_step t.disk disk w p q more [] l (u ∷ []) (v ∷ []) r commit.commit) other_slot can.path can.at led same_begin f refl
       (λ e. (recovered_from t.disk (thread_at w (p ∷ [])) commit.commit.accepted commit.commit.settled).reached))
 
-  pub become : (new : Kept) (x : HasStep t w p l (u ∷ []) (v ∷ []) r [] [] new) → ShowsTreeReadyForChange t new (tree_with_attributes_at t can.path can.name f)
+  pub become : (new : KeptThread) (x : HasStep t w p l (u ∷ []) (v ∷ []) r [] [] new) → ShowsTreeReadyForChange t new (tree_with_attributes_at t can.path can.name f)
   become new x = ready_again t new (tree_with_attributes_at t can.path can.name f) (becomes t index (change ∷ []) w p l (u ∷ []) (v ∷ []) r [] [] spliced turn (λ disk q more commit. ((λ d. d), follows disk q more commit))
       (λ e. some_filled l r v) new x)
 
-  pub stepped : (new : Kept) → IsPairChangedOrSplit t index (change ∷ []) new → HasStep t w p l (u ∷ []) (v ∷ []) r [] [] new
+  pub stepped : (new : KeptThread) → IsPairChangedOrSplit t index (change ∷ []) new → HasStep t w p l (u ∷ []) (v ∷ []) r [] [] new
   stepped new is = put_step t index (change ∷ []) w p l (u ∷ []) (v ∷ []) r [] [] spliced new is
 
-  pub edit_survives : (new : List CallEvent) → StopsAfterCleanErasesLeave t.history new (IsLeftByStoppedChangeOrSplit t index (change ∷ [])) → SurvivesStopsSince t.disk t.history new (tree_on_disk t.disk t.pairs) (tree_with_attributes_at t can.path can.name f)
+  pub edit_survives : (new : List DeviceCallEvent) → PowerLossLeavesSuchBlocksAfterCleanErases t.history new (IsLeftByStoppedChangeOrSplit t index (change ∷ [])) → SurvivesPowerLossInCallsSince t.disk t.history new (tree_on_disk t.disk t.pairs) (tree_with_attributes_at t can.path can.name f)
   edit_survives new stops = survives t index (change ∷ []) w p l (u ∷ []) (v ∷ []) r [] [] spliced turn (λ disk q more commit. ((λ d. d), follows disk q more commit)) (λ e. some_filled l r v) new stops
 
   -- as an operation
-  completed_there : (new : Kept) (x : HasStep t w p l (u ∷ []) (v ∷ []) r [] [] new) (z : Session) (op : Operation) → IsCompleted t.disk (thread_at w (p ∷ [])) z op new.disk (thread_at w (x.q ∷ x.more))
-      → IsCompleted t.disk t.pairs z op new.disk new.pairs
-  completed_there new x z op h = subst (λ y. IsCompleted t.disk y z op new.disk new.pairs) (sym there_now) (subst (λ y. IsCompleted t.disk (thread_at w (p ∷ [])) z op new.disk y) (sym x.pairs) h)
+  completed_there : (new : KeptThread) (x : HasStep t w p l (u ∷ []) (v ∷ []) r [] [] new) (z : Session) (op : Operation) → IsImageAfterCompletedOperation t.disk (thread_at w (p ∷ [])) z op new.disk (thread_at w (x.q ∷ x.more))
+      → IsImageAfterCompletedOperation t.disk t.pairs z op new.disk new.pairs
+  completed_there new x z op h = subst (λ y. IsImageAfterCompletedOperation t.disk y z op new.disk new.pairs) (sym there_now) (subst (λ y. IsImageAfterCompletedOperation t.disk (thread_at w (p ∷ [])) z op new.disk y) (sym x.pairs) h)
 
-  pub set_completed : (kind : ℕ) (bytes : List ℕ) → ((a : Attributes) → f a ≡ attributes_with_attribute kind bytes a) → (new : Kept) → HasStep t w p l (u ∷ []) (v ∷ []) r [] [] new → (z : Session) (given : List ℕ)
-      → z.tree ≡ tree_on_disk t.disk t.pairs → path_or_root given ≡ can.path ++ can.name ∷ [] → IsCompleted t.disk t.pairs z (ops.SetAttr given kind bytes) new.disk new.pairs
+  pub set_completed : (kind : ℕ) (bytes : List ℕ) → ((a : Attributes) → f a ≡ attributes_with_attribute kind bytes a) → (new : KeptThread) → HasStep t w p l (u ∷ []) (v ∷ []) r [] [] new → (z : Session) (given : List ℕ)
+      → z.tree ≡ tree_on_disk t.disk t.pairs → path_of_bytes_or_root given ≡ can.path ++ can.name ∷ [] → IsImageAfterCompletedOperation t.disk t.pairs z (ops.SetAttr given kind bytes) new.disk new.pairs
   set_completed kind bytes is_put new x z given tree is_path = completed_there new x z (ops.SetAttr given kind bytes)
       (set_attr_completed t.disk new.disk w p x.q x.more [] l r u v x.commit.commit other_slot can.path can.at led same_begin z (tree ∙ ap (tree_on_disk t.disk) there_now) given kind bytes
       (is_path ∙ ap (λ n. can.path ++ n ∷ []) (sym can.stands.stands.named)) (ap (λ a. record u { attributes = a }) (is_put u.attributes)))
 
-  pub remove_completed : (kind : ℕ) → ((a : Attributes) → f a ≡ attributes_without_attribute kind a) → (new : Kept) → HasStep t w p l (u ∷ []) (v ∷ []) r [] [] new → (z : Session) (given : List ℕ)
-      → z.tree ≡ tree_on_disk t.disk t.pairs → path_or_root given ≡ can.path ++ can.name ∷ [] → IsCompleted t.disk t.pairs z (ops.RemoveAttr given kind) new.disk new.pairs
+  pub remove_completed : (kind : ℕ) → ((a : Attributes) → f a ≡ attributes_without_attribute kind a) → (new : KeptThread) → HasStep t w p l (u ∷ []) (v ∷ []) r [] [] new → (z : Session) (given : List ℕ)
+      → z.tree ≡ tree_on_disk t.disk t.pairs → path_of_bytes_or_root given ≡ can.path ++ can.name ∷ [] → IsImageAfterCompletedOperation t.disk t.pairs z (ops.RemoveAttr given kind) new.disk new.pairs
   remove_completed kind is_without new x z given tree is_path = completed_there new x z (ops.RemoveAttr given kind)
       (remove_attr_completed t.disk new.disk w p x.q x.more [] l r u v x.commit.commit other_slot can.path can.at led same_begin z (tree ∙ ap (tree_on_disk t.disk) there_now) given kind
       (is_path ∙ ap (λ n. can.path ++ n ∷ []) (sym can.stands.stands.named)) (ap (λ a. record u { attributes = a }) (is_without u.attributes)))
 
 -- ---- an attribute is set
 
-module _ (t : Kept) (index id kind : ℕ) (bytes : List ℕ) (low : kind < 2 ^ 8) (set : CanSetAttribute t index id kind bytes) where
+module _ (t : KeptThread) (index id kind : ℕ) (bytes : List ℕ) (low : kind < 2 ^ 8) (set : CanSetAttribute t index id kind bytes) where
   set_does : ChangesAttributes (PutAttribute id kind bytes) id (attributes_with_attribute kind bytes)
   set_does c small named = let short = set.short in puts_attribute c id kind bytes small (omega arith) (omega arith) named
 
   pub can_set : CanChangeOrSplitPair t index (PutAttribute id kind bytes ∷ [])
   can_set = can_put_attributes t index id set.can (attributes_with_attribute kind bytes) (PutAttribute id kind bytes) set_does set.fits
 
-  pub has_set : (new : Kept) → IsPairChangedOrSplit t index (PutAttribute id kind bytes ∷ []) new → HasSetAttribute t new set.can.path set.can.name kind bytes
+  pub has_set : (new : KeptThread) → IsPairChangedOrSplit t index (PutAttribute id kind bytes ∷ []) new → HasSetAttribute t new set.can.path set.can.name kind bytes
   has_set new is =
       let x = stepped t index id set.can (attributes_with_attribute kind bytes) (PutAttribute id kind bytes) set_does set.fits new is in
       record {
@@ -159,24 +159,24 @@ module _ (t : Kept) (index id kind : ℕ) (bytes : List ℕ) (low : kind < 2 ^ 8
             set_completed t index id set.can (attributes_with_attribute kind bytes) (PutAttribute id kind bytes) set_does set.fits kind bytes (λ a. refl) new x z given tree is_path;
       }
 
-  pub set_survives : (new : List CallEvent) → StopsAfterCleanErasesLeave t.history new (IsLeftByStoppedChangeOrSplit t index (PutAttribute id kind bytes ∷ []))
-      → SurvivesStopsSince t.disk t.history new (tree_on_disk t.disk t.pairs) (tree_with_attributes_at t set.can.path set.can.name (attributes_with_attribute kind bytes))
+  pub set_survives : (new : List DeviceCallEvent) → PowerLossLeavesSuchBlocksAfterCleanErases t.history new (IsLeftByStoppedChangeOrSplit t index (PutAttribute id kind bytes ∷ []))
+      → SurvivesPowerLossInCallsSince t.disk t.history new (tree_on_disk t.disk t.pairs) (tree_with_attributes_at t set.can.path set.can.name (attributes_with_attribute kind bytes))
   set_survives new stops = edit_survives t index id set.can (attributes_with_attribute kind bytes) (PutAttribute id kind bytes) set_does set.fits new stops
 
 -- ---- an attribute goes
 
-module _ (t : Kept) (index id kind : ℕ) (low : kind < 2 ^ 8) (can : CanEditEntryOfPair t index id) where
+module _ (t : KeptThread) (index id kind : ℕ) (low : kind < 2 ^ 8) (can : CanEditEntryOfPair t index id) where
   remove_does : ChangesAttributes (RemoveAttribute id kind) id (attributes_without_attribute kind)
   remove_does c small named = removes_attribute c id kind small (omega arith) named
 
   -- the entry takes no more than it did
-  still_fits : FitsEntryLimits t.disk.block_size t.disk.page (record (slot_of_editable_entry can) { attributes = attributes_without_attribute kind (slot_of_editable_entry can).attributes })
+  still_fits : IsEntryWithinWritableLimits t.disk.block_size t.disk.page (record (slot_of_editable_entry can) { attributes = attributes_without_attribute kind (slot_of_editable_entry can).attributes })
   still_fits =
       let s = can.stands in
-      let here = each_pair t can.ready can.first index s.pair s.rest s.place (λ x. All (FitsSlotLimits t.disk.block_size t.disk.page) x.content.slots)
-      (recursion_from_All (λ (x : Pair). All (FitsSlotLimits t.disk.block_size t.disk.page) x.content.slots) t.pairs can.ready.writable.slots) in
-      let slots = subst (Each (FitsSlotLimits t.disk.block_size t.disk.page)) s.stands.held (recursion_from_All (FitsSlotLimits t.disk.block_size t.disk.page) s.pair.content.slots here) in
-      let was = (each_right (FitsSlotLimits t.disk.block_size t.disk.page) s.stands.left (s.stands.slot ∷ s.stands.right) slots).0.1 s.stands.entry in
+      let here = each_pair t can.ready can.first index s.pair s.rest s.place (λ x. All (IsSlotWithinWritableLimits t.disk.block_size t.disk.page) x.content.slots)
+      (recursion_from_All (λ (x : Pair). All (IsSlotWithinWritableLimits t.disk.block_size t.disk.page) x.content.slots) t.pairs can.ready.writable.slots) in
+      let slots = subst (Each (IsSlotWithinWritableLimits t.disk.block_size t.disk.page)) s.stands.held (recursion_from_All (IsSlotWithinWritableLimits t.disk.block_size t.disk.page) s.pair.content.slots here) in
+      let was = (each_right (IsSlotWithinWritableLimits t.disk.block_size t.disk.page) s.stands.left (s.stands.slot ∷ s.stands.right) slots).0.1 s.stands.entry in
       record {
         charge = (let e = was.charge in let n = fewer_attributes kind (slot_of_editable_entry can).attributes in omega arith);
         inline = was.inline;
@@ -186,11 +186,11 @@ module _ (t : Kept) (index id kind : ℕ) (low : kind < 2 ^ 8) (can : CanEditEnt
   can_remove = (can_put_attributes t index id can (attributes_without_attribute kind) (RemoveAttribute id kind) remove_does still_fits).can
 
   -- so what the pair holds then fits, as what it held did
-  pub not_refused : (new : Kept) → IsCommitRefused t index (RemoveAttribute id kind ∷ []) new → ⊥
+  pub not_refused : (new : KeptThread) → IsCommitRefused t index (RemoveAttribute id kind ∷ []) new → ⊥
   not_refused new is = edit_not_refused t index id can (attributes_without_attribute kind) (RemoveAttribute id kind) remove_does still_fits
       (let n = fewer_attributes kind (slot_of_editable_entry can).attributes in omega arith) new is
 
-  pub has_removed : (new : Kept) → IsPairChanged t index (RemoveAttribute id kind ∷ []) new → HasRemovedAttribute t new can.path can.name kind
+  pub has_removed : (new : KeptThread) → IsPairChanged t index (RemoveAttribute id kind ∷ []) new → HasRemovedAttribute t new can.path can.name kind
   has_removed new is =
       let x = stepped t index id can (attributes_without_attribute kind) (RemoveAttribute id kind) remove_does still_fits new (inl is) in
       record {
@@ -199,6 +199,6 @@ module _ (t : Kept) (index id kind : ℕ) (low : kind < 2 ^ 8) (can : CanEditEnt
             remove_completed t index id can (attributes_without_attribute kind) (RemoveAttribute id kind) remove_does still_fits kind (λ a. refl) new x z given tree is_path;
       }
 
-  pub remove_survives : (new : List CallEvent) → StopsAfterCleanErasesLeave t.history new (LeavesPairOldOrChanged t index (RemoveAttribute id kind ∷ []))
-      → SurvivesStopsSince t.disk t.history new (tree_on_disk t.disk t.pairs) (tree_with_attributes_at t can.path can.name (attributes_without_attribute kind))
-  remove_survives new stops = edit_survives t index id can (attributes_without_attribute kind) (RemoveAttribute id kind) remove_does still_fits new (λ clean. IsTrueAfterEachStopSince-weaker (λ left x. inl x) (stops clean))
+  pub remove_survives : (new : List DeviceCallEvent) → PowerLossLeavesSuchBlocksAfterCleanErases t.history new (PowerLossLeavesPairOldOrChanged t index (RemoveAttribute id kind ∷ []))
+      → SurvivesPowerLossInCallsSince t.disk t.history new (tree_on_disk t.disk t.pairs) (tree_with_attributes_at t can.path can.name (attributes_without_attribute kind))
+  remove_survives new stops = edit_survives t index id can (attributes_without_attribute kind) (RemoveAttribute id kind) remove_does still_fits new (λ clean. IsTrueAfterAnyPowerLossSince-weaker (λ left x. inl x) (stops clean))

@@ -5,26 +5,26 @@ use Rattle.std.specs.Prelude.{slice_index}
 use Rattle.lfs_model.specs.Log.{log_entries_of_block}
 use Rattle.lfs_model.proofs.Logged.{logged}
 use Rattle.std.proofs.lemmas.List.Elements.{recursion_from_All}
-use Rattle.lfs_model.specs.Content.{RawContent, raw_content_of_pair_at, content_after_log_entries, content_of_pair_at, content_if_slots_are_complete, current_block_of_pair_at, empty_raw_content}
+use Rattle.lfs_model.specs.Content.{RawPairContent, raw_content_of_pair_at, content_after_log_entries, content_of_pair_at, pair_content_if_slots_complete, current_block_of_pair_at, empty_raw_pair_content}
 use Rattle.lfs_model.specs.Disk.{Disk}
 use Rattle.lfs_model.specs.InDirectory.{IsPairOfDirectory}
-use Rattle.lfs_model.specs.Slots.{Content, IsContentFittingPair, Slot, is_superblock}
-use Rattle.lfs_model.specs.View.{HasSuperblockOfBytesIfAny, IsAcceptedImage, IsFileOrDirectoryEntry}
+use Rattle.lfs_model.specs.Slots.{PairContent, IsContentFittingPair, Slot, is_superblock}
+use Rattle.lfs_model.specs.View.{HasSuperblockWithInlineBytesIfAnySlot, IsAcceptedImage, IsFileOrDirectoryEntry}
 use Rattle.std.specs.Prelude.{All}
 use Rattle.std.proofs.lemmas.List.{take-append-drop}
 use Rattle.lfs_model.specs.Thread.{Pair, pair_count_before_root}
 use Rattle.lfs_model.proofs.Counts.{Each, each_append, each_right, each_weaker}
-use Rattle.lfs_thread.specs.Kept.{Kept}
-use Rattle.lfs_thread.specs.Steps.{kept_pair_at_index, no_pair}
-use Rattle.lfs_operations.specs.Ready.{HasLoggableContentAt, IsImageReadyForChange}
+use Rattle.lfs_thread.specs.Kept.{KeptThread}
+use Rattle.lfs_thread.specs.Steps.{thread_pair_at_index, empty_pair_at_anchor}
+use Rattle.lfs_operations.specs.Ready.{IsRawPairContentWellFormed, IsImageReadyForChange}
 
 -- a content that is complete comes of one that is there
-pub record CompletesTo (o : Option RawContent) (c : Content) : Type 0 where
-  pub raw : RawContent
+pub record CompletesTo (o : Option RawPairContent) (c : PairContent) : Type 0 where
+  pub raw : RawPairContent
   pub is : o ≡ Some raw
-  pub complete : content_if_slots_are_complete raw ≡ Some c
+  pub complete : pair_content_if_slots_complete raw ≡ Some c
 
-pub completes_to : (o : Option RawContent) (c : Content) → option_and_then content_if_slots_are_complete o ≡ Some c → CompletesTo o c
+pub completes_to : (o : Option RawPairContent) (c : PairContent) → option_and_then pair_content_if_slots_complete o ≡ Some c → CompletesTo o c
 completes_to None c h = absurd (cc)
 completes_to (Some raw) c h = record { raw = raw; is = refl; complete = h }
 
@@ -38,28 +38,28 @@ get_behind (x ∷ xs) p zs n d e = ap (λ (k : ℕ). get_or (x ∷ (xs ++ p ∷ 
 abbrev pub IsEntryIfOther : Slot → Type 0
 IsEntryIfOther s = is_superblock s ≡ false → IsFileOrDirectoryEntry s
 
-headed_entries : (bytes : List ℕ) (slots : List Slot) → HasSuperblockOfBytesIfAny bytes slots → Each IsEntryIfOther slots
+headed_entries : (bytes : List ℕ) (slots : List Slot) → HasSuperblockWithInlineBytesIfAnySlot bytes slots → Each IsEntryIfOther slots
 headed_entries bytes [] h = tt
 headed_entries bytes (s ∷ slots) h = ((λ e. absurd (let z = sym e ∙ h.0 in cc)), each_weaker IsFileOrDirectoryEntry IsEntryIfOther (λ x k e. k) slots (recursion_from_All IsFileOrDirectoryEntry slots h.2))
 
 pub other_entries : (disk : Disk) (ps : List Pair) → IsAcceptedImage disk ps → Each (λ p. Each IsEntryIfOther p.content.slots) ps
 other_entries disk ps ok = subst (Each (λ p. Each IsEntryIfOther p.content.slots)) (take-append-drop (pair_count_before_root ps + 1) ps)
     (each_append (λ p. Each IsEntryIfOther p.content.slots) (take (pair_count_before_root ps + 1) ps) (drop (pair_count_before_root ps + 1) ps)
-    (each_weaker (λ (p : Pair). HasSuperblockOfBytesIfAny ok.superblock.0 p.content.slots) (λ (p : Pair). Each IsEntryIfOther p.content.slots) (λ p h. headed_entries ok.superblock.0 p.content.slots h)
-    (take (pair_count_before_root ps + 1) ps) (recursion_from_All (λ (p : Pair). HasSuperblockOfBytesIfAny ok.superblock.0 p.content.slots) (take (pair_count_before_root ps + 1) ps) ok.superblock.1.1))
+    (each_weaker (λ (p : Pair). HasSuperblockWithInlineBytesIfAnySlot ok.superblock.0 p.content.slots) (λ (p : Pair). Each IsEntryIfOther p.content.slots) (λ p h. headed_entries ok.superblock.0 p.content.slots h)
+    (take (pair_count_before_root ps + 1) ps) (recursion_from_All (λ (p : Pair). HasSuperblockWithInlineBytesIfAnySlot ok.superblock.0 p.content.slots) (take (pair_count_before_root ps + 1) ps) ok.superblock.1.1))
     (each_weaker (λ (p : Pair). All IsFileOrDirectoryEntry p.content.slots) (λ (p : Pair). Each IsEntryIfOther p.content.slots)
     (λ p h. each_weaker IsFileOrDirectoryEntry IsEntryIfOther (λ x k e. k) p.content.slots (recursion_from_All IsFileOrDirectoryEntry p.content.slots h)) (drop (pair_count_before_root ps + 1) ps)
     (recursion_from_All (λ (p : Pair). All IsFileOrDirectoryEntry p.content.slots) (drop (pair_count_before_root ps + 1) ps) ok.slots)))
 
 -- ---- the pair of a place
 
-module _ (t : Kept) (ready : IsImageReadyForChange t) (first index : ℕ) (p : Pair) (rest : List Pair) (place : IsPairOfDirectory t.pairs first index p rest) where
+module _ (t : KeptThread) (ready : IsImageReadyForChange t) (first index : ℕ) (p : Pair) (rest : List Pair) (place : IsPairOfDirectory t.pairs first index p rest) where
   parts : t.pairs ≡ (place.front ++ place.left) ++ p ∷ rest
   parts = place.parts ∙ sym (append_assoc place.front place.left (p ∷ rest))
 
-  pub here : kept_pair_at_index t index ≡ p
-  here = ap (λ (z : List Pair). get_or z index no_pair) parts
-      ∙ get_behind (place.front ++ place.left) p rest index no_pair (let l = length-append place.front place.left in let n = place.number in omega arith)
+  pub here : thread_pair_at_index t index ≡ p
+  here = ap (λ (z : List Pair). get_or z index empty_pair_at_anchor) parts
+      ∙ get_behind (place.front ++ place.left) p rest index empty_pair_at_anchor (let l = length-append place.front place.left in let n = place.number in omega arith)
 
   pub below : index < length t.pairs
   below = let e = ap length parts in let l = length-append (place.front ++ place.left) (p ∷ rest) in let m = length-append place.front place.left in let n = place.number in omega arith
@@ -67,7 +67,7 @@ module _ (t : Kept) (ready : IsImageReadyForChange t) (first index : ℕ) (p : P
   pub each_pair : (P : Pair → Type 0) → Each P t.pairs → P p
   each_pair P h = (each_right P (place.front ++ place.left) (p ∷ rest) (subst (Each P) parts h)).0
 
-  pub holds : content_of_pair_at t.disk (kept_pair_at_index t index).at ≡ Some p.content
+  pub holds : content_of_pair_at t.disk (thread_pair_at_index t index).at ≡ Some p.content
   holds = ap (λ (z : Pair). content_of_pair_at t.disk z.at) here
       ∙ each_pair (λ (x : Pair). content_of_pair_at t.disk x.at ≡ Some x.content) (recursion_from_All (λ (x : Pair). content_of_pair_at t.disk x.at ≡ Some x.content) t.pairs ready.accepted.thread.contents)
 
@@ -75,9 +75,9 @@ module _ (t : Kept) (ready : IsImageReadyForChange t) (first index : ℕ) (p : P
   fits_there = each_pair (λ (x : Pair). IsContentFittingPair t.disk.block_size t.disk.page x.content)
       (recursion_from_All (λ (x : Pair). IsContentFittingPair t.disk.block_size t.disk.page x.content) t.pairs ready.writable.pairs)
 
-  pub raw_there : CompletesTo (raw_content_of_pair_at t.disk (kept_pair_at_index t index).at) p.content
-  raw_there = completes_to (raw_content_of_pair_at t.disk (kept_pair_at_index t index).at) p.content holds
+  pub raw_there : CompletesTo (raw_content_of_pair_at t.disk (thread_pair_at_index t index).at) p.content
+  raw_there = completes_to (raw_content_of_pair_at t.disk (thread_pair_at_index t index).at) p.content holds
 
 -- a log of bytes comes to what a log can come to
-pub logged_at : (disk : Disk) (at : ℕ × ℕ) (block : List ℕ) → current_block_of_pair_at disk at ≡ Some block → ((i : ℕ) → slice_index block i < 256) → HasLoggableContentAt disk at
-logged_at disk at block holds bytes raw is = logged block raw bytes (sym (ap (λ o. option_and_then (λ b. content_after_log_entries empty_raw_content (log_entries_of_block b)) o) holds) ∙ is)
+pub logged_at : (disk : Disk) (at : ℕ × ℕ) (block : List ℕ) → current_block_of_pair_at disk at ≡ Some block → ((i : ℕ) → slice_index block i < 256) → IsRawPairContentWellFormed disk at
+logged_at disk at block holds bytes raw is = logged block raw bytes (sym (ap (λ o. option_and_then (λ b. content_after_log_entries empty_raw_pair_content (log_entries_of_block b)) o) holds) ∙ is)

@@ -1,21 +1,21 @@
 -- The pair of a number in a thread, by a site: where it stands, and which blocks change with it.
 use Rattle.std.proofs.Common.{ℕ, suc, ◌≡◌, ◌+◌, ◌<◌, ◌≤◌, Bool, true, false, cond, eqb-true, nat_eq, List, [], ◌∷◌, ◌++◌, length, Some, refl, sym, ap, ap₂, subst, ◌∙◌, arith, append_assoc, length-append, get_or, set, insert}
 use Rattle.std.specs.List.{IsDistinct}
-use Rattle.lfs_model.specs.BlockSets.{AreExactlyTheUsedBlocks, IsFree}
+use Rattle.lfs_model.specs.BlockSets.{AreExactlyTheUsedBlocks, IsBlockFree}
 use Rattle.lfs_model.specs.BlockSets.BlockState.{Free}
 use Rattle.lfs_model.specs.Content.{content_of_pair_at, current_block_of_pair_at}
 use Rattle.lfs_model.specs.Disk.{Disk, block_bytes_on_disk, block_count, SameGeometry}
-use Rattle.lfs_model.specs.Slots.{Content}
+use Rattle.lfs_model.specs.Slots.{PairContent}
 use Rattle.lfs_model.specs.Thread.{Pair, blocks_of_pairs}
 use Rattle.lfs_model.specs.View.{BeginsWithLogEntry, superblock_name_log_entry}
 use Rattle.lfs_model.specs.Shown.{used_blocks}
-use Rattle.lfs_model.proofs.Counts.{Each, count, once_from_distinct, distinct_from_once}
+use Rattle.lfs_model.proofs.Counts.{Each, occurrence_count_of_number, once_from_distinct, distinct_from_once}
 use Rattle.lfs_model.proofs.Sites.{Site, thread_at}
 use Rattle.lfs_model.proofs.Unchanged.{HasFirst}
 use Rattle.lfs_pair.specs.Commit.{KeepsBlocksOutsidePair}
 use Rattle.lfs_pair.specs.Split.{KeepsBlocksOutsideBothPairs}
-use Rattle.lfs_thread.specs.Kept.{Kept}
-use Rattle.lfs_thread.specs.Steps.{kept_pair_at_index, no_pair, pairs_with_content_at_index, pairs_with_one_replaced_by_two, HasSameGeometry, HasPairOldContentOnDisk, IsPairWrittenOnDisk, SlotsBeginWithSuperblock}
+use Rattle.lfs_thread.specs.Kept.{KeptThread}
+use Rattle.lfs_thread.specs.Steps.{thread_pair_at_index, empty_pair_at_anchor, thread_pairs_with_content_replaced_at_index, pairs_with_one_replaced_by_two, HasSameGeometry, HasPairOldContentOnDisk, IsPairWrittenOnDisk, SlotsBeginWithSuperblock}
 use Rattle.lfs_operations.specs.Changing.{AreTwoFreeBlocks}
 use Rattle.lfs_operations.proofs.Placing.{IsPlaced, all_apart}
 use Rattle.lfs_operations.proofs.Splicing.{not_used}
@@ -35,7 +35,7 @@ insert_at (x ∷ xs) q zs f =
     let e : suc (length xs) + 1 ≡ suc (length xs + 1) = omega arith in
     ap (λ (n : ℕ). insert (x ∷ (xs ++ q ∷ zs)) n f) e ∙ ap (λ z. x ∷ z) (insert_at xs q zs f)
 
-module _ (t : Kept) (index : ℕ) (w : Site) (p : Pair) (there : t.pairs ≡ thread_at w (p ∷ [])) (place : index ≡ length w.chain + length (w.before ++ w.left)) where
+module _ (t : KeptThread) (index : ℕ) (w : Site) (p : Pair) (there : t.pairs ≡ thread_at w (p ∷ [])) (place : index ≡ length w.chain + length (w.before ++ w.left)) where
   abbrev ahead : List Pair
   ahead = w.chain ++ (w.before ++ w.left)
 
@@ -48,17 +48,17 @@ module _ (t : Kept) (index : ℕ) (w : Site) (p : Pair) (there : t.pairs ≡ thr
   place_is : index ≡ length ahead
   place_is = place ∙ sym (length-append w.chain (w.before ++ w.left))
 
-  pub pair_is : kept_pair_at_index t index ≡ p
-  pair_is = ap₂ (λ (z : List Pair) (i : ℕ). get_or z i no_pair) (there ∙ grouped p []) place_is ∙ get_at ahead p behind no_pair
+  pub pair_is : thread_pair_at_index t index ≡ p
+  pair_is = ap₂ (λ (z : List Pair) (i : ℕ). get_or z i empty_pair_at_anchor) (there ∙ grouped p []) place_is ∙ get_at ahead p behind empty_pair_at_anchor
 
-  pub at_is : (kept_pair_at_index t index).at ≡ p.at
+  pub at_is : (thread_pair_at_index t index).at ≡ p.at
   at_is = ap (λ (z : Pair). z.at) pair_is
 
   pub below : index < length t.pairs
   below = let e = ap length (there ∙ grouped p []) in let l = length-append ahead (p ∷ behind) in let n = place_is in omega arith
 
   -- the thread with another pair there, or two
-  pub one_now : (c : Content) → pairs_with_content_at_index t index c ≡ thread_at w (record { at = p.at; content = c } ∷ [])
+  pub one_now : (c : PairContent) → thread_pairs_with_content_replaced_at_index t index c ≡ thread_at w (record { at = p.at; content = c } ∷ [])
   one_now c =
       let q : Pair = record { at = p.at; content = c } in
       ap (λ (z : Pair). set t.pairs index (record { at = z.at; content = c })) pair_is
@@ -74,14 +74,14 @@ module _ (t : Kept) (index : ℕ) (w : Site) (p : Pair) (there : t.pairs ≡ thr
   pub shape_same : {disk : Disk} → HasSameGeometry t.disk disk → SameGeometry t.disk disk
   shape_same s = record { block_size = s.block_size; page = s.page; order = s.order; count = s.count }
 
-  pub same_two : (disk : Disk) → KeepsBlocksOutsidePair (kept_pair_at_index t index).at t.disk.blocks disk.blocks → (b : ℕ) → count b (blocks_of_pairs (p ∷ [])) ≡ 0 → block_bytes_on_disk disk b ≡ block_bytes_on_disk t.disk b
+  pub same_two : (disk : Disk) → KeepsBlocksOutsidePair (thread_pair_at_index t index).at t.disk.blocks disk.blocks → (b : ℕ) → occurrence_count_of_number b (blocks_of_pairs (p ∷ [])) ≡ 0 → block_bytes_on_disk disk b ≡ block_bytes_on_disk t.disk b
   same_two disk others b none = (subst (λ at. KeepsBlocksOutsidePair at t.disk.blocks disk.blocks) at_is others).others b (all_apart (p.at.0 ∷ p.at.1 ∷ []) b none)
 
-  pub same_four : (disk : Disk) (fresh : ℕ × ℕ) → KeepsBlocksOutsideBothPairs (kept_pair_at_index t index).at fresh t.disk.blocks disk.blocks → (b : ℕ) → count b (fresh.0 ∷ fresh.1 ∷ blocks_of_pairs (p ∷ [])) ≡ 0
+  pub same_four : (disk : Disk) (fresh : ℕ × ℕ) → KeepsBlocksOutsideBothPairs (thread_pair_at_index t index).at fresh t.disk.blocks disk.blocks → (b : ℕ) → occurrence_count_of_number b (fresh.0 ∷ fresh.1 ∷ blocks_of_pairs (p ∷ [])) ≡ 0
       → block_bytes_on_disk disk b ≡ block_bytes_on_disk t.disk b
   same_four disk fresh others b none = (subst (λ at. KeepsBlocksOutsideBothPairs at fresh t.disk.blocks disk.blocks) at_is others).others b (all_apart (p.at.0 ∷ p.at.1 ∷ fresh.0 ∷ fresh.1 ∷ []) b (omega arith))
 
-  pub placed_one : (disk : Disk) (c : Content) → (HasFirst p.content.slots → SlotsBeginWithSuperblock c.slots) → IsPairWrittenOnDisk t index c disk → IsPlaced t.disk disk p (record { at = p.at; content = c }) [] []
+  pub placed_one : (disk : Disk) (c : PairContent) → (HasFirst p.content.slots → SlotsBeginWithSuperblock c.slots) → IsPairWrittenOnDisk t index c disk → IsPlaced t.disk disk p (record { at = p.at; content = c }) [] []
   placed_one disk c first is = record {
     geometry = shape_same is.shape;
     same = same_two disk is.others;
@@ -89,7 +89,7 @@ module _ (t : Kept) (index : ℕ) (w : Site) (p : Pair) (there : t.pairs ≡ thr
     first = λ h b. subst (λ at. BeginsWithLogEntry (current_block_of_pair_at disk at) superblock_name_log_entry) at_is (is.first (subst (λ at. BeginsWithLogEntry (current_block_of_pair_at t.disk at) superblock_name_log_entry) (sym at_is) b) (first h));
   }
 
-  pub placed_still : (disk : Disk) (fresh : ℕ × ℕ) → HasSameGeometry t.disk disk → KeepsBlocksOutsideBothPairs (kept_pair_at_index t index).at fresh t.disk.blocks disk.blocks → HasPairOldContentOnDisk t index disk → IsPlaced t.disk disk p p [] (fresh.0 ∷ fresh.1 ∷ [])
+  pub placed_still : (disk : Disk) (fresh : ℕ × ℕ) → HasSameGeometry t.disk disk → KeepsBlocksOutsideBothPairs (thread_pair_at_index t index).at fresh t.disk.blocks disk.blocks → HasPairOldContentOnDisk t index disk → IsPlaced t.disk disk p p [] (fresh.0 ∷ fresh.1 ∷ [])
   placed_still disk fresh shape others is = record {
     geometry = shape_same shape;
     same = same_four disk fresh others;
@@ -99,7 +99,7 @@ module _ (t : Kept) (index : ℕ) (w : Site) (p : Pair) (there : t.pairs ≡ thr
 
   -- ---- free blocks
 
-  free_apart : AreExactlyTheUsedBlocks t.map (used_blocks t.disk t.pairs) → (b : ℕ) → IsFree t.map b → count b (used_blocks t.disk (thread_at w (p ∷ []))) ≡ 0
+  free_apart : AreExactlyTheUsedBlocks t.map (used_blocks t.disk t.pairs) → (b : ℕ) → IsBlockFree t.map b → occurrence_count_of_number b (used_blocks t.disk (thread_at w (p ∷ []))) ≡ 0
   free_apart used b free = not_used t.map (used_blocks t.disk (thread_at w (p ∷ []))) (subst (λ z. AreExactlyTheUsedBlocks t.map (used_blocks t.disk z)) there used) b free
 
   pub fresh_distinct : AreExactlyTheUsedBlocks t.map (used_blocks t.disk t.pairs) → IsDistinct nat_eq (used_blocks t.disk t.pairs) → (fresh : ℕ × ℕ) → AreTwoFreeBlocks t.map fresh
@@ -109,11 +109,11 @@ module _ (t : Kept) (index : ℕ) (w : Site) (p : Pair) (there : t.pairs ≡ thr
       once_there : IsDistinct nat_eq (used_blocks t.disk (thread_at w (p ∷ [])))
       once_there = subst (λ z. IsDistinct nat_eq (used_blocks t.disk z)) there once
 
-      go : (b : ℕ) (x y : Bool) → nat_eq b fresh.0 ≡ x → nat_eq b fresh.1 ≡ y → cond x 1 0 + (cond y 1 0 + count b (used_blocks t.disk (thread_at w (p ∷ [])))) ≤ 1
+      go : (b : ℕ) (x y : Bool) → nat_eq b fresh.0 ≡ x → nat_eq b fresh.1 ≡ y → cond x 1 0 + (cond y 1 0 + occurrence_count_of_number b (used_blocks t.disk (thread_at w (p ∷ [])))) ≤ 1
       go b false false e f = let n = once_from_distinct (used_blocks t.disk (thread_at w (p ∷ []))) once_there b in omega arith
       go b true true e f = absurd (two.apart (sym (eqb-true b fresh.0 e) ∙ eqb-true b fresh.1 f))
-      go b true false e f = let n = free_apart used b (subst (IsFree t.map) (sym (eqb-true b fresh.0 e)) two.first) in omega arith
-      go b false true e f = let n = free_apart used b (subst (IsFree t.map) (sym (eqb-true b fresh.1 f)) two.second) in omega arith
+      go b true false e f = let n = free_apart used b (subst (IsBlockFree t.map) (sym (eqb-true b fresh.0 e)) two.first) in omega arith
+      go b false true e f = let n = free_apart used b (subst (IsBlockFree t.map) (sym (eqb-true b fresh.1 f)) two.second) in omega arith
 
   pub fresh_range : length t.map ≡ block_count t.disk → (fresh : ℕ × ℕ) → AreTwoFreeBlocks t.map fresh → Each (λ b. b < block_count t.disk) (fresh.0 ∷ fresh.1 ∷ [])
   fresh_range size fresh two = let f = within t.map fresh.0 Free two.first in let g = within t.map fresh.1 Free two.second in (omega arith, (omega arith, tt))

@@ -4,19 +4,19 @@ use Rattle.std.specs.Prelude.{IfErr, is_err}
 use Rattle.lfs_device.specs.declared.error.Error.{Error}
 use Rattle.lfs_device.specs.declared.error.Error.TheVariants.{Io, NoMemory, NoSpace}
 use Rattle.lfs_model.specs.BlockSets.{BlockStateList}
-use Rattle.lfs_model.specs.History.{faults}
-use Rattle.lfs_thread.specs.Kept.{Kept, ThreadView}
-use Rattle.lfs_thread.specs.Steps.{HasReportedIoOrNoMemoryBesideBlocks}
-use Rattle.lfs_operations.specs.Changing.{Reports, has_failed}
-use Rattle.lfs_operations.specs.Making.{ReportsMakingOfDirectory}
+use Rattle.lfs_model.specs.History.{fault_count_of_history}
+use Rattle.lfs_thread.specs.Kept.{KeptThread, ThreadView}
+use Rattle.lfs_thread.specs.Steps.{IoMeantFaultNoMemoryKeptOtherBlocks}
+use Rattle.lfs_operations.specs.Changing.{ReportsErrorsOfCommitTakingBlocks, has_thread_failed_after_result}
+use Rattle.lfs_operations.specs.Making.{ReportsErrorsOfMakingDirectory}
 use Rattle.lfs_operations.proofs.Putting.{with_map}
 
 same_err : {A : Type 0} (a b : Error) (r : Result A Error) → r ≡ Err a → r ≡ Err b → a ≡ b
 same_err a b r h k = cc
 
 -- the same answer, passed on
-pub reported_again : {X Y : Type 0} (bs : List ℕ) (old new : Kept) (e : Error) (result : Result X Error) (given : Result Y Error) → result ≡ Err e → given ≡ Err e → HasReportedIoOrNoMemoryBesideBlocks bs old new result
-    → HasReportedIoOrNoMemoryBesideBlocks bs old new given
+pub reported_again : {X Y : Type 0} (bs : List ℕ) (old new : KeptThread) (e : Error) (result : Result X Error) (given : Result Y Error) → result ≡ Err e → given ≡ Err e → IoMeantFaultNoMemoryKeptOtherBlocks bs old new result
+    → IoMeantFaultNoMemoryKeptOtherBlocks bs old new given
 reported_again bs old new e result given is same reported = record {
   errors = subst (λ r. IfErr r (λ x. (x ≡ Io) ⊎ (x ≡ NoMemory))) (sym same) (subst (λ r. IfErr r (λ x. (x ≡ Io) ⊎ (x ≡ NoMemory))) is reported.errors);
   fault = λ io. reported.fault (is ∙ ap Err (same_err e Io given same io));
@@ -25,12 +25,12 @@ reported_again bs old new e result given is same reported = record {
 }
 
 -- the first step failed
-pub reports_first : {X : Type 0} (old new : ThreadView) (sets : BlockStateList) (bs : List ℕ) (result : Result X Error) → new.failed ≡ is_err result → HasReportedIoOrNoMemoryBesideBlocks bs (with_map old.kept sets) new.kept result
-    → ReportsMakingOfDirectory old new result
+pub reports_first : {X : Type 0} (old new : ThreadView) (sets : BlockStateList) (bs : List ℕ) (result : Result X Error) → new.failed ≡ is_err result → IoMeantFaultNoMemoryKeptOtherBlocks bs (with_map old.kept sets) new.kept result
+    → ReportsErrorsOfMakingDirectory old new result
 reports_first old new sets bs result failed reported = record { failed = failed; errors = reported.errors; fault = reported.fault; no_fault = reported.no_fault }
 
 -- the second one tells, and never that there is no space
-pub reports_second : {X : Type 0} (old mid new : ThreadView) (result : Result X Error) → faults mid.kept.history ≡ faults old.kept.history → (result ≡ Err NoSpace → ⊥) → Reports mid new result → ReportsMakingOfDirectory old new result
+pub reports_second : {X : Type 0} (old mid new : ThreadView) (result : Result X Error) → fault_count_of_history mid.kept.history ≡ fault_count_of_history old.kept.history → (result ≡ Err NoSpace → ⊥) → ReportsErrorsOfCommitTakingBlocks mid new result → ReportsErrorsOfMakingDirectory old new result
 reports_second {X = X} old mid new result same room reported = record {
   failed = reported.failed ∙ failing result room reported.reports.errors;
   errors = narrow result room reported.reports.errors;
@@ -44,8 +44,8 @@ reports_second {X = X} old mid new result same room reported = record {
     narrow (Err e) n (inr (inl h)) = inr h
     narrow (Err e) n (inr (inr h)) = absurd (n (ap Err h))
 
-    failing : (r : Result X Error) → (r ≡ Err NoSpace → ⊥) → IfErr r (λ e. (e ≡ Io) ⊎ ((e ≡ NoMemory) ⊎ (e ≡ NoSpace))) → has_failed r ≡ is_err r
+    failing : (r : Result X Error) → (r ≡ Err NoSpace → ⊥) → IfErr r (λ e. (e ≡ Io) ⊎ ((e ≡ NoMemory) ⊎ (e ≡ NoSpace))) → has_thread_failed_after_result r ≡ is_err r
     failing (Ok x) n h = refl
-    failing (Err e) n (inl h) = ap (λ (k : Error). has_failed {X = X} (Err k)) h
-    failing (Err e) n (inr (inl h)) = ap (λ (k : Error). has_failed {X = X} (Err k)) h
+    failing (Err e) n (inl h) = ap (λ (k : Error). has_thread_failed_after_result {X = X} (Err k)) h
+    failing (Err e) n (inr (inl h)) = ap (λ (k : Error). has_thread_failed_after_result {X = X} (Err k)) h
     failing (Err e) n (inr (inr h)) = absurd (n (ap Err h))

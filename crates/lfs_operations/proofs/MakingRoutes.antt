@@ -7,20 +7,20 @@ use Rattle.lfs_model.specs.Operations as ops
 use Rattle.lfs_model.specs.Session.{Session}
 use Rattle.lfs_model.specs.Slots.{Slot, zero_gstate, same_pair}
 use Rattle.lfs_model.specs.SlotEdits.{new_directory_slot}
-use Rattle.lfs_model.specs.Refusals.{path_or_root}
-use Rattle.lfs_model.specs.Thread.{Pair, blocks_of_pairs, first_pair_address, gstate_of}
+use Rattle.lfs_model.specs.Refusals.{path_of_bytes_or_root}
+use Rattle.lfs_model.specs.Thread.{Pair, blocks_of_pairs, first_pair_address, gstate_of_pairs}
 use Rattle.lfs_model.specs.Tree.{Path}
 use Rattle.lfs_model.specs.Shown.{IsPathToDirectory, entries_by_directory_in_thread, tree_on_disk}
 use Rattle.lfs_model.proofs.Beside.{last_site}
-use Rattle.lfs_model.proofs.Committed.{IsCompleted}
+use Rattle.lfs_model.proofs.Committed.{IsImageAfterCompletedOperation}
 use Rattle.lfs_model.proofs.Listings.{IsRun}
 use Rattle.lfs_model.proofs.MkdirSteps.{mkdir_in_two_completed}
 use Rattle.lfs_model.proofs.Moves.{IsStep, place_at}
 use Rattle.lfs_model.proofs.Names.{IsPlace}
-use Rattle.lfs_model.proofs.Sites.{SomeIn, Site, among_right, begin_of, dirs_at, run_changed, thread_at, IsSite}
+use Rattle.lfs_model.proofs.Sites.{IsTrueOfSomeElement, Site, among_right, begin_of, dirs_at, run_changed, thread_at, IsSite}
 use Rattle.lfs_model.proofs.StepsTaken as taken
 use Rattle.lfs_model.proofs.Superblocks.{IsChain}
-use Rattle.lfs_thread.specs.Kept.{Kept}
+use Rattle.lfs_thread.specs.Kept.{KeptThread}
 use Rattle.lfs_operations.specs.Making.{IsLastPairOfHardTailRun}
 use Rattle.lfs_operations.proofs.MakingThreaded.{IsEnd, IsThreaded, IsThreading, fresh_pair, naming_pair}
 use Rattle.lfs_operations.proofs.MkdirAtLast.{mkdir_at_last_completed}
@@ -40,7 +40,7 @@ run_right [] p right h = h
 run_right (x ∷ []) p right h = h.1
 run_right (x ∷ y ∷ left) p right h = run_right (y ∷ left) p right h.1
 
-pub last_number : (t : Kept) (index last : ℕ) (w : Site) (p : Pair) → t.pairs ≡ thread_at w (p ∷ []) → index ≡ length w.chain + length (w.before ++ w.left) → IsSite w (p ∷ []) → IsLastPairOfHardTailRun t.pairs index last
+pub last_number : (t : KeptThread) (index last : ℕ) (w : Site) (p : Pair) → t.pairs ≡ thread_at w (p ∷ []) → index ≡ length w.chain + length (w.before ++ w.left) → IsSite w (p ∷ []) → IsLastPairOfHardTailRun t.pairs index last
     → last ≡ index + length w.right
 last_number t index last w p there place site is =
     let whole : t.pairs ≡ (w.chain ++ (w.before ++ w.left)) ++ (p ∷ (w.right ++ w.after)) = there ∙ sym (append_assoc w.chain (w.before ++ w.left) (p ∷ (w.right ++ w.after))) in
@@ -77,11 +77,11 @@ Completes disk w left x fresh right p2 l r P name =
     → taken.IsPut middle (site_behind w right (fresh_pair x fresh)) p2 q more l [] (new_directory_slot name fresh ∷ []) r
     → (a : ℕ × ℕ) → IsPathToDirectory (thread_at (last_site w.chain w.before left w.after) (x ∷ [])) P a → same_pair (begin_of (last_site w.chain w.before left w.after) (x ∷ [])) a ≡ true
     → IsPlace middle.order (entries_by_directory_in_thread (thread_at (site_behind w right (fresh_pair x fresh)) (p2 ∷ [])) a) (place_at (site_behind w right (fresh_pair x fresh)) l) name
-    → (gstate_of (thread_at (last_site w.chain w.before left w.after) (naming_pair x fresh ∷ ([] ++ fresh_pair x fresh ∷ [])))).sync ≡ true
-    → gstate_of (thread_at (last_site w.chain w.before left w.after) (x ∷ [])) ≡ zero_gstate
-    → gstate_of (thread_at (site_behind w right (fresh_pair x fresh)) (q ∷ more)) ≡ zero_gstate
-    → (s : Session) (given : List ℕ) → s.tree ≡ tree_on_disk disk (thread_at (last_site w.chain w.before left w.after) (x ∷ [])) → path_or_root given ≡ P ++ name ∷ []
-    → IsCompleted disk (thread_at (last_site w.chain w.before left w.after) (x ∷ [])) s (ops.Mkdir given) new (thread_at (site_behind w right (fresh_pair x fresh)) (q ∷ more))
+    → (gstate_of_pairs (thread_at (last_site w.chain w.before left w.after) (naming_pair x fresh ∷ ([] ++ fresh_pair x fresh ∷ [])))).sync ≡ true
+    → gstate_of_pairs (thread_at (last_site w.chain w.before left w.after) (x ∷ [])) ≡ zero_gstate
+    → gstate_of_pairs (thread_at (site_behind w right (fresh_pair x fresh)) (q ∷ more)) ≡ zero_gstate
+    → (s : Session) (given : List ℕ) → s.tree ≡ tree_on_disk disk (thread_at (last_site w.chain w.before left w.after) (x ∷ [])) → path_of_bytes_or_root given ≡ P ++ name ∷ []
+    → IsImageAfterCompletedOperation disk (thread_at (last_site w.chain w.before left w.after) (x ∷ [])) s (ops.Mkdir given) new (thread_at (site_behind w right (fresh_pair x fresh)) (q ∷ more))
 
 -- the pair is the last one itself
 pub record IsOne (p x p2 : Pair) (fresh : ℕ × ℕ) : Type 0 where
@@ -91,10 +91,10 @@ pub record IsOne (p x p2 : Pair) (fresh : ℕ × ℕ) : Type 0 where
 -- or the last one stands behind it
 pub record IsAhead (p x p2 : Pair) (right : List Pair) (fresh : ℕ × ℕ) : Type 0 where
   pub stays : p2 ≡ p
-  pub names : SomeIn (λ y. y ≡ naming_pair x fresh) right
+  pub names : IsTrueOfSomeElement (λ y. y ≡ naming_pair x fresh) right
 
 -- The last pair stands there, and after the first step the pair of the name here.
-pub record IsRoute (t : Kept) (last : ℕ) (w : Site) (p : Pair) (fresh : ℕ × ℕ) (l r : List Slot) (P : Path) (name : Name) : Type 0 where
+pub record IsRoute (t : KeptThread) (last : ℕ) (w : Site) (p : Pair) (fresh : ℕ × ℕ) (l r : List Slot) (P : Path) (name : Name) : Type 0 where
   pub left : List Pair
   pub x : Pair
   pub end : IsEnd t last w.chain w.before left w.after x
@@ -109,7 +109,7 @@ pub record IsRoute (t : Kept) (last : ℕ) (w : Site) (p : Pair) (fresh : ℕ ×
   pub which : IsOne p x p2 fresh ⊎ IsAhead p x p2 right fresh
   pub completed : Completes t.disk w left x fresh right p2 l r P name
 
-module _ (t : Kept) (index last : ℕ) (w : Site) (p : Pair) (there : t.pairs ≡ thread_at w (p ∷ [])) (place : index ≡ length w.chain + length (w.before ++ w.left)) (site : IsSite w (p ∷ [])) (is_last : IsLastPairOfHardTailRun t.pairs index last)
+module _ (t : KeptThread) (index last : ℕ) (w : Site) (p : Pair) (there : t.pairs ≡ thread_at w (p ∷ [])) (place : index ≡ length w.chain + length (w.before ++ w.left)) (site : IsSite w (p ∷ [])) (is_last : IsLastPairOfHardTailRun t.pairs index last)
     (fresh : ℕ × ℕ) (l r : List Slot) (P : Path) (name : Name) where
   number : last ≡ index + length w.right
   number = last_number t index last w p there place site is_last

@@ -8,29 +8,29 @@ use Rattle.lfs_model.specs.Blocks.{Blocks, AreBlocksEqualExceptThese}
 use Rattle.lfs_model.specs.BlockSets.{AreExactlyTheUsedBlocks}
 use Rattle.lfs_model.specs.Content.{content_of_pair_at, current_block_of_two, current_block_of_pair_at}
 use Rattle.lfs_model.specs.Disk.{Disk, block_bytes_on_disk, block_count}
-use Rattle.lfs_model.specs.PowerLoss.{ShowsTreeBeforeOrAfter, with_blocks}
-use Rattle.lfs_model.specs.Slots.{Content, IsContentFittingPair, Gstate, zero_gstate, gstate_xor, same_pair}
-use Rattle.lfs_model.specs.Thread.{Pair, blocks_of_pairs, gstate_of, is_hard_tail}
+use Rattle.lfs_model.specs.PowerLoss.{HasTreeBeforeOrAfterOperation, disk_with_blocks}
+use Rattle.lfs_model.specs.Slots.{PairContent, IsContentFittingPair, Gstate, zero_gstate, gstate_xor, same_pair}
+use Rattle.lfs_model.specs.Thread.{Pair, blocks_of_pairs, gstate_of_pairs, is_hard_tail}
 use Rattle.lfs_model.specs.Tree.{Path, Tree}
 use Rattle.lfs_model.specs.View.{BeginsWithLogEntry, superblock_name_log_entry, IsAcceptedImage}
-use Rattle.lfs_model.specs.Profile.{HaveSlotsAfterHardTail, IsWritable}
+use Rattle.lfs_model.specs.Profile.{AreNoEmptyPairsAfterHardTails, IsWritableImage}
 use Rattle.lfs_model.specs.Shown.{IsPathToDirectory, all_slots_not_moved, entries_by_directory_in_thread, skip_list_blocks_of_struct, tree_on_disk, used_blocks}
 use Rattle.lfs_model.proofs.Became.{fits_same}
 use Rattle.lfs_model.proofs.Beside.{IsStepBeside, beside_shape, last_site, other_entries, own_entries, threaded}
 use Rattle.lfs_model.proofs.Committed.{no_move_from}
-use Rattle.lfs_model.proofs.Counts.{each_right, count, count_append, count_here, once_from_distinct}
+use Rattle.lfs_model.proofs.Counts.{each_right, occurrence_count_of_number, count_append, count_here, once_from_distinct}
 use Rattle.lfs_model.proofs.Devices.{content_same}
-use Rattle.lfs_model.proofs.Global.{HasNoMove, gstate_assoc, gstate_cons, gstate_left, gstate_moved, gstate_right, sync_delta, turned, turned_is}
+use Rattle.lfs_model.proofs.Global.{HasNoMove, gstate_assoc, gstate_cons, gstate_left, gstate_moved, gstate_right, sync_bit_delta, gstate_with_inverted_sync_bit, turned_is}
 use Rattle.lfs_model.proofs.Moves.{shown_before, shown_behind}
 use Rattle.lfs_model.proofs.Pairs.{pair_itself, put_at}
 use Rattle.lfs_model.proofs.Sites.{Site, begin_of, dirs_at, thread_at, IsSite}
-use Rattle.lfs_model.proofs.StepsTaken.{IsPutBeside, IsOnlyStep, beside_taken, taken_before, within_at}
+use Rattle.lfs_model.proofs.StepsTaken.{IsPutBeside, IsWritableImageAfterTreeChange, beside_taken, taken_before, within_at}
 use Rattle.lfs_model.proofs.Superblocks.{pairs_behind}
 use Rattle.lfs_model.proofs.Writable.{ends_in_hard_tail}
 use Rattle.lfs_pair.specs.Split.{KeepsBlocksOutsideBothPairs}
-use Rattle.lfs_thread.specs.Device.{blocks_of_two_addresses, blocks_of_address}
-use Rattle.lfs_thread.specs.Kept.{Kept}
-use Rattle.lfs_thread.specs.Steps.{HasSameGeometry, HasPairOldContentOnDisk, IsFreshPairThreadedIn, IsFreshPairThreadedInOnDisk, LeavesPairOldOrThreadedIn, KeepsSuperblockFirst, ThreadChangesOnlyTheseBlocks, fresh_pair_with_tail, complete_content_after_changes, kept_pair_at_index, map_with_used_pair}
+use Rattle.lfs_thread.specs.Device.{blocks_of_two_pair_addresses, blocks_of_pair_address}
+use Rattle.lfs_thread.specs.Kept.{KeptThread}
+use Rattle.lfs_thread.specs.Steps.{HasSameGeometry, HasPairOldContentOnDisk, IsFreshPairThreadedIn, IsFreshPairThreadedInOnDisk, PowerLossLeavesPairOldOrThreadedIn, KeepsSuperblockEntryFirstInLog, ThreadChangesOnlyTheseBlocks, fresh_pair_with_tail, complete_content_after_changes, thread_pair_at_index, block_map_with_used_pair}
 use Rattle.lfs_operations.specs.Changing.{AreTwoFreeBlocks, map_with_two_blocks_in_flight}
 use Rattle.lfs_operations.specs.Making.{changes_threading_new_pair}
 use Rattle.lfs_operations.specs.Ready.{IsImageReadyForChange}
@@ -41,14 +41,14 @@ use Rattle.lfs_operations.proofs.Placing.{IsPlaced, all_apart, device, nothing_c
 use Rattle.lfs_operations.proofs.Putting.{with_map}
 
 -- the pair of that number is the last of a directory
-pub record IsEnd (t : Kept) (last : ℕ) (chain before left after : List Pair) (x : Pair) : Type 0 where
+pub record IsEnd (t : KeptThread) (last : ℕ) (chain before left after : List Pair) (x : Pair) : Type 0 where
   pub there : t.pairs ≡ thread_at (last_site chain before left after) (x ∷ [])
   pub place : last ≡ length chain + length (before ++ left)
   pub site : IsSite (last_site chain before left after) (x ∷ [])
 
 -- it names the fresh pair, which has its tail
 abbrev pub naming_pair : Pair → ℕ × ℕ → Pair
-naming_pair x fresh = record { at = x.at; content = record { slots = x.content.slots; tail = Some (record { hard = false; to = fresh }); move = turned x.content.move } }
+naming_pair x fresh = record { at = x.at; content = record { slots = x.content.slots; tail = Some (record { hard = false; to = fresh }); move = gstate_with_inverted_sync_bit x.content.move } }
 
 abbrev pub fresh_pair : Pair → ℕ × ℕ → Pair
 fresh_pair x fresh = record { at = fresh; content = record { slots = []; tail = x.content.tail; move = zero_gstate } }
@@ -61,23 +61,23 @@ abbrev pub IsThreaded : Disk → List Pair → List Pair → List Pair → List 
 IsThreaded disk chain before left after x fresh = IsPutBeside disk (last_site chain before left after) x (naming_pair x fresh) [] (fresh_pair x fresh) x.content.slots [] [] []
 
 -- so do the thread and the map say
-pub record HasThreaded (t : Kept) (chain before left after : List Pair) (x : Pair) (fresh : ℕ × ℕ) (new : Kept) : Type 0 where
+pub record HasThreaded (t : KeptThread) (chain before left after : List Pair) (x : Pair) (fresh : ℕ × ℕ) (new : KeptThread) : Type 0 where
   pub step : IsThreading t.disk new.disk chain before left after x fresh
   pub pairs : new.pairs ≡ thread_at (last_site chain before left after) (naming_pair x fresh ∷ fresh_pair x fresh ∷ [])
   pub used : AreExactlyTheUsedBlocks new.map (used_blocks new.disk new.pairs)
-  pub map : new.map ≡ map_with_used_pair (map_with_two_blocks_in_flight t.map fresh) fresh
+  pub map : new.map ≡ block_map_with_used_pair (map_with_two_blocks_in_flight t.map fresh) fresh
   pub size : length new.map ≡ block_count new.disk
 
-have_at : (b : Bool) (xs : List Pair) (x : Pair) (ys : List Pair) → HaveSlotsAfterHardTail b (xs ++ x ∷ ys) → ends_in_hard_tail b xs ≡ true → x.content.slots ≢ []
+have_at : (b : Bool) (xs : List Pair) (x : Pair) (ys : List Pair) → AreNoEmptyPairsAfterHardTails b (xs ++ x ∷ ys) → ends_in_hard_tail b xs ≡ true → x.content.slots ≢ []
 have_at b [] x ys h f = h.0 f
 have_at b (z ∷ xs) x ys h f = have_at (is_hard_tail z.content.tail) xs x ys h.1 f
 
-module _ (t : Kept) (ready : IsImageReadyForChange t) (last : ℕ) (chain before left after : List Pair) (x : Pair) (e : IsEnd t last chain before left after x) (fresh : ℕ × ℕ) (two : AreTwoFreeBlocks t.map fresh)
+module _ (t : KeptThread) (ready : IsImageReadyForChange t) (last : ℕ) (chain before left after : List Pair) (x : Pair) (e : IsEnd t last chain before left after x) (fresh : ℕ × ℕ) (two : AreTwoFreeBlocks t.map fresh)
     (made : complete_content_after_changes t last (changes_threading_new_pair t last fresh) ≡ Some (naming_pair x fresh).content) where
   abbrev w : Site
   w = last_site chain before left after
 
-  abbrev held : Kept
+  abbrev held : KeptThread
   held = with_map t (map_with_two_blocks_in_flight t.map fresh)
 
   abbrev y : Pair
@@ -95,11 +95,11 @@ module _ (t : Kept) (ready : IsImageReadyForChange t) (last : ℕ) (chain before
   accepted_there : IsAcceptedImage t.disk (thread_at w (x ∷ []))
   accepted_there = subst (IsAcceptedImage t.disk) e.there ready.accepted
 
-  writable_there : IsWritable t.disk (thread_at w (x ∷ []))
-  writable_there = subst (IsWritable t.disk) e.there ready.writable
+  writable_there : IsWritableImage t.disk (thread_at w (x ∷ []))
+  writable_there = subst (IsWritableImage t.disk) e.there ready.writable
 
-  pub settled_there : gstate_of (thread_at (last_site chain before left after) (x ∷ [])) ≡ zero_gstate
-  settled_there = ap gstate_of (sym e.there) ∙ ready.settled
+  pub settled_there : gstate_of_pairs (thread_at (last_site chain before left after) (x ∷ [])) ≡ zero_gstate
+  settled_there = ap gstate_of_pairs (sym e.there) ∙ ready.settled
 
   held_there : content_of_pair_at t.disk x.at ≡ Some x.content
   held_there = (each_right (λ (z : Pair). content_of_pair_at t.disk z.at ≡ Some z.content) (before ++ left) (x ∷ after)
@@ -111,15 +111,15 @@ module _ (t : Kept) (ready : IsImageReadyForChange t) (last : ℕ) (chain before
 
   -- ---- the global state
 
-  turned_delta : gstate_of (y ∷ f ∷ []) ≡ gstate_xor sync_delta (gstate_of (x ∷ []))
+  turned_delta : gstate_of_pairs (y ∷ f ∷ []) ≡ gstate_xor sync_bit_delta (gstate_of_pairs (x ∷ []))
   turned_delta =
-      gstate_cons y (f ∷ []) ∙ ap (gstate_xor (turned x.content.move)) (gstate_cons f [] ∙ gstate_left (gstate_of []))
-      ∙ ap (λ (z : Gstate). gstate_xor z (gstate_of [])) (sym (turned_is x.content.move)) ∙ gstate_assoc sync_delta x.content.move (gstate_of []) ∙ ap (gstate_xor sync_delta) (sym (gstate_cons x []))
+      gstate_cons y (f ∷ []) ∙ ap (gstate_xor (gstate_with_inverted_sync_bit x.content.move)) (gstate_cons f [] ∙ gstate_left (gstate_of_pairs []))
+      ∙ ap (λ (z : Gstate). gstate_xor z (gstate_of_pairs [])) (sym (turned_is x.content.move)) ∙ gstate_assoc sync_bit_delta x.content.move (gstate_of_pairs []) ∙ ap (gstate_xor sync_bit_delta) (sym (gstate_cons x []))
 
-  pub state_now : gstate_of (thread_at (last_site chain before left after) (naming_pair x fresh ∷ fresh_pair x fresh ∷ [])) ≡ sync_delta
+  pub state_now : gstate_of_pairs (thread_at (last_site chain before left after) (naming_pair x fresh ∷ fresh_pair x fresh ∷ [])) ≡ sync_bit_delta
   state_now =
-      ap gstate_of (sym (append_assoc chain (before ++ left) (y ∷ f ∷ after))) ∙ gstate_moved sync_delta (chain ++ (before ++ left)) (x ∷ []) (y ∷ f ∷ []) after turned_delta
-      ∙ ap (λ z. gstate_xor sync_delta (gstate_of z)) (append_assoc chain (before ++ left) (x ∷ after)) ∙ ap (gstate_xor sync_delta) settled_there ∙ gstate_right sync_delta
+      ap gstate_of_pairs (sym (append_assoc chain (before ++ left) (y ∷ f ∷ after))) ∙ gstate_moved sync_bit_delta (chain ++ (before ++ left)) (x ∷ []) (y ∷ f ∷ []) after turned_delta
+      ∙ ap (λ z. gstate_xor sync_bit_delta (gstate_of_pairs z)) (append_assoc chain (before ++ left) (x ∷ after)) ∙ ap (gstate_xor sync_bit_delta) settled_there ∙ gstate_right sync_bit_delta
 
   -- ---- the step
 
@@ -131,7 +131,7 @@ module _ (t : Kept) (ready : IsImageReadyForChange t) (last : ℕ) (chain before
     cut = fits_same t.disk x (record { at = x.at; content = record { slots = x.content.slots ++ []; tail = x.content.tail; move = x.content.move } }) (append-nil x.content.slots) (within_at t.disk w x [] writable_there).pair;
     fit = tt;
     filled = λ hard none. have_at false (before ++ left) x after
-        (subst (HaveSlotsAfterHardTail false) (pairs_behind chain (dirs_at w (x ∷ [])) e.site.chain) writable_there.no_empty_pair) hard (sym (append-nil x.content.slots) ∙ none);
+        (subst (AreNoEmptyPairsAfterHardTails false) (pairs_behind chain (dirs_at w (x ∷ [])) e.site.chain) writable_there.no_empty_pair) hard (sym (append-nil x.content.slots) ∙ none);
     run = refl;
     empty = refl;
     tail = refl;
@@ -154,8 +154,8 @@ module _ (t : Kept) (ready : IsImageReadyForChange t) (last : ℕ) (chain before
     splice = record { front = λ k. refl; entries = tt; lists = tt; blocks = λ b. omega arith };
   }
 
-  placed_from : (disk : Disk) → HasSameGeometry t.disk disk → KeepsBlocksOutsideBothPairs (kept_pair_at_index t last).at fresh t.disk.blocks disk.blocks → content_of_pair_at disk x.at ≡ Some y.content → content_of_pair_at disk fresh ≡ Some f.content
-      → KeepsSuperblockFirst t.disk (kept_pair_at_index t last).at y.content disk → IsPlaced t.disk disk x y (f ∷ []) (fresh.0 ∷ fresh.1 ∷ [])
+  placed_from : (disk : Disk) → HasSameGeometry t.disk disk → KeepsBlocksOutsideBothPairs (thread_pair_at_index t last).at fresh t.disk.blocks disk.blocks → content_of_pair_at disk x.at ≡ Some y.content → content_of_pair_at disk fresh ≡ Some f.content
+      → KeepsSuperblockEntryFirstInLog t.disk (thread_pair_at_index t last).at y.content disk → IsPlaced t.disk disk x y (f ∷ []) (fresh.0 ∷ fresh.1 ∷ [])
   placed_from disk shape others here behind first = record {
     geometry = shape_same t last w x e.there e.place shape;
     same = same_four t last w x e.there e.place disk fresh others;
@@ -164,17 +164,17 @@ module _ (t : Kept) (ready : IsImageReadyForChange t) (last : ℕ) (chain before
         (first (subst (λ at. BeginsWithLogEntry (current_block_of_pair_at t.disk at) superblock_name_log_entry) (sym (at_is t last w x e.there e.place)) b) (h.kind, h.name));
   }
 
-  made_same : (c : Content) → complete_content_after_changes t last (changes_threading_new_pair t last fresh) ≡ Some c → c ≡ y.content
+  made_same : (c : PairContent) → complete_content_after_changes t last (changes_threading_new_pair t last fresh) ≡ Some c → c ≡ y.content
   made_same c m = same_Some c y.content (sym m ∙ made)
 
   -- what is made takes no more than what the pair held
-  pub fits_now : (c : Content) → complete_content_after_changes t last (changes_threading_new_pair t last fresh) ≡ Some c → IsContentFittingPair t.disk.block_size t.disk.page c
+  pub fits_now : (c : PairContent) → complete_content_after_changes t last (changes_threading_new_pair t last fresh) ≡ Some c → IsContentFittingPair t.disk.block_size t.disk.page c
   fits_now c m = subst (IsContentFittingPair t.disk.block_size t.disk.page) (sym (made_same c m)) (fits_same t.disk x y refl (within_at t.disk w x [] writable_there).pair)
 
   -- only the blocks of the fresh pair may differ: the image shows the tree that it showed
-  pub left_beside : (blocks : Blocks) (tree : Tree) → AreBlocksEqualExceptThese (blocks_of_address fresh) t.disk.blocks blocks → ShowsTreeBeforeOrAfter (with_blocks blocks t.disk) (tree_on_disk t.disk t.pairs) tree
+  pub left_beside : (blocks : Blocks) (tree : Tree) → AreBlocksEqualExceptThese (blocks_of_pair_address fresh) t.disk.blocks blocks → HasTreeBeforeOrAfterOperation (disk_with_blocks blocks t.disk) (tree_on_disk t.disk t.pairs) tree
   left_beside blocks tree others =
-      let n = nothing_came t.disk (with_blocks blocks t.disk) w x e.site accepted_there (device t.disk (with_blocks blocks t.disk) w x x [] (fresh.0 ∷ fresh.1 ∷ []) accepted_there distinct placed) in
+      let n = nothing_came t.disk (disk_with_blocks blocks t.disk) w x e.site accepted_there (device t.disk (disk_with_blocks blocks t.disk) w x x [] (fresh.0 ∷ fresh.1 ∷ []) accepted_there distinct placed) in
       record {
         pairs = thread_at w (x ∷ []);
         accepted = n.accepted;
@@ -183,44 +183,44 @@ module _ (t : Kept) (ready : IsImageReadyForChange t) (last : ℕ) (chain before
       }
     where
       -- a block that is used is the same
-      same_used : (b : ℕ) → 1 ≤ count b (blocks_of_pairs (x ∷ [])) → block_bytes_on_disk (with_blocks blocks t.disk) b ≡ block_bytes_on_disk t.disk b
+      same_used : (b : ℕ) → 1 ≤ occurrence_count_of_number b (blocks_of_pairs (x ∷ [])) → block_bytes_on_disk (disk_with_blocks blocks t.disk) b ≡ block_bytes_on_disk t.disk b
       same_used b some = others.others b (all_apart (fresh.0 ∷ fresh.1 ∷ []) b (
           let n = once_from_distinct (fresh.0 ∷ fresh.1 ∷ used_blocks t.disk (thread_at w (x ∷ []))) distinct b in
           let k = count_append b (blocks_of_pairs (thread_at w (x ∷ []))) (flat_map (λ s. skip_list_blocks_of_struct t.disk s.struct) (all_slots_not_moved (thread_at w (x ∷ [])))) in
           let i = count_pairs b w (x ∷ []) in
           omega arith))
 
-      first_same : block_bytes_on_disk (with_blocks blocks t.disk) x.at.0 ≡ block_bytes_on_disk t.disk x.at.0
+      first_same : block_bytes_on_disk (disk_with_blocks blocks t.disk) x.at.0 ≡ block_bytes_on_disk t.disk x.at.0
       first_same = same_used x.at.0 (let h = count_here x.at.0 (x.at.1 ∷ []) in omega arith)
 
-      second_same : block_bytes_on_disk (with_blocks blocks t.disk) x.at.1 ≡ block_bytes_on_disk t.disk x.at.1
+      second_same : block_bytes_on_disk (disk_with_blocks blocks t.disk) x.at.1 ≡ block_bytes_on_disk t.disk x.at.1
       second_same = same_used x.at.1 (let h = count_here x.at.1 [] in omega arith)
 
-      placed : IsPlaced t.disk (with_blocks blocks t.disk) x x [] (fresh.0 ∷ fresh.1 ∷ [])
+      placed : IsPlaced t.disk (disk_with_blocks blocks t.disk) x x [] (fresh.0 ∷ fresh.1 ∷ [])
       placed = record {
         geometry = record { block_size = refl; page = refl; order = refl; count = others.count };
         same = λ b none. others.others b (all_apart (fresh.0 ∷ fresh.1 ∷ []) b (omega arith));
-        contents = (content_same t.disk (with_blocks blocks t.disk) x.at first_same second_same ∙ held_there, tt);
+        contents = (content_same t.disk (disk_with_blocks blocks t.disk) x.at first_same second_same ∙ held_there, tt);
         first = λ h b. subst (λ o. BeginsWithLogEntry o superblock_name_log_entry) (sym (ap₂ current_block_of_two first_same second_same)) b;
       }
 
   -- ---- it was done
 
-  pub has_threaded : (new : Kept) → IsFreshPairThreadedIn (with_map t (map_with_two_blocks_in_flight t.map fresh)) last fresh (changes_threading_new_pair t last fresh) new → ThreadChangesOnlyTheseBlocks (blocks_of_two_addresses (kept_pair_at_index t last).at fresh) (with_map t (map_with_two_blocks_in_flight t.map fresh)) new
+  pub has_threaded : (new : KeptThread) → IsFreshPairThreadedIn (with_map t (map_with_two_blocks_in_flight t.map fresh)) last fresh (changes_threading_new_pair t last fresh) new → ThreadChangesOnlyTheseBlocks (blocks_of_two_pair_addresses (thread_pair_at_index t last).at fresh) (with_map t (map_with_two_blocks_in_flight t.map fresh)) new
       → HasThreaded t chain before left after x fresh new
   has_threaded new is writes =
       let same = made_same is.content is.made in
       let pairs : new.pairs ≡ thread_at w (y ∷ f ∷ [])
-      = is.pairs ∙ two_now t last w x e.there e.place (record { at = (kept_pair_at_index t last).at; content = is.content }) (fresh_pair_with_tail t last fresh)
-      ∙ ap (λ (g : Pair). thread_at w (record { at = (kept_pair_at_index t last).at; content = is.content } ∷ g ∷ [])) behind_is
-      ∙ ap (λ (c : Content). thread_at w (record { at = (kept_pair_at_index t last).at; content = c } ∷ f ∷ [])) same
+      = is.pairs ∙ two_now t last w x e.there e.place (record { at = (thread_pair_at_index t last).at; content = is.content }) (fresh_pair_with_tail t last fresh)
+      ∙ ap (λ (g : Pair). thread_at w (record { at = (thread_pair_at_index t last).at; content = is.content } ∷ g ∷ [])) behind_is
+      ∙ ap (λ (c : PairContent). thread_at w (record { at = (thread_pair_at_index t last).at; content = c } ∷ f ∷ [])) same
       ∙ ap (λ (at : ℕ × ℕ). thread_at w (record { at = at; content = y.content } ∷ f ∷ [])) (at_is t last w x e.there e.place) in
       let contents = recursion_from_All (λ (z : Pair). content_of_pair_at new.disk z.at ≡ Some z.content) (thread_at w (y ∷ f ∷ []))
       (subst (All (λ (z : Pair). content_of_pair_at new.disk z.at ≡ Some z.content)) pairs is.thread.contents) in
       let here = each_right (λ (z : Pair). content_of_pair_at new.disk z.at ≡ Some z.content) (before ++ left) (y ∷ f ∷ after)
       (each_right (λ (z : Pair). content_of_pair_at new.disk z.at ≡ Some z.content) chain ((before ++ left) ++ (y ∷ f ∷ after)) contents) in
       let shape : HasSameGeometry t.disk new.disk = record { block_size = writes.shape.block_size; page = writes.shape.page; order = writes.shape.order; count = writes.shape.count } in
-      let step = step_from new.disk (placed_from new.disk shape writes.others here.0 here.1.0 (subst (λ (c : Content). KeepsSuperblockFirst t.disk (kept_pair_at_index t last).at c new.disk) same is.first)) in
+      let step = step_from new.disk (placed_from new.disk shape writes.others here.0 here.1.0 (subst (λ (c : PairContent). KeepsSuperblockEntryFirstInLog t.disk (thread_pair_at_index t last).at c new.disk) same is.first)) in
       record {
         step = step;
         pairs = pairs;
@@ -236,11 +236,11 @@ module _ (t : Kept) (ready : IsImageReadyForChange t) (last : ℕ) (chain before
   -- ---- what it shows
 
   module _ (P : Path) (a : ℕ × ℕ) (leads : IsPathToDirectory (thread_at (last_site chain before left after) (x ∷ [])) P a) (same : same_pair (begin_of (last_site chain before left after) (x ∷ [])) a ≡ true) where
-    pub sync_now : (gstate_of (thread_at (last_site chain before left after) (naming_pair x fresh ∷ ([] ++ fresh_pair x fresh ∷ [])))).sync ≡ true
+    pub sync_now : (gstate_of_pairs (thread_at (last_site chain before left after) (naming_pair x fresh ∷ ([] ++ fresh_pair x fresh ∷ [])))).sync ≡ true
     sync_now = ap (λ (z : Gstate). z.sync) state_now
 
     pub first_taken : (disk : Disk) → IsThreading t.disk disk chain before left after x fresh
-        → IsOnlyStep t.disk (thread_at (last_site chain before left after) (x ∷ [])) disk (thread_at (last_site chain before left after) (naming_pair x fresh ∷ ([] ++ fresh_pair x fresh ∷ []))) (λ z. z) (λ d. d)
+        → IsWritableImageAfterTreeChange t.disk (thread_at (last_site chain before left after) (x ∷ [])) disk (thread_at (last_site chain before left after) (naming_pair x fresh ∷ ([] ++ fresh_pair x fresh ∷ []))) (λ z. z) (λ d. d)
     first_taken disk step = beside_taken t.disk disk chain before left after x y [] f x.content.slots [] [] [] put_there (fresh.0 ∷ fresh.1 ∷ []) [] (λ z. z) (λ d. d) step P a leads same
         (threaded t.disk disk chain before left after x [] y [] f (fresh.0 ∷ fresh.1 ∷ []) x.content.slots [] step P a leads same sync_now)
 
@@ -253,21 +253,21 @@ module _ (t : Kept) (ready : IsImageReadyForChange t) (last : ℕ) (chain before
         ∙ sym (own_entries t.disk disk chain before left after x [] y [] f (fresh.0 ∷ fresh.1 ∷ []) [] x.content.slots [] [] [] step P a leads same)
 
     -- a stop leaves the tree from before it
-    pub left_threading : (left_blocks : Blocks) (tree : Tree) → LeavesPairOldOrThreadedIn (with_map t (map_with_two_blocks_in_flight t.map fresh)) last fresh (changes_threading_new_pair t last fresh) left_blocks
-        → ShowsTreeBeforeOrAfter (with_blocks left_blocks t.disk) (tree_on_disk t.disk t.pairs) tree
+    pub left_threading : (left_blocks : Blocks) (tree : Tree) → PowerLossLeavesPairOldOrThreadedIn (with_map t (map_with_two_blocks_in_flight t.map fresh)) last fresh (changes_threading_new_pair t last fresh) left_blocks
+        → HasTreeBeforeOrAfterOperation (disk_with_blocks left_blocks t.disk) (tree_on_disk t.disk t.pairs) tree
     left_threading blocks tree is = go is.content
       where
         disk : Disk
-        disk = with_blocks blocks t.disk
+        disk = disk_with_blocks blocks t.disk
 
-        shape : HasSameGeometry t.disk (with_blocks blocks t.disk)
+        shape : HasSameGeometry t.disk (disk_with_blocks blocks t.disk)
         shape = record { block_size = refl; page = refl; order = refl; count = is.others.count }
 
-        go : HasPairOldContentOnDisk held last (with_blocks blocks t.disk) ⊎ IsFreshPairThreadedInOnDisk held last fresh (changes_threading_new_pair t last fresh) (with_blocks blocks t.disk) → ShowsTreeBeforeOrAfter (with_blocks blocks t.disk) (tree_on_disk t.disk t.pairs) tree
+        go : HasPairOldContentOnDisk held last (disk_with_blocks blocks t.disk) ⊎ IsFreshPairThreadedInOnDisk held last fresh (changes_threading_new_pair t last fresh) (disk_with_blocks blocks t.disk) → HasTreeBeforeOrAfterOperation (disk_with_blocks blocks t.disk) (tree_on_disk t.disk t.pairs) tree
         go (inl b) =
-            let on = device t.disk (with_blocks blocks t.disk) w x x [] (fresh.0 ∷ fresh.1 ∷ []) accepted_there distinct
-            (placed_still t last w x e.there e.place (with_blocks blocks t.disk) fresh shape is.others (record { holds = b.holds; first = b.first })) in
-            let n = nothing_came t.disk (with_blocks blocks t.disk) w x e.site accepted_there on in
+            let on = device t.disk (disk_with_blocks blocks t.disk) w x x [] (fresh.0 ∷ fresh.1 ∷ []) accepted_there distinct
+            (placed_still t last w x e.there e.place (disk_with_blocks blocks t.disk) fresh shape is.others (record { holds = b.holds; first = b.first })) in
+            let n = nothing_came t.disk (disk_with_blocks blocks t.disk) w x e.site accepted_there on in
             record {
               pairs = thread_at w (x ∷ []);
               accepted = n.accepted;
@@ -277,7 +277,7 @@ module _ (t : Kept) (ready : IsImageReadyForChange t) (last : ℕ) (chain before
         go (inr j) =
             let at = at_is t last w x e.there e.place in
             let c = made_same j.content j.made in
-            let step = step_from (with_blocks blocks t.disk) (placed_from (with_blocks blocks t.disk) shape is.others (ap (content_of_pair_at (with_blocks blocks t.disk)) (sym at) ∙ j.holds ∙ ap (λ (z : Content). Some z) c)
-            (j.behind ∙ ap (λ (z : Pair). Some z.content) behind_is) (subst (λ (z : Content). KeepsSuperblockFirst t.disk (kept_pair_at_index t last).at z (with_blocks blocks t.disk)) c j.first)) in
-            subst (λ z. ShowsTreeBeforeOrAfter (with_blocks blocks t.disk) (tree_on_disk t.disk z) tree) (sym e.there)
-            (taken_before t.disk (thread_at w (x ∷ [])) (with_blocks blocks t.disk) (thread_at w (y ∷ ([] ++ f ∷ []))) (λ d. d) tree (first_taken (with_blocks blocks t.disk) step))
+            let step = step_from (disk_with_blocks blocks t.disk) (placed_from (disk_with_blocks blocks t.disk) shape is.others (ap (content_of_pair_at (disk_with_blocks blocks t.disk)) (sym at) ∙ j.holds ∙ ap (λ (z : PairContent). Some z) c)
+            (j.behind ∙ ap (λ (z : Pair). Some z.content) behind_is) (subst (λ (z : PairContent). KeepsSuperblockEntryFirstInLog t.disk (thread_pair_at_index t last).at z (disk_with_blocks blocks t.disk)) c j.first)) in
+            subst (λ z. HasTreeBeforeOrAfterOperation (disk_with_blocks blocks t.disk) (tree_on_disk t.disk z) tree) (sym e.there)
+            (taken_before t.disk (thread_at w (x ∷ [])) (disk_with_blocks blocks t.disk) (thread_at w (y ∷ ([] ++ f ∷ []))) (λ d. d) tree (first_taken (disk_with_blocks blocks t.disk) step))

@@ -3,45 +3,45 @@ use Rattle.std.proofs.Common.{ℕ, ◌≡◌, ◌+◌, ◌<◌, ◌≤◌, ◌^�
 use Rattle.std.specs.Prelude.{All, Contains, nat_le}
 use Rattle.std.proofs.lemmas.Bool.{leb-true}
 use Rattle.std.proofs.lemmas.List.Elements.{recursion_from_All}
-use Rattle.lfs_device.specs.Bytes.{HasBytes}
+use Rattle.lfs_device.specs.Bytes.{AreAllBlockElementsBelow256}
 use Rattle.lfs_model.specs.TreeEdits.{tree_after_creation}
 use Rattle.lfs_model.specs.Blocks.{Blocks, AreBlocksEqualExceptThese}
-use Rattle.lfs_model.specs.BlockSets.{IsFree, IsInFlight}
+use Rattle.lfs_model.specs.BlockSets.{IsBlockFree, IsBlockInFlight}
 use Rattle.lfs_model.specs.BlockSets.BlockState.{Free}
 use Rattle.lfs_model.specs.Content.{content_of_pair_at}
-use Rattle.lfs_model.specs.Disk.{Disk, block_count, entry_charge_limit}
+use Rattle.lfs_model.specs.Disk.{Disk, block_count, charged_entry_size_limit_in_pair}
 use Rattle.lfs_model.specs.InDirectory.{IsPlaceWhereNameBelongs}
 use Rattle.lfs_model.specs.LoggedContent.{Are32BitPairAddresses}
-use Rattle.lfs_model.specs.Names.{Name, is_name, is_path_component}
+use Rattle.lfs_model.specs.Names.{Name, is_valid_name, is_path_component}
 use Rattle.lfs_model.specs.Operations as ops
-use Rattle.lfs_model.specs.PowerLoss.{ShowsTreeBeforeOrAfter as IsLeftOf, with_blocks}
-use Rattle.lfs_model.specs.Slots.{Content, IsContentFittingPair, Gstate, Slot, charge_of_entry, zero_gstate, gstate_xor, same_pair}
+use Rattle.lfs_model.specs.PowerLoss.{HasTreeBeforeOrAfterOperation as IsLeftOf, disk_with_blocks}
+use Rattle.lfs_model.specs.Slots.{PairContent, IsContentFittingPair, Gstate, Slot, entry_charge_with_longest_inline_contents, zero_gstate, gstate_xor, same_pair}
 use Rattle.lfs_model.specs.SlotEdits.{new_directory_slot, pair_with_slots}
-use Rattle.lfs_model.specs.Thread.{Pair, blocks_of_pairs, gstate_of, is_hard_tail, pair_named_by_tail, pair_count_before_root}
+use Rattle.lfs_model.specs.Thread.{Pair, blocks_of_pairs, gstate_of_pairs, is_hard_tail, pair_address_named_by_tail, pair_count_before_root}
 use Rattle.lfs_model.specs.Tree.{DirectoryNode}
-use Rattle.lfs_model.specs.Profile.{FitsEntryLimits, IsWritable}
+use Rattle.lfs_model.specs.Profile.{IsEntryWithinWritableLimits, IsWritableImage}
 use Rattle.lfs_model.specs.View.{IsAcceptedImage}
 use Rattle.lfs_model.specs.Shown.{IsPathToDirectory, entries_by_directory_in_thread, tree_on_disk}
 use Rattle.lfs_model.proofs.Became.{Became}
 use Rattle.lfs_model.proofs.Beside.{change, last_site}
 use Rattle.lfs_model.proofs.Changes.{chain_now}
 use Rattle.lfs_model.proofs.Chained.{InTwo, mkdir_in_two}
-use Rattle.lfs_model.proofs.Committed.{IsCompleted, no_move_from, recovered_from}
+use Rattle.lfs_model.proofs.Committed.{IsImageAfterCompletedOperation, no_move_from, recovered_from}
 use Rattle.lfs_model.proofs.Counts.{each_right}
-use Rattle.lfs_model.proofs.Global.{HasNoMove, gstate_assoc, gstate_cons, gstate_moved, gstate_self, sync_delta, turned, turned_is}
+use Rattle.lfs_model.proofs.Global.{HasNoMove, gstate_assoc, gstate_cons, gstate_moved, gstate_self, sync_bit_delta, gstate_with_inverted_sync_bit, turned_is}
 use Rattle.lfs_model.proofs.Halves.{entry_small}
 use Rattle.lfs_model.proofs.Moves.{place_at, insert_here}
 use Rattle.lfs_model.proofs.Names.{IsPlace}
 use Rattle.lfs_model.proofs.Profiles.{step_writable}
 use Rattle.lfs_model.proofs.Searches.{site, thread_is, is_site, same, number_is, place_of_belongs}
-use Rattle.lfs_model.proofs.Sites.{SomeIn, Site, among_left, among_right, begin_of, dirs_at, thread_at, IsSite}
+use Rattle.lfs_model.proofs.Sites.{IsTrueOfSomeElement, Site, among_left, among_right, begin_of, dirs_at, thread_at, IsSite}
 use Rattle.lfs_model.proofs.StepsTaken as taken
 use Rattle.lfs_model.proofs.Superblocks.{IsChain}
-use Rattle.lfs_thread.specs.Device.{blocks_of_two_addresses, blocks_of_address}
-use Rattle.lfs_thread.specs.Kept.{Kept}
-use Rattle.lfs_thread.specs.Steps.{CanThreadInFreshPair, IsFreshPairThreadedIn, LeavesPairOldOrThreadedIn, ThreadChangesOnlyTheseBlocks, kept_pair_at_index, complete_content_after_changes}
-use Rattle.lfs_operations.specs.Changing.{AltersPair, AreTwoFreeBlocks, CanChangeOrSplitPair, HasTwoFreeBlocks, IsLeftByStoppedChangeOrSplit, IsPairChangedOrSplit, map_with_two_blocks_in_flight}
-use Rattle.lfs_operations.specs.Making.{AltersPairAndLastPair, CanMakeDirectoryAt, FitsPairWithTailToNewPair, HasSoManyFreeBlocks, IsLastPairOfHardTailRun, IsDirectoryMade, directory_naming_changes, changes_threading_new_pair, tree_with_new_directory}
+use Rattle.lfs_thread.specs.Device.{blocks_of_two_pair_addresses, blocks_of_pair_address}
+use Rattle.lfs_thread.specs.Kept.{KeptThread}
+use Rattle.lfs_thread.specs.Steps.{CanThreadInFreshPair, IsFreshPairThreadedIn, PowerLossLeavesPairOldOrThreadedIn, ThreadChangesOnlyTheseBlocks, thread_pair_at_index, complete_content_after_changes}
+use Rattle.lfs_operations.specs.Changing.{IsPairAltered, AreTwoFreeBlocks, CanChangeOrSplitPair, HasTwoFreeBlocks, IsLeftByStoppedChangeOrSplit, IsPairChangedOrSplit, map_with_two_blocks_in_flight}
+use Rattle.lfs_operations.specs.Making.{ArePairAndLastPairOfDirectoryAltered, CanMakeDirectoryAt, FitsPairWithTailToNewPair, HasSoManyFreeBlocks, IsLastPairOfHardTailRun, IsDirectoryMade, changes_adding_entry_for_directory_pair, changes_threading_new_pair, tree_with_new_directory}
 use Rattle.lfs_operations.proofs.Altered.{put_alters}
 use Rattle.lfs_operations.proofs.AlteredTails.{other_tail}
 use Rattle.lfs_operations.proofs.MakingCounts.{freed, less_room, no_room}
@@ -56,7 +56,7 @@ use Rattle.lfs_operations.proofs.Putting.{held, with_map}
 use Rattle.lfs_operations.proofs.RootStays.{root_stays}
 use Rattle.lfs_operations.proofs.Taking.{within}
 
-name_length : (name : Name) → is_name name ≡ true → length name ≤ 255
+name_length : (name : Name) → is_valid_name name ≡ true → length name ≤ 255
 name_length name h = leb-true (length name) 255 (and_second (is_path_component name) (nat_le (length name) 255) h)
   where
     and_second : (a b : Bool) → (a && b) ≡ true → b ≡ true
@@ -64,16 +64,16 @@ name_length name h = leb-true (length name) 255 (and_second (is_path_component n
     and_second false b e = absurd (cc)
 
 -- what the pair at a site holds
-holds_at : (t : Kept) (index : ℕ) (w : Site) (p : Pair) → t.pairs ≡ thread_at w (p ∷ []) → index ≡ length w.chain + length (w.before ++ w.left) → IsAcceptedImage t.disk t.pairs
-    → content_of_pair_at t.disk (kept_pair_at_index t index).at ≡ Some p.content
+holds_at : (t : KeptThread) (index : ℕ) (w : Site) (p : Pair) → t.pairs ≡ thread_at w (p ∷ []) → index ≡ length w.chain + length (w.before ++ w.left) → IsAcceptedImage t.disk t.pairs
+    → content_of_pair_at t.disk (thread_pair_at_index t index).at ≡ Some p.content
 holds_at t index w p there place ok =
     ap (λ (z : Pair). content_of_pair_at t.disk z.at) (pair_is t index w p there place)
     ∙ (each_right (λ (x : Pair). content_of_pair_at t.disk x.at ≡ Some x.content) (w.before ++ w.left) (p ∷ (w.right ++ w.after))
     (each_right (λ (x : Pair). content_of_pair_at t.disk x.at ≡ Some x.content) w.chain (dirs_at w (p ∷ []))
     (recursion_from_All (λ (x : Pair). content_of_pair_at t.disk x.at ≡ Some x.content) (thread_at w (p ∷ [])) (subst (λ z. All (λ (x : Pair). content_of_pair_at t.disk x.at ≡ Some x.content) z) there ok.thread.contents)))).0
 
-module _ (t : Kept) (index id : ℕ) (name : Name) (can : CanMakeDirectoryAt t index id name) (last : ℕ) (is_last : IsLastPairOfHardTailRun t.pairs index last) (fresh : ℕ × ℕ) (two : AreTwoFreeBlocks t.map fresh)
-    (bytes : HasBytes t.disk.blocks) (many : block_count t.disk < 2 ^ 32) where
+module _ (t : KeptThread) (index id : ℕ) (name : Name) (can : CanMakeDirectoryAt t index id name) (last : ℕ) (is_last : IsLastPairOfHardTailRun t.pairs index last) (fresh : ℕ × ℕ) (two : AreTwoFreeBlocks t.map fresh)
+    (bytes : AreAllBlockElementsBelow256 t.disk.blocks) (many : block_count t.disk < 2 ^ 32) where
   abbrev b : IsPlaceWhereNameBelongs t.disk.order t.pairs can.first name index id
   b = can.belongs
 
@@ -127,7 +127,7 @@ module _ (t : Kept) (index id : ℕ) (name : Name) (can : CanMakeDirectoryAt t i
 
   made : complete_content_after_changes t last (changes_threading_new_pair t last fresh) ≡ Some y.content
   made = threaded_made t last x (pair_is t last here x way.end.there way.end.place) (holds_at t last here x way.end.there way.end.place can.ready.accepted)
-      (logged_there t.disk (kept_pair_at_index t last).at bytes) fresh address two.apart
+      (logged_there t.disk (thread_pair_at_index t last).at bytes) fresh address two.apart
 
   pub can_thread : CanThreadInFreshPair (with_map t (map_with_two_blocks_in_flight t.map fresh)) last fresh (changes_threading_new_pair (with_map t (map_with_two_blocks_in_flight t.map fresh)) last fresh)
   can_thread = record { below = below t last here x way.end.there way.end.place; content = y.content; made = made; next = refl; held = held t.map fresh two }
@@ -135,35 +135,35 @@ module _ (t : Kept) (index id : ℕ) (name : Name) (can : CanMakeDirectoryAt t i
   pub thread_fits : FitsPairWithTailToNewPair (with_map t (map_with_two_blocks_in_flight t.map fresh)) last fresh
   thread_fits c m = fits_now t can.ready last w.chain w.before way.left w.after x way.end fresh two made c m
 
-  pub left_by_threading : (left : Blocks) → LeavesPairOldOrThreadedIn (with_map t (map_with_two_blocks_in_flight t.map fresh)) last fresh (changes_threading_new_pair (with_map t (map_with_two_blocks_in_flight t.map fresh)) last fresh) left
-      → IsLeftOf (with_blocks left t.disk) (tree_on_disk t.disk t.pairs) (tree_with_new_directory t can.path name)
+  pub left_by_threading : (left : Blocks) → PowerLossLeavesPairOldOrThreadedIn (with_map t (map_with_two_blocks_in_flight t.map fresh)) last fresh (changes_threading_new_pair (with_map t (map_with_two_blocks_in_flight t.map fresh)) last fresh) left
+      → IsLeftOf (disk_with_blocks left t.disk) (tree_on_disk t.disk t.pairs) (tree_with_new_directory t can.path name)
   left_by_threading left is = left_threading t can.ready last w.chain w.before way.left w.after x way.end fresh two made can.path can.at leads_here same_here left (tree_with_new_directory t can.path name) is
 
   -- where there was no memory for the step
-  pub left_unthreaded : (new : Kept) → ThreadChangesOnlyTheseBlocks (blocks_of_two_addresses (kept_pair_at_index t last).at fresh) (with_map t (map_with_two_blocks_in_flight t.map fresh)) new → AreBlocksEqualExceptThese (blocks_of_address fresh) t.disk.blocks new.disk.blocks
+  pub left_unthreaded : (new : KeptThread) → ThreadChangesOnlyTheseBlocks (blocks_of_two_pair_addresses (thread_pair_at_index t last).at fresh) (with_map t (map_with_two_blocks_in_flight t.map fresh)) new → AreBlocksEqualExceptThese (blocks_of_pair_address fresh) t.disk.blocks new.disk.blocks
       → IsLeftOf new.disk (tree_on_disk t.disk t.pairs) (tree_with_new_directory t can.path name)
   left_unthreaded new writes others = subst (λ (d : Disk). IsLeftOf d (tree_on_disk t.disk t.pairs) (tree_with_new_directory t can.path name)) same_disk
       (left_beside t can.ready last w.chain w.before way.left w.after x way.end fresh two made new.disk.blocks (tree_with_new_directory t can.path name) others)
     where
-      same_disk : with_blocks new.disk.blocks t.disk ≡ new.disk
+      same_disk : disk_with_blocks new.disk.blocks t.disk ≡ new.disk
       same_disk = λ j. record { block_size = sym writes.shape.block_size j; page = sym writes.shape.page j; order = sym writes.shape.order j; blocks = new.disk.blocks }
 
   -- ---- the entry comes
 
-  abbrev pub IsThreadedNow : Kept → Type 0
+  abbrev pub IsThreadedNow : KeptThread → Type 0
   IsThreadedNow m = HasThreaded t w.chain w.before way.left w.after x fresh m
 
-  pub threaded_now : (m : Kept) → IsFreshPairThreadedIn (with_map t (map_with_two_blocks_in_flight t.map fresh)) last fresh (changes_threading_new_pair t last fresh) m → ThreadChangesOnlyTheseBlocks (blocks_of_two_addresses (kept_pair_at_index t last).at fresh) (with_map t (map_with_two_blocks_in_flight t.map fresh)) m → IsThreadedNow m
+  pub threaded_now : (m : KeptThread) → IsFreshPairThreadedIn (with_map t (map_with_two_blocks_in_flight t.map fresh)) last fresh (changes_threading_new_pair t last fresh) m → ThreadChangesOnlyTheseBlocks (blocks_of_two_pair_addresses (thread_pair_at_index t last).at fresh) (with_map t (map_with_two_blocks_in_flight t.map fresh)) m → IsThreadedNow m
   threaded_now m is writes = has_threaded t can.ready last w.chain w.before way.left w.after x way.end fresh two made m is writes
 
-  pub room_left : (m : Kept) → IsThreadedNow m → (HasTwoFreeBlocks m.map → ⊥) → ⊥
+  pub room_left : (m : KeptThread) → IsThreadedNow m → (HasTwoFreeBlocks m.map → ⊥) → ⊥
   room_left m h none = no_room m.map none (subst (HasSoManyFreeBlocks 2) (sym h.map) (less_room 2 t.map fresh two can.room))
 
-  module _ (m : Kept) (h : IsThreadedNow m) (bytes_now : HasBytes m.disk.blocks) where
+  module _ (m : KeptThread) (h : IsThreadedNow m) (bytes_now : AreAllBlockElementsBelow256 m.disk.blocks) where
     abbrev v : Site
     v = site_behind w way.right f
 
-    first : taken.IsOnlyStep t.disk (thread_at here (x ∷ [])) m.disk (thread_at here (y ∷ ([] ++ f ∷ []))) (λ z. z) (λ d. d)
+    first : taken.IsWritableImageAfterTreeChange t.disk (thread_at here (x ∷ [])) m.disk (thread_at here (y ∷ ([] ++ f ∷ []))) (λ z. z) (λ d. d)
     first = first_taken t can.ready last w.chain w.before way.left w.after x way.end fresh two made can.path can.at leads_here same_here m.disk h.step
 
     -- between the steps the tree is the one from before
@@ -189,14 +189,14 @@ module _ (t : Kept) (index id : ℕ) (name : Name) (can : CanMakeDirectoryAt t i
     accepted_now : IsAcceptedImage m.disk m.pairs
     accepted_now = subst (IsAcceptedImage m.disk) (sym h.pairs) first.follows.accepted
 
-    writable_now : IsWritable m.disk m.pairs
-    writable_now = subst (IsWritable m.disk) (sym h.pairs) first.writable
+    writable_now : IsWritableImage m.disk m.pairs
+    writable_now = subst (IsWritableImage m.disk) (sym h.pairs) first.writable
 
-    state_is : gstate_of m.pairs ≡ sync_delta
-    state_is = ap gstate_of h.pairs ∙ state_now t can.ready last w.chain w.before way.left w.after x way.end fresh two made
+    state_is : gstate_of_pairs m.pairs ≡ sync_bit_delta
+    state_is = ap gstate_of_pairs h.pairs ∙ state_now t can.ready last w.chain w.before way.left w.after x way.end fresh two made
 
     fits_there : IsContentFittingPair m.disk.block_size m.disk.page way.p2.content
-    fits_there = (taken.within_at m.disk v way.p2 [] (subst (IsWritable m.disk) there_now writable_now)).pair
+    fits_there = (taken.within_at m.disk v way.p2 [] (subst (IsWritableImage m.disk) there_now writable_now)).pair
 
     was : way.p2.content.slots ≡ b.left ++ b.right
     was = way.slots ∙ b.held
@@ -204,47 +204,47 @@ module _ (t : Kept) (index id : ℕ) (name : Name) (can : CanMakeDirectoryAt t i
     id_within : id ≤ length way.p2.content.slots
     id_within = let e = ap length was in let l = length-append b.left b.right in let n = b.number in omega arith
 
-    pair_now : kept_pair_at_index m index ≡ way.p2
+    pair_now : thread_pair_at_index m index ≡ way.p2
     pair_now = pair_is m index v way.p2 there_now placed
 
-    entry_fits : FitsEntryLimits m.disk.block_size m.disk.page u
+    entry_fits : IsEntryWithinWritableLimits m.disk.block_size m.disk.page u
     entry_fits = record {
-      charge = subst (λ (z : ℕ). charge_of_entry z name [] ≤ entry_charge_limit z m.disk.page) (sym h.step.device.geometry.block_size)
-          (subst (λ (z : ℕ). charge_of_entry t.disk.block_size name [] ≤ entry_charge_limit t.disk.block_size z) (sym h.step.device.geometry.page) can.fits);
+      charge = subst (λ (z : ℕ). entry_charge_with_longest_inline_contents z name [] ≤ charged_entry_size_limit_in_pair z m.disk.page) (sym h.step.device.geometry.block_size)
+          (subst (λ (z : ℕ). entry_charge_with_longest_inline_contents t.disk.block_size name [] ≤ charged_entry_size_limit_in_pair t.disk.block_size z) (sym h.step.device.geometry.page) can.fits);
       inline = tt;
     }
 
     large_now : 1024 ≤ m.disk.block_size
     large_now = subst (λ n. 1024 ≤ n) (sym h.step.device.geometry.block_size) can.ready.large
 
-    abbrev now : Content
-    now = record { slots = insert way.p2.content.slots id u; tail = way.p2.content.tail; move = turned way.p2.content.move }
+    abbrev now : PairContent
+    now = record { slots = insert way.p2.content.slots id u; tail = way.p2.content.tail; move = gstate_with_inverted_sync_bit way.p2.content.move }
 
     abbrev one : Pair
     one = record { at = way.p2.at; content = now }
 
-    made_now : complete_content_after_changes m index (directory_naming_changes m index id name fresh) ≡ Some now
-    made_now = named_made m index way.p2 pair_now (holds_at m index v way.p2 there_now placed accepted_now) (logged_there m.disk (kept_pair_at_index m index).at bytes_now)
+    made_now : complete_content_after_changes m index (changes_adding_entry_for_directory_pair m index id name fresh) ≡ Some now
+    made_now = named_made m index way.p2 pair_now (holds_at m index v way.p2 there_now placed accepted_now) (logged_there m.disk (thread_pair_at_index m index).at bytes_now)
         id name fresh (name_length name can.is_name) address id_within fits_there
 
-    pub can_enter : CanChangeOrSplitPair m index (directory_naming_changes m index id name fresh)
-    can_enter = can_name m index way.p2 pair_now (holds_at m index v way.p2 there_now placed accepted_now) (logged_there m.disk (kept_pair_at_index m index).at bytes_now)
+    pub can_enter : CanChangeOrSplitPair m index (changes_adding_entry_for_directory_pair m index id name fresh)
+    can_enter = can_name m index way.p2 pair_now (holds_at m index v way.p2 there_now placed accepted_now) (logged_there m.disk (thread_pair_at_index m index).at bytes_now)
         id name fresh (name_length name can.is_name) address id_within fits_there (below m index v way.p2 there_now placed) (entry_small m.disk.block_size m.disk.page u large_now entry_fits)
 
     -- the sync bit goes
-    turned_back : gstate_of (one ∷ []) ≡ gstate_xor sync_delta (gstate_of (way.p2 ∷ []))
+    turned_back : gstate_of_pairs (one ∷ []) ≡ gstate_xor sync_bit_delta (gstate_of_pairs (way.p2 ∷ []))
     turned_back =
-        gstate_cons one [] ∙ ap (λ (z : Gstate). gstate_xor z (gstate_of [])) (sym (turned_is way.p2.content.move)) ∙ gstate_assoc sync_delta way.p2.content.move (gstate_of [])
-        ∙ ap (gstate_xor sync_delta) (sym (gstate_cons way.p2 []))
+        gstate_cons one [] ∙ ap (λ (z : Gstate). gstate_xor z (gstate_of_pairs [])) (sym (turned_is way.p2.content.move)) ∙ gstate_assoc sync_bit_delta way.p2.content.move (gstate_of_pairs [])
+        ∙ ap (gstate_xor sync_bit_delta) (sym (gstate_cons way.p2 []))
 
-    still : gstate_of (thread_at v (one ∷ [])) ≡ zero_gstate
+    still : gstate_of_pairs (thread_at v (one ∷ [])) ≡ zero_gstate
     still =
-        ap gstate_of (sym (append_assoc v.chain (v.before ++ v.left) (one ∷ (v.right ++ v.after))))
-        ∙ gstate_moved sync_delta (v.chain ++ (v.before ++ v.left)) (way.p2 ∷ []) (one ∷ []) (v.right ++ v.after) turned_back
-        ∙ ap (λ z. gstate_xor sync_delta (gstate_of z)) (append_assoc v.chain (v.before ++ v.left) (way.p2 ∷ (v.right ++ v.after)))
-        ∙ ap (gstate_xor sync_delta) (ap gstate_of (sym there_now) ∙ state_is) ∙ gstate_self sync_delta
+        ap gstate_of_pairs (sym (append_assoc v.chain (v.before ++ v.left) (one ∷ (v.right ++ v.after))))
+        ∙ gstate_moved sync_bit_delta (v.chain ++ (v.before ++ v.left)) (way.p2 ∷ []) (one ∷ []) (v.right ++ v.after) turned_back
+        ∙ ap (λ z. gstate_xor sync_bit_delta (gstate_of_pairs z)) (append_assoc v.chain (v.before ++ v.left) (way.p2 ∷ (v.right ++ v.after)))
+        ∙ ap (gstate_xor sync_bit_delta) (ap gstate_of_pairs (sym there_now) ∙ state_is) ∙ gstate_self sync_bit_delta
 
-    entering : IsEntering m index (directory_naming_changes m index id name fresh) v way.p2 b.left name fresh b.right
+    entering : IsEntering m index (changes_adding_entry_for_directory_pair m index id name fresh) v way.p2 b.left name fresh b.right
     entering = record {
       accepted = accepted_now;
       writable = writable_now;
@@ -266,7 +266,7 @@ module _ (t : Kept) (index id : ℕ) (name : Name) (can : CanMakeDirectoryAt t i
     }
 
     -- the pair stands where it stood
-    pub at_still : (kept_pair_at_index m index).at ≡ (kept_pair_at_index t index).at
+    pub at_still : (thread_pair_at_index m index).at ≡ (thread_pair_at_index t index).at
     at_still = ap (λ (z : Pair). z.at) pair_now ∙ way.at ∙ ap (λ (z : Pair). z.at) (sym (pair_is t index w p there placed))
 
     -- ---- after it
@@ -279,10 +279,10 @@ module _ (t : Kept) (index id : ℕ) (name : Name) (can : CanMakeDirectoryAt t i
         ∙ ap (λ z. entries_by_directory_in_thread z can.at) same_thread)
         (place_of_belongs t.disk t.pairs can.path can.at can.ready.accepted can.leads can.first index id name (no_move_from t.pairs can.ready.settled) b can.begins))
 
-    sync : (gstate_of (thread_at here (y ∷ ([] ++ f ∷ [])))).sync ≡ true
+    sync : (gstate_of_pairs (thread_at here (y ∷ ([] ++ f ∷ [])))).sync ≡ true
     sync = sync_now t can.ready last w.chain w.before way.left w.after x way.end fresh two made can.path can.at leads_here same_here
 
-    settled : gstate_of (thread_at here (x ∷ [])) ≡ zero_gstate
+    settled : gstate_of_pairs (thread_at here (x ∷ [])) ≡ zero_gstate
     settled = settled_there t can.ready last w.chain w.before way.left w.after x way.end fresh two made
 
     both : (disk : Disk) (q : Pair) (more : List Pair) → Enters m v way.p2 b.left name fresh b.right disk q more
@@ -293,83 +293,83 @@ module _ (t : Kept) (index id : ℕ) (name : Name) (can : CanMakeDirectoryAt t i
         (ap (λ z. same_pair z can.at) way.begins ∙ same_first) place_there refl
         (recovered_from t.disk (thread_at here (x ∷ [])) h.step.accepted settled).reached
 
-    still_writable : (disk : Disk) (q : Pair) (more : List Pair) → Enters m v way.p2 b.left name fresh b.right disk q more → IsWritable disk (thread_at v (q ∷ more))
+    still_writable : (disk : Disk) (q : Pair) (more : List Pair) → Enters m v way.p2 b.left name fresh b.right disk q more → IsWritableImage disk (thread_at v (q ∷ more))
     still_writable disk q more e = step_writable m.disk disk v way.p2 [] q more (blocks_of_pairs more) [] b.left [] (u ∷ []) b.right e.step e.put.writable
         (taken.put_within m.disk v way.p2 q more b.left [] (u ∷ []) b.right e.put) (taken.put_filled m.disk v way.p2 q more b.left [] (u ∷ []) b.right e.put)
 
     shows_now : (disk : Disk) (q : Pair) (more : List Pair) (e : Enters m v way.p2 b.left name fresh b.right disk q more) → tree_on_disk disk (thread_at v (q ∷ more)) ≡ tree_with_new_directory t can.path name
     shows_now disk q more e = (both disk q more e).end.shows ∙ ap (λ z. tree_after_creation (can.path ++ name ∷ []) (DirectoryNode [] []) (tree_on_disk t.disk z)) (sym way.end.there)
 
-    pub made_is : (new : Kept) → IsPairChangedOrSplit m index (directory_naming_changes m index id name fresh) new → IsDirectoryMade t new can.path name
-    made_is new is = go (entered m index (directory_naming_changes m index id name fresh) v way.p2 b.left name fresh b.right entering new is)
+    pub made_is : (new : KeptThread) → IsPairChangedOrSplit m index (changes_adding_entry_for_directory_pair m index id name fresh) new → IsDirectoryMade t new can.path name
+    made_is new is = go (entered m index (changes_adding_entry_for_directory_pair m index id name fresh) v way.p2 b.left name fresh b.right entering new is)
       where
         go : HasEntered m v way.p2 b.left name fresh b.right new → IsDirectoryMade t new can.path name
         go e = record {
           now = record {
             ready = record {
               accepted = subst (IsAcceptedImage new.disk) (sym e.pairs) (both new.disk e.q e.more e.enters).end.accepted;
-              writable = subst (IsWritable new.disk) (sym e.pairs) (still_writable new.disk e.q e.more e.enters);
-              settled = ap gstate_of e.pairs ∙ e.enters.still;
+              writable = subst (IsWritableImage new.disk) (sym e.pairs) (still_writable new.disk e.q e.more e.enters);
+              settled = ap gstate_of_pairs e.pairs ∙ e.enters.still;
               used = e.used;
               size = e.size;
               large = subst (λ n. 1024 ≤ n) (sym e.enters.step.device.geometry.block_size) large_now;
             };
             shows = ap (tree_on_disk new.disk) e.pairs ∙ shows_now new.disk e.q e.more e.enters;
             stays = λ c taken_before. e.stays c (λ free. taken_before (was_free c free)) ∙ kept c taken_before;
-            none_comes = λ c flies. none_comes_now t.map fresh two c (subst (λ s. IsInFlight s c) h.map (e.none_comes c flies));
+            none_comes = λ c flies. none_comes_now t.map fresh two c (subst (λ s. IsBlockInFlight s c) h.map (e.none_comes c flies));
             root = ap pair_count_before_root e.pairs
                 ∙ root_stays t.disk new.disk w.chain (dirs_at here (x ∷ [])) (dirs_at v (e.q ∷ e.more)) way.end.site.chain h.step.accepted (both new.disk e.q e.more e.enters).end.accepted (both new.disk e.q e.more e.enters).end.root
                 ∙ sym (ap pair_count_before_root way.end.there);
           };
           completed = λ s given tree is_path.
-              subst (λ z. IsCompleted t.disk z s (ops.Mkdir given) new.disk new.pairs) (sym way.end.there)
-              (subst (λ z. IsCompleted t.disk (thread_at here (x ∷ [])) s (ops.Mkdir given) new.disk z) (sym e.pairs)
+              subst (λ z. IsImageAfterCompletedOperation t.disk z s (ops.Mkdir given) new.disk new.pairs) (sym way.end.there)
+              (subst (λ z. IsImageAfterCompletedOperation t.disk (thread_at here (x ∷ [])) s (ops.Mkdir given) new.disk z) (sym e.pairs)
               (way.completed m.disk new.disk e.q e.more h.step (put_there t can.ready last w.chain w.before way.left w.after x way.end fresh two made) e.enters.step e.enters.put
               can.at leads_here same_here place_there sync settled e.enters.still s given (tree ∙ ap (tree_on_disk t.disk) way.end.there) is_path));
         }
           where
-            kept : (c : ℕ) → (IsFree t.map c → ⊥) → slice_get m.map c ≡ slice_get t.map c
+            kept : (c : ℕ) → (IsBlockFree t.map c → ⊥) → slice_get m.map c ≡ slice_get t.map c
             kept c taken_before = ap (λ s. slice_get s c) h.map ∙ stay_taken t.map fresh two c taken_before
 
-            was_free : (c : ℕ) → IsFree m.map c → IsFree t.map c
-            was_free c free = freed t.map fresh two c (subst (λ s. IsFree s c) h.map free)
+            was_free : (c : ℕ) → IsBlockFree m.map c → IsBlockFree t.map c
+            was_free c free = freed t.map fresh two c (subst (λ s. IsBlockFree s c) h.map free)
 
     -- neither pair stays with what it held
-    pub made_alters : (new : Kept) → IsPairChangedOrSplit m index (directory_naming_changes m index id name fresh) new → AltersPairAndLastPair t index new
-    made_alters new is = go (entered m index (directory_naming_changes m index id name fresh) v way.p2 b.left name fresh b.right entering new is)
+    pub made_alters : (new : KeptThread) → IsPairChangedOrSplit m index (changes_adding_entry_for_directory_pair m index id name fresh) new → ArePairAndLastPairOfDirectoryAltered t index new
+    made_alters new is = go (entered m index (changes_adding_entry_for_directory_pair m index id name fresh) v way.p2 b.left name fresh b.right entering new is)
       where
-        x_was : SomeIn (λ z. z ≡ x) t.pairs
-        x_was = subst (SomeIn (λ z. z ≡ x)) (sym way.end.there) (among_right (λ z. z ≡ x) w.chain (dirs_at here (x ∷ [])) (among_right (λ z. z ≡ x) (w.before ++ way.left) (x ∷ w.after) (inl refl)))
+        x_was : IsTrueOfSomeElement (λ z. z ≡ x) t.pairs
+        x_was = subst (IsTrueOfSomeElement (λ z. z ≡ x)) (sym way.end.there) (among_right (λ z. z ≡ x) w.chain (dirs_at here (x ∷ [])) (among_right (λ z. z ≡ x) (w.before ++ way.left) (x ∷ w.after) (inl refl)))
 
-        go : HasEntered m v way.p2 b.left name fresh b.right new → AltersPairAndLastPair t index new
+        go : HasEntered m v way.p2 b.left name fresh b.right new → ArePairAndLastPairOfDirectoryAltered t index new
         go e = by way.which
           where
             ok : IsAcceptedImage new.disk (thread_at v (e.q ∷ e.more))
             ok = (both new.disk e.q e.more e.enters).end.accepted
 
             -- the last one, by the tail of the pair that stands there now
-            end_goes : (z : Pair) → SomeIn (λ y. y ≡ z) (thread_at v (e.q ∷ e.more)) → z.at ≡ x.at → (pair_named_by_tail z.content.tail ≡ Some fresh) ⊎ (is_hard_tail z.content.tail ≡ true) → Contains new.pairs x → ⊥
+            end_goes : (z : Pair) → IsTrueOfSomeElement (λ y. y ≡ z) (thread_at v (e.q ∷ e.more)) → z.at ≡ x.at → (pair_address_named_by_tail z.content.tail ≡ Some fresh) ⊎ (is_hard_tail z.content.tail ≡ true) → Contains new.pairs x → ⊥
             end_goes z h at tail has =
                 other_tail t z x fresh can.ready two.first x_was (run_right way.left x [] way.end.site.run) (thread_at v (e.q ∷ e.more)) ok.thread.distinct h at tail (subst (λ ps. Contains ps x) e.pairs has)
 
-            end_alters : (Contains new.pairs x → ⊥) → (i : ℕ) → IsLastPairOfHardTailRun t.pairs index i → AltersPair t i new
+            end_alters : (Contains new.pairs x → ⊥) → (i : ℕ) → IsLastPairOfHardTailRun t.pairs index i → IsPairAltered t i new
             end_alters gone i is_i =
                 let a = is_i.is in
                 let b = is_last.is in
                 let number : last ≡ i = omega arith in
-                subst (λ (j : ℕ). AltersPair t j new) number (subst (λ z. Contains new.pairs z → ⊥) (sym (pair_is t last here x way.end.there way.end.place)) gone)
+                subst (λ (j : ℕ). IsPairAltered t j new) number (subst (λ z. Contains new.pairs z → ⊥) (sym (pair_is t last here x way.end.there way.end.place)) gone)
 
-            entry_alters : (Contains new.pairs p → ⊥) → AltersPair t index new
+            entry_alters : (Contains new.pairs p → ⊥) → IsPairAltered t index new
             entry_alters = subst (λ z. Contains new.pairs z → ⊥) (sym (pair_is t index w p there placed))
 
             at_now : e.q.at ≡ p.at
             at_now = e.enters.step.shape.at ∙ way.at
 
-            by : IsOne p x way.p2 fresh ⊎ IsAhead p x way.p2 way.right fresh → AltersPairAndLastPair t index new
+            by : IsOne p x way.p2 fresh ⊎ IsAhead p x way.p2 way.right fresh → ArePairAndLastPairOfDirectoryAltered t index new
             by (inl h) = record { entry = entry_alters (subst (λ z. Contains new.pairs z → ⊥) h.same gone); end = end_alters gone }
               where
-                tail_now : (more : List Pair) → Became m.disk way.p2 (pair_with_slots (b.left ++ (u ∷ b.right)) way.p2) e.q more → (pair_named_by_tail e.q.content.tail ≡ Some fresh) ⊎ (is_hard_tail e.q.content.tail ≡ true)
-                tail_now [] k = inl (ap pair_named_by_tail k.0 ∙ ap (λ (z : Pair). pair_named_by_tail z.content.tail) h.names)
+                tail_now : (more : List Pair) → Became m.disk way.p2 (pair_with_slots (b.left ++ (u ∷ b.right)) way.p2) e.q more → (pair_address_named_by_tail e.q.content.tail ≡ Some fresh) ⊎ (is_hard_tail e.q.content.tail ≡ true)
+                tail_now [] k = inl (ap pair_address_named_by_tail k.0 ∙ ap (λ (z : Pair). pair_address_named_by_tail z.content.tail) h.names)
                 tail_now (f ∷ []) k = inr (ap is_hard_tail k.0)
                 tail_now (f ∷ g ∷ more) k = absurd k
 
@@ -387,26 +387,26 @@ module _ (t : Kept) (index id : ℕ) (name : Name) (can : CanMakeDirectoryAt t i
                     (subst (Contains (thread_at v (e.q ∷ e.more))) (sym h.stays) (subst (λ ps. Contains ps p) e.pairs has))
 
     -- a stop leaves the tree from before it or from after it
-    pub left_by_entering : (left : Blocks) → IsLeftByStoppedChangeOrSplit m index (directory_naming_changes m index id name fresh) left → IsLeftOf (with_blocks left t.disk) (tree_on_disk t.disk t.pairs) (tree_with_new_directory t can.path name)
+    pub left_by_entering : (left : Blocks) → IsLeftByStoppedChangeOrSplit m index (changes_adding_entry_for_directory_pair m index id name fresh) left → IsLeftOf (disk_with_blocks left t.disk) (tree_on_disk t.disk t.pairs) (tree_with_new_directory t can.path name)
     left_by_entering left is = subst (λ (d : Disk). IsLeftOf d (tree_on_disk t.disk t.pairs) (tree_with_new_directory t can.path name)) same_disk
-        (go (left_entered m index (directory_naming_changes m index id name fresh) v way.p2 b.left name fresh b.right entering left is))
+        (go (left_entered m index (changes_adding_entry_for_directory_pair m index id name fresh) v way.p2 b.left name fresh b.right entering left is))
       where
-        same_disk : with_blocks left m.disk ≡ with_blocks left t.disk
+        same_disk : disk_with_blocks left m.disk ≡ disk_with_blocks left t.disk
         same_disk = λ j. record { block_size = h.step.device.geometry.block_size j; page = h.step.device.geometry.page j; order = h.step.device.geometry.order j; blocks = left }
 
-        go : Stays m index (directory_naming_changes m index id name fresh) v way.p2 b.left name fresh b.right entering (with_blocks left m.disk) ⊎ HasEntry m v way.p2 b.left name fresh b.right (with_blocks left m.disk)
-            → IsLeftOf (with_blocks left m.disk) (tree_on_disk t.disk t.pairs) (tree_with_new_directory t can.path name)
+        go : Stays m index (changes_adding_entry_for_directory_pair m index id name fresh) v way.p2 b.left name fresh b.right entering (disk_with_blocks left m.disk) ⊎ HasEntry m v way.p2 b.left name fresh b.right (disk_with_blocks left m.disk)
+            → IsLeftOf (disk_with_blocks left m.disk) (tree_on_disk t.disk t.pairs) (tree_with_new_directory t can.path name)
         go (inl d) =
-            let n = nothing_came m.disk (with_blocks left m.disk) v way.p2 site_now (subst (IsAcceptedImage m.disk) there_now accepted_now) d in
+            let n = nothing_came m.disk (disk_with_blocks left m.disk) v way.p2 site_now (subst (IsAcceptedImage m.disk) there_now accepted_now) d in
             record {
               pairs = thread_at v (way.p2 ∷ []);
               accepted = n.accepted;
-              writable = (let k = subst (IsWritable m.disk) there_now writable_now in record { pairs = k.pairs; slots = k.slots; no_empty_pair = k.no_empty_pair });
+              writable = (let k = subst (IsWritableImage m.disk) there_now writable_now in record { pairs = k.pairs; slots = k.slots; no_empty_pair = k.no_empty_pair });
               tree = inl (n.shows ∙ ap (tree_on_disk m.disk) (sym same_thread) ∙ first.follows.shows ∙ ap (tree_on_disk t.disk) (sym way.end.there));
             }
         go (inr e) = record {
           pairs = thread_at v (e.q ∷ e.more);
-          accepted = (both (with_blocks left m.disk) e.q e.more e.enters).end.accepted;
-          writable = still_writable (with_blocks left m.disk) e.q e.more e.enters;
-          tree = inr (shows_now (with_blocks left m.disk) e.q e.more e.enters);
+          accepted = (both (disk_with_blocks left m.disk) e.q e.more e.enters).end.accepted;
+          writable = still_writable (disk_with_blocks left m.disk) e.q e.more e.enters;
+          tree = inr (shows_now (disk_with_blocks left m.disk) e.q e.more e.enters);
         }

@@ -4,27 +4,27 @@ use Rattle.std.proofs.Common.{ℕ, ◌≡◌, true, List, [], ◌∷◌, ◌++�
 use Rattle.lfs_model.specs.Disk.{Disk}
 use Rattle.lfs_model.specs.Names.{Name}
 use Rattle.lfs_model.specs.Slots.{Slot, zero_gstate, same_pair, IsContentFittingPair}
-use Rattle.lfs_model.specs.Thread.{Pair, first_pair_address, gstate_of}
+use Rattle.lfs_model.specs.Thread.{Pair, first_pair_address, gstate_of_pairs}
 use Rattle.lfs_model.specs.Tree.{Path, DirectoryNode}
-use Rattle.lfs_model.specs.Profile.{IsWritable}
+use Rattle.lfs_model.specs.Profile.{IsWritableImage}
 use Rattle.lfs_model.specs.Shown.{IsPathToDirectory, entries_by_directory_in_thread, tree_on_disk}
 use Rattle.lfs_model.specs.TreeEdits.{tree_after_creation}
 use Rattle.lfs_model.specs.Operations as ops
 use Rattle.lfs_model.specs.Session.{Session}
-use Rattle.lfs_model.specs.Refusals.{path_or_root}
+use Rattle.lfs_model.specs.Refusals.{path_of_bytes_or_root}
 use Rattle.lfs_model.specs.SlotEdits.{pair_with_slots, new_directory_slot}
-use Rattle.lfs_model.specs.Layout.{FitsPairOnDisk}
+use Rattle.lfs_model.specs.Layout.{IsContentFittingPairOnDisk}
 use Rattle.lfs_model.proofs.Names.{IsPlace}
 use Rattle.lfs_model.proofs.Sites.{Site, thread_at, begin_of}
 use Rattle.lfs_model.proofs.Moves.{IsStep, place_at}
 use Rattle.lfs_model.proofs.Beside.{last_site, IsStepBeside, threaded}
-use Rattle.lfs_model.proofs.Alike.{AreAlike, alike_itself}
-use Rattle.lfs_model.proofs.Committed.{IsCompleted, recovered_from}
+use Rattle.lfs_model.proofs.Alike.{ArePairsWithSameAddressesAndSlots, alike_itself}
+use Rattle.lfs_model.proofs.Committed.{IsImageAfterCompletedOperation, recovered_from}
 use Rattle.lfs_model.proofs.MadeDirectory.{Cut, IsMkdir, mkdir_completed, none_there}
 use Rattle.lfs_model.proofs.Became.{Became}
 use Rattle.lfs_model.proofs.Profiles.{step_writable}
 use Rattle.lfs_model.proofs.Chained.{InTwo, mkdir_in_two}
-use Rattle.lfs_model.proofs.StepsTaken.{IsOnlyStep, IsPut, IsPutBeside, beside_taken, put_within, put_filled}
+use Rattle.lfs_model.proofs.StepsTaken.{IsWritableImageAfterTreeChange, IsPut, IsPutBeside, beside_taken, put_within, put_filled}
 
 -- the same site with the fresh pair's directory behind it
 abbrev pub ahead_of : List Pair → List Pair → List Pair → Pair → List Pair → Site
@@ -38,13 +38,13 @@ module _ (disk middle new : Disk) (chain before left after : List Pair) (x y f :
     (a : ℕ × ℕ) (leads : IsPathToDirectory (thread_at (last_site chain before left after) (x ∷ [])) P a)
     (same : same_pair (begin_of (last_site chain before left after) (x ∷ [])) a ≡ true)
     (place : IsPlace middle.order (entries_by_directory_in_thread (thread_at (ahead_of chain before left f after) (y ∷ [])) a) (place_at (ahead_of chain before left f after) l) name)
-    (sync : (gstate_of (thread_at (last_site chain before left after) (y ∷ ([] ++ f ∷ [])))).sync ≡ true)
-    (settled : gstate_of (thread_at (last_site chain before left after) (x ∷ [])) ≡ zero_gstate)
-    (still : gstate_of (thread_at (ahead_of chain before left f after) (q ∷ more)) ≡ zero_gstate) where
+    (sync : (gstate_of_pairs (thread_at (last_site chain before left after) (y ∷ ([] ++ f ∷ [])))).sync ≡ true)
+    (settled : gstate_of_pairs (thread_at (last_site chain before left after) (x ∷ [])) ≡ zero_gstate)
+    (still : gstate_of_pairs (thread_at (ahead_of chain before left f after) (q ∷ more)) ≡ zero_gstate) where
   abbrev there : Site
   there = ahead_of chain before left f after
 
-  first : IsOnlyStep disk (thread_at (last_site chain before left after) (x ∷ [])) middle (thread_at (last_site chain before left after) (y ∷ ([] ++ f ∷ []))) (λ t. t) (λ d. d)
+  first : IsWritableImageAfterTreeChange disk (thread_at (last_site chain before left after) (x ∷ [])) middle (thread_at (last_site chain before left after) (y ∷ ([] ++ f ∷ []))) (λ t. t) (λ d. d)
   first = beside_taken disk middle chain before left after x y [] f l0 [] [] r0 put extra [] (λ t. t) (λ d. d) step P a leads same
       (threaded disk middle chain before left after x [] y [] f extra l0 r0 step P a leads same sync)
 
@@ -63,7 +63,7 @@ module _ (disk middle new : Disk) (chain before left after : List Pair) (x y f :
       (ahead_of chain before left f after) y q more extra2 l r (new_directory_slot name f.at) step2 refl P a leads2 same2 place refl
       (recovered_from disk (thread_at (last_site chain before left after) (x ∷ [])) step.accepted settled).reached
 
-  second : IsWritable new (thread_at (ahead_of chain before left f after) (q ∷ more))
+  second : IsWritableImage new (thread_at (ahead_of chain before left f after) (q ∷ more))
   second = step_writable middle new (ahead_of chain before left f after) y [] q more extra2 [] l [] (new_directory_slot name f.at ∷ []) r step2 put2.writable
       (put_within middle there y q more l [] (new_directory_slot name f.at ∷ []) r put2) (put_filled middle there y q more l [] (new_directory_slot name f.at ∷ []) r put2)
 
@@ -91,14 +91,14 @@ module _ (disk middle new : Disk) (chain before left after : List Pair) (x y f :
     cut = became_cut more put2.became;
     empty = put.empty;
     placed = parted (f ∷ after);
-    alike = subst (AreAlike (chain ++ ((before ++ left) ++ ((q ∷ more) ++ after)))) (parted after) (alike_itself (chain ++ ((before ++ left) ++ ((q ∷ more) ++ after))));
+    alike = subst (ArePairsWithSameAddressesAndSlots (chain ++ ((before ++ left) ++ ((q ∷ more) ++ after)))) (parted after) (alike_itself (chain ++ ((before ++ left) ++ ((q ∷ more) ++ after))));
   }
     where
       -- the tails don't matter, and the sizes are the same on both disks
-      sized : (d : Pair) → FitsPairOnDisk middle d → FitsPairOnDisk disk d
+      sized : (d : Pair) → IsContentFittingPairOnDisk middle d → IsContentFittingPairOnDisk disk d
       sized d h = subst₂ (λ b g. IsContentFittingPair b g d.content) step.device.geometry.block_size step.device.geometry.page h
 
-      resized : (slots : List Slot) → FitsPairOnDisk disk (pair_with_slots slots x) → FitsPairOnDisk middle (pair_with_slots slots y)
+      resized : (slots : List Slot) → IsContentFittingPairOnDisk disk (pair_with_slots slots x) → IsContentFittingPairOnDisk middle (pair_with_slots slots y)
       resized slots h = subst₂ (λ b g. IsContentFittingPair b g (pair_with_slots slots y).content) (sym step.device.geometry.block_size) (sym step.device.geometry.page) (record { size = h.size; count = h.count })
 
       became_cut : (more : List Pair) → Became middle y (pair_with_slots (l ++ (new_directory_slot name f.at ∷ [] ++ r)) y) q more → Cut disk (pair_with_slots (l ++ new_directory_slot name f.at ∷ r) x) q more
@@ -106,7 +106,7 @@ module _ (disk middle new : Disk) (chain before left after : List Pair) (x y f :
       became_cut (g ∷ []) h = ((λ k. h.2 (resized (l ++ new_directory_slot name f.at ∷ r) k)), sized q h.3, sized g h.4)
       became_cut (g ∷ i ∷ more) h = absurd h
 
-  pub mkdir_at_last_completed : (s : Session) (path : List ℕ) → s.tree ≡ tree_on_disk disk (thread_at (last_site chain before left after) (x ∷ [])) → path_or_root path ≡ P ++ name ∷ []
-      → IsCompleted disk (thread_at (last_site chain before left after) (x ∷ [])) s (ops.Mkdir path) new (thread_at (ahead_of chain before left f after) (q ∷ more))
+  pub mkdir_at_last_completed : (s : Session) (path : List ℕ) → s.tree ≡ tree_on_disk disk (thread_at (last_site chain before left after) (x ∷ [])) → path_of_bytes_or_root path ≡ P ++ name ∷ []
+      → IsImageAfterCompletedOperation disk (thread_at (last_site chain before left after) (x ∷ [])) s (ops.Mkdir path) new (thread_at (ahead_of chain before left f after) (q ∷ more))
   mkdir_at_last_completed s path tree is =
       mkdir_completed disk new (thread_at (ahead_of chain before left f after) (q ∷ more)) chain (before ++ left) after x q more (chain ++ ((before ++ left) ++ (q ∷ more))) after f l r P name made s path tree is

@@ -5,34 +5,34 @@ use Rattle.lfs_model.specs.Disk.{Disk}
 use Rattle.lfs_model.specs.Names.{Name}
 use Rattle.lfs_model.specs.Slots.{Slot, gstate_xor, zero_gstate}
 use Rattle.lfs_model.specs.SlotEdits.{pair_with_slots, slot_of_path}
-use Rattle.lfs_model.specs.Thread.{Pair, gstate_of, is_hard_tail, pair_count_before_root}
+use Rattle.lfs_model.specs.Thread.{Pair, gstate_of_pairs, is_hard_tail, pair_count_before_root}
 use Rattle.lfs_model.specs.Tree.{Path}
-use Rattle.lfs_model.specs.TreeEdits.{last_name_of_path, renamed}
+use Rattle.lfs_model.specs.TreeEdits.{last_name_of_path, tree_after_rename}
 use Rattle.lfs_model.specs.Operations as ops
 use Rattle.lfs_model.specs.Session.{Session}
-use Rattle.lfs_model.specs.Refusals.{path_or_root}
+use Rattle.lfs_model.specs.Refusals.{path_of_bytes_or_root}
 use Rattle.lfs_model.specs.View.{IsAcceptedImage}
-use Rattle.lfs_model.specs.Profile.{IsWritable}
+use Rattle.lfs_model.specs.Profile.{IsWritableImage}
 use Rattle.lfs_model.specs.Shown.{tree_on_disk}
-use Rattle.lfs_model.proofs.Alike.{AreAlike}
+use Rattle.lfs_model.proofs.Alike.{ArePairsWithSameAddressesAndSlots}
 use Rattle.lfs_model.proofs.Became.{Became}
-use Rattle.lfs_model.proofs.Changes.{Follows}
-use Rattle.lfs_model.proofs.Committed.{IsCompleted}
-use Rattle.lfs_model.proofs.Laws.{Walk}
+use Rattle.lfs_model.proofs.Changes.{IsImageAfterTreeChange}
+use Rattle.lfs_model.proofs.Committed.{IsImageAfterCompletedOperation}
+use Rattle.lfs_model.proofs.Laws.{DirectoryAddressByPath}
 use Rattle.lfs_model.proofs.Layouts.{onward_all, onward_some}
-use Rattle.lfs_model.specs.Layout.{directory_address_after_pair}
+use Rattle.lfs_model.specs.Layout.{directory_address_continued_by_hard_tail}
 use Rattle.lfs_model.proofs.RenamedAcross.{IsRenameAcross, IsNoDirectory, across_completed, target_slots}
 use Rattle.lfs_model.proofs.Sites.{Site, thread_at}
-use Rattle.lfs_model.proofs.StepsTaken.{IsOnlyStep}
+use Rattle.lfs_model.proofs.StepsTaken.{IsWritableImageAfterTreeChange}
 use Rattle.lfs_model.proofs.TwoPlaces.{OldStays, two, from_old}
 use Rattle.lfs_model.proofs.Writable.{ends_in_hard_tail}
 use Rattle.lfs_operations.proofs.MovPlaces.{InTurn, ahead, behind}
 use Rattle.lfs_operations.proofs.MovSet.{HasTurned, IsSetting, turns}
-use Rattle.lfs_operations.specs.MoveEnds.{move_of}
+use Rattle.lfs_operations.specs.MoveEnds.{gstate_naming_moved_slot}
 
 flag_from : (from : Option (ℕ × ℕ)) (xs : List Pair) → is_some (onward_all from xs) ≡ ends_in_hard_tail (is_some from) xs
 flag_from from [] = refl
-flag_from from (x ∷ xs) = flag_from (directory_address_after_pair from x) xs ∙ ap (λ b. ends_in_hard_tail b xs) (onward_some from x)
+flag_from from (x ∷ xs) = flag_from (directory_address_continued_by_hard_tail from x) xs ∙ ap (λ b. ends_in_hard_tail b xs) (onward_some from x)
 
 pub flag_append : (b : Bool) (xs ys : List Pair) → ends_in_hard_tail b (xs ++ ys) ≡ ends_in_hard_tail (ends_in_hard_tail b xs) ys
 flag_append b [] ys = refl
@@ -107,27 +107,27 @@ arranged disk wo o w p d q more became (behind mid e f) =
 
 module _ (disk middle new : Disk) (wo : Site) (o : Pair) (lo : List Slot) (u : Slot) (ro : List Slot) (w : Site) (p : Pair) (l : List Slot) (target : Option Slot) (v : Slot) (r : List Slot)
     (k : IsSetting disk wo o lo u ro w p l (target_slots target) v r) (q : Pair) (more : List Pair)
-    (sync : Bool) (x : HasTurned disk w p (l ++ v ∷ r) (gstate_xor (move_of sync o.at (length lo)) p.content.move) middle q more) where
+    (sync : Bool) (x : HasTurned disk w p (l ++ v ∷ r) (gstate_xor (gstate_naming_moved_slot sync o.at (length lo)) p.content.move) middle q more) where
   abbrev pub arrangement : Arranged disk wo o w p q more
   arrangement = arranged disk wo o w p (pair_with_slots (l ++ v ∷ r) p) q more x.became (turns disk wo o lo u ro w p l (target_slots target) v r k)
 
   -- the whole operation; of the old pair os is left
-  module _ (name : Name) (same_slot : v ≡ record u { name = name }) (old_path new_path : Path) (walk : Walk → Walk)
-      (first : Follows disk (thread_at w (p ∷ [])) middle (thread_at w (q ∷ more)) (renamed old_path new_path) walk)
+  module _ (name : Name) (same_slot : v ≡ record u { name = name }) (old_path new_path : Path) (walk : DirectoryAddressByPath → DirectoryAddressByPath)
+      (first : IsImageAfterTreeChange disk (thread_at w (p ∷ [])) middle (thread_at w (q ∷ more)) (tree_after_rename old_path new_path) walk)
       (os rs : List Pair) (stays : OldStays (from_old arrangement.b arrangement.front arrangement.mid p) o (lo ++ ro) os)
-      (alike : AreAlike (w.chain ++ (arrangement.pre ++ (os ++ arrangement.post))) rs)
-      (second : IsOnlyStep middle (thread_at w (q ∷ more)) new rs (λ t. t) (λ d. d)) (state : gstate_of rs ≡ zero_gstate)
+      (alike : ArePairsWithSameAddressesAndSlots (w.chain ++ (arrangement.pre ++ (os ++ arrangement.post))) rs)
+      (second : IsWritableImageAfterTreeChange middle (thread_at w (q ∷ more)) new rs (λ t. t) (λ d. d)) (state : gstate_of_pairs rs ≡ zero_gstate)
       (from_slot : slot_of_path (thread_at w (p ∷ [])) old_path ≡ Some u) (to_slot : slot_of_path (thread_at w (p ∷ [])) new_path ≡ target) (to_name : last_name_of_path new_path ≡ name)
       (file : IsNoDirectory target) where
     is_across : IsRenameAcross disk middle new (thread_at w (q ∷ more)) rs arrangement.b w.chain arrangement.front arrangement.mid arrangement.back o p q os more lo u ro l target r old_path new_path name
     is_across = record {
       is_chain = sym (ap pair_count_before_root arrangement.old_is) ∙ k.site.chain;
       accepted = subst (IsAcceptedImage disk) arrangement.old_is k.accepted;
-      writable = subst (IsWritable disk) arrangement.old_is k.writable;
-      settled = sym (ap gstate_of arrangement.old_is) ∙ k.settled;
+      writable = subst (IsWritableImage disk) arrangement.old_is k.writable;
+      settled = sym (ap gstate_of_pairs arrangement.old_is) ∙ k.settled;
       still = state;
       walk = walk;
-      first = subst (λ z. Follows disk z middle (thread_at w (q ∷ more)) (renamed old_path new_path) walk) arrangement.old_is first;
+      first = subst (λ z. IsImageAfterTreeChange disk z middle (thread_at w (q ∷ more)) (tree_after_rename old_path new_path) walk) arrangement.old_is first;
       second = second.follows;
       still_writable = second.writable;
       held = k.held;
@@ -136,15 +136,15 @@ module _ (disk middle new : Disk) (wo : Site) (o : Pair) (lo : List Slot) (u : S
       is = x.is ∙ ap (λ z. l ++ z ∷ r) same_slot;
       became = subst (λ z. Became disk p (pair_with_slots (l ++ z ∷ r) p) q more) same_slot x.became;
       stays = stays;
-      alike = subst (λ z. AreAlike (w.chain ++ z) rs) (sym (arrangement.cut os)) alike;
+      alike = subst (λ z. ArePairsWithSameAddressesAndSlots (w.chain ++ z) rs) (sym (arrangement.cut os)) alike;
       from_slot = sym (ap (λ z. slot_of_path z old_path) arrangement.old_is) ∙ from_slot;
       to_slot = sym (ap (λ z. slot_of_path z new_path) arrangement.old_is) ∙ to_slot;
       to_name = to_name;
       file = file;
     }
 
-    pub completed : (s : Session) (old_bytes new_bytes : List ℕ) → s.tree ≡ tree_on_disk disk (thread_at w (p ∷ [])) → path_or_root old_bytes ≡ old_path → path_or_root new_bytes ≡ new_path
-        → IsCompleted disk (thread_at w (p ∷ [])) s (ops.Rename old_bytes new_bytes) new rs
-    completed s old_bytes new_bytes tree old_as new_as = subst (λ z. IsCompleted disk z s (ops.Rename old_bytes new_bytes) new rs) (sym arrangement.old_is)
+    pub completed : (s : Session) (old_bytes new_bytes : List ℕ) → s.tree ≡ tree_on_disk disk (thread_at w (p ∷ [])) → path_of_bytes_or_root old_bytes ≡ old_path → path_of_bytes_or_root new_bytes ≡ new_path
+        → IsImageAfterCompletedOperation disk (thread_at w (p ∷ [])) s (ops.Rename old_bytes new_bytes) new rs
+    completed s old_bytes new_bytes tree old_as new_as = subst (λ z. IsImageAfterCompletedOperation disk z s (ops.Rename old_bytes new_bytes) new rs) (sym arrangement.old_is)
         (across_completed disk middle new (thread_at w (q ∷ more)) rs arrangement.b w.chain arrangement.front arrangement.mid arrangement.back o p q os more lo u ro l target r old_path new_path name is_across
         s old_bytes new_bytes (tree ∙ ap (tree_on_disk disk) arrangement.old_is) old_as new_as)

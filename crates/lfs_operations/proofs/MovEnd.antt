@@ -7,15 +7,15 @@ use Rattle.std.proofs.lemmas.List.Elements.{recursion_from_All}
 use Rattle.lfs_model.specs.Disk.{Disk}
 use Rattle.lfs_model.specs.Slots.{Slot, Gstate, is_superblock, same_pair, gstate_xor}
 use Rattle.lfs_model.specs.SlotEdits.{pair_with_slots}
-use Rattle.lfs_model.specs.Thread.{Pair, blocks_of_pairs, gstate_of, starts_with_superblock, slots_not_moved}
+use Rattle.lfs_model.specs.Thread.{Pair, blocks_of_pairs, gstate_of_pairs, starts_with_superblock, slots_not_moved}
 use Rattle.lfs_model.specs.Shown.{directories_in_thread, used_blocks, all_slots_not_moved}
-use Rattle.lfs_model.specs.Slots.{set_move}
+use Rattle.lfs_model.specs.Slots.{gstate_kind_of_set_move}
 use Rattle.lfs_model.specs.View.{IsAcceptedImage}
-use Rattle.lfs_model.specs.Profile.{IsWritable}
+use Rattle.lfs_model.specs.Profile.{IsWritableImage}
 use Rattle.lfs_model.proofs.Became.{became_front, became_shape}
 use Rattle.lfs_model.proofs.Changes.{slots_files}
-use Rattle.lfs_model.proofs.Counts.{Each, each_append, each_left, each_right, each_weaker, count, count_append}
-use Rattle.lfs_model.proofs.Files.{HasSameFile}
+use Rattle.lfs_model.proofs.Counts.{Each, each_append, each_left, each_right, each_weaker, occurrence_count_of_number, count_append}
+use Rattle.lfs_model.proofs.Files.{HasSameFileBlocksOfStructOnDisks}
 use Rattle.lfs_model.proofs.Global.{HasNoMove, gstate_cons, gstate_right}
 use Rattle.lfs_model.proofs.Listings.{flip_false}
 use Rattle.lfs_model.proofs.Moves.{remove_here}
@@ -23,13 +23,13 @@ use Rattle.lfs_model.proofs.Pairs.{pair_back}
 use Rattle.lfs_model.proofs.Rests.{IsMoveEnd, move_ends, site_gstate_moved, unmoved_elsewhere}
 use Rattle.lfs_model.proofs.Searches.{avoids_front, avoids_behind}
 use Rattle.lfs_model.proofs.Sites.{Site, dirs_at, thread_at, IsSite}
-use Rattle.lfs_model.proofs.Splices.{slots_in, files_of, unmoved_in}
-use Rattle.lfs_model.proofs.StepsTaken.{IsOnlyStep, IsPut, end_taken}
+use Rattle.lfs_model.proofs.Splices.{slots_of_pairs_in_order, file_blocks_of_slots, unmoved_in}
+use Rattle.lfs_model.proofs.StepsTaken.{IsWritableImageAfterTreeChange, IsPut, end_taken}
 use Rattle.lfs_model.proofs.Writable.{ends_in_hard_tail}
 use Rattle.lfs_operations.specs.MoveEnds.{gstate_without_sync, gstate_of_sync_alone}
 use Rattle.lfs_operations.proofs.MovSet.{HasTurned}
 use Rattle.lfs_operations.proofs.MovFirsts.{end_firsts}
-use Rattle.lfs_model.proofs.MoveSets.{first_addresses}
+use Rattle.lfs_model.proofs.MoveSets.{addresses_of_first_pairs_of_directories}
 
 pub move_out : (g : Gstate) → gstate_xor (gstate_without_sync g) g ≡ gstate_of_sync_alone g
 move_out g = λ j. record { sync = g.sync; kind = xor_self g.kind j; id = xor_self g.id j; pair = (xor_self g.pair.0 j, xor_self g.pair.1 j) }
@@ -37,11 +37,11 @@ move_out g = λ j. record { sync = g.sync; kind = xor_self g.kind j; id = xor_se
 -- The move hides the slot u of the pair at the site, which keeps another where a hard tail leads to it.
 pub record IsEnding (disk : Disk) (w : Site) (p : Pair) (l : List Slot) (u : Slot) (r : List Slot) : Type 0 where
   pub accepted : IsAcceptedImage disk (thread_at w (p ∷ []))
-  pub writable : IsWritable disk (thread_at w (p ∷ []))
+  pub writable : IsWritableImage disk (thread_at w (p ∷ []))
   pub site : IsSite w (p ∷ [])
-  pub kind : (gstate_of (thread_at w (p ∷ []))).kind ≡ set_move
-  pub pair : same_pair (gstate_of (thread_at w (p ∷ []))).pair p.at ≡ true
-  pub id : (gstate_of (thread_at w (p ∷ []))).id ≡ length l
+  pub kind : (gstate_of_pairs (thread_at w (p ∷ []))).kind ≡ gstate_kind_of_set_move
+  pub pair : same_pair (gstate_of_pairs (thread_at w (p ∷ []))).pair p.at ≡ true
+  pub id : (gstate_of_pairs (thread_at w (p ∷ []))).id ≡ length l
   pub held : p.content.slots ≡ l ++ u ∷ r
   pub other : is_superblock u ≡ false
   pub filled : ends_in_hard_tail false (w.before ++ w.left) ≡ true → l ++ r ≢ []
@@ -51,7 +51,7 @@ module _ (disk : Disk) (w : Site) (p : Pair) (l : List Slot) (u : Slot) (r : Lis
   ps = thread_at w (p ∷ [])
 
   abbrev g : Gstate
-  g = gstate_of ps
+  g = gstate_of_pairs ps
 
   abbrev ahead : List Pair
   ahead = w.before ++ w.left
@@ -60,7 +60,7 @@ module _ (disk : Disk) (w : Site) (p : Pair) (l : List Slot) (u : Slot) (r : Lis
   back = w.right ++ w.after
 
   abbrev Far : Pair → Type 0
-  Far s = same_pair (gstate_of (thread_at w (p ∷ []))).pair s.at ≡ false
+  Far s = same_pair (gstate_of_pairs (thread_at w (p ∷ []))).pair s.at ≡ false
 
   grouped : thread_at w (p ∷ []) ≡ (w.chain ++ ahead) ++ p ∷ back
   grouped = sym (append_assoc w.chain ahead (p ∷ back))
@@ -68,8 +68,8 @@ module _ (disk : Disk) (w : Site) (p : Pair) (l : List Slot) (u : Slot) (r : Lis
   distinct_there : IsDistinct nat_eq (blocks_of_pairs ((w.chain ++ ahead) ++ p ∷ back))
   distinct_there = subst (λ z. IsDistinct nat_eq (blocks_of_pairs z)) grouped k.accepted.thread.distinct
 
-  flipped : (ss : List Pair) → Each (λ s. same_pair s.at (gstate_of (thread_at w (p ∷ []))).pair ≡ false) ss → Each Far ss
-  flipped ss h = each_weaker (λ s. same_pair s.at (gstate_of (thread_at w (p ∷ []))).pair ≡ false) Far (λ s e. flip_false s.at g.pair e) ss h
+  flipped : (ss : List Pair) → Each (λ s. same_pair s.at (gstate_of_pairs (thread_at w (p ∷ []))).pair ≡ false) ss → Each Far ss
+  flipped ss h = each_weaker (λ s. same_pair s.at (gstate_of_pairs (thread_at w (p ∷ []))).pair ≡ false) Far (λ s e. flip_false s.at g.pair e) ss h
 
   far_front : Each Far (w.chain ++ ahead)
   far_front = flipped (w.chain ++ ahead) (avoids_front (w.chain ++ ahead) p back g.pair distinct_there (pair_back g.pair p.at k.pair))
@@ -80,20 +80,20 @@ module _ (disk : Disk) (w : Site) (p : Pair) (l : List Slot) (u : Slot) (r : Lis
   hides : slots_not_moved g p ≡ l ++ r
   hides = ap₂ (λ k b. cond (nat_eq k 0x4ff && b) (remove p.content.slots g.id) p.content.slots) k.kind k.pair ∙ ap₂ (λ s i. remove s i) k.held k.id ∙ remove_here l r u
 
-  hidden_none : (ss : List Pair) → Each Far ss → flat_map (slots_not_moved g) ss ≡ slots_in ss
+  hidden_none : (ss : List Pair) → Each Far ss → flat_map (slots_not_moved g) ss ≡ slots_of_pairs_in_order ss
   hidden_none [] h = refl
   hidden_none (s ∷ ss) h = ap₂ (λ x y. x ++ y) (unmoved_elsewhere g s h.0) (hidden_none ss h.1)
 
-  module _ (new : Disk) (q : Pair) (x : HasTurned disk w p (l ++ r) (gstate_xor (gstate_without_sync (gstate_of (thread_at w (p ∷ [])))) p.content.move) new q []) where
+  module _ (new : Disk) (q : Pair) (x : HasTurned disk w p (l ++ r) (gstate_xor (gstate_without_sync (gstate_of_pairs (thread_at w (p ∷ [])))) p.content.move) new q []) where
     abbrev qs : List Pair
     qs = thread_at w (q ∷ [])
 
-    pub ended_state : gstate_of qs ≡ gstate_of_sync_alone (gstate_of ps)
+    pub ended_state : gstate_of_pairs qs ≡ gstate_of_sync_alone (gstate_of_pairs ps)
     ended_state = site_gstate_moved (gstate_without_sync g) w (p ∷ []) (q ∷ [])
         (x.delta ∙ ap (gstate_xor (gstate_without_sync g)) (sym (gstate_cons p [] ∙ gstate_right p.content.move)))
         ∙ move_out g
 
-    still_none : HasNoMove (gstate_of qs)
+    still_none : HasNoMove (gstate_of_pairs qs)
     still_none = record { kind = ap (λ (z : Gstate). z.kind) ended_state; id = ap (λ (z : Gstate). z.id) ended_state; pair = ap (λ (z : Gstate). z.pair) ended_state }
 
     front_kept : (l : List Slot) → (slots : List Slot) → slots ≡ l ++ u ∷ r → starts_with_superblock slots ≡ true → starts_with_superblock (l ++ r) ≡ true
@@ -117,41 +117,41 @@ module _ (disk : Disk) (w : Site) (p : Pair) (l : List Slot) (u : Slot) (r : Lis
     end_put : IsPut disk w p q [] l (u ∷ []) [] r
     end_put = record { writable = k.writable; was = k.held; is = x.is; became = x.became; fit = tt; filled = k.filled }
 
-    pub ended : IsOnlyStep disk (thread_at w (p ∷ [])) new (thread_at w (q ∷ [])) (λ t. t) (λ d. d)
+    pub ended : IsWritableImageAfterTreeChange disk (thread_at w (p ∷ [])) new (thread_at w (q ∷ [])) (λ t. t) (λ d. d)
     ended = end_taken disk new w p q [] l u r (λ t. t) (λ d. d) end_put end_step
         (move_ends disk new w p [] q [] l u r end_step (λ e. k.accepted.reached (sym (ap (λ (z : Gstate). z.sync) ended_state) ∙ e)))
 
     -- the directories begin where they did
-    pub ended_firsts : first_addresses (directories_in_thread qs) ≡ first_addresses (directories_in_thread ps)
+    pub ended_firsts : addresses_of_first_pairs_of_directories (directories_in_thread qs) ≡ addresses_of_first_pairs_of_directories (directories_in_thread ps)
     ended_firsts = end_firsts disk new w p [] q [] l u r end_step
 
     -- ---- the blocks that the image uses
 
-    blocks_two : (xs ys : List Pair) (b : ℕ) → count b (blocks_of_pairs (xs ++ ys)) ≡ count b (blocks_of_pairs xs) + count b (blocks_of_pairs ys)
-    blocks_two xs ys b = ap (count b) (flat_map-append (λ (s : Pair). s.at.0 ∷ s.at.1 ∷ []) xs ys) ∙ count_append b (blocks_of_pairs xs) (blocks_of_pairs ys)
+    blocks_two : (xs ys : List Pair) (b : ℕ) → occurrence_count_of_number b (blocks_of_pairs (xs ++ ys)) ≡ occurrence_count_of_number b (blocks_of_pairs xs) + occurrence_count_of_number b (blocks_of_pairs ys)
+    blocks_two xs ys b = ap (occurrence_count_of_number b) (flat_map-append (λ (s : Pair). s.at.0 ∷ s.at.1 ∷ []) xs ys) ∙ count_append b (blocks_of_pairs xs) (blocks_of_pairs ys)
 
     slots_three : (f : Pair → List Slot) (zs : List Pair) → flat_map f (thread_at w zs) ≡ flat_map f w.chain ++ (flat_map f ahead ++ (flat_map f zs ++ flat_map f back))
     slots_three f zs = flat_map-append f w.chain (ahead ++ (zs ++ back)) ∙ ap (λ z. flat_map f w.chain ++ z) (flat_map-append f ahead (zs ++ back) ∙ ap (λ z. flat_map f ahead ++ z) (flat_map-append f zs back))
 
     -- no file but those that were visible
     visible_same : all_slots_not_moved qs ≡ all_slots_not_moved ps
-    visible_same = unmoved_in (gstate_of qs) still_none qs ∙ slots_three (λ s. s.content.slots) (q ∷ [])
-        ∙ ap₂ (λ a z. a ++ (slots_in ahead ++ z)) (sym (hidden_none w.chain (each_left Far w.chain ahead far_front)))
+    visible_same = unmoved_in (gstate_of_pairs qs) still_none qs ∙ slots_three (λ s. s.content.slots) (q ∷ [])
+        ∙ ap₂ (λ a z. a ++ (slots_of_pairs_in_order ahead ++ z)) (sym (hidden_none w.chain (each_left Far w.chain ahead far_front)))
         (ap₂ (λ a z. a ++ z) (x.is ∙ sym hides ∙ sym (append-nil (slots_not_moved g p))) (sym (hidden_none back far_back)))
         ∙ ap (λ z. flat_map (slots_not_moved g) w.chain ++ (z ++ (flat_map (slots_not_moved g) (p ∷ []) ++ flat_map (slots_not_moved g) back))) (sym (hidden_none ahead (each_right Far w.chain ahead far_front)))
         ∙ sym (slots_three (slots_not_moved g) (p ∷ []))
 
-    pub ended_count : (b : ℕ) → count b (used_blocks new qs) ≡ count b (used_blocks disk ps)
+    pub ended_count : (b : ℕ) → occurrence_count_of_number b (used_blocks new qs) ≡ occurrence_count_of_number b (used_blocks disk ps)
     ended_count b =
-        let a1 = count_append b (blocks_of_pairs qs) (files_of new (all_slots_not_moved qs)) in
-        let a2 = count_append b (blocks_of_pairs ps) (files_of disk (all_slots_not_moved ps)) in
+        let a1 = count_append b (blocks_of_pairs qs) (file_blocks_of_slots new (all_slots_not_moved qs)) in
+        let a2 = count_append b (blocks_of_pairs ps) (file_blocks_of_slots disk (all_slots_not_moved ps)) in
         let b1 = blocks_two w.chain (dirs_at w (q ∷ [])) b in
         let b2 = blocks_two ahead (q ∷ [] ++ back) b in
         let b3 = blocks_two (q ∷ []) back b in
         let b4 = blocks_two w.chain (dirs_at w (p ∷ [])) b in
         let b5 = blocks_two ahead (p ∷ [] ++ back) b in
         let b6 = blocks_two (p ∷ []) back b in
-        let at = ap (λ (a : ℕ × ℕ). count b (a.0 ∷ a.1 ∷ [])) x.at in
-        let same = ap (count b) (slots_files disk new (all_slots_not_moved ps) x.device.geometry (recursion_from_All (λ (s : Slot). HasSameFile disk new s.struct) (all_slots_not_moved ps) x.device.files)) in
-        let f = ap (λ z. count b (files_of new z)) visible_same in
+        let at = ap (λ (a : ℕ × ℕ). occurrence_count_of_number b (a.0 ∷ a.1 ∷ [])) x.at in
+        let same = ap (occurrence_count_of_number b) (slots_files disk new (all_slots_not_moved ps) x.device.geometry (recursion_from_All (λ (s : Slot). HasSameFileBlocksOfStructOnDisks disk new s.struct) (all_slots_not_moved ps) x.device.files)) in
+        let f = ap (λ z. occurrence_count_of_number b (file_blocks_of_slots new z)) visible_same in
         omega arith

@@ -3,29 +3,29 @@ use Rattle.std.proofs.Common.{ℕ, ◌≡◌, ◌≢◌, ◌⊎◌, inl, inr, �
 use Rattle.std.proofs.lemmas.List.Elements.{recursion_from_All}
 use Rattle.lfs_model.specs.Blocks.{Blocks}
 use Rattle.lfs_model.specs.Disk.{Disk}
-use Rattle.lfs_model.specs.History.{CallEvent}
-use Rattle.lfs_model.specs.LoggedContent.{IsWellFormedMoveState}
-use Rattle.lfs_model.specs.PowerLoss.{ShowsTreeBeforeOrAfter as IsLeftOf, SurvivesStopsSince, with_blocks}
-use Rattle.lfs_model.specs.Slots.{Content, IsContentFittingPair, Gstate, Slot, same_pair}
-use Rattle.lfs_model.specs.Thread.{Pair, gstate_of, is_hard_tail}
+use Rattle.lfs_model.specs.History.{DeviceCallEvent}
+use Rattle.lfs_model.specs.LoggedContent.{AreMoveStateFieldsWithinBitWidths}
+use Rattle.lfs_model.specs.PowerLoss.{HasTreeBeforeOrAfterOperation as IsLeftOf, SurvivesPowerLossInCallsSince, disk_with_blocks}
+use Rattle.lfs_model.specs.Slots.{PairContent, IsContentFittingPair, Gstate, Slot, same_pair}
+use Rattle.lfs_model.specs.Thread.{Pair, gstate_of_pairs, is_hard_tail}
 use Rattle.lfs_model.specs.View.{IsAcceptedImage}
-use Rattle.lfs_model.specs.Profile.{IsWritable}
+use Rattle.lfs_model.specs.Profile.{IsWritableImage}
 use Rattle.lfs_model.specs.Shown.{directories_in_thread, tree_on_disk, used_blocks}
-use Rattle.lfs_model.proofs.Alike.{AreAlike, alike_append, alike_itself}
-use Rattle.lfs_model.proofs.Counts.{Each, each_right, count}
-use Rattle.lfs_model.proofs.Histories.{IsTrueAfterEachStopSince-weaker}
+use Rattle.lfs_model.proofs.Alike.{ArePairsWithSameAddressesAndSlots, alike_append, alike_itself}
+use Rattle.lfs_model.proofs.Counts.{Each, each_right, occurrence_count_of_number}
+use Rattle.lfs_model.proofs.Histories.{IsTrueAfterAnyPowerLossSince-weaker}
 use Rattle.lfs_model.proofs.Indexes.{HasSite, site_of_number}
 use Rattle.lfs_model.proofs.Listings.{IsRun}
-use Rattle.lfs_model.proofs.MoveSets.{first_addresses}
-use Rattle.lfs_model.proofs.Sites.{SomeIn, IsSite, Site, among_left, among_parts, among_right, dirs_at, thread_at}
+use Rattle.lfs_model.proofs.MoveSets.{addresses_of_first_pairs_of_directories}
+use Rattle.lfs_model.proofs.Sites.{IsTrueOfSomeElement, IsSite, Site, among_left, among_parts, among_right, dirs_at, thread_at}
 use Rattle.lfs_model.proofs.Splices.{IsDevice}
-use Rattle.lfs_model.proofs.StepsTaken.{IsOnlyStep}
+use Rattle.lfs_model.proofs.StepsTaken.{IsWritableImageAfterTreeChange}
 use Rattle.lfs_model.proofs.Superblocks.{IsChain}
 use Rattle.lfs_model.proofs.Writable.{ends_in_hard_tail}
-use Rattle.lfs_thread.specs.Device.{StopsAfterCleanErasesLeave}
-use Rattle.lfs_thread.specs.Kept.{Kept}
-use Rattle.lfs_thread.specs.Steps.{IsPairWrittenOnDisk, no_pair, kept_pair_at_index, map_with_freed_pair}
-use Rattle.lfs_operations.specs.Dropping.{CanDropPairAt, IsNextPairDropped, IsLeftByStoppedDrop, tail_over_dropped_pair, content_after_drop}
+use Rattle.lfs_thread.specs.Device.{PowerLossLeavesSuchBlocksAfterCleanErases}
+use Rattle.lfs_thread.specs.Kept.{KeptThread}
+use Rattle.lfs_thread.specs.Steps.{IsPairWrittenOnDisk, empty_pair_at_anchor, thread_pair_at_index, block_map_with_freed_pair}
+use Rattle.lfs_operations.specs.Dropping.{CanDropPairAt, IsNextPairDropped, IsLeftByStoppedPairDrop, tail_over_dropped_pair, content_after_next_pair_drop}
 use Rattle.lfs_operations.specs.MoveEnds.{CanEndMoveAt, HasEndedMoveAt, is_pair_named_by_hard_tail, gstate_of_sync_alone}
 use Rattle.lfs_operations.proofs.Dropped.{device_dropped, device_kept, profile_same}
 use Rattle.lfs_operations.proofs.DroppedTails.{front_is, gone_is, gstate_is, remove_next, without_is}
@@ -35,10 +35,10 @@ use Rattle.lfs_operations.proofs.Placing.{nothing_came}
 use Rattle.lfs_operations.proofs.Removed.{flag_ends}
 use Rattle.lfs_operations.proofs.RemovedWhole.{LastPair, last_pair, only_slot, over_hard, run_hard}
 
-sync_state : (g : Gstate) → IsWellFormedMoveState (gstate_of_sync_alone g)
+sync_state : (g : Gstate) → AreMoveStateFieldsWithinBitWidths (gstate_of_sync_alone g)
 sync_state g = record { kind = omega arith; id = omega arith; pair = (omega arith, omega arith) }
 
-module _ (t : Kept) (index id : ℕ) (can : CanEndMoveAt t index id true) where
+module _ (t : KeptThread) (index id : ℕ) (can : CanEndMoveAt t index id true) where
   abbrev h : HasSite t.pairs index
   h = site_of_number t.disk t.pairs index can.accepted can.begins can.below
 
@@ -51,8 +51,8 @@ module _ (t : Kept) (index id : ℕ) (can : CanEndMoveAt t index id true) where
   abbrev u : Slot
   u = can.stands.slot
 
-  here : kept_pair_at_index t index ≡ o
-  here = get_from t.pairs index o no_pair h.there
+  here : thread_pair_at_index t index ≡ o
+  here = get_from t.pairs index o empty_pair_at_anchor h.there
 
   held : o.content.slots ≡ u ∷ []
   held =
@@ -132,16 +132,16 @@ module _ (t : Kept) (index id : ℕ) (can : CanEndMoveAt t index id true) where
   hard : is_hard_tail x.content.tail ≡ true
   hard = run_hard front.front x o v.right site_now.run
 
-  front_there : kept_pair_at_index t (index - 1) ≡ x
+  front_there : thread_pair_at_index t (index - 1) ≡ x
   front_there = front_is t (index - 1) ahead x o back is number
 
-  gone_there : kept_pair_at_index t (index - 1 + 1) ≡ o
+  gone_there : thread_pair_at_index t (index - 1 + 1) ≡ o
   gone_there = gone_is t (index - 1) ahead x o back is number
 
   abbrev state : Gstate
-  state = gstate_of_sync_alone (gstate_of t.pairs)
+  state = gstate_of_sync_alone (gstate_of_pairs t.pairs)
 
-  pub can_drop_moved : CanDropPairAt t index (gstate_of_sync_alone (gstate_of t.pairs))
+  pub can_drop_moved : CanDropPairAt t index (gstate_of_sync_alone (gstate_of_pairs t.pairs))
   can_drop_moved = record {
     above = let e = place in omega arith;
     below = can.below;
@@ -149,13 +149,13 @@ module _ (t : Kept) (index id : ℕ) (can : CanEndMoveAt t index id true) where
     fits = subst (λ (z : Pair). IsContentFittingPair t.disk.block_size t.disk.page z.content) (sym front_there)
         (each_right (λ (z : Pair). IsContentFittingPair t.disk.block_size t.disk.page z.content) ahead (x ∷ o ∷ back)
         (subst (Each (λ (z : Pair). IsContentFittingPair t.disk.block_size t.disk.page z.content)) is (recursion_from_All (λ (z : Pair). IsContentFittingPair t.disk.block_size t.disk.page z.content) t.pairs can.writable.pairs))).0;
-    storable = sync_state (gstate_of t.pairs);
+    storable = sync_state (gstate_of_pairs t.pairs);
   }
 
   -- ---- what it leaves
 
-  abbrev c : Content
-  c = content_after_drop t (index - 1) (gstate_of_sync_alone (gstate_of t.pairs))
+  abbrev c : PairContent
+  c = content_after_next_pair_drop t (index - 1) (gstate_of_sync_alone (gstate_of_pairs t.pairs))
 
   abbrev q : Pair
   q = record { at = x.at; content = c }
@@ -166,11 +166,11 @@ module _ (t : Kept) (index id : ℕ) (can : CanEndMoveAt t index id true) where
   ending : IsEndingWhole t.disk w x o u
   ending = record {
     accepted = subst (IsAcceptedImage t.disk) there can.accepted;
-    writable = subst (IsWritable t.disk) there can.writable;
+    writable = subst (IsWritableImage t.disk) there can.writable;
     site = site_now;
-    kind = sym (ap (λ z. (gstate_of z).kind) there) ∙ can.kind;
-    pair = ap₂ (λ z (y : Pair). same_pair (gstate_of z).pair y.at) (sym there) (sym here) ∙ can.named;
-    id = sym (ap (λ z. (gstate_of z).id) there) ∙ can.id_is ∙ first;
+    kind = sym (ap (λ z. (gstate_of_pairs z).kind) there) ∙ can.kind;
+    pair = ap₂ (λ z (y : Pair). same_pair (gstate_of_pairs z).pair y.at) (sym there) (sym here) ∙ can.named;
+    id = sym (ap (λ z. (gstate_of_pairs z).id) there) ∙ can.id_is ∙ first;
     held = held;
     other = can.stands.entry;
   }
@@ -180,69 +180,69 @@ module _ (t : Kept) (index id : ℕ) (can : CanEndMoveAt t index id true) where
     at = refl;
     slots = slots_same;
     tail = ap₂ (λ (y z : Pair). tail_over_dropped_pair y.content.tail z.content.tail) front_there gone_there ∙ over_hard x.content.tail o.content.tail hard;
-    state = ap gstate_of (grouped (q ∷ [])) ∙ gstate_is t (index - 1) ahead x o back is number (gstate_of_sync_alone (gstate_of t.pairs)) q refl ∙ ap (λ z. gstate_of_sync_alone (gstate_of z)) there;
+    state = ap gstate_of_pairs (grouped (q ∷ [])) ∙ gstate_is t (index - 1) ahead x o back is number (gstate_of_sync_alone (gstate_of_pairs t.pairs)) q refl ∙ ap (λ z. gstate_of_sync_alone (gstate_of_pairs z)) there;
     device = subst (λ z. IsDevice t.disk disk z (thread_at w (q ∷ []))) (sym (grouped (x ∷ o ∷ [])))
         (subst (IsDevice t.disk disk (ahead ++ x ∷ o ∷ back)) (sym (grouped (q ∷ []))) (device_dropped t (index - 1) ahead x o back is number (subst (IsAcceptedImage t.disk) is can.accepted) disk c slots_same written));
   }
 
-  goes_on : (disk : Disk) → IsPairWrittenOnDisk t (index - 1) c disk → IsOnlyStep t.disk (thread_at w (x ∷ o ∷ [])) disk (thread_at w (q ∷ [])) (λ t. t) (λ d. d)
+  goes_on : (disk : Disk) → IsPairWrittenOnDisk t (index - 1) c disk → IsWritableImageAfterTreeChange t.disk (thread_at w (x ∷ o ∷ [])) disk (thread_at w (q ∷ [])) (λ t. t) (λ d. d)
   goes_on disk written = whole_ended t.disk w x o u ending disk q (over_on disk written)
 
   -- the others stay
-  still_there : (z : Pair) → z.content.slots ≡ [] → is_hard_tail z.content.tail ≡ false → SomeIn (λ y. y ≡ z) (ahead ++ x ∷ o ∷ back) → SomeIn (λ y. y ≡ z) (ahead ++ q ∷ back)
+  still_there : (z : Pair) → z.content.slots ≡ [] → is_hard_tail z.content.tail ≡ false → IsTrueOfSomeElement (λ y. y ≡ z) (ahead ++ x ∷ o ∷ back) → IsTrueOfSomeElement (λ y. y ≡ z) (ahead ++ q ∷ back)
   still_there z none soft among = go (among_parts (λ y. y ≡ z) ahead (x ∷ o ∷ back) among)
     where
-      behind : SomeIn (λ y. y ≡ z) (x ∷ o ∷ back) → SomeIn (λ y. y ≡ z) (q ∷ back)
+      behind : IsTrueOfSomeElement (λ y. y ≡ z) (x ∷ o ∷ back) → IsTrueOfSomeElement (λ y. y ≡ z) (q ∷ back)
       behind (inl e) = absurd (let k = sym hard ∙ ap (λ (y : Pair). is_hard_tail y.content.tail) e ∙ soft in cc)
       behind (inr (inl e)) = absurd (let k = sym held ∙ ap (λ (y : Pair). y.content.slots) e ∙ none in cc)
       behind (inr (inr a)) = inr a
 
-      go : SomeIn (λ y. y ≡ z) ahead ⊎ SomeIn (λ y. y ≡ z) (x ∷ o ∷ back) → SomeIn (λ y. y ≡ z) (ahead ++ q ∷ back)
+      go : IsTrueOfSomeElement (λ y. y ≡ z) ahead ⊎ IsTrueOfSomeElement (λ y. y ≡ z) (x ∷ o ∷ back) → IsTrueOfSomeElement (λ y. y ≡ z) (ahead ++ q ∷ back)
       go (inl a) = among_left (λ y. y ≡ z) ahead (q ∷ back) a
       go (inr a) = among_right (λ y. y ≡ z) ahead (q ∷ back) (behind a)
 
-  pub has_gone : (new : Kept) → IsNextPairDropped t (index - 1) (gstate_of_sync_alone (gstate_of t.pairs)) new → HasEndedMoveAt t index id true new
+  pub has_gone : (new : KeptThread) → IsNextPairDropped t (index - 1) (gstate_of_sync_alone (gstate_of_pairs t.pairs)) new → HasEndedMoveAt t index id true new
   has_gone new d =
       let pairs : new.pairs ≡ thread_at w (q ∷ []) = d.pairs ∙ without_is t (index - 1) ahead x o back is number c ∙ sym (grouped (q ∷ [])) in
       let taken = goes_on new.disk d.written in
       let left : remove t.pairs index ≡ ahead ++ x ∷ back = ap₂ (λ (z : List Pair) (i : ℕ). remove z i) is (sym place) ∙ remove_next ahead x o back in
       record {
-        taken = subst (λ z. IsOnlyStep t.disk z new.disk new.pairs (λ t. t) (λ d. d)) (sym there) (subst (λ z. IsOnlyStep t.disk (thread_at w (x ∷ o ∷ [])) new.disk z (λ t. t) (λ d. d)) (sym pairs) taken);
+        taken = subst (λ z. IsWritableImageAfterTreeChange t.disk z new.disk new.pairs (λ t. t) (λ d. d)) (sym there) (subst (λ z. IsWritableImageAfterTreeChange t.disk (thread_at w (x ∷ o ∷ [])) new.disk z (λ t. t) (λ d. d)) (sym pairs) taken);
         state = d.gstate;
-        alike = subst (λ z. AreAlike z new.pairs) (sym left) (subst (AreAlike (ahead ++ x ∷ back)) (sym (pairs ∙ grouped (q ∷ [])))
+        alike = subst (λ z. ArePairsWithSameAddressesAndSlots z new.pairs) (sym left) (subst (ArePairsWithSameAddressesAndSlots (ahead ++ x ∷ back)) (sym (pairs ∙ grouped (q ∷ [])))
             (alike_append ahead (x ∷ back) ahead (q ∷ back) (alike_itself ahead) (refl, slots_same, alike_itself back)));
-        map = d.map ∙ ap (λ (i : ℕ). map_with_freed_pair t.map (kept_pair_at_index t i).at) (let e = place in omega arith);
+        map = d.map ∙ ap (λ (i : ℕ). block_map_with_freed_pair t.map (thread_pair_at_index t i).at) (let e = place in omega arith);
         blocks = λ b.
             let e = whole_count t.disk w x o u ending new.disk q (over_on new.disk d.written) b in
-            let f = ap (λ z. count b (used_blocks new.disk z)) pairs in
-            let g = ap (λ z. count b (used_blocks t.disk z)) there in
-            let k = ap (λ (z : Pair). count b (z.at.0 ∷ z.at.1 ∷ [])) here in
+            let f = ap (λ z. occurrence_count_of_number b (used_blocks new.disk z)) pairs in
+            let g = ap (λ z. occurrence_count_of_number b (used_blocks t.disk z)) there in
+            let k = ap (λ (z : Pair). occurrence_count_of_number b (z.at.0 ∷ z.at.1 ∷ [])) here in
             omega arith;
         shape = d.written.shape;
-        begins = ap (λ z. first_addresses (directories_in_thread z)) pairs ∙ whole_firsts t.disk w x o u ending new.disk q (over_on new.disk d.written) ∙ ap (λ z. first_addresses (directories_in_thread z)) (sym there);
-        kept = λ z none soft among. subst (SomeIn (λ y. y ≡ z)) (sym (pairs ∙ grouped (q ∷ []))) (still_there z none soft (subst (SomeIn (λ y. y ≡ z)) is among));
+        begins = ap (λ z. addresses_of_first_pairs_of_directories (directories_in_thread z)) pairs ∙ whole_firsts t.disk w x o u ending new.disk q (over_on new.disk d.written) ∙ ap (λ z. addresses_of_first_pairs_of_directories (directories_in_thread z)) (sym there);
+        kept = λ z none soft among. subst (IsTrueOfSomeElement (λ y. y ≡ z)) (sym (pairs ∙ grouped (q ∷ []))) (still_there z none soft (subst (IsTrueOfSomeElement (λ y. y ≡ z)) is among));
       }
 
   -- ---- at a stop
 
-  left_tree : (left : Blocks) → IsLeftByStoppedDrop t (index - 1) (gstate_of_sync_alone (gstate_of t.pairs)) left → IsLeftOf (with_blocks left t.disk) (tree_on_disk t.disk t.pairs) (tree_on_disk t.disk t.pairs)
+  left_tree : (left : Blocks) → IsLeftByStoppedPairDrop t (index - 1) (gstate_of_sync_alone (gstate_of_pairs t.pairs)) left → IsLeftOf (disk_with_blocks left t.disk) (tree_on_disk t.disk t.pairs) (tree_on_disk t.disk t.pairs)
   left_tree left l = go l.is
     where
-      go : (l.content ≡ (kept_pair_at_index t (index - 1)).content) ⊎ (l.content ≡ content_after_drop t (index - 1) (gstate_of_sync_alone (gstate_of t.pairs))) → IsLeftOf (with_blocks left t.disk) (tree_on_disk t.disk t.pairs) (tree_on_disk t.disk t.pairs)
+      go : (l.content ≡ (thread_pair_at_index t (index - 1)).content) ⊎ (l.content ≡ content_after_next_pair_drop t (index - 1) (gstate_of_sync_alone (gstate_of_pairs t.pairs))) → IsLeftOf (disk_with_blocks left t.disk) (tree_on_disk t.disk t.pairs) (tree_on_disk t.disk t.pairs)
       go (inl e) =
           let same = e ∙ ap (λ (z : Pair). z.content) front_there in
-          let d = device_kept t (index - 1) ahead x o back is number (subst (IsAcceptedImage t.disk) is can.accepted) (with_blocks left t.disk) x.content refl
-          (subst (λ y. IsPairWrittenOnDisk t (index - 1) y (with_blocks left t.disk)) same l.written) in
-          let on = subst (λ z. IsDevice t.disk (with_blocks left t.disk) z z) (sym is ∙ h.is) d in
-          let f = nothing_came t.disk (with_blocks left t.disk) v o h.is_site (subst (IsAcceptedImage t.disk) h.is can.accepted) on in
+          let d = device_kept t (index - 1) ahead x o back is number (subst (IsAcceptedImage t.disk) is can.accepted) (disk_with_blocks left t.disk) x.content refl
+          (subst (λ y. IsPairWrittenOnDisk t (index - 1) y (disk_with_blocks left t.disk)) same l.written) in
+          let on = subst (λ z. IsDevice t.disk (disk_with_blocks left t.disk) z z) (sym is ∙ h.is) d in
+          let f = nothing_came t.disk (disk_with_blocks left t.disk) v o h.is_site (subst (IsAcceptedImage t.disk) h.is can.accepted) on in
           record {
             pairs = thread_at v (o ∷ []);
             accepted = f.accepted;
-            writable = profile_same t.disk (with_blocks left t.disk) (thread_at v (o ∷ [])) refl refl (subst (IsWritable t.disk) h.is can.writable);
+            writable = profile_same t.disk (disk_with_blocks left t.disk) (thread_at v (o ∷ [])) refl refl (subst (IsWritableImage t.disk) h.is can.writable);
             tree = inl (f.shows ∙ ap (tree_on_disk t.disk) (sym h.is));
           }
       go (inr e) =
-          let k = goes_on (with_blocks left t.disk) (subst (λ y. IsPairWrittenOnDisk t (index - 1) y (with_blocks left t.disk)) e l.written) in
+          let k = goes_on (disk_with_blocks left t.disk) (subst (λ y. IsPairWrittenOnDisk t (index - 1) y (disk_with_blocks left t.disk)) e l.written) in
           record {
             pairs = thread_at w (q ∷ []);
             accepted = k.follows.accepted;
@@ -250,5 +250,5 @@ module _ (t : Kept) (index id : ℕ) (can : CanEndMoveAt t index id true) where
             tree = inl (k.follows.shows ∙ ap (tree_on_disk t.disk) (sym there));
           }
 
-  pub goes_survives : (new : List CallEvent) → StopsAfterCleanErasesLeave t.history new (IsLeftByStoppedDrop t (index - 1) (gstate_of_sync_alone (gstate_of t.pairs))) → SurvivesStopsSince t.disk t.history new (tree_on_disk t.disk t.pairs) (tree_on_disk t.disk t.pairs)
-  goes_survives new stops clean = IsTrueAfterEachStopSince-weaker left_tree (stops clean)
+  pub goes_survives : (new : List DeviceCallEvent) → PowerLossLeavesSuchBlocksAfterCleanErases t.history new (IsLeftByStoppedPairDrop t (index - 1) (gstate_of_sync_alone (gstate_of_pairs t.pairs))) → SurvivesPowerLossInCallsSince t.disk t.history new (tree_on_disk t.disk t.pairs) (tree_on_disk t.disk t.pairs)
+  goes_survives new stops clean = IsTrueAfterAnyPowerLossSince-weaker left_tree (stops clean)

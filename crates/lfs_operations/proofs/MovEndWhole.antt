@@ -5,34 +5,34 @@ use Rattle.std.proofs.lemmas.List.Concat.{flat_map-append}
 use Rattle.std.proofs.lemmas.List.Elements.{recursion_from_All}
 use Rattle.lfs_model.specs.Disk.{Disk}
 use Rattle.lfs_model.specs.Slots.{Slot, Gstate, is_superblock, same_pair}
-use Rattle.lfs_model.specs.Thread.{Pair, blocks_of_pairs, gstate_of, starts_with_superblock, slots_not_moved}
+use Rattle.lfs_model.specs.Thread.{Pair, blocks_of_pairs, gstate_of_pairs, starts_with_superblock, slots_not_moved}
 use Rattle.lfs_model.specs.View.{IsAcceptedImage}
-use Rattle.lfs_model.specs.Profile.{IsWritable}
+use Rattle.lfs_model.specs.Profile.{IsWritableImage}
 use Rattle.lfs_model.specs.Shown.{all_slots_not_moved, directories_in_thread, used_blocks}
-use Rattle.lfs_model.specs.Slots.{set_move}
+use Rattle.lfs_model.specs.Slots.{gstate_kind_of_set_move}
 use Rattle.lfs_model.proofs.Changes.{slots_files}
-use Rattle.lfs_model.proofs.Counts.{Each, each_append, each_left, each_right, each_weaker, count, count_append}
-use Rattle.lfs_model.proofs.Files.{HasSameFile}
+use Rattle.lfs_model.proofs.Counts.{Each, each_append, each_left, each_right, each_weaker, occurrence_count_of_number, count_append}
+use Rattle.lfs_model.proofs.Files.{HasSameFileBlocksOfStructOnDisks}
 use Rattle.lfs_model.proofs.Global.{HasNoMove}
 use Rattle.lfs_model.proofs.Listings.{flip_false}
 use Rattle.lfs_model.proofs.Pairs.{pair_back}
 use Rattle.lfs_model.proofs.Rests.{IsMoveEnd, move_ends, unmoved_elsewhere}
 use Rattle.lfs_model.proofs.Searches.{avoids_behind, avoids_front}
 use Rattle.lfs_model.proofs.Sites.{Site, dirs_at, thread_at, IsSite}
-use Rattle.lfs_model.proofs.Splices.{drop_shape, files_of, slots_in, unmoved_in, IsDevice}
-use Rattle.lfs_model.proofs.StepsTaken.{IsOnlyStep, end_drop_taken}
-use Rattle.lfs_model.proofs.MoveSets.{first_addresses}
+use Rattle.lfs_model.proofs.Splices.{drop_shape, file_blocks_of_slots, slots_of_pairs_in_order, unmoved_in, IsDevice}
+use Rattle.lfs_model.proofs.StepsTaken.{IsWritableImageAfterTreeChange, end_drop_taken}
+use Rattle.lfs_model.proofs.MoveSets.{addresses_of_first_pairs_of_directories}
 use Rattle.lfs_operations.specs.MoveEnds.{gstate_of_sync_alone}
 use Rattle.lfs_operations.proofs.MovFirsts.{end_firsts}
 
 -- At the site stand p and o behind it, joined by a hard tail, and the move hides o's only slot u.
 pub record IsEndingWhole (disk : Disk) (w : Site) (p o : Pair) (u : Slot) : Type 0 where
   pub accepted : IsAcceptedImage disk (thread_at w (p ∷ o ∷ []))
-  pub writable : IsWritable disk (thread_at w (p ∷ o ∷ []))
+  pub writable : IsWritableImage disk (thread_at w (p ∷ o ∷ []))
   pub site : IsSite w (p ∷ o ∷ [])
-  pub kind : (gstate_of (thread_at w (p ∷ o ∷ []))).kind ≡ set_move
-  pub pair : same_pair (gstate_of (thread_at w (p ∷ o ∷ []))).pair o.at ≡ true
-  pub id : (gstate_of (thread_at w (p ∷ o ∷ []))).id ≡ 0
+  pub kind : (gstate_of_pairs (thread_at w (p ∷ o ∷ []))).kind ≡ gstate_kind_of_set_move
+  pub pair : same_pair (gstate_of_pairs (thread_at w (p ∷ o ∷ []))).pair o.at ≡ true
+  pub id : (gstate_of_pairs (thread_at w (p ∷ o ∷ []))).id ≡ 0
   pub held : o.content.slots ≡ u ∷ []
   pub other : is_superblock u ≡ false
 
@@ -41,7 +41,7 @@ pub record HasTakenOver (disk : Disk) (w : Site) (p o : Pair) (new : Disk) (q : 
   pub at : q.at ≡ p.at
   pub slots : q.content.slots ≡ p.content.slots
   pub tail : q.content.tail ≡ o.content.tail
-  pub state : gstate_of (thread_at w (q ∷ [])) ≡ gstate_of_sync_alone (gstate_of (thread_at w (p ∷ o ∷ [])))
+  pub state : gstate_of_pairs (thread_at w (q ∷ [])) ≡ gstate_of_sync_alone (gstate_of_pairs (thread_at w (p ∷ o ∷ [])))
   pub device : IsDevice disk new (thread_at w (p ∷ o ∷ [])) (thread_at w (q ∷ []))
 
 module _ (disk : Disk) (w : Site) (p o : Pair) (u : Slot) (k : IsEndingWhole disk w p o u) where
@@ -49,7 +49,7 @@ module _ (disk : Disk) (w : Site) (p o : Pair) (u : Slot) (k : IsEndingWhole dis
   ps = thread_at w (p ∷ o ∷ [])
 
   abbrev g : Gstate
-  g = gstate_of (thread_at w (p ∷ o ∷ []))
+  g = gstate_of_pairs (thread_at w (p ∷ o ∷ []))
 
   abbrev ahead : List Pair
   ahead = w.before ++ w.left
@@ -58,7 +58,7 @@ module _ (disk : Disk) (w : Site) (p o : Pair) (u : Slot) (k : IsEndingWhole dis
   back = w.right ++ w.after
 
   abbrev Far : Pair → Type 0
-  Far s = same_pair (gstate_of (thread_at w (p ∷ o ∷ []))).pair s.at ≡ false
+  Far s = same_pair (gstate_of_pairs (thread_at w (p ∷ o ∷ []))).pair s.at ≡ false
 
   grouped : thread_at w (p ∷ o ∷ []) ≡ ((w.chain ++ ahead) ++ p ∷ []) ++ o ∷ back
   grouped = sym (append_assoc w.chain ahead (p ∷ o ∷ back)) ∙ sym (append_assoc (w.chain ++ ahead) (p ∷ []) (o ∷ back))
@@ -66,8 +66,8 @@ module _ (disk : Disk) (w : Site) (p o : Pair) (u : Slot) (k : IsEndingWhole dis
   distinct_there : IsDistinct nat_eq (blocks_of_pairs (((w.chain ++ ahead) ++ p ∷ []) ++ o ∷ back))
   distinct_there = subst (λ z. IsDistinct nat_eq (blocks_of_pairs z)) grouped k.accepted.thread.distinct
 
-  flipped : (ss : List Pair) → Each (λ s. same_pair s.at (gstate_of (thread_at w (p ∷ o ∷ []))).pair ≡ false) ss → Each Far ss
-  flipped ss h = each_weaker (λ s. same_pair s.at (gstate_of (thread_at w (p ∷ o ∷ []))).pair ≡ false) Far (λ s e. flip_false s.at g.pair e) ss h
+  flipped : (ss : List Pair) → Each (λ s. same_pair s.at (gstate_of_pairs (thread_at w (p ∷ o ∷ []))).pair ≡ false) ss → Each Far ss
+  flipped ss h = each_weaker (λ s. same_pair s.at (gstate_of_pairs (thread_at w (p ∷ o ∷ []))).pair ≡ false) Far (λ s e. flip_false s.at g.pair e) ss h
 
   far_front : Each Far ((w.chain ++ ahead) ++ p ∷ [])
   far_front = flipped ((w.chain ++ ahead) ++ p ∷ []) (avoids_front ((w.chain ++ ahead) ++ p ∷ []) o back g.pair distinct_there (pair_back g.pair o.at k.pair))
@@ -84,7 +84,7 @@ module _ (disk : Disk) (w : Site) (p o : Pair) (u : Slot) (k : IsEndingWhole dis
   hides : slots_not_moved g o ≡ []
   hides = ap₂ (λ k b. cond (nat_eq k 0x4ff && b) (remove o.content.slots g.id) o.content.slots) k.kind k.pair ∙ ap₂ (λ s i. remove s i) k.held k.id
 
-  hidden_none : (ss : List Pair) → Each Far ss → flat_map (slots_not_moved g) ss ≡ slots_in ss
+  hidden_none : (ss : List Pair) → Each Far ss → flat_map (slots_not_moved g) ss ≡ slots_of_pairs_in_order ss
   hidden_none [] h = refl
   hidden_none (s ∷ ss) h = ap₂ (λ x y. x ++ y) (unmoved_elsewhere g s h.0) (hidden_none ss h.1)
 
@@ -95,7 +95,7 @@ module _ (disk : Disk) (w : Site) (p o : Pair) (u : Slot) (k : IsEndingWhole dis
     abbrev qs : List Pair
     qs = thread_at w (q ∷ [])
 
-    still_none : HasNoMove (gstate_of (thread_at w (q ∷ [])))
+    still_none : HasNoMove (gstate_of_pairs (thread_at w (q ∷ [])))
     still_none = record { kind = ap (λ (z : Gstate). z.kind) x.state; id = ap (λ (z : Gstate). z.id) x.state; pair = ap (λ (z : Gstate). z.pair) x.state }
 
     pub whole_step : IsMoveEnd disk new w p (o ∷ []) q [] p.content.slots u []
@@ -112,35 +112,35 @@ module _ (disk : Disk) (w : Site) (p o : Pair) (u : Slot) (k : IsEndingWhole dis
       elsewhere = each_append Far w.chain (ahead ++ back) (each_left Far w.chain ahead far_ahead) (each_append Far ahead back (each_right Far w.chain ahead far_ahead) far_back);
     }
 
-    pub whole_ended : IsOnlyStep disk (thread_at w (p ∷ o ∷ [])) new (thread_at w (q ∷ [])) (λ t. t) (λ d. d)
+    pub whole_ended : IsWritableImageAfterTreeChange disk (thread_at w (p ∷ o ∷ [])) new (thread_at w (q ∷ [])) (λ t. t) (λ d. d)
     whole_ended = end_drop_taken disk w p o q (record { writable = k.writable; tail = x.tail; slots = x.slots }) new p.content.slots u [] (λ t. t) (λ d. d) whole_step
         (move_ends disk new w p (o ∷ []) q [] p.content.slots u [] whole_step (λ e. k.accepted.reached (sym (ap (λ (z : Gstate). z.sync) x.state) ∙ e)))
 
     -- the directories begin where they did
-    pub whole_firsts : first_addresses (directories_in_thread (thread_at w (q ∷ []))) ≡ first_addresses (directories_in_thread (thread_at w (p ∷ o ∷ [])))
+    pub whole_firsts : addresses_of_first_pairs_of_directories (directories_in_thread (thread_at w (q ∷ []))) ≡ addresses_of_first_pairs_of_directories (directories_in_thread (thread_at w (p ∷ o ∷ [])))
     whole_firsts = end_firsts disk new w p (o ∷ []) q [] p.content.slots u [] whole_step
 
     -- ---- the blocks that the image uses
 
-    blocks_two : (xs ys : List Pair) (b : ℕ) → count b (blocks_of_pairs (xs ++ ys)) ≡ count b (blocks_of_pairs xs) + count b (blocks_of_pairs ys)
-    blocks_two xs ys b = ap (count b) (flat_map-append (λ (s : Pair). s.at.0 ∷ s.at.1 ∷ []) xs ys) ∙ count_append b (blocks_of_pairs xs) (blocks_of_pairs ys)
+    blocks_two : (xs ys : List Pair) (b : ℕ) → occurrence_count_of_number b (blocks_of_pairs (xs ++ ys)) ≡ occurrence_count_of_number b (blocks_of_pairs xs) + occurrence_count_of_number b (blocks_of_pairs ys)
+    blocks_two xs ys b = ap (occurrence_count_of_number b) (flat_map-append (λ (s : Pair). s.at.0 ∷ s.at.1 ∷ []) xs ys) ∙ count_append b (blocks_of_pairs xs) (blocks_of_pairs ys)
 
     slots_three : (f : Pair → List Slot) (zs : List Pair) → flat_map f (thread_at w zs) ≡ flat_map f w.chain ++ (flat_map f ahead ++ (flat_map f zs ++ flat_map f back))
     slots_three f zs = flat_map-append f w.chain (ahead ++ (zs ++ back)) ∙ ap (λ z. flat_map f w.chain ++ z) (flat_map-append f ahead (zs ++ back) ∙ ap (λ z. flat_map f ahead ++ z) (flat_map-append f zs back))
 
     -- no file but those that were visible
     visible_same : all_slots_not_moved (thread_at w (q ∷ [])) ≡ all_slots_not_moved (thread_at w (p ∷ o ∷ []))
-    visible_same = unmoved_in (gstate_of (thread_at w (q ∷ []))) still_none (thread_at w (q ∷ [])) ∙ slots_three (λ s. s.content.slots) (q ∷ [])
-        ∙ ap₂ (λ a z. a ++ (slots_in ahead ++ z)) (sym (hidden_none w.chain (each_left Far w.chain ahead far_ahead)))
+    visible_same = unmoved_in (gstate_of_pairs (thread_at w (q ∷ []))) still_none (thread_at w (q ∷ [])) ∙ slots_three (λ s. s.content.slots) (q ∷ [])
+        ∙ ap₂ (λ a z. a ++ (slots_of_pairs_in_order ahead ++ z)) (sym (hidden_none w.chain (each_left Far w.chain ahead far_ahead)))
         (ap₂ (λ a z. a ++ z) (ap (λ z. z ++ []) x.slots ∙ sym hidden_two) (sym (hidden_none back far_back)))
         ∙ ap (λ z. flat_map (slots_not_moved g) w.chain ++ (z ++ (flat_map (slots_not_moved g) (p ∷ o ∷ []) ++ flat_map (slots_not_moved g) back))) (sym (hidden_none ahead (each_right Far w.chain ahead far_ahead)))
         ∙ sym (slots_three (slots_not_moved g) (p ∷ o ∷ []))
 
     -- those that it used, without the pair's
-    pub whole_count : (b : ℕ) → count b (used_blocks new (thread_at w (q ∷ []))) + count b (blocks_of_pairs (o ∷ [])) ≡ count b (used_blocks disk (thread_at w (p ∷ o ∷ [])))
+    pub whole_count : (b : ℕ) → occurrence_count_of_number b (used_blocks new (thread_at w (q ∷ []))) + occurrence_count_of_number b (blocks_of_pairs (o ∷ [])) ≡ occurrence_count_of_number b (used_blocks disk (thread_at w (p ∷ o ∷ [])))
     whole_count b =
-        let a1 = count_append b (blocks_of_pairs (thread_at w (q ∷ []))) (files_of new (all_slots_not_moved (thread_at w (q ∷ [])))) in
-        let a2 = count_append b (blocks_of_pairs (thread_at w (p ∷ o ∷ []))) (files_of disk (all_slots_not_moved (thread_at w (p ∷ o ∷ [])))) in
+        let a1 = count_append b (blocks_of_pairs (thread_at w (q ∷ []))) (file_blocks_of_slots new (all_slots_not_moved (thread_at w (q ∷ [])))) in
+        let a2 = count_append b (blocks_of_pairs (thread_at w (p ∷ o ∷ []))) (file_blocks_of_slots disk (all_slots_not_moved (thread_at w (p ∷ o ∷ [])))) in
         let b1 = blocks_two w.chain (dirs_at w (q ∷ [])) b in
         let b2 = blocks_two ahead (q ∷ [] ++ back) b in
         let b3 = blocks_two (q ∷ []) back b in
@@ -148,8 +148,8 @@ module _ (disk : Disk) (w : Site) (p o : Pair) (u : Slot) (k : IsEndingWhole dis
         let b5 = blocks_two ahead (p ∷ o ∷ [] ++ back) b in
         let b6 = blocks_two (p ∷ []) (o ∷ back) b in
         let b7 = blocks_two (o ∷ []) back b in
-        let at = ap (λ (a : ℕ × ℕ). count b (a.0 ∷ a.1 ∷ [])) x.at in
-        let same = ap (count b) (slots_files disk new (all_slots_not_moved (thread_at w (p ∷ o ∷ []))) x.device.geometry
-        (recursion_from_All (λ (s : Slot). HasSameFile disk new s.struct) (all_slots_not_moved (thread_at w (p ∷ o ∷ []))) x.device.files)) in
-        let f = ap (λ z. count b (files_of new z)) visible_same in
+        let at = ap (λ (a : ℕ × ℕ). occurrence_count_of_number b (a.0 ∷ a.1 ∷ [])) x.at in
+        let same = ap (occurrence_count_of_number b) (slots_files disk new (all_slots_not_moved (thread_at w (p ∷ o ∷ []))) x.device.geometry
+        (recursion_from_All (λ (s : Slot). HasSameFileBlocksOfStructOnDisks disk new s.struct) (all_slots_not_moved (thread_at w (p ∷ o ∷ []))) x.device.files)) in
+        let f = ap (λ z. occurrence_count_of_number b (file_blocks_of_slots new z)) visible_same in
         omega arith

@@ -7,32 +7,32 @@ use Rattle.std.proofs.lemmas.Option.{same_Some}
 use Rattle.std.proofs.lemmas.List.Elements.{recursion_from_All}
 use Rattle.std.proofs.lemmas.List.Sums.{sum_by-append, sum_by-cons}
 use Rattle.lfs_model.specs.Blocks.{Blocks}
-use Rattle.lfs_model.specs.Changes.{Delete, PutMove, content_after_changes}
-use Rattle.lfs_model.specs.Content.{RawContent, content_of_pair_at, raw_content_of_pair_at, content_if_slots_are_complete}
+use Rattle.lfs_model.specs.Changes.{Delete, PutMove, raw_pair_content_after_changes}
+use Rattle.lfs_model.specs.Content.{RawPairContent, content_of_pair_at, raw_content_of_pair_at, pair_content_if_slots_complete}
 use Rattle.lfs_model.specs.Disk.{Disk}
-use Rattle.lfs_model.specs.History.{CallEvent}
-use Rattle.lfs_model.specs.LoggedContent.{Are32BitPairAddresses, IsWellFormedMoveState}
-use Rattle.lfs_model.specs.PowerLoss.{ShowsTreeBeforeOrAfter as IsLeftOf, SurvivesStopsSince, with_blocks}
+use Rattle.lfs_model.specs.History.{DeviceCallEvent}
+use Rattle.lfs_model.specs.LoggedContent.{Are32BitPairAddresses, AreMoveStateFieldsWithinBitWidths}
+use Rattle.lfs_model.specs.PowerLoss.{HasTreeBeforeOrAfterOperation as IsLeftOf, SurvivesPowerLossInCallsSince, disk_with_blocks}
 use Rattle.lfs_model.specs.Slots.{Slot, IsContentFittingPair, Gstate, Tail, gstate_xor, same_pair, slot_size}
-use Rattle.lfs_model.specs.Thread.{Pair, gstate_of, pair_named_by_tail, pair_count_before_root}
+use Rattle.lfs_model.specs.Thread.{Pair, gstate_of_pairs, pair_address_named_by_tail, pair_count_before_root}
 use Rattle.lfs_model.specs.View.{IsAcceptedImage}
-use Rattle.lfs_model.specs.Profile.{IsWritable, FitsSlotLimits}
+use Rattle.lfs_model.specs.Profile.{IsWritableImage, IsSlotWithinWritableLimits}
 use Rattle.lfs_model.specs.Shown.{directories_in_thread, tree_on_disk, used_blocks}
-use Rattle.lfs_model.proofs.Alike.{AreAlike, alike_itself}
+use Rattle.lfs_model.proofs.Alike.{ArePairsWithSameAddressesAndSlots, alike_itself}
 use Rattle.lfs_model.proofs.Completed.{IsCompleted, complete_length, complete_remove, completed_parts, completed_from}
-use Rattle.lfs_model.proofs.Counts.{Each, each_right, count}
+use Rattle.lfs_model.proofs.Counts.{Each, each_right, occurrence_count_of_number}
 use Rattle.lfs_model.proofs.Effects.{deletes, does_first, does_nothing, puts_move}
-use Rattle.lfs_model.proofs.Histories.{IsTrueAfterEachStopSince-weaker}
+use Rattle.lfs_model.proofs.Histories.{IsTrueAfterAnyPowerLossSince-weaker}
 use Rattle.lfs_model.proofs.Indexes.{HasSite, site_of_number}
-use Rattle.lfs_model.proofs.MoveSets.{first_addresses}
+use Rattle.lfs_model.proofs.MoveSets.{addresses_of_first_pairs_of_directories}
 use Rattle.lfs_model.proofs.Moves.{remove_here}
-use Rattle.lfs_model.proofs.Sites.{SomeIn, Site, among_left, among_parts, among_right, dirs_at, thread_at}
-use Rattle.lfs_model.proofs.StepsTaken.{IsOnlyStep}
+use Rattle.lfs_model.proofs.Sites.{IsTrueOfSomeElement, Site, among_left, among_parts, among_right, dirs_at, thread_at}
+use Rattle.lfs_model.proofs.StepsTaken.{IsWritableImageAfterTreeChange}
 use Rattle.lfs_model.proofs.Superblocks.{pairs_behind}
 use Rattle.lfs_model.proofs.Writable.{ends_in_hard_tail}
-use Rattle.lfs_thread.specs.Device.{StopsAfterCleanErasesLeave}
-use Rattle.lfs_thread.specs.Kept.{Kept}
-use Rattle.lfs_thread.specs.Steps.{CanChangePair, IsPairChanged, LeavesPairOldOrChanged, IsCommitRefused, SlotsBeginWithSuperblock, complete_content_after_changes, no_pair, kept_pair_at_index, pairs_with_content_at_index}
+use Rattle.lfs_thread.specs.Device.{PowerLossLeavesSuchBlocksAfterCleanErases}
+use Rattle.lfs_thread.specs.Kept.{KeptThread}
+use Rattle.lfs_thread.specs.Steps.{CanChangePair, IsPairChanged, PowerLossLeavesPairOldOrChanged, IsCommitRefused, SlotsBeginWithSuperblock, complete_content_after_changes, empty_pair_at_anchor, thread_pair_at_index, thread_pairs_with_content_replaced_at_index}
 use Rattle.lfs_operations.specs.MoveEnds.{CanEndMoveAt, HasEndedMoveAt, content_after_move_ends, end_move_changes, is_pair_named_by_hard_tail, gstate_without_sync, delta_without_move, gstate_of_sync_alone}
 use Rattle.lfs_operations.proofs.Held.{CompletesTo, completes_to}
 use Rattle.lfs_operations.proofs.MovEnd.{IsEnding, ended, ended_count, ended_firsts, ended_state}
@@ -40,10 +40,10 @@ use Rattle.lfs_operations.proofs.MovSet.{HasTurned}
 use Rattle.lfs_operations.proofs.MovTurned.{ChangedOne, IsTurn, Stays, changed_one, content_with, left_alone}
 use Rattle.lfs_operations.proofs.Placing.{nothing_came}
 
-pub writable_same : (disk new : Disk) (ps : List Pair) → new.block_size ≡ disk.block_size → new.page ≡ disk.page → IsWritable disk ps → IsWritable new ps
+pub writable_same : (disk new : Disk) (ps : List Pair) → new.block_size ≡ disk.block_size → new.page ≡ disk.page → IsWritableImage disk ps → IsWritableImage new ps
 writable_same disk new ps e f h = record {
   pairs = subst (λ (n : ℕ). All (λ p. IsContentFittingPair n new.page p.content) ps) (sym e) (subst (λ (n : ℕ). All (λ p. IsContentFittingPair disk.block_size n p.content) ps) (sym f) h.pairs);
-  slots = subst (λ (n : ℕ). All (λ p. All (FitsSlotLimits n new.page) p.content.slots) ps) (sym e) (subst (λ (n : ℕ). All (λ p. All (FitsSlotLimits disk.block_size n) p.content.slots) ps) (sym f) h.slots);
+  slots = subst (λ (n : ℕ). All (λ p. All (IsSlotWithinWritableLimits n new.page) p.content.slots) ps) (sym e) (subst (λ (n : ℕ). All (λ p. All (IsSlotWithinWritableLimits disk.block_size n) p.content.slots) ps) (sym f) h.slots);
   no_empty_pair = h.no_empty_pair;
 }
 
@@ -61,7 +61,7 @@ led_is w p i chain number =
     ap₂ (λ n z. ends_in_hard_tail false (take (i - n) z)) chain (pairs_behind w.chain (dirs_at w (p ∷ [])) chain)
     ∙ ap (ends_in_hard_tail false) (take_front (w.before ++ w.left) (p ∷ [] ++ (w.right ++ w.after)) (i - length w.chain) (let l = length-append w.chain (w.before ++ w.left) in omega arith))
 
-module _ (t : Kept) (pair id : ℕ) (can : CanEndMoveAt t pair id false) (address : Are32BitPairAddresses (delta_without_move t pair).pair) where
+module _ (t : KeptThread) (pair id : ℕ) (can : CanEndMoveAt t pair id false) (address : Are32BitPairAddresses (delta_without_move t pair).pair) where
   abbrev h : HasSite t.pairs pair
   h = site_of_number t.disk t.pairs pair can.accepted can.begins can.below
 
@@ -71,8 +71,8 @@ module _ (t : Kept) (pair id : ℕ) (can : CanEndMoveAt t pair id false) (addres
   abbrev p : Pair
   p = h.pair
 
-  here : kept_pair_at_index t pair ≡ p
-  here = get_from t.pairs pair p no_pair h.there
+  here : thread_pair_at_index t pair ≡ p
+  here = get_from t.pairs pair p empty_pair_at_anchor h.there
 
   abbrev l : List Slot
   l = can.stands.left
@@ -94,8 +94,8 @@ module _ (t : Kept) (pair id : ℕ) (can : CanEndMoveAt t pair id false) (addres
   at_site : (P : Pair → Type 0) → Each P t.pairs → P p
   at_site P e = (each_right P (w.before ++ w.left) (p ∷ [] ++ (w.right ++ w.after)) (each_right P w.chain (dirs_at w (p ∷ [])) (subst (Each P) h.is e))).0
 
-  c : CompletesTo (raw_content_of_pair_at t.disk (kept_pair_at_index t pair).at) p.content
-  c = completes_to (raw_content_of_pair_at t.disk (kept_pair_at_index t pair).at) p.content (ap (λ (z : Pair). content_of_pair_at t.disk z.at) here
+  c : CompletesTo (raw_content_of_pair_at t.disk (thread_pair_at_index t pair).at) p.content
+  c = completes_to (raw_content_of_pair_at t.disk (thread_pair_at_index t pair).at) p.content (ap (λ (z : Pair). content_of_pair_at t.disk z.at) here
       ∙ at_site (λ x. content_of_pair_at t.disk x.at ≡ Some x.content) (recursion_from_All (λ (x : Pair). content_of_pair_at t.disk x.at ≡ Some x.content) t.pairs can.accepted.thread.contents))
 
   fits_there : IsContentFittingPair t.disk.block_size t.disk.page p.content
@@ -107,27 +107,27 @@ module _ (t : Kept) (pair id : ℕ) (can : CanEndMoveAt t pair id false) (addres
   parts : IsCompleted c.raw p.content
   parts = completed_parts c.raw p.content c.complete
 
-  delta_is : IsWellFormedMoveState p.content.move
-  delta_is = subst IsWellFormedMoveState (sym parts.move) (can.logged c.raw c.is).move
+  delta_is : AreMoveStateFieldsWithinBitWidths p.content.move
+  delta_is = subst AreMoveStateFieldsWithinBitWidths (sym parts.move) (can.logged c.raw c.is).move
 
-  is_state : IsWellFormedMoveState move
+  is_state : AreMoveStateFieldsWithinBitWidths move
   is_state =
       let few = fits_there.count in
       let m = within in
       let own = ap (λ (z : Pair). z.content.move) here in
       record {
-        kind = xor_lt 11 (gstate_of t.pairs).kind (kept_pair_at_index t pair).content.move.kind (let e = can.kind in omega arith) (let k = delta_is.kind in let e = ap (λ (z : Gstate). z.kind) own in omega arith);
-        id = xor_lt 10 (gstate_of t.pairs).id (kept_pair_at_index t pair).content.move.id (let e = can.id_is in omega arith) (let k = delta_is.id in let e = ap (λ (z : Gstate). z.id) own in omega arith);
+        kind = xor_lt 11 (gstate_of_pairs t.pairs).kind (thread_pair_at_index t pair).content.move.kind (let e = can.kind in omega arith) (let k = delta_is.kind in let e = ap (λ (z : Gstate). z.kind) own in omega arith);
+        id = xor_lt 10 (gstate_of_pairs t.pairs).id (thread_pair_at_index t pair).content.move.id (let e = can.id_is in omega arith) (let k = delta_is.id in let e = ap (λ (z : Gstate). z.id) own in omega arith);
         pair = address;
       }
 
-  abbrev raw_mid : RawContent
+  abbrev raw_mid : RawPairContent
   raw_mid = record c.raw { slots = remove c.raw.slots id }
 
-  abbrev raw_now : RawContent
+  abbrev raw_now : RawPairContent
   raw_now = record c.raw { slots = remove c.raw.slots id; move = delta_without_move t pair }
 
-  changed_now : content_after_changes c.raw (end_move_changes t pair id) ≡ Some raw_now
+  changed_now : raw_pair_content_after_changes c.raw (end_move_changes t pair id) ≡ Some raw_now
   changed_now =
       let few = fits_there.count in
       let n = complete_length c.raw.slots p.content.slots parts.slots in
@@ -140,8 +140,8 @@ module _ (t : Kept) (pair id : ℕ) (can : CanEndMoveAt t pair id false) (addres
 
   made : complete_content_after_changes t pair (end_move_changes t pair id) ≡ Some (content_with p (l ++ r) move)
   made =
-      ap (λ o. option_and_then content_if_slots_are_complete (option_and_then (λ (x : RawContent). content_after_changes x (end_move_changes t pair id)) o)) c.is
-      ∙ ap (λ o. option_and_then content_if_slots_are_complete o) changed_now
+      ap (λ o. option_and_then pair_content_if_slots_complete (option_and_then (λ (x : RawPairContent). raw_pair_content_after_changes x (end_move_changes t pair id)) o)) c.is
+      ∙ ap (λ o. option_and_then pair_content_if_slots_complete o) changed_now
       ∙ completed_from raw_now (remove p.content.slots id) (complete_remove c.raw.slots p.content.slots id parts.slots)
       ∙ ap₂ (λ s (z : Option Tail). Some (record { slots = s; tail = z; move = move })) slots_now (sym parts.tail)
 
@@ -150,7 +150,7 @@ module _ (t : Kept) (pair id : ℕ) (can : CanEndMoveAt t pair id false) (addres
     below = can.below;
     content = content_with p (l ++ r) move;
     made = made;
-    next = ap (λ (z : Pair). pair_named_by_tail z.content.tail) (sym here);
+    next = ap (λ (z : Pair). pair_address_named_by_tail z.content.tail) (sym here);
   }
 
   -- what is left fits
@@ -168,7 +168,7 @@ module _ (t : Kept) (pair id : ℕ) (can : CanEndMoveAt t pair id false) (addres
       let n = f.count in
       record { size = omega arith; count = omega arith }
 
-  pub end_not_refused : (new : Kept) → IsCommitRefused t pair (end_move_changes t pair id) new → ⊥
+  pub end_not_refused : (new : KeptThread) → IsCommitRefused t pair (end_move_changes t pair id) new → ⊥
   end_not_refused new is = is.too_large (subst (IsContentFittingPair t.disk.block_size t.disk.page) (sym (same_Some is.content (content_with p (l ++ r) move) (sym is.made ∙ made))) still_fits)
 
   -- ---- in the image
@@ -200,50 +200,50 @@ module _ (t : Kept) (pair id : ℕ) (can : CanEndMoveAt t pair id false) (addres
   ending : IsEnding t.disk w p l u r
   ending = record {
     accepted = subst (IsAcceptedImage t.disk) h.is can.accepted;
-    writable = subst (IsWritable t.disk) h.is can.writable;
+    writable = subst (IsWritableImage t.disk) h.is can.writable;
     site = h.is_site;
-    kind = sym (ap (λ z. (gstate_of z).kind) h.is) ∙ can.kind;
-    pair = ap₂ (λ z (x : Pair). same_pair (gstate_of z).pair x.at) (sym h.is) (sym here) ∙ can.named;
-    id = sym (ap (λ z. (gstate_of z).id) h.is) ∙ can.id_is ∙ sym can.stands.number;
+    kind = sym (ap (λ z. (gstate_of_pairs z).kind) h.is) ∙ can.kind;
+    pair = ap₂ (λ z (x : Pair). same_pair (gstate_of_pairs z).pair x.at) (sym h.is) (sym here) ∙ can.named;
+    id = sym (ap (λ z. (gstate_of_pairs z).id) h.is) ∙ can.id_is ∙ sym can.stands.number;
     held = held;
     other = can.stands.entry;
     filled = filled;
   }
 
   abbrev end_delta : Gstate
-  end_delta = gstate_xor (gstate_without_sync (gstate_of (thread_at w (p ∷ [])))) p.content.move
+  end_delta = gstate_xor (gstate_without_sync (gstate_of_pairs (thread_at w (p ∷ [])))) p.content.move
 
   move_is : move ≡ end_delta
-  move_is = ap₂ (λ z (x : Pair). gstate_xor (gstate_without_sync (gstate_of z)) x.content.move) h.is here
+  move_is = ap₂ (λ z (x : Pair). gstate_xor (gstate_without_sync (gstate_of_pairs z)) x.content.move) h.is here
 
   -- the pair alone, with the other slots
   abbrev pub q_of : Pair
   q_of = record { at = p.at; content = content_with p (l ++ r) move }
 
-  pub turned_alone : (disk : Disk) → HasTurned t.disk w p (l ++ r) move disk q_of [] → IsOnlyStep t.disk (thread_at w (p ∷ [])) disk (thread_at w (q_of ∷ [])) (λ t. t) (λ d. d)
+  pub turned_alone : (disk : Disk) → HasTurned t.disk w p (l ++ r) move disk q_of [] → IsWritableImageAfterTreeChange t.disk (thread_at w (p ∷ [])) disk (thread_at w (q_of ∷ [])) (λ t. t) (λ d. d)
   turned_alone disk x = ended t.disk w p l u r ending disk q_of (subst (λ m. HasTurned t.disk w p (l ++ r) m disk q_of []) move_is x)
 
   -- the others stay
-  still_there : (z : Pair) → z.content.slots ≡ [] → SomeIn (λ y. y ≡ z) (thread_at w (p ∷ [])) → SomeIn (λ y. y ≡ z) (thread_at w (q_of ∷ []))
+  still_there : (z : Pair) → z.content.slots ≡ [] → IsTrueOfSomeElement (λ y. y ≡ z) (thread_at w (p ∷ [])) → IsTrueOfSomeElement (λ y. y ≡ z) (thread_at w (q_of ∷ []))
   still_there z none among = past (among_parts (λ y. y ≡ z) w.chain (dirs_at w (p ∷ [])) among)
     where
       has_none : (xs : List Slot) → xs ++ u ∷ r ≡ [] → ⊥
       has_none [] e = absurd (cc)
       has_none (s ∷ xs) e = absurd (cc)
 
-      behind : SomeIn (λ y. y ≡ z) (p ∷ (w.right ++ w.after)) → SomeIn (λ y. y ≡ z) (q_of ∷ (w.right ++ w.after))
+      behind : IsTrueOfSomeElement (λ y. y ≡ z) (p ∷ (w.right ++ w.after)) → IsTrueOfSomeElement (λ y. y ≡ z) (q_of ∷ (w.right ++ w.after))
       behind (inl is) = absurd (has_none l (sym held ∙ ap (λ (y : Pair). y.content.slots) is ∙ none))
       behind (inr a) = inr a
 
-      within_dirs : SomeIn (λ y. y ≡ z) (w.before ++ w.left) ⊎ SomeIn (λ y. y ≡ z) (p ∷ (w.right ++ w.after)) → SomeIn (λ y. y ≡ z) (thread_at w (q_of ∷ []))
+      within_dirs : IsTrueOfSomeElement (λ y. y ≡ z) (w.before ++ w.left) ⊎ IsTrueOfSomeElement (λ y. y ≡ z) (p ∷ (w.right ++ w.after)) → IsTrueOfSomeElement (λ y. y ≡ z) (thread_at w (q_of ∷ []))
       within_dirs (inl a) = among_right (λ y. y ≡ z) w.chain (dirs_at w (q_of ∷ [])) (among_left (λ y. y ≡ z) (w.before ++ w.left) (q_of ∷ (w.right ++ w.after)) a)
       within_dirs (inr a) = among_right (λ y. y ≡ z) w.chain (dirs_at w (q_of ∷ [])) (among_right (λ y. y ≡ z) (w.before ++ w.left) (q_of ∷ (w.right ++ w.after)) (behind a))
 
-      past : SomeIn (λ y. y ≡ z) w.chain ⊎ SomeIn (λ y. y ≡ z) (dirs_at w (p ∷ [])) → SomeIn (λ y. y ≡ z) (thread_at w (q_of ∷ []))
+      past : IsTrueOfSomeElement (λ y. y ≡ z) w.chain ⊎ IsTrueOfSomeElement (λ y. y ≡ z) (dirs_at w (p ∷ [])) → IsTrueOfSomeElement (λ y. y ≡ z) (thread_at w (q_of ∷ []))
       past (inl a) = among_left (λ y. y ≡ z) w.chain (dirs_at w (q_of ∷ [])) a
       past (inr a) = within_dirs (among_parts (λ y. y ≡ z) (w.before ++ w.left) (p ∷ (w.right ++ w.after)) a)
 
-  pub has_ended : (new : Kept) → IsPairChanged t pair (end_move_changes t pair id) new → HasEndedMoveAt t pair id false new
+  pub has_ended : (new : KeptThread) → IsPairChanged t pair (end_move_changes t pair id) new → HasEndedMoveAt t pair id false new
   has_ended new is = go (changed_one t pair (end_move_changes t pair id) w p (l ++ r) move turn new is)
     where
       go : ChangedOne t pair w p (l ++ r) move new → HasEndedMoveAt t pair id false new
@@ -251,34 +251,34 @@ module _ (t : Kept) (pair id : ℕ) (can : CanEndMoveAt t pair id false) (addres
           let taken = turned_alone new.disk x.turned in
           let y = subst (λ m. HasTurned t.disk w p (l ++ r) m new.disk q_of []) move_is x.turned in
           record {
-            taken = subst (λ z. IsOnlyStep t.disk z new.disk new.pairs (λ t. t) (λ d. d)) (sym h.is) (subst (λ z. IsOnlyStep t.disk (thread_at w (p ∷ [])) new.disk z (λ t. t) (λ d. d)) (sym x.pairs) taken);
-            state = ap gstate_of x.pairs ∙ ended_state t.disk w p l u r ending new.disk q_of y ∙ ap (λ z. gstate_of_sync_alone (gstate_of z)) (sym h.is);
-            alike = subst (AreAlike (pairs_with_content_at_index t pair (content_after_move_ends t pair id))) (sym (x.is ∙ ap (λ d. pairs_with_content_at_index t pair d) (ap₂ (λ s (z : Pair). record { slots = s; tail = z.content.tail; move = move })
-                (sym slots_now ∙ ap (λ (z : Pair). remove z.content.slots id) (sym here)) (sym here)))) (alike_itself (pairs_with_content_at_index t pair (content_after_move_ends t pair id)));
+            taken = subst (λ z. IsWritableImageAfterTreeChange t.disk z new.disk new.pairs (λ t. t) (λ d. d)) (sym h.is) (subst (λ z. IsWritableImageAfterTreeChange t.disk (thread_at w (p ∷ [])) new.disk z (λ t. t) (λ d. d)) (sym x.pairs) taken);
+            state = ap gstate_of_pairs x.pairs ∙ ended_state t.disk w p l u r ending new.disk q_of y ∙ ap (λ z. gstate_of_sync_alone (gstate_of_pairs z)) (sym h.is);
+            alike = subst (ArePairsWithSameAddressesAndSlots (thread_pairs_with_content_replaced_at_index t pair (content_after_move_ends t pair id))) (sym (x.is ∙ ap (λ d. thread_pairs_with_content_replaced_at_index t pair d) (ap₂ (λ s (z : Pair). record { slots = s; tail = z.content.tail; move = move })
+                (sym slots_now ∙ ap (λ (z : Pair). remove z.content.slots id) (sym here)) (sym here)))) (alike_itself (thread_pairs_with_content_replaced_at_index t pair (content_after_move_ends t pair id)));
             map = x.map;
-            blocks = λ b. (let e = ap (λ z. count b (used_blocks new.disk z)) x.pairs ∙ ended_count t.disk w p l u r ending new.disk q_of y b ∙ ap (λ z. count b (used_blocks t.disk z)) (sym h.is) in omega arith);
+            blocks = λ b. (let e = ap (λ z. occurrence_count_of_number b (used_blocks new.disk z)) x.pairs ∙ ended_count t.disk w p l u r ending new.disk q_of y b ∙ ap (λ z. occurrence_count_of_number b (used_blocks t.disk z)) (sym h.is) in omega arith);
             shape = x.shape;
-            begins = ap (λ z. first_addresses (directories_in_thread z)) x.pairs ∙ ended_firsts t.disk w p l u r ending new.disk q_of y ∙ ap (λ z. first_addresses (directories_in_thread z)) (sym h.is);
-            kept = λ z none soft among. subst (SomeIn (λ y. y ≡ z)) (sym x.pairs) (still_there z none (subst (SomeIn (λ y. y ≡ z)) h.is among));
+            begins = ap (λ z. addresses_of_first_pairs_of_directories (directories_in_thread z)) x.pairs ∙ ended_firsts t.disk w p l u r ending new.disk q_of y ∙ ap (λ z. addresses_of_first_pairs_of_directories (directories_in_thread z)) (sym h.is);
+            kept = λ z none soft among. subst (IsTrueOfSomeElement (λ y. y ≡ z)) (sym x.pairs) (still_there z none (subst (IsTrueOfSomeElement (λ y. y ≡ z)) h.is among));
           }
 
   -- ---- at a stop
 
-  left_tree : (left : Blocks) → LeavesPairOldOrChanged t pair (end_move_changes t pair id) left → IsLeftOf (with_blocks left t.disk) (tree_on_disk t.disk t.pairs) (tree_on_disk t.disk t.pairs)
+  left_tree : (left : Blocks) → PowerLossLeavesPairOldOrChanged t pair (end_move_changes t pair id) left → IsLeftOf (disk_with_blocks left t.disk) (tree_on_disk t.disk t.pairs) (tree_on_disk t.disk t.pairs)
   left_tree left is = go (left_alone t pair (end_move_changes t pair id) w p (l ++ r) move turn left is)
     where
-      go : Stays t pair (end_move_changes t pair id) w p (l ++ r) move turn (with_blocks left t.disk) ⊎ HasTurned t.disk w p (l ++ r) move (with_blocks left t.disk) q_of []
-          → IsLeftOf (with_blocks left t.disk) (tree_on_disk t.disk t.pairs) (tree_on_disk t.disk t.pairs)
+      go : Stays t pair (end_move_changes t pair id) w p (l ++ r) move turn (disk_with_blocks left t.disk) ⊎ HasTurned t.disk w p (l ++ r) move (disk_with_blocks left t.disk) q_of []
+          → IsLeftOf (disk_with_blocks left t.disk) (tree_on_disk t.disk t.pairs) (tree_on_disk t.disk t.pairs)
       go (inl d) =
-          let f = nothing_came t.disk (with_blocks left t.disk) w p h.is_site (subst (IsAcceptedImage t.disk) h.is can.accepted) d in
+          let f = nothing_came t.disk (disk_with_blocks left t.disk) w p h.is_site (subst (IsAcceptedImage t.disk) h.is can.accepted) d in
           record {
             pairs = thread_at w (p ∷ []);
             accepted = f.accepted;
-            writable = writable_same t.disk (with_blocks left t.disk) (thread_at w (p ∷ [])) refl refl (subst (IsWritable t.disk) h.is can.writable);
+            writable = writable_same t.disk (disk_with_blocks left t.disk) (thread_at w (p ∷ [])) refl refl (subst (IsWritableImage t.disk) h.is can.writable);
             tree = inl (f.shows ∙ ap (tree_on_disk t.disk) (sym h.is));
           }
       go (inr x) =
-          let k = turned_alone (with_blocks left t.disk) x in
+          let k = turned_alone (disk_with_blocks left t.disk) x in
           record {
             pairs = thread_at w (q_of ∷ []);
             accepted = k.follows.accepted;
@@ -286,5 +286,5 @@ module _ (t : Kept) (pair id : ℕ) (can : CanEndMoveAt t pair id false) (addres
             tree = inl (k.follows.shows ∙ ap (tree_on_disk t.disk) (sym h.is));
           }
 
-  pub end_survives : (new : List CallEvent) → StopsAfterCleanErasesLeave t.history new (LeavesPairOldOrChanged t pair (end_move_changes t pair id)) → SurvivesStopsSince t.disk t.history new (tree_on_disk t.disk t.pairs) (tree_on_disk t.disk t.pairs)
-  end_survives new stops clean = IsTrueAfterEachStopSince-weaker left_tree (stops clean)
+  pub end_survives : (new : List DeviceCallEvent) → PowerLossLeavesSuchBlocksAfterCleanErases t.history new (PowerLossLeavesPairOldOrChanged t pair (end_move_changes t pair id)) → SurvivesPowerLossInCallsSince t.disk t.history new (tree_on_disk t.disk t.pairs) (tree_on_disk t.disk t.pairs)
+  end_survives new stops clean = IsTrueAfterAnyPowerLossSince-weaker left_tree (stops clean)

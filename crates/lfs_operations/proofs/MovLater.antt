@@ -3,20 +3,20 @@ use Rattle.std.proofs.Common.{ℕ, ◌≡◌, ◌⊎◌, inl, inr, Bool, false, 
 use Rattle.std.specs.Prelude.{IfErr}
 use Rattle.lfs_device.specs.declared.error.Error.{Error}
 use Rattle.lfs_device.specs.declared.error.Error.TheVariants.{Io, NoMemory, NoSpace}
-use Rattle.lfs_model.specs.Changes.{ContentChange}
+use Rattle.lfs_model.specs.Changes.{PairContentChange}
 use Rattle.lfs_model.specs.Disk.{Disk}
-use Rattle.lfs_model.specs.History.{CallEvent, faults}
+use Rattle.lfs_model.specs.History.{DeviceCallEvent, fault_count_of_history}
 use Rattle.lfs_model.specs.Names.{Name}
-use Rattle.lfs_model.specs.PowerLoss.{SurvivesStopsSince}
+use Rattle.lfs_model.specs.PowerLoss.{SurvivesPowerLossInCallsSince}
 use Rattle.lfs_model.specs.Shown.{tree_on_disk}
 use Rattle.lfs_model.specs.LoggedContent.{Are32BitPairAddresses}
 use Rattle.lfs_model.proofs.AfterStops.{survives_then}
-use Rattle.lfs_model.proofs.Histories.{IsWorstOutcomeOfStop-read, IsTrueAfterEachStopSince-reads, IsTrueAfterEachStopSince-trans, AreCallsSinceOnlyReads-trans, AreBytesStillUnprogrammed-reads, AreBytesStillUnprogrammed-trans}
-use Rattle.lfs_thread.specs.Kept.{Kept, ThreadView}
-use Rattle.lfs_thread.specs.Steps.{HasReportedIoOrUnwrittenNoMemory, IsThreadOnlyRead, kept_pair_at_index}
-use Rattle.lfs_operations.specs.Changing.{CanChangeOrSplitPair, IsPairChangedOrSplit, IsChangedContentTooLarge, HasTwoFreeBlocks, has_failed}
+use Rattle.lfs_model.proofs.Histories.{ArePossibleBlocksAfterPowerLossInCall-read, IsTrueAfterAnyPowerLossSince-read_count_of_history, IsTrueAfterAnyPowerLossSince-trans, AreCallsSinceOnlyReads-trans, AreBytesStillUnprogrammed-read_count_of_history, AreBytesStillUnprogrammed-trans}
+use Rattle.lfs_thread.specs.Kept.{KeptThread, ThreadView}
+use Rattle.lfs_thread.specs.Steps.{IoMeantFaultNoMemoryWroteNothing, IsThreadOnlyRead, thread_pair_at_index}
+use Rattle.lfs_operations.specs.Changing.{CanChangeOrSplitPair, IsPairChangedOrSplit, IsChangedContentTooLarge, HasTwoFreeBlocks, has_thread_failed_after_result}
 use Rattle.lfs_operations.specs.Editing.{CanEditEntryOfPair}
-use Rattle.lfs_operations.specs.MovingSteps.{CanEndMoveAfterPut, IsSlotPutAndMoveEnded, SurvivesBothMoveCommits, ReportsCommitsTakingBlocks, WritesTwoPairsAndTwoFreeBlocks}
+use Rattle.lfs_operations.specs.MovingSteps.{CanEndMoveAfterFirstCommit, IsSlotPutAndMoveEnded, SurvivesBothMoveCommits, ReportsErrorsOfCommitsTakingBlocks, WritesTwoPairsAndTwoFreeBlocks}
 use Rattle.lfs_operations.specs.MovingAcross.{CanRenameAcrossPairs, IsEntryRenamedAcrossPairs, rename_across_pairs_changes, tree_with_moved_entry}
 use Rattle.lfs_operations.specs.MovingOnto.{CanReplaceEntryAcrossPairs, IsFileReplacedAcrossPairs, replace_entry_across_pairs_changes}
 use Rattle.lfs_operations.specs.Ready.{IsImageReadyForChange}
@@ -30,8 +30,8 @@ use Rattle.lfs_operations.proofs.RenameRead.{read_survives, read_writes}
 
 -- ---- what is known before
 
-module _ (t : Kept) (h : List CallEvent) where
-  abbrev later : Kept
+module _ (t : KeptThread) (h : List DeviceCallEvent) where
+  abbrev later : KeptThread
   later = with_history t h
 
   pub ready_later : IsImageReadyForChange t → IsImageReadyForChange later
@@ -84,8 +84,8 @@ module _ (t : Kept) (h : List CallEvent) where
     fits = r.fits;
   }
 
-module _ (t mid : Kept) (only : IsThreadOnlyRead t mid) (old_pair old_id first new_pair new_id : ℕ) (name : Name) (rename : CanRenameAcrossPairs t old_pair old_id first new_pair new_id name) (address : Are32BitPairAddresses (kept_pair_at_index mid old_pair).at) where
-  abbrev later_t : Kept
+module _ (t mid : KeptThread) (only : IsThreadOnlyRead t mid) (old_pair old_id first new_pair new_id : ℕ) (name : Name) (rename : CanRenameAcrossPairs t old_pair old_id first new_pair new_id name) (address : Are32BitPairAddresses (thread_pair_at_index mid old_pair).at) where
+  abbrev later_t : KeptThread
   later_t = with_history t mid.history
 
   same : mid ≡ later_t
@@ -94,8 +94,8 @@ module _ (t mid : Kept) (only : IsThreadOnlyRead t mid) (old_pair old_id first n
   abbrev pub there : CanRenameAcrossPairs (with_history t mid.history) old_pair old_id first new_pair new_id name
   there = across_later t mid.history rename
 
-  there_address : Are32BitPairAddresses (kept_pair_at_index later_t old_pair).at
-  there_address = subst (λ k. Are32BitPairAddresses (kept_pair_at_index k old_pair).at) same address
+  there_address : Are32BitPairAddresses (thread_pair_at_index later_t old_pair).at
+  there_address = subst (λ k. Are32BitPairAddresses (thread_pair_at_index k old_pair).at) same address
 
   pub parts_later : nameless_slot_at mid old_pair old_id ≡ nameless_slot_at t old_pair old_id
   parts_later = ap (λ k. nameless_slot_at k old_pair old_id) same
@@ -106,21 +106,21 @@ module _ (t mid : Kept) (only : IsThreadOnlyRead t mid) (old_pair old_id first n
   pub can_put_later : CanChangeOrSplitPair mid new_pair (rename_across_pairs_changes mid old_pair old_id new_pair new_id name)
   can_put_later = subst (λ k. CanChangeOrSplitPair k new_pair (rename_across_pairs_changes k old_pair old_id new_pair new_id name)) (sym same) (can_put_across later_t old_pair old_id first new_pair new_id name there there_address)
 
-  pub ends_later : (last : Kept) → IsPairChangedOrSplit mid new_pair (rename_across_pairs_changes mid old_pair old_id new_pair new_id name) last → CanEndMoveAfterPut mid old_pair old_id (is_pair_dropped_with_slot t old_pair first) new_pair last
-  ends_later = subst (λ k. (last : Kept) → IsPairChangedOrSplit k new_pair (rename_across_pairs_changes k old_pair old_id new_pair new_id name) last → CanEndMoveAfterPut k old_pair old_id (is_pair_dropped_with_slot t old_pair first) new_pair last) (sym same)
+  pub ends_later : (last : KeptThread) → IsPairChangedOrSplit mid new_pair (rename_across_pairs_changes mid old_pair old_id new_pair new_id name) last → CanEndMoveAfterFirstCommit mid old_pair old_id (is_pair_dropped_with_slot t old_pair first) new_pair last
+  ends_later = subst (λ k. (last : KeptThread) → IsPairChangedOrSplit k new_pair (rename_across_pairs_changes k old_pair old_id new_pair new_id name) last → CanEndMoveAfterFirstCommit k old_pair old_id (is_pair_dropped_with_slot t old_pair first) new_pair last) (sym same)
       (ends_across later_t old_pair old_id first new_pair new_id name there there_address)
 
   -- ---- what comes of it
 
-  became_earlier : (new : Kept) → IsEntryRenamedAcrossPairs later_t new rename.old.path rename.old.name rename.path name → IsEntryRenamedAcrossPairs t new rename.old.path rename.old.name rename.path name
+  became_earlier : (new : KeptThread) → IsEntryRenamedAcrossPairs later_t new rename.old.path rename.old.name rename.path name → IsEntryRenamedAcrossPairs t new rename.old.path rename.old.name rename.path name
   became_earlier new x = record { now = record { ready = x.now.ready; shows = x.now.shows; flying = x.now.flying; root = x.now.root }; completed = x.completed }
 
-  pub renamed_later : (new : Kept) → IsSlotPutAndMoveEnded mid old_pair old_id (is_pair_dropped_with_slot t old_pair first) new_pair (rename_across_pairs_changes mid old_pair old_id new_pair new_id name) new → IsEntryRenamedAcrossPairs t new rename.old.path rename.old.name rename.path name
+  pub renamed_later : (new : KeptThread) → IsSlotPutAndMoveEnded mid old_pair old_id (is_pair_dropped_with_slot t old_pair first) new_pair (rename_across_pairs_changes mid old_pair old_id new_pair new_id name) new → IsEntryRenamedAcrossPairs t new rename.old.path rename.old.name rename.path name
   renamed_later new is = became_earlier new (renamed_across later_t old_pair old_id first new_pair new_id name there there_address new
       (subst (λ k. IsSlotPutAndMoveEnded k old_pair old_id (is_pair_dropped_with_slot t old_pair first) new_pair (rename_across_pairs_changes k old_pair old_id new_pair new_id name) new) same is))
 
-  pub survives_later : (one : ℕ) (new : Kept) → WritesTwoPairsAndTwoFreeBlocks mid one new_pair new → SurvivesBothMoveCommits mid new_pair (rename_across_pairs_changes mid old_pair old_id new_pair new_id name) new
-      → SurvivesStopsSince t.disk t.history new.history (tree_on_disk t.disk t.pairs) (tree_with_moved_entry t rename.old.path rename.old.name rename.path name)
+  pub survives_later : (one : ℕ) (new : KeptThread) → WritesTwoPairsAndTwoFreeBlocks mid one new_pair new → SurvivesBothMoveCommits mid new_pair (rename_across_pairs_changes mid old_pair old_id new_pair new_id name) new
+      → SurvivesPowerLossInCallsSince t.disk t.history new.history (tree_on_disk t.disk t.pairs) (tree_with_moved_entry t rename.old.path rename.old.name rename.path name)
   survives_later one new w both =
       let after = tree_with_moved_entry t rename.old.path rename.old.name rename.path name in
       let from = subst (λ k. SurvivesBothMoveCommits k new_pair (rename_across_pairs_changes k old_pair old_id new_pair new_id name) new) same both in
@@ -130,8 +130,8 @@ module _ (t mid : Kept) (only : IsThreadOnlyRead t mid) (old_pair old_id first n
 
 -- ---- the same onto an entry
 
-module _ (sync : Bool) (t mid : Kept) (only : IsThreadOnlyRead t mid) (old_pair old_id first new_pair new_id : ℕ) (name : Name) (rename : CanReplaceEntryAcrossPairs t sync old_pair old_id first new_pair new_id name) (address : Are32BitPairAddresses (kept_pair_at_index mid old_pair).at) where
-  abbrev later_u : Kept
+module _ (sync : Bool) (t mid : KeptThread) (only : IsThreadOnlyRead t mid) (old_pair old_id first new_pair new_id : ℕ) (name : Name) (rename : CanReplaceEntryAcrossPairs t sync old_pair old_id first new_pair new_id name) (address : Are32BitPairAddresses (thread_pair_at_index mid old_pair).at) where
+  abbrev later_u : KeptThread
   later_u = with_history t mid.history
 
   same_u : mid ≡ later_u
@@ -140,8 +140,8 @@ module _ (sync : Bool) (t mid : Kept) (only : IsThreadOnlyRead t mid) (old_pair 
   abbrev pub onto_there : CanReplaceEntryAcrossPairs (with_history t mid.history) sync old_pair old_id first new_pair new_id name
   onto_there = onto_later t mid.history rename
 
-  here_address : Are32BitPairAddresses (kept_pair_at_index later_u old_pair).at
-  here_address = subst (λ k. Are32BitPairAddresses (kept_pair_at_index k old_pair).at) same_u address
+  here_address : Are32BitPairAddresses (thread_pair_at_index later_u old_pair).at
+  here_address = subst (λ k. Are32BitPairAddresses (thread_pair_at_index k old_pair).at) same_u address
 
   pub parts_onto_later : nameless_slot_at mid old_pair old_id ≡ nameless_slot_at t old_pair old_id
   parts_onto_later = ap (λ k. nameless_slot_at k old_pair old_id) same_u
@@ -152,21 +152,21 @@ module _ (sync : Bool) (t mid : Kept) (only : IsThreadOnlyRead t mid) (old_pair 
   pub can_put_onto_later : CanChangeOrSplitPair mid new_pair (replace_entry_across_pairs_changes sync mid old_pair old_id new_pair new_id name)
   can_put_onto_later = subst (λ k. CanChangeOrSplitPair k new_pair (replace_entry_across_pairs_changes sync k old_pair old_id new_pair new_id name)) (sym same_u) (can_put_onto sync later_u old_pair old_id first new_pair new_id name onto_there here_address)
 
-  pub ends_onto_later : (last : Kept) → IsPairChangedOrSplit mid new_pair (replace_entry_across_pairs_changes sync mid old_pair old_id new_pair new_id name) last → CanEndMoveAfterPut mid old_pair old_id (is_pair_dropped_with_slot t old_pair first) new_pair last
-  ends_onto_later = subst (λ k. (last : Kept) → IsPairChangedOrSplit k new_pair (replace_entry_across_pairs_changes sync k old_pair old_id new_pair new_id name) last → CanEndMoveAfterPut k old_pair old_id (is_pair_dropped_with_slot t old_pair first) new_pair last) (sym same_u)
+  pub ends_onto_later : (last : KeptThread) → IsPairChangedOrSplit mid new_pair (replace_entry_across_pairs_changes sync mid old_pair old_id new_pair new_id name) last → CanEndMoveAfterFirstCommit mid old_pair old_id (is_pair_dropped_with_slot t old_pair first) new_pair last
+  ends_onto_later = subst (λ k. (last : KeptThread) → IsPairChangedOrSplit k new_pair (replace_entry_across_pairs_changes sync k old_pair old_id new_pair new_id name) last → CanEndMoveAfterFirstCommit k old_pair old_id (is_pair_dropped_with_slot t old_pair first) new_pair last) (sym same_u)
       (ends_onto sync later_u old_pair old_id first new_pair new_id name onto_there here_address)
 
   -- ---- what comes of it
 
-  replaced_earlier : (new : Kept) → IsFileReplacedAcrossPairs later_u new rename.old.path rename.old.name rename.path name rename.target.stands.slot.struct → IsFileReplacedAcrossPairs t new rename.old.path rename.old.name rename.path name rename.target.stands.slot.struct
+  replaced_earlier : (new : KeptThread) → IsFileReplacedAcrossPairs later_u new rename.old.path rename.old.name rename.path name rename.target.stands.slot.struct → IsFileReplacedAcrossPairs t new rename.old.path rename.old.name rename.path name rename.target.stands.slot.struct
   replaced_earlier new x = record { now = record { ready = x.now.ready; shows = x.now.shows; flying = x.now.flying; root = x.now.root }; once = x.once; completed = x.completed }
 
-  pub replaced_later : sync ≡ false → (new : Kept) → IsSlotPutAndMoveEnded mid old_pair old_id (is_pair_dropped_with_slot t old_pair first) new_pair (replace_entry_across_pairs_changes sync mid old_pair old_id new_pair new_id name) new → IsFileReplacedAcrossPairs t new rename.old.path rename.old.name rename.path name rename.target.stands.slot.struct
+  pub replaced_later : sync ≡ false → (new : KeptThread) → IsSlotPutAndMoveEnded mid old_pair old_id (is_pair_dropped_with_slot t old_pair first) new_pair (replace_entry_across_pairs_changes sync mid old_pair old_id new_pair new_id name) new → IsFileReplacedAcrossPairs t new rename.old.path rename.old.name rename.path name rename.target.stands.slot.struct
   replaced_later plain new is = replaced_earlier new (replaced_across sync later_u old_pair old_id first new_pair new_id name onto_there here_address plain new
       (subst (λ k. IsSlotPutAndMoveEnded k old_pair old_id (is_pair_dropped_with_slot t old_pair first) new_pair (replace_entry_across_pairs_changes sync k old_pair old_id new_pair new_id name) new) same_u is))
 
-  pub survives_onto_later : (one : ℕ) (new : Kept) → WritesTwoPairsAndTwoFreeBlocks mid one new_pair new → SurvivesBothMoveCommits mid new_pair (replace_entry_across_pairs_changes sync mid old_pair old_id new_pair new_id name) new
-      → SurvivesStopsSince t.disk t.history new.history (tree_on_disk t.disk t.pairs) (tree_with_moved_entry t rename.old.path rename.old.name rename.path name)
+  pub survives_onto_later : (one : ℕ) (new : KeptThread) → WritesTwoPairsAndTwoFreeBlocks mid one new_pair new → SurvivesBothMoveCommits mid new_pair (replace_entry_across_pairs_changes sync mid old_pair old_id new_pair new_id name) new
+      → SurvivesPowerLossInCallsSince t.disk t.history new.history (tree_on_disk t.disk t.pairs) (tree_with_moved_entry t rename.old.path rename.old.name rename.path name)
   survives_onto_later one new w both =
       let after = tree_with_moved_entry t rename.old.path rename.old.name rename.path name in
       let from = subst (λ k. SurvivesBothMoveCommits k new_pair (replace_entry_across_pairs_changes sync k old_pair old_id new_pair new_id name) new) same_u both in
@@ -176,7 +176,7 @@ module _ (sync : Bool) (t mid : Kept) (only : IsThreadOnlyRead t mid) (old_pair 
 
 -- ---- what it tells
 
-only_then : (a b c : Kept) → IsThreadOnlyRead a b → IsThreadOnlyRead b c → IsThreadOnlyRead a c
+only_then : (a b c : KeptThread) → IsThreadOnlyRead a b → IsThreadOnlyRead b c → IsThreadOnlyRead a c
 only_then a b c x y = record {
   disk = y.disk ∙ x.disk;
   reads = AreCallsSinceOnlyReads-trans x.reads y.reads (ap (λ (d : Disk). d.blocks) x.disk);
@@ -184,8 +184,8 @@ only_then a b c x y = record {
   map = y.map ∙ x.map;
 }
 
-pub reports_after_read : {X : Type 0} (old mid new : ThreadView) (index : ℕ) (changes : List ContentChange) (r : Result X Error) → IsThreadOnlyRead old.kept mid.kept → faults mid.kept.history ≡ faults old.kept.history
-    → ReportsCommitsTakingBlocks mid new index changes r → ReportsCommitsTakingBlocks old new index changes r
+pub reports_after_read : {X : Type 0} (old mid new : ThreadView) (index : ℕ) (changes : List PairContentChange) (r : Result X Error) → IsThreadOnlyRead old.kept mid.kept → fault_count_of_history mid.kept.history ≡ fault_count_of_history old.kept.history
+    → ReportsErrorsOfCommitsTakingBlocks mid new index changes r → ReportsErrorsOfCommitsTakingBlocks old new index changes r
 reports_after_read old mid new index changes r only same h = record {
   failed = go h.failed;
   errors = h.errors;
@@ -196,13 +196,13 @@ reports_after_read old mid new index changes r only same h = record {
   too_large = λ none. subst (λ k. IsChangedContentTooLarge k index changes) (read_is old.kept mid.kept only) (h.too_large none);
 }
   where
-    go : (new.failed ≡ has_failed r) ⊎ ((new.failed ≡ false) × IsThreadOnlyRead mid.kept new.kept) → (new.failed ≡ has_failed r) ⊎ ((new.failed ≡ false) × IsThreadOnlyRead old.kept new.kept)
+    go : (new.failed ≡ has_thread_failed_after_result r) ⊎ ((new.failed ≡ false) × IsThreadOnlyRead mid.kept new.kept) → (new.failed ≡ has_thread_failed_after_result r) ⊎ ((new.failed ≡ false) × IsThreadOnlyRead old.kept new.kept)
     go (inl e) = inl e
     go (inr (e, o)) = inr (e, only_then old.kept mid.kept new.kept only o)
 
 -- no room for the changes
-pub reports_unmade : {Y : Type 0} (old new : ThreadView) (index : ℕ) (changes : List ContentChange) (given : Result Y Error) → given ≡ Err NoMemory → new.failed ≡ false → IsThreadOnlyRead old.kept new.kept
-    → faults new.kept.history ≡ faults old.kept.history → ReportsCommitsTakingBlocks old new index changes given
+pub reports_unmade : {Y : Type 0} (old new : ThreadView) (index : ℕ) (changes : List PairContentChange) (given : Result Y Error) → given ≡ Err NoMemory → new.failed ≡ false → IsThreadOnlyRead old.kept new.kept
+    → fault_count_of_history new.kept.history ≡ fault_count_of_history old.kept.history → ReportsErrorsOfCommitsTakingBlocks old new index changes given
 reports_unmade old new index changes given same works only none = record {
   failed = inr (works, only);
   errors = subst (λ r. IfErr r (λ x. (x ≡ Io) ⊎ ((x ≡ NoMemory) ⊎ (x ≡ NoSpace)))) (sym same) (inr (inl refl));
@@ -213,7 +213,7 @@ reports_unmade old new index changes given same works only none = record {
   too_large = λ e. absurd (let z = sym same ∙ e in cc);
 }
 
-pub writes_after_read : (t mid new : Kept) (one other : ℕ) → IsThreadOnlyRead t mid → WritesTwoPairsAndTwoFreeBlocks mid one other new → WritesTwoPairsAndTwoFreeBlocks t one other new
+pub writes_after_read : (t mid new : KeptThread) (one other : ℕ) → IsThreadOnlyRead t mid → WritesTwoPairsAndTwoFreeBlocks mid one other new → WritesTwoPairsAndTwoFreeBlocks t one other new
 writes_after_read t mid new one other only w =
     let f = subst (λ k. WritesTwoPairsAndTwoFreeBlocks k one other new) (read_is t mid only) w in
     earlier f
@@ -225,11 +225,11 @@ writes_after_read t mid new one other only w =
       free = f.free;
       writes = record {
         others = f.writes.others;
-        elsewhere = AreBytesStillUnprogrammed-trans (AreBytesStillUnprogrammed-reads ((kept_pair_at_index t other).at.0 ∷ (kept_pair_at_index t other).at.1 ∷ (kept_pair_at_index t one).at.0 ∷ (kept_pair_at_index t one).at.1 ∷ f.fresh) only.reads) f.writes.elsewhere;
+        elsewhere = AreBytesStillUnprogrammed-trans (AreBytesStillUnprogrammed-read_count_of_history ((thread_pair_at_index t other).at.0 ∷ (thread_pair_at_index t other).at.1 ∷ (thread_pair_at_index t one).at.0 ∷ (thread_pair_at_index t one).at.1 ∷ f.fresh) only.reads) f.writes.elsewhere;
         shape = f.writes.shape;
-        at_worst = IsTrueAfterEachStopSince-trans (IsTrueAfterEachStopSince-reads IsWorstOutcomeOfStop-read only.reads (record { count = refl; sizes = λ b. refl; others = λ b apart. refl })) f.writes.at_worst;
+        at_worst = IsTrueAfterAnyPowerLossSince-trans (IsTrueAfterAnyPowerLossSince-read_count_of_history ArePossibleBlocksAfterPowerLossInCall-read only.reads (record { count = refl; sizes = λ b. refl; others = λ b apart. refl })) f.writes.at_worst;
       };
     }
 
-pub writes_read : (t mid : Kept) (one other : ℕ) → IsThreadOnlyRead t mid → WritesTwoPairsAndTwoFreeBlocks t one other mid
+pub writes_read : (t mid : KeptThread) (one other : ℕ) → IsThreadOnlyRead t mid → WritesTwoPairsAndTwoFreeBlocks t one other mid
 writes_read t mid one other only = writes_first t mid one other (read_writes t mid only other)

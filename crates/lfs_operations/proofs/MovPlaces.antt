@@ -5,7 +5,7 @@ use Rattle.lfs_model.specs.declared.order.NameOrder.{NameOrder}
 use Rattle.lfs_model.specs.Disk.{Disk}
 use Rattle.lfs_model.specs.Names.{Name, name_cmp}
 use Rattle.lfs_model.specs.Slots.{Slot, Gstate, is_superblock, same_pair}
-use Rattle.lfs_model.specs.Thread.{Pair, gstate_of, slots_not_moved, entries_not_moved, directories_of_pairs, entries_of_directory}
+use Rattle.lfs_model.specs.Thread.{Pair, gstate_of_pairs, slots_not_moved, entries_not_moved, directories_of_pairs, entries_of_directory}
 use Rattle.lfs_model.specs.Tree.{Path, EntriesByDirectory}
 use Rattle.lfs_model.specs.Shown.{directories_in_thread, entries_by_directory_in_thread, IsPathToDirectory}
 use Rattle.lfs_model.proofs.Counts.{Each, each_append, each_left, each_right, each_weaker, each_always, each_pieces, each_joined}
@@ -18,7 +18,7 @@ use Rattle.lfs_model.proofs.Names.{IsPlace}
 use Rattle.lfs_model.proofs.Pairs.{put}
 use Rattle.lfs_model.proofs.Rests.{hidden_visible, unmoved_elsewhere}
 use Rattle.lfs_model.proofs.Sites.{Site, dirs_at, thread_at, begin_of, shown_at, run_changed}
-use Rattle.lfs_model.proofs.Splices.{slots_in, entries_only, visible_in}
+use Rattle.lfs_model.proofs.Splices.{slots_of_pairs_in_order, slots_without_superblock, visible_in}
 use Rattle.lfs_model.proofs.Superblocks.{pairs_behind}
 
 -- ---- lists
@@ -80,24 +80,24 @@ each_unmoved Q g p h = go (nat_eq g.kind 0x4ff && same_pair g.pair p.at)
 abbrev IfOther : (Slot → Type 0) → Slot → Type 0
 IfOther F s = is_superblock s ≡ false → F s
 
-from_entries : (F : Slot → Type 0) (ss : List Slot) → Each F (entries_only ss) → Each (IfOther F) ss
+from_entries : (F : Slot → Type 0) (ss : List Slot) → Each F (slots_without_superblock ss) → Each (IfOther F) ss
 from_entries F [] h = tt
 from_entries F (s ∷ ss) h = go (is_superblock s) refl h (λ k. from_entries F ss k)
   where
-    go : (b : Bool) → is_superblock s ≡ b → Each F (cond (not b) (s ∷ entries_only ss) (entries_only ss)) → (Each F (entries_only ss) → Each (IfOther F) ss) → Each (IfOther F) (s ∷ ss)
+    go : (b : Bool) → is_superblock s ≡ b → Each F (cond (not b) (s ∷ slots_without_superblock ss) (slots_without_superblock ss)) → (Each F (slots_without_superblock ss) → Each (IfOther F) ss) → Each (IfOther F) (s ∷ ss)
     go true e k rest = ((λ f. absurd (let z = sym e ∙ f in cc)), rest k)
     go false e k rest = ((λ f. k.0), rest k.1)
 
-to_entries : (F : Slot → Type 0) (ss : List Slot) → Each (IfOther F) ss → Each F (entries_only ss)
+to_entries : (F : Slot → Type 0) (ss : List Slot) → Each (IfOther F) ss → Each F (slots_without_superblock ss)
 to_entries F [] h = tt
 to_entries F (s ∷ ss) h = go (is_superblock s) refl (to_entries F ss h.1)
   where
-    go : (b : Bool) → is_superblock s ≡ b → Each F (entries_only ss) → Each F (cond (not b) (s ∷ entries_only ss) (entries_only ss))
+    go : (b : Bool) → is_superblock s ≡ b → Each F (slots_without_superblock ss) → Each F (cond (not b) (s ∷ slots_without_superblock ss) (slots_without_superblock ss))
     go true e rest = rest
     go false e rest = (h.0 e, rest)
 
 -- what holds of the entries of pairs holds of those that are visible
-visible_each : (F : Slot → Type 0) (g : Gstate) (ss : List Pair) → Each (IfOther F) (slots_in ss) → Each F (flat_map (entries_not_moved g) ss)
+visible_each : (F : Slot → Type 0) (g : Gstate) (ss : List Pair) → Each (IfOther F) (slots_of_pairs_in_order ss) → Each F (flat_map (entries_not_moved g) ss)
 visible_each F g ss h = subst (Each F) (sym (hidden_visible g ss)) (to_entries F (flat_map (slots_not_moved g) ss)
     (each_joined (IfOther F) (slots_not_moved g) ss (each_weaker (λ (s : Pair). Each (IfOther F) s.content.slots) (λ s. Each (IfOther F) (slots_not_moved g s)) (λ s k. each_unmoved (IfOther F) g s k) ss
     (each_pieces (IfOther F) (λ (s : Pair). s.content.slots) ss h))))
@@ -142,10 +142,10 @@ module _ (disk new : Disk) (wo : Site) (o : Pair) (lo : List Slot) (u : Slot) (r
   ps = thread_at w (p ∷ [])
 
   abbrev g : Gstate
-  g = gstate_of ps
+  g = gstate_of_pairs ps
 
   abbrev h : Gstate
-  h = gstate_of (thread_at w (q ∷ more))
+  h = gstate_of_pairs (thread_at w (q ∷ more))
 
   abbrev dirs : List Pair
   dirs = dirs_at w (p ∷ [])
@@ -169,7 +169,7 @@ module _ (disk new : Disk) (wo : Site) (o : Pair) (lo : List Slot) (u : Slot) (r
   around_itself = record { before = same_under h w.before; left = same_under h w.left; right = same_under h w.right; after = same_under h w.after }
 
   abbrev Far : Pair → Type 0
-  Far s = same_pair (gstate_of (thread_at w (q ∷ more))).pair s.at ≡ false
+  Far s = same_pair (gstate_of_pairs (thread_at w (q ∷ more))).pair s.at ≡ false
 
   far_front : Each Far (wo.before ++ wo.left)
   far_front = each_left Far (wo.before ++ wo.left) (wo.right ++ wo.after) (each_right Far w.chain ((wo.before ++ wo.left) ++ (wo.right ++ wo.after)) step.elsewhere)
@@ -179,7 +179,7 @@ module _ (disk new : Disk) (wo : Site) (o : Pair) (lo : List Slot) (u : Slot) (r
 
   far_same : (ss : List Pair) → Each Far ss → SameVisible g h ss
   far_same ss k = each_weaker Far (λ s. entries_not_moved h s ≡ entries_not_moved g s)
-      (λ s e. ap entries_only (unmoved_elsewhere h s e ∙ sym (unmoved_all g step.no_move s))) ss k
+      (λ s e. ap slots_without_superblock (unmoved_elsewhere h s e ∙ sym (unmoved_all g step.no_move s))) ss k
 
   around_old : SameAround g h wo
   around_old = record {
@@ -207,7 +207,7 @@ module _ (disk new : Disk) (wo : Site) (o : Pair) (lo : List Slot) (u : Slot) (r
 
   hidden_there : flat_map (entries_not_moved g) wo.left ++ (flat_map (entries_not_moved h) (o ∷ []) ++ flat_map (entries_not_moved g) wo.right) ≡ remove (E0 b) (place_at wo lo)
   hidden_there = ap₂ (λ x y. x ++ (flat_map (entries_not_moved h) (o ∷ []) ++ y)) (visible_in g step.no_move wo.left) (visible_in g step.no_move wo.right)
-      ∙ ap (λ z. entries_only (slots_in wo.left) ++ (z ++ entries_only (slots_in wo.right))) (append-nil (entries_not_moved h o) ∙ ap entries_only hides)
+      ∙ ap (λ z. slots_without_superblock (slots_of_pairs_in_order wo.left) ++ (z ++ slots_without_superblock (slots_of_pairs_in_order wo.right))) (append-nil (entries_not_moved h o) ∙ ap slots_without_superblock hides)
       ∙ shown_place wo lo [] ro
       ∙ sym (ap (λ s. remove s (place_at wo lo)) showed ∙ remove_here (shown_before wo lo) (shown_behind wo ro) u)
 
@@ -217,34 +217,34 @@ module _ (disk new : Disk) (wo : Site) (o : Pair) (lo : List Slot) (u : Slot) (r
       ∙ ap₂ (λ ds s. put (entries_of_directory ds) b s x) (sym were) hidden_there
 
   abbrev shown_front : List Slot
-  shown_front = flat_map (entries_not_moved h) w.left ++ entries_only l
+  shown_front = flat_map (entries_not_moved h) w.left ++ slots_without_superblock l
 
   abbrev shown_back : List Slot
-  shown_back = entries_only r ++ flat_map (entries_not_moved h) w.right
+  shown_back = slots_without_superblock r ++ flat_map (entries_not_moved h) w.right
 
-  hidden_none : (ss : List Pair) → Each Far ss → flat_map (slots_not_moved h) ss ≡ slots_in ss
+  hidden_none : (ss : List Pair) → Each Far ss → flat_map (slots_not_moved h) ss ≡ slots_of_pairs_in_order ss
   hidden_none [] k = refl
   hidden_none (s ∷ ss) k = ap₂ (λ x y. x ++ y) (unmoved_elsewhere h s k.0) (hidden_none ss k.1)
 
   there_before : E1 a ≡ shown_front ++ shown_back
   there_before = sym (without a) ∙ site_own h h w p [] q more step.site.ends step.site.run run_now step.shape.at around_itself a same (apart_under h)
-      ∙ ap (λ z. flat_map (entries_not_moved h) w.left ++ (z ++ flat_map (entries_not_moved h) w.right)) (hidden_visible h (p ∷ []) ∙ ap entries_only (hidden_none (p ∷ []) step.apart ∙ step.was))
+      ∙ ap (λ z. flat_map (entries_not_moved h) w.left ++ (z ++ flat_map (entries_not_moved h) w.right)) (hidden_visible h (p ∷ []) ∙ ap slots_without_superblock (hidden_none (p ∷ []) step.apart ∙ step.was))
       ∙ ap (λ z. flat_map (entries_not_moved h) w.left ++ (z ++ flat_map (entries_not_moved h) w.right)) (filter-append (λ (s : Slot). not (is_superblock s)) l r)
-      ∙ ap (λ z. flat_map (entries_not_moved h) w.left ++ z) (append_assoc (entries_only l) (entries_only r) (flat_map (entries_not_moved h) w.right))
-      ∙ sym (append_assoc (flat_map (entries_not_moved h) w.left) (entries_only l) (entries_only r ++ flat_map (entries_not_moved h) w.right))
+      ∙ ap (λ z. flat_map (entries_not_moved h) w.left ++ z) (append_assoc (slots_without_superblock l) (slots_without_superblock r) (flat_map (entries_not_moved h) w.right))
+      ∙ sym (append_assoc (flat_map (entries_not_moved h) w.left) (slots_without_superblock l) (slots_without_superblock r ++ flat_map (entries_not_moved h) w.right))
 
   -- a name's place is between the same entries
   pub hidden_place : (name : Name) → IsPlace disk.order (entries_by_directory_in_thread (thread_at w (p ∷ [])) a) (place_at w l) name
-      → IsPlace disk.order (put (entries_by_directory_in_thread (thread_at w (p ∷ []))) b (remove (entries_by_directory_in_thread (thread_at w (p ∷ [])) b) (place_at wo lo)) a) (length (flat_map (entries_not_moved (gstate_of (thread_at w (q ∷ more)))) w.left ++ entries_only l)) name
+      → IsPlace disk.order (put (entries_by_directory_in_thread (thread_at w (p ∷ []))) b (remove (entries_by_directory_in_thread (thread_at w (p ∷ [])) b) (place_at wo lo)) a) (length (flat_map (entries_not_moved (gstate_of_pairs (thread_at w (q ∷ more)))) w.left ++ slots_without_superblock l)) name
   hidden_place name place =
       let shows : entries_by_directory_in_thread (thread_at w (p ∷ [])) a ≡ shown_before w l ++ shown_behind w r
       = site_shows disk w p l [] r a step.accepted step.site step.no_move same (sym (append-nil p.content.slots) ∙ step.was) in
       let here = subst (λ z. IsPlace disk.order z (place_at w l) name) shows place in
-      let less = from_entries (λ s. name_cmp disk.order s.name name ≡ Less) (slots_in w.left ++ l) (less_parts (shown_before w l) (shown_behind w r) name here) in
-      let more_than = from_entries (λ s. name_cmp disk.order name s.name ≡ Less) (r ++ slots_in w.right) (greater_parts (shown_before w l) (shown_behind w r) name here) in
+      let less = from_entries (λ s. name_cmp disk.order s.name name ≡ Less) (slots_of_pairs_in_order w.left ++ l) (less_parts (shown_before w l) (shown_behind w r) name here) in
+      let more_than = from_entries (λ s. name_cmp disk.order name s.name ≡ Less) (r ++ slots_of_pairs_in_order w.right) (greater_parts (shown_before w l) (shown_behind w r) name here) in
       let L : Slot → Type 0 = λ s. name_cmp disk.order s.name name ≡ Less in
       let G : Slot → Type 0 = λ s. name_cmp disk.order name s.name ≡ Less in
       subst (λ z. IsPlace disk.order z (length shown_front) name) (sym there_before) (place_between shown_front shown_back name
-      (each_append L (flat_map (entries_not_moved h) w.left) (entries_only l) (visible_each L h w.left (each_left (IfOther L) (slots_in w.left) l less)) (to_entries L l (each_right (IfOther L) (slots_in w.left) l less)))
-      (each_append G (entries_only r) (flat_map (entries_not_moved h) w.right) (to_entries G r (each_left (IfOther G) r (slots_in w.right) more_than))
-      (visible_each G h w.right (each_right (IfOther G) r (slots_in w.right) more_than))))
+      (each_append L (flat_map (entries_not_moved h) w.left) (slots_without_superblock l) (visible_each L h w.left (each_left (IfOther L) (slots_of_pairs_in_order w.left) l less)) (to_entries L l (each_right (IfOther L) (slots_of_pairs_in_order w.left) l less)))
+      (each_append G (slots_without_superblock r) (flat_map (entries_not_moved h) w.right) (to_entries G r (each_left (IfOther G) r (slots_of_pairs_in_order w.right) more_than))
+      (visible_each G h w.right (each_right (IfOther G) r (slots_of_pairs_in_order w.right) more_than))))

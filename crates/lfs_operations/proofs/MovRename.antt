@@ -4,24 +4,24 @@ use Rattle.std.specs.Option.{option_and_then}
 use Rattle.std.specs.List.{IsDistinct}
 use Rattle.std.proofs.lemmas.Nat.{xor_lt}
 use Rattle.std.proofs.lemmas.List.Sums.{sum_by-append}
-use Rattle.lfs_model.specs.Changes.{ContentChange, PutMove, content_after_changes}
-use Rattle.lfs_model.specs.Content.{RawContent, RawSlot, slots_if_all_complete, content_if_slots_are_complete, raw_content_of_pair_at}
-use Rattle.lfs_model.specs.Cut.{CanBeCut}
+use Rattle.lfs_model.specs.Changes.{PairContentChange, PutMove, raw_pair_content_after_changes}
+use Rattle.lfs_model.specs.Content.{RawPairContent, RawSlot, slots_if_names_and_structs_present, pair_content_if_slots_complete, raw_content_of_pair_at}
+use Rattle.lfs_model.specs.Cut.{CanSplitSlotsIntoTwoPairs}
 use Rattle.lfs_model.specs.Disk.{Disk}
-use Rattle.lfs_model.specs.History.{CallEvent}
+use Rattle.lfs_model.specs.History.{DeviceCallEvent}
 use Rattle.lfs_model.specs.InDirectory.{IsPairAtAddress, IsPlaceWhereNameBelongs, IsPairOfDirectory}
-use Rattle.lfs_model.specs.LoggedContent.{Are32BitPairAddresses, IsWellFormedMoveState}
-use Rattle.lfs_model.specs.Names.{Name, is_name}
-use Rattle.lfs_model.specs.PowerLoss.{SurvivesStopsSince}
+use Rattle.lfs_model.specs.LoggedContent.{Are32BitPairAddresses, AreMoveStateFieldsWithinBitWidths}
+use Rattle.lfs_model.specs.Names.{Name, is_valid_name}
+use Rattle.lfs_model.specs.PowerLoss.{SurvivesPowerLossInCallsSince}
 use Rattle.lfs_model.specs.Slots.{Slot, IsContentFittingPair, Gstate, gstate_xor, same_pair, slot_size}
-use Rattle.lfs_model.specs.Thread.{Pair, blocks_of_pairs, gstate_of, pair_named_by_tail, starts_with_superblock, pair_count_before_root}
+use Rattle.lfs_model.specs.Thread.{Pair, blocks_of_pairs, gstate_of_pairs, pair_address_named_by_tail, starts_with_superblock, pair_count_before_root}
 use Rattle.lfs_model.specs.Tree.{Path}
-use Rattle.lfs_model.specs.TreeEdits.{renamed, path_without_prefix}
-use Rattle.lfs_model.specs.Profile.{FitsEntryLimits, IsWritable}
+use Rattle.lfs_model.specs.TreeEdits.{tree_after_rename, path_without_prefix}
+use Rattle.lfs_model.specs.Profile.{IsEntryWithinWritableLimits, IsWritableImage}
 use Rattle.lfs_model.specs.View.{IsAcceptedImage, IsFileOrDirectoryEntry}
 use Rattle.lfs_model.specs.Shown.{IsPathToDirectory, entries_by_directory_in_thread, tree_on_disk}
 use Rattle.lfs_model.specs.SlotEdits.{slot_of_path}
-use Rattle.lfs_model.proofs.Changes.{Follows}
+use Rattle.lfs_model.proofs.Changes.{IsImageAfterTreeChange}
 use Rattle.lfs_model.proofs.Committed.{no_move_from}
 use Rattle.lfs_model.proofs.Completed.{IsCompleted, complete_insert, complete_length, completed_from, completed_parts}
 use Rattle.lfs_model.proofs.Counts.{Each, each_right}
@@ -36,15 +36,15 @@ use Rattle.lfs_model.proofs.Sites.{Site, begin_of, thread_at}
 use Rattle.lfs_model.proofs.StoredChanges.{logged_changed}
 use Rattle.lfs_model.proofs.Writable.{ends_in_hard_tail}
 use Rattle.lfs_pair.specs.Commit.{pair_content_after_changes}
-use Rattle.lfs_thread.specs.Device.{StopsAfterCleanErasesLeave}
-use Rattle.lfs_thread.specs.Kept.{Kept}
-use Rattle.lfs_thread.specs.Steps.{SlotsBeginWithSuperblock, complete_content_after_changes, kept_pair_at_index}
-use Rattle.lfs_operations.specs.Changing.{AltersPair, CanChangeOrSplitPair, IsLeftByStoppedChangeOrSplit, IsPairChangedOrSplit}
+use Rattle.lfs_thread.specs.Device.{PowerLossLeavesSuchBlocksAfterCleanErases}
+use Rattle.lfs_thread.specs.Kept.{KeptThread}
+use Rattle.lfs_thread.specs.Steps.{SlotsBeginWithSuperblock, complete_content_after_changes, thread_pair_at_index}
+use Rattle.lfs_operations.specs.Changing.{IsPairAltered, CanChangeOrSplitPair, IsLeftByStoppedChangeOrSplit, IsPairChangedOrSplit}
 use Rattle.lfs_operations.specs.Editing.{CanEditEntryOfPair}
-use Rattle.lfs_operations.specs.MoveEnds.{CanEndMoveAt, HasEndedMoveAt, move_of}
-use Rattle.lfs_operations.specs.MovingSteps.{CanEndMoveAfterPut, IsSlotPutAndMoveEnded, pair_number_after_insertion}
+use Rattle.lfs_operations.specs.MoveEnds.{CanEndMoveAt, HasEndedMoveAt, gstate_naming_moved_slot}
+use Rattle.lfs_operations.specs.MovingSteps.{CanEndMoveAfterFirstCommit, IsSlotPutAndMoveEnded, pair_number_after_insertion}
 use Rattle.lfs_operations.specs.MovingAcross.{CanRenameAcrossPairs, IsEntryRenamedAcrossPairs, rename_across_pairs_changes, tree_with_moved_entry}
-use Rattle.lfs_operations.specs.Ready.{HasLoggableContentAt}
+use Rattle.lfs_operations.specs.Ready.{IsRawPairContentWellFormed}
 use Rattle.lfs_operations.specs.Removing.{is_pair_dropped_with_slot}
 use Rattle.lfs_operations.specs.RenamingSlots.{HasSlotOfId, NamelessSlot, nameless_slot_at, nameless_slot_of, slot_creation_changes}
 use Rattle.lfs_operations.proofs.AlteredAcross.{moved_alters}
@@ -60,23 +60,23 @@ use Rattle.lfs_operations.proofs.RenameSlots.{IsOf, name_length, slot_comes, slo
 -- ---- what the changes make
 
 -- what the log says of the entry
-record Source (t : Kept) (pair id : ℕ) (u : Slot) : Type 0 where
+record Source (t : KeptThread) (pair id : ℕ) (u : Slot) : Type 0 where
   raw : RawSlot
   is : nameless_slot_at t pair id ≡ nameless_slot_of raw
   of : IsOf raw u
 
-module _ (sync : Bool) (t : Kept) (old_pair old_id new_pair : ℕ) (can : CanEditEntryOfPair t old_pair old_id) (address : Are32BitPairAddresses (kept_pair_at_index t old_pair).at)
-    (first : ℕ) (p : Pair) (rest : List Pair) (place : IsPairOfDirectory t.pairs first new_pair p rest) (logged : HasLoggableContentAt t.disk (kept_pair_at_index t new_pair).at) where
+module _ (sync : Bool) (t : KeptThread) (old_pair old_id new_pair : ℕ) (can : CanEditEntryOfPair t old_pair old_id) (address : Are32BitPairAddresses (thread_pair_at_index t old_pair).at)
+    (first : ℕ) (p : Pair) (rest : List Pair) (place : IsPairOfDirectory t.pairs first new_pair p rest) (logged : IsRawPairContentWellFormed t.disk (thread_pair_at_index t new_pair).at) where
   abbrev pub o : Pair
   o = can.stands.pair
 
   abbrev pub u : Slot
   u = can.stands.stands.slot
 
-  here_o : kept_pair_at_index t old_pair ≡ o
+  here_o : thread_pair_at_index t old_pair ≡ o
   here_o = here t can.ready can.first old_pair o can.stands.rest can.stands.place
 
-  here_p : kept_pair_at_index t new_pair ≡ p
+  here_p : thread_pair_at_index t new_pair ≡ p
   here_p = here t can.ready first new_pair p rest place
 
   source : Source t old_pair old_id u
@@ -86,42 +86,42 @@ module _ (sync : Bool) (t : Kept) (old_pair old_id new_pair : ℕ) (can : CanEdi
     of = is_slot t old_pair old_id can.ready can.first o can.stands.rest can.stands.place can.logged can.name can.stands.stands;
   }
 
-  abbrev pub c : CompletesTo (raw_content_of_pair_at t.disk (kept_pair_at_index t new_pair).at) p.content
+  abbrev pub c : CompletesTo (raw_content_of_pair_at t.disk (thread_pair_at_index t new_pair).at) p.content
   c = raw_there t can.ready first new_pair p rest place
 
   parts : IsCompleted c.raw p.content
   parts = completed_parts c.raw p.content c.complete
 
   abbrev pub move : Gstate
-  move = gstate_xor (move_of sync (kept_pair_at_index t old_pair).at old_id) (kept_pair_at_index t new_pair).content.move
+  move = gstate_xor (gstate_naming_moved_slot sync (thread_pair_at_index t old_pair).at old_id) (thread_pair_at_index t new_pair).content.move
 
   abbrev pub delta : Gstate
-  delta = gstate_xor (move_of sync o.at (length can.stands.stands.left)) p.content.move
+  delta = gstate_xor (gstate_naming_moved_slot sync o.at (length can.stands.stands.left)) p.content.move
 
   pub move_is : move ≡ delta
-  move_is = ap₂ (λ (x : Pair) (i : ℕ). gstate_xor (move_of sync x.at i) (kept_pair_at_index t new_pair).content.move) here_o (sym can.stands.stands.number)
-      ∙ ap (λ (x : Pair). gstate_xor (move_of sync o.at (length can.stands.stands.left)) x.content.move) here_p
+  move_is = ap₂ (λ (x : Pair) (i : ℕ). gstate_xor (gstate_naming_moved_slot sync x.at i) (thread_pair_at_index t new_pair).content.move) here_o (sym can.stands.stands.number)
+      ∙ ap (λ (x : Pair). gstate_xor (gstate_naming_moved_slot sync o.at (length can.stands.stands.left)) x.content.move) here_p
 
   within : old_id < length o.content.slots
   within = let h = ap length can.stands.stands.held in let k = length-append can.stands.stands.left (u ∷ can.stands.stands.right) in let n = can.stands.stands.number in omega arith
 
-  is_state : IsWellFormedMoveState move
+  is_state : AreMoveStateFieldsWithinBitWidths move
   is_state =
-      let g = subst IsWellFormedMoveState (sym parts.move ∙ ap (λ (x : Pair). x.content.move) (sym here_p)) (logged c.raw c.is).move in
+      let g = subst AreMoveStateFieldsWithinBitWidths (sym parts.move ∙ ap (λ (x : Pair). x.content.move) (sym here_p)) (logged c.raw c.is).move in
       let few = (fits_there t can.ready can.first old_pair o can.stands.rest can.stands.place).count in
       let m = within in
       record {
-        kind = xor_lt 11 0x4ff (kept_pair_at_index t new_pair).content.move.kind (omega arith) g.kind;
-        id = xor_lt 10 old_id (kept_pair_at_index t new_pair).content.move.id (omega arith) g.id;
-        pair = (xor_lt 32 (kept_pair_at_index t old_pair).at.0 (kept_pair_at_index t new_pair).content.move.pair.0 address.0 g.pair.0, xor_lt 32 (kept_pair_at_index t old_pair).at.1 (kept_pair_at_index t new_pair).content.move.pair.1 address.1 g.pair.1);
+        kind = xor_lt 11 0x4ff (thread_pair_at_index t new_pair).content.move.kind (omega arith) g.kind;
+        id = xor_lt 10 old_id (thread_pair_at_index t new_pair).content.move.id (omega arith) g.id;
+        pair = (xor_lt 32 (thread_pair_at_index t old_pair).at.0 (thread_pair_at_index t new_pair).content.move.pair.0 address.0 g.pair.0, xor_lt 32 (thread_pair_at_index t old_pair).at.1 (thread_pair_at_index t new_pair).content.move.pair.1 address.1 g.pair.1);
       }
 
-  abbrev pub raw_mid : RawContent
+  abbrev pub raw_mid : RawPairContent
   raw_mid = record c.raw { move = move }
 
-  module _ (front : List ContentChange) (a b : List Slot) (left : Leaves raw_mid front (a ++ b)) (fits_left : IsContentFittingPair t.disk.block_size t.disk.page (record p.content { slots = a ++ b }))
-      (at : ℕ) (number : length a ≡ at) (name : Name) (named : is_name name ≡ true) (fits : FitsEntryLimits t.disk.block_size t.disk.page (record u { name = name })) where
-    abbrev pub changes : List ContentChange
+  module _ (front : List PairContentChange) (a b : List Slot) (left : Leaves raw_mid front (a ++ b)) (fits_left : IsContentFittingPair t.disk.block_size t.disk.page (record p.content { slots = a ++ b }))
+      (at : ℕ) (number : length a ≡ at) (name : Name) (named : is_valid_name name ≡ true) (fits : IsEntryWithinWritableLimits t.disk.block_size t.disk.page (record u { name = name })) where
+    abbrev pub changes : List PairContentChange
     changes = PutMove move ∷ (front ++ slot_creation_changes at name (nameless_slot_at t old_pair old_id))
 
     abbrev pub moved : Slot
@@ -130,34 +130,34 @@ module _ (sync : Bool) (t : Kept) (old_pair old_id new_pair : ℕ) (can : CanEdi
     abbrev raw_moved : RawSlot
     raw_moved = slot_of_parts name (nameless_slot_of source.raw)
 
-    abbrev raw_now : RawContent
+    abbrev raw_now : RawPairContent
     raw_now = with_slot left.left at raw_moved
 
     length_left : length left.left.slots ≡ length (a ++ b)
     length_left = sym (complete_length left.left.slots (a ++ b) left.are)
 
-    changed_now : content_after_changes c.raw changes ≡ Some raw_now
+    changed_now : raw_pair_content_after_changes c.raw changes ≡ Some raw_now
     changed_now = does_first (PutMove move) (front ++ slot_creation_changes at name (nameless_slot_at t old_pair old_id)) c.raw raw_mid raw_now (puts_move c.raw move is_state)
         (left.does (slot_creation_changes at name (nameless_slot_at t old_pair old_id)) raw_now
-        (ap (λ (z : NamelessSlot). content_after_changes left.left (slot_creation_changes at name z)) source.is
+        (ap (λ (z : NamelessSlot). raw_pair_content_after_changes left.left (slot_creation_changes at name z)) source.is
         ∙ slot_comes left.left at name (nameless_slot_of source.raw) (let n = fits_left.count in let k = length-append a b in omega arith)
         (let k = length-append a b in let l = length_left in omega arith) (name_length name named) source.of.are))
 
-    made_raw : pair_content_after_changes t.disk (kept_pair_at_index t new_pair).at changes ≡ Some raw_now
-    made_raw = ap (λ o. option_and_then (λ (x : RawContent). content_after_changes x changes) o) c.is ∙ changed_now
+    made_raw : pair_content_after_changes t.disk (thread_pair_at_index t new_pair).at changes ≡ Some raw_now
+    made_raw = ap (λ o. option_and_then (λ (x : RawPairContent). raw_pair_content_after_changes x changes) o) c.is ∙ changed_now
 
-    slots_now : slots_if_all_complete raw_now.slots ≡ Some (a ++ moved ∷ b)
+    slots_now : slots_if_names_and_structs_present raw_now.slots ≡ Some (a ++ moved ∷ b)
     slots_now = complete_insert left.left.slots (a ++ b) at raw_moved moved left.are (source.of.complete name) ∙ ap (λ (i : ℕ). Some (insert (a ++ b) i moved)) (sym number) ∙ ap Some (insert_here a b moved)
 
-    now_complete : content_if_slots_are_complete raw_now ≡ Some (content_with p (a ++ moved ∷ b) delta)
+    now_complete : pair_content_if_slots_complete raw_now ≡ Some (content_with p (a ++ moved ∷ b) delta)
     now_complete =
         completed_from raw_now (a ++ moved ∷ b) slots_now
         ∙ ap₂ (λ t m. Some (record { slots = a ++ moved ∷ b; tail = t; move = m })) (left.tail ∙ sym parts.tail) (left.move ∙ move_is)
 
     pub made : complete_content_after_changes t new_pair changes ≡ Some (content_with p (a ++ moved ∷ b) delta)
-    made = ap (λ o. option_and_then content_if_slots_are_complete o) made_raw ∙ now_complete
+    made = ap (λ o. option_and_then pair_content_if_slots_complete o) made_raw ∙ now_complete
 
-    cut : CanBeCut t.disk.block_size t.disk.page raw_now.slots
+    cut : CanSplitSlotsIntoTwoPairs t.disk.block_size t.disk.page raw_now.slots
     cut = content_cut t.disk.block_size t.disk.page raw_now (content_with p (a ++ moved ∷ b) delta) a moved b (logged_changed c.raw changes raw_now (logged c.raw c.is) changed_now) now_complete refl
         (entry_small t.disk.block_size t.disk.page moved can.ready.large fits)
         (let f = fits_left.size in let k = sum_by-append slot_size a b in omega arith)
@@ -169,7 +169,7 @@ module _ (sync : Bool) (t : Kept) (old_pair old_id new_pair : ℕ) (can : CanEdi
         below = below t can.ready first new_pair p rest place;
         content = content_with p (a ++ moved ∷ b) delta;
         made = made;
-        next = ap (λ (z : Pair). pair_named_by_tail z.content.tail) (sym here_p);
+        next = ap (λ (z : Pair). pair_address_named_by_tail z.content.tail) (sym here_p);
       };
       raw = raw_now;
       made = made_raw;
@@ -178,7 +178,7 @@ module _ (sync : Bool) (t : Kept) (old_pair old_id new_pair : ℕ) (can : CanEdi
 
 -- ---- to a new name
 
-module _ (t : Kept) (old_pair old_id first new_pair new_id : ℕ) (name : Name) (rename : CanRenameAcrossPairs t old_pair old_id first new_pair new_id name) (address : Are32BitPairAddresses (kept_pair_at_index t old_pair).at) where
+module _ (t : KeptThread) (old_pair old_id first new_pair new_id : ℕ) (name : Name) (rename : CanRenameAcrossPairs t old_pair old_id first new_pair new_id name) (address : Are32BitPairAddresses (thread_pair_at_index t old_pair).at) where
   abbrev can : CanEditEntryOfPair t old_pair old_id
   can = rename.old
 
@@ -218,7 +218,7 @@ module _ (t : Kept) (old_pair old_id first new_pair new_id : ℕ) (name : Name) 
   there : t.pairs ≡ thread_at w (p ∷ [])
   there = thread_is t.disk t.pairs rename.path rename.at can.ready.accepted rename.leads rename.to_first new_pair p (b.later ++ b.rest) b.place rename.begins
 
-  held_all : slots_if_all_complete (raw_mid false t old_pair old_id new_pair can address rename.to_first p (b.later ++ b.rest) b.place rename.logged).slots ≡ Some (b.left ++ b.right)
+  held_all : slots_if_names_and_structs_present (raw_mid false t old_pair old_id new_pair can address rename.to_first p (b.later ++ b.rest) b.place rename.logged).slots ≡ Some (b.left ++ b.right)
   held_all = (completed_parts (c false t old_pair old_id new_pair can address rename.to_first p (b.later ++ b.rest) b.place rename.logged).raw p.content (c false t old_pair old_id new_pair can address rename.to_first p (b.later ++ b.rest) b.place rename.logged).complete).slots ∙ ap Some b.held
 
   leaves : Leaves (raw_mid false t old_pair old_id new_pair can address rename.to_first p (b.later ++ b.rest) b.place rename.logged) [] (b.left ++ b.right)
@@ -247,8 +247,8 @@ module _ (t : Kept) (old_pair old_id first new_pair new_id : ℕ) (name : Name) 
       let new_site = is_site t.disk t.pairs rename.path rename.at can.ready.accepted rename.leads rename.to_first new_pair p (b.later ++ b.rest) b.place rename.begins in
       record {
         accepted = subst (IsAcceptedImage t.disk) there can.ready.accepted;
-        writable = subst (IsWritable t.disk) there can.ready.writable;
-        settled = ap gstate_of (sym there) ∙ can.ready.settled;
+        writable = subst (IsWritableImage t.disk) there can.ready.writable;
+        settled = ap gstate_of_pairs (sym there) ∙ can.ready.settled;
         site = new_site;
         there = sym there_old ∙ there;
         old_site = old_site;
@@ -270,7 +270,7 @@ module _ (t : Kept) (old_pair old_id first new_pair new_id : ℕ) (name : Name) 
   first_kept [] f e = absurd (let z = sym (f refl) ∙ e.0 in cc)
   first_kept (x ∷ l) f e = e
 
-  turn : IsTurn t new_pair (rename_across_pairs_changes t old_pair old_id new_pair new_id name) w p (b.left ++ v ∷ b.right) (gstate_xor (move_of false q.at (length lo)) p.content.move)
+  turn : IsTurn t new_pair (rename_across_pairs_changes t old_pair old_id new_pair new_id name) w p (b.left ++ v ∷ b.right) (gstate_xor (gstate_naming_moved_slot false q.at (length lo)) p.content.move)
   turn = record {
     accepted = can.ready.accepted;
     there = there;
@@ -292,7 +292,7 @@ module _ (t : Kept) (old_pair old_id first new_pair new_id : ℕ) (name : Name) 
   stays : goes ≡ false → ends_in_hard_tail false (wo.before ++ wo.left) ≡ true → 1 < length q.content.slots
   stays remains hard = go (stays_there t old_pair old_id first can rename.begins_old remains)
     where
-      go : (old_pair ≡ can.first) ⊎ (1 < length (kept_pair_at_index t old_pair).content.slots) → 1 < length q.content.slots
+      go : (old_pair ≡ can.first) ⊎ (1 < length (thread_pair_at_index t old_pair).content.slots) → 1 < length q.content.slots
       go (inl e) = absurd (let z = sym hard ∙ led_first e in cc)
       go (inr many) = subst (λ (z : Pair). 1 < length z.content.slots) (here t can.ready can.first old_pair q can.stands.rest can.stands.place) many
 
@@ -310,9 +310,9 @@ module _ (t : Kept) (old_pair old_id first new_pair new_id : ℕ) (name : Name) 
   abbrev to : Path
   to = rename.path ++ name ∷ []
 
-  follows : (disk : Disk) (x : Pair) (more : List Pair) → HasTurned t.disk w p (b.left ++ v ∷ b.right) (gstate_xor (move_of false q.at (length lo)) p.content.move) disk x more
-      → Follows t.disk (thread_at w (p ∷ [])) disk (thread_at w (x ∷ more)) (renamed from to) (walk_by from to)
-  follows disk x more turned = subst (λ (n : Name). Follows t.disk (thread_at w (p ∷ [])) disk (thread_at w (x ∷ more)) (renamed (can.path ++ n ∷ []) to) (walk_by (can.path ++ n ∷ []) to)) can.stands.stands.named
+  follows : (disk : Disk) (x : Pair) (more : List Pair) → HasTurned t.disk w p (b.left ++ v ∷ b.right) (gstate_xor (gstate_naming_moved_slot false q.at (length lo)) p.content.move) disk x more
+      → IsImageAfterTreeChange t.disk (thread_at w (p ∷ [])) disk (thread_at w (x ∷ more)) (tree_after_rename from to) (walk_by from to)
+  follows disk x more turned = subst (λ (n : Name). IsImageAfterTreeChange t.disk (thread_at w (p ∷ [])) disk (thread_at w (x ∷ more)) (tree_after_rename (can.path ++ n ∷ []) to) (walk_by (can.path ++ n ∷ []) to)) can.stands.stands.named
       (set_new t.disk wo q lo s ro w p b.left v b.right false disk x more turned can.path can.at (subst (λ z. IsPathToDirectory z can.path can.at) there can.leads) same_begin
       rename.path rename.at (subst (λ z. IsPathToDirectory z rename.path rename.at) there rename.leads)
       (same t.disk t.pairs rename.path rename.at can.ready.accepted rename.leads rename.to_first new_pair p (b.later ++ b.rest) b.place rename.begins)
@@ -327,7 +327,7 @@ module _ (t : Kept) (old_pair old_id first new_pair new_id : ℕ) (name : Name) 
     chain = chain_same t.disk wo q lo s ro w p b.left [] v b.right setting;
     old_place = old_number;
     old_is = ap (λ (z : Pair). z.at) (here t can.ready can.first old_pair q can.stands.rest can.stands.place);
-    logged = subst (λ (z : Pair). HasLoggableContentAt t.disk z.at) (here t can.ready can.first old_pair q can.stands.rest can.stands.place) can.logged;
+    logged = subst (λ (z : Pair). IsRawPairContentWellFormed t.disk z.at) (here t can.ready can.first old_pair q can.stands.rest can.stands.place) can.logged;
     same_slot = refl;
     follows = follows;
     stays = stays;
@@ -339,7 +339,7 @@ module _ (t : Kept) (old_pair old_id first new_pair new_id : ℕ) (name : Name) 
     file = λ e. tt;
   }
 
-  pub ends_across : (mid : Kept) → IsPairChangedOrSplit t new_pair (rename_across_pairs_changes t old_pair old_id new_pair new_id name) mid → CanEndMoveAfterPut t old_pair old_id goes new_pair mid
+  pub ends_across : (mid : KeptThread) → IsPairChangedOrSplit t new_pair (rename_across_pairs_changes t old_pair old_id new_pair new_id name) mid → CanEndMoveAfterFirstCommit t old_pair old_id goes new_pair mid
   ends_across mid is =
       let x = first_turned t false old_pair goes new_pair (rename_across_pairs_changes t old_pair old_id new_pair new_id name) wo q lo s ro w p b.left None v b.right from to name is_first mid is in
       record {
@@ -350,15 +350,15 @@ module _ (t : Kept) (old_pair old_id first new_pair new_id : ℕ) (name : Name) 
         at = same_at t false old_pair goes new_pair (rename_across_pairs_changes t old_pair old_id new_pair new_id name) wo q lo s ro w p b.left None v b.right from to name is_first mid x;
       }
 
-  pub shows_across : (mid : Kept) → IsPairChangedOrSplit t new_pair (rename_across_pairs_changes t old_pair old_id new_pair new_id name) mid → tree_on_disk mid.disk mid.pairs ≡ tree_with_moved_entry t can.path can.name rename.path name
+  pub shows_across : (mid : KeptThread) → IsPairChangedOrSplit t new_pair (rename_across_pairs_changes t old_pair old_id new_pair new_id name) mid → tree_on_disk mid.disk mid.pairs ≡ tree_with_moved_entry t can.path can.name rename.path name
   shows_across mid is = mid_shows t false old_pair goes new_pair (rename_across_pairs_changes t old_pair old_id new_pair new_id name) wo q lo s ro w p b.left None v b.right from to name is_first mid
       (first_turned t false old_pair goes new_pair (rename_across_pairs_changes t old_pair old_id new_pair new_id name) wo q lo s ro w p b.left None v b.right from to name is_first mid is)
 
-  pub survives_across : (calls : List CallEvent) → StopsAfterCleanErasesLeave t.history calls (IsLeftByStoppedChangeOrSplit t new_pair (rename_across_pairs_changes t old_pair old_id new_pair new_id name))
-      → SurvivesStopsSince t.disk t.history calls (tree_on_disk t.disk t.pairs) (tree_with_moved_entry t can.path can.name rename.path name)
+  pub survives_across : (calls : List DeviceCallEvent) → PowerLossLeavesSuchBlocksAfterCleanErases t.history calls (IsLeftByStoppedChangeOrSplit t new_pair (rename_across_pairs_changes t old_pair old_id new_pair new_id name))
+      → SurvivesPowerLossInCallsSince t.disk t.history calls (tree_on_disk t.disk t.pairs) (tree_with_moved_entry t can.path can.name rename.path name)
   survives_across calls stops = first_survives t false old_pair goes new_pair (rename_across_pairs_changes t old_pair old_id new_pair new_id name) wo q lo s ro w p b.left None v b.right from to name is_first calls stops
 
-  pub renamed_across : (new : Kept) → IsSlotPutAndMoveEnded t old_pair old_id goes new_pair (rename_across_pairs_changes t old_pair old_id new_pair new_id name) new → IsEntryRenamedAcrossPairs t new can.path can.name rename.path name
+  pub renamed_across : (new : KeptThread) → IsSlotPutAndMoveEnded t old_pair old_id goes new_pair (rename_across_pairs_changes t old_pair old_id new_pair new_id name) new → IsEntryRenamedAcrossPairs t new can.path can.name rename.path name
   renamed_across new is =
       let x = first_turned t false old_pair goes new_pair (rename_across_pairs_changes t old_pair old_id new_pair new_id name) wo q lo s ro w p b.left None v b.right from to name is_first is.mid is.put in
       let e = subst (λ i. HasEndedMoveAt is.mid (pair_number_after_insertion old_pair new_pair (length is.mid.pairs - length t.pairs)) i goes new) (sym can.stands.stands.number) is.ended in
@@ -370,7 +370,7 @@ module _ (t : Kept) (old_pair old_id first new_pair new_id : ℕ) (name : Name) 
 
   -- ---- what stays
 
-  pub across_alters : (new : Kept) → IsSlotPutAndMoveEnded t old_pair old_id goes new_pair (rename_across_pairs_changes t old_pair old_id new_pair new_id name) new → AltersPair t new_pair new
+  pub across_alters : (new : KeptThread) → IsSlotPutAndMoveEnded t old_pair old_id goes new_pair (rename_across_pairs_changes t old_pair old_id new_pair new_id name) new → IsPairAltered t new_pair new
   across_alters new is = moved_alters t false old_pair goes new_pair (rename_across_pairs_changes t old_pair old_id new_pair new_id name) wo q lo s ro w p b.left v b.right from to name is_first is.mid
       (first_turned t false old_pair goes new_pair (rename_across_pairs_changes t old_pair old_id new_pair new_id name) wo q lo s ro w p b.left None v b.right from to name is_first is.mid is.put) new
       (subst (λ i. HasEndedMoveAt is.mid (pair_number_after_insertion old_pair new_pair (length is.mid.pairs - length t.pairs)) i goes new) (sym can.stands.stands.number) is.ended)

@@ -2,40 +2,40 @@
 use Rattle.std.proofs.Common.{nat_eq, Bool, ℕ, ◌≡◌, ◌+◌, ◌-◌, ◌<◌, ◌≤◌, ◌⊎◌, inl, inr, true, false, List, [], ◌∷◌, ◌++◌, length, Some, refl, sym, ap, subst, ◌∙◌, arith, append-nil, length-append}
 use Rattle.std.specs.List.{IsDistinct}
 use Rattle.lfs_model.specs.Changes.{Delete}
-use Rattle.lfs_model.specs.Content.{slots_if_all_complete}
+use Rattle.lfs_model.specs.Content.{slots_if_names_and_structs_present}
 use Rattle.lfs_model.specs.Disk.{Disk}
-use Rattle.lfs_model.specs.History.{CallEvent}
+use Rattle.lfs_model.specs.History.{DeviceCallEvent}
 use Rattle.lfs_model.specs.InDirectory.{IsPairAtAddress, IsPlaceOfNameInDirectory}
 use Rattle.lfs_model.specs.LoggedContent.{Are32BitPairAddresses}
-use Rattle.lfs_model.specs.Names.{Name, is_name}
-use Rattle.lfs_model.specs.PowerLoss.{SurvivesStopsSince}
+use Rattle.lfs_model.specs.Names.{Name, is_valid_name}
+use Rattle.lfs_model.specs.PowerLoss.{SurvivesPowerLossInCallsSince}
 use Rattle.lfs_model.specs.Slots.{Slot, IsContentFittingPair, gstate_xor, same_pair}
-use Rattle.lfs_model.specs.Thread.{Pair, blocks_of_pairs, gstate_of, pair_count_before_root}
+use Rattle.lfs_model.specs.Thread.{Pair, blocks_of_pairs, gstate_of_pairs, pair_count_before_root}
 use Rattle.lfs_model.specs.Tree.{Path}
-use Rattle.lfs_model.specs.TreeEdits.{renamed, path_without_prefix}
+use Rattle.lfs_model.specs.TreeEdits.{tree_after_rename, path_without_prefix}
 use Rattle.lfs_model.specs.Shown.{skip_list_blocks_of_struct, IsPathToDirectory, tree_on_disk, used_blocks}
 use Rattle.lfs_model.specs.View.{IsAcceptedImage, IsFileOrDirectoryEntry}
-use Rattle.lfs_model.specs.Profile.{IsWritable}
+use Rattle.lfs_model.specs.Profile.{IsWritableImage}
 use Rattle.lfs_model.specs.SlotEdits.{slot_of_path}
-use Rattle.lfs_model.proofs.Changes.{Follows}
+use Rattle.lfs_model.proofs.Changes.{IsImageAfterTreeChange}
 use Rattle.lfs_model.proofs.Committed.{no_move_from}
 use Rattle.lfs_model.proofs.Completed.{completed_parts}
-use Rattle.lfs_model.proofs.Counts.{Each, each_right, count}
+use Rattle.lfs_model.proofs.Counts.{Each, each_right, occurrence_count_of_number}
 use Rattle.lfs_model.proofs.Paths.{last_is}
 use Rattle.lfs_model.proofs.Searches.{is_site, number_is, same, site, slot_of_stands, thread_is}
 use Rattle.lfs_model.proofs.Sites.{Site, begin_of, thread_at}
 use Rattle.lfs_model.proofs.Writable.{ends_in_hard_tail}
-use Rattle.lfs_thread.specs.Device.{StopsAfterCleanErasesLeave}
-use Rattle.lfs_thread.specs.Kept.{Kept}
-use Rattle.lfs_thread.specs.Steps.{SlotsBeginWithSuperblock, kept_pair_at_index}
+use Rattle.lfs_thread.specs.Device.{PowerLossLeavesSuchBlocksAfterCleanErases}
+use Rattle.lfs_thread.specs.Kept.{KeptThread}
+use Rattle.lfs_thread.specs.Steps.{SlotsBeginWithSuperblock, thread_pair_at_index}
 use Rattle.lfs_operations.specs.Changing.{CanChangeOrSplitPair, IsLeftByStoppedChangeOrSplit, IsPairChangedOrSplit}
 use Rattle.lfs_operations.specs.Editing.{CanEditEntryOfPair}
-use Rattle.lfs_operations.specs.MoveEnds.{CanEndMoveAt, HasEndedMoveAt, move_of}
-use Rattle.lfs_operations.specs.MovingSteps.{CanEndMoveAfterPut, IsSlotPutAndMoveEnded, pair_number_after_insertion}
+use Rattle.lfs_operations.specs.MoveEnds.{CanEndMoveAt, HasEndedMoveAt, gstate_naming_moved_slot}
+use Rattle.lfs_operations.specs.MovingSteps.{CanEndMoveAfterFirstCommit, IsSlotPutAndMoveEnded, pair_number_after_insertion}
 use Rattle.lfs_operations.specs.MovingAcross.{tree_with_moved_entry}
 use Rattle.lfs_operations.specs.MovingOnto.{CanReplaceEntryAcrossPairs, CanReplaceFileAcrossPairs, CanReplaceDirectoryAcrossPairs, IsFileReplacedAcrossPairs, replace_entry_across_pairs_changes}
-use Rattle.lfs_operations.specs.Dropping.{ShowsTreeAfterDrops}
-use Rattle.lfs_operations.specs.Ready.{HasLoggableContentAt}
+use Rattle.lfs_operations.specs.Dropping.{ShowsTreeAfterPairDrops}
+use Rattle.lfs_operations.specs.Ready.{IsRawPairContentWellFormed}
 use Rattle.lfs_operations.specs.Removing.{is_pair_dropped_with_slot}
 use Rattle.lfs_operations.specs.RenamingSlots.{HasSlotOfId}
 use Rattle.lfs_operations.proofs.Held.{IsEntryIfOther, each_pair, fits_there, here, other_entries}
@@ -50,7 +50,7 @@ use Rattle.lfs_operations.proofs.MovRename.{c, can_put, made, raw_mid}
 pub not_plain : {X : Type 0} → true ≡ false → X
 not_plain e = absurd (cc)
 
-abbrev pub onto_file : {t : Kept} {old_pair old_id first new_pair new_id : ℕ} {name : Name} → CanReplaceFileAcrossPairs t old_pair old_id first new_pair new_id name → CanReplaceEntryAcrossPairs t false old_pair old_id first new_pair new_id name
+abbrev pub onto_file : {t : KeptThread} {old_pair old_id first new_pair new_id : ℕ} {name : Name} → CanReplaceFileAcrossPairs t old_pair old_id first new_pair new_id name → CanReplaceEntryAcrossPairs t false old_pair old_id first new_pair new_id name
 onto_file r = record {
   old = r.old;
   begins_old = r.begins_old;
@@ -67,7 +67,7 @@ onto_file r = record {
   fits = r.fits;
 }
 
-abbrev pub onto_directory : {t : Kept} {old_pair old_id first new_pair new_id : ℕ} {name : Name} {gone : ℕ} → CanReplaceDirectoryAcrossPairs t old_pair old_id first new_pair new_id name gone
+abbrev pub onto_directory : {t : KeptThread} {old_pair old_id first new_pair new_id : ℕ} {name : Name} {gone : ℕ} → CanReplaceDirectoryAcrossPairs t old_pair old_id first new_pair new_id name gone
     → CanReplaceEntryAcrossPairs t true old_pair old_id first new_pair new_id name
 onto_directory r = record {
   old = r.old;
@@ -85,7 +85,7 @@ onto_directory r = record {
   fits = r.fits;
 }
 
-module _ (sync : Bool) (t : Kept) (old_pair old_id first new_pair new_id : ℕ) (name : Name) (rename : CanReplaceEntryAcrossPairs t sync old_pair old_id first new_pair new_id name) (address : Are32BitPairAddresses (kept_pair_at_index t old_pair).at) where
+module _ (sync : Bool) (t : KeptThread) (old_pair old_id first new_pair new_id : ℕ) (name : Name) (rename : CanReplaceEntryAcrossPairs t sync old_pair old_id first new_pair new_id name) (address : Are32BitPairAddresses (thread_pair_at_index t old_pair).at) where
   abbrev can : CanEditEntryOfPair t old_pair old_id
   can = rename.old
 
@@ -135,7 +135,7 @@ module _ (sync : Bool) (t : Kept) (old_pair old_id first new_pair new_id : ℕ) 
   there : t.pairs ≡ thread_at w (p ∷ [])
   there = thread_is t.disk t.pairs rename.path rename.at can.ready.accepted rename.leads rename.to_first new_pair p b.rest b.place rename.begins
 
-  held_all : slots_if_all_complete (raw_mid sync t old_pair old_id new_pair can address rename.to_first p b.rest b.place rename.logged).slots ≡ Some (l ++ g ∷ r)
+  held_all : slots_if_names_and_structs_present (raw_mid sync t old_pair old_id new_pair can address rename.to_first p b.rest b.place rename.logged).slots ≡ Some (l ++ g ∷ r)
   held_all = (completed_parts (c sync t old_pair old_id new_pair can address rename.to_first p b.rest b.place rename.logged).raw p.content (c sync t old_pair old_id new_pair can address rename.to_first p b.rest b.place rename.logged).complete).slots ∙ ap Some b.stands.held
 
   small : new_id < 0x3ff
@@ -153,11 +153,11 @@ module _ (sync : Bool) (t : Kept) (old_pair old_id first new_pair new_id : ℕ) 
   fits_left = fits_without t.disk.block_size t.disk.page p.content l g r b.stands.held (fits_there t can.ready rename.to_first new_pair p b.rest b.place)
 
   -- its name is the one that the entry gets
-  is_named : is_name name ≡ true
+  is_named : is_valid_name name ≡ true
   is_named =
       let here = each_pair t can.ready rename.to_first new_pair p b.rest b.place (λ x. Each IsEntryIfOther x.content.slots) (other_entries t.disk t.pairs can.ready.accepted) in
       let entry = (each_right IsEntryIfOther l (g ∷ r) (subst (Each IsEntryIfOther) b.stands.held here)).0 b.stands.entry in
-      ap is_name (sym b.stands.named) ∙ entry.name
+      ap is_valid_name (sym b.stands.named) ∙ entry.name
 
   pub can_put_onto : CanChangeOrSplitPair t new_pair (replace_entry_across_pairs_changes sync t old_pair old_id new_pair new_id name)
   can_put_onto = can_put sync t old_pair old_id new_pair can address rename.to_first p b.rest b.place rename.logged (Delete new_id ∷ []) l r leaves fits_left new_id b.stands.number name is_named rename.fits
@@ -179,8 +179,8 @@ module _ (sync : Bool) (t : Kept) (old_pair old_id first new_pair new_id : ℕ) 
       let new_site = is_site t.disk t.pairs rename.path rename.at can.ready.accepted rename.leads rename.to_first new_pair p b.rest b.place rename.begins in
       record {
         accepted = subst (IsAcceptedImage t.disk) there can.ready.accepted;
-        writable = subst (IsWritable t.disk) there can.ready.writable;
-        settled = ap gstate_of (sym there) ∙ can.ready.settled;
+        writable = subst (IsWritableImage t.disk) there can.ready.writable;
+        settled = ap gstate_of_pairs (sym there) ∙ can.ready.settled;
         site = new_site;
         there = sym there_old ∙ there;
         old_site = old_site;
@@ -202,7 +202,7 @@ module _ (sync : Bool) (t : Kept) (old_pair old_id first new_pair new_id : ℕ) 
   first_kept [] e = absurd (let z = sym b.stands.entry ∙ e.0 in cc)
   first_kept (x ∷ l) e = e
 
-  turn : IsTurn t new_pair (replace_entry_across_pairs_changes sync t old_pair old_id new_pair new_id name) w p (l ++ v ∷ r) (gstate_xor (move_of sync q.at (length lo)) p.content.move)
+  turn : IsTurn t new_pair (replace_entry_across_pairs_changes sync t old_pair old_id new_pair new_id name) w p (l ++ v ∷ r) (gstate_xor (gstate_naming_moved_slot sync q.at (length lo)) p.content.move)
   turn = record {
     accepted = can.ready.accepted;
     there = there;
@@ -224,7 +224,7 @@ module _ (sync : Bool) (t : Kept) (old_pair old_id first new_pair new_id : ℕ) 
   stays : goes ≡ false → ends_in_hard_tail false (wo.before ++ wo.left) ≡ true → 1 < length q.content.slots
   stays remains hard = go (stays_there t old_pair old_id first can rename.begins_old remains)
     where
-      go : (old_pair ≡ can.first) ⊎ (1 < length (kept_pair_at_index t old_pair).content.slots) → 1 < length q.content.slots
+      go : (old_pair ≡ can.first) ⊎ (1 < length (thread_pair_at_index t old_pair).content.slots) → 1 < length q.content.slots
       go (inl e) = absurd (let z = sym hard ∙ led_first e in cc)
       go (inr many) = subst (λ (z : Pair). 1 < length z.content.slots) (here t can.ready can.first old_pair q can.stands.rest can.stands.place) many
 
@@ -239,9 +239,9 @@ module _ (sync : Bool) (t : Kept) (old_pair old_id first new_pair new_id : ℕ) 
   abbrev to : Path
   to = rename.path ++ name ∷ []
 
-  follows : (disk : Disk) (x : Pair) (more : List Pair) → HasTurned t.disk w p (l ++ v ∷ r) (gstate_xor (move_of sync q.at (length lo)) p.content.move) disk x more
-      → Follows t.disk (thread_at w (p ∷ [])) disk (thread_at w (x ∷ more)) (renamed from to) (walk_by from to)
-  follows disk x more turned = subst (λ (n : Name). Follows t.disk (thread_at w (p ∷ [])) disk (thread_at w (x ∷ more)) (renamed (can.path ++ n ∷ []) to) (walk_by (can.path ++ n ∷ []) to)) can.stands.stands.named
+  follows : (disk : Disk) (x : Pair) (more : List Pair) → HasTurned t.disk w p (l ++ v ∷ r) (gstate_xor (gstate_naming_moved_slot sync q.at (length lo)) p.content.move) disk x more
+      → IsImageAfterTreeChange t.disk (thread_at w (p ∷ [])) disk (thread_at w (x ∷ more)) (tree_after_rename from to) (walk_by from to)
+  follows disk x more turned = subst (λ (n : Name). IsImageAfterTreeChange t.disk (thread_at w (p ∷ [])) disk (thread_at w (x ∷ more)) (tree_after_rename (can.path ++ n ∷ []) to) (walk_by (can.path ++ n ∷ []) to)) can.stands.stands.named
       (set_onto t.disk wo q lo s ro w p l v r sync disk x more turned can.path can.at (subst (λ z. IsPathToDirectory z can.path can.at) there can.leads) same_begin
       rename.path rename.at (subst (λ z. IsPathToDirectory z rename.path rename.at) there rename.leads)
       (same t.disk t.pairs rename.path rename.at can.ready.accepted rename.leads rename.to_first new_pair p b.rest b.place rename.begins)
@@ -257,7 +257,7 @@ module _ (sync : Bool) (t : Kept) (old_pair old_id first new_pair new_id : ℕ) 
     chain = chain_same t.disk wo q lo s ro w p l (g ∷ []) v r setting;
     old_place = old_number;
     old_is = ap (λ (z : Pair). z.at) (here t can.ready can.first old_pair q can.stands.rest can.stands.place);
-    logged = subst (λ (z : Pair). HasLoggableContentAt t.disk z.at) (here t can.ready can.first old_pair q can.stands.rest can.stands.place) can.logged;
+    logged = subst (λ (z : Pair). IsRawPairContentWellFormed t.disk z.at) (here t can.ready can.first old_pair q can.stands.rest can.stands.place) can.logged;
     same_slot = refl;
     follows = follows;
     stays = stays;
@@ -270,7 +270,7 @@ module _ (sync : Bool) (t : Kept) (old_pair old_id first new_pair new_id : ℕ) 
     file = rename.file;
   }
 
-  pub ends_onto : (mid : Kept) → IsPairChangedOrSplit t new_pair (replace_entry_across_pairs_changes sync t old_pair old_id new_pair new_id name) mid → CanEndMoveAfterPut t old_pair old_id goes new_pair mid
+  pub ends_onto : (mid : KeptThread) → IsPairChangedOrSplit t new_pair (replace_entry_across_pairs_changes sync t old_pair old_id new_pair new_id name) mid → CanEndMoveAfterFirstCommit t old_pair old_id goes new_pair mid
   ends_onto mid is =
       let x = first_turned t sync old_pair goes new_pair (replace_entry_across_pairs_changes sync t old_pair old_id new_pair new_id name) wo q lo s ro w p l (Some g) v r from to name is_first mid is in
       record {
@@ -281,22 +281,22 @@ module _ (sync : Bool) (t : Kept) (old_pair old_id first new_pair new_id : ℕ) 
         at = same_at t sync old_pair goes new_pair (replace_entry_across_pairs_changes sync t old_pair old_id new_pair new_id name) wo q lo s ro w p l (Some g) v r from to name is_first mid x;
       }
 
-  pub shows_onto : (mid : Kept) → IsPairChangedOrSplit t new_pair (replace_entry_across_pairs_changes sync t old_pair old_id new_pair new_id name) mid → tree_on_disk mid.disk mid.pairs ≡ tree_with_moved_entry t can.path can.name rename.path name
+  pub shows_onto : (mid : KeptThread) → IsPairChangedOrSplit t new_pair (replace_entry_across_pairs_changes sync t old_pair old_id new_pair new_id name) mid → tree_on_disk mid.disk mid.pairs ≡ tree_with_moved_entry t can.path can.name rename.path name
   shows_onto mid is = mid_shows t sync old_pair goes new_pair (replace_entry_across_pairs_changes sync t old_pair old_id new_pair new_id name) wo q lo s ro w p l (Some g) v r from to name is_first mid
       (first_turned t sync old_pair goes new_pair (replace_entry_across_pairs_changes sync t old_pair old_id new_pair new_id name) wo q lo s ro w p l (Some g) v r from to name is_first mid is)
 
-  pub survives_onto : (calls : List CallEvent) → StopsAfterCleanErasesLeave t.history calls (IsLeftByStoppedChangeOrSplit t new_pair (replace_entry_across_pairs_changes sync t old_pair old_id new_pair new_id name))
-      → SurvivesStopsSince t.disk t.history calls (tree_on_disk t.disk t.pairs) (tree_with_moved_entry t can.path can.name rename.path name)
+  pub survives_onto : (calls : List DeviceCallEvent) → PowerLossLeavesSuchBlocksAfterCleanErases t.history calls (IsLeftByStoppedChangeOrSplit t new_pair (replace_entry_across_pairs_changes sync t old_pair old_id new_pair new_id name))
+      → SurvivesPowerLossInCallsSince t.disk t.history calls (tree_on_disk t.disk t.pairs) (tree_with_moved_entry t can.path can.name rename.path name)
   survives_onto calls stops = first_survives t sync old_pair goes new_pair (replace_entry_across_pairs_changes sync t old_pair old_id new_pair new_id name) wo q lo s ro w p l (Some g) v r from to name is_first calls stops
 
-  pub replaced_across : sync ≡ false → (new : Kept) → IsSlotPutAndMoveEnded t old_pair old_id goes new_pair (replace_entry_across_pairs_changes sync t old_pair old_id new_pair new_id name) new → IsFileReplacedAcrossPairs t new can.path can.name rename.path name g.struct
+  pub replaced_across : sync ≡ false → (new : KeptThread) → IsSlotPutAndMoveEnded t old_pair old_id goes new_pair (replace_entry_across_pairs_changes sync t old_pair old_id new_pair new_id name) new → IsFileReplacedAcrossPairs t new can.path can.name rename.path name g.struct
   replaced_across plain new is =
       let x = first_turned t sync old_pair goes new_pair (replace_entry_across_pairs_changes sync t old_pair old_id new_pair new_id name) wo q lo s ro w p l (Some g) v r from to name is_first is.mid is.put in
       let e = subst (λ i. HasEndedMoveAt is.mid (pair_number_after_insertion old_pair new_pair (length is.mid.pairs - length t.pairs)) i goes new) (sym can.stands.stands.number) is.ended in
       record {
-        now = subst (λ (z : List ℕ). ShowsTreeAfterDrops t new (tree_with_moved_entry t can.path can.name rename.path name) z) (append-nil (skip_list_blocks_of_struct t.disk g.struct))
+        now = subst (λ (z : List ℕ). ShowsTreeAfterPairDrops t new (tree_with_moved_entry t can.path can.name rename.path name) z) (append-nil (skip_list_blocks_of_struct t.disk g.struct))
             (rename_becomes t sync old_pair goes new_pair (replace_entry_across_pairs_changes sync t old_pair old_id new_pair new_id name) wo q lo s ro w p l (Some g) v r from to name is_first is.mid x new e plain);
-        once = subst (λ (z : List ℕ). (b : ℕ) → count b (used_blocks new.disk new.pairs) + count b z ≤ 1) (append-nil (skip_list_blocks_of_struct t.disk g.struct))
+        once = subst (λ (z : List ℕ). (b : ℕ) → occurrence_count_of_number b (used_blocks new.disk new.pairs) + occurrence_count_of_number b z ≤ 1) (append-nil (skip_list_blocks_of_struct t.disk g.struct))
             (rename_once t sync old_pair goes new_pair (replace_entry_across_pairs_changes sync t old_pair old_id new_pair new_id name) wo q lo s ro w p l (Some g) v r from to name is_first is.mid x new e);
         completed = λ z given to_given tree given_is to_is.
             rename_completed t sync old_pair goes new_pair (replace_entry_across_pairs_changes sync t old_pair old_id new_pair new_id name) wo q lo s ro w p l (Some g) v r from to name is_first is.mid x new e plain z given to_given tree given_is to_is;

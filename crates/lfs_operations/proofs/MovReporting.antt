@@ -5,35 +5,35 @@ use Rattle.std.proofs.lemmas.Bool.{cases_lt, le-ltb, lt-ltb}
 use Rattle.std.proofs.lemmas.List.Elements.{All-from_recursion, recursion_from_All}
 use Rattle.lfs_device.specs.declared.error.Error.{Error}
 use Rattle.lfs_device.specs.declared.error.Error.TheVariants.{Io, NoMemory, NoSpace}
-use Rattle.lfs_model.specs.Changes.{ContentChange}
+use Rattle.lfs_model.specs.Changes.{PairContentChange}
 use Rattle.lfs_model.specs.Disk.{Disk}
-use Rattle.lfs_model.specs.History.{CallEvent, IsTrueOfEachCallSince, faults}
+use Rattle.lfs_model.specs.History.{DeviceCallEvent, IsTrueOfEachCallSince, fault_count_of_history}
 use Rattle.lfs_model.specs.Blocks.{Blocks}
-use Rattle.lfs_model.specs.PowerLoss.{ShowsTreeBeforeOrAfter as IsLeftOf, SurvivesStopsSince, with_blocks}
-use Rattle.lfs_model.specs.Thread.{Pair, pairs_of_all_directories, pair_count_before_root}
+use Rattle.lfs_model.specs.PowerLoss.{HasTreeBeforeOrAfterOperation as IsLeftOf, SurvivesPowerLossInCallsSince, disk_with_blocks}
+use Rattle.lfs_model.specs.Thread.{Pair, pairs_from_root_directory_on, pair_count_before_root}
 use Rattle.lfs_model.specs.Shown.{tree_on_disk}
 use Rattle.lfs_model.proofs.AfterStops.{survives_then}
-use Rattle.lfs_model.proofs.Histories.{IsTrueAfterEachStopSince-trans, IsTrueAfterEachStopSince-weaker, AreBytesStillUnprogrammed-trans, AreBytesStillUnprogrammed-wider}
+use Rattle.lfs_model.proofs.Histories.{IsTrueAfterAnyPowerLossSince-trans, IsTrueAfterAnyPowerLossSince-weaker, AreBytesStillUnprogrammed-trans, AreBytesStillUnprogrammed-wider}
 use Rattle.lfs_model.proofs.Overwrites.{AreBlocksEqualExceptThese-trans, AreBlocksEqualExceptThese-wider}
 use Rattle.lfs_model.proofs.Writable.{ends_in_hard_tail}
-use Rattle.lfs_thread.specs.Device.{StopsAfterCleanErasesLeave, blocks_of_two_addresses, blocks_of_address}
-use Rattle.lfs_thread.specs.Kept.{Kept, ThreadView}
-use Rattle.lfs_thread.specs.Steps.{HasSameGeometry, IsPairChanged, ThreadChangesOnlyTheseBlocks, back_pair_of_split, front_pair_of_split, no_pair, kept_pair_at_index}
-use Rattle.lfs_operations.specs.Changing.{AreTwoFreeBlocks, IsPairSplitInto, IsLeftByStoppedChangeOrSplit, IsPairChangedOrSplit, ReportsChangeOrSplit, WritesPairAndTwoFreeBlocks, has_failed}
+use Rattle.lfs_thread.specs.Device.{PowerLossLeavesSuchBlocksAfterCleanErases, blocks_of_two_pair_addresses, blocks_of_pair_address}
+use Rattle.lfs_thread.specs.Kept.{KeptThread, ThreadView}
+use Rattle.lfs_thread.specs.Steps.{HasSameGeometry, IsPairChanged, ThreadChangesOnlyTheseBlocks, back_pair_of_split, front_pair_of_split, empty_pair_at_anchor, thread_pair_at_index}
+use Rattle.lfs_operations.specs.Changing.{AreTwoFreeBlocks, IsPairSplitInto, IsLeftByStoppedChangeOrSplit, IsPairChangedOrSplit, ReportsErrorsOfChangeOrSplit, WritesPairAndTwoFreeBlocks, has_thread_failed_after_result}
 use Rattle.lfs_operations.specs.MoveEnds.{pair_written_at_move_end, is_pair_named_by_hard_tail}
-use Rattle.lfs_operations.specs.MovingSteps.{CanEndMoveAfterPut, SurvivesBothMoveCommits, ReportsCommitsTakingBlocks, WritesTwoPairsAndTwoFreeBlocks, pair_number_after_insertion}
-use Rattle.lfs_operations.specs.Removing.{ReportsCommitTakingNoBlock}
+use Rattle.lfs_operations.specs.MovingSteps.{CanEndMoveAfterFirstCommit, SurvivesBothMoveCommits, ReportsErrorsOfCommitsTakingBlocks, WritesTwoPairsAndTwoFreeBlocks, pair_number_after_insertion}
+use Rattle.lfs_operations.specs.Removing.{ReportsErrorsOfCommitTakingNoBlock}
 
-failing : (e : Error) → (e ≡ Io) ⊎ (e ≡ NoMemory) → has_failed {X = Unit {0}} (Err e) ≡ true
-failing e (inl io) = ap (λ z. has_failed {X = Unit {0}} (Err z)) io
-failing e (inr memory) = ap (λ z. has_failed {X = Unit {0}} (Err z)) memory
+failing : (e : Error) → (e ≡ Io) ⊎ (e ≡ NoMemory) → has_thread_failed_after_result {X = Unit {0}} (Err e) ≡ true
+failing e (inl io) = ap (λ z. has_thread_failed_after_result {X = Unit {0}} (Err z)) io
+failing e (inr memory) = ap (λ z. has_thread_failed_after_result {X = Unit {0}} (Err z)) memory
 
 not_space : (r : Result (Unit {0}) Error) → IfErr r (λ e. (e ≡ Io) ⊎ (e ≡ NoMemory)) → r ≡ Err NoSpace → ⊥
 not_space (Ok x) h e = absurd (cc)
 not_space (Err e) (inl h) k = let z : e ≡ NoSpace = cc in absurd (let w = sym h ∙ z in cc)
 not_space (Err e) (inr h) k = let z : e ≡ NoSpace = cc in absurd (let w = sym h ∙ z in cc)
 
-pub reports_of_end : (old mid new : ThreadView) (index : ℕ) (changes : List ContentChange) (r : Result (Unit {0}) Error) → faults mid.kept.history ≡ faults old.kept.history → ReportsCommitTakingNoBlock mid new r → ReportsCommitsTakingBlocks old new index changes r
+pub reports_of_end : (old mid new : ThreadView) (index : ℕ) (changes : List PairContentChange) (r : Result (Unit {0}) Error) → fault_count_of_history mid.kept.history ≡ fault_count_of_history old.kept.history → ReportsErrorsOfCommitTakingNoBlock mid new r → ReportsErrorsOfCommitsTakingBlocks old new index changes r
 reports_of_end old mid new index changes r same h = record {
   failed = inl (go r h.failed h.reported.errors);
   errors = wider r h.reported.errors;
@@ -44,7 +44,7 @@ reports_of_end old mid new index changes r same h = record {
   too_large = λ none. absurd (not_space r h.reported.errors none);
 }
   where
-    go : (r : Result (Unit {0}) Error) → new.failed ≡ is_err r → IfErr r (λ e. (e ≡ Io) ⊎ (e ≡ NoMemory)) → new.failed ≡ has_failed r
+    go : (r : Result (Unit {0}) Error) → new.failed ≡ is_err r → IfErr r (λ e. (e ≡ Io) ⊎ (e ≡ NoMemory)) → new.failed ≡ has_thread_failed_after_result r
     go (Ok x) f k = f
     go (Err e) f k = f ∙ sym (failing e k)
 
@@ -58,20 +58,20 @@ not_io r x is io = absurd (let z = sym is ∙ io in cc)
 
 -- ---- the device
 
-wider_writes : (bs cs : List ℕ) (old new : Kept) → ((k : ℕ) → All (λ x. x ≢ k) cs → All (λ x. x ≢ k) bs) → ThreadChangesOnlyTheseBlocks bs old new → ThreadChangesOnlyTheseBlocks cs old new
+wider_writes : (bs cs : List ℕ) (old new : KeptThread) → ((k : ℕ) → All (λ x. x ≢ k) cs → All (λ x. x ≢ k) bs) → ThreadChangesOnlyTheseBlocks bs old new → ThreadChangesOnlyTheseBlocks cs old new
 wider_writes bs cs old new f w = record {
   others = AreBlocksEqualExceptThese-wider cs f w.others;
   elsewhere = AreBytesStillUnprogrammed-wider cs f w.elsewhere;
   shape = w.shape;
-  at_worst = IsTrueAfterEachStopSince-weaker (λ blocks k. AreBlocksEqualExceptThese-wider cs f k) w.at_worst;
+  at_worst = IsTrueAfterAnyPowerLossSince-weaker (λ blocks k. AreBlocksEqualExceptThese-wider cs f k) w.at_worst;
 }
 
-writes_then : (bs : List ℕ) (old mid new : Kept) → ThreadChangesOnlyTheseBlocks bs old mid → ThreadChangesOnlyTheseBlocks bs mid new → ThreadChangesOnlyTheseBlocks bs old new
+writes_then : (bs : List ℕ) (old mid new : KeptThread) → ThreadChangesOnlyTheseBlocks bs old mid → ThreadChangesOnlyTheseBlocks bs mid new → ThreadChangesOnlyTheseBlocks bs old new
 writes_then bs old mid new v w = record {
   others = AreBlocksEqualExceptThese-trans v.others w.others;
   elsewhere = AreBytesStillUnprogrammed-trans v.elsewhere w.elsewhere;
   shape = record { block_size = w.shape.block_size ∙ v.shape.block_size; page = w.shape.page ∙ v.shape.page; order = w.shape.order ∙ v.shape.order; count = w.shape.count ∙ v.shape.count };
-  at_worst = IsTrueAfterEachStopSince-trans v.at_worst (IsTrueAfterEachStopSince-weaker (λ blocks k. AreBlocksEqualExceptThese-trans v.others k) w.at_worst);
+  at_worst = IsTrueAfterAnyPowerLossSince-trans v.at_worst (IsTrueAfterAnyPowerLossSince-weaker (λ blocks k. AreBlocksEqualExceptThese-trans v.others k) w.at_worst);
 }
 
 -- a fact of all blocks of both pairs is one of each pair's
@@ -85,16 +85,16 @@ without_first a b c d fresh k h =
     let e = recursion_from_All (λ x. x ≢ k) (a ∷ b ∷ c ∷ d ∷ fresh) h in
     All-from_recursion (λ x. x ≢ k) (c ∷ d ∷ []) (e.1.1.0, (e.1.1.1.0, tt))
 
-pub writes_first : (old mid : Kept) (one other : ℕ) → WritesPairAndTwoFreeBlocks old other mid → WritesTwoPairsAndTwoFreeBlocks old one other mid
+pub writes_first : (old mid : KeptThread) (one other : ℕ) → WritesPairAndTwoFreeBlocks old other mid → WritesTwoPairsAndTwoFreeBlocks old one other mid
 writes_first old mid one other w = record {
   fresh = w.fresh;
   few = w.few;
   free = w.free;
-  writes = wider_writes ((kept_pair_at_index old other).at.0 ∷ (kept_pair_at_index old other).at.1 ∷ w.fresh) ((kept_pair_at_index old other).at.0 ∷ (kept_pair_at_index old other).at.1 ∷ (kept_pair_at_index old one).at.0 ∷ (kept_pair_at_index old one).at.1 ∷ w.fresh) old mid
-      (without_second (kept_pair_at_index old other).at.0 (kept_pair_at_index old other).at.1 (kept_pair_at_index old one).at.0 (kept_pair_at_index old one).at.1 w.fresh) w.writes;
+  writes = wider_writes ((thread_pair_at_index old other).at.0 ∷ (thread_pair_at_index old other).at.1 ∷ w.fresh) ((thread_pair_at_index old other).at.0 ∷ (thread_pair_at_index old other).at.1 ∷ (thread_pair_at_index old one).at.0 ∷ (thread_pair_at_index old one).at.1 ∷ w.fresh) old mid
+      (without_second (thread_pair_at_index old other).at.0 (thread_pair_at_index old other).at.1 (thread_pair_at_index old one).at.0 (thread_pair_at_index old one).at.1 w.fresh) w.writes;
 }
 
-pub writes_both : (old mid new : Kept) (one other place : ℕ) → (kept_pair_at_index mid place).at ≡ (kept_pair_at_index old one).at → WritesPairAndTwoFreeBlocks old other mid → ThreadChangesOnlyTheseBlocks (blocks_of_address (kept_pair_at_index mid place).at) mid new → WritesTwoPairsAndTwoFreeBlocks old one other new
+pub writes_both : (old mid new : KeptThread) (one other place : ℕ) → (thread_pair_at_index mid place).at ≡ (thread_pair_at_index old one).at → WritesPairAndTwoFreeBlocks old other mid → ThreadChangesOnlyTheseBlocks (blocks_of_pair_address (thread_pair_at_index mid place).at) mid new → WritesTwoPairsAndTwoFreeBlocks old one other new
 unfolding writes_first
 writes_both old mid new one other place at w e =
     let f = writes_first old mid one other w in
@@ -102,23 +102,23 @@ writes_both old mid new one other place at w e =
       fresh = w.fresh;
       few = w.few;
       free = w.free;
-      writes = writes_then ((kept_pair_at_index old other).at.0 ∷ (kept_pair_at_index old other).at.1 ∷ (kept_pair_at_index old one).at.0 ∷ (kept_pair_at_index old one).at.1 ∷ w.fresh) old mid new f.writes
-          (wider_writes ((kept_pair_at_index old one).at.0 ∷ (kept_pair_at_index old one).at.1 ∷ []) ((kept_pair_at_index old other).at.0 ∷ (kept_pair_at_index old other).at.1 ∷ (kept_pair_at_index old one).at.0 ∷ (kept_pair_at_index old one).at.1 ∷ w.fresh) mid new
-          (without_first (kept_pair_at_index old other).at.0 (kept_pair_at_index old other).at.1 (kept_pair_at_index old one).at.0 (kept_pair_at_index old one).at.1 w.fresh)
-          (subst (λ (a : ℕ × ℕ). ThreadChangesOnlyTheseBlocks (blocks_of_address a) mid new) at e));
+      writes = writes_then ((thread_pair_at_index old other).at.0 ∷ (thread_pair_at_index old other).at.1 ∷ (thread_pair_at_index old one).at.0 ∷ (thread_pair_at_index old one).at.1 ∷ w.fresh) old mid new f.writes
+          (wider_writes ((thread_pair_at_index old one).at.0 ∷ (thread_pair_at_index old one).at.1 ∷ []) ((thread_pair_at_index old other).at.0 ∷ (thread_pair_at_index old other).at.1 ∷ (thread_pair_at_index old one).at.0 ∷ (thread_pair_at_index old one).at.1 ∷ w.fresh) mid new
+          (without_first (thread_pair_at_index old other).at.0 (thread_pair_at_index old other).at.1 (thread_pair_at_index old one).at.0 (thread_pair_at_index old one).at.1 w.fresh)
+          (subst (λ (a : ℕ × ℕ). ThreadChangesOnlyTheseBlocks (blocks_of_pair_address a) mid new) at e));
     }
 
 -- the second step writes the fresh pair
-writes_fresh : (old mid new : Kept) (one other : ℕ) (fresh : ℕ × ℕ) → AreTwoFreeBlocks old.map fresh → ThreadChangesOnlyTheseBlocks (blocks_of_two_addresses (kept_pair_at_index old other).at fresh) old mid → ThreadChangesOnlyTheseBlocks (blocks_of_address fresh) mid new → WritesTwoPairsAndTwoFreeBlocks old one other new
+writes_fresh : (old mid new : KeptThread) (one other : ℕ) (fresh : ℕ × ℕ) → AreTwoFreeBlocks old.map fresh → ThreadChangesOnlyTheseBlocks (blocks_of_two_pair_addresses (thread_pair_at_index old other).at fresh) old mid → ThreadChangesOnlyTheseBlocks (blocks_of_pair_address fresh) mid new → WritesTwoPairsAndTwoFreeBlocks old one other new
 writes_fresh old mid new one other fresh free w e =
-    let bs = (kept_pair_at_index old other).at.0 ∷ (kept_pair_at_index old other).at.1 ∷ (kept_pair_at_index old one).at.0 ∷ (kept_pair_at_index old one).at.1 ∷ fresh.0 ∷ fresh.1 ∷ [] in
+    let bs = (thread_pair_at_index old other).at.0 ∷ (thread_pair_at_index old other).at.1 ∷ (thread_pair_at_index old one).at.0 ∷ (thread_pair_at_index old one).at.1 ∷ fresh.0 ∷ fresh.1 ∷ [] in
     record {
       fresh = fresh.0 ∷ fresh.1 ∷ [];
       few = omega arith;
       free = (free.first, (free.second, tt));
       writes = writes_then bs old mid new
-          (wider_writes (blocks_of_two_addresses (kept_pair_at_index old other).at fresh) bs old mid (without_second (kept_pair_at_index old other).at.0 (kept_pair_at_index old other).at.1 (kept_pair_at_index old one).at.0 (kept_pair_at_index old one).at.1 (fresh.0 ∷ fresh.1 ∷ [])) w)
-          (wider_writes (blocks_of_address fresh) bs mid new (λ k h. (let e = recursion_from_All (λ x. x ≢ k) bs h in All-from_recursion (λ x. x ≢ k) (blocks_of_address fresh) e.1.1.1.1)) e);
+          (wider_writes (blocks_of_two_pair_addresses (thread_pair_at_index old other).at fresh) bs old mid (without_second (thread_pair_at_index old other).at.0 (thread_pair_at_index old other).at.1 (thread_pair_at_index old one).at.0 (thread_pair_at_index old one).at.1 (fresh.0 ∷ fresh.1 ∷ [])) w)
+          (wider_writes (blocks_of_pair_address fresh) bs mid new (λ k h. (let e = recursion_from_All (λ x. x ≢ k) bs h in All-from_recursion (λ x. x ≢ k) (blocks_of_pair_address fresh) e.1.1.1.1)) e);
     }
 
 -- ---- the pair in front of the old one, once the new one has changed
@@ -161,21 +161,21 @@ next_to i o apart a b = go (cases_lt o i)
 
 -- Where the first step has put the changes, the second one writes the pair in front of the old one: that is a pair that stood
 -- there, or a fresh one.
-module _ (old mid new : Kept) (index other : ℕ) (changes : List ContentChange) (put : IsPairChangedOrSplit old other changes mid) (below : other < length old.pairs) (apart : index ≢ other)
+module _ (old mid new : KeptThread) (index other : ℕ) (changes : List PairContentChange) (put : IsPairChangedOrSplit old other changes mid) (below : other < length old.pairs) (apart : index ≢ other)
     (above : 0 < pair_number_after_insertion index other (length mid.pairs - length old.pairs))
-    (first : WritesPairAndTwoFreeBlocks old other mid) (second : ThreadChangesOnlyTheseBlocks (blocks_of_address (kept_pair_at_index mid (pair_number_after_insertion index other (length mid.pairs - length old.pairs) - 1)).at) mid new) where
+    (first : WritesPairAndTwoFreeBlocks old other mid) (second : ThreadChangesOnlyTheseBlocks (blocks_of_pair_address (thread_pair_at_index mid (pair_number_after_insertion index other (length mid.pairs - length old.pairs) - 1)).at) mid new) where
   abbrev place : ℕ
   place = pair_number_after_insertion index other (length mid.pairs - length old.pairs)
 
-  stood : (kept_pair_at_index mid (pair_number_after_insertion index other (length mid.pairs - length old.pairs) - 1)).at ≡ (kept_pair_at_index old (index - 1)).at → WritesTwoPairsAndTwoFreeBlocks old (index - 1) other new
+  stood : (thread_pair_at_index mid (pair_number_after_insertion index other (length mid.pairs - length old.pairs) - 1)).at ≡ (thread_pair_at_index old (index - 1)).at → WritesTwoPairsAndTwoFreeBlocks old (index - 1) other new
   stood at = writes_both old mid new (index - 1) other (pair_number_after_insertion index other (length mid.pairs - length old.pairs) - 1) at first second
 
   changed : IsPairChanged old other changes mid → WritesTwoPairsAndTwoFreeBlocks old (index - 1) other new
   changed is =
-      let many = ap length is.pairs ∙ length-set old.pairs other (record { at = (kept_pair_at_index old other).at; content = is.content }) in
+      let many = ap length is.pairs ∙ length-set old.pairs other (record { at = (thread_pair_at_index old other).at; content = is.content }) in
       let same : pair_number_after_insertion index other (length mid.pairs - length old.pairs) ≡ index = place_same index other (length mid.pairs - length old.pairs) (omega arith) in
-      stood (ap (λ (i : ℕ). (kept_pair_at_index mid (i - 1)).at) same ∙ ap (λ z. (get_or z (index - 1) no_pair).at) is.pairs
-      ∙ get_set old.pairs other (index - 1) (record { at = (kept_pair_at_index old other).at; content = is.content }) no_pair refl)
+      stood (ap (λ (i : ℕ). (thread_pair_at_index mid (i - 1)).at) same ∙ ap (λ z. (get_or z (index - 1) empty_pair_at_anchor).at) is.pairs
+      ∙ get_set old.pairs other (index - 1) (record { at = (thread_pair_at_index old other).at; content = is.content }) empty_pair_at_anchor refl)
     where
       place_same : (i o n : ℕ) → n ≡ 0 → pair_number_after_insertion i o n ≡ i
       place_same i o n e = ap (pair_number_after_insertion i o) e ∙ go (nat_lt i o)
@@ -205,30 +205,30 @@ module _ (old mid new : Kept) (index other : ℕ) (changes : List ContentChange)
       behind : other < index → pair_number_after_insertion index other (length mid.pairs - length old.pairs) ≡ index + 1
       behind l = ap (λ b. cond b index (index + (length mid.pairs - length old.pairs))) (le-ltb index other (omega arith)) ∙ (let m = many in omega arith)
 
-      get_is : (j : ℕ) → kept_pair_at_index mid j ≡ get_or (insert (set old.pairs other in_cut) (other + 1) behind_cut) j no_pair
-      get_is j = ap (λ z. get_or z j no_pair) is.pairs
+      get_is : (j : ℕ) → thread_pair_at_index mid j ≡ get_or (insert (set old.pairs other in_cut) (other + 1) behind_cut) j empty_pair_at_anchor
+      get_is j = ap (λ z. get_or z j empty_pair_at_anchor) is.pairs
 
       further : other + 1 < index → WritesTwoPairsAndTwoFreeBlocks old (index - 1) other new
       further l =
           let e : pair_number_after_insertion index other (length mid.pairs - length old.pairs) - 1 ≡ suc (index - 1) = (let b = behind (omega arith) in omega arith) in
-          stood (ap (λ (i : ℕ). (kept_pair_at_index mid i).at) e ∙ ap (λ (z : Pair). z.at) (get_is (suc (index - 1)))
-          ∙ ap (λ (z : Pair). z.at) (get_after (set old.pairs other in_cut) (other + 1) (index - 1) behind_cut no_pair (omega arith) (let t = there in omega arith))
-          ∙ get_set old.pairs other (index - 1) in_cut no_pair refl)
+          stood (ap (λ (i : ℕ). (thread_pair_at_index mid i).at) e ∙ ap (λ (z : Pair). z.at) (get_is (suc (index - 1)))
+          ∙ ap (λ (z : Pair). z.at) (get_after (set old.pairs other in_cut) (other + 1) (index - 1) behind_cut empty_pair_at_anchor (omega arith) (let t = there in omega arith))
+          ∙ get_set old.pairs other (index - 1) in_cut empty_pair_at_anchor refl)
 
       next : other + 1 ≡ index → WritesTwoPairsAndTwoFreeBlocks old (index - 1) other new
       next l =
           let e : pair_number_after_insertion index other (length mid.pairs - length old.pairs) - 1 ≡ other + 1 = (let b = behind (omega arith) in omega arith) in
-          let at : (kept_pair_at_index mid (pair_number_after_insertion index other (length mid.pairs - length old.pairs) - 1)).at ≡ fresh
-          = ap (λ (i : ℕ). (kept_pair_at_index mid i).at) e ∙ ap (λ (z : Pair). z.at) (get_is (other + 1) ∙ get_inserted (set old.pairs other in_cut) (other + 1) behind_cut no_pair (let t = there in omega arith)) in
-          writes_fresh old mid new (index - 1) other fresh is.free is.writes (subst (λ (a : ℕ × ℕ). ThreadChangesOnlyTheseBlocks (blocks_of_address a) mid new) at second)
+          let at : (thread_pair_at_index mid (pair_number_after_insertion index other (length mid.pairs - length old.pairs) - 1)).at ≡ fresh
+          = ap (λ (i : ℕ). (thread_pair_at_index mid i).at) e ∙ ap (λ (z : Pair). z.at) (get_is (other + 1) ∙ get_inserted (set old.pairs other in_cut) (other + 1) behind_cut empty_pair_at_anchor (let t = there in omega arith)) in
+          writes_fresh old mid new (index - 1) other fresh is.free is.writes (subst (λ (a : ℕ × ℕ). ThreadChangesOnlyTheseBlocks (blocks_of_pair_address a) mid new) at second)
 
       go : (index < other) ⊎ (other ≤ index) → WritesTwoPairsAndTwoFreeBlocks old (index - 1) other new
       go (inl l) =
           let e = in_front l in
           let a = above in
-          stood (ap (λ (i : ℕ). (kept_pair_at_index mid (i - 1)).at) e ∙ ap (λ (z : Pair). z.at) (get_is (index - 1))
-          ∙ ap (λ (z : Pair). z.at) (get_before (set old.pairs other in_cut) (other + 1) (index - 1) behind_cut no_pair (omega arith) (let t = there in omega arith))
-          ∙ get_set old.pairs other (index - 1) in_cut no_pair refl)
+          stood (ap (λ (i : ℕ). (thread_pair_at_index mid (i - 1)).at) e ∙ ap (λ (z : Pair). z.at) (get_is (index - 1))
+          ∙ ap (λ (z : Pair). z.at) (get_before (set old.pairs other in_cut) (other + 1) (index - 1) behind_cut empty_pair_at_anchor (omega arith) (let t = there in omega arith))
+          ∙ get_set old.pairs other (index - 1) in_cut empty_pair_at_anchor refl)
       go (inr l) = by (cases_lt (other + 1) index)
         where
           by : (other + 1 < index) ⊎ (index ≤ other + 1) → WritesTwoPairsAndTwoFreeBlocks old (index - 1) other new
@@ -243,12 +243,12 @@ module _ (old mid new : Kept) (index other : ℕ) (changes : List ContentChange)
       go (inr (large, (fresh, is))) = cut fresh is
 
 not_first : (ps : List Pair) (n : ℕ) → is_pair_named_by_hard_tail ps n ≡ true → 0 < n
-not_first ps zero e = absurd (let z : ends_in_hard_tail false (take (0 - pair_count_before_root ps) (pairs_of_all_directories ps)) ≡ true = e in let k : 0 - pair_count_before_root ps ≡ 0 = omega arith in
-    let w = sym z ∙ ap (λ (i : ℕ). ends_in_hard_tail false (take i (pairs_of_all_directories ps))) k in cc)
+not_first ps zero e = absurd (let z : ends_in_hard_tail false (take (0 - pair_count_before_root ps) (pairs_from_root_directory_on ps)) ≡ true = e in let k : 0 - pair_count_before_root ps ≡ 0 = omega arith in
+    let w = sym z ∙ ap (λ (i : ℕ). ends_in_hard_tail false (take i (pairs_from_root_directory_on ps))) k in cc)
 not_first ps (suc n) e = omega arith
 
-pub writes_at_end : (old mid new : Kept) (old_pair old_id : ℕ) (goes : Bool) (new_pair : ℕ) (changes : List ContentChange) → IsPairChangedOrSplit old new_pair changes mid → new_pair < length old.pairs → CanEndMoveAfterPut old old_pair old_id goes new_pair mid
-    → WritesPairAndTwoFreeBlocks old new_pair mid → ThreadChangesOnlyTheseBlocks (blocks_of_address (kept_pair_at_index mid (pair_written_at_move_end (pair_number_after_insertion old_pair new_pair (length mid.pairs - length old.pairs)) goes)).at) mid new → WritesTwoPairsAndTwoFreeBlocks old (pair_written_at_move_end old_pair goes) new_pair new
+pub writes_at_end : (old mid new : KeptThread) (old_pair old_id : ℕ) (goes : Bool) (new_pair : ℕ) (changes : List PairContentChange) → IsPairChangedOrSplit old new_pair changes mid → new_pair < length old.pairs → CanEndMoveAfterFirstCommit old old_pair old_id goes new_pair mid
+    → WritesPairAndTwoFreeBlocks old new_pair mid → ThreadChangesOnlyTheseBlocks (blocks_of_pair_address (thread_pair_at_index mid (pair_written_at_move_end (pair_number_after_insertion old_pair new_pair (length mid.pairs - length old.pairs)) goes)).at) mid new → WritesTwoPairsAndTwoFreeBlocks old (pair_written_at_move_end old_pair goes) new_pair new
 unfolding writes_both
 writes_at_end old mid new old_pair old_id false new_pair changes put below ends first second =
     writes_both old mid new old_pair new_pair (pair_number_after_insertion old_pair new_pair (length mid.pairs - length old.pairs)) ends.at first second
@@ -257,18 +257,18 @@ writes_at_end old mid new old_pair old_id true new_pair changes put below ends f
 
 -- ---- at a stop
 
-same_disk : (old new : Disk) (blocks : Blocks) → HasSameGeometry old new → with_blocks blocks new ≡ with_blocks blocks old
+same_disk : (old new : Disk) (blocks : Blocks) → HasSameGeometry old new → disk_with_blocks blocks new ≡ disk_with_blocks blocks old
 same_disk old new blocks h = λ j. record { block_size = h.block_size j; page = h.page j; order = h.order j; blocks = blocks }
 
-pub survives_both : (old mid new : Kept) (index : ℕ) (changes : List ContentChange) {P : CallEvent → Type 0} → IsPairChangedOrSplit old index changes mid → StopsAfterCleanErasesLeave old.history mid.history (IsLeftByStoppedChangeOrSplit old index changes)
-    → WritesPairAndTwoFreeBlocks old index mid → IsTrueOfEachCallSince P mid.history new.history → SurvivesStopsSince mid.disk mid.history new.history (tree_on_disk mid.disk mid.pairs) (tree_on_disk mid.disk mid.pairs) → SurvivesBothMoveCommits old index changes new
+pub survives_both : (old mid new : KeptThread) (index : ℕ) (changes : List PairContentChange) {P : DeviceCallEvent → Type 0} → IsPairChangedOrSplit old index changes mid → PowerLossLeavesSuchBlocksAfterCleanErases old.history mid.history (IsLeftByStoppedChangeOrSplit old index changes)
+    → WritesPairAndTwoFreeBlocks old index mid → IsTrueOfEachCallSince P mid.history new.history → SurvivesPowerLossInCallsSince mid.disk mid.history new.history (tree_on_disk mid.disk mid.pairs) (tree_on_disk mid.disk mid.pairs) → SurvivesBothMoveCommits old index changes new
 survives_both old mid new index changes put stops w since second before after first shows =
-    survives_then old.disk old.history mid.history new.history before after w.writes.at_worst since (first mid.history stops) (λ clean. IsTrueAfterEachStopSince-weaker left (second clean))
+    survives_then old.disk old.history mid.history new.history before after w.writes.at_worst since (first mid.history stops) (λ clean. IsTrueAfterAnyPowerLossSince-weaker left (second clean))
   where
-    left : (blocks : Blocks) → IsLeftOf (with_blocks blocks mid.disk) (tree_on_disk mid.disk mid.pairs) (tree_on_disk mid.disk mid.pairs) → IsLeftOf (with_blocks blocks old.disk) before after
+    left : (blocks : Blocks) → IsLeftOf (disk_with_blocks blocks mid.disk) (tree_on_disk mid.disk mid.pairs) (tree_on_disk mid.disk mid.pairs) → IsLeftOf (disk_with_blocks blocks old.disk) before after
     left blocks k = subst (λ d. IsLeftOf d before after) (same_disk old.disk mid.disk blocks w.writes.shape)
         (record { pairs = k.pairs; accepted = k.accepted; writable = k.writable; tree = inr (either k.tree) })
       where
-        either : (tree_on_disk (with_blocks blocks mid.disk) k.pairs ≡ tree_on_disk mid.disk mid.pairs) ⊎ (tree_on_disk (with_blocks blocks mid.disk) k.pairs ≡ tree_on_disk mid.disk mid.pairs) → tree_on_disk (with_blocks blocks mid.disk) k.pairs ≡ after
+        either : (tree_on_disk (disk_with_blocks blocks mid.disk) k.pairs ≡ tree_on_disk mid.disk mid.pairs) ⊎ (tree_on_disk (disk_with_blocks blocks mid.disk) k.pairs ≡ tree_on_disk mid.disk mid.pairs) → tree_on_disk (disk_with_blocks blocks mid.disk) k.pairs ≡ after
         either (inl e) = e ∙ shows mid put
         either (inr e) = e ∙ shows mid put

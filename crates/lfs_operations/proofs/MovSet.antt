@@ -7,19 +7,19 @@ use Rattle.std.proofs.lemmas.List.Concat.{flat_map-append}
 use Rattle.lfs_model.specs.Disk.{Disk, block_bytes_on_disk}
 use Rattle.lfs_model.specs.Slots.{Slot, Gstate, is_superblock, same_pair, zero_gstate, gstate_xor}
 use Rattle.lfs_model.specs.SlotEdits.{pair_with_slots}
-use Rattle.lfs_model.specs.Thread.{Pair, blocks_of_pairs, gstate_of, starts_with_superblock, pair_count_before_root, slots_not_moved}
+use Rattle.lfs_model.specs.Thread.{Pair, blocks_of_pairs, gstate_of_pairs, starts_with_superblock, pair_count_before_root, slots_not_moved}
 use Rattle.lfs_model.specs.Tree.{Path, Tree, branch_address_of_struct}
-use Rattle.lfs_model.specs.TreeEdits.{path_without_prefix, tree_after_subtree_replacement, renamed}
+use Rattle.lfs_model.specs.TreeEdits.{path_without_prefix, tree_after_subtree_replacement, tree_after_rename}
 use Rattle.lfs_model.specs.Shown.{entries_by_directory_in_thread, IsPathToDirectory, used_blocks, skip_list_blocks_of_struct, all_slots_not_moved}
-use Rattle.lfs_model.specs.View.{IsFileOrDirectoryEntry, IsMoveOrNone, IsNoSuperblockSlot, IsAcceptedImage}
-use Rattle.lfs_model.specs.Profile.{IsWritable, FitsSlotLimits}
+use Rattle.lfs_model.specs.View.{IsFileOrDirectoryEntry, HasValidMoveOrNone, IsSomeSlotButNotSuperblock, IsAcceptedImage}
+use Rattle.lfs_model.specs.Profile.{IsWritableImage, IsSlotWithinWritableLimits}
 use Rattle.lfs_model.proofs.Became.{Became, became_front, became_shape}
-use Rattle.lfs_model.proofs.Changes.{Follows, SameFiles, slots_files}
+use Rattle.lfs_model.proofs.Changes.{IsImageAfterTreeChange, SameFiles, slots_files}
 use Rattle.lfs_model.proofs.Committed.{no_move_from, recovered_from}
-use Rattle.lfs_model.proofs.Counts.{Each, each_append, each_left, each_right, each_weaker, each_pieces, count, count_append, once_from_distinct, distinct_from_once}
-use Rattle.lfs_model.proofs.Files.{HasSameFile}
+use Rattle.lfs_model.proofs.Counts.{Each, each_append, each_left, each_right, each_weaker, each_pieces, occurrence_count_of_number, count_append, once_from_distinct, distinct_from_once}
+use Rattle.lfs_model.proofs.Files.{HasSameFileBlocksOfStructOnDisks}
 use Rattle.lfs_model.proofs.Global.{gstate_cons, gstate_right}
-use Rattle.lfs_model.proofs.Laws.{Walk}
+use Rattle.lfs_model.proofs.Laws.{DirectoryAddressByPath}
 use Rattle.lfs_model.proofs.Listings.{flip_false}
 use Rattle.lfs_model.proofs.Moves.{AllReached, place_at, get_here, remove_here}
 use Rattle.lfs_model.proofs.MoveSets.{IsMoveSet, move_sets, move_sets_onto}
@@ -28,30 +28,30 @@ use Rattle.lfs_model.proofs.OneCommit.{some_filled}
 use Rattle.lfs_model.proofs.Pairs.{pair_itself}
 use Rattle.lfs_model.proofs.Rests.{site_gstate_moved, unmoved_elsewhere}
 use Rattle.lfs_model.proofs.Searches.{avoids_front, avoids_behind}
-use Rattle.lfs_model.proofs.Sites.{Site, dirs_at, thread_at, IsSite, begin_of, SomeIn, any_from, among_right, among_left}
-use Rattle.lfs_model.proofs.Splices.{slots_in, files_of, count_files, unmoved_in, IsDevice, AreFree}
-use Rattle.lfs_model.proofs.StepsTaken.{IsOnlyStep, IsPut, set_taken}
-use Rattle.lfs_operations.specs.MoveEnds.{move_of}
+use Rattle.lfs_model.proofs.Sites.{Site, dirs_at, thread_at, IsSite, begin_of, IsTrueOfSomeElement, any_from, among_right, among_left}
+use Rattle.lfs_model.proofs.Splices.{slots_of_pairs_in_order, file_blocks_of_slots, count_files, unmoved_in, IsDevice, AreFree}
+use Rattle.lfs_model.proofs.StepsTaken.{IsWritableImageAfterTreeChange, IsPut, set_taken}
+use Rattle.lfs_operations.specs.MoveEnds.{gstate_naming_moved_slot}
 use Rattle.lfs_operations.proofs.MovPlaces.{SameParts, same_parts, InTurn, ahead, behind, in_turn, hidden_place}
 
-abbrev pub walk_by : Path → Path → Walk → Walk
+abbrev pub walk_by : Path → Path → DirectoryAddressByPath → DirectoryAddressByPath
 walk_by old new d = tree_after_subtree_replacement new (λ t. d (old ++ t)) (tree_after_subtree_replacement old (λ t. None) d)
 
 -- The pair has these slots and that delta on the new disk, or that pair and a fresh one behind it have.
 pub record HasTurned (old : Disk) (w : Site) (p : Pair) (slots : List Slot) (move : Gstate) (disk : Disk) (q : Pair) (more : List Pair) : Type 0 where
   pub at : q.at ≡ p.at
-  pub delta : gstate_of (q ∷ more) ≡ move
-  pub is : slots_in (q ∷ more) ≡ slots
+  pub delta : gstate_of_pairs (q ∷ more) ≡ move
+  pub is : slots_of_pairs_in_order (q ∷ more) ≡ slots
   pub became : Became old p (pair_with_slots slots p) q more
   pub device : IsDevice old disk (thread_at w (p ∷ [])) (thread_at w (q ∷ more))
   pub free : AreFree old (thread_at w (p ∷ [])) (blocks_of_pairs more) []
-  pub same : (b : ℕ) → count b (blocks_of_pairs more ++ blocks_of_pairs (p ∷ [])) ≡ 0 → block_bytes_on_disk disk b ≡ block_bytes_on_disk old b
+  pub same : (b : ℕ) → occurrence_count_of_number b (blocks_of_pairs more ++ blocks_of_pairs (p ∷ [])) ≡ 0 → block_bytes_on_disk disk b ≡ block_bytes_on_disk old b
 
 -- The slot u stands in the pair o at the site wo, and v is to stand in another pair p at the site w, in place of `olds`.
 pub record IsSetting (disk : Disk) (wo : Site) (o : Pair) (lo : List Slot) (u : Slot) (ro : List Slot) (w : Site) (p : Pair) (l olds : List Slot) (v : Slot) (r : List Slot) : Type 0 where
   pub accepted : IsAcceptedImage disk (thread_at w (p ∷ []))
-  pub writable : IsWritable disk (thread_at w (p ∷ []))
-  pub settled : gstate_of (thread_at w (p ∷ [])) ≡ zero_gstate
+  pub writable : IsWritableImage disk (thread_at w (p ∷ []))
+  pub settled : gstate_of_pairs (thread_at w (p ∷ [])) ≡ zero_gstate
   pub site : IsSite w (p ∷ [])
   pub there : thread_at wo (o ∷ []) ≡ thread_at w (p ∷ [])
   pub old_site : IsSite wo (o ∷ [])
@@ -62,7 +62,7 @@ pub record IsSetting (disk : Disk) (wo : Site) (o : Pair) (lo : List Slot) (u : 
   pub front : l ≡ [] → starts_with_superblock (olds ++ r) ≡ false
   pub entry : IsFileOrDirectoryEntry v
   pub struct : v.struct ≡ u.struct
-  pub fit : FitsSlotLimits disk.block_size disk.page v
+  pub fit : IsSlotWithinWritableLimits disk.block_size disk.page v
 
 module _ (disk : Disk) (wo : Site) (o : Pair) (lo : List Slot) (u : Slot) (ro : List Slot) (w : Site) (p : Pair) (l olds : List Slot) (v : Slot) (r : List Slot)
     (k : IsSetting disk wo o lo u ro w p l olds v r) where
@@ -114,10 +114,10 @@ module _ (disk : Disk) (wo : Site) (o : Pair) (lo : List Slot) (u : Slot) (ro : 
       go (ahead mid e f) = (each_right Far mid (p ∷ (w.right ++ w.after)) (subst (Each Far) e far_back)).0
       go (behind mid e f) = (each_right Far (w.before ++ w.left) (p ∷ mid) (subst (Each Far) f (each_right Far w.chain front_o far_front))).0
 
-  blocks_two : (xs ys : List Pair) (b : ℕ) → count b (blocks_of_pairs (xs ++ ys)) ≡ count b (blocks_of_pairs xs) + count b (blocks_of_pairs ys)
-  blocks_two xs ys b = ap (count b) (flat_map-append (λ (s : Pair). s.at.0 ∷ s.at.1 ∷ []) xs ys) ∙ count_append b (blocks_of_pairs xs) (blocks_of_pairs ys)
+  blocks_two : (xs ys : List Pair) (b : ℕ) → occurrence_count_of_number b (blocks_of_pairs (xs ++ ys)) ≡ occurrence_count_of_number b (blocks_of_pairs xs) + occurrence_count_of_number b (blocks_of_pairs ys)
+  blocks_two xs ys b = ap (occurrence_count_of_number b) (flat_map-append (λ (s : Pair). s.at.0 ∷ s.at.1 ∷ []) xs ys) ∙ count_append b (blocks_of_pairs xs) (blocks_of_pairs ys)
 
-  module _ (sync : Bool) (new : Disk) (q : Pair) (more : List Pair) (x : HasTurned disk w p (l ++ v ∷ r) (gstate_xor (move_of sync o.at (length lo)) p.content.move) new q more) where
+  module _ (sync : Bool) (new : Disk) (q : Pair) (more : List Pair) (x : HasTurned disk w p (l ++ v ∷ r) (gstate_xor (gstate_naming_moved_slot sync o.at (length lo)) p.content.move) new q more) where
     abbrev qs : List Pair
     qs = thread_at w (q ∷ more)
 
@@ -129,9 +129,9 @@ module _ (disk : Disk) (wo : Site) (o : Pair) (lo : List Slot) (u : Slot) (ro : 
         let c = count_append b (blocks_of_pairs more ++ []) (used_blocks disk (thread_at w (p ∷ []))) in
         let d = count_append b (blocks_of_pairs more) [] in
         let e = count_append b (blocks_of_pairs (thread_at w (p ∷ []))) (flat_map (λ s. file_blocks_of s) (all_slots_not_moved (thread_at w (p ∷ [])))) in
-        let g = ap (λ z. count b (blocks_of_pairs z)) grouped in
+        let g = ap (λ z. occurrence_count_of_number b (blocks_of_pairs z)) grouped in
         let h = blocks_two more ((w.chain ++ front_o) ++ o ∷ back_o) b in
-        let i = ap (λ z. count b (blocks_of_pairs z)) (append_assoc more (w.chain ++ front_o) (o ∷ back_o)) in
+        let i = ap (λ z. occurrence_count_of_number b (blocks_of_pairs z)) (append_assoc more (w.chain ++ front_o) (o ∷ back_o)) in
         omega arith))
         (pair_itself o.at)))
       where
@@ -140,28 +140,28 @@ module _ (disk : Disk) (wo : Site) (o : Pair) (lo : List Slot) (u : Slot) (ro : 
 
     -- ---- the global state
 
-    pub state_is : gstate_of qs ≡ move_of sync o.at (length lo)
-    state_is = site_gstate_moved (move_of sync o.at (length lo)) w (p ∷ []) (q ∷ more)
-        (x.delta ∙ ap (gstate_xor (move_of sync o.at (length lo))) (sym (gstate_cons p [] ∙ gstate_right p.content.move)))
-        ∙ ap (gstate_xor (move_of sync o.at (length lo))) k.settled ∙ gstate_right (move_of sync o.at (length lo))
+    pub state_is : gstate_of_pairs qs ≡ gstate_naming_moved_slot sync o.at (length lo)
+    state_is = site_gstate_moved (gstate_naming_moved_slot sync o.at (length lo)) w (p ∷ []) (q ∷ more)
+        (x.delta ∙ ap (gstate_xor (gstate_naming_moved_slot sync o.at (length lo))) (sym (gstate_cons p [] ∙ gstate_right p.content.move)))
+        ∙ ap (gstate_xor (gstate_naming_moved_slot sync o.at (length lo))) k.settled ∙ gstate_right (gstate_naming_moved_slot sync o.at (length lo))
 
-    among : SomeIn (λ s. (same_pair o.at s.at ≡ true) × IsNoSuperblockSlot (slice_get s.content.slots (length lo))) qs
+    among : IsTrueOfSomeElement (λ s. (same_pair o.at s.at ≡ true) × IsSomeSlotButNotSuperblock (slice_get s.content.slots (length lo))) qs
     among = among_right N w.chain (dirs_at w (q ∷ more)) (go turns)
       where
         N : Pair → Type 0
-        N s = (same_pair o.at s.at ≡ true) × IsNoSuperblockSlot (slice_get s.content.slots (length lo))
+        N s = (same_pair o.at s.at ≡ true) × IsSomeSlotButNotSuperblock (slice_get s.content.slots (length lo))
 
         here : N o
-        here = (pair_itself o.at, subst IsNoSuperblockSlot (sym (ap (λ z. slice_get z (length lo)) k.held ∙ get_here lo ro u)) k.other)
+        here = (pair_itself o.at, subst IsSomeSlotButNotSuperblock (sym (ap (λ z. slice_get z (length lo)) k.held ∙ get_here lo ro u)) k.other)
 
-        go : InTurn (w.before ++ w.left) p (w.right ++ w.after) front_o o back_o → SomeIn N (dirs_at w (q ∷ more))
-        go (ahead mid e f) = among_left N (w.before ++ w.left) (q ∷ more ++ (w.right ++ w.after)) (subst (SomeIn N) (sym f) (among_right N front_o (o ∷ mid) (inl here)))
-        go (behind mid e f) = among_right N (w.before ++ w.left) (q ∷ more ++ (w.right ++ w.after)) (among_right N (q ∷ more) (w.right ++ w.after) (subst (SomeIn N) (sym e) (among_right N mid (o ∷ back_o) (inl here))))
+        go : InTurn (w.before ++ w.left) p (w.right ++ w.after) front_o o back_o → IsTrueOfSomeElement N (dirs_at w (q ∷ more))
+        go (ahead mid e f) = among_left N (w.before ++ w.left) (q ∷ more ++ (w.right ++ w.after)) (subst (IsTrueOfSomeElement N) (sym f) (among_right N front_o (o ∷ mid) (inl here)))
+        go (behind mid e f) = among_right N (w.before ++ w.left) (q ∷ more ++ (w.right ++ w.after)) (among_right N (q ∷ more) (w.right ++ w.after) (subst (IsTrueOfSomeElement N) (sym e) (among_right N mid (o ∷ back_o) (inl here))))
 
-    is_move : IsMoveOrNone qs (gstate_of qs)
-    is_move = subst (IsMoveOrNone qs) (sym state_is) (inr (refl, any_from (λ s. (same_pair o.at s.at ≡ true) × IsNoSuperblockSlot (slice_get s.content.slots (length lo))) qs among))
+    is_move : HasValidMoveOrNone qs (gstate_of_pairs qs)
+    is_move = subst (HasValidMoveOrNone qs) (sym state_is) (inr (refl, any_from (λ s. (same_pair o.at s.at ≡ true) × IsSomeSlotButNotSuperblock (slice_get s.content.slots (length lo))) qs among))
 
-    named_far : (ss : List Pair) → Each Far ss → Each (λ s. same_pair (gstate_of (thread_at w (q ∷ more))).pair s.at ≡ false) ss
+    named_far : (ss : List Pair) → Each Far ss → Each (λ s. same_pair (gstate_of_pairs (thread_at w (q ∷ more))).pair s.at ≡ false) ss
     named_far ss h = subst (λ (g : Gstate). Each (λ s. same_pair g.pair s.at ≡ false) ss) (sym state_is) h
 
     front_kept : (l : List Slot) → (l ≡ [] → starts_with_superblock (olds ++ r) ≡ false) → (slots : List Slot) → slots ≡ l ++ (olds ++ r) → starts_with_superblock slots ≡ true → starts_with_superblock (l ++ v ∷ r) ≡ true
@@ -211,45 +211,45 @@ module _ (disk : Disk) (wo : Site) (o : Pair) (lo : List Slot) (u : Slot) (ro : 
     all_reached : AllReached ps
     all_reached = (recovered_from disk ps k.accepted k.settled).reached
 
-    pub taken_by : (change : Tree → Tree) (walk : Walk → Walk) → Follows disk (thread_at w (p ∷ [])) new (thread_at w (q ∷ more)) change walk
-        → IsOnlyStep disk (thread_at w (p ∷ [])) new (thread_at w (q ∷ more)) change walk
+    pub taken_by : (change : Tree → Tree) (walk : DirectoryAddressByPath → DirectoryAddressByPath) → IsImageAfterTreeChange disk (thread_at w (p ∷ [])) new (thread_at w (q ∷ more)) change walk
+        → IsWritableImageAfterTreeChange disk (thread_at w (p ∷ [])) new (thread_at w (q ∷ more)) change walk
     taken_by change walk follows = set_taken disk w p q more l olds (v ∷ []) r set_put new wo o lo u ro (blocks_of_pairs more) v change walk set_step follows
 
     -- ---- the blocks that the image uses
 
     each_slots : (Q : Slot → Type 0) → All Q (all_slots_not_moved ps) → Each (λ s. Each Q s.content.slots) (dirs_at w (p ∷ []))
     each_slots Q h = each_right (λ (s : Pair). Each Q s.content.slots) w.chain (dirs_at w (p ∷ []))
-        (each_pieces Q (λ (s : Pair). s.content.slots) ps (subst (Each Q) (unmoved_in (gstate_of ps) (no_move_from ps k.settled) ps) (recursion_from_All Q (all_slots_not_moved ps) h)))
+        (each_pieces Q (λ (s : Pair). s.content.slots) ps (subst (Each Q) (unmoved_in (gstate_of_pairs ps) (no_move_from ps k.settled) ps) (recursion_from_All Q (all_slots_not_moved ps) h)))
 
     these : (Q : Slot → Type 0) → All Q (all_slots_not_moved ps) → Each Q (l ++ (olds ++ r))
     these Q h = subst (Each Q) k.was (each_left (λ (s : Pair). Each Q s.content.slots) (p ∷ []) (w.right ++ w.after)
         (each_right (λ (s : Pair). Each Q s.content.slots) (w.before ++ w.left) (p ∷ [] ++ (w.right ++ w.after)) (each_slots Q h))).0
 
     same_files : SameFiles disk new (all_slots_not_moved ps)
-    same_files = recursion_from_All (λ (s : Slot). HasSameFile disk new s.struct) (all_slots_not_moved ps) x.device.files
+    same_files = recursion_from_All (λ (s : Slot). HasSameFileBlocksOfStructOnDisks disk new s.struct) (all_slots_not_moved ps) x.device.files
 
-    hides : slots_not_moved (move_of sync o.at (length lo)) o ≡ lo ++ ro
+    hides : slots_not_moved (gstate_naming_moved_slot sync o.at (length lo)) o ≡ lo ++ ro
     hides = ap (λ b. cond b (remove o.content.slots (length lo)) o.content.slots) (pair_itself o.at) ∙ ap (λ s. remove s (length lo)) k.held ∙ remove_here lo ro u
 
-    hidden_none : (ss : List Pair) → Each Far ss → flat_map (slots_not_moved (move_of sync o.at (length lo))) ss ≡ slots_in ss
+    hidden_none : (ss : List Pair) → Each Far ss → flat_map (slots_not_moved (gstate_naming_moved_slot sync o.at (length lo))) ss ≡ slots_of_pairs_in_order ss
     hidden_none [] h = refl
-    hidden_none (s ∷ ss) h = ap₂ (λ x y. x ++ y) (unmoved_elsewhere (move_of sync o.at (length lo)) s h.0) (hidden_none ss h.1)
+    hidden_none (s ∷ ss) h = ap₂ (λ x y. x ++ y) (unmoved_elsewhere (gstate_naming_moved_slot sync o.at (length lo)) s h.0) (hidden_none ss h.1)
 
-    count_slots : (b : ℕ) (xs ys : List Pair) → count b (files_of new (slots_in (xs ++ ys))) ≡ count b (files_of new (slots_in xs)) + count b (files_of new (slots_in ys))
-    count_slots b xs ys = ap (λ z. count b (files_of new z)) (flat_map-append (λ (s : Pair). s.content.slots) xs ys) ∙ count_files b new (slots_in xs) (slots_in ys)
+    count_slots : (b : ℕ) (xs ys : List Pair) → occurrence_count_of_number b (file_blocks_of_slots new (slots_of_pairs_in_order (xs ++ ys))) ≡ occurrence_count_of_number b (file_blocks_of_slots new (slots_of_pairs_in_order xs)) + occurrence_count_of_number b (file_blocks_of_slots new (slots_of_pairs_in_order ys))
+    count_slots b xs ys = ap (λ z. occurrence_count_of_number b (file_blocks_of_slots new z)) (flat_map-append (λ (s : Pair). s.content.slots) xs ys) ∙ count_files b new (slots_of_pairs_in_order xs) (slots_of_pairs_in_order ys)
 
     count_hidden : (b : ℕ) (xs ys : List Pair)
-        → count b (files_of new (flat_map (slots_not_moved (move_of sync o.at (length lo))) (xs ++ ys))) ≡ count b (files_of new (flat_map (slots_not_moved (move_of sync o.at (length lo))) xs)) + count b (files_of new (flat_map (slots_not_moved (move_of sync o.at (length lo))) ys))
-    count_hidden b xs ys = ap (λ z. count b (files_of new z)) (flat_map-append (slots_not_moved (move_of sync o.at (length lo))) xs ys)
-        ∙ count_files b new (flat_map (slots_not_moved (move_of sync o.at (length lo))) xs) (flat_map (slots_not_moved (move_of sync o.at (length lo))) ys)
+        → occurrence_count_of_number b (file_blocks_of_slots new (flat_map (slots_not_moved (gstate_naming_moved_slot sync o.at (length lo))) (xs ++ ys))) ≡ occurrence_count_of_number b (file_blocks_of_slots new (flat_map (slots_not_moved (gstate_naming_moved_slot sync o.at (length lo))) xs)) + occurrence_count_of_number b (file_blocks_of_slots new (flat_map (slots_not_moved (gstate_naming_moved_slot sync o.at (length lo))) ys))
+    count_hidden b xs ys = ap (λ z. occurrence_count_of_number b (file_blocks_of_slots new z)) (flat_map-append (slots_not_moved (gstate_naming_moved_slot sync o.at (length lo))) xs ys)
+        ∙ count_files b new (flat_map (slots_not_moved (gstate_naming_moved_slot sync o.at (length lo))) xs) (flat_map (slots_not_moved (gstate_naming_moved_slot sync o.at (length lo))) ys)
 
-    pub set_count : (b : ℕ) → count b (used_blocks new qs) + count b (files_of disk olds) ≡ count b (blocks_of_pairs more) + count b (used_blocks disk ps)
+    pub set_count : (b : ℕ) → occurrence_count_of_number b (used_blocks new qs) + occurrence_count_of_number b (file_blocks_of_slots disk olds) ≡ occurrence_count_of_number b (blocks_of_pairs more) + occurrence_count_of_number b (used_blocks disk ps)
     set_count b =
-        let D : Gstate = move_of sync o.at (length lo) in
-        let hid : List Pair → ℕ = λ z. count b (files_of new (flat_map (slots_not_moved (move_of sync o.at (length lo))) z)) in
-        let all : List Pair → ℕ = λ z. count b (files_of new (slots_in z)) in
-        let a1 = count_append b (blocks_of_pairs qs) (files_of new (all_slots_not_moved qs)) in
-        let a2 = count_append b (blocks_of_pairs ps) (files_of disk (all_slots_not_moved ps)) in
+        let D : Gstate = gstate_naming_moved_slot sync o.at (length lo) in
+        let hid : List Pair → ℕ = λ z. occurrence_count_of_number b (file_blocks_of_slots new (flat_map (slots_not_moved (gstate_naming_moved_slot sync o.at (length lo))) z)) in
+        let all : List Pair → ℕ = λ z. occurrence_count_of_number b (file_blocks_of_slots new (slots_of_pairs_in_order z)) in
+        let a1 = count_append b (blocks_of_pairs qs) (file_blocks_of_slots new (all_slots_not_moved qs)) in
+        let a2 = count_append b (blocks_of_pairs ps) (file_blocks_of_slots disk (all_slots_not_moved ps)) in
         let b1 = blocks_two w.chain (dirs_at w (q ∷ more)) b in
         let b2 = blocks_two (w.before ++ w.left) (q ∷ more ++ (w.right ++ w.after)) b in
         let b3 = blocks_two (q ∷ more) (w.right ++ w.after) b in
@@ -257,53 +257,53 @@ module _ (disk : Disk) (wo : Site) (o : Pair) (lo : List Slot) (u : Slot) (ro : 
         let b5 = blocks_two (w.before ++ w.left) (p ∷ [] ++ (w.right ++ w.after)) b in
         let b6 = blocks_two (p ∷ []) (w.right ++ w.after) b in
         let b7 = blocks_two (q ∷ []) more b in
-        let at = ap (λ (a : ℕ × ℕ). count b (a.0 ∷ a.1 ∷ [])) x.at in
-        let same = ap (count b) (slots_files disk new (all_slots_not_moved ps) x.device.geometry same_files) in
-        let plain = ap (λ z. count b (files_of new z)) (unmoved_in (gstate_of ps) (no_move_from ps k.settled) ps) in
-        let now = ap (λ (g : Gstate). count b (files_of new (flat_map (slots_not_moved g) qs))) state_is in
-        let old_files = ap (count b) (slots_files disk new olds x.device.geometry (each_left (λ (s : Slot). HasSameFile disk new s.struct) olds r
-        (each_right (λ (s : Slot). HasSameFile disk new s.struct) l (olds ++ r) (these (λ (s : Slot). HasSameFile disk new s.struct) x.device.files)))) in
+        let at = ap (λ (a : ℕ × ℕ). occurrence_count_of_number b (a.0 ∷ a.1 ∷ [])) x.at in
+        let same = ap (occurrence_count_of_number b) (slots_files disk new (all_slots_not_moved ps) x.device.geometry same_files) in
+        let plain = ap (λ z. occurrence_count_of_number b (file_blocks_of_slots new z)) (unmoved_in (gstate_of_pairs ps) (no_move_from ps k.settled) ps) in
+        let now = ap (λ (g : Gstate). occurrence_count_of_number b (file_blocks_of_slots new (flat_map (slots_not_moved g) qs))) state_is in
+        let old_files = ap (occurrence_count_of_number b) (slots_files disk new olds x.device.geometry (each_left (λ (s : Slot). HasSameFileBlocksOfStructOnDisks disk new s.struct) olds r
+        (each_right (λ (s : Slot). HasSameFileBlocksOfStructOnDisks disk new s.struct) l (olds ++ r) (these (λ (s : Slot). HasSameFileBlocksOfStructOnDisks disk new s.struct) x.device.files)))) in
         -- under the move, with the new slot and without it
         let n1 = count_hidden b w.chain (dirs_at w (q ∷ more)) in
         let n2 = count_hidden b (w.before ++ w.left) (q ∷ more ++ (w.right ++ w.after)) in
         let n3 = count_hidden b (q ∷ more) (w.right ++ w.after) in
         let m2 = count_hidden b (w.before ++ w.left) (p ∷ [] ++ (w.right ++ w.after)) in
         let m3 = count_hidden b (p ∷ []) (w.right ++ w.after) in
-        let q1 = ap (λ z. count b (files_of new z)) (hidden_none (q ∷ more) (subst (λ at. same_pair o.at at ≡ false) (sym x.at) far_p, far_more) ∙ x.is) in
+        let q1 = ap (λ z. occurrence_count_of_number b (file_blocks_of_slots new z)) (hidden_none (q ∷ more) (subst (λ at. same_pair o.at at ≡ false) (sym x.at) far_p, far_more) ∙ x.is) in
         let q2 = count_files b new l (v ∷ r) in
         let q3 = count_files b new (v ∷ []) r in
-        let p1 = ap (λ z. count b (files_of new z)) (hidden_none (p ∷ []) (far_p, tt) ∙ append-nil p.content.slots ∙ k.was) in
+        let p1 = ap (λ z. occurrence_count_of_number b (file_blocks_of_slots new z)) (hidden_none (p ∷ []) (far_p, tt) ∙ append-nil p.content.slots ∙ k.was) in
         let p2 = count_files b new l (olds ++ r) in
         let p3 = count_files b new olds r in
         -- the same pairs, around the old slot
-        let t1 = ap (λ z. count b (files_of new (flat_map (slots_not_moved (move_of sync o.at (length lo))) z))) dirs_same in
+        let t1 = ap (λ z. occurrence_count_of_number b (file_blocks_of_slots new (flat_map (slots_not_moved (gstate_naming_moved_slot sync o.at (length lo))) z))) dirs_same in
         let t2 = count_hidden b front_o (o ∷ back_o) in
         let t3 = count_hidden b (o ∷ []) back_o in
-        let o1 = ap (λ z. count b (files_of new z)) (append-nil (slots_not_moved (move_of sync o.at (length lo)) o) ∙ hides) in
+        let o1 = ap (λ z. occurrence_count_of_number b (file_blocks_of_slots new z)) (append-nil (slots_not_moved (gstate_naming_moved_slot sync o.at (length lo)) o) ∙ hides) in
         let o2 = count_files b new lo ro in
         -- without the move
         let g1 = count_slots b w.chain (dirs_at w (p ∷ [])) in
-        let g2 = ap (λ z. count b (files_of new (slots_in z))) dirs_same in
+        let g2 = ap (λ z. occurrence_count_of_number b (file_blocks_of_slots new (slots_of_pairs_in_order z))) dirs_same in
         let g3 = count_slots b front_o (o ∷ back_o) in
         let g4 = count_slots b (o ∷ []) back_o in
-        let o3 = ap (λ z. count b (files_of new z)) (append-nil o.content.slots ∙ k.held) in
+        let o3 = ap (λ z. occurrence_count_of_number b (file_blocks_of_slots new z)) (append-nil o.content.slots ∙ k.held) in
         let o4 = count_files b new lo (u ∷ ro) in
         let o5 = count_files b new (u ∷ []) ro in
-        let c1 = ap (λ z. count b (files_of new z)) (hidden_none w.chain (each_left Far w.chain front_o far_front)) in
-        let c2 = ap (λ z. count b (files_of new z)) (hidden_none front_o (each_right Far w.chain front_o far_front)) in
-        let c3 = ap (λ z. count b (files_of new z)) (hidden_none back_o far_back) in
-        let vu = ap (λ z. count b (skip_list_blocks_of_struct new z ++ [])) k.struct in
+        let c1 = ap (λ z. occurrence_count_of_number b (file_blocks_of_slots new z)) (hidden_none w.chain (each_left Far w.chain front_o far_front)) in
+        let c2 = ap (λ z. occurrence_count_of_number b (file_blocks_of_slots new z)) (hidden_none front_o (each_right Far w.chain front_o far_front)) in
+        let c3 = ap (λ z. occurrence_count_of_number b (file_blocks_of_slots new z)) (hidden_none back_o far_back) in
+        let vu = ap (λ z. occurrence_count_of_number b (skip_list_blocks_of_struct new z ++ [])) k.struct in
         omega arith
 
 -- ---- to a new name, and onto an entry
 
 module _ (disk : Disk) (wo : Site) (o : Pair) (lo : List Slot) (u : Slot) (ro : List Slot) (w : Site) (p : Pair) (l : List Slot) (v : Slot) (r : List Slot)
-    (sync : Bool) (new : Disk) (q : Pair) (more : List Pair) (x : HasTurned disk w p (l ++ v ∷ r) (gstate_xor (move_of sync o.at (length lo)) p.content.move) new q more)
+    (sync : Bool) (new : Disk) (q : Pair) (more : List Pair) (x : HasTurned disk w p (l ++ v ∷ r) (gstate_xor (gstate_naming_moved_slot sync o.at (length lo)) p.content.move) new q more)
     (P : Path) (b : ℕ × ℕ) (leads : IsPathToDirectory (thread_at w (p ∷ [])) P b) (same_old : same_pair (begin_of wo (o ∷ [])) b ≡ true)
     (Q : Path) (a : ℕ × ℕ) (arrives : IsPathToDirectory (thread_at w (p ∷ [])) Q a) (same : same_pair (begin_of w (p ∷ [])) a ≡ true) where
   pub set_new : IsSetting disk wo o lo u ro w p l [] v r → v ≡ record u { name = v.name } → path_without_prefix (P ++ u.name ∷ []) (Q ++ v.name ∷ []) ≡ None
       → IsPlace disk.order (entries_by_directory_in_thread (thread_at w (p ∷ [])) a) (place_at w l) v.name
-      → Follows disk (thread_at w (p ∷ [])) new (thread_at w (q ∷ more)) (renamed (P ++ u.name ∷ []) (Q ++ v.name ∷ [])) (walk_by (P ++ u.name ∷ []) (Q ++ v.name ∷ []))
+      → IsImageAfterTreeChange disk (thread_at w (p ∷ [])) new (thread_at w (q ∷ more)) (tree_after_rename (P ++ u.name ∷ []) (Q ++ v.name ∷ [])) (walk_by (P ++ u.name ∷ []) (Q ++ v.name ∷ []))
   set_new k same_slot off place =
       let step = set_step disk wo o lo u ro w p l [] v r k sync new q more x in
       move_sets disk new wo o lo u ro w p [] q more (blocks_of_pairs more) l v r step P b leads same_old Q a arrives same same_slot off
@@ -312,7 +312,7 @@ module _ (disk : Disk) (wo : Site) (o : Pair) (lo : List Slot) (u : Slot) (ro : 
 
   pub set_onto : (target : Slot) → is_superblock target ≡ false → IsSetting disk wo o lo u ro w p l (target ∷ []) v r → v ≡ record u { name = target.name }
       → path_without_prefix (P ++ u.name ∷ []) (Q ++ target.name ∷ []) ≡ None → (sync ≡ false → branch_address_of_struct target.struct ≡ None)
-      → Follows disk (thread_at w (p ∷ [])) new (thread_at w (q ∷ more)) (renamed (P ++ u.name ∷ []) (Q ++ v.name ∷ [])) (walk_by (P ++ u.name ∷ []) (Q ++ v.name ∷ []))
+      → IsImageAfterTreeChange disk (thread_at w (p ∷ [])) new (thread_at w (q ∷ more)) (tree_after_rename (P ++ u.name ∷ []) (Q ++ v.name ∷ [])) (walk_by (P ++ u.name ∷ []) (Q ++ v.name ∷ []))
   set_onto target entry k same_slot off file =
       move_sets_onto disk new wo o lo u ro w p [] q more (blocks_of_pairs more) l target v r (set_step disk wo o lo u ro w p l (target ∷ []) v r k sync new q more x) entry P b leads same_old Q a arrives same same_slot off
       (λ e. (file (ap (λ (g : Gstate). g.sync) (sym (state_is disk wo o lo u ro w p l (target ∷ []) v r k sync new q more x)) ∙ e), (recovered_from disk (thread_at w (p ∷ [])) k.accepted k.settled).reached))

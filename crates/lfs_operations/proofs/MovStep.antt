@@ -4,50 +4,50 @@ use Rattle.std.proofs.lemmas.Bool.{le-ltb, lt-ltb}
 use Rattle.lfs_model.specs.Blocks.{Blocks}
 use Rattle.lfs_model.specs.BlockSets.{AreExactlyTheUsedBlocks}
 use Rattle.lfs_model.specs.BlockSets.BlockState.{Free, InFlight}
-use Rattle.lfs_model.specs.Changes.{ContentChange}
-use Rattle.lfs_model.specs.Content.{content_after_log_entries, current_block_of_two, empty_raw_content, raw_content_of_pair_at}
+use Rattle.lfs_model.specs.Changes.{PairContentChange}
+use Rattle.lfs_model.specs.Content.{content_after_log_entries, current_block_of_two, empty_raw_pair_content, raw_content_of_pair_at}
 use Rattle.lfs_model.specs.Disk.{block_count, Disk, block_bytes_on_disk}
-use Rattle.lfs_model.specs.History.{CallEvent}
+use Rattle.lfs_model.specs.History.{DeviceCallEvent}
 use Rattle.lfs_model.specs.Log.{log_entries_of_block}
 use Rattle.std.specs.Option.{option_and_then}
 use Rattle.lfs_model.specs.Names.{Name}
-use Rattle.lfs_model.specs.PowerLoss.{ShowsTreeBeforeOrAfter as IsLeftOf, SurvivesStopsSince, with_blocks}
+use Rattle.lfs_model.specs.PowerLoss.{HasTreeBeforeOrAfterOperation as IsLeftOf, SurvivesPowerLossInCallsSince, disk_with_blocks}
 use Rattle.lfs_model.specs.Slots.{Slot, Gstate, gstate_xor, zero_gstate, same_pair}
 use Rattle.lfs_model.specs.SlotEdits.{slot_of_path}
-use Rattle.lfs_model.specs.Thread.{Pair, blocks_of_pairs, gstate_of, is_hard_tail, pair_count_before_root}
+use Rattle.lfs_model.specs.Thread.{Pair, blocks_of_pairs, gstate_of_pairs, is_hard_tail, pair_count_before_root}
 use Rattle.lfs_model.specs.Tree.{Path, Tree}
-use Rattle.lfs_model.specs.TreeEdits.{last_name_of_path, renamed}
+use Rattle.lfs_model.specs.TreeEdits.{last_name_of_path, tree_after_rename}
 use Rattle.lfs_model.specs.Operations as ops
 use Rattle.lfs_model.specs.Session.{Session}
-use Rattle.lfs_model.specs.Refusals.{path_or_root}
+use Rattle.lfs_model.specs.Refusals.{path_of_bytes_or_root}
 use Rattle.lfs_model.specs.Shown.{directories_in_thread, all_slots_not_moved, skip_list_blocks_of_struct, tree_on_disk, used_blocks}
 use Rattle.lfs_model.specs.View.{IsAcceptedImage}
-use Rattle.lfs_model.specs.Profile.{IsWritable}
+use Rattle.lfs_model.specs.Profile.{IsWritableImage}
 use Rattle.std.specs.List.{flat_map}
-use Rattle.lfs_model.proofs.Alike.{AreAlike}
+use Rattle.lfs_model.proofs.Alike.{ArePairsWithSameAddressesAndSlots}
 use Rattle.lfs_model.proofs.LeftFiles.{ends_same}
-use Rattle.lfs_model.proofs.Changes.{Follows, rearranged_chain}
-use Rattle.lfs_model.proofs.Committed.{IsCompleted}
-use Rattle.lfs_model.proofs.Counts.{count, count_append, count_here, once_from_distinct}
-use Rattle.lfs_model.proofs.Histories.{IsTrueAfterEachStopSince-weaker}
+use Rattle.lfs_model.proofs.Changes.{IsImageAfterTreeChange, rearranged_chain}
+use Rattle.lfs_model.proofs.Committed.{IsImageAfterCompletedOperation}
+use Rattle.lfs_model.proofs.Counts.{occurrence_count_of_number, count_append, count_here, once_from_distinct}
+use Rattle.lfs_model.proofs.Histories.{IsTrueAfterAnyPowerLossSince-weaker}
 use Rattle.lfs_model.proofs.Moves.{remove_here}
-use Rattle.lfs_model.proofs.MoveSets.{first_addresses, set_rearranged}
+use Rattle.lfs_model.proofs.MoveSets.{addresses_of_first_pairs_of_directories, set_rearranged}
 use Rattle.lfs_model.proofs.Pairs.{pair_itself}
 use Rattle.lfs_model.proofs.RenamedAcross.{IsNoDirectory, target_slots}
-use Rattle.lfs_model.proofs.Sites.{SomeIn, Site, among_left, among_parts, among_right, dirs_at, thread_at}
-use Rattle.lfs_model.proofs.Splices.{files_of}
-use Rattle.lfs_model.proofs.StepsTaken.{IsOnlyStep, taken_then}
+use Rattle.lfs_model.proofs.Sites.{IsTrueOfSomeElement, Site, among_left, among_parts, among_right, dirs_at, thread_at}
+use Rattle.lfs_model.proofs.Splices.{file_blocks_of_slots}
+use Rattle.lfs_model.proofs.StepsTaken.{IsWritableImageAfterTreeChange, taken_then}
 use Rattle.lfs_model.proofs.Superblocks.{IsChain, pairs_behind}
 use Rattle.lfs_model.proofs.TwoPlaces.{OldStays, from_old, two}
 use Rattle.lfs_model.proofs.Writable.{ends_in_hard_tail}
-use Rattle.lfs_thread.specs.Device.{StopsAfterCleanErasesLeave, blocks_of_address}
-use Rattle.lfs_thread.specs.Kept.{Kept}
-use Rattle.lfs_thread.specs.Steps.{HasSameGeometry, no_pair, kept_pair_at_index, map_with_freed_pair}
+use Rattle.lfs_thread.specs.Device.{PowerLossLeavesSuchBlocksAfterCleanErases, blocks_of_pair_address}
+use Rattle.lfs_thread.specs.Kept.{KeptThread}
+use Rattle.lfs_thread.specs.Steps.{HasSameGeometry, empty_pair_at_anchor, thread_pair_at_index, block_map_with_freed_pair}
 use Rattle.lfs_operations.specs.Changing.{IsLeftByStoppedChangeOrSplit, IsPairChangedOrSplit}
-use Rattle.lfs_operations.specs.Dropping.{ShowsTreeAfterDrops, HasSameBlocksInFlight}
-use Rattle.lfs_operations.specs.MoveEnds.{CanEndMoveAt, HasEndedMoveAt, blocks_dropped_at_move_end, content_after_move_ends, is_pair_named_by_hard_tail, map_after_move_ends, move_of, pairs_after_move_ends, gstate_of_sync_alone}
+use Rattle.lfs_operations.specs.Dropping.{ShowsTreeAfterPairDrops, HasSameBlocksInFlight}
+use Rattle.lfs_operations.specs.MoveEnds.{CanEndMoveAt, HasEndedMoveAt, blocks_dropped_at_move_end, content_after_move_ends, is_pair_named_by_hard_tail, map_after_move_ends, gstate_naming_moved_slot, pairs_after_move_ends, gstate_of_sync_alone}
 use Rattle.lfs_operations.specs.MovingSteps.{pair_number_after_insertion}
-use Rattle.lfs_operations.specs.Ready.{HasLoggableContentAt, IsImageReadyForChange, KeepsPairCountBeforeRoot}
+use Rattle.lfs_operations.specs.Ready.{IsRawPairContentWellFormed, IsImageReadyForChange, KeepsPairCountBeforeRoot}
 use Rattle.lfs_operations.proofs.Dropped.{flying_same, length_fewer, used_fewer}
 use Rattle.lfs_operations.proofs.MovAcross.{Arranged, arrangement, completed}
 use Rattle.lfs_operations.proofs.MovEnding.{writable_same}
@@ -81,7 +81,7 @@ only_left [] [] u e = refl
 only_left [] (s ∷ r) u e = absurd (omega arith)
 only_left (s ∷ l) r u e = absurd (let k = length-append l (u ∷ r) in omega arith)
 
-pub blocks_alike : (xs ys : List Pair) → AreAlike xs ys → blocks_of_pairs ys ≡ blocks_of_pairs xs
+pub blocks_alike : (xs ys : List Pair) → ArePairsWithSameAddressesAndSlots xs ys → blocks_of_pairs ys ≡ blocks_of_pairs xs
 blocks_alike [] [] h = refl
 blocks_alike [] (y ∷ ys) h = absurd h
 blocks_alike (x ∷ xs) [] h = absurd h
@@ -95,18 +95,18 @@ led_at chain pre back i is_chain number =
 -- ---- what is known before
 
 -- The changes put the slot v into the pair p at the site w, and set a move that hides u in the pair o at the site wo.
-pub record IsFirst (t : Kept) (sync : Bool) (old_pair : ℕ) (goes : Bool) (new_pair : ℕ) (changes : List ContentChange) (wo : Site) (o : Pair) (lo : List Slot) (u : Slot) (ro : List Slot) (w : Site) (p : Pair) (l : List Slot) (target : Option Slot) (v : Slot) (r : List Slot)
+pub record IsFirst (t : KeptThread) (sync : Bool) (old_pair : ℕ) (goes : Bool) (new_pair : ℕ) (changes : List PairContentChange) (wo : Site) (o : Pair) (lo : List Slot) (u : Slot) (ro : List Slot) (w : Site) (p : Pair) (l : List Slot) (target : Option Slot) (v : Slot) (r : List Slot)
     (old_path new_path : Path) (name : Name) : Type 0 where
   pub ready : IsImageReadyForChange t
-  pub turn : IsTurn t new_pair changes w p (l ++ v ∷ r) (gstate_xor (move_of sync o.at (length lo)) p.content.move)
+  pub turn : IsTurn t new_pair changes w p (l ++ v ∷ r) (gstate_xor (gstate_naming_moved_slot sync o.at (length lo)) p.content.move)
   pub setting : IsSetting t.disk wo o lo u ro w p l (target_slots target) v r
   pub chain : wo.chain ≡ w.chain
   pub old_place : old_pair ≡ length wo.chain + length (wo.before ++ wo.left)
-  pub old_is : (kept_pair_at_index t old_pair).at ≡ o.at
-  pub logged : HasLoggableContentAt t.disk o.at
+  pub old_is : (thread_pair_at_index t old_pair).at ≡ o.at
+  pub logged : IsRawPairContentWellFormed t.disk o.at
   pub same_slot : v ≡ record u { name = name }
-  pub follows : (disk : Disk) (q : Pair) (more : List Pair) → HasTurned t.disk w p (l ++ v ∷ r) (gstate_xor (move_of sync o.at (length lo)) p.content.move) disk q more
-      → Follows t.disk (thread_at w (p ∷ [])) disk (thread_at w (q ∷ more)) (renamed old_path new_path) (walk_by old_path new_path)
+  pub follows : (disk : Disk) (q : Pair) (more : List Pair) → HasTurned t.disk w p (l ++ v ∷ r) (gstate_xor (gstate_naming_moved_slot sync o.at (length lo)) p.content.move) disk q more
+      → IsImageAfterTreeChange t.disk (thread_at w (p ∷ [])) disk (thread_at w (q ∷ more)) (tree_after_rename old_path new_path) (walk_by old_path new_path)
   pub stays : goes ≡ false → ends_in_hard_tail false (wo.before ++ wo.left) ≡ true → 1 < length o.content.slots
   pub alone : goes ≡ true → (ends_in_hard_tail false (wo.before ++ wo.left) ≡ true) × (length o.content.slots ≡ 1)
   pub from_slot : slot_of_path (thread_at w (p ∷ [])) old_path ≡ Some u
@@ -114,7 +114,7 @@ pub record IsFirst (t : Kept) (sync : Bool) (old_pair : ℕ) (goes : Bool) (new_
   pub to_name : last_name_of_path new_path ≡ name
   pub file : sync ≡ false → IsNoDirectory target
 
-module _ (t : Kept) (sync : Bool) (old_pair : ℕ) (goes : Bool) (new_pair : ℕ) (changes : List ContentChange) (wo : Site) (o : Pair) (lo : List Slot) (u : Slot) (ro : List Slot) (w : Site) (p : Pair) (l : List Slot) (target : Option Slot) (v : Slot) (r : List Slot)
+module _ (t : KeptThread) (sync : Bool) (old_pair : ℕ) (goes : Bool) (new_pair : ℕ) (changes : List PairContentChange) (wo : Site) (o : Pair) (lo : List Slot) (u : Slot) (ro : List Slot) (w : Site) (p : Pair) (l : List Slot) (target : Option Slot) (v : Slot) (r : List Slot)
     (old_path new_path : Path) (name : Name) (k : IsFirst t sync old_pair goes new_pair changes wo o lo u ro w p l target v r old_path new_path name) where
   abbrev ps : List Pair
   ps = thread_at w (p ∷ [])
@@ -123,49 +123,49 @@ module _ (t : Kept) (sync : Bool) (old_pair : ℕ) (goes : Bool) (new_pair : ℕ
   slots = l ++ v ∷ r
 
   abbrev move : Gstate
-  move = gstate_xor (move_of sync o.at (length lo)) p.content.move
+  move = gstate_xor (gstate_naming_moved_slot sync o.at (length lo)) p.content.move
 
   abbrev pub after : Tree
-  after = renamed old_path new_path (tree_on_disk t.disk t.pairs)
+  after = tree_after_rename old_path new_path (tree_on_disk t.disk t.pairs)
 
   first_taken : (disk : Disk) (q : Pair) (more : List Pair) → HasTurned t.disk w p slots move disk q more
-      → IsOnlyStep t.disk (thread_at w (p ∷ [])) disk (thread_at w (q ∷ more)) (renamed old_path new_path) (walk_by old_path new_path)
-  first_taken disk q more x = taken_by t.disk wo o lo u ro w p l (target_slots target) v r k.setting sync disk q more x (renamed old_path new_path) (walk_by old_path new_path) (k.follows disk q more x)
+      → IsWritableImageAfterTreeChange t.disk (thread_at w (p ∷ [])) disk (thread_at w (q ∷ more)) (tree_after_rename old_path new_path) (walk_by old_path new_path)
+  first_taken disk q more x = taken_by t.disk wo o lo u ro w p l (target_slots target) v r k.setting sync disk q more x (tree_after_rename old_path new_path) (walk_by old_path new_path) (k.follows disk q more x)
 
   -- ---- at a stop in the first step
 
-  left_tree : (left : Blocks) → IsLeftByStoppedChangeOrSplit t new_pair changes left → IsLeftOf (with_blocks left t.disk) (tree_on_disk t.disk t.pairs) (renamed old_path new_path (tree_on_disk t.disk t.pairs))
+  left_tree : (left : Blocks) → IsLeftByStoppedChangeOrSplit t new_pair changes left → IsLeftOf (disk_with_blocks left t.disk) (tree_on_disk t.disk t.pairs) (tree_after_rename old_path new_path (tree_on_disk t.disk t.pairs))
   left_tree left is = go (left_put t new_pair changes w p slots move k.turn (mapped t k.ready.used k.ready.size) left is)
     where
-      go : Stays t new_pair changes w p slots move k.turn (with_blocks left t.disk) ⊎ TurnedOn t w p slots move (with_blocks left t.disk)
-          → IsLeftOf (with_blocks left t.disk) (tree_on_disk t.disk t.pairs) (renamed old_path new_path (tree_on_disk t.disk t.pairs))
+      go : Stays t new_pair changes w p slots move k.turn (disk_with_blocks left t.disk) ⊎ TurnedOn t w p slots move (disk_with_blocks left t.disk)
+          → IsLeftOf (disk_with_blocks left t.disk) (tree_on_disk t.disk t.pairs) (tree_after_rename old_path new_path (tree_on_disk t.disk t.pairs))
       go (inl d) =
-          let f = nothing_came t.disk (with_blocks left t.disk) w p k.setting.site k.setting.accepted d in
+          let f = nothing_came t.disk (disk_with_blocks left t.disk) w p k.setting.site k.setting.accepted d in
           record {
             pairs = thread_at w (p ∷ []);
             accepted = f.accepted;
-            writable = writable_same t.disk (with_blocks left t.disk) (thread_at w (p ∷ [])) refl refl k.setting.writable;
+            writable = writable_same t.disk (disk_with_blocks left t.disk) (thread_at w (p ∷ [])) refl refl k.setting.writable;
             tree = inl (f.shows ∙ ap (tree_on_disk t.disk) (sym k.turn.there));
           }
       go (inr x) =
-          let f = first_taken (with_blocks left t.disk) x.q x.more x.turned in
+          let f = first_taken (disk_with_blocks left t.disk) x.q x.more x.turned in
           record {
             pairs = thread_at w (x.q ∷ x.more);
             accepted = f.follows.accepted;
             writable = f.writable;
-            tree = inr (f.follows.shows ∙ ap (λ z. renamed old_path new_path (tree_on_disk t.disk z)) (sym k.turn.there));
+            tree = inr (f.follows.shows ∙ ap (λ z. tree_after_rename old_path new_path (tree_on_disk t.disk z)) (sym k.turn.there));
           }
 
-  pub first_survives : (new : List CallEvent) → StopsAfterCleanErasesLeave t.history new (IsLeftByStoppedChangeOrSplit t new_pair changes)
-      → SurvivesStopsSince t.disk t.history new (tree_on_disk t.disk t.pairs) (renamed old_path new_path (tree_on_disk t.disk t.pairs))
-  first_survives new stops clean = IsTrueAfterEachStopSince-weaker left_tree (stops clean)
+  pub first_survives : (new : List DeviceCallEvent) → PowerLossLeavesSuchBlocksAfterCleanErases t.history new (IsLeftByStoppedChangeOrSplit t new_pair changes)
+      → SurvivesPowerLossInCallsSince t.disk t.history new (tree_on_disk t.disk t.pairs) (tree_after_rename old_path new_path (tree_on_disk t.disk t.pairs))
+  first_survives new stops clean = IsTrueAfterAnyPowerLossSince-weaker left_tree (stops clean)
 
   -- ---- after the first step
 
-  pub first_turned : (mid : Kept) → IsPairChangedOrSplit t new_pair changes mid → TurnedTo t w p slots move mid
+  pub first_turned : (mid : KeptThread) → IsPairChangedOrSplit t new_pair changes mid → TurnedTo t w p slots move mid
   first_turned mid is = put_turned t new_pair changes w p slots move k.turn (mapped t k.ready.used k.ready.size) mid is
 
-  module _ (mid : Kept) (x : TurnedTo t w p slots move mid) where
+  module _ (mid : KeptThread) (x : TurnedTo t w p slots move mid) where
     abbrev q : Pair
     q = x.q
 
@@ -178,14 +178,14 @@ module _ (t : Kept) (sync : Bool) (old_pair : ℕ) (goes : Bool) (new_pair : ℕ
     abbrev pub arr : Arranged t.disk wo o w p x.q x.more
     arr = arrangement t.disk mid.disk mid.disk wo o lo u ro w p l target v r k.setting x.q x.more sync x.turned
 
-    taken : IsOnlyStep t.disk (thread_at w (p ∷ [])) mid.disk (thread_at w (x.q ∷ x.more)) (renamed old_path new_path) (walk_by old_path new_path)
+    taken : IsWritableImageAfterTreeChange t.disk (thread_at w (p ∷ [])) mid.disk (thread_at w (x.q ∷ x.more)) (tree_after_rename old_path new_path) (walk_by old_path new_path)
     taken = first_taken mid.disk x.q x.more x.turned
 
-    pub mid_shows : tree_on_disk mid.disk mid.pairs ≡ renamed old_path new_path (tree_on_disk t.disk t.pairs)
-    mid_shows = ap (tree_on_disk mid.disk) x.pairs ∙ taken.follows.shows ∙ ap (λ z. renamed old_path new_path (tree_on_disk t.disk z)) (sym k.turn.there)
+    pub mid_shows : tree_on_disk mid.disk mid.pairs ≡ tree_after_rename old_path new_path (tree_on_disk t.disk t.pairs)
+    mid_shows = ap (tree_on_disk mid.disk) x.pairs ∙ taken.follows.shows ∙ ap (λ z. tree_after_rename old_path new_path (tree_on_disk t.disk z)) (sym k.turn.there)
 
-    mid_state : gstate_of mid.pairs ≡ move_of sync o.at (length lo)
-    mid_state = ap gstate_of x.pairs ∙ state_is t.disk wo o lo u ro w p l (target_slots target) v r k.setting sync mid.disk x.q x.more x.turned
+    mid_state : gstate_of_pairs mid.pairs ≡ gstate_naming_moved_slot sync o.at (length lo)
+    mid_state = ap gstate_of_pairs x.pairs ∙ state_is t.disk wo o lo u ro w p l (target_slots target) v r k.setting sync mid.disk x.q x.more x.turned
 
     mid_is : mid.pairs ≡ w.chain ++ (arr.pre ++ o ∷ arr.post)
     mid_is = x.pairs ∙ arr.mid_is
@@ -243,16 +243,16 @@ module _ (t : Kept) (sync : Bool) (old_pair : ℕ) (goes : Bool) (new_pair : ℕ
     index_at : pair_number_after_insertion old_pair new_pair (length mid.pairs - length t.pairs) ≡ length (w.chain ++ arr.pre)
     index_at = index_is ∙ sym (length-append w.chain arr.pre)
 
-    here : kept_pair_at_index mid index ≡ o
-    here = ap₂ (λ (z : List Pair) (i : ℕ). get_or z i no_pair) grouped index_at ∙ get_at (w.chain ++ arr.pre) o arr.post no_pair
+    here : thread_pair_at_index mid index ≡ o
+    here = ap₂ (λ (z : List Pair) (i : ℕ). get_or z i empty_pair_at_anchor) grouped index_at ∙ get_at (w.chain ++ arr.pre) o arr.post empty_pair_at_anchor
 
     -- ---- the old pair isn't written
 
-    both : (b : ℕ) → count b (blocks_of_pairs ps) ≡ count b (blocks_of_pairs w.chain) + (count b (blocks_of_pairs arr.front) + (count b (blocks_of_pairs (o ∷ [])) + (count b (blocks_of_pairs arr.mid) + (count b (blocks_of_pairs (p ∷ [])) + count b (blocks_of_pairs arr.back)))))
-    both b = ap (λ z. count b (blocks_of_pairs z)) arr.old_is ∙ blocks_append w.chain (two arr.b arr.front (o ∷ []) arr.mid (p ∷ []) arr.back) b ∙ ap (λ n. count b (blocks_of_pairs w.chain) + n) (go arr.b)
+    both : (b : ℕ) → occurrence_count_of_number b (blocks_of_pairs ps) ≡ occurrence_count_of_number b (blocks_of_pairs w.chain) + (occurrence_count_of_number b (blocks_of_pairs arr.front) + (occurrence_count_of_number b (blocks_of_pairs (o ∷ [])) + (occurrence_count_of_number b (blocks_of_pairs arr.mid) + (occurrence_count_of_number b (blocks_of_pairs (p ∷ [])) + occurrence_count_of_number b (blocks_of_pairs arr.back)))))
+    both b = ap (λ z. occurrence_count_of_number b (blocks_of_pairs z)) arr.old_is ∙ blocks_append w.chain (two arr.b arr.front (o ∷ []) arr.mid (p ∷ []) arr.back) b ∙ ap (λ n. occurrence_count_of_number b (blocks_of_pairs w.chain) + n) (go arr.b)
       where
-        go : (s : Bool) → count b (blocks_of_pairs (two s arr.front (o ∷ []) arr.mid (p ∷ []) arr.back))
-            ≡ count b (blocks_of_pairs arr.front) + (count b (blocks_of_pairs (o ∷ [])) + (count b (blocks_of_pairs arr.mid) + (count b (blocks_of_pairs (p ∷ [])) + count b (blocks_of_pairs arr.back))))
+        go : (s : Bool) → occurrence_count_of_number b (blocks_of_pairs (two s arr.front (o ∷ []) arr.mid (p ∷ []) arr.back))
+            ≡ occurrence_count_of_number b (blocks_of_pairs arr.front) + (occurrence_count_of_number b (blocks_of_pairs (o ∷ [])) + (occurrence_count_of_number b (blocks_of_pairs arr.mid) + (occurrence_count_of_number b (blocks_of_pairs (p ∷ [])) + occurrence_count_of_number b (blocks_of_pairs arr.back))))
         go true =
             let a = blocks_append arr.front (o ∷ [] ++ (arr.mid ++ (p ∷ [] ++ arr.back))) b in
             let c = blocks_append (o ∷ []) (arr.mid ++ (p ∷ [] ++ arr.back)) b in
@@ -266,7 +266,7 @@ module _ (t : Kept) (sync : Bool) (old_pair : ℕ) (goes : Bool) (new_pair : ℕ
             let e = blocks_append (o ∷ []) arr.back b in
             omega arith
 
-    unwritten : (b : ℕ) → 1 ≤ count b (blocks_of_pairs (o ∷ [])) → block_bytes_on_disk mid.disk b ≡ block_bytes_on_disk t.disk b
+    unwritten : (b : ℕ) → 1 ≤ occurrence_count_of_number b (blocks_of_pairs (o ∷ [])) → block_bytes_on_disk mid.disk b ≡ block_bytes_on_disk t.disk b
     unwritten b some = x.turned.same b (
         let once = once_from_distinct ((blocks_of_pairs x.more ++ []) ++ used_blocks t.disk ps) x.turned.free.distinct b in
         let c = count_append b (blocks_of_pairs x.more ++ []) (used_blocks t.disk ps) in
@@ -277,7 +277,7 @@ module _ (t : Kept) (sync : Bool) (old_pair : ℕ) (goes : Bool) (new_pair : ℕ
         omega arith)
 
     raw_same : raw_content_of_pair_at mid.disk o.at ≡ raw_content_of_pair_at t.disk o.at
-    raw_same = ap (λ h. option_and_then (λ block. content_after_log_entries empty_raw_content (log_entries_of_block block)) h) (ap₂ current_block_of_two
+    raw_same = ap (λ h. option_and_then (λ block. content_after_log_entries empty_raw_pair_content (log_entries_of_block block)) h) (ap₂ current_block_of_two
         (unwritten o.at.0 (let e = count_here o.at.0 (o.at.1 ∷ []) in omega arith))
         (unwritten o.at.1 (let e = count_here o.at.1 [] in let f = count_append o.at.1 (o.at.0 ∷ []) (o.at.1 ∷ []) in omega arith)))
 
@@ -287,7 +287,7 @@ module _ (t : Kept) (sync : Bool) (old_pair : ℕ) (goes : Bool) (new_pair : ℕ
     pub mid_ends : CanEndMoveAt mid (pair_number_after_insertion old_pair new_pair (length mid.pairs - length t.pairs)) (length lo) goes
     mid_ends = record {
       accepted = subst (IsAcceptedImage mid.disk) (sym x.pairs) taken.follows.accepted;
-      writable = subst (IsWritable mid.disk) (sym x.pairs) taken.writable;
+      writable = subst (IsWritableImage mid.disk) (sym x.pairs) taken.writable;
       begins = (let e = ap pair_count_before_root mid_is ∙ mid_chain in let f = index_is in omega arith);
       below = (let e = ap length grouped in let f = length-append (w.chain ++ arr.pre) (o ∷ arr.post) in let g = index_at in omega arith);
       logged = λ raw is. k.logged raw (sym raw_same ∙ ap (λ (z : Pair). raw_content_of_pair_at mid.disk z.at) (sym here) ∙ is);
@@ -308,22 +308,22 @@ module _ (t : Kept) (sync : Bool) (old_pair : ℕ) (goes : Bool) (new_pair : ℕ
       alone = λ goes. (let a = k.alone goes in (led_same ∙ a.0, ap (λ (z : Pair). length z.content.slots) here ∙ a.1));
     }
 
-    pub same_at : (kept_pair_at_index mid (pair_number_after_insertion old_pair new_pair (length mid.pairs - length t.pairs))).at ≡ (kept_pair_at_index t old_pair).at
+    pub same_at : (thread_pair_at_index mid (pair_number_after_insertion old_pair new_pair (length mid.pairs - length t.pairs))).at ≡ (thread_pair_at_index t old_pair).at
     same_at = ap (λ (z : Pair). z.at) here ∙ sym k.old_is
 
     -- ---- after the second step
 
-    module _ (last : Kept) (e : HasEndedMoveAt mid (pair_number_after_insertion old_pair new_pair (length mid.pairs - length t.pairs)) (length lo) goes last) where
+    module _ (last : KeptThread) (e : HasEndedMoveAt mid (pair_number_after_insertion old_pair new_pair (length mid.pairs - length t.pairs)) (length lo) goes last) where
       abbrev o2 : Pair
-      o2 = record { at = (kept_pair_at_index mid index).at; content = content_after_move_ends mid index (length lo) }
+      o2 = record { at = (thread_pair_at_index mid index).at; content = content_after_move_ends mid index (length lo) }
 
       slots_left : o2.content.slots ≡ lo ++ ro
       slots_left = ap (λ (z : Pair). remove z.content.slots (length lo)) here ∙ ap (λ z. remove z (length lo)) k.setting.held ∙ remove_here lo ro u
 
-      pub last_state : gstate_of last.pairs ≡ record zero_gstate { sync = sync }
+      pub last_state : gstate_of_pairs last.pairs ≡ record zero_gstate { sync = sync }
       last_state = e.state ∙ ap gstate_of_sync_alone mid_state
 
-      settled_last : sync ≡ false → gstate_of last.pairs ≡ zero_gstate
+      settled_last : sync ≡ false → gstate_of_pairs last.pairs ≡ zero_gstate
       settled_last plain = last_state ∙ ap (λ b. record zero_gstate { sync = b }) plain
 
       filled : goes ≡ false → ends_in_hard_tail false (wo.before ++ wo.left) ≡ true → lo ++ ro ≢ []
@@ -342,7 +342,7 @@ module _ (t : Kept) (sync : Bool) (old_pair : ℕ) (goes : Bool) (new_pair : ℕ
       pub record IsLeftOver : Type 0 where
         pub os : List Pair
         pub stays : OldStays (from_old arr.b arr.front arr.mid p) o (lo ++ ro) os
-        pub alike : AreAlike (w.chain ++ (arr.pre ++ (os ++ arr.post))) last.pairs
+        pub alike : ArePairsWithSameAddressesAndSlots (w.chain ++ (arr.pre ++ (os ++ arr.post))) last.pairs
 
       pub left_over : IsLeftOver
       left_over = go goes refl
@@ -351,86 +351,86 @@ module _ (t : Kept) (sync : Bool) (old_pair : ℕ) (goes : Bool) (new_pair : ℕ
           go false is = record {
             os = o2 ∷ [];
             stays = (ap (λ (z : Pair). z.at) here, slots_left, (λ from. filled is (sym arr.from ∙ from)));
-            alike = subst (λ z. AreAlike z last.pairs)
+            alike = subst (λ z. ArePairsWithSameAddressesAndSlots z last.pairs)
                 (ap₂ (λ (z : List Pair) (i : ℕ). set z i o2) grouped index_at ∙ set_at (w.chain ++ arr.pre) o arr.post o2 ∙ append_assoc w.chain arr.pre (o2 ∷ arr.post))
-                (subst (λ b. AreAlike (pairs_after_move_ends mid index (length lo) b) last.pairs) is e.alike);
+                (subst (λ b. ArePairsWithSameAddressesAndSlots (pairs_after_move_ends mid index (length lo) b) last.pairs) is e.alike);
           }
           go true is = record {
             os = [];
             stays = (arr.from ∙ (k.alone is).0, nothing_left is);
-            alike = subst (λ z. AreAlike z last.pairs)
+            alike = subst (λ z. ArePairsWithSameAddressesAndSlots z last.pairs)
                 (ap₂ (λ (z : List Pair) (i : ℕ). remove z i) grouped index_at ∙ remove_at (w.chain ++ arr.pre) o arr.post ∙ append_assoc w.chain arr.pre arr.post)
-                (subst (λ b. AreAlike (pairs_after_move_ends mid index (length lo) b) last.pairs) is e.alike);
+                (subst (λ b. ArePairsWithSameAddressesAndSlots (pairs_after_move_ends mid index (length lo) b) last.pairs) is e.alike);
           }
 
-      second : IsOnlyStep mid.disk (thread_at w (x.q ∷ x.more)) last.disk last.pairs (λ t. t) (λ d. d)
-      second = subst (λ z. IsOnlyStep mid.disk z last.disk last.pairs (λ t. t) (λ d. d)) x.pairs e.taken
+      second : IsWritableImageAfterTreeChange mid.disk (thread_at w (x.q ∷ x.more)) last.disk last.pairs (λ t. t) (λ d. d)
+      second = subst (λ z. IsWritableImageAfterTreeChange mid.disk z last.disk last.pairs (λ t. t) (λ d. d)) x.pairs e.taken
 
       -- both steps
-      pub last_taken : IsOnlyStep t.disk t.pairs last.disk last.pairs (renamed old_path new_path) (walk_by old_path new_path)
-      last_taken = subst (λ z. IsOnlyStep t.disk z last.disk last.pairs (renamed old_path new_path) (walk_by old_path new_path)) (sym k.turn.there)
-          (taken_then t.disk mid.disk last.disk (thread_at w (p ∷ [])) (thread_at w (x.q ∷ x.more)) last.pairs (renamed old_path new_path) (λ t. t) (walk_by old_path new_path) (λ d. d) (ends_same (renamed old_path new_path)) taken second)
+      pub last_taken : IsWritableImageAfterTreeChange t.disk t.pairs last.disk last.pairs (tree_after_rename old_path new_path) (walk_by old_path new_path)
+      last_taken = subst (λ z. IsWritableImageAfterTreeChange t.disk z last.disk last.pairs (tree_after_rename old_path new_path) (walk_by old_path new_path)) (sym k.turn.there)
+          (taken_then t.disk mid.disk last.disk (thread_at w (p ∷ [])) (thread_at w (x.q ∷ x.more)) last.pairs (tree_after_rename old_path new_path) (λ t. t) (walk_by old_path new_path) (λ d. d) (ends_same (tree_after_rename old_path new_path)) taken second)
 
-      pub last_firsts : first_addresses (directories_in_thread last.pairs) ≡ first_addresses (directories_in_thread t.pairs)
-      last_firsts = e.begins ∙ ap (λ z. first_addresses (directories_in_thread z)) x.pairs
+      pub last_firsts : addresses_of_first_pairs_of_directories (directories_in_thread last.pairs) ≡ addresses_of_first_pairs_of_directories (directories_in_thread t.pairs)
+      last_firsts = e.begins ∙ ap (λ z. addresses_of_first_pairs_of_directories (directories_in_thread z)) x.pairs
           ∙ set_firsts t.disk mid.disk wo o lo u ro w p [] x.q x.more (blocks_of_pairs x.more) l (target_slots target) v r (set_step t.disk wo o lo u ro w p l (target_slots target) v r k.setting sync mid.disk x.q x.more x.turned)
-          ∙ ap (λ z. first_addresses (directories_in_thread z)) (sym k.turn.there)
+          ∙ ap (λ z. addresses_of_first_pairs_of_directories (directories_in_thread z)) (sym k.turn.there)
 
       -- a pair stays that isn't one of the two, has no slots and ends its directory
-      pub last_kept : (z : Pair) → (p ≡ z → ⊥) → z.content.slots ≡ [] → is_hard_tail z.content.tail ≡ false → SomeIn (λ y. y ≡ z) t.pairs → SomeIn (λ y. y ≡ z) last.pairs
-      last_kept z other none soft h = e.kept z none soft (subst (SomeIn (λ y. y ≡ z)) (sym x.pairs)
-          (past (among_parts (λ y. y ≡ z) w.chain ((w.before ++ w.left) ++ (p ∷ (w.right ++ w.after))) (subst (SomeIn (λ y. y ≡ z)) k.turn.there h))))
+      pub last_kept : (z : Pair) → (p ≡ z → ⊥) → z.content.slots ≡ [] → is_hard_tail z.content.tail ≡ false → IsTrueOfSomeElement (λ y. y ≡ z) t.pairs → IsTrueOfSomeElement (λ y. y ≡ z) last.pairs
+      last_kept z other none soft h = e.kept z none soft (subst (IsTrueOfSomeElement (λ y. y ≡ z)) (sym x.pairs)
+          (past (among_parts (λ y. y ≡ z) w.chain ((w.before ++ w.left) ++ (p ∷ (w.right ++ w.after))) (subst (IsTrueOfSomeElement (λ y. y ≡ z)) k.turn.there h))))
         where
-          behind : SomeIn (λ y. y ≡ z) (p ∷ (w.right ++ w.after)) → SomeIn (λ y. y ≡ z) (thread_at w (x.q ∷ x.more))
+          behind : IsTrueOfSomeElement (λ y. y ≡ z) (p ∷ (w.right ++ w.after)) → IsTrueOfSomeElement (λ y. y ≡ z) (thread_at w (x.q ∷ x.more))
           behind (inl is) = absurd (other is)
           behind (inr h) = among_right (λ y. y ≡ z) w.chain (dirs_at w (x.q ∷ x.more)) (among_right (λ y. y ≡ z) (w.before ++ w.left) (x.q ∷ x.more ++ (w.right ++ w.after)) (among_right (λ y. y ≡ z) (x.q ∷ x.more) (w.right ++ w.after) h))
 
-          within : SomeIn (λ y. y ≡ z) (w.before ++ w.left) ⊎ SomeIn (λ y. y ≡ z) (p ∷ (w.right ++ w.after)) → SomeIn (λ y. y ≡ z) (thread_at w (x.q ∷ x.more))
+          within : IsTrueOfSomeElement (λ y. y ≡ z) (w.before ++ w.left) ⊎ IsTrueOfSomeElement (λ y. y ≡ z) (p ∷ (w.right ++ w.after)) → IsTrueOfSomeElement (λ y. y ≡ z) (thread_at w (x.q ∷ x.more))
           within (inl h) = among_right (λ y. y ≡ z) w.chain (dirs_at w (x.q ∷ x.more)) (among_left (λ y. y ≡ z) (w.before ++ w.left) (x.q ∷ x.more ++ (w.right ++ w.after)) h)
           within (inr h) = behind h
 
-          past : SomeIn (λ y. y ≡ z) w.chain ⊎ SomeIn (λ y. y ≡ z) ((w.before ++ w.left) ++ (p ∷ (w.right ++ w.after))) → SomeIn (λ y. y ≡ z) (thread_at w (x.q ∷ x.more))
+          past : IsTrueOfSomeElement (λ y. y ≡ z) w.chain ⊎ IsTrueOfSomeElement (λ y. y ≡ z) ((w.before ++ w.left) ++ (p ∷ (w.right ++ w.after))) → IsTrueOfSomeElement (λ y. y ≡ z) (thread_at w (x.q ∷ x.more))
           past (inl h) = among_left (λ y. y ≡ z) w.chain (dirs_at w (x.q ∷ x.more)) h
           past (inr h) = within (among_parts (λ y. y ≡ z) (w.before ++ w.left) (p ∷ (w.right ++ w.after)) h)
 
       pub last_shape : HasSameGeometry t.disk last.disk
       last_shape = record { block_size = e.shape.block_size ∙ x.shape.block_size; page = e.shape.page ∙ x.shape.page; order = e.shape.order ∙ x.shape.order; count = e.shape.count ∙ x.shape.count }
 
-      pub rename_completed : sync ≡ false → (s : Session) (old_bytes new_bytes : List ℕ) → s.tree ≡ tree_on_disk t.disk t.pairs → path_or_root old_bytes ≡ old_path → path_or_root new_bytes ≡ new_path
-          → IsCompleted t.disk t.pairs s (ops.Rename old_bytes new_bytes) last.disk last.pairs
-      rename_completed plain s old_bytes new_bytes tree old_as new_as = subst (λ z. IsCompleted t.disk z s (ops.Rename old_bytes new_bytes) last.disk last.pairs) (sym k.turn.there)
+      pub rename_completed : sync ≡ false → (s : Session) (old_bytes new_bytes : List ℕ) → s.tree ≡ tree_on_disk t.disk t.pairs → path_of_bytes_or_root old_bytes ≡ old_path → path_of_bytes_or_root new_bytes ≡ new_path
+          → IsImageAfterCompletedOperation t.disk t.pairs s (ops.Rename old_bytes new_bytes) last.disk last.pairs
+      rename_completed plain s old_bytes new_bytes tree old_as new_as = subst (λ z. IsImageAfterCompletedOperation t.disk z s (ops.Rename old_bytes new_bytes) last.disk last.pairs) (sym k.turn.there)
           (completed t.disk mid.disk last.disk wo o lo u ro w p l target v r k.setting x.q x.more sync x.turned name k.same_slot old_path new_path (walk_by old_path new_path) taken.follows
           left_over.os last.pairs left_over.stays left_over.alike second (settled_last plain) k.from_slot k.to_slot k.to_name (k.file plain) s old_bytes new_bytes (tree ∙ ap (tree_on_disk t.disk) k.turn.there) old_as new_as)
 
       -- ---- the map
 
       abbrev gone : List ℕ
-      gone = files_of t.disk (target_slots target)
+      gone = file_blocks_of_slots t.disk (target_slots target)
 
       abbrev kept : List ℕ
       kept = used_blocks last.disk last.pairs ++ gone
 
-      before_last : (b : ℕ) → count b kept + count b (blocks_dropped_at_move_end mid index goes) ≡ count b (blocks_of_pairs x.more ++ used_blocks t.disk t.pairs)
+      before_last : (b : ℕ) → occurrence_count_of_number b kept + occurrence_count_of_number b (blocks_dropped_at_move_end mid index goes) ≡ occurrence_count_of_number b (blocks_of_pairs x.more ++ used_blocks t.disk t.pairs)
       before_last b =
           let a = e.blocks b in
-          let c = ap (λ z. count b (used_blocks mid.disk z)) x.pairs in
+          let c = ap (λ z. occurrence_count_of_number b (used_blocks mid.disk z)) x.pairs in
           let d = set_count t.disk wo o lo u ro w p l (target_slots target) v r k.setting sync mid.disk x.q x.more x.turned b in
-          let f = ap (λ z. count b (used_blocks t.disk z)) k.turn.there in
+          let f = ap (λ z. occurrence_count_of_number b (used_blocks t.disk z)) k.turn.there in
           let g = count_append b (blocks_of_pairs x.more) (used_blocks t.disk t.pairs) in
-          let h = count_append b (used_blocks last.disk last.pairs) (files_of t.disk (target_slots target)) in
+          let h = count_append b (used_blocks last.disk last.pairs) (file_blocks_of_slots t.disk (target_slots target)) in
           omega arith
 
-      once_before : (b : ℕ) → count b (blocks_of_pairs x.more ++ used_blocks t.disk t.pairs) ≤ 1
+      once_before : (b : ℕ) → occurrence_count_of_number b (blocks_of_pairs x.more ++ used_blocks t.disk t.pairs) ≤ 1
       once_before b =
           let once = once_from_distinct ((blocks_of_pairs x.more ++ []) ++ used_blocks t.disk ps) x.turned.free.distinct b in
           let c = count_append b (blocks_of_pairs x.more ++ []) (used_blocks t.disk ps) in
           let d = count_append b (blocks_of_pairs x.more) [] in
-          let f = ap (λ z. count b (used_blocks t.disk z)) k.turn.there in
+          let f = ap (λ z. occurrence_count_of_number b (used_blocks t.disk z)) k.turn.there in
           let g = count_append b (blocks_of_pairs x.more) (used_blocks t.disk t.pairs) in
           omega arith
 
       record IsMapOf : Type 0 where
-        used : AreExactlyTheUsedBlocks last.map (used_blocks last.disk last.pairs ++ files_of t.disk (target_slots target))
+        used : AreExactlyTheUsedBlocks last.map (used_blocks last.disk last.pairs ++ file_blocks_of_slots t.disk (target_slots target))
         size : length last.map ≡ length mid.map
         flying : HasSameBlocksInFlight mid.map last.map
 
@@ -445,28 +445,28 @@ module _ (t : Kept) (sync : Bool) (old_pair : ℕ) (goes : Bool) (new_pair : ℕ
               let same : last.map ≡ mid.map = e.map ∙ ap (map_after_move_ends mid index) is in
               record {
                 used = subst (λ m. AreExactlyTheUsedBlocks m kept) (sym same) (used_same mid.map (blocks_of_pairs x.more ++ used_blocks t.disk t.pairs) kept
-                    (λ b. let n = before_last b in let g = ap (λ z. count b (blocks_dropped_at_move_end mid index z)) is in omega arith) were);
+                    (λ b. let n = before_last b in let g = ap (λ z. occurrence_count_of_number b (blocks_dropped_at_move_end mid index z)) is in omega arith) were);
                 size = ap length same;
                 flying = subst (HasSameBlocksInFlight mid.map) (sym same) (λ b. ((λ h. h), (λ h. h)));
               }
           go true is =
-              let same : last.map ≡ map_with_freed_pair mid.map (kept_pair_at_index mid index).at = e.map ∙ ap (map_after_move_ends mid index) is in
-              let less : (b : ℕ) → count b kept + count b (blocks_of_address (kept_pair_at_index mid index).at) ≡ count b (blocks_of_pairs x.more ++ used_blocks t.disk t.pairs)
-              = λ b. ap (λ z. count b kept + count b (blocks_dropped_at_move_end mid index z)) (sym is) ∙ before_last b in
+              let same : last.map ≡ block_map_with_freed_pair mid.map (thread_pair_at_index mid index).at = e.map ∙ ap (map_after_move_ends mid index) is in
+              let less : (b : ℕ) → occurrence_count_of_number b kept + occurrence_count_of_number b (blocks_of_pair_address (thread_pair_at_index mid index).at) ≡ occurrence_count_of_number b (blocks_of_pairs x.more ++ used_blocks t.disk t.pairs)
+              = λ b. ap (λ z. occurrence_count_of_number b kept + occurrence_count_of_number b (blocks_dropped_at_move_end mid index z)) (sym is) ∙ before_last b in
               record {
-                used = subst (λ m. AreExactlyTheUsedBlocks m kept) (sym same) (used_fewer mid.map (kept_pair_at_index mid index).at (blocks_of_pairs x.more ++ used_blocks t.disk t.pairs) kept were once_before less);
-                size = ap length same ∙ length_fewer mid.map (kept_pair_at_index mid index).at (blocks_of_pairs x.more ++ used_blocks t.disk t.pairs) kept were once_before less;
-                flying = subst (HasSameBlocksInFlight mid.map) (sym same) (flying_same mid.map (kept_pair_at_index mid index).at (blocks_of_pairs x.more ++ used_blocks t.disk t.pairs) kept were once_before less);
+                used = subst (λ m. AreExactlyTheUsedBlocks m kept) (sym same) (used_fewer mid.map (thread_pair_at_index mid index).at (blocks_of_pairs x.more ++ used_blocks t.disk t.pairs) kept were once_before less);
+                size = ap length same ∙ length_fewer mid.map (thread_pair_at_index mid index).at (blocks_of_pairs x.more ++ used_blocks t.disk t.pairs) kept were once_before less;
+                flying = subst (HasSameBlocksInFlight mid.map) (sym same) (flying_same mid.map (thread_pair_at_index mid index).at (blocks_of_pairs x.more ++ used_blocks t.disk t.pairs) kept were once_before less);
               }
 
-      pub rename_once : (b : ℕ) → count b (used_blocks last.disk last.pairs) + count b (files_of t.disk (target_slots target)) ≤ 1
+      pub rename_once : (b : ℕ) → occurrence_count_of_number b (used_blocks last.disk last.pairs) + occurrence_count_of_number b (file_blocks_of_slots t.disk (target_slots target)) ≤ 1
       rename_once b =
           let a = before_last b in
           let c = once_before b in
-          let h = count_append b (used_blocks last.disk last.pairs) (files_of t.disk (target_slots target)) in
+          let h = count_append b (used_blocks last.disk last.pairs) (file_blocks_of_slots t.disk (target_slots target)) in
           omega arith
 
-      pub last_used : AreExactlyTheUsedBlocks last.map (used_blocks last.disk last.pairs ++ files_of t.disk (target_slots target))
+      pub last_used : AreExactlyTheUsedBlocks last.map (used_blocks last.disk last.pairs ++ file_blocks_of_slots t.disk (target_slots target))
       last_used = map_is.used
 
       pub last_size : length last.map ≡ block_count last.disk
@@ -482,16 +482,16 @@ module _ (t : Kept) (sync : Bool) (old_pair : ℕ) (goes : Bool) (new_pair : ℕ
       pub last_root : KeepsPairCountBeforeRoot t last
       last_root = move_end_stays mid last index (length lo) goes mid_ends e ∙ ap pair_count_before_root mid_is ∙ mid_chain ∙ sym (ap pair_count_before_root k.turn.there ∙ k.setting.site.chain)
 
-      pub rename_becomes : sync ≡ false → ShowsTreeAfterDrops t last (renamed old_path new_path (tree_on_disk t.disk t.pairs)) (files_of t.disk (target_slots target))
+      pub rename_becomes : sync ≡ false → ShowsTreeAfterPairDrops t last (tree_after_rename old_path new_path (tree_on_disk t.disk t.pairs)) (file_blocks_of_slots t.disk (target_slots target))
       rename_becomes plain = record {
         ready = record {
           accepted = e.taken.follows.accepted;
           writable = e.taken.writable;
           settled = settled_last plain;
           used = record {
-            owned = used_blocks last.disk last.pairs ++ files_of t.disk (target_slots target);
+            owned = used_blocks last.disk last.pairs ++ file_blocks_of_slots t.disk (target_slots target);
             are = last_used;
-            same = λ b. (let h = count_append b (used_blocks last.disk last.pairs) (files_of t.disk (target_slots target)) in omega arith);
+            same = λ b. (let h = count_append b (used_blocks last.disk last.pairs) (file_blocks_of_slots t.disk (target_slots target)) in omega arith);
           };
           size = last_size;
           large = subst (λ n. 1024 ≤ n) (sym (e.shape.block_size ∙ x.shape.block_size)) k.ready.large;

@@ -6,26 +6,26 @@ use Rattle.std.proofs.lemmas.Option.{same_Some}
 use Rattle.std.proofs.lemmas.List.{take-append-drop}
 use Rattle.std.proofs.lemmas.List.Elements.{All-from_recursion, recursion_from_All}
 use Rattle.lfs_model.specs.Blocks.{Blocks}
-use Rattle.lfs_model.specs.BlockSets.{AreExactlyTheUsedBlocks, BlockStateList, IsFree, IsInFlight}
-use Rattle.lfs_model.specs.Changes.{ContentChange}
+use Rattle.lfs_model.specs.BlockSets.{AreExactlyTheUsedBlocks, BlockStateList, IsBlockFree, IsBlockInFlight}
+use Rattle.lfs_model.specs.Changes.{PairContentChange}
 use Rattle.lfs_model.specs.Content.{content_of_pair_at, current_block_of_pair_at}
 use Rattle.lfs_model.specs.Disk.{Disk, block_bytes_on_disk, block_count, SameGeometry}
-use Rattle.lfs_model.specs.PowerLoss.{with_blocks}
-use Rattle.lfs_model.specs.Slots.{Slot, Content, Gstate, IsContentFittingPair, gstate_xor}
+use Rattle.lfs_model.specs.PowerLoss.{disk_with_blocks}
+use Rattle.lfs_model.specs.Slots.{Slot, PairContent, Gstate, IsContentFittingPair, gstate_xor}
 use Rattle.lfs_model.specs.SlotEdits.{pair_with_slots}
-use Rattle.lfs_model.specs.Thread.{Pair, blocks_of_pairs, gstate_of}
+use Rattle.lfs_model.specs.Thread.{Pair, blocks_of_pairs, gstate_of_pairs}
 use Rattle.lfs_model.specs.View.{BeginsWithLogEntry, superblock_name_log_entry, IsAcceptedImage}
 use Rattle.lfs_model.specs.Shown.{used_blocks}
 use Rattle.lfs_model.proofs.Became.{fits_same}
-use Rattle.lfs_model.proofs.Counts.{Each, each_right, count, once_from_distinct, distinct_from_once}
+use Rattle.lfs_model.proofs.Counts.{Each, each_right, occurrence_count_of_number, once_from_distinct, distinct_from_once}
 use Rattle.lfs_model.proofs.Global.{gstate_cons, gstate_left, gstate_right}
 use Rattle.lfs_model.proofs.Sites.{Site, thread_at, IsSite}
 use Rattle.lfs_model.proofs.Splices.{IsDevice}
 use Rattle.lfs_model.proofs.Unchanged.{HasFirst}
 use Rattle.lfs_pair.specs.Commit.{KeepsBlocksOutsidePair}
 use Rattle.lfs_pair.specs.Split.{KeepsBlocksOutsideBothPairs}
-use Rattle.lfs_thread.specs.Kept.{Kept}
-use Rattle.lfs_thread.specs.Steps.{kept_pair_at_index, no_pair, complete_content_after_changes, pairs_with_content_at_index, pairs_with_one_replaced_by_two, AreBothSplitPartsOnDisk, HasSameGeometry, HasPairOldContentOnDisk, IsPairChanged, LeavesPairOldOrChanged, IsPairWrittenOnDisk, SlotsBeginWithSuperblock, front_pair_of_split, back_pair_of_split}
+use Rattle.lfs_thread.specs.Kept.{KeptThread}
+use Rattle.lfs_thread.specs.Steps.{thread_pair_at_index, empty_pair_at_anchor, complete_content_after_changes, thread_pairs_with_content_replaced_at_index, pairs_with_one_replaced_by_two, AreBothSplitPartsOnDisk, HasSameGeometry, HasPairOldContentOnDisk, IsPairChanged, PowerLossLeavesPairOldOrChanged, IsPairWrittenOnDisk, SlotsBeginWithSuperblock, front_pair_of_split, back_pair_of_split}
 use Rattle.lfs_operations.specs.Changing.{AreTwoFreeBlocks, IsPairSplitInto, IsLeftByStoppedChangeOrSplit, IsPairChangedOrSplit, IsChangedContentTooLarge}
 use Rattle.lfs_operations.specs.Ready.{HasNoNewBlockInFlight, KeepsStatesOfTakenBlocks}
 use Rattle.lfs_operations.proofs.Owning.{length_now, none_comes_now, stay_taken, used_more}
@@ -51,22 +51,22 @@ insert_at (x ∷ xs) q zs f =
     let e : suc (length xs) + 1 ≡ suc (length xs + 1) = omega arith in
     ap (λ (n : ℕ). insert (x ∷ (xs ++ q ∷ zs)) n f) e ∙ ap (λ z. x ∷ z) (insert_at xs q zs f)
 
-of_fresh : (sets : BlockStateList) (fresh : ℕ × ℕ) → AreTwoFreeBlocks sets fresh → (b : ℕ) → 1 ≤ count b (fresh.0 ∷ fresh.1 ∷ []) → IsFree sets b
+of_fresh : (sets : BlockStateList) (fresh : ℕ × ℕ) → AreTwoFreeBlocks sets fresh → (b : ℕ) → 1 ≤ occurrence_count_of_number b (fresh.0 ∷ fresh.1 ∷ []) → IsBlockFree sets b
 of_fresh sets fresh two b some = go (nat_eq b fresh.0) (nat_eq b fresh.1) refl refl some
   where
-    go : (x y : Bool) → nat_eq b fresh.0 ≡ x → nat_eq b fresh.1 ≡ y → 1 ≤ cond x 1 0 + (cond y 1 0 + 0) → IsFree sets b
-    go true y e f n = subst (IsFree sets) (sym (eqb-true b fresh.0 e)) two.first
-    go false true e f n = subst (IsFree sets) (sym (eqb-true b fresh.1 f)) two.second
+    go : (x y : Bool) → nat_eq b fresh.0 ≡ x → nat_eq b fresh.1 ≡ y → 1 ≤ cond x 1 0 + (cond y 1 0 + 0) → IsBlockFree sets b
+    go true y e f n = subst (IsBlockFree sets) (sym (eqb-true b fresh.0 e)) two.first
+    go false true e f n = subst (IsBlockFree sets) (sym (eqb-true b fresh.1 f)) two.second
     go false false e f n = absurd (omega arith)
 
 -- ---- what is known before
 
 -- the pair's tail, with other slots and another delta
-abbrev pub content_with : Pair → List Slot → Gstate → Content
+abbrev pub content_with : Pair → List Slot → Gstate → PairContent
 content_with p slots move = record { slots = slots; tail = p.content.tail; move = move }
 
 -- At the site stands the pair of that number, and the changes give it these slots and that delta.
-pub record IsTurn (t : Kept) (index : ℕ) (changes : List ContentChange) (w : Site) (p : Pair) (slots : List Slot) (move : Gstate) : Type 0 where
+pub record IsTurn (t : KeptThread) (index : ℕ) (changes : List PairContentChange) (w : Site) (p : Pair) (slots : List Slot) (move : Gstate) : Type 0 where
   pub accepted : IsAcceptedImage t.disk t.pairs
   pub there : t.pairs ≡ thread_at w (p ∷ [])
   pub place : index ≡ length w.chain + length (w.before ++ w.left)
@@ -75,20 +75,20 @@ pub record IsTurn (t : Kept) (index : ℕ) (changes : List ContentChange) (w : S
   pub first : HasFirst p.content.slots → SlotsBeginWithSuperblock slots
 
 -- the map knows each block that the image uses
-pub record IsMapped (t : Kept) : Type 0 where
-  pub apart : (b : ℕ) → IsFree t.map b → count b (used_blocks t.disk t.pairs) ≡ 0
+pub record IsMapped (t : KeptThread) : Type 0 where
+  pub apart : (b : ℕ) → IsBlockFree t.map b → occurrence_count_of_number b (used_blocks t.disk t.pairs) ≡ 0
   pub size : length t.map ≡ block_count t.disk
 
-pub mapped : (t : Kept) → AreExactlyTheUsedBlocks t.map (used_blocks t.disk t.pairs) → length t.map ≡ block_count t.disk → IsMapped t
+pub mapped : (t : KeptThread) → AreExactlyTheUsedBlocks t.map (used_blocks t.disk t.pairs) → length t.map ≡ block_count t.disk → IsMapped t
 mapped t used size = record { apart = λ b free. not_used t.map (used_blocks t.disk t.pairs) used b free; size = size }
 
-pub record TurnedOn (t : Kept) (w : Site) (p : Pair) (slots : List Slot) (move : Gstate) (disk : Disk) : Type 0 where
+pub record TurnedOn (t : KeptThread) (w : Site) (p : Pair) (slots : List Slot) (move : Gstate) (disk : Disk) : Type 0 where
   pub q : Pair
   pub more : List Pair
   pub turned : HasTurned t.disk w p slots move disk q more
 
 -- so do the thread and the map say
-pub record TurnedTo (t : Kept) (w : Site) (p : Pair) (slots : List Slot) (move : Gstate) (new : Kept) : Type 0 where
+pub record TurnedTo (t : KeptThread) (w : Site) (p : Pair) (slots : List Slot) (move : Gstate) (new : KeptThread) : Type 0 where
   pub q : Pair
   pub more : List Pair
   pub turned : HasTurned t.disk w p slots move new.disk q more
@@ -98,17 +98,17 @@ pub record TurnedTo (t : Kept) (w : Site) (p : Pair) (slots : List Slot) (move :
   pub shape : HasSameGeometry t.disk new.disk
   pub stays : KeepsStatesOfTakenBlocks t.map new.map
   pub none_comes : HasNoNewBlockInFlight t.map new.map
-  pub fresh : (b : ℕ) → 1 ≤ count b (blocks_of_pairs more) → IsFree t.map b
+  pub fresh : (b : ℕ) → 1 ≤ occurrence_count_of_number b (blocks_of_pairs more) → IsBlockFree t.map b
 
 -- the pair alone, as what a change of it comes to
-pub record ChangedOne (t : Kept) (index : ℕ) (w : Site) (p : Pair) (slots : List Slot) (move : Gstate) (new : Kept) : Type 0 where
+pub record ChangedOne (t : KeptThread) (index : ℕ) (w : Site) (p : Pair) (slots : List Slot) (move : Gstate) (new : KeptThread) : Type 0 where
   pub turned : HasTurned t.disk w p slots move new.disk (record { at = p.at; content = content_with p slots move }) []
   pub pairs : new.pairs ≡ thread_at w (record { at = p.at; content = content_with p slots move } ∷ [])
-  pub is : new.pairs ≡ pairs_with_content_at_index t index (content_with p slots move)
+  pub is : new.pairs ≡ thread_pairs_with_content_replaced_at_index t index (content_with p slots move)
   pub map : new.map ≡ t.map
   pub shape : HasSameGeometry t.disk new.disk
 
-module _ (t : Kept) (index : ℕ) (changes : List ContentChange) (w : Site) (p : Pair) (slots : List Slot) (move : Gstate) (k : IsTurn t index changes w p slots move) where
+module _ (t : KeptThread) (index : ℕ) (changes : List PairContentChange) (w : Site) (p : Pair) (slots : List Slot) (move : Gstate) (k : IsTurn t index changes w p slots move) where
   abbrev ps : List Pair
   ps = thread_at w (p ∷ [])
 
@@ -118,7 +118,7 @@ module _ (t : Kept) (index : ℕ) (changes : List ContentChange) (w : Site) (p :
   abbrev behind : List Pair
   behind = w.right ++ w.after
 
-  abbrev c : Content
+  abbrev c : PairContent
   c = content_with p slots move
 
   pub accepted : IsAcceptedImage t.disk ps
@@ -130,13 +130,13 @@ module _ (t : Kept) (index : ℕ) (changes : List ContentChange) (w : Site) (p :
   place_is : index ≡ length ahead
   place_is = k.place ∙ sym (length-append w.chain (w.before ++ w.left))
 
-  pub pair_is : kept_pair_at_index t index ≡ p
-  pair_is = ap₂ (λ (z : List Pair) (i : ℕ). get_or z i no_pair) (k.there ∙ grouped p []) place_is ∙ get_at ahead p behind no_pair
+  pub pair_is : thread_pair_at_index t index ≡ p
+  pair_is = ap₂ (λ (z : List Pair) (i : ℕ). get_or z i empty_pair_at_anchor) (k.there ∙ grouped p []) place_is ∙ get_at ahead p behind empty_pair_at_anchor
 
-  at_is : (kept_pair_at_index t index).at ≡ p.at
+  at_is : (thread_pair_at_index t index).at ≡ p.at
   at_is = ap (λ (z : Pair). z.at) pair_is
 
-  one_now : (c : Content) → pairs_with_content_at_index t index c ≡ thread_at w (record { at = p.at; content = c } ∷ [])
+  one_now : (c : PairContent) → thread_pairs_with_content_replaced_at_index t index c ≡ thread_at w (record { at = p.at; content = c } ∷ [])
   one_now c =
       let q : Pair = record { at = p.at; content = c } in
       ap (λ (z : Pair). set t.pairs index (record { at = z.at; content = c })) pair_is
@@ -160,13 +160,13 @@ module _ (t : Kept) (index : ℕ) (changes : List ContentChange) (w : Site) (p :
   shape_same : {disk : Disk} → HasSameGeometry t.disk disk → SameGeometry t.disk disk
   shape_same s = record { block_size = s.block_size; page = s.page; order = s.order; count = s.count }
 
-  same_two : (disk : Disk) → KeepsBlocksOutsidePair p.at t.disk.blocks disk.blocks → (b : ℕ) → count b (blocks_of_pairs (p ∷ [])) ≡ 0 → block_bytes_on_disk disk b ≡ block_bytes_on_disk t.disk b
+  same_two : (disk : Disk) → KeepsBlocksOutsidePair p.at t.disk.blocks disk.blocks → (b : ℕ) → occurrence_count_of_number b (blocks_of_pairs (p ∷ [])) ≡ 0 → block_bytes_on_disk disk b ≡ block_bytes_on_disk t.disk b
   same_two disk others b none = others.others b (all_apart (p.at.0 ∷ p.at.1 ∷ []) b none)
 
-  same_four : (disk : Disk) (fresh : ℕ × ℕ) → KeepsBlocksOutsideBothPairs p.at fresh t.disk.blocks disk.blocks → (b : ℕ) → count b (fresh.0 ∷ fresh.1 ∷ blocks_of_pairs (p ∷ [])) ≡ 0 → block_bytes_on_disk disk b ≡ block_bytes_on_disk t.disk b
+  same_four : (disk : Disk) (fresh : ℕ × ℕ) → KeepsBlocksOutsideBothPairs p.at fresh t.disk.blocks disk.blocks → (b : ℕ) → occurrence_count_of_number b (fresh.0 ∷ fresh.1 ∷ blocks_of_pairs (p ∷ [])) ≡ 0 → block_bytes_on_disk disk b ≡ block_bytes_on_disk t.disk b
   same_four disk fresh others b none = others.others b (all_apart (p.at.0 ∷ p.at.1 ∷ fresh.0 ∷ fresh.1 ∷ []) b (omega arith))
 
-  placed_one : (disk : Disk) (c : Content) → (HasFirst p.content.slots → SlotsBeginWithSuperblock c.slots) → IsPairWrittenOnDisk t index c disk → IsPlaced t.disk disk p (record { at = p.at; content = c }) [] []
+  placed_one : (disk : Disk) (c : PairContent) → (HasFirst p.content.slots → SlotsBeginWithSuperblock c.slots) → IsPairWrittenOnDisk t index c disk → IsPlaced t.disk disk p (record { at = p.at; content = c }) [] []
   placed_one disk c first is = record {
     geometry = shape_same is.shape;
     same = same_two disk (subst (λ at. KeepsBlocksOutsidePair at t.disk.blocks disk.blocks) at_is is.others);
@@ -174,7 +174,7 @@ module _ (t : Kept) (index : ℕ) (changes : List ContentChange) (w : Site) (p :
     first = λ h b. subst (λ at. BeginsWithLogEntry (current_block_of_pair_at disk at) superblock_name_log_entry) at_is (is.first (subst (λ at. BeginsWithLogEntry (current_block_of_pair_at t.disk at) superblock_name_log_entry) (sym at_is) b) (first h));
   }
 
-  placed_still : (disk : Disk) (fresh : ℕ × ℕ) → HasSameGeometry t.disk disk → KeepsBlocksOutsideBothPairs (kept_pair_at_index t index).at fresh t.disk.blocks disk.blocks → HasPairOldContentOnDisk t index disk → IsPlaced t.disk disk p p [] (fresh.0 ∷ fresh.1 ∷ [])
+  placed_still : (disk : Disk) (fresh : ℕ × ℕ) → HasSameGeometry t.disk disk → KeepsBlocksOutsideBothPairs (thread_pair_at_index t index).at fresh t.disk.blocks disk.blocks → HasPairOldContentOnDisk t index disk → IsPlaced t.disk disk p p [] (fresh.0 ∷ fresh.1 ∷ [])
   placed_still disk fresh shape others is = record {
     geometry = shape_same shape;
     same = same_four disk fresh (subst (λ at. KeepsBlocksOutsideBothPairs at fresh t.disk.blocks disk.blocks) at_is others);
@@ -193,17 +193,17 @@ module _ (t : Kept) (index : ℕ) (changes : List ContentChange) (w : Site) (p :
 
   -- ---- free blocks
 
-  free_apart : IsMapped t → (b : ℕ) → IsFree t.map b → count b (used_blocks t.disk ps) ≡ 0
-  free_apart m b free = ap (λ z. count b (used_blocks t.disk z)) (sym k.there) ∙ m.apart b free
+  free_apart : IsMapped t → (b : ℕ) → IsBlockFree t.map b → occurrence_count_of_number b (used_blocks t.disk ps) ≡ 0
+  free_apart m b free = ap (λ z. occurrence_count_of_number b (used_blocks t.disk z)) (sym k.there) ∙ m.apart b free
 
   all_distinct : IsMapped t → (fresh : ℕ × ℕ) → AreTwoFreeBlocks t.map fresh → IsDistinct nat_eq (fresh.0 ∷ fresh.1 ∷ used_blocks t.disk ps)
   all_distinct m fresh two = distinct_from_once (fresh.0 ∷ fresh.1 ∷ used_blocks t.disk ps) (λ b. go b (nat_eq b fresh.0) (nat_eq b fresh.1) refl refl)
     where
-      go : (b : ℕ) (x y : Bool) → nat_eq b fresh.0 ≡ x → nat_eq b fresh.1 ≡ y → cond x 1 0 + (cond y 1 0 + count b (used_blocks t.disk ps)) ≤ 1
+      go : (b : ℕ) (x y : Bool) → nat_eq b fresh.0 ≡ x → nat_eq b fresh.1 ≡ y → cond x 1 0 + (cond y 1 0 + occurrence_count_of_number b (used_blocks t.disk ps)) ≤ 1
       go b false false e f = let n = once_from_distinct (used_blocks t.disk ps) accepted.owned_once b in omega arith
       go b true true e f = absurd (two.apart (sym (eqb-true b fresh.0 e) ∙ eqb-true b fresh.1 f))
-      go b true false e f = let n = free_apart m b (subst (IsFree t.map) (sym (eqb-true b fresh.0 e)) two.first) in omega arith
-      go b false true e f = let n = free_apart m b (subst (IsFree t.map) (sym (eqb-true b fresh.1 f)) two.second) in omega arith
+      go b true false e f = let n = free_apart m b (subst (IsBlockFree t.map) (sym (eqb-true b fresh.0 e)) two.first) in omega arith
+      go b false true e f = let n = free_apart m b (subst (IsBlockFree t.map) (sym (eqb-true b fresh.1 f)) two.second) in omega arith
 
   fresh_range : IsMapped t → (fresh : ℕ × ℕ) → AreTwoFreeBlocks t.map fresh → Each (λ b. b < block_count t.disk) (fresh.0 ∷ fresh.1 ∷ [])
   fresh_range m fresh two = let e = m.size in let f = within t.map fresh.0 Free two.first in let g = within t.map fresh.1 Free two.second in (omega arith, (omega arith, tt))
@@ -225,7 +225,7 @@ module _ (t : Kept) (index : ℕ) (changes : List ContentChange) (w : Site) (p :
       → HasTurned t.disk w p slots move disk (cut_front p.at c cut fresh) (back_pair_of_split c cut fresh ∷ [])
   turned_two m disk fresh cut two large is = record {
     at = refl;
-    delta = gstate_cons front (back ∷ []) ∙ ap (gstate_xor move) (gstate_cons back [] ∙ gstate_left (gstate_of [])) ∙ gstate_right move;
+    delta = gstate_cons front (back ∷ []) ∙ ap (gstate_xor move) (gstate_cons back [] ∙ gstate_left (gstate_of_pairs [])) ∙ gstate_right move;
     is = ap (λ z. take cut slots ++ z) (append-nil (drop cut slots)) ∙ take-append-drop cut slots;
     became = (refl, refl, (λ fits. large (fits_same t.disk (pair_with_slots slots p) (record { at = p.at; content = c }) refl fits)), is.parts.front_fits, is.parts.back_fits);
     device = device t.disk disk w p front (back ∷ []) (fresh.0 ∷ fresh.1 ∷ []) accepted (all_distinct m fresh two) (placed_two disk fresh cut (is.parts.inside large).0 is);
@@ -242,24 +242,24 @@ module _ (t : Kept) (index : ℕ) (changes : List ContentChange) (w : Site) (p :
       back : Pair
       back = back_pair_of_split (content_with p slots move) cut fresh
 
-  made_same : (d : Content) → complete_content_after_changes t index changes ≡ Some d → d ≡ c
+  made_same : (d : PairContent) → complete_content_after_changes t index changes ≡ Some d → d ≡ c
   made_same d m = same_Some d c (sym m ∙ k.made)
 
   too_large : IsChangedContentTooLarge t index changes → IsContentFittingPair t.disk.block_size t.disk.page c → ⊥
   too_large large = subst (λ d. IsContentFittingPair t.disk.block_size t.disk.page d → ⊥) (made_same large.0 large.1.0) large.1.1
 
-  pub changed_one : (new : Kept) → IsPairChanged t index changes new → ChangedOne t index w p slots move new
+  pub changed_one : (new : KeptThread) → IsPairChanged t index changes new → ChangedOne t index w p slots move new
   changed_one new is =
       let same = made_same is.content is.made in
       record {
         turned = turned_one new.disk (subst (λ d. IsPairWrittenOnDisk t index d new.disk) same is.written) (subst (IsContentFittingPair t.disk.block_size t.disk.page) same is.fits);
         pairs = is.pairs ∙ one_now is.content ∙ ap (λ d. thread_at w (record { at = p.at; content = d } ∷ [])) same;
-        is = is.pairs ∙ ap (λ d. pairs_with_content_at_index t index d) same;
+        is = is.pairs ∙ ap (λ d. thread_pairs_with_content_replaced_at_index t index d) same;
         map = is.map;
         shape = is.written.shape;
       }
 
-  changed_turned : (new : Kept) → IsPairChanged t index changes new → TurnedTo t w p slots move new
+  changed_turned : (new : KeptThread) → IsPairChanged t index changes new → TurnedTo t w p slots move new
   changed_turned new is =
       let x = changed_one new is in
       record {
@@ -271,11 +271,11 @@ module _ (t : Kept) (index : ℕ) (changes : List ContentChange) (w : Site) (p :
         size = ap length is.map;
         shape = is.written.shape;
         stays = λ b taken. ap (λ m. slice_get m b) is.map;
-        none_comes = λ b flies. subst (λ m. IsInFlight m b) is.map flies;
+        none_comes = λ b flies. subst (λ m. IsBlockInFlight m b) is.map flies;
         fresh = λ b some. absurd (omega arith);
       }
 
-  cut_turned : IsMapped t → (new : Kept) (fresh : ℕ × ℕ) → IsChangedContentTooLarge t index changes → IsPairSplitInto t index fresh changes new → TurnedTo t w p slots move new
+  cut_turned : IsMapped t → (new : KeptThread) (fresh : ℕ × ℕ) → IsChangedContentTooLarge t index changes → IsPairSplitInto t index fresh changes new → TurnedTo t w p slots move new
   cut_turned m new fresh large is =
       let same = made_same is.content is.made in
       let there : new.pairs ≡ thread_at w (front_pair_of_split t index is.content is.cut fresh ∷ back_pair_of_split is.content is.cut fresh ∷ [])
@@ -296,11 +296,11 @@ module _ (t : Kept) (index : ℕ) (changes : List ContentChange) (w : Site) (p :
         size = ap length is.map ∙ length_now t.map fresh is.free;
         shape = is.shape;
         stays = λ b taken. ap (λ m. slice_get m b) is.map ∙ stay_taken t.map fresh is.free b taken;
-        none_comes = λ b flies. none_comes_now t.map fresh is.free b (subst (λ m. IsInFlight m b) is.map flies);
+        none_comes = λ b flies. none_comes_now t.map fresh is.free b (subst (λ m. IsBlockInFlight m b) is.map flies);
         fresh = λ b some. of_fresh t.map fresh is.free b some;
       }
 
-  pub put_turned : IsMapped t → (new : Kept) → IsPairChangedOrSplit t index changes new → TurnedTo t w p slots move new
+  pub put_turned : IsMapped t → (new : KeptThread) → IsPairChangedOrSplit t index changes new → TurnedTo t w p slots move new
   put_turned m new (inl is) = changed_turned new is
   put_turned m new (inr (large, (fresh, is))) = cut_turned m new fresh large is
 
@@ -309,40 +309,40 @@ module _ (t : Kept) (index : ℕ) (changes : List ContentChange) (w : Site) (p :
   abbrev pub Stays : Disk → Type 0
   Stays disk = IsDevice t.disk disk (thread_at w (p ∷ [])) (thread_at w (p ∷ []))
 
-  shape_of : (left : Blocks) → length left ≡ length t.disk.blocks → HasSameGeometry t.disk (with_blocks left t.disk)
+  shape_of : (left : Blocks) → length left ≡ length t.disk.blocks → HasSameGeometry t.disk (disk_with_blocks left t.disk)
   shape_of left e = record { block_size = refl; page = refl; order = refl; count = e }
 
-  pub left_alone : (left : Blocks) → LeavesPairOldOrChanged t index changes left
-      → Stays (with_blocks left t.disk) ⊎ HasTurned t.disk w p slots move (with_blocks left t.disk) (record { at = p.at; content = content_with p slots move }) []
+  pub left_alone : (left : Blocks) → PowerLossLeavesPairOldOrChanged t index changes left
+      → Stays (disk_with_blocks left t.disk) ⊎ HasTurned t.disk w p slots move (disk_with_blocks left t.disk) (record { at = p.at; content = content_with p slots move }) []
   left_alone left is = go is.is
     where
-      go : (is.content ≡ (kept_pair_at_index t index).content) ⊎ ((complete_content_after_changes t index changes ≡ Some is.content) × IsContentFittingPair t.disk.block_size t.disk.page is.content)
-          → Stays (with_blocks left t.disk) ⊎ HasTurned t.disk w p slots move (with_blocks left t.disk) (record { at = p.at; content = content_with p slots move }) []
+      go : (is.content ≡ (thread_pair_at_index t index).content) ⊎ ((complete_content_after_changes t index changes ≡ Some is.content) × IsContentFittingPair t.disk.block_size t.disk.page is.content)
+          → Stays (disk_with_blocks left t.disk) ⊎ HasTurned t.disk w p slots move (disk_with_blocks left t.disk) (record { at = p.at; content = content_with p slots move }) []
       go (inl e) =
           let same = e ∙ ap (λ (z : Pair). z.content) pair_is in
-          inl (device t.disk (with_blocks left t.disk) w p p [] [] accepted accepted.owned_once
-          (placed_one (with_blocks left t.disk) p.content (λ h. (h.kind, h.name)) (subst (λ d. IsPairWrittenOnDisk t index d (with_blocks left t.disk)) same is.written)))
+          inl (device t.disk (disk_with_blocks left t.disk) w p p [] [] accepted accepted.owned_once
+          (placed_one (disk_with_blocks left t.disk) p.content (λ h. (h.kind, h.name)) (subst (λ d. IsPairWrittenOnDisk t index d (disk_with_blocks left t.disk)) same is.written)))
       go (inr (m, fits)) =
           let same = made_same is.content m in
-          inr (turned_one (with_blocks left t.disk) (subst (λ d. IsPairWrittenOnDisk t index d (with_blocks left t.disk)) same is.written) (subst (IsContentFittingPair t.disk.block_size t.disk.page) same fits))
+          inr (turned_one (disk_with_blocks left t.disk) (subst (λ d. IsPairWrittenOnDisk t index d (disk_with_blocks left t.disk)) same is.written) (subst (IsContentFittingPair t.disk.block_size t.disk.page) same fits))
 
   alone_on : (disk : Disk) → Stays disk ⊎ HasTurned t.disk w p slots move disk (record { at = p.at; content = content_with p slots move }) [] → Stays disk ⊎ TurnedOn t w p slots move disk
   alone_on disk (inl d) = inl d
   alone_on disk (inr x) = inr (record { q = record { at = p.at; content = content_with p slots move }; more = []; turned = x })
 
-  pub left_put : IsMapped t → (left : Blocks) → IsLeftByStoppedChangeOrSplit t index changes left → Stays (with_blocks left t.disk) ⊎ TurnedOn t w p slots move (with_blocks left t.disk)
-  left_put m left (inl is) = alone_on (with_blocks left t.disk) (left_alone left is)
+  pub left_put : IsMapped t → (left : Blocks) → IsLeftByStoppedChangeOrSplit t index changes left → Stays (disk_with_blocks left t.disk) ⊎ TurnedOn t w p slots move (disk_with_blocks left t.disk)
+  left_put m left (inl is) = alone_on (disk_with_blocks left t.disk) (left_alone left is)
   left_put m left (inr (large, (fresh, (two, is)))) = go is.content
     where
-      go : HasPairOldContentOnDisk t index (with_blocks left t.disk) ⊎ AreBothSplitPartsOnDisk t index changes fresh (with_blocks left t.disk) → Stays (with_blocks left t.disk) ⊎ TurnedOn t w p slots move (with_blocks left t.disk)
-      go (inl b) = inl (device t.disk (with_blocks left t.disk) w p p [] (fresh.0 ∷ fresh.1 ∷ []) accepted (all_distinct m fresh two)
-          (placed_still (with_blocks left t.disk) fresh (shape_of left is.others.count) is.others b))
+      go : HasPairOldContentOnDisk t index (disk_with_blocks left t.disk) ⊎ AreBothSplitPartsOnDisk t index changes fresh (disk_with_blocks left t.disk) → Stays (disk_with_blocks left t.disk) ⊎ TurnedOn t w p slots move (disk_with_blocks left t.disk)
+      go (inl b) = inl (device t.disk (disk_with_blocks left t.disk) w p p [] (fresh.0 ∷ fresh.1 ∷ []) accepted (all_distinct m fresh two)
+          (placed_still (disk_with_blocks left t.disk) fresh (shape_of left is.others.count) is.others b))
       go (inr h) =
           let same = made_same h.content h.made in
           inr (record {
             q = cut_front p.at (content_with p slots move) h.cut fresh;
             more = back_pair_of_split (content_with p slots move) h.cut fresh ∷ [];
-            turned = turned_two m (with_blocks left t.disk) fresh h.cut two (too_large large)
-                (subst (λ d. AreOn t index d (with_blocks left t.disk) fresh h.cut) same
+            turned = turned_two m (disk_with_blocks left t.disk) fresh h.cut two (too_large large)
+                (subst (λ d. AreOn t index d (disk_with_blocks left t.disk) fresh h.cut) same
                 (record { shape = shape_of left is.others.count; others = is.others; front = h.front; back = h.back; parts = h.parts }));
           })

@@ -4,27 +4,27 @@ use Rattle.std.specs.List.{AllByRecursion, IsDistinct}
 use Rattle.std.specs.Prelude.{Any}
 use Rattle.std.proofs.lemmas.List.Elements.{recursion_from_All}
 use Rattle.std.proofs.lemmas.Option.{same_Some}
-use Rattle.lfs_model.specs.TreeEdits.{last_name_of_path, renamed, path_without_prefix, same_path}
+use Rattle.lfs_model.specs.TreeEdits.{last_name_of_path, tree_after_rename, path_without_prefix, same_path}
 use Rattle.lfs_model.specs.Blocks.{Blocks}
-use Rattle.lfs_model.specs.Changes.{ContentChange}
+use Rattle.lfs_model.specs.Changes.{PairContentChange}
 use Rattle.lfs_model.specs.InDirectory.{IsPairAtAddress, IsPlaceOfNameInDirectory}
-use Rattle.lfs_model.specs.Layout.{FitsPairOnDisk, IsDirectoryUnreachedOrRemoved, directory_addresses_of_slot, addresses_of_removed_directories}
+use Rattle.lfs_model.specs.Layout.{IsContentFittingPairOnDisk, IsDirectoryUnreachedOrRemoved, directory_addresses_of_slot, addresses_of_removed_directories}
 use Rattle.lfs_model.specs.LoggedContent.{Are32BitPairAddresses}
 use Rattle.lfs_model.specs.Names.{Name}
 use Rattle.lfs_model.specs.Operations as ops
-use Rattle.lfs_model.specs.PowerLoss.{ShowsTreeBeforeOrAfter as IsLeftOf, with_blocks}
+use Rattle.lfs_model.specs.PowerLoss.{HasTreeBeforeOrAfterOperation as IsLeftOf, disk_with_blocks}
 use Rattle.lfs_model.specs.SlotEdits.{slot_of_path, pair_with_slots}
 use Rattle.lfs_model.specs.Slots.{Branch, Ctz, Inline, Slot, Struct, gstate_xor, zero_gstate, same_pair}
-use Rattle.lfs_model.specs.Refusals.{path_or_root}
-use Rattle.lfs_model.specs.Thread.{IsDirectoryBegin, ThreadDirectory, Pair, anchor_pair_address, blocks_of_pairs, pairs_of_all_directories, first_pair_address, gstate_of, is_hard_tail, root_directory_of_pairs, pair_count_before_root}
+use Rattle.lfs_model.specs.Refusals.{path_of_bytes_or_root}
+use Rattle.lfs_model.specs.Thread.{IsAddressOfDirectoryFirstPair, ThreadDirectory, Pair, anchor_pair_address, blocks_of_pairs, pairs_from_root_directory_on, first_pair_address, gstate_of_pairs, is_hard_tail, root_directory_address_of_pairs, pair_count_before_root}
 use Rattle.lfs_model.specs.Tree.{Path, branch_address_of_struct, directory_address_at_path}
-use Rattle.lfs_model.specs.Profile.{HaveSlotsAfterHardTail, IsWritable}
+use Rattle.lfs_model.specs.Profile.{AreNoEmptyPairsAfterHardTails, IsWritableImage}
 use Rattle.lfs_model.specs.View.{IsAcceptedImage}
-use Rattle.lfs_model.specs.Shown.{IsDirectoryReached, IsPathToDirectory, directories_in_thread, entries_by_directory_in_thread, tree_on_disk, used_blocks}
-use Rattle.lfs_model.proofs.Alike.{AreAlike, Stood}
-use Rattle.lfs_model.proofs.Changes.{Follows}
-use Rattle.lfs_model.proofs.Committed.{IsCompleted, no_move_from, recovered_from}
-use Rattle.lfs_model.proofs.Counts.{Each, count, count_append, each_right, each_weaker}
+use Rattle.lfs_model.specs.Shown.{IsDirectoryAddressReachedBySomePath, IsPathToDirectory, directories_in_thread, entries_by_directory_in_thread, tree_on_disk, used_blocks}
+use Rattle.lfs_model.proofs.Alike.{ArePairsWithSameAddressesAndSlots, Stood}
+use Rattle.lfs_model.proofs.Changes.{IsImageAfterTreeChange}
+use Rattle.lfs_model.proofs.Committed.{IsImageAfterCompletedOperation, no_move_from, recovered_from}
+use Rattle.lfs_model.proofs.Counts.{Each, occurrence_count_of_number, count_append, each_right, each_weaker}
 use Rattle.lfs_model.proofs.Found.{HasDirectory, chain_of_thread, directory_found, links_behind}
 use Rattle.lfs_model.proofs.Indexes.{site_shows}
 use Rattle.lfs_model.proofs.Layouts.{NoneGoes, joined_parts, none_where, rest_all}
@@ -35,21 +35,21 @@ use Rattle.lfs_model.proofs.Pairs.{pair_itself, pair_on}
 use Rattle.lfs_model.proofs.Paths.{last_is}
 use Rattle.lfs_model.proofs.Pieces.{Gains, GoesAt, Keeps, Piece, Stays, olds_of, pieces_stood, segment_of}
 use Rattle.lfs_model.proofs.RenamedOnto.{IsRenameOnto, onto_completed}
-use Rattle.lfs_model.proofs.Renames.{rename_walk}
+use Rattle.lfs_model.proofs.Renames.{directory_addresses_after_rename}
 use Rattle.lfs_model.proofs.Replacing.{IsReplaced}
 use Rattle.lfs_model.proofs.Searches.{avoids_behind, avoids_front, is_site, same, site, slot_of_stands, thread_is}
 use Rattle.lfs_model.proofs.Segments.{drafts_of, parts_of}
-use Rattle.lfs_model.proofs.Sites.{SomeIn, IsSite, Site, begin_of, dirs_at, thread_at}
-use Rattle.lfs_model.proofs.Splices.{files_of}
-use Rattle.lfs_model.proofs.StepsTaken.{IsOnlyStep}
+use Rattle.lfs_model.proofs.Sites.{IsTrueOfSomeElement, IsSite, Site, begin_of, dirs_at, thread_at}
+use Rattle.lfs_model.proofs.Splices.{file_blocks_of_slots}
+use Rattle.lfs_model.proofs.StepsTaken.{IsWritableImageAfterTreeChange}
 use Rattle.lfs_model.proofs.Superblocks.{IsChain, pairs_behind}
 use Rattle.lfs_model.proofs.Trees.{not_before}
 use Rattle.lfs_model.proofs.TwoPlaces.{OldStays, fits_fewer, from_old, two}
-use Rattle.lfs_thread.specs.Kept.{Kept}
-use Rattle.lfs_thread.specs.Steps.{no_pair, kept_pair_at_index}
-use Rattle.lfs_operations.specs.Dropping.{CanDropPairAt, IsNextPairDropped, IsLeftByStoppedDrop}
+use Rattle.lfs_thread.specs.Kept.{KeptThread}
+use Rattle.lfs_thread.specs.Steps.{empty_pair_at_anchor, thread_pair_at_index}
+use Rattle.lfs_operations.specs.Dropping.{CanDropPairAt, IsNextPairDropped, IsLeftByStoppedPairDrop}
 use Rattle.lfs_operations.specs.Editing.{CanEditEntryOfPair}
-use Rattle.lfs_operations.specs.MoveEnds.{HasEndedMoveAt, move_of}
+use Rattle.lfs_operations.specs.MoveEnds.{HasEndedMoveAt, gstate_naming_moved_slot}
 use Rattle.lfs_operations.specs.MovingSteps.{IsSlotPutAndMoveEnded, pair_number_after_insertion}
 use Rattle.lfs_operations.specs.MovingAcross.{IsEntryRenamedAcrossPairs, tree_with_moved_entry}
 use Rattle.lfs_operations.specs.MovingOnto.{CanReplaceDirectoryAcrossPairs, IsEntryReplacedAcrossPairs, replace_entry_across_pairs_changes}
@@ -68,24 +68,24 @@ use Rattle.lfs_operations.proofs.RmdirPlaces.{HasFront, directory_led, front_of,
 
 -- ---- lists
 
-among_there : (xs : List Pair) (k : ℕ) (o : Pair) → slice_get xs k ≡ Some o → SomeIn (λ y. y ≡ o) xs
+among_there : (xs : List Pair) (k : ℕ) (o : Pair) → slice_get xs k ≡ Some o → IsTrueOfSomeElement (λ y. y ≡ o) xs
 among_there [] k o e = absurd (cc)
 among_there (x ∷ xs) zero o e = inl (same_Some x o e)
 among_there (x ∷ xs) (suc k) o e = inr (among_there xs k o e)
 
-somewhere : (xs : List Pair) (o : Pair) → SomeIn (λ y. y ≡ o) xs → (k : ℕ) × (slice_get xs k ≡ Some o)
+somewhere : (xs : List Pair) (o : Pair) → IsTrueOfSomeElement (λ y. y ≡ o) xs → (k : ℕ) × (slice_get xs k ≡ Some o)
 somewhere [] o h = absurd h
 somewhere (x ∷ xs) o (inl e) = (0, ap Some e)
 somewhere (x ∷ xs) o (inr h) = let s = somewhere xs o h in (suc s.0, s.1)
 
-pub old_below : (t : Kept) (old_pair old_id first new_pair new_id : ℕ) (name : Name) (gone : ℕ) → CanReplaceDirectoryAcrossPairs t old_pair old_id first new_pair new_id name gone → old_pair < length t.pairs
+pub old_below : (t : KeptThread) (old_pair old_id first new_pair new_id : ℕ) (name : Name) (gone : ℕ) → CanReplaceDirectoryAcrossPairs t old_pair old_id first new_pair new_id name gone → old_pair < length t.pairs
 old_below t old_pair old_id first new_pair new_id name gone rename = below t rename.old.ready rename.old.first old_pair rename.old.stands.pair rename.old.stands.rest rename.old.stands.place
 
-pub new_below : (t : Kept) (old_pair old_id first new_pair new_id : ℕ) (name : Name) (gone : ℕ) → CanReplaceDirectoryAcrossPairs t old_pair old_id first new_pair new_id name gone → new_pair < length t.pairs
+pub new_below : (t : KeptThread) (old_pair old_id first new_pair new_id : ℕ) (name : Name) (gone : ℕ) → CanReplaceDirectoryAcrossPairs t old_pair old_id first new_pair new_id name gone → new_pair < length t.pairs
 new_below t old_pair old_id first new_pair new_id name gone rename = below t rename.old.ready rename.to_first new_pair rename.target.pair rename.target.rest rename.target.place
 
-module _ (t : Kept) (old_pair old_id first new_pair new_id : ℕ) (name : Name) (gone : ℕ) (rename : CanReplaceDirectoryAcrossPairs t old_pair old_id first new_pair new_id name gone) (address : Are32BitPairAddresses (kept_pair_at_index t old_pair).at)
-    (m : Kept) (is : IsSlotPutAndMoveEnded t old_pair old_id (is_pair_dropped_with_slot t old_pair first) new_pair (replace_entry_across_pairs_changes true t old_pair old_id new_pair new_id name) m) where
+module _ (t : KeptThread) (old_pair old_id first new_pair new_id : ℕ) (name : Name) (gone : ℕ) (rename : CanReplaceDirectoryAcrossPairs t old_pair old_id first new_pair new_id name gone) (address : Are32BitPairAddresses (thread_pair_at_index t old_pair).at)
+    (m : KeptThread) (is : IsSlotPutAndMoveEnded t old_pair old_id (is_pair_dropped_with_slot t old_pair first) new_pair (replace_entry_across_pairs_changes true t old_pair old_id new_pair new_id name) m) where
   abbrev can : CanEditEntryOfPair t old_pair old_id
   can = rename.old
 
@@ -134,16 +134,16 @@ module _ (t : Kept) (old_pair old_id first new_pair new_id : ℕ) (name : Name) 
   abbrev goes : Bool
   goes = is_pair_dropped_with_slot t old_pair first
 
-  abbrev changes : List ContentChange
+  abbrev changes : List PairContentChange
   changes = replace_entry_across_pairs_changes true t old_pair old_id new_pair new_id name
 
   abbrev o : Pair
-  o = kept_pair_at_index t gone
+  o = thread_pair_at_index t gone
 
   first_step : IsFirst t true old_pair goes new_pair changes wo q0 lo s ro w p l (Some g) v r from to name
   first_step = is_first true t old_pair old_id first new_pair new_id name (onto_directory rename) address
 
-  x : TurnedTo t w p (l ++ v ∷ r) (gstate_xor (move_of true q0.at (length lo)) p.content.move) is.mid
+  x : TurnedTo t w p (l ++ v ∷ r) (gstate_xor (gstate_naming_moved_slot true q0.at (length lo)) p.content.move) is.mid
   x = first_turned t true old_pair goes new_pair changes wo q0 lo s ro w p l (Some g) v r from to name first_step is.mid is.put
 
   e : HasEndedMoveAt is.mid (pair_number_after_insertion old_pair new_pair (length is.mid.pairs - length t.pairs)) (length lo) goes m
@@ -161,8 +161,8 @@ module _ (t : Kept) (old_pair old_id first new_pair new_id : ℕ) (name : Name) 
   accepted : IsAcceptedImage t.disk (thread_at w (p ∷ []))
   accepted = subst (IsAcceptedImage t.disk) there can.ready.accepted
 
-  settled : gstate_of (thread_at w (p ∷ [])) ≡ zero_gstate
-  settled = ap gstate_of (sym there) ∙ can.ready.settled
+  settled : gstate_of_pairs (thread_at w (p ∷ [])) ≡ zero_gstate
+  settled = ap gstate_of_pairs (sym there) ∙ can.ready.settled
 
   leads : IsPathToDirectory (thread_at w (p ∷ [])) rename.path rename.at
   leads = subst (λ z. IsPathToDirectory z rename.path rename.at) there rename.leads
@@ -180,7 +180,7 @@ module _ (t : Kept) (old_pair old_id first new_pair new_id : ℕ) (name : Name) 
   front = has_front t.disk w.chain (dirs_at w (p ∷ [])) rename.path g.name rename.to accepted site_is.chain led
 
   o_there : slice_get t.pairs gone ≡ Some o
-  o_there = get_some t.pairs gone no_pair rename.below
+  o_there = get_some t.pairs gone empty_pair_at_anchor rename.below
 
   first_is : (gone ≡ length (w.chain ++ front.front) + 1) × (front.first ≡ o)
   first_is = number_of_first t.disk w.chain (dirs_at w (p ∷ [])) rename.to accepted front gone o (subst (λ z. slice_get z gone ≡ Some o) there o_there) rename.alike
@@ -204,49 +204,49 @@ module _ (t : Kept) (old_pair old_id first new_pair new_id : ℕ) (name : Name) 
 
   -- ---- and after the move
 
-  moved : IsOnlyStep t.disk t.pairs m.disk m.pairs (renamed (can.path ++ can.name ∷ []) (rename.path ++ name ∷ [])) (rename_walk (can.path ++ can.name ∷ []) (rename.path ++ name ∷ []))
+  moved : IsWritableImageAfterTreeChange t.disk t.pairs m.disk m.pairs (tree_after_rename (can.path ++ can.name ∷ []) (rename.path ++ name ∷ [])) (directory_addresses_after_rename (can.path ++ can.name ∷ []) (rename.path ++ name ∷ []))
   moved = last_taken t true old_pair goes new_pair changes wo q0 lo s ro w p l (Some g) v r from to name first_step is.mid x m e
 
   led_there : IsPathToDirectory t.pairs (rename.path ++ g.name ∷ []) rename.to
   led_there = subst (λ z. IsPathToDirectory z (rename.path ++ g.name ∷ []) rename.to) (sym there) led
 
-  begun : IsDirectoryBegin (directories_in_thread m.pairs) rename.to
+  begun : IsAddressOfDirectoryFirstPair (directories_in_thread m.pairs) rename.to
   begun = begins_at_firsts (directories_in_thread t.pairs) (directories_in_thread m.pairs) (last_firsts t true old_pair goes new_pair changes wo q0 lo s ro w p l (Some g) v r from to name first_step is.mid x m e) rename.to (can.ready.accepted.branches (rename.path ++ g.name ∷ []) rename.to led_there)
 
-  found : HasDirectory (pairs_of_all_directories m.pairs) rename.to
+  found : HasDirectory (pairs_from_root_directory_on m.pairs) rename.to
   found =
       let k = links_behind (Some anchor_pair_address) (pair_count_before_root m.pairs) m.pairs moved.follows.accepted.thread.links in
-      directory_found (gstate_of m.pairs) rename.to k.0 (pairs_of_all_directories m.pairs) k.1 begun
+      directory_found (gstate_of_pairs m.pairs) rename.to k.0 (pairs_from_root_directory_on m.pairs) k.1 begun
 
-  now : HasFront (pairs_of_all_directories m.pairs) rename.to
-  now = front_of (pairs_of_all_directories m.pairs) rename.to found (λ none. not_the_root t.disk t.pairs rename.path g.name rename.to can.ready.accepted led_there
+  now : HasFront (pairs_from_root_directory_on m.pairs) rename.to
+  now = front_of (pairs_from_root_directory_on m.pairs) rename.to found (λ none. not_the_root t.disk t.pairs rename.path g.name rename.to can.ready.accepted led_there
       (subst (λ z. same_pair z rename.to ≡ true) (sym (ap first_pair_address (found.is ∙ ap (λ z. z ++ (found.first ∷ found.run ++ found.after)) none)) ∙ moved.follows.root) found.at))
 
   abbrev chain : List Pair
   chain = take (pair_count_before_root m.pairs) m.pairs
 
-  whole : m.pairs ≡ take (pair_count_before_root m.pairs) m.pairs ++ pairs_of_all_directories m.pairs
+  whole : m.pairs ≡ take (pair_count_before_root m.pairs) m.pairs ++ pairs_from_root_directory_on m.pairs
   whole = (chain_of_thread m.pairs).0
 
-  accepted_now : IsAcceptedImage m.disk (take (pair_count_before_root m.pairs) m.pairs ++ pairs_of_all_directories m.pairs)
+  accepted_now : IsAcceptedImage m.disk (take (pair_count_before_root m.pairs) m.pairs ++ pairs_from_root_directory_on m.pairs)
   accepted_now = subst (IsAcceptedImage m.disk) whole moved.follows.accepted
 
   still_there : (k : ℕ) × (slice_get m.pairs k ≡ Some o)
   still_there = somewhere m.pairs o (last_kept t true old_pair goes new_pair changes wo q0 lo s ro w p l (Some g) v r from to name first_step is.mid x m e o not_new rename.empty rename.alone (among_there t.pairs gone o o_there))
 
   now_is : now.first ≡ o
-  now_is = (number_of_first m.disk chain (pairs_of_all_directories m.pairs) rename.to accepted_now now still_there.0 o (subst (λ z. slice_get z still_there.0 ≡ Some o) whole still_there.1) rename.alike).1
+  now_is = (number_of_first m.disk chain (pairs_from_root_directory_on m.pairs) rename.to accepted_now now still_there.0 o (subst (λ z. slice_get z still_there.0 ≡ Some o) whole still_there.1) rename.alike).1
 
-  dirs_now : pairs_of_all_directories m.pairs ≡ now.front ++ now.before ∷ o ∷ (now.run ++ now.after)
+  dirs_now : pairs_from_root_directory_on m.pairs ≡ now.front ++ now.before ∷ o ∷ (now.run ++ now.after)
   dirs_now = now.is ∙ ap (λ z. now.front ++ now.before ∷ z ∷ (now.run ++ now.after)) now_is
 
   there_now : m.pairs ≡ take (pair_count_before_root m.pairs) m.pairs ++ (now.front ++ now.before ∷ o ∷ (now.run ++ now.after))
   there_now = whole ∙ ap (λ z. take (pair_count_before_root m.pairs) m.pairs ++ z) dirs_now
 
-  no_list : (b : ℕ) → count b (files_of t.disk (g ∷ [])) ≡ 0
-  no_list b = ap (λ z. count b (files_of t.disk (record g { struct = z } ∷ []))) rename.branch
+  no_list : (b : ℕ) → occurrence_count_of_number b (file_blocks_of_slots t.disk (g ∷ [])) ≡ 0
+  no_list b = ap (λ z. occurrence_count_of_number b (file_blocks_of_slots t.disk (record g { struct = z } ∷ []))) rename.branch
 
-  module _ (n : ℕ) (at : IsPairAtAddress m.pairs (kept_pair_at_index t gone).at n) where
+  module _ (n : ℕ) (at : IsPairAtAddress m.pairs (thread_pair_at_index t gone).at n) where
     pub replacing_across : IsReplacing t m (can.path ++ can.name ∷ []) (rename.path ++ name ∷ []) rename.to o n
     replacing_across = record {
       ready = can.ready;
@@ -258,19 +258,19 @@ module _ (t : Kept) (old_pair old_id first new_pair new_id : ℕ) (name : Name) 
       back = now.run ++ now.after;
       there = there_now;
       is_chain = subst (IsChain (take (pair_count_before_root m.pairs) m.pairs)) dirs_now (chain_of_thread m.pairs).1;
-      number = sym (number_of_first m.disk chain (pairs_of_all_directories m.pairs) rename.to accepted_now now n at.pair (subst (λ z. slice_get z n ≡ Some at.pair) whole at.there)
+      number = sym (number_of_first m.disk chain (pairs_from_root_directory_on m.pairs) rename.to accepted_now now n at.pair (subst (λ z. slice_get z n ≡ Some at.pair) whole at.there)
           (pair_on at.pair.at o.at rename.to at.same rename.alike)).0;
       soft = now.soft;
-      replaced = subst (λ z. IsReplaced (directory_address_at_path (entries_by_directory_in_thread z) (root_directory_of_pairs z)) from to rename.to) (sym there)
-          (subst (λ (n : Name). IsReplaced (directory_address_at_path (entries_by_directory_in_thread (thread_at w (p ∷ []))) (root_directory_of_pairs (thread_at w (p ∷ [])))) from (rename.path ++ n ∷ []) rename.to) tb.stands.named
+      replaced = subst (λ z. IsReplaced (directory_address_at_path (entries_by_directory_in_thread z) (root_directory_address_of_pairs z)) from to rename.to) (sym there)
+          (subst (λ (n : Name). IsReplaced (directory_address_at_path (entries_by_directory_in_thread (thread_at w (p ∷ []))) (root_directory_address_of_pairs (thread_at w (p ∷ [])))) from (rename.path ++ n ∷ []) rename.to) tb.stands.named
           (replaced_by t.disk (thread_at w (p ∷ [])) rename.path rename.at (place_at w l) g rename.to from accepted leads entry_there rename.branch empty
           (ap (λ (n : Name). path_without_prefix from (rename.path ++ n ∷ [])) tb.stands.named ∙ rename.not_beneath)));
       every = λ Q h. all_at_firsts Q (directories_in_thread t.pairs) (directories_in_thread m.pairs) (last_firsts t true old_pair goes new_pair changes wo q0 lo s ro w p l (Some g) v r from to name first_step is.mid x m e) h;
       address = rename.alike;
       alone = rename.alone;
       empty = rename.empty;
-      used = used_same m.map (used_blocks m.disk m.pairs ++ files_of t.disk (g ∷ [])) (used_blocks m.disk m.pairs)
-          (λ b. let a = count_append b (used_blocks m.disk m.pairs) (files_of t.disk (g ∷ [])) in let c = no_list b in omega arith) (last_used t true old_pair goes new_pair changes wo q0 lo s ro w p l (Some g) v r from to name first_step is.mid x m e);
+      used = used_same m.map (used_blocks m.disk m.pairs ++ file_blocks_of_slots t.disk (g ∷ [])) (used_blocks m.disk m.pairs)
+          (λ b. let a = count_append b (used_blocks m.disk m.pairs) (file_blocks_of_slots t.disk (g ∷ [])) in let c = no_list b in omega arith) (last_used t true old_pair goes new_pair changes wo q0 lo s ro w p l (Some g) v r from to name first_step is.mid x m e);
       size = last_size t true old_pair goes new_pair changes wo q0 lo s ro w p l (Some g) v r from to name first_step is.mid x m e;
       flying = last_flying t true old_pair goes new_pair changes wo q0 lo s ro w p l (Some g) v r from to name first_step is.mid x m e;
       root = last_root t true old_pair goes new_pair changes wo q0 lo s ro w p l (Some g) v r from to name first_step is.mid x m e;
@@ -279,7 +279,7 @@ module _ (t : Kept) (old_pair old_id first new_pair new_id : ℕ) (name : Name) 
 
     -- ---- where the slots stand
 
-    module _ (new : Kept) (d : IsNextPairDropped m (n - 1) zero_gstate new) where
+    module _ (new : KeptThread) (d : IsNextPairDropped m (n - 1) zero_gstate new) where
       abbrev a : Arranged t.disk wo q0 w p x.q x.more
       a = arr t true old_pair goes new_pair changes wo q0 lo s ro w p l (Some g) v r from to name first_step is.mid x
 
@@ -313,7 +313,7 @@ module _ (t : Kept) (old_pair old_id first new_pair new_id : ℕ) (name : Name) 
       joined false = joined_stays a.front (Gains p (l ++ v ∷ r) x.q x.more ∷ Stays a.mid ∷ Keeps q0 (lo ++ ro) left.os ∷ Stays a.back ∷ [])
           ∙ ap (λ z. a.front ++ ((x.q ∷ x.more) ++ z)) (joined_stays a.mid (Keeps q0 (lo ++ ro) left.os ∷ Stays a.back ∷ []) ∙ ap (λ z. a.mid ++ (left.os ++ z)) last_piece)
 
-      o_fits : FitsPairOnDisk t.disk (pair_with_slots (lo ++ ro) q0)
+      o_fits : IsContentFittingPairOnDisk t.disk (pair_with_slots (lo ++ ro) q0)
       o_fits = fits_fewer t.disk q0 lo ro s can.stands.stands.held (fits_there t can.ready can.first old_pair q0 can.stands.rest can.stands.place)
 
       filled : l ++ v ∷ r ≢ []
@@ -329,7 +329,7 @@ module _ (t : Kept) (old_pair old_id first new_pair new_id : ℕ) (name : Name) 
       two_chain = ap pair_count_before_root (sym a.old_is) ∙ site_is.chain
 
       two_is : dirs_at w (p ∷ []) ≡ two a.b a.front (q0 ∷ []) a.mid (p ∷ []) a.back
-      two_is = sym (pairs_behind w.chain (dirs_at w (p ∷ [])) site_is.chain) ∙ ap pairs_of_all_directories a.old_is ∙ pairs_behind w.chain (two a.b a.front (q0 ∷ []) a.mid (p ∷ []) a.back) two_chain
+      two_is = sym (pairs_behind w.chain (dirs_at w (p ∷ [])) site_is.chain) ∙ ap pairs_from_root_directory_on a.old_is ∙ pairs_behind w.chain (two a.b a.front (q0 ∷ []) a.mid (p ∷ []) a.back) two_chain
 
       abbrev ahead : List Pair
       ahead = front.front ++ front.before ∷ []
@@ -368,18 +368,18 @@ module _ (t : Kept) (old_pair old_id first new_pair new_id : ℕ) (name : Name) 
       distinct_now : IsDistinct nat_eq (blocks_of_pairs (ahead_now ++ o ∷ behind_now))
       distinct_now = subst (λ z. IsDistinct nat_eq (blocks_of_pairs z)) (there_now ∙ regrouped (o ∷ behind_now)) moved.follows.accepted.thread.distinct
 
-      alike_before : AreAlike ((w.chain ++ cut.left) ++ o ∷ cut.right) (ahead_now ++ o ∷ behind_now)
-      alike_before = subst (λ z. AreAlike z (ahead_now ++ o ∷ behind_now))
+      alike_before : ArePairsWithSameAddressesAndSlots ((w.chain ++ cut.left) ++ o ∷ cut.right) (ahead_now ++ o ∷ behind_now)
+      alike_before = subst (λ z. ArePairsWithSameAddressesAndSlots z (ahead_now ++ o ∷ behind_now))
           (ap (λ z. w.chain ++ z) (sym (a.cut left.os) ∙ sym (joined a.b) ∙ cut.were) ∙ sym (append_assoc w.chain cut.left (o ∷ cut.right)))
-          (subst (AreAlike (w.chain ++ (a.pre ++ (left.os ++ a.post)))) (there_now ∙ regrouped (o ∷ behind_now)) left.alike)
+          (subst (ArePairsWithSameAddressesAndSlots (w.chain ++ (a.pre ++ (left.os ++ a.post)))) (there_now ∙ regrouped (o ∷ behind_now)) left.alike)
 
-      alike_after : AreAlike (w.chain ++ joined_parts (parts_of (map segment_of cut.all))) new.pairs
+      alike_after : ArePairsWithSameAddressesAndSlots (w.chain ++ joined_parts (parts_of (map segment_of cut.all))) new.pairs
       unfolding replacing_across
-      alike_after = subst (λ z. AreAlike z new.pairs) (append_assoc w.chain cut.left cut.right ∙ ap (λ z. w.chain ++ z) (sym cut.are))
+      alike_after = subst (λ z. ArePairsWithSameAddressesAndSlots z new.pairs) (append_assoc w.chain cut.left cut.right ∙ ap (λ z. w.chain ++ z) (sym cut.are))
           (alike_then ((w.chain ++ cut.left) ++ cut.right) (ahead_now ++ behind_now) new.pairs
           (alike_without t.disk rename.to o rename.alike rename.alone (w.chain ++ cut.left) cut.right ahead_now behind_now alike_before
           (avoids_front ahead_now o behind_now rename.to distinct_now rename.alike) (avoids_behind ahead_now o behind_now rename.to distinct_now rename.alike))
-          (subst (λ z. AreAlike z new.pairs) (regrouped behind_now) (alike_end t m from to rename.to o n replacing_across new d)))
+          (subst (λ z. ArePairsWithSameAddressesAndSlots z new.pairs) (regrouped behind_now) (alike_end t m from to rename.to o n replacing_across new d)))
 
       -- ---- the operation
 
@@ -389,27 +389,27 @@ module _ (t : Kept) (old_pair old_id first new_pair new_id : ℕ) (name : Name) 
       were : t.pairs ≡ ps
       were = there ∙ a.old_is
 
-      unreached : NoneGoes (λ z. IsDirectoryReached ps z → ⊥) None (two a.b a.front (q0 ∷ []) a.mid (p ∷ []) a.back)
-      unreached = subst (NoneGoes (λ z. IsDirectoryReached ps z → ⊥) None) (pairs_behind w.chain (two a.b a.front (q0 ∷ []) a.mid (p ∷ []) a.back) two_chain)
-          (none_where (λ z. IsDirectoryReached ps z → ⊥) (gstate_of ps) None (pairs_of_all_directories ps) (λ z f. absurd (cc))
-          (subst (Each (λ (z : ThreadDirectory). (IsDirectoryReached ps z.at → ⊥) → ⊥)) (sym (rest_all (directories_in_thread ps)))
-          (each_weaker (λ (z : ThreadDirectory). IsDirectoryReached ps z.at) (λ (z : ThreadDirectory). (IsDirectoryReached ps z.at → ⊥) → ⊥) (λ z h n. n h) (directories_in_thread ps)
-          (recursion_from_All (λ (z : ThreadDirectory). IsDirectoryReached ps z.at) (directories_in_thread ps) (recovered_from t.disk ps (subst (IsAcceptedImage t.disk) were can.ready.accepted) (ap gstate_of (sym were) ∙ can.ready.settled)).reached))))
+      unreached : NoneGoes (λ z. IsDirectoryAddressReachedBySomePath ps z → ⊥) None (two a.b a.front (q0 ∷ []) a.mid (p ∷ []) a.back)
+      unreached = subst (NoneGoes (λ z. IsDirectoryAddressReachedBySomePath ps z → ⊥) None) (pairs_behind w.chain (two a.b a.front (q0 ∷ []) a.mid (p ∷ []) a.back) two_chain)
+          (none_where (λ z. IsDirectoryAddressReachedBySomePath ps z → ⊥) (gstate_of_pairs ps) None (pairs_from_root_directory_on ps) (λ z f. absurd (cc))
+          (subst (Each (λ (z : ThreadDirectory). (IsDirectoryAddressReachedBySomePath ps z.at → ⊥) → ⊥)) (sym (rest_all (directories_in_thread ps)))
+          (each_weaker (λ (z : ThreadDirectory). IsDirectoryAddressReachedBySomePath ps z.at) (λ (z : ThreadDirectory). (IsDirectoryAddressReachedBySomePath ps z.at → ⊥) → ⊥) (λ z h n. n h) (directories_in_thread ps)
+          (recursion_from_All (λ (z : ThreadDirectory). IsDirectoryAddressReachedBySomePath ps z.at) (directories_in_thread ps) (recovered_from t.disk ps (subst (IsAcceptedImage t.disk) were can.ready.accepted) (ap gstate_of_pairs (sym were) ∙ can.ready.settled)).reached))))
 
-      writable : IsWritable t.disk ps
-      writable = subst (IsWritable t.disk) were can.ready.writable
+      writable : IsWritableImage t.disk ps
+      writable = subst (IsWritableImage t.disk) were can.ready.writable
 
-      stood : Stood t.disk (GoesAt (λ z. IsDirectoryReached ps z → ⊥) rename.to) (length w.chain) None (w.chain ++ drafts_of (map segment_of cut.all)) new.pairs
-      stood = pieces_stood t.disk (λ z. IsDirectoryReached ps z → ⊥) rename.to w.chain cut.all new.pairs
-          (subst (λ z. Each (FitsPairOnDisk t.disk) (w.chain ++ z)) (sym all_olds) (recursion_from_All (FitsPairOnDisk t.disk) ps writable.pairs))
-          (subst (HaveSlotsAfterHardTail false) (pairs_behind w.chain (two a.b a.front (q0 ∷ []) a.mid (p ∷ []) a.back) two_chain ∙ sym all_olds) writable.no_empty_pair)
-          (subst (NoneGoes (λ z. IsDirectoryReached ps z → ⊥) None) (sym all_olds) unreached) cut.there alike_after
+      stood : Stood t.disk (GoesAt (λ z. IsDirectoryAddressReachedBySomePath ps z → ⊥) rename.to) (length w.chain) None (w.chain ++ drafts_of (map segment_of cut.all)) new.pairs
+      stood = pieces_stood t.disk (λ z. IsDirectoryAddressReachedBySomePath ps z → ⊥) rename.to w.chain cut.all new.pairs
+          (subst (λ z. Each (IsContentFittingPairOnDisk t.disk) (w.chain ++ z)) (sym all_olds) (recursion_from_All (IsContentFittingPairOnDisk t.disk) ps writable.pairs))
+          (subst (AreNoEmptyPairsAfterHardTails false) (pairs_behind w.chain (two a.b a.front (q0 ∷ []) a.mid (p ∷ []) a.back) two_chain ∙ sym all_olds) writable.no_empty_pair)
+          (subst (NoneGoes (λ z. IsDirectoryAddressReachedBySomePath ps z → ⊥) None) (sym all_olds) unreached) cut.there alike_after
 
       to_slot : slot_of_path ps to ≡ Some g
       to_slot = subst (λ z. slot_of_path z to ≡ Some g) were (slot_of_stands t.disk t.pairs rename.path rename.at can.ready.accepted rename.leads rename.to_first new_pair new_id name (no_move_from t.pairs can.ready.settled) tb rename.begins)
 
-      removes : (given to_given : List ℕ) → path_or_root given ≡ from → path_or_root to_given ≡ to → addresses_of_removed_directories ps (ops.Rename given to_given) ≡ rename.to ∷ []
-      removes given to_given given_is to_is = ap (λ z. cond z [] (directory_addresses_of_slot (slot_of_path ps (path_or_root to_given)))) (ap₂ same_path given_is to_is ∙ not_before from to rename.not_beneath)
+      removes : (given to_given : List ℕ) → path_of_bytes_or_root given ≡ from → path_of_bytes_or_root to_given ≡ to → addresses_of_removed_directories ps (ops.Rename given to_given) ≡ rename.to ∷ []
+      removes given to_given given_is to_is = ap (λ z. cond z [] (directory_addresses_of_slot (slot_of_path ps (path_of_bytes_or_root to_given)))) (ap₂ same_path given_is to_is ∙ not_before from to rename.not_beneath)
           ∙ ap directory_addresses_of_slot (ap (slot_of_path ps) to_is ∙ to_slot) ∙ go g.struct rename.branch
         where
           go : (z : Struct) → z ≡ Branch rename.to → directory_addresses_of_slot (Some (record g { struct = z })) ≡ rename.to ∷ []
@@ -417,14 +417,14 @@ module _ (t : Kept) (old_pair old_id first new_pair new_id : ℕ) (name : Name) 
           go (Inline bytes) k = absurd (cc)
           go (Ctz head size) k = absurd (cc)
 
-      laid : (given to_given : List ℕ) → path_or_root given ≡ from → path_or_root to_given ≡ to → IsRenameOnto t.disk new.disk new.pairs a.b w.chain a.front a.mid a.back q0 p lo s ro l g r given to_given name
+      laid : (given to_given : List ℕ) → path_of_bytes_or_root given ≡ from → path_of_bytes_or_root to_given ≡ to → IsRenameOnto t.disk new.disk new.pairs a.b w.chain a.front a.mid a.back q0 p lo s ro l g r given to_given name
       laid given to_given given_is to_is = record {
-        settled = ap gstate_of (sym were) ∙ can.ready.settled;
+        settled = ap gstate_of_pairs (sym were) ∙ can.ready.settled;
         still = d.gstate;
-        walk = rename_walk from to;
-        follows = subst (λ y. Follows t.disk ps new.disk new.pairs (renamed y (path_or_root to_given)) (rename_walk from to)) (sym given_is)
-            (subst (λ y. Follows t.disk ps new.disk new.pairs (renamed from y) (rename_walk from to)) (sym to_is)
-            (subst (λ z. Follows t.disk z new.disk new.pairs (renamed from to) (rename_walk from to)) were (taken_end t m from to rename.to o n replacing_across new d).follows));
+        walk = directory_addresses_after_rename from to;
+        follows = subst (λ y. IsImageAfterTreeChange t.disk ps new.disk new.pairs (tree_after_rename y (path_of_bytes_or_root to_given)) (directory_addresses_after_rename from to)) (sym given_is)
+            (subst (λ y. IsImageAfterTreeChange t.disk ps new.disk new.pairs (tree_after_rename from y) (directory_addresses_after_rename from to)) (sym to_is)
+            (subst (λ z. IsImageAfterTreeChange t.disk z new.disk new.pairs (tree_after_rename from to) (directory_addresses_after_rename from to)) were (taken_end t m from to rename.to o n replacing_across new d).follows));
         still_writable = (taken_end t m from to rename.to o n replacing_across new d).writable;
         held = can.stands.stands.held;
         was = tb.stands.held;
@@ -434,32 +434,32 @@ module _ (t : Kept) (old_pair old_id first new_pair new_id : ℕ) (name : Name) 
         to_name = ap last_name_of_path to_is ∙ last_is rename.path name;
         stood = subst (λ k. Stood t.disk (IsDirectoryUnreachedOrRemoved ps (ops.Rename given to_given)) k None (w.chain ++ two a.b a.front (pair_with_slots (lo ++ ro) q0 ∷ []) a.mid (pair_with_slots (l ++ v ∷ r) p ∷ []) a.back) new.pairs) (sym two_chain)
             (subst (λ z. Stood t.disk (IsDirectoryUnreachedOrRemoved ps (ops.Rename given to_given)) (length w.chain) None (w.chain ++ z) new.pairs) (cut.drafts ∙ drafts a.b)
-            (subst (λ ds. Stood t.disk (λ y. (IsDirectoryReached ps y → ⊥) ⊎ Any (λ at. same_pair y at ≡ true) ds) (length w.chain) None (w.chain ++ drafts_of (map segment_of cut.all)) new.pairs) (sym (removes given to_given given_is to_is)) stood));
+            (subst (λ ds. Stood t.disk (λ y. (IsDirectoryAddressReachedBySomePath ps y → ⊥) ⊎ Any (λ at. same_pair y at ≡ true) ds) (length w.chain) None (w.chain ++ drafts_of (map segment_of cut.all)) new.pairs) (sym (removes given to_given given_is to_is)) stood));
       }
 
       pub renamed_onto : IsEntryRenamedAcrossPairs t new can.path can.name rename.path name
       renamed_onto = record {
         now = replaced_shrunk t m from to rename.to o n replacing_across new d;
-        completed = λ z given to_given tree given_is to_is. subst (λ y. IsCompleted t.disk y z (ops.Rename given to_given) new.disk new.pairs) (sym were)
+        completed = λ z given to_given tree given_is to_is. subst (λ y. IsImageAfterCompletedOperation t.disk y z (ops.Rename given to_given) new.disk new.pairs) (sym were)
             (onto_completed t.disk new.disk new.pairs a.b w.chain a.front a.mid a.back q0 p lo s ro l g r given to_given name (laid given to_given given_is to_is) z (tree ∙ ap (tree_on_disk t.disk) were));
       }
 
-    pub left_across : (left : Blocks) → IsLeftByStoppedDrop m (n - 1) zero_gstate left → IsLeftOf (with_blocks left t.disk) (tree_on_disk t.disk t.pairs) (tree_with_moved_entry t can.path can.name rename.path name)
+    pub left_across : (left : Blocks) → IsLeftByStoppedPairDrop m (n - 1) zero_gstate left → IsLeftOf (disk_with_blocks left t.disk) (tree_on_disk t.disk t.pairs) (tree_with_moved_entry t can.path can.name rename.path name)
     left_across left h = left_last t m from to rename.to o n replacing_across left h
 
   pub not_nowhere : AllByRecursion (λ z. same_pair z.at o.at ≡ false) m.pairs → ⊥
   not_nowhere none = go m.pairs none (last_kept t true old_pair goes new_pair changes wo q0 lo s ro w p l (Some g) v r from to name first_step is.mid x m e o not_new rename.empty rename.alone (among_there t.pairs gone o o_there))
     where
-      go : (xs : List Pair) → AllByRecursion (λ z. same_pair z.at o.at ≡ false) xs → SomeIn (λ y. y ≡ o) xs → ⊥
+      go : (xs : List Pair) → AllByRecursion (λ z. same_pair z.at o.at ≡ false) xs → IsTrueOfSomeElement (λ y. y ≡ o) xs → ⊥
       go [] h k = k
       go (y ∷ ys) h (inl k) = absurd (let z = sym h.0 ∙ ap (λ (z : Pair). same_pair z.at o.at) k ∙ pair_itself o.at in cc)
       go (y ∷ ys) h (inr k) = go ys h.1 k
 
 -- ---- after the slot was read
 
-module _ (t : Kept) (old_pair old_id first new_pair new_id : ℕ) (name : Name) (gone : ℕ) (rename : CanReplaceDirectoryAcrossPairs t old_pair old_id first new_pair new_id name gone)
-    (m : Kept) (h : IsEntryReplacedAcrossPairs t true old_pair old_id first new_pair new_id name m) where
-  abbrev later : Kept
+module _ (t : KeptThread) (old_pair old_id first new_pair new_id : ℕ) (name : Name) (gone : ℕ) (rename : CanReplaceDirectoryAcrossPairs t old_pair old_id first new_pair new_id name gone)
+    (m : KeptThread) (h : IsEntryReplacedAcrossPairs t true old_pair old_id first new_pair new_id name m) where
+  abbrev later : KeptThread
   later = with_history t h.from.history
 
   abbrev there_later : CanReplaceDirectoryAcrossPairs later old_pair old_id first new_pair new_id name gone
@@ -487,28 +487,28 @@ module _ (t : Kept) (old_pair old_id first new_pair new_id : ℕ) (name : Name) 
   done_later : IsSlotPutAndMoveEnded later old_pair old_id (is_pair_dropped_with_slot t old_pair first) new_pair (replace_entry_across_pairs_changes true later old_pair old_id new_pair new_id name) m
   done_later = subst (λ k. IsSlotPutAndMoveEnded k old_pair old_id (is_pair_dropped_with_slot t old_pair first) new_pair (replace_entry_across_pairs_changes true k old_pair old_id new_pair new_id name) m) (read_is t h.from h.only) h.done
 
-  address_later : Are32BitPairAddresses (kept_pair_at_index later old_pair).at
-  address_later = subst (λ k. Are32BitPairAddresses (kept_pair_at_index k old_pair).at) (read_is t h.from h.only) h.address
+  address_later : Are32BitPairAddresses (thread_pair_at_index later old_pair).at
+  address_later = subst (λ k. Are32BitPairAddresses (thread_pair_at_index k old_pair).at) (read_is t h.from h.only) h.address
 
   pub gone_above_later : 0 < gone
   gone_above_later = gone_above later old_pair old_id first new_pair new_id name gone there_later address_later m done_later
 
-  pub not_nowhere_later : AllByRecursion (λ z. same_pair z.at (kept_pair_at_index t gone).at ≡ false) m.pairs → ⊥
+  pub not_nowhere_later : AllByRecursion (λ z. same_pair z.at (thread_pair_at_index t gone).at ≡ false) m.pairs → ⊥
   not_nowhere_later = not_nowhere later old_pair old_id first new_pair new_id name gone there_later address_later m done_later
 
-  module _ (n : ℕ) (at : IsPairAtAddress m.pairs (kept_pair_at_index t gone).at n) where
-    pub replacing_later : IsReplacing (with_history t h.from.history) m (rename.old.path ++ rename.old.name ∷ []) (rename.path ++ name ∷ []) rename.to (kept_pair_at_index t gone) n
+  module _ (n : ℕ) (at : IsPairAtAddress m.pairs (thread_pair_at_index t gone).at n) where
+    pub replacing_later : IsReplacing (with_history t h.from.history) m (rename.old.path ++ rename.old.name ∷ []) (rename.path ++ name ∷ []) rename.to (thread_pair_at_index t gone) n
     replacing_later = replacing_across later old_pair old_id first new_pair new_id name gone there_later address_later m done_later n at
 
     pub can_drop_later : CanDropPairAt m n zero_gstate
-    can_drop_later = can_drop_replaced later m (rename.old.path ++ rename.old.name ∷ []) (rename.path ++ name ∷ []) rename.to (kept_pair_at_index t gone) n
+    can_drop_later = can_drop_replaced later m (rename.old.path ++ rename.old.name ∷ []) (rename.path ++ name ∷ []) rename.to (thread_pair_at_index t gone) n
         replacing_later
 
-    pub renamed_directory : (new : Kept) → IsNextPairDropped m (n - 1) zero_gstate new → IsEntryRenamedAcrossPairs t new rename.old.path rename.old.name rename.path name
+    pub renamed_directory : (new : KeptThread) → IsNextPairDropped m (n - 1) zero_gstate new → IsEntryRenamedAcrossPairs t new rename.old.path rename.old.name rename.path name
     renamed_directory new d = go (renamed_onto later old_pair old_id first new_pair new_id name gone there_later address_later m done_later n at new d)
       where
         go : IsEntryRenamedAcrossPairs later new rename.old.path rename.old.name rename.path name → IsEntryRenamedAcrossPairs t new rename.old.path rename.old.name rename.path name
         go k = record { now = record { ready = k.now.ready; shows = k.now.shows; flying = k.now.flying; root = k.now.root }; completed = k.completed }
 
-    pub left_directory : (left : Blocks) → IsLeftByStoppedDrop m (n - 1) zero_gstate left → IsLeftOf (with_blocks left t.disk) (tree_on_disk t.disk t.pairs) (tree_with_moved_entry t rename.old.path rename.old.name rename.path name)
+    pub left_directory : (left : Blocks) → IsLeftByStoppedPairDrop m (n - 1) zero_gstate left → IsLeftOf (disk_with_blocks left t.disk) (tree_on_disk t.disk t.pairs) (tree_with_moved_entry t rename.old.path rename.old.name rename.path name)
     left_directory left d = left_across later old_pair old_id first new_pair new_id name gone there_later address_later m done_later n at left d

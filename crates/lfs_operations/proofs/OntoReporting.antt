@@ -2,68 +2,68 @@
 use Rattle.std.proofs.Common.{ℕ, ◌≡◌, ◌-◌, ◌<◌, ◌⊎◌, inl, inr, Bool, true, false, List, length, arith, Result, Ok, sym, ap, subst, ◌∙◌, get_or}
 use Rattle.lfs_device.specs.declared.error.Error.{Error}
 use Rattle.lfs_model.specs.Blocks.{Blocks}
-use Rattle.lfs_model.specs.History.{faults}
-use Rattle.lfs_model.specs.PowerLoss.{ShowsTreeBeforeOrAfter as IsLeftOf, SurvivesStopsSince, with_blocks}
+use Rattle.lfs_model.specs.History.{fault_count_of_history}
+use Rattle.lfs_model.specs.PowerLoss.{HasTreeBeforeOrAfterOperation as IsLeftOf, SurvivesPowerLossInCallsSince, disk_with_blocks}
 use Rattle.lfs_model.specs.Slots.{zero_gstate}
 use Rattle.lfs_model.specs.Thread.{Pair}
 use Rattle.lfs_model.specs.Tree.{Tree}
 use Rattle.lfs_model.proofs.AfterStops.{survives_then}
-use Rattle.lfs_model.proofs.Histories.{IsTrueAfterEachStopSince-weaker}
-use Rattle.lfs_model.specs.Changes.{ContentChange}
-use Rattle.lfs_thread.specs.Device.{StopsAfterCleanErasesLeave, blocks_of_two_addresses, blocks_of_address}
-use Rattle.lfs_thread.specs.Kept.{Kept, ThreadView}
-use Rattle.lfs_thread.specs.Steps.{IsPairChanged, IsThreadOnlyRead, ThreadChangesOnlyTheseBlocks, no_pair, kept_pair_at_index}
-use Rattle.lfs_operations.specs.Dropping.{IsLeftByStoppedDrop}
-use Rattle.lfs_operations.specs.Changing.{has_failed}
+use Rattle.lfs_model.proofs.Histories.{IsTrueAfterAnyPowerLossSince-weaker}
+use Rattle.lfs_model.specs.Changes.{PairContentChange}
+use Rattle.lfs_thread.specs.Device.{PowerLossLeavesSuchBlocksAfterCleanErases, blocks_of_two_pair_addresses, blocks_of_pair_address}
+use Rattle.lfs_thread.specs.Kept.{KeptThread, ThreadView}
+use Rattle.lfs_thread.specs.Steps.{IsPairChanged, IsThreadOnlyRead, ThreadChangesOnlyTheseBlocks, empty_pair_at_anchor, thread_pair_at_index}
+use Rattle.lfs_operations.specs.Dropping.{IsLeftByStoppedPairDrop}
+use Rattle.lfs_operations.specs.Changing.{has_thread_failed_after_result}
 use Rattle.lfs_operations.specs.MoveEnds.{pair_written_at_move_end}
-use Rattle.lfs_operations.specs.MovingSteps.{ReportsCommitsTakingBlocks, WritesTwoPairsAndTwoFreeBlocks, pair_written_by_second_move_commit}
-use Rattle.lfs_operations.specs.Removing.{ReportsCommitTakingNoBlock, is_pair_dropped_with_slot}
-use Rattle.lfs_operations.specs.RenamingOver.{ReportsSlotReadThenCommit, ReportsSlotReadThenCommits}
+use Rattle.lfs_operations.specs.MovingSteps.{ReportsErrorsOfCommitsTakingBlocks, WritesTwoPairsAndTwoFreeBlocks, pair_written_by_second_move_commit}
+use Rattle.lfs_operations.specs.Removing.{ReportsErrorsOfCommitTakingNoBlock, is_pair_dropped_with_slot}
+use Rattle.lfs_operations.specs.RenamingOver.{ReportsErrorsOfReadThenCommit, ReportsErrorsOfReadThenCommits}
 use Rattle.lfs_operations.proofs.UnlinkedSteps.{at_kept, writes_both}
 
-pub over_from : {X : Type 0} (old new : ThreadView) (result : Result X Error) → ReportsSlotReadThenCommit old new result → ReportsSlotReadThenCommits old new result
+pub over_from : {X : Type 0} (old new : ThreadView) (result : Result X Error) → ReportsErrorsOfReadThenCommit old new result → ReportsErrorsOfReadThenCommits old new result
 over_from old new result h = record { failed = h.failed; errors = h.reported.errors; fault = h.reported.fault; no_fault = h.reported.no_fault }
 
-pub over_then : {X Y : Type 0} (old mid new : ThreadView) (a : X) (first : Result X Error) (second : Result Y Error) → first ≡ Ok a → ReportsSlotReadThenCommit old mid first → ReportsCommitTakingNoBlock mid new second → ReportsSlotReadThenCommits old new second
+pub over_then : {X Y : Type 0} (old mid new : ThreadView) (a : X) (first : Result X Error) (second : Result Y Error) → first ≡ Ok a → ReportsErrorsOfReadThenCommit old mid first → ReportsErrorsOfCommitTakingNoBlock mid new second → ReportsErrorsOfReadThenCommits old new second
 over_then old mid new a first second ok one two =
-    let same : faults mid.kept.history ≡ faults old.kept.history = one.reported.no_fault (λ io. absurd (let z = sym ok ∙ io in cc)) in
+    let same : fault_count_of_history mid.kept.history ≡ fault_count_of_history old.kept.history = one.reported.no_fault (λ io. absurd (let z = sym ok ∙ io in cc)) in
     record {
       failed = inl two.failed;
       errors = two.reported.errors;
-      fault = λ io. subst (λ n. n < faults new.kept.history) same (two.reported.fault io);
+      fault = λ io. subst (λ n. n < fault_count_of_history new.kept.history) same (two.reported.fault io);
       no_fault = λ other. two.reported.no_fault other ∙ same;
     }
 
-pub writes_over : (t m new : Kept) (index gone : ℕ) (changes : List ContentChange) → IsPairChanged t index changes m → ThreadChangesOnlyTheseBlocks (blocks_of_address (kept_pair_at_index t index).at) t m → ThreadChangesOnlyTheseBlocks (blocks_of_address (kept_pair_at_index m (gone - 1)).at) m new
-    → ThreadChangesOnlyTheseBlocks (blocks_of_two_addresses (kept_pair_at_index t index).at (kept_pair_at_index t (gone - 1)).at) t new
+pub writes_over : (t m new : KeptThread) (index gone : ℕ) (changes : List PairContentChange) → IsPairChanged t index changes m → ThreadChangesOnlyTheseBlocks (blocks_of_pair_address (thread_pair_at_index t index).at) t m → ThreadChangesOnlyTheseBlocks (blocks_of_pair_address (thread_pair_at_index m (gone - 1)).at) m new
+    → ThreadChangesOnlyTheseBlocks (blocks_of_two_pair_addresses (thread_pair_at_index t index).at (thread_pair_at_index t (gone - 1)).at) t new
 writes_over t m new index gone changes is one two =
-    let at : (kept_pair_at_index m (gone - 1)).at ≡ (kept_pair_at_index t (gone - 1)).at = ap (λ (z : List Pair). (get_or z (gone - 1) no_pair).at) is.pairs ∙ at_kept t.pairs index (gone - 1) is.content no_pair in
-    writes_both (kept_pair_at_index t index).at (kept_pair_at_index t (gone - 1)).at one (subst (λ a. ThreadChangesOnlyTheseBlocks (blocks_of_address a) m new) at two)
+    let at : (thread_pair_at_index m (gone - 1)).at ≡ (thread_pair_at_index t (gone - 1)).at = ap (λ (z : List Pair). (get_or z (gone - 1) empty_pair_at_anchor).at) is.pairs ∙ at_kept t.pairs index (gone - 1) is.content empty_pair_at_anchor in
+    writes_both (thread_pair_at_index t index).at (thread_pair_at_index t (gone - 1)).at one (subst (λ a. ThreadChangesOnlyTheseBlocks (blocks_of_pair_address a) m new) at two)
 
-pub last_survives : (t m new : Kept) (gone : ℕ) (bs cs : List ℕ) (before after : Tree) → ThreadChangesOnlyTheseBlocks bs t m → ThreadChangesOnlyTheseBlocks cs m new → SurvivesStopsSince t.disk t.history m.history before after
-    → ((left : Blocks) → IsLeftByStoppedDrop m (gone - 1) zero_gstate left → IsLeftOf (with_blocks left t.disk) before after) → StopsAfterCleanErasesLeave m.history new.history (IsLeftByStoppedDrop m (gone - 1) zero_gstate)
-    → SurvivesStopsSince t.disk t.history new.history before after
+pub last_survives : (t m new : KeptThread) (gone : ℕ) (bs cs : List ℕ) (before after : Tree) → ThreadChangesOnlyTheseBlocks bs t m → ThreadChangesOnlyTheseBlocks cs m new → SurvivesPowerLossInCallsSince t.disk t.history m.history before after
+    → ((left : Blocks) → IsLeftByStoppedPairDrop m (gone - 1) zero_gstate left → IsLeftOf (disk_with_blocks left t.disk) before after) → PowerLossLeavesSuchBlocksAfterCleanErases m.history new.history (IsLeftByStoppedPairDrop m (gone - 1) zero_gstate)
+    → SurvivesPowerLossInCallsSince t.disk t.history new.history before after
 last_survives t m new gone bs cs before after one two first left stops =
-    survives_then t.disk t.history m.history new.history before after one.at_worst two.at_worst first (λ clean. IsTrueAfterEachStopSince-weaker left (stops clean))
+    survives_then t.disk t.history m.history new.history before after one.at_worst two.at_worst first (λ clean. IsTrueAfterAnyPowerLossSince-weaker left (stops clean))
 
 -- ---- across pairs
 
-pub works_after : {X : Type 0} (old new : ThreadView) (index : ℕ) (changes : List ContentChange) (r : Result X Error) (x : X) → ReportsCommitsTakingBlocks old new index changes r → r ≡ Ok x → new.failed ≡ false
+pub works_after : {X : Type 0} (old new : ThreadView) (index : ℕ) (changes : List PairContentChange) (r : Result X Error) (x : X) → ReportsErrorsOfCommitsTakingBlocks old new index changes r → r ≡ Ok x → new.failed ≡ false
 works_after old new index changes r x h is = go h.failed
   where
-    go : (new.failed ≡ has_failed r) ⊎ ((new.failed ≡ false) × IsThreadOnlyRead old.kept new.kept) → new.failed ≡ false
-    go (inl e) = e ∙ ap has_failed is
+    go : (new.failed ≡ has_thread_failed_after_result r) ⊎ ((new.failed ≡ false) × IsThreadOnlyRead old.kept new.kept) → new.failed ≡ false
+    go (inl e) = e ∙ ap has_thread_failed_after_result is
     go (inr e) = e.0
 
-pub left_below : (t : Kept) (pair first : ℕ) → pair < length t.pairs → pair_written_by_second_move_commit t pair first < length t.pairs
+pub left_below : (t : KeptThread) (pair first : ℕ) → pair < length t.pairs → pair_written_by_second_move_commit t pair first < length t.pairs
 left_below t pair first l = go (is_pair_dropped_with_slot t pair first)
   where
     go : (b : Bool) → pair_written_at_move_end pair b < length t.pairs
     go true = omega arith
     go false = l
 
-pub across_survives : (t m new : Kept) (one other n : ℕ) (before after : Tree) → WritesTwoPairsAndTwoFreeBlocks t one other m → ThreadChangesOnlyTheseBlocks (blocks_of_address (kept_pair_at_index m (n - 1)).at) m new → SurvivesStopsSince t.disk t.history m.history before after
-    → ((left : Blocks) → IsLeftByStoppedDrop m (n - 1) zero_gstate left → IsLeftOf (with_blocks left t.disk) before after) → StopsAfterCleanErasesLeave m.history new.history (IsLeftByStoppedDrop m (n - 1) zero_gstate)
-    → SurvivesStopsSince t.disk t.history new.history before after
+pub across_survives : (t m new : KeptThread) (one other n : ℕ) (before after : Tree) → WritesTwoPairsAndTwoFreeBlocks t one other m → ThreadChangesOnlyTheseBlocks (blocks_of_pair_address (thread_pair_at_index m (n - 1)).at) m new → SurvivesPowerLossInCallsSince t.disk t.history m.history before after
+    → ((left : Blocks) → IsLeftByStoppedPairDrop m (n - 1) zero_gstate left → IsLeftOf (disk_with_blocks left t.disk) before after) → PowerLossLeavesSuchBlocksAfterCleanErases m.history new.history (IsLeftByStoppedPairDrop m (n - 1) zero_gstate)
+    → SurvivesPowerLossInCallsSince t.disk t.history new.history before after
 across_survives t m new one other n before after w two first left stops =
-    survives_then t.disk t.history m.history new.history before after w.writes.at_worst two.at_worst first (λ clean. IsTrueAfterEachStopSince-weaker left (stops clean))
+    survives_then t.disk t.history m.history new.history before after w.writes.at_worst two.at_worst first (λ clean. IsTrueAfterAnyPowerLossSince-weaker left (stops clean))

@@ -3,44 +3,44 @@ use Rattle.std.proofs.Common.{ℕ, ◌≡◌, ◌+◌, ◌-◌, Bool, true, fals
 use Rattle.std.specs.List.{IsDistinct}
 use Rattle.std.specs.Prelude.{All}
 use Rattle.std.proofs.lemmas.List.Elements.{recursion_from_All}
-use Rattle.lfs_model.specs.TreeEdits.{renamed, path_without_prefix}
+use Rattle.lfs_model.specs.TreeEdits.{tree_after_rename, path_without_prefix}
 use Rattle.lfs_model.specs.BlockSets.{AreExactlyTheUsedBlocks}
 use Rattle.lfs_model.specs.Blocks.{Blocks}
 use Rattle.lfs_model.specs.Names.{Name}
 use Rattle.lfs_model.specs.Operations as ops
-use Rattle.lfs_model.specs.PowerLoss.{ShowsTreeBeforeOrAfter as IsLeftOf, with_blocks}
+use Rattle.lfs_model.specs.PowerLoss.{HasTreeBeforeOrAfterOperation as IsLeftOf, disk_with_blocks}
 use Rattle.lfs_model.specs.SlotEdits.{slot_of_path, pair_with_slots}
 use Rattle.lfs_model.specs.Slots.{Slot, zero_gstate, same_pair}
-use Rattle.lfs_model.specs.Thread.{Pair, blocks_of_pairs, gstate_of, is_hard_tail, root_directory_of_pairs, pair_count_before_root}
+use Rattle.lfs_model.specs.Thread.{Pair, blocks_of_pairs, gstate_of_pairs, is_hard_tail, root_directory_address_of_pairs, pair_count_before_root}
 use Rattle.lfs_model.specs.Tree.{Path, directory_address_at_path}
 use Rattle.lfs_model.specs.View.{IsAcceptedImage}
-use Rattle.lfs_model.specs.Profile.{IsWritable}
+use Rattle.lfs_model.specs.Profile.{IsWritableImage}
 use Rattle.lfs_model.specs.Shown.{IsPathToDirectory, all_slots_not_moved, directories_in_thread, entries_by_directory_in_thread, tree_on_disk, used_blocks}
-use Rattle.lfs_model.proofs.Alike.{AreAlike}
+use Rattle.lfs_model.proofs.Alike.{ArePairsWithSameAddressesAndSlots}
 use Rattle.lfs_model.proofs.Became.{fits_same}
-use Rattle.lfs_model.proofs.Changes.{Follows, SameFiles}
-use Rattle.lfs_model.proofs.Files.{HasSameFile}
-use Rattle.lfs_model.proofs.Committed.{IsCompleted, no_move_from}
-use Rattle.lfs_model.proofs.Counts.{Each, count, each_append, each_left, each_right}
+use Rattle.lfs_model.proofs.Changes.{IsImageAfterTreeChange, SameFiles}
+use Rattle.lfs_model.proofs.Files.{HasSameFileBlocksOfStructOnDisks}
+use Rattle.lfs_model.proofs.Committed.{IsImageAfterCompletedOperation, no_move_from}
+use Rattle.lfs_model.proofs.Counts.{Each, occurrence_count_of_number, each_append, each_left, each_right}
 use Rattle.lfs_model.proofs.Layouts.{onward_all}
 use Rattle.lfs_model.proofs.Moves.{IsStep, entry_only, get_here, place_at, shown_before, shown_behind, step_each}
 use Rattle.lfs_model.proofs.Indexes.{site_shows}
 use Rattle.lfs_model.proofs.Paths.{last_is}
 use Rattle.lfs_model.proofs.RemovedDirectory.{before_gone}
-use Rattle.lfs_model.proofs.Renames.{rename_walk}
+use Rattle.lfs_model.proofs.Renames.{directory_addresses_after_rename}
 use Rattle.lfs_model.proofs.RenamedWithinOnto.{IsRenameWithinOnto, within_onto_completed}
 use Rattle.lfs_model.proofs.RenameSteps.{sibling_apart}
 use Rattle.lfs_model.proofs.Replacing.{IsReplaced}
 use Rattle.lfs_model.proofs.RmdirSteps.{step_chain}
 use Rattle.lfs_model.proofs.Searches.{avoids_behind, avoids_front, is_site, same, site, slot_of_stands, thread_is}
 use Rattle.lfs_model.proofs.Sites.{IsSite, Site, begin_of, dirs_at, thread_at}
-use Rattle.lfs_model.proofs.Splices.{files_of}
-use Rattle.lfs_model.proofs.StepsTaken.{IsOnlyStep}
+use Rattle.lfs_model.proofs.Splices.{file_blocks_of_slots}
+use Rattle.lfs_model.proofs.StepsTaken.{IsWritableImageAfterTreeChange}
 use Rattle.lfs_model.proofs.Superblocks.{IsChain}
 use Rattle.lfs_model.proofs.TwoPlaces.{two}
-use Rattle.lfs_thread.specs.Kept.{Kept}
-use Rattle.lfs_thread.specs.Steps.{IsPairChanged, IsPairWrittenOnDisk, no_pair, kept_pair_at_index, pairs_with_content_at_index}
-use Rattle.lfs_operations.specs.Dropping.{IsNextPairDropped, IsLeftByStoppedDrop, HasSameBlocksInFlight}
+use Rattle.lfs_thread.specs.Kept.{KeptThread}
+use Rattle.lfs_thread.specs.Steps.{IsPairChanged, IsPairWrittenOnDisk, empty_pair_at_anchor, thread_pair_at_index, thread_pairs_with_content_replaced_at_index}
+use Rattle.lfs_operations.specs.Dropping.{IsNextPairDropped, IsLeftByStoppedPairDrop, HasSameBlocksInFlight}
 use Rattle.lfs_operations.specs.Editing.{CanEditEntryOfPair}
 use Rattle.lfs_operations.specs.Renaming.{tree_with_renamed_entry}
 use Rattle.lfs_operations.specs.RenamingOver.{CanRenameOntoDirectoryInPair, CanReplaceDirectoryInPair, IsEntryRenamedOntoDirectory, replace_directory_in_pair_changes}
@@ -161,7 +161,7 @@ module _ (w : Site) (p q o : Pair) (d : ℕ × ℕ) (address : same_pair o.at d 
 
 -- ---- the two steps
 
-module _ (t : Kept) (index id place : ℕ) (name : Name) (gone : ℕ) (rename : CanRenameOntoDirectoryInPair t index id place name gone) (m : Kept) (r : IsPairChanged t index (replace_directory_in_pair_changes t index id place name) m) where
+module _ (t : KeptThread) (index id place : ℕ) (name : Name) (gone : ℕ) (rename : CanRenameOntoDirectoryInPair t index id place name gone) (m : KeptThread) (r : IsPairChanged t index (replace_directory_in_pair_changes t index id place name) m) where
   abbrev over : CanReplaceDirectoryInPair t index id place name
   over = rename.over
 
@@ -184,7 +184,7 @@ module _ (t : Kept) (index id place : ℕ) (name : Name) (gone : ℕ) (rename : 
   r2 = over.target.stands.right
 
   abbrev o : Pair
-  o = kept_pair_at_index t gone
+  o = thread_pair_at_index t gone
 
   abbrev w : Site
   w = site t.disk t.pairs can.path can.at can.ready.accepted can.leads can.first index p can.stands.rest can.stands.place can.begins
@@ -201,8 +201,8 @@ module _ (t : Kept) (index id place : ℕ) (name : Name) (gone : ℕ) (rename : 
   accepted : IsAcceptedImage t.disk (thread_at w (p ∷ []))
   accepted = subst (IsAcceptedImage t.disk) there can.ready.accepted
 
-  settled : gstate_of (thread_at w (p ∷ [])) ≡ zero_gstate
-  settled = ap gstate_of (sym there) ∙ can.ready.settled
+  settled : gstate_of_pairs (thread_at w (p ∷ [])) ≡ zero_gstate
+  settled = ap gstate_of_pairs (sym there) ∙ can.ready.settled
 
   leads : IsPathToDirectory (thread_at w (p ∷ [])) can.path can.at
   leads = subst (λ z. IsPathToDirectory z can.path can.at) there can.leads
@@ -233,7 +233,7 @@ module _ (t : Kept) (index id place : ℕ) (name : Name) (gone : ℕ) (rename : 
 
   first_is : (gone ≡ length (w.chain ++ front.front) + 1) × (front.first ≡ o)
   first_is = number_of_first t.disk w.chain (dirs_at w (p ∷ [])) over.to accepted front gone o
-      (subst (λ z. slice_get z gone ≡ Some o) there (get_some t.pairs gone no_pair rename.below)) rename.at
+      (subst (λ z. slice_get z gone ≡ Some o) there (get_some t.pairs gone empty_pair_at_anchor rename.below)) rename.at
 
   alone_first : is_hard_tail front.first.content.tail ≡ false
   alone_first = ap (λ (z : Pair). is_hard_tail z.content.tail) first_is.1 ∙ rename.alone
@@ -264,23 +264,23 @@ module _ (t : Kept) (index id place : ℕ) (name : Name) (gone : ℕ) (rename : 
   written = subst (λ z. IsPairWrittenOnDisk t index z m.disk) (same_made t index id place name over r.content r.made) r.written
 
   pairs_now : m.pairs ≡ thread_at w (q ∷ [])
-  pairs_now = r.pairs ∙ ap (pairs_with_content_at_index t index) (same_made t index id place name over r.content r.made) ∙ pair_now t index id place name over h
+  pairs_now = r.pairs ∙ ap (thread_pairs_with_content_replaced_at_index t index) (same_made t index id place name over r.content r.made) ∙ pair_now t index id place name over h
 
   stepped : IsStep t.disk m.disk w p [] q [] [] [] h.l h.olds h.news h.r
   stepped = step t index id place name over h m.disk written
 
-  taken_now : IsOnlyStep t.disk t.pairs m.disk m.pairs (renamed (can.path ++ can.name ∷ []) (can.path ++ name ∷ [])) (rename_walk (can.path ++ can.name ∷ []) (can.path ++ name ∷ []))
-  taken_now = subst (λ z. IsOnlyStep t.disk t.pairs m.disk z (renamed from to) (rename_walk from to)) (sym pairs_now)
-      (subst (λ z. IsOnlyStep t.disk z m.disk (thread_at w (q ∷ [])) (renamed from to) (rename_walk from to)) (sym there) (taken t index id place name over h m.disk written))
+  taken_now : IsWritableImageAfterTreeChange t.disk t.pairs m.disk m.pairs (tree_after_rename (can.path ++ can.name ∷ []) (can.path ++ name ∷ [])) (directory_addresses_after_rename (can.path ++ can.name ∷ []) (can.path ++ name ∷ []))
+  taken_now = subst (λ z. IsWritableImageAfterTreeChange t.disk t.pairs m.disk z (tree_after_rename from to) (directory_addresses_after_rename from to)) (sym pairs_now)
+      (subst (λ z. IsWritableImageAfterTreeChange t.disk z m.disk (thread_at w (q ∷ [])) (tree_after_rename from to) (directory_addresses_after_rename from to)) (sym there) (taken t index id place name over h m.disk written))
 
   placed : HasPlaceOver w p q o over.to (length front.front)
   placed = place_over w p q o over.to rename.at accepted.thread.distinct refl front.front front.before (front.run ++ front.after) dirs_are front.soft not_itself
 
-  used_now : (b : ℕ) → count b (used_blocks m.disk m.pairs) ≡ count b (used_blocks t.disk t.pairs)
+  used_now : (b : ℕ) → occurrence_count_of_number b (used_blocks m.disk m.pairs) ≡ occurrence_count_of_number b (used_blocks t.disk t.pairs)
   used_now b =
       let files : SameFiles t.disk m.disk (all_slots_not_moved t.pairs) = subst (λ z. SameFiles t.disk m.disk (all_slots_not_moved z)) (sym there)
-      (recursion_from_All (λ (x : Slot). HasSameFile t.disk m.disk x.struct) (all_slots_not_moved (thread_at w (p ∷ []))) stepped.device.files) in
-      let e = turned_count t.disk m.disk w p q [] h.l h.olds h.news h.r (files_of t.disk (target ∷ [])) [] (record {
+      (recursion_from_All (λ (x : Slot). HasSameFileBlocksOfStructOnDisks t.disk m.disk x.struct) (all_slots_not_moved (thread_at w (p ∷ []))) stepped.device.files) in
+      let e = turned_count t.disk m.disk w p q [] h.l h.olds h.news h.r (file_blocks_of_slots t.disk (target ∷ [])) [] (record {
         none = stepped.no_move;
         still = stepped.still_none;
         device = stepped.device;
@@ -288,16 +288,16 @@ module _ (t : Kept) (index id place : ℕ) (name : Name) (gone : ℕ) (rename : 
         was = h.placed.was;
         is = stepped.is;
       }) (λ b. let n = blocks_now t index (replace_directory_in_pair_changes t index id place name) w p h.l h.olds h.news h.r (target ∷ []) u (with_name u name) h.placed m.disk stepped.device.geometry files b in omega arith) b in
-      let f = ap (λ z. count b (used_blocks m.disk z)) pairs_now in
-      let g = ap (λ z. count b (used_blocks t.disk z)) there in
-      let none : count b (files_of t.disk (target ∷ [])) ≡ 0 = ap (λ z. count b (files_of t.disk (record target { struct = z } ∷ []))) over.branch in
+      let f = ap (λ z. occurrence_count_of_number b (used_blocks m.disk z)) pairs_now in
+      let g = ap (λ z. occurrence_count_of_number b (used_blocks t.disk z)) there in
+      let none : occurrence_count_of_number b (file_blocks_of_slots t.disk (target ∷ [])) ≡ 0 = ap (λ z. occurrence_count_of_number b (file_blocks_of_slots t.disk (record target { struct = z } ∷ []))) over.branch in
       omega arith
 
   pub replacing : IsReplacing t m (can.path ++ can.name ∷ []) (can.path ++ name ∷ []) over.to o gone
   replacing = record {
     ready = can.ready;
     taken = taken_now;
-    state = ap gstate_of pairs_now ∙ gstate_now t index id place name over h;
+    state = ap gstate_of_pairs pairs_now ∙ gstate_now t index id place name over h;
     chain = w.chain;
     front = placed.front;
     x = placed.x;
@@ -306,8 +306,8 @@ module _ (t : Kept) (index id place : ℕ) (name : Name) (gone : ℕ) (rename : 
     is_chain = subst (IsChain w.chain) placed.there (step_chain t.disk m.disk w p [] q [] [] [] h.l h.olds h.news h.r stepped);
     number = (let a = length-append w.chain placed.front in let b = length-append w.chain front.front in let n = placed.number in let f = first_is.0 in omega arith);
     soft = placed.soft;
-    replaced = subst (λ z. IsReplaced (directory_address_at_path (entries_by_directory_in_thread z) (root_directory_of_pairs z)) from to over.to) (sym there)
-        (subst (λ (n : Name). IsReplaced (directory_address_at_path (entries_by_directory_in_thread (thread_at w (p ∷ []))) (root_directory_of_pairs (thread_at w (p ∷ [])))) from (can.path ++ n ∷ []) over.to) over.target.stands.named
+    replaced = subst (λ z. IsReplaced (directory_address_at_path (entries_by_directory_in_thread z) (root_directory_address_of_pairs z)) from to over.to) (sym there)
+        (subst (λ (n : Name). IsReplaced (directory_address_at_path (entries_by_directory_in_thread (thread_at w (p ∷ []))) (root_directory_address_of_pairs (thread_at w (p ∷ [])))) from (can.path ++ n ∷ []) over.to) over.target.stands.named
         (replaced_by t.disk (thread_at w (p ∷ [])) can.path can.at (place_at w l2) target over.to from accepted leads entry_there over.branch empty
         (ap (λ (n : Name). path_without_prefix from (can.path ++ n ∷ [])) over.target.stands.named ∙ apart)));
     every = λ Q k. subst (λ z. All (λ y. Q y.at) (directories_in_thread z)) (sym pairs_now)
@@ -324,8 +324,8 @@ module _ (t : Kept) (index id place : ℕ) (name : Name) (gone : ℕ) (rename : 
 
   -- ---- both
 
-  module _ (new : Kept) (g : IsNextPairDropped m (gone - 1) zero_gstate new) where
-    ended : IsOnlyStep t.disk t.pairs new.disk new.pairs (renamed (can.path ++ can.name ∷ []) (can.path ++ name ∷ [])) (rename_walk (can.path ++ can.name ∷ []) (can.path ++ name ∷ []))
+  module _ (new : KeptThread) (g : IsNextPairDropped m (gone - 1) zero_gstate new) where
+    ended : IsWritableImageAfterTreeChange t.disk t.pairs new.disk new.pairs (tree_after_rename (can.path ++ can.name ∷ []) (can.path ++ name ∷ [])) (directory_addresses_after_rename (can.path ++ can.name ∷ []) (can.path ++ name ∷ []))
     ended = taken_end t m from to over.to o gone replacing new g
 
     laid : IsRenameWithinOnto t.disk new.disk new.pairs placed.b w.chain placed.one placed.mid placed.other p o q [] can.stands.stands.left u can.stands.stands.right h.x target h.y over.to
@@ -334,11 +334,11 @@ module _ (t : Kept) (index id place : ℕ) (name : Name) (gone : ℕ) (rename : 
     laid = record {
       is_chain = ap pair_count_before_root (sym placed.were) ∙ site_is.chain;
       accepted = subst (IsAcceptedImage t.disk) placed.were accepted;
-      writable = subst (IsWritable t.disk) placed.were (subst (IsWritable t.disk) there can.ready.writable);
-      settled = ap gstate_of (sym placed.were) ∙ settled;
+      writable = subst (IsWritableImage t.disk) placed.were (subst (IsWritableImage t.disk) there can.ready.writable);
+      settled = ap gstate_of_pairs (sym placed.were) ∙ settled;
       still = g.gstate;
-      walk = rename_walk from to;
-      follows = subst (λ z. Follows t.disk z new.disk new.pairs (renamed from to) (rename_walk from to)) (there ∙ placed.were) ended.follows;
+      walk = directory_addresses_after_rename from to;
+      follows = subst (λ z. IsImageAfterTreeChange t.disk z new.disk new.pairs (tree_after_rename from to) (directory_addresses_after_rename from to)) (there ∙ placed.were) ended.follows;
       still_writable = ended.writable;
       held = can.stands.stands.held;
       left_over = h.over.0;
@@ -350,7 +350,7 @@ module _ (t : Kept) (index id place : ℕ) (name : Name) (gone : ℕ) (rename : 
       soft = rename.alone;
       begins = placed.begins;
       apart = placed.apart;
-      alike = subst (λ z. AreAlike (w.chain ++ z) new.pairs) (sym placed.are) (alike_end t m from to over.to o gone replacing new g);
+      alike = subst (λ z. ArePairsWithSameAddressesAndSlots (w.chain ++ z) new.pairs) (sym placed.are) (alike_end t m from to over.to o gone replacing new g);
       from_slot = subst (λ z. slot_of_path z from ≡ Some u) (there ∙ placed.were)
           (slot_of_stands t.disk t.pairs can.path can.at can.ready.accepted can.leads can.first index id can.name (no_move_from t.pairs can.ready.settled) can.stands can.begins);
       to_slot = subst (λ z. slot_of_path z to ≡ Some target) (there ∙ placed.were)
@@ -362,10 +362,10 @@ module _ (t : Kept) (index id place : ℕ) (name : Name) (gone : ℕ) (rename : 
     pub renamed_onto_directory : IsEntryRenamedOntoDirectory t new rename.over.can.path rename.over.can.name name
     renamed_onto_directory = record {
       now = replaced_shrunk t m from to over.to o gone replacing new g;
-      completed = λ s given to_given tree given_is to_is. subst (λ z. IsCompleted t.disk z s (ops.Rename given to_given) new.disk new.pairs) (sym (there ∙ placed.were))
+      completed = λ s given to_given tree given_is to_is. subst (λ z. IsImageAfterCompletedOperation t.disk z s (ops.Rename given to_given) new.disk new.pairs) (sym (there ∙ placed.were))
           (within_onto_completed t.disk new.disk new.pairs placed.b w.chain placed.one placed.mid placed.other p o q [] can.stands.stands.left u can.stands.stands.right h.x target h.y over.to from to name laid s given to_given
           (tree ∙ ap (tree_on_disk t.disk) (there ∙ placed.were)) given_is to_is);
     }
 
-  pub left_within : (left : Blocks) → IsLeftByStoppedDrop m (gone - 1) zero_gstate left → IsLeftOf (with_blocks left t.disk) (tree_on_disk t.disk t.pairs) (tree_with_renamed_entry t rename.over.can.path rename.over.can.name name)
+  pub left_within : (left : Blocks) → IsLeftByStoppedPairDrop m (gone - 1) zero_gstate left → IsLeftOf (disk_with_blocks left t.disk) (tree_on_disk t.disk t.pairs) (tree_with_renamed_entry t rename.over.can.path rename.over.can.name name)
   left_within left g = left_last t m from to over.to o gone replacing left g

@@ -5,20 +5,20 @@ use Rattle.std.specs.List.{flat_map}
 use Rattle.std.proofs.lemmas.List.Elements.{recursion_from_All}
 use Rattle.std.proofs.lemmas.List.Concat.{flat_map-append}
 use Rattle.lfs_model.specs.Disk.{Disk}
-use Rattle.lfs_model.specs.BlockSets.{AreExactlyTheUsedBlocks, BlockStateList, IsFree, IsInFlight, IsUsed}
+use Rattle.lfs_model.specs.BlockSets.{AreExactlyTheUsedBlocks, BlockStateList, IsBlockFree, IsBlockInFlight, IsBlockUsed}
 use Rattle.lfs_model.specs.BlockSets.BlockState.{Free, InFlight, Used}
 use Rattle.lfs_model.specs.Slots.{Slot}
-use Rattle.lfs_model.specs.Thread.{Pair, blocks_of_pairs, gstate_of}
+use Rattle.lfs_model.specs.Thread.{Pair, blocks_of_pairs, gstate_of_pairs}
 use Rattle.lfs_model.specs.Shown.{all_slots_not_moved, skip_list_blocks_of_struct, used_blocks}
-use Rattle.lfs_model.proofs.BlockSets.{count-Contains, Contains-count, slice_get-set_same, slice_get-set_other}
+use Rattle.lfs_model.proofs.BlockSets.{occurrence_count_of_number-Contains, Contains-occurrence_count_of_number, slice_get-set_same, slice_get-set_other}
 use Rattle.lfs_model.proofs.Changes.{SameFiles, slots_files}
 use Rattle.lfs_model.proofs.Committed.{IsCommit, no_move_from}
-use Rattle.lfs_model.proofs.Counts.{each_left, each_right, count, count_append}
-use Rattle.lfs_model.proofs.Files.{HasSameFile}
+use Rattle.lfs_model.proofs.Counts.{each_left, each_right, occurrence_count_of_number, count_append}
+use Rattle.lfs_model.proofs.Files.{HasSameFileBlocksOfStructOnDisks}
 use Rattle.lfs_model.proofs.Global.{HasNoMove}
 use Rattle.lfs_model.proofs.Sites.{Site, thread_at}
-use Rattle.lfs_model.proofs.Splices.{IsDevice, files_of, slots_in, unmoved_in, count_files}
-use Rattle.lfs_thread.specs.Steps.{map_with_used_pair}
+use Rattle.lfs_model.proofs.Splices.{IsDevice, file_blocks_of_slots, slots_of_pairs_in_order, unmoved_in, count_files}
+use Rattle.lfs_thread.specs.Steps.{block_map_with_used_pair}
 use Rattle.lfs_operations.specs.Changing.{AreTwoFreeBlocks, map_with_two_blocks_in_flight}
 use Rattle.lfs_operations.specs.Ready.{HasNoNewBlockInFlight, KeepsStatesOfTakenBlocks}
 use Rattle.lfs_operations.proofs.Placing.{blocks_append}
@@ -26,36 +26,36 @@ use Rattle.lfs_operations.proofs.Taking.{within}
 
 -- ---- counting
 
-slots_append : (xs ys : List Pair) → slots_in (xs ++ ys) ≡ slots_in xs ++ slots_in ys
+slots_append : (xs ys : List Pair) → slots_of_pairs_in_order (xs ++ ys) ≡ slots_of_pairs_in_order xs ++ slots_of_pairs_in_order ys
 slots_append xs ys = flat_map-append (λ (p : Pair). p.content.slots) xs ys
 
-count_used : (b : ℕ) (disk : Disk) (ps : List Pair) → HasNoMove (gstate_of ps) → count b (used_blocks disk ps) ≡ count b (blocks_of_pairs ps) + count b (files_of disk (slots_in ps))
+count_used : (b : ℕ) (disk : Disk) (ps : List Pair) → HasNoMove (gstate_of_pairs ps) → occurrence_count_of_number b (used_blocks disk ps) ≡ occurrence_count_of_number b (blocks_of_pairs ps) + occurrence_count_of_number b (file_blocks_of_slots disk (slots_of_pairs_in_order ps))
 count_used b disk ps none = count_append b (blocks_of_pairs ps) (flat_map (λ s. skip_list_blocks_of_struct disk s.struct) (all_slots_not_moved ps))
-    ∙ ap (λ z. count b (blocks_of_pairs ps) + count b (files_of disk z)) (unmoved_in (gstate_of ps) none ps)
+    ∙ ap (λ z. occurrence_count_of_number b (blocks_of_pairs ps) + occurrence_count_of_number b (file_blocks_of_slots disk z)) (unmoved_in (gstate_of_pairs ps) none ps)
 
 -- the slots of a thread, by a site
-slots_at : (w : Site) (ps : List Pair) → slots_in (thread_at w ps) ≡ slots_in w.chain ++ (slots_in (w.before ++ w.left) ++ (slots_in ps ++ slots_in (w.right ++ w.after)))
+slots_at : (w : Site) (ps : List Pair) → slots_of_pairs_in_order (thread_at w ps) ≡ slots_of_pairs_in_order w.chain ++ (slots_of_pairs_in_order (w.before ++ w.left) ++ (slots_of_pairs_in_order ps ++ slots_of_pairs_in_order (w.right ++ w.after)))
 slots_at w ps = slots_append w.chain ((w.before ++ w.left) ++ (ps ++ (w.right ++ w.after)))
-    ∙ ap (λ z. slots_in w.chain ++ z) (slots_append (w.before ++ w.left) (ps ++ (w.right ++ w.after)) ∙ ap (λ z. slots_in (w.before ++ w.left) ++ z) (slots_append ps (w.right ++ w.after)))
+    ∙ ap (λ z. slots_of_pairs_in_order w.chain ++ z) (slots_append (w.before ++ w.left) (ps ++ (w.right ++ w.after)) ∙ ap (λ z. slots_of_pairs_in_order (w.before ++ w.left) ++ z) (slots_append ps (w.right ++ w.after)))
 
-count_at : (b : ℕ) (disk : Disk) (w : Site) (ps : List Pair) (l mid r : List Slot) → slots_in ps ≡ l ++ (mid ++ r) → count b (files_of disk (slots_in (thread_at w ps)))
-    ≡ count b (files_of disk (slots_in w.chain)) + (count b (files_of disk (slots_in (w.before ++ w.left)))
-    + ((count b (files_of disk l) + (count b (files_of disk mid) + count b (files_of disk r))) + count b (files_of disk (slots_in (w.right ++ w.after)))))
+count_at : (b : ℕ) (disk : Disk) (w : Site) (ps : List Pair) (l mid r : List Slot) → slots_of_pairs_in_order ps ≡ l ++ (mid ++ r) → occurrence_count_of_number b (file_blocks_of_slots disk (slots_of_pairs_in_order (thread_at w ps)))
+    ≡ occurrence_count_of_number b (file_blocks_of_slots disk (slots_of_pairs_in_order w.chain)) + (occurrence_count_of_number b (file_blocks_of_slots disk (slots_of_pairs_in_order (w.before ++ w.left)))
+    + ((occurrence_count_of_number b (file_blocks_of_slots disk l) + (occurrence_count_of_number b (file_blocks_of_slots disk mid) + occurrence_count_of_number b (file_blocks_of_slots disk r))) + occurrence_count_of_number b (file_blocks_of_slots disk (slots_of_pairs_in_order (w.right ++ w.after)))))
 count_at b disk w ps l mid r e =
-    let f1 = slots_in w.chain in
-    let f2 = slots_in (w.before ++ w.left) in
-    let g = slots_in (w.right ++ w.after) in
-    let a = ap (λ z. count b (files_of disk z)) (slots_at w ps) in
-    let c = count_files b disk f1 (f2 ++ (slots_in ps ++ g)) in
-    let d = count_files b disk f2 (slots_in ps ++ g) in
-    let h = count_files b disk (slots_in ps) g in
-    let i = ap (λ z. count b (files_of disk z)) e in
+    let f1 = slots_of_pairs_in_order w.chain in
+    let f2 = slots_of_pairs_in_order (w.before ++ w.left) in
+    let g = slots_of_pairs_in_order (w.right ++ w.after) in
+    let a = ap (λ z. occurrence_count_of_number b (file_blocks_of_slots disk z)) (slots_at w ps) in
+    let c = count_files b disk f1 (f2 ++ (slots_of_pairs_in_order ps ++ g)) in
+    let d = count_files b disk f2 (slots_of_pairs_in_order ps ++ g) in
+    let h = count_files b disk (slots_of_pairs_in_order ps) g in
+    let i = ap (λ z. occurrence_count_of_number b (file_blocks_of_slots disk z)) e in
     let j = count_files b disk l (mid ++ r) in
     let k = count_files b disk mid r in
     omega arith
 
-pub count_pairs : (b : ℕ) (w : Site) (ps : List Pair) → count b (blocks_of_pairs (thread_at w ps))
-    ≡ count b (blocks_of_pairs w.chain) + (count b (blocks_of_pairs (w.before ++ w.left)) + (count b (blocks_of_pairs ps) + count b (blocks_of_pairs (w.right ++ w.after))))
+pub count_pairs : (b : ℕ) (w : Site) (ps : List Pair) → occurrence_count_of_number b (blocks_of_pairs (thread_at w ps))
+    ≡ occurrence_count_of_number b (blocks_of_pairs w.chain) + (occurrence_count_of_number b (blocks_of_pairs (w.before ++ w.left)) + (occurrence_count_of_number b (blocks_of_pairs ps) + occurrence_count_of_number b (blocks_of_pairs (w.right ++ w.after))))
 count_pairs b w ps =
     let a = blocks_append w.chain ((w.before ++ w.left) ++ (ps ++ (w.right ++ w.after))) b in
     let c = blocks_append (w.before ++ w.left) (ps ++ (w.right ++ w.after)) b in
@@ -64,40 +64,40 @@ count_pairs b w ps =
 
 -- the pair p becomes q and more, with news where olds stood; no move is set
 pub record IsTurnOf (disk new : Disk) (w : Site) (p q : Pair) (more : List Pair) (l olds news r : List Slot) : Type 0 where
-  pub none : HasNoMove (gstate_of (thread_at w (p ∷ [])))
-  pub still : HasNoMove (gstate_of (thread_at w (q ∷ more)))
+  pub none : HasNoMove (gstate_of_pairs (thread_at w (p ∷ [])))
+  pub still : HasNoMove (gstate_of_pairs (thread_at w (q ∷ more)))
   pub device : IsDevice disk new (thread_at w (p ∷ [])) (thread_at w (q ∷ more))
   pub at : q.at ≡ p.at
   pub was : p.content.slots ≡ l ++ (olds ++ r)
-  pub is : slots_in (q ∷ more) ≡ l ++ (news ++ r)
+  pub is : slots_of_pairs_in_order (q ∷ more) ≡ l ++ (news ++ r)
 
 module _ (disk new : Disk) (w : Site) (p q : Pair) (more : List Pair) (l olds news r : List Slot) (gone come : List ℕ) (c : IsTurnOf disk new w p q more l olds news r)
-    (blocks : (b : ℕ) → count b (files_of new news) + count b gone ≡ count b come + count b (files_of disk olds)) where
+    (blocks : (b : ℕ) → occurrence_count_of_number b (file_blocks_of_slots new news) + occurrence_count_of_number b gone ≡ occurrence_count_of_number b come + occurrence_count_of_number b (file_blocks_of_slots disk olds)) where
   abbrev ps : List Pair
   ps = thread_at w (p ∷ [])
 
   abbrev qs : List Pair
   qs = thread_at w (q ∷ more)
 
-  was_one : slots_in (p ∷ []) ≡ l ++ (olds ++ r)
+  was_one : slots_of_pairs_in_order (p ∷ []) ≡ l ++ (olds ++ r)
   was_one = append-nil p.content.slots ∙ c.was
 
-  all_same : SameFiles disk new (slots_in w.chain ++ (slots_in (w.before ++ w.left) ++ ((l ++ (olds ++ r)) ++ slots_in (w.right ++ w.after))))
+  all_same : SameFiles disk new (slots_of_pairs_in_order w.chain ++ (slots_of_pairs_in_order (w.before ++ w.left) ++ ((l ++ (olds ++ r)) ++ slots_of_pairs_in_order (w.right ++ w.after))))
   all_same = subst (SameFiles disk new)
-      (unmoved_in (gstate_of ps) c.none ps ∙ slots_at w (p ∷ []) ∙ ap (λ z. slots_in w.chain ++ (slots_in (w.before ++ w.left) ++ (z ++ slots_in (w.right ++ w.after)))) was_one)
-      (recursion_from_All (λ (s : Slot). HasSameFile disk new s.struct) (all_slots_not_moved ps) c.device.files)
+      (unmoved_in (gstate_of_pairs ps) c.none ps ∙ slots_at w (p ∷ []) ∙ ap (λ z. slots_of_pairs_in_order w.chain ++ (slots_of_pairs_in_order (w.before ++ w.left) ++ (z ++ slots_of_pairs_in_order (w.right ++ w.after)))) was_one)
+      (recursion_from_All (λ (s : Slot). HasSameFileBlocksOfStructOnDisks disk new s.struct) (all_slots_not_moved ps) c.device.files)
 
   abbrev F : Slot → Type 0
-  F s = HasSameFile disk new s.struct
+  F s = HasSameFileBlocksOfStructOnDisks disk new s.struct
 
-  kept : (ss : List Slot) → SameFiles disk new ss → (b : ℕ) → count b (files_of new ss) ≡ count b (files_of disk ss)
-  kept ss h b = ap (count b) (slots_files disk new ss c.device.geometry h)
+  kept : (ss : List Slot) → SameFiles disk new ss → (b : ℕ) → occurrence_count_of_number b (file_blocks_of_slots new ss) ≡ occurrence_count_of_number b (file_blocks_of_slots disk ss)
+  kept ss h b = ap (occurrence_count_of_number b) (slots_files disk new ss c.device.geometry h)
 
-  pub turned_count : (b : ℕ) → count b (used_blocks new qs) + count b gone ≡ count b (blocks_of_pairs more) + count b (used_blocks disk ps) + count b come
+  pub turned_count : (b : ℕ) → occurrence_count_of_number b (used_blocks new qs) + occurrence_count_of_number b gone ≡ occurrence_count_of_number b (blocks_of_pairs more) + occurrence_count_of_number b (used_blocks disk ps) + occurrence_count_of_number b come
   turned_count b =
-      let f1 = slots_in w.chain in
-      let f2 = slots_in (w.before ++ w.left) in
-      let g = slots_in (w.right ++ w.after) in
+      let f1 = slots_of_pairs_in_order w.chain in
+      let f2 = slots_of_pairs_in_order (w.before ++ w.left) in
+      let g = slots_of_pairs_in_order (w.right ++ w.after) in
       let h1 = each_left F f1 (f2 ++ ((l ++ (olds ++ r)) ++ g)) all_same in
       let h2 = each_right F f1 (f2 ++ ((l ++ (olds ++ r)) ++ g)) all_same in
       let h3 = each_left F f2 ((l ++ (olds ++ r)) ++ g) h2 in
@@ -116,13 +116,13 @@ module _ (disk new : Disk) (w : Site) (p q : Pair) (more : List Pair) (l olds ne
       let b2 = count_at b disk w (p ∷ []) l olds r was_one in
       let d1 = count_pairs b w (q ∷ more) in
       let d2 = count_pairs b w (p ∷ []) in
-      let at = ap (λ (a : ℕ × ℕ). count b (a.0 ∷ a.1 ∷ [])) c.at in
+      let at = ap (λ (a : ℕ × ℕ). occurrence_count_of_number b (a.0 ∷ a.1 ∷ [])) c.at in
       let k = count_append b (q.at.0 ∷ q.at.1 ∷ []) (blocks_of_pairs more) in
       omega arith
 
 pub used_count_now : (disk new : Disk) (w : Site) (p q : Pair) (more : List Pair) (l olds news r : List Slot) (gone come : List ℕ) → IsCommit disk new w p q more come l olds news r
-    → ((b : ℕ) → count b (files_of new news) + count b gone ≡ count b come + count b (files_of disk olds))
-    → (b : ℕ) → count b (used_blocks new (thread_at w (q ∷ more))) + count b gone ≡ count b (blocks_of_pairs more) + count b (used_blocks disk (thread_at w (p ∷ []))) + count b come
+    → ((b : ℕ) → occurrence_count_of_number b (file_blocks_of_slots new news) + occurrence_count_of_number b gone ≡ occurrence_count_of_number b come + occurrence_count_of_number b (file_blocks_of_slots disk olds))
+    → (b : ℕ) → occurrence_count_of_number b (used_blocks new (thread_at w (q ∷ more))) + occurrence_count_of_number b gone ≡ occurrence_count_of_number b (blocks_of_pairs more) + occurrence_count_of_number b (used_blocks disk (thread_at w (p ∷ []))) + occurrence_count_of_number b come
 used_count_now disk new w p q more l olds news r gone come c blocks = turned_count disk new w p q more l olds news r gone come
     (record {
       none = no_move_from (thread_at w (p ∷ [])) c.settled;
@@ -136,16 +136,16 @@ used_count_now disk new w p q more l olds news r gone come c blocks = turned_cou
 -- ---- the map
 
 -- where the image uses the same
-pub used_same : (sets : BlockStateList) (us vs : List ℕ) → ((b : ℕ) → count b vs ≡ count b us) → AreExactlyTheUsedBlocks sets us → AreExactlyTheUsedBlocks sets vs
+pub used_same : (sets : BlockStateList) (us vs : List ℕ) → ((b : ℕ) → occurrence_count_of_number b vs ≡ occurrence_count_of_number b us) → AreExactlyTheUsedBlocks sets us → AreExactlyTheUsedBlocks sets vs
 used_same sets us vs same used b = (
-  (λ h. Contains-count vs b (let k = count-Contains us b ((used b).0 h) in let e = same b in omega arith)),
-  (λ h. (used b).1 (Contains-count us b (let k = count-Contains vs b h in let e = same b in omega arith))),
+  (λ h. Contains-occurrence_count_of_number vs b (let k = occurrence_count_of_number-Contains us b ((used b).0 h) in let e = same b in omega arith)),
+  (λ h. (used b).1 (Contains-occurrence_count_of_number us b (let k = occurrence_count_of_number-Contains vs b h in let e = same b in omega arith))),
 )
 
 -- two blocks come
 module _ (sets : BlockStateList) (fresh : ℕ × ℕ) (two : AreTwoFreeBlocks sets fresh) where
   abbrev now : BlockStateList
-  now = map_with_used_pair (map_with_two_blocks_in_flight sets fresh) fresh
+  now = block_map_with_used_pair (map_with_two_blocks_in_flight sets fresh) fresh
 
   pub elsewhere : (b : ℕ) → b ≢ fresh.0 → b ≢ fresh.1 → slice_get now b ≡ slice_get sets b
   elsewhere b e f =
@@ -168,7 +168,7 @@ module _ (sets : BlockStateList) (fresh : ℕ × ℕ) (two : AreTwoFreeBlocks se
       (let w = within sets fresh.0 Free two.first in let e = length-set (set sets fresh.0 InFlight) fresh.1 InFlight ∙ length-set sets fresh.0 InFlight in omega arith)
 
   pub stay_taken : KeepsStatesOfTakenBlocks sets now
-  stay_taken b taken = elsewhere b (λ e. taken (subst (IsFree sets) (sym e) two.first)) (λ e. taken (subst (IsFree sets) (sym e) two.second))
+  stay_taken b taken = elsewhere b (λ e. taken (subst (IsBlockFree sets) (sym e) two.first)) (λ e. taken (subst (IsBlockFree sets) (sym e) two.second))
 
   pub none_comes_now : HasNoNewBlockInFlight sets now
   none_comes_now b flies = go (nat_eq b fresh.0) (nat_eq b fresh.1) refl refl
@@ -176,22 +176,22 @@ module _ (sets : BlockStateList) (fresh : ℕ × ℕ) (two : AreTwoFreeBlocks se
       used_there : slice_get now b ≡ Some Used → ⊥
       used_there is = absurd (let wrong : Some Used ≡ Some InFlight = sym is ∙ flies in cc)
 
-      go : (x y : Bool) → nat_eq b fresh.0 ≡ x → nat_eq b fresh.1 ≡ y → IsInFlight sets b
+      go : (x y : Bool) → nat_eq b fresh.0 ≡ x → nat_eq b fresh.1 ≡ y → IsBlockInFlight sets b
       go true y e f = absurd (used_there (ap (slice_get now) (eqb-true b fresh.0 e) ∙ first_used))
       go false true e f = absurd (used_there (ap (slice_get now) (eqb-true b fresh.1 f) ∙ second_used))
       go false false e f = sym (elsewhere b (λ k. absurd (let z = sym (eq-eqb b fresh.0 k) ∙ e in cc)) (λ k. absurd (let z = sym (eq-eqb b fresh.1 k) ∙ f in cc))) ∙ flies
 
-  pub used_more : (us vs : List ℕ) → ((b : ℕ) → count b vs ≡ count b (fresh.0 ∷ fresh.1 ∷ []) + count b us) → AreExactlyTheUsedBlocks sets us → AreExactlyTheUsedBlocks now vs
+  pub used_more : (us vs : List ℕ) → ((b : ℕ) → occurrence_count_of_number b vs ≡ occurrence_count_of_number b (fresh.0 ∷ fresh.1 ∷ []) + occurrence_count_of_number b us) → AreExactlyTheUsedBlocks sets us → AreExactlyTheUsedBlocks now vs
   used_more us vs more used b = go (nat_eq b fresh.0) (nat_eq b fresh.1) refl refl (more b)
     where
-      both : slice_get now b ≡ Some Used → 1 ≤ count b vs → IsUsed now b ↔ Contains vs b
-      both is some = ((λ h. Contains-count vs b some), (λ h. is))
+      both : slice_get now b ≡ Some Used → 1 ≤ occurrence_count_of_number b vs → IsBlockUsed now b ↔ Contains vs b
+      both is some = ((λ h. Contains-occurrence_count_of_number vs b some), (λ h. is))
 
-      go : (x y : Bool) → nat_eq b fresh.0 ≡ x → nat_eq b fresh.1 ≡ y → count b vs ≡ (cond x 1 0 + (cond y 1 0 + 0)) + count b us → IsUsed now b ↔ Contains vs b
+      go : (x y : Bool) → nat_eq b fresh.0 ≡ x → nat_eq b fresh.1 ≡ y → occurrence_count_of_number b vs ≡ (cond x 1 0 + (cond y 1 0 + 0)) + occurrence_count_of_number b us → IsBlockUsed now b ↔ Contains vs b
       go true y e f m = both (ap (slice_get now) (eqb-true b fresh.0 e) ∙ first_used) (omega arith)
       go false true e f m = both (ap (slice_get now) (eqb-true b fresh.1 f) ∙ second_used) (omega arith)
       go false false e f m =
           let same = elsewhere b (λ k. absurd (let z = sym (eq-eqb b fresh.0 k) ∙ e in cc)) (λ k. absurd (let z = sym (eq-eqb b fresh.1 k) ∙ f in cc)) in (
-            (λ h. Contains-count vs b (let n = count-Contains us b ((used b).0 (sym same ∙ h)) in omega arith)),
-            (λ h. same ∙ (used b).1 (Contains-count us b (let n = count-Contains vs b h in omega arith))),
+            (λ h. Contains-occurrence_count_of_number vs b (let n = occurrence_count_of_number-Contains us b ((used b).0 (sym same ∙ h)) in omega arith)),
+            (λ h. same ∙ (used b).1 (Contains-occurrence_count_of_number us b (let n = occurrence_count_of_number-Contains vs b h in omega arith))),
           )

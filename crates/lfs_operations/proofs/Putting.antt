@@ -6,21 +6,21 @@ use Rattle.lfs_device.specs.declared.error.Error.TheVariants.{Io, NoMemory, NoSp
 use Rattle.lfs_model.specs.Blocks.{Blocks}
 use Rattle.lfs_model.specs.BlockSets.{BlockStateList}
 use Rattle.lfs_model.specs.BlockSets.BlockState.{Free, InFlight}
-use Rattle.lfs_model.specs.Changes.{ContentChange}
+use Rattle.lfs_model.specs.Changes.{PairContentChange}
 use Rattle.lfs_model.specs.Disk.{Disk}
-use Rattle.lfs_model.specs.Slots.{Content}
-use Rattle.lfs_model.specs.History.{CallEvent, AreCallsSinceOnlyReads, faults}
+use Rattle.lfs_model.specs.Slots.{PairContent}
+use Rattle.lfs_model.specs.History.{DeviceCallEvent, AreCallsSinceOnlyReads, fault_count_of_history}
 use Rattle.lfs_model.proofs.BlockSets.{slice_get-set_same, slice_get-set_other}
-use Rattle.lfs_model.proofs.Histories.{IsTrueAfterEachStopSince-weaker, IsTrueAfterEachStopSince-trans, AreBytesStillUnprogrammed-refl, AreBytesStillUnprogrammed-trans, IsTrueOfEachCallSince-until, IsTrueOfEachCallSince-behind, began, AreCallsSinceOnlyReads-trans, AreBytesStillUnprogrammed-reads, IsTrueAfterEachStopSince-reads, IsWorstOutcomeOfStop-read}
-use Rattle.lfs_thread.specs.Device.{StopsAfterCleanErasesLeave, blocks_of_two_addresses}
-use Rattle.lfs_thread.specs.Kept.{Kept, ThreadView}
+use Rattle.lfs_model.proofs.Histories.{IsTrueAfterAnyPowerLossSince-weaker, IsTrueAfterAnyPowerLossSince-trans, AreBytesStillUnprogrammed-refl, AreBytesStillUnprogrammed-trans, IsTrueOfEachCallSince-until, IsTrueOfEachCallSince-behind, began, AreCallsSinceOnlyReads-trans, AreBytesStillUnprogrammed-read_count_of_history, IsTrueAfterAnyPowerLossSince-read_count_of_history, ArePossibleBlocksAfterPowerLossInCall-read}
+use Rattle.lfs_thread.specs.Device.{PowerLossLeavesSuchBlocksAfterCleanErases, blocks_of_two_pair_addresses}
+use Rattle.lfs_thread.specs.Kept.{KeptThread, ThreadView}
 use Rattle.lfs_thread.specs.CachedLog.{read_count_unless_cached}
-use Rattle.lfs_thread.specs.Steps.{kept_pair_at_index, AreFreshBlocksInFlight, AreBothSplitPartsOnDisk, PartsFitPairs, CanSplitPairAtIndex, LeavesPairOldOrChanged, HasReportedIoOrUnwrittenNoMemory, HasPairOldContentOnDisk, LeavesPairOldOrSplit, IsThreadOnlyRead, IsSplitInTwo, ThreadChangesOnlyTheseBlocks}
-use Rattle.lfs_operations.specs.Changing.{AreTwoFreeBlocks, CanChangeOrSplitPair, IsPairSplit, IsPairSplitInto, IsLeftByStoppedChangeOrSplit, IsChangedContentTooLarge, IsLeftByStoppedSplit, ReportsFaultOrNoSpace, WritesPairAndTwoFreeBlocks, map_with_two_blocks_in_flight, Reports, has_failed}
+use Rattle.lfs_thread.specs.Steps.{thread_pair_at_index, AreFreshBlocksInFlight, AreBothSplitPartsOnDisk, SplitPartsFitPairs, CanSplitPairAtIndex, PowerLossLeavesPairOldOrChanged, IoMeantFaultNoMemoryWroteNothing, HasPairOldContentOnDisk, PowerLossLeavesPairOldOrSplit, IsThreadOnlyRead, IsPairSplitInTwo, ThreadChangesOnlyTheseBlocks}
+use Rattle.lfs_operations.specs.Changing.{AreTwoFreeBlocks, CanChangeOrSplitPair, IsPairSplit, IsPairSplitInto, IsLeftByStoppedChangeOrSplit, IsChangedContentTooLarge, IsLeftByStoppedSplit, ReportsFaultsChangingNothingAtNoSpace, WritesPairAndTwoFreeBlocks, map_with_two_blocks_in_flight, ReportsErrorsOfCommitTakingBlocks, has_thread_failed_after_result}
 use Rattle.lfs_operations.proofs.Taking.{within}
 
 -- with other states of the blocks
-abbrev pub with_map : Kept → BlockStateList → Kept
+abbrev pub with_map : KeptThread → BlockStateList → KeptThread
 with_map t sets = record t { map = sets }
 
 pub held : (sets : BlockStateList) (fresh : ℕ × ℕ) → AreTwoFreeBlocks sets fresh → AreFreshBlocksInFlight (map_with_two_blocks_in_flight sets fresh) fresh
@@ -34,7 +34,7 @@ held sets fresh two = record {
     first_taken : BlockStateList
     first_taken = set sets fresh.0 InFlight
 
-pub can_split : (t : Kept) (index : ℕ) (fresh : ℕ × ℕ) (changes : List ContentChange) → CanChangeOrSplitPair t index changes → AreTwoFreeBlocks t.map fresh → CanSplitPairAtIndex (with_map t (map_with_two_blocks_in_flight t.map fresh)) index fresh changes
+pub can_split : (t : KeptThread) (index : ℕ) (fresh : ℕ × ℕ) (changes : List PairContentChange) → CanChangeOrSplitPair t index changes → AreTwoFreeBlocks t.map fresh → CanSplitPairAtIndex (with_map t (map_with_two_blocks_in_flight t.map fresh)) index fresh changes
 can_split t index fresh changes can two = record {
   can = record { below = can.can.below; content = can.can.content; made = can.can.made; next = can.can.next };
   held = held t.map fresh two;
@@ -45,14 +45,14 @@ can_split t index fresh changes can two = record {
 
 -- ---- what it comes to
 
-module _ (t : Kept) (index : ℕ) (fresh : ℕ × ℕ) (changes : List ContentChange) (two : AreTwoFreeBlocks t.map fresh) where
-  abbrev mid : Kept
+module _ (t : KeptThread) (index : ℕ) (fresh : ℕ × ℕ) (changes : List PairContentChange) (two : AreTwoFreeBlocks t.map fresh) where
+  abbrev mid : KeptThread
   mid = with_map t (map_with_two_blocks_in_flight t.map fresh)
 
-  parts_same : {content : Content} {cut : ℕ} {disk : Disk} → PartsFitPairs mid index content cut fresh disk → PartsFitPairs t index content cut fresh disk
+  parts_same : {content : PairContent} {cut : ℕ} {disk : Disk} → SplitPartsFitPairs mid index content cut fresh disk → SplitPartsFitPairs t index content cut fresh disk
   parts_same p = record { front_fits = p.front_fits; back_fits = p.back_fits; inside = p.inside; first = p.first }
 
-  pub cut_in : (new : Kept) → IsSplitInTwo mid index fresh changes new → ThreadChangesOnlyTheseBlocks (blocks_of_two_addresses (kept_pair_at_index t index).at fresh) mid new → IsPairSplitInto t index fresh changes new
+  pub cut_in : (new : KeptThread) → IsPairSplitInTwo mid index fresh changes new → ThreadChangesOnlyTheseBlocks (blocks_of_two_pair_addresses (thread_pair_at_index t index).at fresh) mid new → IsPairSplitInto t index fresh changes new
   cut_in new is writes = record {
     free = two;
     content = is.content;
@@ -67,7 +67,7 @@ module _ (t : Kept) (index : ℕ) (fresh : ℕ × ℕ) (changes : List ContentCh
     writes = record { others = writes.others; elsewhere = writes.elsewhere; shape = writes.shape; at_worst = writes.at_worst };
   }
 
-  pub left_by_cut : (left : Blocks) → LeavesPairOldOrSplit mid index fresh changes left → IsLeftByStoppedSplit t index changes left
+  pub left_by_cut : (left : Blocks) → PowerLossLeavesPairOldOrSplit mid index fresh changes left → IsLeftByStoppedSplit t index changes left
   left_by_cut left l = (fresh, (two, record { others = l.others; content = go l.content }))
     where
       go : HasPairOldContentOnDisk mid index (record t.disk { blocks = left }) ⊎ AreBothSplitPartsOnDisk mid index changes fresh (record t.disk { blocks = left })
@@ -75,10 +75,10 @@ module _ (t : Kept) (index : ℕ) (fresh : ℕ × ℕ) (changes : List ContentCh
       go (inl b) = inl (record { holds = b.holds; first = b.first })
       go (inr h) = inr (record { content = h.content; made = h.made; cut = h.cut; front = h.front; back = h.back; parts = parts_same h.parts })
 
-  pub stops_by_cut : (new : List CallEvent) → StopsAfterCleanErasesLeave t.history new (LeavesPairOldOrSplit mid index fresh changes) → StopsAfterCleanErasesLeave t.history new (IsLeftByStoppedSplit t index changes)
-  stops_by_cut new stops clean = IsTrueAfterEachStopSince-weaker left_by_cut (stops clean)
+  pub stops_by_cut : (new : List DeviceCallEvent) → PowerLossLeavesSuchBlocksAfterCleanErases t.history new (PowerLossLeavesPairOldOrSplit mid index fresh changes) → PowerLossLeavesSuchBlocksAfterCleanErases t.history new (IsLeftByStoppedSplit t index changes)
+  stops_by_cut new stops clean = IsTrueAfterAnyPowerLossSince-weaker left_by_cut (stops clean)
 
-  pub writes_in : (new : Kept) → ThreadChangesOnlyTheseBlocks (blocks_of_two_addresses (kept_pair_at_index t index).at fresh) mid new → WritesPairAndTwoFreeBlocks t index new
+  pub writes_in : (new : KeptThread) → ThreadChangesOnlyTheseBlocks (blocks_of_two_pair_addresses (thread_pair_at_index t index).at fresh) mid new → WritesPairAndTwoFreeBlocks t index new
   writes_in new w = record {
     fresh = fresh.0 ∷ fresh.1 ∷ [];
     few = omega arith;
@@ -94,7 +94,7 @@ same_err a b r h k = cc
 pub not_both : {A : Type 0} (r : Result A Error) (a : A) (e : Error) → r ≡ Ok a → r ≡ Err e → ⊥
 not_both r a e h k = absurd (cc)
 
-pub reports : {X Y : Type 0} (t new : Kept) (sets : BlockStateList) (e : Error) (result : Result X Error) (given : Result Y Error) → result ≡ Err e → given ≡ Err e → HasReportedIoOrUnwrittenNoMemory (with_map t sets) new result → ReportsFaultOrNoSpace t new given
+pub reports : {X Y : Type 0} (t new : KeptThread) (sets : BlockStateList) (e : Error) (result : Result X Error) (given : Result Y Error) → result ≡ Err e → given ≡ Err e → IoMeantFaultNoMemoryWroteNothing (with_map t sets) new result → ReportsFaultsChangingNothingAtNoSpace t new given
 reports t new sets e result given is same reported = record {
   errors = subst (λ r. IfErr r (λ x. (x ≡ Io) ⊎ ((x ≡ NoMemory) ⊎ (x ≡ NoSpace)))) (sym same) (widen is_one);
   fault = λ io. reported.fault (is ∙ ap Err (same_err e Io given same io));
@@ -117,14 +117,14 @@ reports t new sets e result given is same reported = record {
 
 -- ---- nothing was done
 
-pub writes_none : (t : Kept) (index : ℕ) → WritesPairAndTwoFreeBlocks t index t
+pub writes_none : (t : KeptThread) (index : ℕ) → WritesPairAndTwoFreeBlocks t index t
 writes_none t index = record {
   fresh = [];
   few = omega arith;
   free = tt;
   writes = record {
     others = record { count = refl; sizes = λ b. refl; others = λ b apart. refl };
-    elsewhere = AreBytesStillUnprogrammed-refl ((kept_pair_at_index t index).at.0 ∷ (kept_pair_at_index t index).at.1 ∷ []) t.history;
+    elsewhere = AreBytesStillUnprogrammed-refl ((thread_pair_at_index t index).at.0 ∷ (thread_pair_at_index t index).at.1 ∷ []) t.history;
     shape = record { block_size = refl; page = refl; order = refl; count = refl };
     at_worst = began;
   };
@@ -133,28 +133,28 @@ writes_none t index = record {
 -- ---- after reads
 
 -- with a later history
-abbrev pub with_history : Kept → List CallEvent → Kept
+abbrev pub with_history : KeptThread → List DeviceCallEvent → KeptThread
 with_history t h = record t { history = h }
 
-pub read_is : (t mid : Kept) → IsThreadOnlyRead t mid → mid ≡ with_history t mid.history
+pub read_is : (t mid : KeptThread) → IsThreadOnlyRead t mid → mid ≡ with_history t mid.history
 read_is t mid r = λ j. record { disk = r.disk j; history = mid.history; pairs = r.pairs j; map = r.map j }
 
-module _ (t : Kept) (h : List CallEvent) (reads : AreCallsSinceOnlyReads t.disk.blocks t.history h) (index : ℕ) (changes : List ContentChange) where
-  abbrev later : Kept
+module _ (t : KeptThread) (h : List DeviceCallEvent) (reads : AreCallsSinceOnlyReads t.disk.blocks t.history h) (index : ℕ) (changes : List PairContentChange) where
+  abbrev later : KeptThread
   later = with_history t h
 
-  parts_earlier : {content : Content} {cut : ℕ} {fresh : ℕ × ℕ} {disk : Disk} → PartsFitPairs later index content cut fresh disk → PartsFitPairs t index content cut fresh disk
+  parts_earlier : {content : PairContent} {cut : ℕ} {fresh : ℕ × ℕ} {disk : Disk} → SplitPartsFitPairs later index content cut fresh disk → SplitPartsFitPairs t index content cut fresh disk
   parts_earlier p = record { front_fits = p.front_fits; back_fits = p.back_fits; inside = p.inside; first = p.first }
 
-  writes_behind : (bs : List ℕ) (new : Kept) → ThreadChangesOnlyTheseBlocks bs later new → ThreadChangesOnlyTheseBlocks bs t new
+  writes_behind : (bs : List ℕ) (new : KeptThread) → ThreadChangesOnlyTheseBlocks bs later new → ThreadChangesOnlyTheseBlocks bs t new
   writes_behind bs new w = record {
     others = w.others;
-    elsewhere = AreBytesStillUnprogrammed-trans (AreBytesStillUnprogrammed-reads bs reads) w.elsewhere;
+    elsewhere = AreBytesStillUnprogrammed-trans (AreBytesStillUnprogrammed-read_count_of_history bs reads) w.elsewhere;
     shape = w.shape;
-    at_worst = IsTrueAfterEachStopSince-trans (IsTrueAfterEachStopSince-reads IsWorstOutcomeOfStop-read reads (record { count = refl; sizes = λ b. refl; others = λ b apart. refl })) w.at_worst;
+    at_worst = IsTrueAfterAnyPowerLossSince-trans (IsTrueAfterAnyPowerLossSince-read_count_of_history ArePossibleBlocksAfterPowerLossInCall-read reads (record { count = refl; sizes = λ b. refl; others = λ b apart. refl })) w.at_worst;
   }
 
-  pub cut_later : (new : Kept) → IsPairSplit later index changes new → IsPairSplit t index changes new
+  pub cut_later : (new : KeptThread) → IsPairSplit later index changes new → IsPairSplit t index changes new
   cut_later new (fresh, is) = (
     fresh,
     record {
@@ -168,7 +168,7 @@ module _ (t : Kept) (h : List CallEvent) (reads : AreCallsSinceOnlyReads t.disk.
       pairs = is.pairs;
       thread = is.thread;
       map = is.map;
-      writes = writes_behind (blocks_of_two_addresses (kept_pair_at_index t index).at fresh) new is.writes;
+      writes = writes_behind (blocks_of_two_pair_addresses (thread_pair_at_index t index).at fresh) new is.writes;
     },
   )
 
@@ -180,7 +180,7 @@ module _ (t : Kept) (h : List CallEvent) (reads : AreCallsSinceOnlyReads t.disk.
       go (inl b) = inl (record { holds = b.holds; first = b.first })
       go (inr k) = inr (record { content = k.content; made = k.made; cut = k.cut; front = k.front; back = k.back; parts = parts_earlier k.parts })
 
-  pub reports_later : {X : Type 0} (new : Kept) (result : Result X Error) → faults h ≡ faults t.history → ReportsFaultOrNoSpace later new result → ReportsFaultOrNoSpace t new result
+  pub reports_later : {X : Type 0} (new : KeptThread) (result : Result X Error) → fault_count_of_history h ≡ fault_count_of_history t.history → ReportsFaultsChangingNothingAtNoSpace later new result → ReportsFaultsChangingNothingAtNoSpace t new result
   reports_later new result same reported = record {
     errors = reported.errors;
     fault = λ io. (let k = reported.fault io in omega (arith, k, same));
@@ -190,28 +190,28 @@ module _ (t : Kept) (h : List CallEvent) (reads : AreCallsSinceOnlyReads t.disk.
     no_space = reported.no_space;
   }
 
-  pub writes_later : (new : Kept) → WritesPairAndTwoFreeBlocks later index new → WritesPairAndTwoFreeBlocks t index new
+  pub writes_later : (new : KeptThread) → WritesPairAndTwoFreeBlocks later index new → WritesPairAndTwoFreeBlocks t index new
   writes_later new w = record {
     fresh = w.fresh;
     few = w.few;
     free = w.free;
-    writes = writes_behind ((kept_pair_at_index t index).at.0 ∷ (kept_pair_at_index t index).at.1 ∷ w.fresh) new w.writes;
+    writes = writes_behind ((thread_pair_at_index t index).at.0 ∷ (thread_pair_at_index t index).at.1 ∷ w.fresh) new w.writes;
   }
 
-  pub stops_later : (new : Kept) → IsChangedContentTooLarge t index changes → WritesPairAndTwoFreeBlocks later index new → StopsAfterCleanErasesLeave t.history h (LeavesPairOldOrChanged t index changes) → StopsAfterCleanErasesLeave h new.history (IsLeftByStoppedSplit later index changes)
-      → StopsAfterCleanErasesLeave t.history new.history (IsLeftByStoppedChangeOrSplit t index changes)
+  pub stops_later : (new : KeptThread) → IsChangedContentTooLarge t index changes → WritesPairAndTwoFreeBlocks later index new → PowerLossLeavesSuchBlocksAfterCleanErases t.history h (PowerLossLeavesPairOldOrChanged t index changes) → PowerLossLeavesSuchBlocksAfterCleanErases h new.history (IsLeftByStoppedSplit later index changes)
+      → PowerLossLeavesSuchBlocksAfterCleanErases t.history new.history (IsLeftByStoppedChangeOrSplit t index changes)
   stops_later new large w first second clean =
-      IsTrueAfterEachStopSince-trans (IsTrueAfterEachStopSince-weaker (λ left l. inl l) (first (IsTrueOfEachCallSince-until clean reads w.writes.at_worst)))
-      (IsTrueAfterEachStopSince-weaker (λ left l. inr (large, left_later left l)) (second (IsTrueOfEachCallSince-behind clean reads w.writes.at_worst)))
+      IsTrueAfterAnyPowerLossSince-trans (IsTrueAfterAnyPowerLossSince-weaker (λ left l. inl l) (first (IsTrueOfEachCallSince-until clean reads w.writes.at_worst)))
+      (IsTrueAfterAnyPowerLossSince-weaker (λ left l. inr (large, left_later left l)) (second (IsTrueOfEachCallSince-behind clean reads w.writes.at_worst)))
 
 -- ---- with whether the thread has failed
 
-failing : {Y : Type 0} (e : Error) (given : Result Y Error) → given ≡ Err e → (e ≡ Io) ⊎ (e ≡ NoMemory) → has_failed given ≡ true
-failing e given same (inl io) = ap has_failed (same ∙ ap Err io)
-failing e given same (inr memory) = ap has_failed (same ∙ ap Err memory)
+failing : {Y : Type 0} (e : Error) (given : Result Y Error) → given ≡ Err e → (e ≡ Io) ⊎ (e ≡ NoMemory) → has_thread_failed_after_result given ≡ true
+failing e given same (inl io) = ap has_thread_failed_after_result (same ∙ ap Err io)
+failing e given same (inr memory) = ap has_thread_failed_after_result (same ∙ ap Err memory)
 
 pub reports_state : {X Y : Type 0} (old new : ThreadView) (sets : BlockStateList) (e : Error) (result : Result X Error) (given : Result Y Error) → result ≡ Err e → given ≡ Err e → new.failed ≡ is_err result
-    → HasReportedIoOrUnwrittenNoMemory (with_map old.kept sets) new.kept result → Reports old new given
+    → IoMeantFaultNoMemoryWroteNothing (with_map old.kept sets) new.kept result → ReportsErrorsOfCommitTakingBlocks old new given
 reports_state old new sets e result given is same failed reported = record {
   failed = failed ∙ ap is_err is ∙ sym (failing e given same (subst (λ r. IfErr r (λ x. (x ≡ Io) ⊎ (x ≡ NoMemory))) is reported.errors));
   reports = reports old.kept new.kept sets e result given is same reported;

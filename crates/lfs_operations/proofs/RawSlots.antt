@@ -4,12 +4,12 @@ use Rattle.std.specs.Prelude.{is_some}
 use Rattle.std.specs.Option.{option_and_then, option_map}
 use Rattle.std.proofs.lemmas.Option.{same_Some}
 use Rattle.std.proofs.lemmas.List.Sums.{sum_by-cons}
-use Rattle.lfs_model.specs.Content.{RawSlot, complete, slots_if_all_complete, kind_of_name_type, slot_of_id, struct_of_type_and_bytes, attributes_without_attribute}
+use Rattle.lfs_model.specs.Content.{RawSlot, slot_if_name_and_struct_present, slots_if_names_and_structs_present, kind_of_name_type, slot_of_id, struct_of_type_and_bytes, attributes_without_attribute}
 use Rattle.lfs_model.specs.Slots.{Attributes, Slot, attributes_size}
 use Rattle.lfs_model.proofs.Completed.{complete_parts}
 
 -- it has a name
-pub is_named : (s : RawSlot) (t : Slot) → complete s ≡ Some t → is_some s.name ≡ true
+pub is_named : (s : RawSlot) (t : Slot) → slot_if_name_and_struct_present s ≡ Some t → is_some s.name ≡ true
 is_named s t h = go s.name h
   where
     go : (o : Option (ℕ × List ℕ)) → option_and_then (λ name. option_map (λ struct. record {
@@ -22,7 +22,7 @@ is_named s t h = go s.name h
     go (Some n) k = refl
 
 -- with other attributes
-pub complete_with : (s : RawSlot) (t : Slot) (f : Attributes → Attributes) → complete s ≡ Some t → complete (record s { attributes = f s.attributes }) ≡ Some (record t { attributes = f t.attributes })
+pub complete_with : (s : RawSlot) (t : Slot) (f : Attributes → Attributes) → slot_if_name_and_struct_present s ≡ Some t → slot_if_name_and_struct_present (record s { attributes = f s.attributes }) ≡ Some (record t { attributes = f t.attributes })
 complete_with s t f h = go s.name s.struct h
   where
     go : (o q : Option (ℕ × List ℕ)) → option_and_then (λ name. option_map (λ struct. record {
@@ -47,12 +47,12 @@ complete_with s t f h = go s.name s.struct h
 pub record IsRaw (xs : List RawSlot) (front : List Slot) (u : Slot) : Type 0 where
   pub here : RawSlot
   pub there : slot_of_id xs (length front) ≡ here
-  pub is : complete here ≡ Some u
+  pub is : slot_if_name_and_struct_present here ≡ Some u
 
-pub is_raw : (xs : List RawSlot) (front : List Slot) (u : Slot) (back : List Slot) → slots_if_all_complete xs ≡ Some (front ++ u ∷ back) → IsRaw xs front u
+pub is_raw : (xs : List RawSlot) (front : List Slot) (u : Slot) (back : List Slot) → slots_if_names_and_structs_present xs ≡ Some (front ++ u ∷ back) → IsRaw xs front u
 is_raw [] front u back e = absurd (none front e)
   where
-    none : (front : List Slot) → slots_if_all_complete [] ≡ Some (front ++ u ∷ back) → ⊥
+    none : (front : List Slot) → slots_if_names_and_structs_present [] ≡ Some (front ++ u ∷ back) → ⊥
     none [] k = cc
     none (t ∷ front) k = cc
 is_raw (x ∷ xs) [] u back e =
@@ -80,7 +80,7 @@ fewer_attributes kind (a ∷ rest) = go (nat_eq a.0 kind) (fewer_attributes kind
     go false l = omega (arith, sum_by-cons (λ (x : ℕ × List ℕ). 4 + length x.1) a rest, sum_by-cons (λ (x : ℕ × List ℕ). 4 + length x.1) a (attributes_without_attribute kind rest))
 
 -- with another struct
-pub complete_struct : (s : RawSlot) (t : Slot) (part : ℕ × List ℕ) → complete s ≡ Some t → complete (record s { struct = Some part }) ≡ Some (record t { struct = struct_of_type_and_bytes part.0 part.1 })
+pub complete_struct : (s : RawSlot) (t : Slot) (part : ℕ × List ℕ) → slot_if_name_and_struct_present s ≡ Some t → slot_if_name_and_struct_present (record s { struct = Some part }) ≡ Some (record t { struct = struct_of_type_and_bytes part.0 part.1 })
 complete_struct s t part h = go s.name s.struct h
   where
     go : (o q : Option (ℕ × List ℕ)) → option_and_then (λ name. option_map (λ struct. record {

@@ -2,21 +2,21 @@
 use Rattle.std.proofs.Common.{ℕ, zero, suc, ◌≡◌, ◌≤◌, inl, inr, Bool, true, false, cond, List, [], ◌∷◌, ◌++◌, map, length, Option, Some, None, refl, sym, ap, ap₂, subst, ◌∙◌, arith}
 use Rattle.std.specs.Prelude.{is_none}
 use Rattle.lfs_model.specs.Disk.{Disk}
-use Rattle.lfs_model.specs.Layout.{ArePairsKeptSplitOrDropped, FitsPairOnDisk, IsDirectoryUnreachedOrRemoved, IsPairKeptSplitOrDropped, directory_address_of_pair, directory_address_after_pair}
+use Rattle.lfs_model.specs.Layout.{ArePairsKeptSplitOrDropped, IsContentFittingPairOnDisk, IsDirectoryUnreachedOrRemoved, IsPairKeptSplitOrDropped, directory_address_of_pair, directory_address_continued_by_hard_tail}
 use Rattle.lfs_model.specs.Operations as ops
 use Rattle.lfs_model.specs.SlotEdits.{pair_with_slots, pairs_without_moved_slot}
 use Rattle.lfs_model.specs.Slots.{IsContentFittingPair, Gstate, same_pair}
-use Rattle.lfs_model.specs.Thread.{Pair, gstate_of, is_hard_tail, pair_count_before_root, slots_not_moved}
-use Rattle.lfs_model.specs.Shown.{IsDirectoryReached}
+use Rattle.lfs_model.specs.Thread.{Pair, gstate_of_pairs, is_hard_tail, pair_count_before_root, slots_not_moved}
+use Rattle.lfs_model.specs.Shown.{IsDirectoryAddressReachedBySomePath}
 use Rattle.lfs_model.proofs.Became.{fits_same}
-use Rattle.lfs_model.proofs.Changes.{Follows}
+use Rattle.lfs_model.proofs.Changes.{IsImageAfterTreeChange}
 use Rattle.lfs_model.proofs.Counts.{Each}
 use Rattle.lfs_model.proofs.Global.{HasNoMove, unmoved_all}
 use Rattle.lfs_model.proofs.Layouts.{joined_parts}
 use Rattle.lfs_model.proofs.Rests.{unmoved_elsewhere}
-use Rattle.lfs_thread.specs.Kept.{Kept}
+use Rattle.lfs_thread.specs.Kept.{KeptThread}
 use Rattle.lfs_thread.specs.Steps.{HasSameGeometry}
-use Rattle.lfs_operations.specs.EndingMove.{AllowsSameRecoveries}
+use Rattle.lfs_operations.specs.EndingMove.{IsEachRecoveryOfNewAllowedForOld}
 
 -- ---- pairs of the same addresses and slots, which hard tails join alike
 
@@ -50,20 +50,20 @@ begin_kin : (from : Option (ℕ × ℕ)) (d e : Pair) → e.at ≡ d.at → dire
 begin_kin None d e h = h
 begin_kin (Some a) d e h = refl
 
-onward_kin : (from : Option (ℕ × ℕ)) (d e : Pair) → IsKin d e → directory_address_after_pair from e ≡ directory_address_after_pair from d
+onward_kin : (from : Option (ℕ × ℕ)) (d e : Pair) → IsKin d e → directory_address_continued_by_hard_tail from e ≡ directory_address_continued_by_hard_tail from d
 onward_kin from d e k = ap₂ (λ (b : Bool) (a : ℕ × ℕ). cond b (Some a) None) k.hard (begin_kin from d e k.at)
 
 module _ (disk other : Disk) (G H : ℕ × ℕ → Type 0) (alike : GoAlike disk other G H) where
-  fits_on : (p : Pair) → FitsPairOnDisk other p → FitsPairOnDisk disk p
+  fits_on : (p : Pair) → IsContentFittingPairOnDisk other p → IsContentFittingPairOnDisk disk p
   fits_on p h = subst (λ b. IsContentFittingPair b disk.page p.content) alike.block_size (subst (λ z. IsContentFittingPair other.block_size z p.content) alike.page h)
 
-  fits_off : (p : Pair) → FitsPairOnDisk disk p → FitsPairOnDisk other p
+  fits_off : (p : Pair) → IsContentFittingPairOnDisk disk p → IsContentFittingPairOnDisk other p
   fits_off p h = subst (λ b. IsContentFittingPair b other.page p.content) (sym alike.block_size) (subst (λ z. IsContentFittingPair disk.block_size z p.content) (sym alike.page) h)
 
-  fits_kin : (d e : Pair) → e.content.slots ≡ d.content.slots → FitsPairOnDisk other e → FitsPairOnDisk disk d
+  fits_kin : (d e : Pair) → e.content.slots ≡ d.content.slots → IsContentFittingPairOnDisk other e → IsContentFittingPairOnDisk disk d
   fits_kin d e slots h = fits_same disk e d (sym slots) (fits_on e h)
 
-  fits_from : (d e : Pair) → e.content.slots ≡ d.content.slots → FitsPairOnDisk disk d → FitsPairOnDisk other e
+  fits_from : (d e : Pair) → e.content.slots ≡ d.content.slots → IsContentFittingPairOnDisk disk d → IsContentFittingPairOnDisk other e
   fits_from d e slots h = fits_off e (fits_same disk d e slots h)
 
   stands_kin : (first : Bool) (g h : Type 0) (d e : Pair) (now : List Pair) → (h → g) → (g → h) → e.at ≡ d.at → e.content.slots ≡ d.content.slots → IsPairKeptSplitOrDropped other first h e now → IsPairKeptSplitOrDropped disk first g d now
@@ -84,7 +84,7 @@ module _ (disk other : Disk) (G H : ℕ × ℕ → Type 0) (alike : GoAlike disk
   stand_kin n from (d ∷ ds) [] parts k s = absurd k
   stand_kin n from (d ∷ ds) (e ∷ es) [] k s = absurd s
   stand_kin zero from (d ∷ ds) (e ∷ es) (now ∷ parts) k s =
-      (here_kin from d e now k.0.at k.0.slots s.0, stand_kin zero (directory_address_after_pair from d) ds es parts k.1 (subst (λ z. ArePairsKeptSplitOrDropped other H zero z es parts) (onward_kin from d e k.0) s.1))
+      (here_kin from d e now k.0.at k.0.slots s.0, stand_kin zero (directory_address_continued_by_hard_tail from d) ds es parts k.1 (subst (λ z. ArePairsKeptSplitOrDropped other H zero z es parts) (onward_kin from d e k.0) s.1))
   stand_kin (suc n) from (d ∷ ds) (e ∷ es) (now ∷ parts) k s = (stands_kin true ⊥ ⊥ d e now (λ x. x) (λ x. x) k.0.at k.0.slots s.0, stand_kin n None ds es parts k.1 s.1)
 
   -- ---- a pair without slots goes
@@ -102,16 +102,16 @@ module _ (disk other : Disk) (G H : ℕ × ℕ → Type 0) (alike : GoAlike disk
       here_kin from d e now gap.at gap.slots s.0,
       subst (λ (z : Option (ℕ × ℕ)). ArePairsKeptSplitOrDropped disk G 0 z (x ∷ ds) ([] ∷ parts)) (sym on) (
         inr (refl, gap.none),
-        stand_kin 0 (directory_address_after_pair (Some (directory_address_of_pair from d)) x) ds es parts k (subst (λ z. ArePairsKeptSplitOrDropped other H 0 z es parts) same s.1),
+        stand_kin 0 (directory_address_continued_by_hard_tail (Some (directory_address_of_pair from d)) x) ds es parts k (subst (λ z. ArePairsKeptSplitOrDropped other H 0 z es parts) same s.1),
       ),
     );
     same = refl;
   }
     where
-      on : directory_address_after_pair from d ≡ Some (directory_address_of_pair from d)
+      on : directory_address_continued_by_hard_tail from d ≡ Some (directory_address_of_pair from d)
       on = ap (λ b. cond b (Some (directory_address_of_pair from d)) None) gap.led
 
-      same : directory_address_after_pair from e ≡ directory_address_after_pair (Some (directory_address_of_pair from d)) x
+      same : directory_address_continued_by_hard_tail from e ≡ directory_address_continued_by_hard_tail (Some (directory_address_of_pair from d)) x
       same = ap₂ (λ (b : Bool) (a : ℕ × ℕ). cond b (Some a) None) gap.tail (begin_kin from d e gap.at)
 
   pub stand_gap : (n : ℕ) (from : Option (ℕ × ℕ)) (xs : List Pair) (d x : Pair) (ds ys : List Pair) (e : Pair) (es : List Pair) (parts : List (List Pair)) → n ≤ length xs → AreKin xs ys → IsGap d x e → AreKin ds es
@@ -122,7 +122,7 @@ module _ (disk other : Disk) (G H : ℕ × ℕ → Type 0) (alike : GoAlike disk
   stand_gap n from (w ∷ xs) d x ds [] e es parts low k gap l s = absurd k
   stand_gap n from (w ∷ xs) d x ds (y ∷ ys) e es [] low k gap l s = absurd s
   stand_gap zero from (w ∷ xs) d x ds (y ∷ ys) e es (now ∷ parts) low k gap l s =
-      let r = stand_gap zero (directory_address_after_pair from w) xs d x ds ys e es parts (omega arith) k.1 gap l (subst (λ z. ArePairsKeptSplitOrDropped other H zero z (ys ++ e ∷ es) parts) (onward_kin from w y k.0) s.1) in
+      let r = stand_gap zero (directory_address_continued_by_hard_tail from w) xs d x ds ys e es parts (omega arith) k.1 gap l (subst (λ z. ArePairsKeptSplitOrDropped other H zero z (ys ++ e ∷ es) parts) (onward_kin from w y k.0) s.1) in
       record { parts = now ∷ r.parts; stand = (here_kin from w y now k.0.at k.0.slots s.0, r.stand); same = ap (λ z. now ++ z) r.same }
   stand_gap (suc n) from (w ∷ xs) d x ds (y ∷ ys) e es (now ∷ parts) low k gap l s =
       let r = stand_gap n None xs d x ds ys e es parts (omega arith) k.1 gap l s.1 in
@@ -161,13 +161,13 @@ hidden_in_none g (p ∷ ps) n = ap₂ (λ (s : Pair) (z : List Pair). s ∷ z) (
 -- ---- of two threads
 
 -- paths lead to the same directories
-pub go_alike : (old new : Kept) (walk : Follows old.disk old.pairs new.disk new.pairs (λ t. t) (λ d. d)) → HasSameGeometry old.disk new.disk → GoAlike old.disk new.disk (IsDirectoryUnreachedOrRemoved old.pairs ops.Recover) (IsDirectoryUnreachedOrRemoved new.pairs ops.Recover)
+pub go_alike : (old new : KeptThread) (walk : IsImageAfterTreeChange old.disk old.pairs new.disk new.pairs (λ t. t) (λ d. d)) → HasSameGeometry old.disk new.disk → GoAlike old.disk new.disk (IsDirectoryUnreachedOrRemoved old.pairs ops.Recover) (IsDirectoryUnreachedOrRemoved new.pairs ops.Recover)
 go_alike old new walk shape = record { block_size = shape.block_size; page = shape.page; there = there; back = back }
   where
-    on : (a : ℕ × ℕ) → IsDirectoryReached old.pairs a → IsDirectoryReached new.pairs a
+    on : (a : ℕ × ℕ) → IsDirectoryAddressReachedBySomePath old.pairs a → IsDirectoryAddressReachedBySomePath new.pairs a
     on a (path, at, (l, s)) = (path, at, (ap (λ z. z path) walk.leads ∙ l, s))
 
-    off : (a : ℕ × ℕ) → IsDirectoryReached new.pairs a → IsDirectoryReached old.pairs a
+    off : (a : ℕ × ℕ) → IsDirectoryAddressReachedBySomePath new.pairs a → IsDirectoryAddressReachedBySomePath old.pairs a
     off a (path, at, (l, s)) = (path, at, (ap (λ z. z path) (sym walk.leads) ∙ l, s))
 
     there : (a : ℕ × ℕ) → IsDirectoryUnreachedOrRemoved new.pairs ops.Recover a → IsDirectoryUnreachedOrRemoved old.pairs ops.Recover a
@@ -178,13 +178,13 @@ go_alike old new walk shape = record { block_size = shape.block_size; page = sha
     back a (inl n) = inl (λ r. n (off a r))
     back a (inr k) = inr k
 
-module _ (old new : Kept) (alike : GoAlike old.disk new.disk (IsDirectoryUnreachedOrRemoved old.pairs ops.Recover) (IsDirectoryUnreachedOrRemoved new.pairs ops.Recover)) (none : HasNoMove (gstate_of new.pairs)) (same : pair_count_before_root new.pairs ≡ pair_count_before_root old.pairs) where
+module _ (old new : KeptThread) (alike : GoAlike old.disk new.disk (IsDirectoryUnreachedOrRemoved old.pairs ops.Recover) (IsDirectoryUnreachedOrRemoved new.pairs ops.Recover)) (none : HasNoMove (gstate_of_pairs new.pairs)) (same : pair_count_before_root new.pairs ≡ pair_count_before_root old.pairs) where
   stand_now : (drafts : List Pair) (parts : List (List Pair)) → drafts ≡ pairs_without_moved_slot new.pairs → ArePairsKeptSplitOrDropped new.disk (IsDirectoryUnreachedOrRemoved new.pairs ops.Recover) (pair_count_before_root new.pairs) None drafts parts
       → ArePairsKeptSplitOrDropped new.disk (IsDirectoryUnreachedOrRemoved new.pairs ops.Recover) (pair_count_before_root old.pairs) None new.pairs parts
   stand_now drafts parts e s = subst (λ n. ArePairsKeptSplitOrDropped new.disk (IsDirectoryUnreachedOrRemoved new.pairs ops.Recover) n None new.pairs parts) same
-      (subst (λ z. ArePairsKeptSplitOrDropped new.disk (IsDirectoryUnreachedOrRemoved new.pairs ops.Recover) (pair_count_before_root new.pairs) None z parts) (e ∙ hidden_in_none (gstate_of new.pairs) new.pairs none) s)
+      (subst (λ z. ArePairsKeptSplitOrDropped new.disk (IsDirectoryUnreachedOrRemoved new.pairs ops.Recover) (pair_count_before_root new.pairs) None z parts) (e ∙ hidden_in_none (gstate_of_pairs new.pairs) new.pairs none) s)
 
-  pub laid_out_kin : AreKin (pairs_without_moved_slot old.pairs) new.pairs → AllowsSameRecoveries old new
+  pub laid_out_kin : AreKin (pairs_without_moved_slot old.pairs) new.pairs → IsEachRecoveryOfNewAllowedForOld old new
   laid_out_kin kin s disk qs h = record {
     drafts = pairs_without_moved_slot old.pairs;
     parts = h.parts;
@@ -198,7 +198,7 @@ module _ (old new : Kept) (alike : GoAlike old.disk new.disk (IsDirectoryUnreach
   }
 
   pub laid_out_gap : (xs : List Pair) (d x : Pair) (ds ys : List Pair) (e : Pair) (es : List Pair) → pairs_without_moved_slot old.pairs ≡ xs ++ d ∷ x ∷ ds → new.pairs ≡ ys ++ e ∷ es → pair_count_before_root old.pairs ≤ length xs
-      → AreKin xs ys → IsGap d x e → AreKin ds es → AllowsSameRecoveries old new
+      → AreKin xs ys → IsGap d x e → AreKin ds es → IsEachRecoveryOfNewAllowedForOld old new
   laid_out_gap xs d x ds ys e es was is low k gap l s disk qs h =
       let now = subst (λ z. ArePairsKeptSplitOrDropped new.disk (IsDirectoryUnreachedOrRemoved new.pairs ops.Recover) (pair_count_before_root old.pairs) None z h.parts) is (stand_now h.drafts h.parts h.edits.1 h.stand) in
       let r = stand_gap old.disk new.disk (IsDirectoryUnreachedOrRemoved old.pairs ops.Recover) (IsDirectoryUnreachedOrRemoved new.pairs ops.Recover) alike (pair_count_before_root old.pairs) None xs d x ds ys e es h.parts low k gap l now in

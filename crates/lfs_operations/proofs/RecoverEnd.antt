@@ -6,37 +6,37 @@ use Rattle.std.proofs.lemmas.List.Elements.{All-from_recursion, recursion_from_A
 use Rattle.lfs_device.specs.declared.error.Error.{Error}
 use Rattle.lfs_model.specs.Blocks.{Blocks}
 use Rattle.lfs_model.specs.Disk.{SameGeometry, block_bytes_on_disk}
-use Rattle.lfs_model.specs.History.{CallEvent, faults}
+use Rattle.lfs_model.specs.History.{DeviceCallEvent, fault_count_of_history}
 use Rattle.lfs_model.specs.LoggedContent.{Are32BitPairAddresses}
-use Rattle.lfs_model.specs.PowerLoss.{ShowsTreeBeforeOrAfter as IsLeftOf, SurvivesStopsSince, with_blocks}
-use Rattle.lfs_model.specs.Layout.{directory_address_after_pair}
+use Rattle.lfs_model.specs.PowerLoss.{HasTreeBeforeOrAfterOperation as IsLeftOf, SurvivesPowerLossInCallsSince, disk_with_blocks}
+use Rattle.lfs_model.specs.Layout.{directory_address_continued_by_hard_tail}
 use Rattle.lfs_model.specs.Recovery.{IsNothingLeftToRecover}
 use Rattle.lfs_model.specs.Slots.{Gstate, Slot, zero_gstate}
-use Rattle.lfs_model.specs.Thread.{AreLinkedByTails, ThreadDirectory, Pair, anchor_pair_address, blocks_of_pairs, pairs_of_all_directories, gstate_of, leads_on, has_superblock_as_first_slot, pair_count_before_root}
+use Rattle.lfs_model.specs.Thread.{AreLinkedByTails, ThreadDirectory, Pair, anchor_pair_address, blocks_of_pairs, pairs_from_root_directory_on, gstate_of_pairs, may_superblock_chain_continue_after_pair, has_superblock_in_first_nonempty_pair, pair_count_before_root}
 use Rattle.lfs_model.specs.View.{IsAcceptedImage}
-use Rattle.lfs_model.specs.Shown.{IsDirectoryReached, all_slots_not_moved, directories_in_thread, skip_list_blocks_of_struct, tree_on_disk}
-use Rattle.lfs_model.specs.Profile.{IsWritable}
+use Rattle.lfs_model.specs.Shown.{IsDirectoryAddressReachedBySomePath, all_slots_not_moved, directories_in_thread, skip_list_blocks_of_struct, tree_on_disk}
+use Rattle.lfs_model.specs.Profile.{IsWritableImage}
 use Rattle.lfs_model.proofs.AfterStops.{survives_then}
-use Rattle.lfs_model.proofs.Alike.{AreAlike, alike_itself}
+use Rattle.lfs_model.proofs.Alike.{ArePairsWithSameAddressesAndSlots, alike_itself}
 use Rattle.lfs_model.proofs.Changes.{SameFiles, follows_itself}
-use Rattle.lfs_model.proofs.Counts.{Each, count, each_always, each_weaker}
-use Rattle.lfs_model.proofs.Files.{HasSameFile}
+use Rattle.lfs_model.proofs.Counts.{Each, occurrence_count_of_number, each_always, each_weaker}
+use Rattle.lfs_model.proofs.Files.{HasSameFileBlocksOfStructOnDisks}
 use Rattle.lfs_model.proofs.Found.{chain_of_thread}
 use Rattle.lfs_model.proofs.Global.{HasNoMove}
-use Rattle.lfs_model.proofs.Histories.{IsTrueAfterEachStopSince-weaker}
+use Rattle.lfs_model.proofs.Histories.{IsTrueAfterAnyPowerLossSince-weaker}
 use Rattle.lfs_model.proofs.Layouts.{NoneGoes, none_where, rest_all}
 use Rattle.lfs_model.proofs.Moves.{AllReached}
 use Rattle.lfs_model.proofs.Recovering.{recovery_ends}
 use Rattle.lfs_model.proofs.Sites.{thread_at}
-use Rattle.lfs_model.proofs.StepsTaken.{IsOnlyStep}
+use Rattle.lfs_model.proofs.StepsTaken.{IsWritableImageAfterTreeChange}
 use Rattle.lfs_model.proofs.Superblocks.{pairs_behind}
-use Rattle.lfs_thread.specs.Device.{StopsAfterCleanErasesLeave}
-use Rattle.lfs_thread.specs.Kept.{Kept, ThreadView}
-use Rattle.lfs_thread.specs.Steps.{IsPairChanged, LeavesPairOldOrChanged, IsPairWrittenOnDisk, ThreadChangesOnlyTheseBlocks, pairs_with_content_at_index}
+use Rattle.lfs_thread.specs.Device.{PowerLossLeavesSuchBlocksAfterCleanErases}
+use Rattle.lfs_thread.specs.Kept.{KeptThread, ThreadView}
+use Rattle.lfs_thread.specs.Steps.{IsPairChanged, PowerLossLeavesPairOldOrChanged, IsPairWrittenOnDisk, ThreadChangesOnlyTheseBlocks, thread_pairs_with_content_replaced_at_index}
 use Rattle.lfs_operations.specs.Deltas.{CanSetGstateInPair, gstate_setting_changes, delta_reaching_gstate}
-use Rattle.lfs_operations.specs.Recovering.{AreUnreachedPairNumbers, AreUnreachedPairNumbersFrom, CanClearSyncBit, HasDroppedUnreachedAndRecovered, IsSyncBitCleared, ReportsOfRecovery, list_blocks_of_numbered_pairs, slots_of_numbered_pairs}
+use Rattle.lfs_operations.specs.Recovering.{AreUnreachedPairNumbers, AreUnreachedPairNumbersFrom, CanClearSyncBit, HasDroppedUnreachedPairsAndRecovered, IsSyncBitCleared, ReportsErrorsOfRecovery, list_blocks_of_numbered_pairs, slots_of_numbered_pairs}
 use Rattle.lfs_operations.specs.Dropping.{HasSameBlocksInFlight}
-use Rattle.lfs_operations.specs.Removing.{ReportsCommitTakingNoBlock}
+use Rattle.lfs_operations.specs.Removing.{ReportsErrorsOfCommitTakingNoBlock}
 use Rattle.lfs_operations.proofs.Removed.{reports_again}
 use Rattle.lfs_operations.proofs.RecoverLists.{each_at, files_kept, reported_once}
 use Rattle.lfs_operations.proofs.RecoverLoop.{EachBegins, IsAtDrop, IsAtEnd, all_where, begins_weaker, goes_to}
@@ -50,7 +50,7 @@ use Rattle.lfs_operations.proofs.RootStays.{alike_stays}
 
 fewer : (p : Pair) (ps : List Pair) → pair_count_before_root (p ∷ ps) < length (p ∷ ps)
 fewer p [] = omega arith
-fewer p (q ∷ ps) = go (has_superblock_as_first_slot (q ∷ ps) && leads_on p) (fewer q ps)
+fewer p (q ∷ ps) = go (has_superblock_in_first_nonempty_pair (q ∷ ps) && may_superblock_chain_continue_after_pair p) (fewer q ps)
   where
     go : (b : Bool) → pair_count_before_root (q ∷ ps) < length (q ∷ ps) → cond b (1 + pair_count_before_root (q ∷ ps)) 0 < length (p ∷ q ∷ ps)
     go true l = omega arith
@@ -66,18 +66,18 @@ none_is g h s = ap (λ (b : Bool). record { sync = b; kind = g.kind; id = g.id; 
     ∙ ap (λ (k : ℕ). record { sync = false; kind = 0; id = k; pair = g.pair }) h.id
     ∙ ap (λ (k : ℕ × ℕ). record { sync = false; kind = 0; id = 0; pair = k }) h.pair
 
-module _ (t : Kept) (can : CanClearSyncBit t) where
+module _ (t : KeptThread) (can : CanClearSyncBit t) where
   pub enough : pair_count_before_root t.pairs < length t.pairs
   enough = some_pairs t.pairs can.accepted.thread.links
 
-  pub cleared_already : (gstate_of t.pairs).sync ≡ false → IsSyncBitCleared t t
+  pub cleared_already : (gstate_of_pairs t.pairs).sync ≡ false → IsSyncBitCleared t t
   cleared_already s = record {
     taken = record { follows = follows_itself t.disk t.pairs can.accepted; writable = can.writable };
     alike = alike_itself t.pairs;
-    settled = none_is (gstate_of t.pairs) can.none s;
+    settled = none_is (gstate_of_pairs t.pairs) can.none s;
     map = refl;
-    files = All-from_recursion (λ (s : Slot). HasSameFile t.disk t.disk s.struct) (all_slots_not_moved t.pairs)
-        (each_always (λ (s : Slot). HasSameFile t.disk t.disk s.struct) (λ s. each_always (λ b. block_bytes_on_disk t.disk b ≡ block_bytes_on_disk t.disk b) (λ b. refl) (skip_list_blocks_of_struct t.disk s.struct)) (all_slots_not_moved t.pairs));
+    files = All-from_recursion (λ (s : Slot). HasSameFileBlocksOfStructOnDisks t.disk t.disk s.struct) (all_slots_not_moved t.pairs)
+        (each_always (λ (s : Slot). HasSameFileBlocksOfStructOnDisks t.disk t.disk s.struct) (λ s. each_always (λ b. block_bytes_on_disk t.disk b ≡ block_bytes_on_disk t.disk b) (λ b. refl) (skip_list_blocks_of_struct t.disk s.struct)) (all_slots_not_moved t.pairs));
   }
 
   module _ (index : ℕ) (is : index + 1 ≡ length t.pairs) where
@@ -94,26 +94,26 @@ module _ (t : Kept) (can : CanClearSyncBit t) where
     pub can_set_last : CanSetGstateInPair t index zero_gstate
     can_set_last = record { accepted = can.accepted; writable = can.writable; below = omega arith; fields = none_fits }
 
-    pub cleared : (new : Kept) → Are32BitPairAddresses (delta_reaching_gstate t index zero_gstate).pair → IsPairChanged t index (gstate_setting_changes t index zero_gstate) new → IsSyncBitCleared t new
+    pub cleared : (new : KeptThread) → Are32BitPairAddresses (delta_reaching_gstate t index zero_gstate).pair → IsPairChanged t index (gstate_setting_changes t index zero_gstate) new → IsSyncBitCleared t new
     cleared new address c =
         let same = same_Some c.content (set_content t index zero_gstate) (sym c.made ∙ set_made t index zero_gstate can_set_last address) in
         let written = subst (λ x. IsPairWrittenOnDisk t index x new.disk) same c.written in
-        let pairs : new.pairs ≡ thread_at (h t index can_clear).site (y t index can_clear ∷ []) = c.pairs ∙ ap (pairs_with_content_at_index t index) same ∙ clear_pairs t index can_clear in
+        let pairs : new.pairs ≡ thread_at (h t index can_clear).site (y t index can_clear ∷ []) = c.pairs ∙ ap (thread_pairs_with_content_replaced_at_index t index) same ∙ clear_pairs t index can_clear in
         record {
-          taken = subst₂ (λ a b. IsOnlyStep t.disk a new.disk b (λ t. t) (λ d. d)) (sym (h t index can_clear).is) (sym pairs) (clear_taken t index can_clear new.disk written);
-          alike = subst (AreAlike t.pairs) (sym pairs) (clear_alike t index can_clear);
-          settled = ap gstate_of pairs ∙ clear_state t index can_clear;
+          taken = subst₂ (λ a b. IsWritableImageAfterTreeChange t.disk a new.disk b (λ t. t) (λ d. d)) (sym (h t index can_clear).is) (sym pairs) (clear_taken t index can_clear new.disk written);
+          alike = subst (ArePairsWithSameAddressesAndSlots t.pairs) (sym pairs) (clear_alike t index can_clear);
+          settled = ap gstate_of_pairs pairs ∙ clear_state t index can_clear;
           map = c.map;
-          files = subst (λ z. All (λ s. HasSameFile t.disk new.disk s.struct) (all_slots_not_moved z)) (sym (h t index can_clear).is) (device_on t index can_clear new.disk written).files;
+          files = subst (λ z. All (λ s. HasSameFileBlocksOfStructOnDisks t.disk new.disk s.struct) (all_slots_not_moved z)) (sym (h t index can_clear).is) (device_on t index can_clear new.disk written).files;
         }
 
-    pub clear_survives : (new : List CallEvent) → Are32BitPairAddresses (delta_reaching_gstate t index zero_gstate).pair → StopsAfterCleanErasesLeave t.history new (LeavesPairOldOrChanged t index (gstate_setting_changes t index zero_gstate))
-        → SurvivesStopsSince t.disk t.history new (tree_on_disk t.disk t.pairs) (tree_on_disk t.disk t.pairs)
-    clear_survives new address stops clean = IsTrueAfterEachStopSince-weaker (λ left x. clear_left t index can_clear can_set_last address left x) (stops clean)
+    pub clear_survives : (new : List DeviceCallEvent) → Are32BitPairAddresses (delta_reaching_gstate t index zero_gstate).pair → PowerLossLeavesSuchBlocksAfterCleanErases t.history new (PowerLossLeavesPairOldOrChanged t index (gstate_setting_changes t index zero_gstate))
+        → SurvivesPowerLossInCallsSince t.disk t.history new (tree_on_disk t.disk t.pairs) (tree_on_disk t.disk t.pairs)
+    clear_survives new address stops clean = IsTrueAfterAnyPowerLossSince-weaker (λ left x. clear_left t index can_clear can_set_last address left x) (stops clean)
 
 -- ---- all pairs were seen
 
-pub all_seen : (old now : Kept) (dropped : ℕ) → IsUnderWay old now dropped [] → IsAtEnd old.disk old.pairs now dropped (take (pair_count_before_root old.pairs) old.pairs) []
+pub all_seen : (old now : KeptThread) (dropped : ℕ) → IsUnderWay old now dropped [] → IsAtEnd old.disk old.pairs now dropped (take (pair_count_before_root old.pairs) old.pairs) []
 all_seen old now dropped u = go (goes_to old.disk old.pairs now dropped (take (pair_count_before_root old.pairs) old.pairs) u.seen u.todo u.parts u.kept [] u.way)
   where
     go : IsAtEnd old.disk old.pairs now dropped (take (pair_count_before_root old.pairs) old.pairs) [] ⊎ IsAtDrop old.disk old.pairs now dropped (take (pair_count_before_root old.pairs) old.pairs) []
@@ -121,89 +121,89 @@ all_seen old now dropped u = go (goes_to old.disk old.pairs now dropped (take (p
     go (inl e) = e
     go (inr d) = absurd (let l = ap length d.is in omega arith)
 
-module _ (old now : Kept) (dropped : ℕ) (u : IsUnderWay old now dropped []) where
+module _ (old now : KeptThread) (dropped : ℕ) (u : IsUnderWay old now dropped []) where
   e : IsAtEnd old.disk old.pairs now dropped (take (pair_count_before_root old.pairs) old.pairs) []
   e = all_seen old now dropped u
 
   abbrev C : List Pair
   C = take (pair_count_before_root old.pairs) old.pairs
 
-  leads_now : (a : ℕ × ℕ) → IsDirectoryReached old.pairs a → IsDirectoryReached (C ++ (e.kept ++ [])) a
+  leads_now : (a : ℕ × ℕ) → IsDirectoryAddressReachedBySomePath old.pairs a → IsDirectoryAddressReachedBySomePath (C ++ (e.kept ++ [])) a
   leads_now a (path, at, (l, s)) = (path, at, (ap (λ z. z path) e.way.is.taken.follows.leads ∙ l, s))
 
   all_reached : AllReached (C ++ (e.kept ++ []))
-  all_reached = All-from_recursion (λ (d : ThreadDirectory). IsDirectoryReached (C ++ (e.kept ++ [])) d.at) (directories_in_thread (C ++ (e.kept ++ [])))
-      (subst (Each (λ (d : ThreadDirectory). IsDirectoryReached (C ++ (e.kept ++ [])) d.at)) (rest_all (directories_in_thread (C ++ (e.kept ++ []))))
-      (all_where (IsDirectoryReached (C ++ (e.kept ++ []))) (gstate_of (C ++ (e.kept ++ []))) None (pairs_of_all_directories (C ++ (e.kept ++ [])))
-      (subst (EachBegins (IsDirectoryReached (C ++ (e.kept ++ []))) None) (sym (pairs_behind C (e.kept ++ []) e.way.is.ready.is_chain))
-      (subst (EachBegins (IsDirectoryReached (C ++ (e.kept ++ []))) None) (sym (append-nil e.kept))
-      (begins_weaker (IsDirectoryReached old.pairs) (IsDirectoryReached (C ++ (e.kept ++ []))) leads_now None e.kept e.way.begins)))))
+  all_reached = All-from_recursion (λ (d : ThreadDirectory). IsDirectoryAddressReachedBySomePath (C ++ (e.kept ++ [])) d.at) (directories_in_thread (C ++ (e.kept ++ [])))
+      (subst (Each (λ (d : ThreadDirectory). IsDirectoryAddressReachedBySomePath (C ++ (e.kept ++ [])) d.at)) (rest_all (directories_in_thread (C ++ (e.kept ++ []))))
+      (all_where (IsDirectoryAddressReachedBySomePath (C ++ (e.kept ++ []))) (gstate_of_pairs (C ++ (e.kept ++ []))) None (pairs_from_root_directory_on (C ++ (e.kept ++ [])))
+      (subst (EachBegins (IsDirectoryAddressReachedBySomePath (C ++ (e.kept ++ []))) None) (sym (pairs_behind C (e.kept ++ []) e.way.is.ready.is_chain))
+      (subst (EachBegins (IsDirectoryAddressReachedBySomePath (C ++ (e.kept ++ []))) None) (sym (append-nil e.kept))
+      (begins_weaker (IsDirectoryAddressReachedBySomePath old.pairs) (IsDirectoryAddressReachedBySomePath (C ++ (e.kept ++ []))) leads_now None e.kept e.way.begins)))))
 
   pub can_end : CanClearSyncBit now
   can_end = record {
     accepted = subst (IsAcceptedImage now.disk) (sym e.way.there) e.way.is.ready.accepted;
-    writable = subst (IsWritable now.disk) (sym e.way.there) e.way.is.ready.writable;
-    none = subst (λ z. HasNoMove (gstate_of z)) (sym e.way.there) e.way.is.ready.no_move;
+    writable = subst (IsWritableImage now.disk) (sym e.way.there) e.way.is.ready.writable;
+    none = subst (λ z. HasNoMove (gstate_of_pairs z)) (sym e.way.there) e.way.is.ready.no_move;
     reached = subst AllReached (sym e.way.there) all_reached;
   }
 
   pub shows_now : tree_on_disk now.disk now.pairs ≡ tree_on_disk old.disk old.pairs
   shows_now = ap (tree_on_disk now.disk) e.way.there ∙ e.way.is.taken.follows.shows
 
-  pub ends : IsWritable old.disk old.pairs → 1024 ≤ old.disk.block_size → (new : Kept) (numbers : List ℕ) → AreUnreachedPairNumbers old.pairs numbers → ThreadChangesOnlyTheseBlocks (blocks_of_pairs old.pairs) old new → StaysOn now new → IsSyncBitCleared now new → HasDroppedUnreachedAndRecovered old numbers new
+  pub ends : IsWritableImage old.disk old.pairs → 1024 ≤ old.disk.block_size → (new : KeptThread) (numbers : List ℕ) → AreUnreachedPairNumbers old.pairs numbers → ThreadChangesOnlyTheseBlocks (blocks_of_pairs old.pairs) old new → StaysOn now new → IsSyncBitCleared now new → HasDroppedUnreachedPairsAndRecovered old numbers new
   ends fits large new numbers reported writes on c = record {
     ready = record {
       accepted = c.taken.follows.accepted;
       writable = c.taken.writable;
       settled = c.settled;
-      used = record { owned = m.owned; are = m.are; same = λ b. let s = m.same b in let g = ap (count b) all_gone in omega arith };
+      used = record { owned = m.owned; are = m.are; same = λ b. let s = m.same b in let g = ap (occurrence_count_of_number b) all_gone in omega arith };
       size = m.size;
       large = let a = on.shape.block_size in let b = u.device.shape.block_size in omega arith;
     };
-    stand = All-from_recursion (λ (s : Slot). HasSameFile old.disk new.disk s.struct) (slots_of_numbered_pairs old.pairs numbers)
-        (each_at (λ (s : Slot). HasSameFile old.disk new.disk s.struct) old.pairs numbers (files_kept old new u.was e.way.no_move writes));
-    lost = λ b. let l = u.lost b in let f = files_stay now new c.alike can_end.none still geometry files b in let g = ap (count b) all_gone in omega arith;
-    once = λ b. let s = m.same b in let o = m.once b in let g = ap (count b) all_gone in omega arith;
-    fewer = λ b. let l = u.fewer b in let k = ap (λ z. count b z) (alike_blocks now.pairs new.pairs c.alike) in omega arith;
+    stand = All-from_recursion (λ (s : Slot). HasSameFileBlocksOfStructOnDisks old.disk new.disk s.struct) (slots_of_numbered_pairs old.pairs numbers)
+        (each_at (λ (s : Slot). HasSameFileBlocksOfStructOnDisks old.disk new.disk s.struct) old.pairs numbers (files_kept old new u.was e.way.no_move writes));
+    lost = λ b. let l = u.lost b in let f = files_stay now new c.alike can_end.none still geometry files b in let g = ap (occurrence_count_of_number b) all_gone in omega arith;
+    once = λ b. let s = m.same b in let o = m.once b in let g = ap (occurrence_count_of_number b) all_gone in omega arith;
+    fewer = λ b. let l = u.fewer b in let k = ap (λ z. occurrence_count_of_number b z) (alike_blocks now.pairs new.pairs c.alike) in omega arith;
     flying = subst (HasSameBlocksInFlight old.map) (sym c.map) u.flying;
     root = alike_stays now.disk new.disk now.pairs new.pairs can_end.accepted c.taken.follows.accepted c.taken.follows.root c.alike
         ∙ ap pair_count_before_root e.way.there ∙ e.way.is.ready.is_chain ∙ sym (ap pair_count_before_root (chain_of_thread old.pairs).0 ∙ (chain_of_thread old.pairs).1);
     shows = c.taken.follows.shows ∙ shows_now;
     completed = λ s tree. recovery_ends old.disk old.pairs now.disk C e.seen e.parts e.kept new.disk new.pairs (λ d. d) s e.way.is fits
-        (subst (λ z. IsOnlyStep now.disk z new.disk new.pairs (λ t. t) (λ d. d)) e.way.there c.taken)
-        (subst (λ z. AreAlike z new.pairs) (e.way.there ∙ ap (λ z. C ++ z) (append-nil e.kept)) c.alike) c.settled tree;
+        (subst (λ z. IsWritableImageAfterTreeChange now.disk z new.disk new.pairs (λ t. t) (λ d. d)) e.way.there c.taken)
+        (subst (λ z. ArePairsWithSameAddressesAndSlots z new.pairs) (e.way.there ∙ ap (λ z. C ++ z) (append-nil e.kept)) c.alike) c.settled tree;
   }
     where
       all_gone : u.gone ≡ list_blocks_of_numbered_pairs old numbers
       all_gone = u.gone_are
-          ∙ ap (list_blocks_of_numbered_pairs old) (reported_once (IsDirectoryReached old.pairs) (pair_count_before_root old.pairs) None (pairs_of_all_directories old.pairs) u.took numbers (subst (AreUnreachedPairNumbers old.pairs) (append-nil u.took) u.reported) reported)
+          ∙ ap (list_blocks_of_numbered_pairs old) (reported_once (IsDirectoryAddressReachedBySomePath old.pairs) (pair_count_before_root old.pairs) None (pairs_from_root_directory_on old.pairs) u.took numbers (subst (AreUnreachedPairNumbers old.pairs) (append-nil u.took) u.reported) reported)
 
-      still : HasNoMove (gstate_of new.pairs)
+      still : HasNoMove (gstate_of_pairs new.pairs)
       still = subst HasNoMove (sym c.settled) (record { kind = refl; id = refl; pair = refl })
 
       geometry : SameGeometry now.disk new.disk
       geometry = record { block_size = on.shape.block_size; page = on.shape.page; order = on.shape.order; count = on.shape.count }
 
       files : SameFiles now.disk new.disk (all_slots_not_moved now.pairs)
-      files = recursion_from_All (λ (s : Slot). HasSameFile now.disk new.disk s.struct) (all_slots_not_moved now.pairs) c.files
+      files = recursion_from_All (λ (s : Slot). HasSameFileBlocksOfStructOnDisks now.disk new.disk s.struct) (all_slots_not_moved now.pairs) c.files
 
       m : HasMap new u.gone
       m = map_stays now new c.alike can_end.none still geometry files u.gone c.map u.map
 
   -- a stop in the last step leaves the tree too
-  pub end_survives : (new : Kept) → StaysOn now new → SurvivesStopsSince now.disk now.history new.history (tree_on_disk now.disk now.pairs) (tree_on_disk now.disk now.pairs)
-      → SurvivesStopsSince old.disk old.history new.history (tree_on_disk old.disk old.pairs) (tree_on_disk old.disk old.pairs)
+  pub end_survives : (new : KeptThread) → StaysOn now new → SurvivesPowerLossInCallsSince now.disk now.history new.history (tree_on_disk now.disk now.pairs) (tree_on_disk now.disk now.pairs)
+      → SurvivesPowerLossInCallsSince old.disk old.history new.history (tree_on_disk old.disk old.pairs) (tree_on_disk old.disk old.pairs)
   end_survives new on last = survives_then old.disk old.history now.history new.history (tree_on_disk old.disk old.pairs) (tree_on_disk old.disk old.pairs) u.device.calls on.calls u.survives
-      (λ clean. IsTrueAfterEachStopSince-weaker (λ left x. subst (λ z. IsLeftOf z (tree_on_disk old.disk old.pairs) (tree_on_disk old.disk old.pairs)) (disk_is left)
-      (subst (λ z. IsLeftOf (with_blocks left now.disk) z z) shows_now x)) (last clean))
+      (λ clean. IsTrueAfterAnyPowerLossSince-weaker (λ left x. subst (λ z. IsLeftOf z (tree_on_disk old.disk old.pairs) (tree_on_disk old.disk old.pairs)) (disk_is left)
+      (subst (λ z. IsLeftOf (disk_with_blocks left now.disk) z z) shows_now x)) (last clean))
     where
-      disk_is : (left : Blocks) → with_blocks left now.disk ≡ with_blocks left old.disk
+      disk_is : (left : Blocks) → disk_with_blocks left now.disk ≡ disk_with_blocks left old.disk
       disk_is left = λ j. record { block_size = u.device.shape.block_size j; page = u.device.shape.page j; order = u.device.shape.order j; blocks = left }
 
 -- ---- what the steps tell
 
-pub reports_steps : {X Y : Type 0} (old mid new : ThreadView) (e : Error) (result : Result X Error) (given : Result Y Error) → faults mid.kept.history ≡ faults old.kept.history → result ≡ Err e → given ≡ Err e → ReportsCommitTakingNoBlock mid new result
-    → ReportsOfRecovery old new given
+pub reports_steps : {X Y : Type 0} (old mid new : ThreadView) (e : Error) (result : Result X Error) (given : Result Y Error) → fault_count_of_history mid.kept.history ≡ fault_count_of_history old.kept.history → result ≡ Err e → given ≡ Err e → ReportsErrorsOfCommitTakingNoBlock mid new result
+    → ReportsErrorsOfRecovery old new given
 reports_steps old mid new e result given quiet is same t =
     let k = reports_again mid new e result given is same t.failed t.reported in
     record {
@@ -217,13 +217,13 @@ reports_steps old mid new e result given quiet is same t =
 
 reported_none : (R : ℕ × ℕ → Type 0) (n : ℕ) (from : Option (ℕ × ℕ)) (xs : List Pair) (numbers : List ℕ) → NoneGoes (λ a. R a → ⊥) from xs → AreUnreachedPairNumbersFrom R n from xs numbers → numbers ≡ []
 reported_none R n from [] numbers h reported = reported
-reported_none R n from (x ∷ xs) numbers h (inl reported) = reported_none R (suc n) (directory_address_after_pair from x) xs numbers h.1 reported.1
+reported_none R n from (x ∷ xs) numbers h (inl reported) = reported_none R (suc n) (directory_address_continued_by_hard_tail from x) xs numbers h.1 reported.1
 reported_none R n from (x ∷ xs) numbers h (inr reported) = absurd (h.0 reported.1.1.0)
 
 pub none_reported : (ps : List Pair) (numbers : List ℕ) → IsNothingLeftToRecover ps → AreUnreachedPairNumbers ps numbers → numbers ≡ []
-none_reported ps numbers h reported = reported_none (IsDirectoryReached ps) (pair_count_before_root ps) None (pairs_of_all_directories ps) numbers
-    (none_where (λ a. IsDirectoryReached ps a → ⊥) (gstate_of ps) None (pairs_of_all_directories ps) (λ a k. absurd (cc))
-    (subst (Each (λ (d : ThreadDirectory). (IsDirectoryReached ps d.at → ⊥) → ⊥)) (sym (rest_all (directories_in_thread ps)))
-    (each_weaker (λ (d : ThreadDirectory). IsDirectoryReached ps d.at) (λ (d : ThreadDirectory). (IsDirectoryReached ps d.at → ⊥) → ⊥) (λ d k n. n k) (directories_in_thread ps)
-    (recursion_from_All (λ (d : ThreadDirectory). IsDirectoryReached ps d.at) (directories_in_thread ps) h.reached))))
+none_reported ps numbers h reported = reported_none (IsDirectoryAddressReachedBySomePath ps) (pair_count_before_root ps) None (pairs_from_root_directory_on ps) numbers
+    (none_where (λ a. IsDirectoryAddressReachedBySomePath ps a → ⊥) (gstate_of_pairs ps) None (pairs_from_root_directory_on ps) (λ a k. absurd (cc))
+    (subst (Each (λ (d : ThreadDirectory). (IsDirectoryAddressReachedBySomePath ps d.at → ⊥) → ⊥)) (sym (rest_all (directories_in_thread ps)))
+    (each_weaker (λ (d : ThreadDirectory). IsDirectoryAddressReachedBySomePath ps d.at) (λ (d : ThreadDirectory). (IsDirectoryAddressReachedBySomePath ps d.at → ⊥) → ⊥) (λ d k n. n k) (directories_in_thread ps)
+    (recursion_from_All (λ (d : ThreadDirectory). IsDirectoryAddressReachedBySomePath ps d.at) (directories_in_thread ps) h.reached))))
     reported

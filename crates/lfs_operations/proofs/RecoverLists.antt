@@ -4,18 +4,18 @@ use Rattle.std.specs.Prelude.{slice_index_or}
 use Rattle.std.proofs.lemmas.List.Concat.{flat_map-append}
 use Rattle.std.proofs.lemmas.List.Elements.{All-from_recursion}
 use Rattle.lfs_model.specs.Disk.{SameGeometry, block_bytes_on_disk}
-use Rattle.lfs_model.specs.Layout.{directory_address_after_pair}
+use Rattle.lfs_model.specs.Layout.{directory_address_continued_by_hard_tail}
 use Rattle.lfs_model.specs.Slots.{Slot}
-use Rattle.lfs_model.specs.Thread.{Pair, blocks_of_pairs, gstate_of}
+use Rattle.lfs_model.specs.Thread.{Pair, blocks_of_pairs, gstate_of_pairs}
 use Rattle.lfs_model.specs.View.{IsAcceptedImage}
 use Rattle.lfs_model.specs.Shown.{skip_list_blocks_of_struct, used_blocks}
 use Rattle.lfs_model.proofs.Changes.{SameFiles, slots_files}
-use Rattle.lfs_model.proofs.Counts.{Each, count, count_append, each_always, each_from_counted, each_joined, each_left, each_pieces, each_right, once_from_distinct}
-use Rattle.lfs_model.proofs.Files.{HasSameFile}
+use Rattle.lfs_model.proofs.Counts.{Each, occurrence_count_of_number, count_append, each_always, each_from_counted, each_joined, each_left, each_pieces, each_right, once_from_distinct}
+use Rattle.lfs_model.proofs.Files.{HasSameFileBlocksOfStructOnDisks}
 use Rattle.lfs_model.proofs.Global.{HasNoMove}
-use Rattle.lfs_model.proofs.Splices.{files_of, slots_in}
-use Rattle.lfs_thread.specs.Kept.{Kept}
-use Rattle.lfs_thread.specs.Steps.{ThreadChangesOnlyTheseBlocks, no_pair}
+use Rattle.lfs_model.proofs.Splices.{file_blocks_of_slots, slots_of_pairs_in_order}
+use Rattle.lfs_thread.specs.Kept.{KeptThread}
+use Rattle.lfs_thread.specs.Steps.{ThreadChangesOnlyTheseBlocks, empty_pair_at_anchor}
 use Rattle.lfs_operations.specs.Recovering.{AreUnreachedPairNumbersFrom, list_blocks_of_numbered_pairs, slots_of_numbered_pairs}
 use Rattle.lfs_operations.proofs.RecoverMap.{count_used}
 use Rattle.lfs_operations.proofs.RecoverWrites.{none_there}
@@ -25,58 +25,58 @@ use Rattle.lfs_operations.proofs.RecoverWrites.{none_there}
 -- the same pairs have the same numbers
 pub reported_once : (R : ℕ × ℕ → Type 0) (n : ℕ) (from : Option (ℕ × ℕ)) (xs : List Pair) (us vs : List ℕ) → AreUnreachedPairNumbersFrom R n from xs us → AreUnreachedPairNumbersFrom R n from xs vs → us ≡ vs
 reported_once R n from [] us vs h k = h ∙ sym k
-reported_once R n from (x ∷ xs) us vs (inl h) (inl k) = reported_once R (suc n) (directory_address_after_pair from x) xs us vs h.1 k.1
+reported_once R n from (x ∷ xs) us vs (inl h) (inl k) = reported_once R (suc n) (directory_address_continued_by_hard_tail from x) xs us vs h.1 k.1
 reported_once R n from (x ∷ xs) us vs (inl h) (inr k) = absurd (k.1.1.0 h.0)
 reported_once R n from (x ∷ xs) us vs (inr h) (inl k) = absurd (h.1.1.0 k.0)
-reported_once R n from (x ∷ xs) us vs (inr h) (inr k) = h.1.0 ∙ ap (λ z. n ∷ z) (reported_once R (suc n) (directory_address_after_pair from x) xs h.0 k.0 h.1.1.1 k.1.1.1) ∙ sym k.1.0
+reported_once R n from (x ∷ xs) us vs (inr h) (inr k) = h.1.0 ∙ ap (λ z. n ∷ z) (reported_once R (suc n) (directory_address_continued_by_hard_tail from x) xs h.0 k.0 h.1.1.1 k.1.1.1) ∙ sym k.1.0
 
-there : (xs : List Pair) (x : Pair) (ys : List Pair) → slice_index_or (xs ++ x ∷ ys) (length xs) no_pair ≡ x
+there : (xs : List Pair) (x : Pair) (ys : List Pair) → slice_index_or (xs ++ x ∷ ys) (length xs) empty_pair_at_anchor ≡ x
 there [] x ys = refl
 there (z ∷ xs) x ys = there xs x ys
 
 -- the pair behind so many
-pub numbered : (ps chain seen : List Pair) (x : Pair) (todo : List Pair) (number : ℕ) → ps ≡ chain ++ (seen ++ x ∷ todo) → number ≡ length chain + length seen → slice_index_or ps number no_pair ≡ x
+pub numbered : (ps chain seen : List Pair) (x : Pair) (todo : List Pair) (number : ℕ) → ps ≡ chain ++ (seen ++ x ∷ todo) → number ≡ length chain + length seen → slice_index_or ps number empty_pair_at_anchor ≡ x
 numbered ps chain seen x todo number are is =
-    ap (λ z. slice_index_or ps z no_pair) (is ∙ sym (length-append chain seen)) ∙ ap (λ z. slice_index_or z (length (chain ++ seen)) no_pair) (are ∙ sym (append_assoc chain seen (x ∷ todo))) ∙ there (chain ++ seen) x todo
+    ap (λ z. slice_index_or ps z empty_pair_at_anchor) (is ∙ sym (length-append chain seen)) ∙ ap (λ z. slice_index_or z (length (chain ++ seen)) empty_pair_at_anchor) (are ∙ sym (append_assoc chain seen (x ∷ todo))) ∙ there (chain ++ seen) x todo
 
-pub lists_more : (t : Kept) (took : List ℕ) (number : ℕ) (x : Pair) → slice_index_or t.pairs number no_pair ≡ x → list_blocks_of_numbered_pairs t (took ++ number ∷ []) ≡ list_blocks_of_numbered_pairs t took ++ files_of t.disk x.content.slots
+pub lists_more : (t : KeptThread) (took : List ℕ) (number : ℕ) (x : Pair) → slice_index_or t.pairs number empty_pair_at_anchor ≡ x → list_blocks_of_numbered_pairs t (took ++ number ∷ []) ≡ list_blocks_of_numbered_pairs t took ++ file_blocks_of_slots t.disk x.content.slots
 lists_more t took number x is =
-    ap (files_of t.disk) (flat_map-append (λ n. (slice_index_or t.pairs n no_pair).content.slots) took (number ∷ []))
+    ap (file_blocks_of_slots t.disk) (flat_map-append (λ n. (slice_index_or t.pairs n empty_pair_at_anchor).content.slots) took (number ∷ []))
     ∙ flat_map-append (λ (s : Slot). skip_list_blocks_of_struct t.disk s.struct) (slots_of_numbered_pairs t.pairs took) (slots_of_numbered_pairs t.pairs (number ∷ []))
-    ∙ ap (λ z. list_blocks_of_numbered_pairs t took ++ files_of t.disk z) (append-nil (slice_index_or t.pairs number no_pair).content.slots ∙ ap (λ (p : Pair). p.content.slots) is)
+    ∙ ap (λ z. list_blocks_of_numbered_pairs t took ++ file_blocks_of_slots t.disk z) (append-nil (slice_index_or t.pairs number empty_pair_at_anchor).content.slots ∙ ap (λ (p : Pair). p.content.slots) is)
 
 -- ---- on the disk
 
 -- no block of a list is a pair's
-pub files_kept : (t u : Kept) → IsAcceptedImage t.disk t.pairs → HasNoMove (gstate_of t.pairs) → ThreadChangesOnlyTheseBlocks (blocks_of_pairs t.pairs) t u → SameFiles t.disk u.disk (slots_in t.pairs)
-files_kept t u ok none w = go (slots_in t.pairs) (λ b. omega arith)
+pub files_kept : (t u : KeptThread) → IsAcceptedImage t.disk t.pairs → HasNoMove (gstate_of_pairs t.pairs) → ThreadChangesOnlyTheseBlocks (blocks_of_pairs t.pairs) t u → SameFiles t.disk u.disk (slots_of_pairs_in_order t.pairs)
+files_kept t u ok none w = go (slots_of_pairs_in_order t.pairs) (λ b. omega arith)
   where
-    go : (slots : List Slot) → ((b : ℕ) → count b (files_of t.disk slots) ≤ count b (files_of t.disk (slots_in t.pairs))) → SameFiles t.disk u.disk slots
+    go : (slots : List Slot) → ((b : ℕ) → occurrence_count_of_number b (file_blocks_of_slots t.disk slots) ≤ occurrence_count_of_number b (file_blocks_of_slots t.disk (slots_of_pairs_in_order t.pairs))) → SameFiles t.disk u.disk slots
     go [] fewer = tt
     go (s ∷ slots) fewer = (
       each_from_counted (λ b. block_bytes_on_disk u.disk b ≡ block_bytes_on_disk t.disk b) (skip_list_blocks_of_struct t.disk s.struct) (λ b some. w.others.others b (All-from_recursion (λ c. c ≢ b) (blocks_of_pairs t.pairs) (none_there b (blocks_of_pairs t.pairs) (
-          let a = count_append b (skip_list_blocks_of_struct t.disk s.struct) (files_of t.disk slots) in
+          let a = count_append b (skip_list_blocks_of_struct t.disk s.struct) (file_blocks_of_slots t.disk slots) in
           let f = fewer b in
           let c = count_used b t.disk t.pairs none in
           let o = once_from_distinct (used_blocks t.disk t.pairs) ok.owned_once b in
           omega arith)))),
-      go slots (λ b. let a = count_append b (skip_list_blocks_of_struct t.disk s.struct) (files_of t.disk slots) in let f = fewer b in omega arith),
+      go slots (λ b. let a = count_append b (skip_list_blocks_of_struct t.disk s.struct) (file_blocks_of_slots t.disk slots) in let f = fewer b in omega arith),
     )
 
 -- what holds of each slot holds of those of the pairs of some numbers
-pub each_at : (P : Slot → Type 0) (ps : List Pair) (numbers : List ℕ) → Each P (slots_in ps) → Each P (slots_of_numbered_pairs ps numbers)
-each_at P ps numbers h = each_joined P (λ n. (slice_index_or ps n no_pair).content.slots) numbers (each_always (λ n. Each P (slice_index_or ps n no_pair).content.slots) (λ n. one ps n h) numbers)
+pub each_at : (P : Slot → Type 0) (ps : List Pair) (numbers : List ℕ) → Each P (slots_of_pairs_in_order ps) → Each P (slots_of_numbered_pairs ps numbers)
+each_at P ps numbers h = each_joined P (λ n. (slice_index_or ps n empty_pair_at_anchor).content.slots) numbers (each_always (λ n. Each P (slice_index_or ps n empty_pair_at_anchor).content.slots) (λ n. one ps n h) numbers)
   where
-    one : (ps : List Pair) (n : ℕ) → Each P (slots_in ps) → Each P (slice_index_or ps n no_pair).content.slots
+    one : (ps : List Pair) (n : ℕ) → Each P (slots_of_pairs_in_order ps) → Each P (slice_index_or ps n empty_pair_at_anchor).content.slots
     one [] n h = tt
-    one (p ∷ ps) zero h = each_left P p.content.slots (slots_in ps) h
-    one (p ∷ ps) (suc n) h = one ps n (each_right P p.content.slots (slots_in ps) h)
+    one (p ∷ ps) zero h = each_left P p.content.slots (slots_of_pairs_in_order ps) h
+    one (p ∷ ps) (suc n) h = one ps n (each_right P p.content.slots (slots_of_pairs_in_order ps) h)
 
 -- the lists of the pair behind so many are as they were
-pub lists_kept : (t u : Kept) (chain seen : List Pair) (x : Pair) (todo : List Pair) → t.pairs ≡ chain ++ (seen ++ x ∷ todo) → IsAcceptedImage t.disk t.pairs → HasNoMove (gstate_of t.pairs) → ThreadChangesOnlyTheseBlocks (blocks_of_pairs t.pairs) t u
-    → files_of u.disk x.content.slots ≡ files_of t.disk x.content.slots
+pub lists_kept : (t u : KeptThread) (chain seen : List Pair) (x : Pair) (todo : List Pair) → t.pairs ≡ chain ++ (seen ++ x ∷ todo) → IsAcceptedImage t.disk t.pairs → HasNoMove (gstate_of_pairs t.pairs) → ThreadChangesOnlyTheseBlocks (blocks_of_pairs t.pairs) t u
+    → file_blocks_of_slots u.disk x.content.slots ≡ file_blocks_of_slots t.disk x.content.slots
 lists_kept t u chain seen x todo are ok none w = slots_files t.disk u.disk x.content.slots geometry (each_right Q seen (x ∷ todo) (each_right Q chain (seen ++ x ∷ todo) (subst (Each Q) are
-    (each_pieces (λ (s : Slot). HasSameFile t.disk u.disk s.struct) (λ (p : Pair). p.content.slots) t.pairs (files_kept t u ok none w))))).0
+    (each_pieces (λ (s : Slot). HasSameFileBlocksOfStructOnDisks t.disk u.disk s.struct) (λ (p : Pair). p.content.slots) t.pairs (files_kept t u ok none w))))).0
   where
     Q : Pair → Type 0
     Q p = SameFiles t.disk u.disk p.content.slots

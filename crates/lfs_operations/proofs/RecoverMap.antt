@@ -4,52 +4,52 @@ use Rattle.std.specs.Prelude.{Contains, ◌↔◌}
 use Rattle.std.specs.List.{flat_map}
 use Rattle.std.proofs.lemmas.Bool.{eqb-false}
 use Rattle.std.proofs.lemmas.List.Concat.{flat_map-append}
-use Rattle.lfs_model.specs.BlockSets.{AreExactlyTheUsedBlocks, IsUsed}
+use Rattle.lfs_model.specs.BlockSets.{AreExactlyTheUsedBlocks, IsBlockUsed}
 use Rattle.lfs_model.specs.BlockSets.BlockState.{Free, Used}
 use Rattle.lfs_model.specs.Disk.{Disk, SameGeometry, block_count}
 use Rattle.lfs_model.specs.Slots.{Slot}
-use Rattle.lfs_model.specs.Thread.{Pair, blocks_of_pairs, gstate_of}
+use Rattle.lfs_model.specs.Thread.{Pair, blocks_of_pairs, gstate_of_pairs}
 use Rattle.lfs_model.specs.Shown.{all_slots_not_moved, skip_list_blocks_of_struct, used_blocks}
-use Rattle.lfs_model.proofs.Alike.{AreAlike}
-use Rattle.lfs_model.proofs.BlockSets.{Contains-count, count-Contains, slice_get-set_other, slice_get-set_same}
+use Rattle.lfs_model.proofs.Alike.{ArePairsWithSameAddressesAndSlots}
+use Rattle.lfs_model.proofs.BlockSets.{Contains-occurrence_count_of_number, occurrence_count_of_number-Contains, slice_get-set_other, slice_get-set_same}
 use Rattle.lfs_model.proofs.Changes.{SameFiles, slots_files}
-use Rattle.lfs_model.proofs.Counts.{count, count_append, each_append, each_left, each_right}
-use Rattle.lfs_model.proofs.Files.{HasSameFile}
+use Rattle.lfs_model.proofs.Counts.{occurrence_count_of_number, count_append, each_append, each_left, each_right}
+use Rattle.lfs_model.proofs.Files.{HasSameFileBlocksOfStructOnDisks}
 use Rattle.lfs_model.proofs.Global.{HasNoMove}
-use Rattle.lfs_model.proofs.Splices.{count_files, files_of, slots_in, unmoved_in}
-use Rattle.lfs_thread.specs.Kept.{Kept}
-use Rattle.lfs_thread.specs.Steps.{map_with_freed_pair}
+use Rattle.lfs_model.proofs.Splices.{count_files, file_blocks_of_slots, slots_of_pairs_in_order, unmoved_in}
+use Rattle.lfs_thread.specs.Kept.{KeptThread}
+use Rattle.lfs_thread.specs.Steps.{block_map_with_freed_pair}
 use Rattle.lfs_operations.specs.Dropping.{HasSameBlocksInFlight}
 use Rattle.lfs_operations.proofs.Dropped.{flying_same}
 use Rattle.lfs_operations.proofs.Placing.{blocks_append}
 use Rattle.lfs_operations.proofs.Taking.{within}
 
 -- the map has the image's blocks and those that are gone, each once
-pub record HasMap (t : Kept) (gone : List ℕ) : Type 0 where
+pub record HasMap (t : KeptThread) (gone : List ℕ) : Type 0 where
   pub owned : List ℕ
   pub are : AreExactlyTheUsedBlocks t.map owned
-  pub same : (b : ℕ) → count b owned ≡ count b (used_blocks t.disk t.pairs) + count b gone
-  pub once : (b : ℕ) → count b owned ≤ 1
+  pub same : (b : ℕ) → occurrence_count_of_number b owned ≡ occurrence_count_of_number b (used_blocks t.disk t.pairs) + occurrence_count_of_number b gone
+  pub once : (b : ℕ) → occurrence_count_of_number b owned ≤ 1
   pub size : length t.map ≡ block_count t.disk
 
-slots_append : (xs ys : List Pair) → slots_in (xs ++ ys) ≡ slots_in xs ++ slots_in ys
+slots_append : (xs ys : List Pair) → slots_of_pairs_in_order (xs ++ ys) ≡ slots_of_pairs_in_order xs ++ slots_of_pairs_in_order ys
 slots_append xs ys = flat_map-append (λ (p : Pair). p.content.slots) xs ys
 
-pub count_used : (b : ℕ) (disk : Disk) (ps : List Pair) → HasNoMove (gstate_of ps) → count b (used_blocks disk ps) ≡ count b (blocks_of_pairs ps) + count b (files_of disk (slots_in ps))
+pub count_used : (b : ℕ) (disk : Disk) (ps : List Pair) → HasNoMove (gstate_of_pairs ps) → occurrence_count_of_number b (used_blocks disk ps) ≡ occurrence_count_of_number b (blocks_of_pairs ps) + occurrence_count_of_number b (file_blocks_of_slots disk (slots_of_pairs_in_order ps))
 count_used b disk ps none = count_append b (blocks_of_pairs ps) (flat_map (λ s. skip_list_blocks_of_struct disk s.struct) (all_slots_not_moved ps))
-    ∙ ap (λ z. count b (blocks_of_pairs ps) + count b (files_of disk z)) (unmoved_in (gstate_of ps) none ps)
+    ∙ ap (λ z. occurrence_count_of_number b (blocks_of_pairs ps) + occurrence_count_of_number b (file_blocks_of_slots disk z)) (unmoved_in (gstate_of_pairs ps) none ps)
 
 -- ---- the blocks of a pair are freed
 
-module _ (now new : Kept) (x : Pair) (lists : List ℕ)
-    (used_count : (b : ℕ) → count b (used_blocks new.disk new.pairs) + (count b (blocks_of_pairs (x ∷ [])) + count b lists) ≡ count b (used_blocks now.disk now.pairs)) where
+module _ (now new : KeptThread) (x : Pair) (lists : List ℕ)
+    (used_count : (b : ℕ) → occurrence_count_of_number b (used_blocks new.disk new.pairs) + (occurrence_count_of_number b (blocks_of_pairs (x ∷ [])) + occurrence_count_of_number b lists) ≡ occurrence_count_of_number b (used_blocks now.disk now.pairs)) where
   not_used : Some Free ≡ Some Used → ⊥
   not_used e = absurd (cc)
 
-  pub map_frees : (gone : List ℕ) → new.map ≡ map_with_freed_pair now.map x.at → block_count new.disk ≡ block_count now.disk → HasMap now gone → HasMap new (gone ++ lists)
+  pub map_frees : (gone : List ℕ) → new.map ≡ block_map_with_freed_pair now.map x.at → block_count new.disk ≡ block_count now.disk → HasMap now gone → HasMap new (gone ++ lists)
   map_frees gone map_is blocks h = record {
     owned = owned;
-    are = λ b. subst (λ m. IsUsed m b ↔ Contains owned b) (sym map_is) (go b (nat_eq b x.at.0) (nat_eq b x.at.1) refl refl);
+    are = λ b. subst (λ m. IsBlockUsed m b ↔ Contains owned b) (sym map_is) (go b (nat_eq b x.at.0) (nat_eq b x.at.1) refl refl);
     same = λ b. count_append b (used_blocks new.disk new.pairs) (gone ++ lists);
     once = λ b. let l = less b in let o = h.once b in omega arith;
     size = ap length map_is ∙ length-set (set now.map x.at.0 Free) x.at.1 Free ∙ length-set now.map x.at.0 Free ∙ h.size ∙ sym blocks;
@@ -59,7 +59,7 @@ module _ (now new : Kept) (x : Pair) (lists : List ℕ)
       owned = used_blocks new.disk new.pairs ++ (gone ++ lists)
 
       -- without the pair's own blocks
-      less : (b : ℕ) → count b owned + count b (blocks_of_pairs (x ∷ [])) ≡ count b h.owned
+      less : (b : ℕ) → occurrence_count_of_number b owned + occurrence_count_of_number b (blocks_of_pairs (x ∷ [])) ≡ occurrence_count_of_number b h.owned
       less b =
           let c = count_append b (used_blocks new.disk new.pairs) (gone ++ lists) in
           let d = count_append b gone (lists) in
@@ -67,39 +67,39 @@ module _ (now new : Kept) (x : Pair) (lists : List ℕ)
           omega arith
 
       -- one of the pair's blocks
-      freed : (b : ℕ) → 1 ≤ count b (blocks_of_pairs (x ∷ [])) → (IsUsed (map_with_freed_pair now.map x.at) b → ⊥) → IsUsed (map_with_freed_pair now.map x.at) b ↔ Contains owned b
+      freed : (b : ℕ) → 1 ≤ occurrence_count_of_number b (blocks_of_pairs (x ∷ [])) → (IsBlockUsed (block_map_with_freed_pair now.map x.at) b → ⊥) → IsBlockUsed (block_map_with_freed_pair now.map x.at) b ↔ Contains owned b
       freed b some free = (
         (λ used. absurd (free used)),
-        (λ has. absurd (let k = count-Contains owned b has in let l = less b in let o = h.once b in omega arith)),
+        (λ has. absurd (let k = occurrence_count_of_number-Contains owned b has in let l = less b in let o = h.once b in omega arith)),
       )
 
-      used_within : (b : ℕ) → 1 ≤ count b (blocks_of_pairs (x ∷ [])) → b < length now.map
-      used_within b some = within now.map b Used ((h.are b).1 (Contains-count h.owned b (let l = less b in omega arith)))
+      used_within : (b : ℕ) → 1 ≤ occurrence_count_of_number b (blocks_of_pairs (x ∷ [])) → b < length now.map
+      used_within b some = within now.map b Used ((h.are b).1 (Contains-occurrence_count_of_number h.owned b (let l = less b in omega arith)))
 
-      go : (b : ℕ) (u v : Bool) → nat_eq b x.at.0 ≡ u → nat_eq b x.at.1 ≡ v → IsUsed (map_with_freed_pair now.map x.at) b ↔ Contains owned b
+      go : (b : ℕ) (u v : Bool) → nat_eq b x.at.0 ≡ u → nat_eq b x.at.1 ≡ v → IsBlockUsed (block_map_with_freed_pair now.map x.at) b ↔ Contains owned b
       go b u true e f =
           let same : b ≡ x.at.1 = eqb-true b x.at.1 f in
-          let some : 1 ≤ count b (blocks_of_pairs (x ∷ [])) = subst (λ t. 1 ≤ cond (nat_eq b x.at.0) 1 0 + (cond t 1 0 + 0)) (sym f) (omega arith) in
-          freed b some (λ used. not_used (sym (subst (λ z. slice_get (map_with_freed_pair now.map x.at) z ≡ Some Free) (sym same)
+          let some : 1 ≤ occurrence_count_of_number b (blocks_of_pairs (x ∷ [])) = subst (λ t. 1 ≤ cond (nat_eq b x.at.0) 1 0 + (cond t 1 0 + 0)) (sym f) (omega arith) in
+          freed b some (λ used. not_used (sym (subst (λ z. slice_get (block_map_with_freed_pair now.map x.at) z ≡ Some Free) (sym same)
           (slice_get-set_same (set now.map x.at.0 Free) x.at.1 Free (let w = used_within b some in let l = length-set now.map x.at.0 Free in omega arith))) ∙ used))
       go b true false e f =
           let same : b ≡ x.at.0 = eqb-true b x.at.0 e in
           let other : b ≢ x.at.1 = eqb-false b x.at.1 f in
-          let some : 1 ≤ count b (blocks_of_pairs (x ∷ [])) = subst (λ t. 1 ≤ cond t 1 0 + (cond (nat_eq b x.at.1) 1 0 + 0)) (sym e) (omega arith) in
+          let some : 1 ≤ occurrence_count_of_number b (blocks_of_pairs (x ∷ [])) = subst (λ t. 1 ≤ cond t 1 0 + (cond (nat_eq b x.at.1) 1 0 + 0)) (sym e) (omega arith) in
           freed b some (λ used. not_used (sym (slice_get-set_other (set now.map x.at.0 Free) x.at.1 b Free other
           ∙ subst (λ z. slice_get (set now.map x.at.0 Free) z ≡ Some Free) (sym same) (slice_get-set_same now.map x.at.0 Free (let w = used_within b some in omega arith))) ∙ used))
       go b false false e f =
           let first : b ≢ x.at.0 = eqb-false b x.at.0 e in
           let second : b ≢ x.at.1 = eqb-false b x.at.1 f in
-          let none_of : count b (blocks_of_pairs (x ∷ [])) ≡ 0 = ap₂ (λ s t. cond s 1 0 + (cond t 1 0 + 0)) e f in
-          let there : slice_get (map_with_freed_pair now.map x.at) b ≡ slice_get now.map b
+          let none_of : occurrence_count_of_number b (blocks_of_pairs (x ∷ [])) ≡ 0 = ap₂ (λ s t. cond s 1 0 + (cond t 1 0 + 0)) e f in
+          let there : slice_get (block_map_with_freed_pair now.map x.at) b ≡ slice_get now.map b
           = slice_get-set_other (set now.map x.at.0 Free) x.at.1 b Free second ∙ slice_get-set_other now.map x.at.0 b Free first in (
-            (λ used. Contains-count owned b (let k = count-Contains h.owned b ((h.are b).0 (sym there ∙ used)) in let l = less b in omega arith)),
-            (λ has. there ∙ (h.are b).1 (Contains-count h.owned b (let k = count-Contains owned b has in let l = less b in omega arith))),
+            (λ used. Contains-occurrence_count_of_number owned b (let k = occurrence_count_of_number-Contains h.owned b ((h.are b).0 (sym there ∙ used)) in let l = less b in omega arith)),
+            (λ has. there ∙ (h.are b).1 (Contains-occurrence_count_of_number h.owned b (let k = occurrence_count_of_number-Contains owned b has in let l = less b in omega arith))),
           )
 
   -- none of them was in flight
-  pub frees_flies : (gone : List ℕ) → HasMap now gone → HasSameBlocksInFlight now.map (map_with_freed_pair now.map x.at)
+  pub frees_flies : (gone : List ℕ) → HasMap now gone → HasSameBlocksInFlight now.map (block_map_with_freed_pair now.map x.at)
   frees_flies gone h = flying_same now.map x.at h.owned (used_blocks new.disk new.pairs ++ (gone ++ lists)) h.are h.once
       (λ b.
       let c = count_append b (used_blocks new.disk new.pairs) (gone ++ lists) in
@@ -109,84 +109,84 @@ module _ (now new : Kept) (x : Pair) (lists : List ℕ)
 
 -- ---- a pair goes
 
-module _ (now new : Kept) (front : List Pair) (before x q : Pair) (back : List Pair) (was : now.pairs ≡ front ++ before ∷ x ∷ back) (is : new.pairs ≡ front ++ q ∷ back)
-    (at : q.at ≡ before.at) (slots : q.content.slots ≡ before.content.slots) (none : HasNoMove (gstate_of now.pairs)) (still : HasNoMove (gstate_of new.pairs))
+module _ (now new : KeptThread) (front : List Pair) (before x q : Pair) (back : List Pair) (was : now.pairs ≡ front ++ before ∷ x ∷ back) (is : new.pairs ≡ front ++ q ∷ back)
+    (at : q.at ≡ before.at) (slots : q.content.slots ≡ before.content.slots) (none : HasNoMove (gstate_of_pairs now.pairs)) (still : HasNoMove (gstate_of_pairs new.pairs))
     (geometry : SameGeometry now.disk new.disk) (files : SameFiles now.disk new.disk (all_slots_not_moved now.pairs)) where
   abbrev F : Slot → Type 0
-  F s = HasSameFile now.disk new.disk s.struct
+  F s = HasSameFileBlocksOfStructOnDisks now.disk new.disk s.struct
 
-  all_are : all_slots_not_moved now.pairs ≡ slots_in front ++ (before.content.slots ++ (x.content.slots ++ slots_in back))
-  all_are = unmoved_in (gstate_of now.pairs) none now.pairs ∙ ap slots_in was ∙ slots_append front (before ∷ x ∷ back)
+  all_are : all_slots_not_moved now.pairs ≡ slots_of_pairs_in_order front ++ (before.content.slots ++ (x.content.slots ++ slots_of_pairs_in_order back))
+  all_are = unmoved_in (gstate_of_pairs now.pairs) none now.pairs ∙ ap slots_of_pairs_in_order was ∙ slots_append front (before ∷ x ∷ back)
 
-  same_files : SameFiles now.disk new.disk (slots_in front ++ (before.content.slots ++ (x.content.slots ++ slots_in back)))
+  same_files : SameFiles now.disk new.disk (slots_of_pairs_in_order front ++ (before.content.slots ++ (x.content.slots ++ slots_of_pairs_in_order back)))
   same_files = subst (SameFiles now.disk new.disk) all_are files
 
-  behind : SameFiles now.disk new.disk (before.content.slots ++ (x.content.slots ++ slots_in back))
-  behind = each_right F (slots_in front) (before.content.slots ++ (x.content.slots ++ slots_in back)) same_files
+  behind : SameFiles now.disk new.disk (before.content.slots ++ (x.content.slots ++ slots_of_pairs_in_order back))
+  behind = each_right F (slots_of_pairs_in_order front) (before.content.slots ++ (x.content.slots ++ slots_of_pairs_in_order back)) same_files
 
-  left : SameFiles now.disk new.disk (slots_in front ++ (before.content.slots ++ slots_in back))
-  left = each_append F (slots_in front) (before.content.slots ++ slots_in back) (each_left F (slots_in front) (before.content.slots ++ (x.content.slots ++ slots_in back)) same_files)
-      (each_append F before.content.slots (slots_in back) (each_left F before.content.slots (x.content.slots ++ slots_in back) behind)
-      (each_right F x.content.slots (slots_in back) (each_right F before.content.slots (x.content.slots ++ slots_in back) behind)))
+  left : SameFiles now.disk new.disk (slots_of_pairs_in_order front ++ (before.content.slots ++ slots_of_pairs_in_order back))
+  left = each_append F (slots_of_pairs_in_order front) (before.content.slots ++ slots_of_pairs_in_order back) (each_left F (slots_of_pairs_in_order front) (before.content.slots ++ (x.content.slots ++ slots_of_pairs_in_order back)) same_files)
+      (each_append F before.content.slots (slots_of_pairs_in_order back) (each_left F before.content.slots (x.content.slots ++ slots_of_pairs_in_order back) behind)
+      (each_right F x.content.slots (slots_of_pairs_in_order back) (each_right F before.content.slots (x.content.slots ++ slots_of_pairs_in_order back) behind)))
 
-  slots_now : slots_in new.pairs ≡ slots_in front ++ (before.content.slots ++ slots_in back)
-  slots_now = ap slots_in is ∙ slots_append front (q ∷ back) ∙ ap (λ z. slots_in front ++ (z ++ slots_in back)) slots
+  slots_now : slots_of_pairs_in_order new.pairs ≡ slots_of_pairs_in_order front ++ (before.content.slots ++ slots_of_pairs_in_order back)
+  slots_now = ap slots_of_pairs_in_order is ∙ slots_append front (q ∷ back) ∙ ap (λ z. slots_of_pairs_in_order front ++ (z ++ slots_of_pairs_in_order back)) slots
 
   -- the lists of the pair that goes are gone
-  pub files_count : (b : ℕ) → count b (files_of new.disk (slots_in new.pairs)) + count b (files_of now.disk x.content.slots) ≡ count b (files_of now.disk (slots_in now.pairs))
+  pub files_count : (b : ℕ) → occurrence_count_of_number b (file_blocks_of_slots new.disk (slots_of_pairs_in_order new.pairs)) + occurrence_count_of_number b (file_blocks_of_slots now.disk x.content.slots) ≡ occurrence_count_of_number b (file_blocks_of_slots now.disk (slots_of_pairs_in_order now.pairs))
   files_count b =
-      let e1 = ap (λ z. count b (files_of new.disk z)) slots_now ∙ ap (count b) (slots_files now.disk new.disk (slots_in front ++ (before.content.slots ++ slots_in back)) geometry left) in
-      let e2 = ap (λ z. count b (files_of now.disk z)) (ap slots_in was ∙ slots_append front (before ∷ x ∷ back)) in
-      let c1 = count_files b now.disk (slots_in front) (before.content.slots ++ slots_in back) in
-      let c2 = count_files b now.disk before.content.slots (slots_in back) in
-      let c3 = count_files b now.disk (slots_in front) (before.content.slots ++ (x.content.slots ++ slots_in back)) in
-      let c4 = count_files b now.disk before.content.slots (x.content.slots ++ slots_in back) in
-      let c5 = count_files b now.disk x.content.slots (slots_in back) in
+      let e1 = ap (λ z. occurrence_count_of_number b (file_blocks_of_slots new.disk z)) slots_now ∙ ap (occurrence_count_of_number b) (slots_files now.disk new.disk (slots_of_pairs_in_order front ++ (before.content.slots ++ slots_of_pairs_in_order back)) geometry left) in
+      let e2 = ap (λ z. occurrence_count_of_number b (file_blocks_of_slots now.disk z)) (ap slots_of_pairs_in_order was ∙ slots_append front (before ∷ x ∷ back)) in
+      let c1 = count_files b now.disk (slots_of_pairs_in_order front) (before.content.slots ++ slots_of_pairs_in_order back) in
+      let c2 = count_files b now.disk before.content.slots (slots_of_pairs_in_order back) in
+      let c3 = count_files b now.disk (slots_of_pairs_in_order front) (before.content.slots ++ (x.content.slots ++ slots_of_pairs_in_order back)) in
+      let c4 = count_files b now.disk before.content.slots (x.content.slots ++ slots_of_pairs_in_order back) in
+      let c5 = count_files b now.disk x.content.slots (slots_of_pairs_in_order back) in
       omega arith
 
-  pub blocks_count : (b : ℕ) → count b (blocks_of_pairs new.pairs) + count b (blocks_of_pairs (x ∷ [])) ≡ count b (blocks_of_pairs now.pairs)
+  pub blocks_count : (b : ℕ) → occurrence_count_of_number b (blocks_of_pairs new.pairs) + occurrence_count_of_number b (blocks_of_pairs (x ∷ [])) ≡ occurrence_count_of_number b (blocks_of_pairs now.pairs)
   blocks_count b =
-      let e1 = ap (λ z. count b (blocks_of_pairs z)) is in
-      let e2 = ap (λ z. count b (blocks_of_pairs z)) was in
+      let e1 = ap (λ z. occurrence_count_of_number b (blocks_of_pairs z)) is in
+      let e2 = ap (λ z. occurrence_count_of_number b (blocks_of_pairs z)) was in
       let c1 = blocks_append front (q ∷ back) b in
       let c2 = blocks_append (q ∷ []) back b in
       let c3 = blocks_append front (before ∷ x ∷ back) b in
       let c4 = blocks_append (before ∷ []) (x ∷ back) b in
       let c5 = blocks_append (x ∷ []) back b in
-      let a = ap (λ (z : ℕ × ℕ). count b (z.0 ∷ z.1 ∷ [])) at in
+      let a = ap (λ (z : ℕ × ℕ). occurrence_count_of_number b (z.0 ∷ z.1 ∷ [])) at in
       omega arith
 
-  used_count : (b : ℕ) → count b (used_blocks new.disk new.pairs) + (count b (blocks_of_pairs (x ∷ [])) + count b (files_of now.disk x.content.slots)) ≡ count b (used_blocks now.disk now.pairs)
+  used_count : (b : ℕ) → occurrence_count_of_number b (used_blocks new.disk new.pairs) + (occurrence_count_of_number b (blocks_of_pairs (x ∷ [])) + occurrence_count_of_number b (file_blocks_of_slots now.disk x.content.slots)) ≡ occurrence_count_of_number b (used_blocks now.disk now.pairs)
   used_count b =
       let f = files_count b in let k = blocks_count b in
       let u = count_used b new.disk new.pairs still in let v = count_used b now.disk now.pairs none in
       omega arith
 
-  pub map_flies : (gone : List ℕ) → HasMap now gone → HasSameBlocksInFlight now.map (map_with_freed_pair now.map x.at)
-  map_flies gone h = frees_flies now new x (files_of now.disk x.content.slots) used_count gone h
+  pub map_flies : (gone : List ℕ) → HasMap now gone → HasSameBlocksInFlight now.map (block_map_with_freed_pair now.map x.at)
+  map_flies gone h = frees_flies now new x (file_blocks_of_slots now.disk x.content.slots) used_count gone h
 
-  pub map_drops : (gone : List ℕ) → new.map ≡ map_with_freed_pair now.map x.at → block_count new.disk ≡ block_count now.disk → HasMap now gone → HasMap new (gone ++ files_of now.disk x.content.slots)
-  map_drops gone map_is blocks h = map_frees now new x (files_of now.disk x.content.slots) used_count gone map_is blocks h
+  pub map_drops : (gone : List ℕ) → new.map ≡ block_map_with_freed_pair now.map x.at → block_count new.disk ≡ block_count now.disk → HasMap now gone → HasMap new (gone ++ file_blocks_of_slots now.disk x.content.slots)
+  map_drops gone map_is blocks h = map_frees now new x (file_blocks_of_slots now.disk x.content.slots) used_count gone map_is blocks h
 
 -- ---- the same addresses and slots
 
-pub alike_blocks : (xs ys : List Pair) → AreAlike xs ys → blocks_of_pairs ys ≡ blocks_of_pairs xs
+pub alike_blocks : (xs ys : List Pair) → ArePairsWithSameAddressesAndSlots xs ys → blocks_of_pairs ys ≡ blocks_of_pairs xs
 alike_blocks [] [] h = refl
 alike_blocks [] (y ∷ ys) h = absurd h
 alike_blocks (x ∷ xs) [] h = absurd h
 alike_blocks (x ∷ xs) (y ∷ ys) h = ap₂ (λ (a : ℕ × ℕ) (bs : List ℕ). a.0 ∷ a.1 ∷ bs) h.0 (alike_blocks xs ys h.2)
 
-alike_slots : (xs ys : List Pair) → AreAlike xs ys → slots_in ys ≡ slots_in xs
+alike_slots : (xs ys : List Pair) → ArePairsWithSameAddressesAndSlots xs ys → slots_of_pairs_in_order ys ≡ slots_of_pairs_in_order xs
 alike_slots [] [] h = refl
 alike_slots [] (y ∷ ys) h = absurd h
 alike_slots (x ∷ xs) [] h = absurd h
 alike_slots (x ∷ xs) (y ∷ ys) h = ap₂ (λ a b. a ++ b) h.1 (alike_slots xs ys h.2)
 
-module _ (now new : Kept) (alike : AreAlike now.pairs new.pairs) (none : HasNoMove (gstate_of now.pairs)) (still : HasNoMove (gstate_of new.pairs))
+module _ (now new : KeptThread) (alike : ArePairsWithSameAddressesAndSlots now.pairs new.pairs) (none : HasNoMove (gstate_of_pairs now.pairs)) (still : HasNoMove (gstate_of_pairs new.pairs))
     (geometry : SameGeometry now.disk new.disk) (files : SameFiles now.disk new.disk (all_slots_not_moved now.pairs)) where
-  pub files_stay : (b : ℕ) → count b (files_of new.disk (slots_in new.pairs)) ≡ count b (files_of now.disk (slots_in now.pairs))
-  files_stay b = ap (λ z. count b (files_of new.disk z)) (alike_slots now.pairs new.pairs alike)
-      ∙ ap (count b) (slots_files now.disk new.disk (slots_in now.pairs) geometry (subst (SameFiles now.disk new.disk) (unmoved_in (gstate_of now.pairs) none now.pairs) files))
+  pub files_stay : (b : ℕ) → occurrence_count_of_number b (file_blocks_of_slots new.disk (slots_of_pairs_in_order new.pairs)) ≡ occurrence_count_of_number b (file_blocks_of_slots now.disk (slots_of_pairs_in_order now.pairs))
+  files_stay b = ap (λ z. occurrence_count_of_number b (file_blocks_of_slots new.disk z)) (alike_slots now.pairs new.pairs alike)
+      ∙ ap (occurrence_count_of_number b) (slots_files now.disk new.disk (slots_of_pairs_in_order now.pairs) geometry (subst (SameFiles now.disk new.disk) (unmoved_in (gstate_of_pairs now.pairs) none now.pairs) files))
 
   pub map_stays : (gone : List ℕ) → new.map ≡ now.map → HasMap now gone → HasMap new gone
   map_stays gone map_is h = record {
@@ -194,7 +194,7 @@ module _ (now new : Kept) (alike : AreAlike now.pairs new.pairs) (none : HasNoMo
     are = subst (λ m. AreExactlyTheUsedBlocks m h.owned) (sym map_is) h.are;
     same = λ b.
         let f = files_stay b in
-        let k = ap (count b) (alike_blocks now.pairs new.pairs alike) in
+        let k = ap (occurrence_count_of_number b) (alike_blocks now.pairs new.pairs alike) in
         let u = count_used b new.disk new.pairs still in let v = count_used b now.disk now.pairs none in
         let s = h.same b in
         omega arith;

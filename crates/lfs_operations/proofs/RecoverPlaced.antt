@@ -4,21 +4,21 @@ use Rattle.std.specs.Prelude.{All}
 use Rattle.std.proofs.lemmas.List.Elements.{All-from_recursion, recursion_from_All}
 use Rattle.lfs_model.specs.Disk.{Disk}
 use Rattle.lfs_model.specs.Content.{content_of_pair_at, current_block_of_pair_at}
-use Rattle.lfs_model.specs.Slots.{Content, IsContentFittingPair, Gstate, gstate_xor}
-use Rattle.lfs_model.specs.Thread.{Pair, gstate_of}
+use Rattle.lfs_model.specs.Slots.{PairContent, IsContentFittingPair, Gstate, gstate_xor}
+use Rattle.lfs_model.specs.Thread.{Pair, gstate_of_pairs}
 use Rattle.lfs_model.specs.View.{BeginsWithLogEntry, IsAcceptedImage, superblock_name_log_entry}
-use Rattle.lfs_model.specs.Profile.{FitsSlotLimits, IsWritable}
-use Rattle.lfs_model.proofs.Changes.{Follows}
+use Rattle.lfs_model.specs.Profile.{IsSlotWithinWritableLimits, IsWritableImage}
+use Rattle.lfs_model.proofs.Changes.{IsImageAfterTreeChange}
 use Rattle.lfs_model.proofs.Counts.{each_append, each_left, each_right}
 use Rattle.lfs_model.proofs.Global.{gstate_assoc, gstate_cons, gstate_moved, gstate_right, gstate_self}
 use Rattle.lfs_model.proofs.Sites.{Site}
 use Rattle.lfs_model.proofs.Splices.{IsDevice}
-use Rattle.lfs_model.proofs.StepsTaken.{IsOnlyStep}
+use Rattle.lfs_model.proofs.StepsTaken.{IsWritableImageAfterTreeChange}
 use Rattle.lfs_model.proofs.Superblocks.{IsChain}
 use Rattle.lfs_model.proofs.Unchanged.{HasFirst, same_follows}
 use Rattle.lfs_pair.specs.Commit.{KeepsBlocksOutsidePair}
-use Rattle.lfs_thread.specs.Kept.{Kept}
-use Rattle.lfs_thread.specs.Steps.{IsPairWrittenOnDisk, SlotsBeginWithSuperblock, no_pair, kept_pair_at_index, pairs_with_content_at_index}
+use Rattle.lfs_thread.specs.Kept.{KeptThread}
+use Rattle.lfs_thread.specs.Steps.{IsPairWrittenOnDisk, SlotsBeginWithSuperblock, empty_pair_at_anchor, thread_pair_at_index, thread_pairs_with_content_replaced_at_index}
 use Rattle.lfs_operations.specs.Deltas.{delta_reaching_gstate, delta_after_taking_over_next_pair}
 use Rattle.lfs_operations.proofs.Placing.{all_apart, device}
 
@@ -43,22 +43,22 @@ remove_next (x ∷ xs) q o zs = ap (λ z. x ∷ z) (remove_next xs q o zs)
 -- ---- one pair of a thread
 
 -- the pair p stands at the index, behind chain and front
-pub record IsAt (t : Kept) (chain front : List Pair) (p : Pair) (back : List Pair) (index : ℕ) : Type 0 where
+pub record IsAt (t : KeptThread) (chain front : List Pair) (p : Pair) (back : List Pair) (index : ℕ) : Type 0 where
   pub there : t.pairs ≡ chain ++ (front ++ p ∷ back)
   pub number : index ≡ length chain + length front
 
-module _ (t : Kept) (chain front : List Pair) (p : Pair) (back : List Pair) (index : ℕ) (k : IsAt t chain front p back index) where
+module _ (t : KeptThread) (chain front : List Pair) (p : Pair) (back : List Pair) (index : ℕ) (k : IsAt t chain front p back index) where
   grouped : t.pairs ≡ (chain ++ front) ++ p ∷ back
   grouped = k.there ∙ sym (append_assoc chain front (p ∷ back))
 
   counted : index ≡ length (chain ++ front)
   counted = k.number ∙ sym (length-append chain front)
 
-  pub here_is : kept_pair_at_index t index ≡ p
-  here_is = ap₂ (λ (z : List Pair) (i : ℕ). get_or z i no_pair) grouped counted ∙ get_here (chain ++ front) p back no_pair
+  pub here_is : thread_pair_at_index t index ≡ p
+  here_is = ap₂ (λ (z : List Pair) (i : ℕ). get_or z i empty_pair_at_anchor) grouped counted ∙ get_here (chain ++ front) p back empty_pair_at_anchor
 
   -- with another content
-  pub with_is : (c : Content) → pairs_with_content_at_index t index c ≡ chain ++ (front ++ record { at = p.at; content = c } ∷ back)
+  pub with_is : (c : PairContent) → thread_pairs_with_content_replaced_at_index t index c ≡ chain ++ (front ++ record { at = p.at; content = c } ∷ back)
   with_is c =
       let q : Pair = record { at = p.at; content = c } in
       ap (λ (z : Pair). set t.pairs index (record { at = z.at; content = c })) here_is
@@ -68,7 +68,7 @@ module _ (t : Kept) (chain front : List Pair) (p : Pair) (back : List Pair) (ind
   site = record { chain = chain; before = []; left = front; right = []; after = back }
 
   -- the disk has the thread with that content
-  pub placed_by : (disk : Disk) (c : Content) → (HasFirst p.content.slots → SlotsBeginWithSuperblock c.slots) → IsAcceptedImage t.disk (chain ++ (front ++ p ∷ back)) → IsPairWrittenOnDisk t index c disk
+  pub placed_by : (disk : Disk) (c : PairContent) → (HasFirst p.content.slots → SlotsBeginWithSuperblock c.slots) → IsAcceptedImage t.disk (chain ++ (front ++ p ∷ back)) → IsPairWrittenOnDisk t index c disk
       → IsDevice t.disk disk (chain ++ (front ++ p ∷ back)) (chain ++ (front ++ record { at = p.at; content = c } ∷ back))
   placed_by disk c keeps ok is = device t.disk disk site p (record { at = p.at; content = c }) [] [] ok ok.owned_once (record {
     geometry = record { block_size = is.shape.block_size; page = is.shape.page; order = is.shape.order; count = is.shape.count };
@@ -78,42 +78,42 @@ module _ (t : Kept) (chain front : List Pair) (p : Pair) (back : List Pair) (ind
         (is.first (subst (λ at. BeginsWithLogEntry (current_block_of_pair_at t.disk at) superblock_name_log_entry) (sym at_is) b) (keeps h));
   })
     where
-      at_is : (kept_pair_at_index t index).at ≡ p.at
+      at_is : (thread_pair_at_index t index).at ≡ p.at
       at_is = ap (λ (z : Pair). z.at) here_is
 
-  pub placed_device : (disk : Disk) (c : Content) → c.slots ≡ p.content.slots → IsAcceptedImage t.disk (chain ++ (front ++ p ∷ back)) → IsPairWrittenOnDisk t index c disk
+  pub placed_device : (disk : Disk) (c : PairContent) → c.slots ≡ p.content.slots → IsAcceptedImage t.disk (chain ++ (front ++ p ∷ back)) → IsPairWrittenOnDisk t index c disk
       → IsDevice t.disk disk (chain ++ (front ++ p ∷ back)) (chain ++ (front ++ record { at = p.at; content = c } ∷ back))
   placed_device disk c same ok is = placed_by disk c (λ h. subst SlotsBeginWithSuperblock (sym same) (h.kind, h.name)) ok is
 
 -- ---- nothing came of it
 
-writable_still : (disk new : Disk) (ps : List Pair) → new.block_size ≡ disk.block_size → new.page ≡ disk.page → IsWritable disk ps → IsWritable new ps
+writable_still : (disk new : Disk) (ps : List Pair) → new.block_size ≡ disk.block_size → new.page ≡ disk.page → IsWritableImage disk ps → IsWritableImage new ps
 writable_still disk new ps e f h = record {
   pairs = subst (λ (n : ℕ). All (λ p. IsContentFittingPair n new.page p.content) ps) (sym e) (subst (λ (n : ℕ). All (λ p. IsContentFittingPair disk.block_size n p.content) ps) (sym f) h.pairs);
-  slots = subst (λ (n : ℕ). All (λ p. All (FitsSlotLimits n new.page) p.content.slots) ps) (sym e) (subst (λ (n : ℕ). All (λ p. All (FitsSlotLimits disk.block_size n) p.content.slots) ps) (sym f) h.slots);
+  slots = subst (λ (n : ℕ). All (λ p. All (IsSlotWithinWritableLimits n new.page) p.content.slots) ps) (sym e) (subst (λ (n : ℕ). All (λ p. All (IsSlotWithinWritableLimits disk.block_size n) p.content.slots) ps) (sym f) h.slots);
   no_empty_pair = h.no_empty_pair;
 }
 
-pub nothing_taken : (disk new : Disk) (chain front : List Pair) (p : Pair) (back : List Pair) → IsChain chain (front ++ p ∷ back) → IsAcceptedImage disk (chain ++ (front ++ p ∷ back)) → IsWritable disk (chain ++ (front ++ p ∷ back))
-    → IsDevice disk new (chain ++ (front ++ p ∷ back)) (chain ++ (front ++ p ∷ back)) → IsOnlyStep disk (chain ++ (front ++ p ∷ back)) new (chain ++ (front ++ p ∷ back)) (λ t. t) (λ d. d)
+pub nothing_taken : (disk new : Disk) (chain front : List Pair) (p : Pair) (back : List Pair) → IsChain chain (front ++ p ∷ back) → IsAcceptedImage disk (chain ++ (front ++ p ∷ back)) → IsWritableImage disk (chain ++ (front ++ p ∷ back))
+    → IsDevice disk new (chain ++ (front ++ p ∷ back)) (chain ++ (front ++ p ∷ back)) → IsWritableImageAfterTreeChange disk (chain ++ (front ++ p ∷ back)) new (chain ++ (front ++ p ∷ back)) (λ t. t) (λ d. d)
 nothing_taken disk new chain front p back is_chain ok fits on = record {
   follows = go (front ++ p ∷ back) refl;
   writable = writable_still disk new (chain ++ (front ++ p ∷ back)) on.geometry.block_size on.geometry.page fits;
 }
   where
-    go : (behind : List Pair) → front ++ p ∷ back ≡ behind → Follows disk (chain ++ (front ++ p ∷ back)) new (chain ++ (front ++ p ∷ back)) (λ t. t) (λ d. d)
+    go : (behind : List Pair) → front ++ p ∷ back ≡ behind → IsImageAfterTreeChange disk (chain ++ (front ++ p ∷ back)) new (chain ++ (front ++ p ∷ back)) (λ t. t) (λ d. d)
     go [] e = absurd (let l = ap length e in let k = length-append front (p ∷ back) in omega arith)
-    go (x ∷ rest) e = subst (λ z. Follows disk (chain ++ z) new (chain ++ z) (λ t. t) (λ d. d)) (sym e)
+    go (x ∷ rest) e = subst (λ z. IsImageAfterTreeChange disk (chain ++ z) new (chain ++ z) (λ t. t) (λ d. d)) (sym e)
         (same_follows disk new chain x rest (subst (IsChain chain) e is_chain) (subst (λ z. IsAcceptedImage disk (chain ++ z)) e ok)
         (subst (λ z. IsDevice disk new (chain ++ z) (chain ++ z)) e on))
 
 -- ---- the pair behind it goes
 
-module _ (t : Kept) (chain front : List Pair) (p o : Pair) (back : List Pair) (index : ℕ) (k : IsAt t chain front p (o ∷ back) index) where
-  pub next_is : kept_pair_at_index t (index + 1) ≡ o
+module _ (t : KeptThread) (chain front : List Pair) (p o : Pair) (back : List Pair) (index : ℕ) (k : IsAt t chain front p (o ∷ back) index) where
+  pub next_is : thread_pair_at_index t (index + 1) ≡ o
   next_is =
       let n : index + 1 ≡ suc (length (chain ++ front)) = let e = counted t chain front p (o ∷ back) index k in omega arith in
-      ap₂ (λ (z : List Pair) (i : ℕ). get_or z i no_pair) (grouped t chain front p (o ∷ back) index k) n ∙ get_next (chain ++ front) p o back no_pair
+      ap₂ (λ (z : List Pair) (i : ℕ). get_or z i empty_pair_at_anchor) (grouped t chain front p (o ∷ back) index k) n ∙ get_next (chain ++ front) p o back empty_pair_at_anchor
 
   pub next_below : index + 1 < length t.pairs
   next_below =
@@ -122,14 +122,14 @@ module _ (t : Kept) (chain front : List Pair) (p o : Pair) (back : List Pair) (i
       let c = counted t chain front p (o ∷ back) index k in
       omega arith
 
-  pub without_is : (c : Content) → remove (pairs_with_content_at_index t index c) (index + 1) ≡ chain ++ (front ++ record { at = p.at; content = c } ∷ back)
+  pub without_is : (c : PairContent) → remove (thread_pairs_with_content_replaced_at_index t index c) (index + 1) ≡ chain ++ (front ++ record { at = p.at; content = c } ∷ back)
   without_is c =
       let q : Pair = record { at = p.at; content = c } in
       let n : index + 1 ≡ suc (length (chain ++ front)) = let e = counted t chain front p (o ∷ back) index k in omega arith in
       ap₂ (λ (z : List Pair) (i : ℕ). remove z i) (with_is t chain front p (o ∷ back) index k c ∙ sym (append_assoc chain front (q ∷ o ∷ back))) n
       ∙ remove_next (chain ++ front) q o back ∙ append_assoc chain front (q ∷ back)
 
-  pub dropped_device : (disk : Disk) (c : Content) → c.slots ≡ p.content.slots → IsAcceptedImage t.disk (chain ++ (front ++ p ∷ o ∷ back)) → IsPairWrittenOnDisk t index c disk
+  pub dropped_device : (disk : Disk) (c : PairContent) → c.slots ≡ p.content.slots → IsAcceptedImage t.disk (chain ++ (front ++ p ∷ o ∷ back)) → IsPairWrittenOnDisk t index c disk
       → IsDevice t.disk disk (chain ++ (front ++ p ∷ o ∷ back)) (chain ++ (front ++ record { at = p.at; content = c } ∷ back))
   dropped_device disk c same ok is =
       let q : Pair = record { at = p.at; content = c } in
@@ -148,31 +148,31 @@ module _ (t : Kept) (chain front : List Pair) (p o : Pair) (back : List Pair) (i
       }
 
   -- the global state is the one that is wanted
-  pub dropped_state : (g : Gstate) (q : Pair) → q.content.move ≡ delta_after_taking_over_next_pair t index (index + 1) g → gstate_of (chain ++ (front ++ q ∷ back)) ≡ g
+  pub dropped_state : (g : Gstate) (q : Pair) → q.content.move ≡ delta_after_taking_over_next_pair t index (index + 1) g → gstate_of_pairs (chain ++ (front ++ q ∷ back)) ≡ g
   dropped_state g q e =
-      let G = gstate_of t.pairs in
+      let G = gstate_of_pairs t.pairs in
       let d = gstate_xor g G in
       let deltas : delta_after_taking_over_next_pair t index (index + 1) g ≡ gstate_xor (gstate_xor d p.content.move) o.content.move
       = ap₂ (λ (x y : Pair). gstate_xor (gstate_xor d x.content.move) y.content.move) (here_is t chain front p (o ∷ back) index k) next_is in
-      let two : gstate_of (p ∷ o ∷ []) ≡ gstate_xor p.content.move o.content.move = gstate_cons p (o ∷ []) ∙ ap (gstate_xor p.content.move) (gstate_cons o [] ∙ gstate_right o.content.move) in
-      let one : gstate_of (q ∷ []) ≡ gstate_xor d (gstate_of (p ∷ o ∷ []))
+      let two : gstate_of_pairs (p ∷ o ∷ []) ≡ gstate_xor p.content.move o.content.move = gstate_cons p (o ∷ []) ∙ ap (gstate_xor p.content.move) (gstate_cons o [] ∙ gstate_right o.content.move) in
+      let one : gstate_of_pairs (q ∷ []) ≡ gstate_xor d (gstate_of_pairs (p ∷ o ∷ []))
       = gstate_cons q [] ∙ gstate_right q.content.move ∙ e ∙ deltas ∙ gstate_assoc d p.content.move o.content.move ∙ ap (gstate_xor d) (sym two) in
-      ap gstate_of (sym (append_assoc chain front (q ∷ back)))
+      ap gstate_of_pairs (sym (append_assoc chain front (q ∷ back)))
       ∙ gstate_moved d (chain ++ front) (p ∷ o ∷ []) (q ∷ []) back one
-      ∙ ap (λ z. gstate_xor d (gstate_of z)) (sym (grouped t chain front p (o ∷ back) index k))
+      ∙ ap (λ z. gstate_xor d (gstate_of_pairs z)) (sym (grouped t chain front p (o ∷ back) index k))
       ∙ gstate_assoc g G G ∙ ap (gstate_xor g) (gstate_self G) ∙ gstate_right g
 
 -- ---- a delta changes
 
-pub set_state_is : (t : Kept) (chain front : List Pair) (p : Pair) (back : List Pair) (index : ℕ) → IsAt t chain front p back index → (g : Gstate) (q : Pair) → q.content.move ≡ delta_reaching_gstate t index g
-    → gstate_of (chain ++ (front ++ q ∷ back)) ≡ g
+pub set_state_is : (t : KeptThread) (chain front : List Pair) (p : Pair) (back : List Pair) (index : ℕ) → IsAt t chain front p back index → (g : Gstate) (q : Pair) → q.content.move ≡ delta_reaching_gstate t index g
+    → gstate_of_pairs (chain ++ (front ++ q ∷ back)) ≡ g
 set_state_is t chain front p back index k g q e =
-    let G = gstate_of t.pairs in
+    let G = gstate_of_pairs t.pairs in
     let d = gstate_xor g G in
     let delta : delta_reaching_gstate t index g ≡ gstate_xor d p.content.move = ap (λ (x : Pair). gstate_xor d x.content.move) (here_is t chain front p back index k) in
-    let one : gstate_of (q ∷ []) ≡ gstate_xor d (gstate_of (p ∷ []))
+    let one : gstate_of_pairs (q ∷ []) ≡ gstate_xor d (gstate_of_pairs (p ∷ []))
     = gstate_cons q [] ∙ gstate_right q.content.move ∙ e ∙ delta ∙ ap (gstate_xor d) (sym (gstate_cons p [] ∙ gstate_right p.content.move)) in
-    ap gstate_of (sym (append_assoc chain front (q ∷ back)))
+    ap gstate_of_pairs (sym (append_assoc chain front (q ∷ back)))
     ∙ gstate_moved d (chain ++ front) (p ∷ []) (q ∷ []) back one
-    ∙ ap (λ z. gstate_xor d (gstate_of z)) (sym (grouped t chain front p back index k))
+    ∙ ap (λ z. gstate_xor d (gstate_of_pairs z)) (sym (grouped t chain front p back index k))
     ∙ gstate_assoc g G G ∙ ap (gstate_xor g) (gstate_self G) ∙ gstate_right g

@@ -4,14 +4,14 @@ use Rattle.std.proofs.lemmas.Option.{same_Some}
 use Rattle.lfs_model.specs.Blocks.{Blocks}
 use Rattle.lfs_model.specs.Disk.{Disk}
 use Rattle.lfs_model.specs.LoggedContent.{Are32BitPairAddresses}
-use Rattle.lfs_model.specs.PowerLoss.{ShowsTreeBeforeOrAfter as IsLeftOf, with_blocks}
+use Rattle.lfs_model.specs.PowerLoss.{HasTreeBeforeOrAfterOperation as IsLeftOf, disk_with_blocks}
 use Rattle.lfs_model.specs.Slots.{IsContentFittingPair, Gstate, Tail, zero_gstate, same_pair}
-use Rattle.lfs_model.specs.Thread.{Pair, gstate_of, is_hard_tail, pair_count_before_root}
+use Rattle.lfs_model.specs.Thread.{Pair, gstate_of_pairs, is_hard_tail, pair_count_before_root}
 use Rattle.lfs_model.specs.Tree.{Path}
 use Rattle.lfs_model.specs.View.{IsAcceptedImage}
-use Rattle.lfs_model.specs.Profile.{IsWritable}
+use Rattle.lfs_model.specs.Profile.{IsWritableImage}
 use Rattle.lfs_model.specs.Shown.{IsPathToDirectory, tree_on_disk}
-use Rattle.lfs_model.proofs.Alike.{AreAlike, alike_append, alike_itself}
+use Rattle.lfs_model.proofs.Alike.{ArePairsWithSameAddressesAndSlots, alike_append, alike_itself}
 use Rattle.lfs_model.proofs.Drops.{softened}
 use Rattle.lfs_model.proofs.Global.{HasNoMove}
 use Rattle.lfs_model.proofs.Indexes.{HasSite, site_of_number}
@@ -20,35 +20,35 @@ use Rattle.lfs_model.proofs.Profiles.{step_writable}
 use Rattle.lfs_model.proofs.Rests.{slots_stay}
 use Rattle.lfs_model.proofs.Sites.{Site, thread_at}
 use Rattle.lfs_model.proofs.Splices.{IsDevice, stays_shape}
-use Rattle.lfs_model.proofs.StepsTaken.{IsOnlyStep, taken_before, within_at, within_same}
+use Rattle.lfs_model.proofs.StepsTaken.{IsWritableImageAfterTreeChange, taken_before, within_at, within_same}
 use Rattle.lfs_model.proofs.Unthreaded.{IsReady, IsUnthreaded, Unthreads, unthread}
-use Rattle.lfs_thread.specs.Kept.{Kept}
-use Rattle.lfs_thread.specs.Steps.{LeavesPairOldOrChanged, IsPairWrittenOnDisk, complete_content_after_changes, kept_pair_at_index, pairs_with_content_at_index}
-use Rattle.lfs_operations.specs.Deltas.{CanSetGstateInPair, CanTakeOverNextPair, IsPairAddressIfSome, gstate_setting_changes, delta_reaching_gstate, delta_after_taking_over_next_pair, next_pair_takeover_changes, pair_named_by_optional_tail}
+use Rattle.lfs_thread.specs.Kept.{KeptThread}
+use Rattle.lfs_thread.specs.Steps.{PowerLossLeavesPairOldOrChanged, IsPairWrittenOnDisk, complete_content_after_changes, thread_pair_at_index, thread_pairs_with_content_replaced_at_index}
+use Rattle.lfs_operations.specs.Deltas.{CanSetGstateInPair, CanTakeOverNextPair, Is32BitPairAddressIfSome, gstate_setting_changes, delta_reaching_gstate, delta_after_taking_over_next_pair, next_pair_takeover_changes, pair_named_by_optional_tail}
 use Rattle.lfs_operations.proofs.RecoverPlaced.{IsAt, dropped_device, dropped_state, here_is, next_is, nothing_taken, placed_device, set_state_is, with_is}
 use Rattle.lfs_operations.proofs.RecoverDeltas.{over_content, over_made, set_content, set_made, taken_tail, with_move}
 
 -- ---- a pair takes over the tail and the delta of one that no path leads to
 
 -- no move is set then, and no path leads to the pair that goes
-pub record IsUnled (t : Kept) (g : Gstate) (before x : Pair) : Type 0 where
+pub record IsUnled (t : KeptThread) (g : Gstate) (before x : Pair) : Type 0 where
   pub none : HasNoMove g
   pub soft : is_hard_tail before.content.tail ≡ false
   pub unled : (path : Path) (a : ℕ × ℕ) → IsPathToDirectory t.pairs path a → same_pair x.at a ≡ true → ⊥
   pub reached : g.sync ≡ false → (is_hard_tail x.content.tail ≡ false) × AllReachedBut t.pairs x.at
 
-module _ (t : Kept) (chain front : List Pair) (before x : Pair) (todo : List Pair) (index behind : ℕ) (g : Gstate)
+module _ (t : KeptThread) (chain front : List Pair) (before x : Pair) (todo : List Pair) (index behind : ℕ) (g : Gstate)
     (k : IsAt t chain front before (x ∷ todo) index) (next : behind ≡ index + 1) (ready : IsReady t.disk chain (front ++ before ∷ x ∷ todo)) (u : IsUnled t g before x) where
   abbrev q : Pair
   q = record { at = before.at; content = over_content t index behind g }
 
-  first_is : kept_pair_at_index t index ≡ before
+  first_is : thread_pair_at_index t index ≡ before
   first_is = here_is t chain front before (x ∷ todo) index k
 
-  behind_is : kept_pair_at_index t behind ≡ x
-  behind_is = ap (kept_pair_at_index t) next ∙ next_is t chain front before x todo index k
+  behind_is : thread_pair_at_index t behind ≡ x
+  behind_is = ap (thread_pair_at_index t) next ∙ next_is t chain front before x todo index k
 
-  pub state_now : gstate_of (chain ++ (front ++ q ∷ todo)) ≡ g
+  pub state_now : gstate_of_pairs (chain ++ (front ++ q ∷ todo)) ≡ g
   state_now = dropped_state t chain front before x todo index k g q (ap (λ (i : ℕ). delta_after_taking_over_next_pair t index i g) next)
 
   soft_tail : (b : Bool) (tail : Option Tail) → taken_tail (false && b) tail ≡ softened tail
@@ -72,37 +72,37 @@ module _ (t : Kept) (chain front : List Pair) (before x : Pair) (todo : List Pai
   over_taken disk is = unthread t.disk disk chain front before x q todo ready (over_on disk is)
 
   -- a stop leaves the tree
-  pub over_left : CanTakeOverNextPair t index behind g → Are32BitPairAddresses (delta_after_taking_over_next_pair t index behind g).pair → IsPairAddressIfSome (pair_named_by_optional_tail (kept_pair_at_index t behind).content.tail)
-      → (left : Blocks) → LeavesPairOldOrChanged t index (next_pair_takeover_changes t index behind g) left → IsLeftOf (with_blocks left t.disk) (tree_on_disk t.disk t.pairs) (tree_on_disk t.disk t.pairs)
-  over_left can address words left is = subst (λ z. IsLeftOf (with_blocks left t.disk) (tree_on_disk t.disk z) (tree_on_disk t.disk z)) (sym k.there) (go is.is)
+  pub over_left : CanTakeOverNextPair t index behind g → Are32BitPairAddresses (delta_after_taking_over_next_pair t index behind g).pair → Is32BitPairAddressIfSome (pair_named_by_optional_tail (thread_pair_at_index t behind).content.tail)
+      → (left : Blocks) → PowerLossLeavesPairOldOrChanged t index (next_pair_takeover_changes t index behind g) left → IsLeftOf (disk_with_blocks left t.disk) (tree_on_disk t.disk t.pairs) (tree_on_disk t.disk t.pairs)
+  over_left can address words left is = subst (λ z. IsLeftOf (disk_with_blocks left t.disk) (tree_on_disk t.disk z) (tree_on_disk t.disk z)) (sym k.there) (go is.is)
     where
       old : List Pair
       old = chain ++ (front ++ before ∷ x ∷ todo)
 
-      go : (is.content ≡ (kept_pair_at_index t index).content) ⊎ ((complete_content_after_changes t index (next_pair_takeover_changes t index behind g) ≡ Some is.content) × IsContentFittingPair t.disk.block_size t.disk.page is.content)
-          → IsLeftOf (with_blocks left t.disk) (tree_on_disk t.disk old) (tree_on_disk t.disk old)
+      go : (is.content ≡ (thread_pair_at_index t index).content) ⊎ ((complete_content_after_changes t index (next_pair_takeover_changes t index behind g) ≡ Some is.content) × IsContentFittingPair t.disk.block_size t.disk.page is.content)
+          → IsLeftOf (disk_with_blocks left t.disk) (tree_on_disk t.disk old) (tree_on_disk t.disk old)
       go (inl e) =
           let same : is.content ≡ before.content = e ∙ ap (λ (z : Pair). z.content) first_is in
-          let on = placed_device t chain front before (x ∷ todo) index k (with_blocks left t.disk) before.content refl ready.accepted (subst (λ c. IsPairWrittenOnDisk t index c (with_blocks left t.disk)) same is.written) in
-          taken_before t.disk old (with_blocks left t.disk) old (λ d. d) (tree_on_disk t.disk old)
-          (nothing_taken t.disk (with_blocks left t.disk) chain front before (x ∷ todo) ready.is_chain ready.accepted ready.writable on)
+          let on = placed_device t chain front before (x ∷ todo) index k (disk_with_blocks left t.disk) before.content refl ready.accepted (subst (λ c. IsPairWrittenOnDisk t index c (disk_with_blocks left t.disk)) same is.written) in
+          taken_before t.disk old (disk_with_blocks left t.disk) old (λ d. d) (tree_on_disk t.disk old)
+          (nothing_taken t.disk (disk_with_blocks left t.disk) chain front before (x ∷ todo) ready.is_chain ready.accepted ready.writable on)
       go (inr m) =
           let same : is.content ≡ over_content t index behind g = same_Some is.content (over_content t index behind g) (sym m.0 ∙ over_made t index behind g can address words) in
-          taken_before t.disk old (with_blocks left t.disk) (chain ++ (front ++ q ∷ todo)) (λ d. d) (tree_on_disk t.disk old)
-          (over_taken (with_blocks left t.disk) (subst (λ c. IsPairWrittenOnDisk t index c (with_blocks left t.disk)) same is.written)).taken
+          taken_before t.disk old (disk_with_blocks left t.disk) (chain ++ (front ++ q ∷ todo)) (λ d. d) (tree_on_disk t.disk old)
+          (over_taken (disk_with_blocks left t.disk) (subst (λ c. IsPairWrittenOnDisk t index c (disk_with_blocks left t.disk)) same is.written)).taken
 
 -- ---- a delta changes, and with it the sync bit
 
 -- no move is set and all directories are reached; the pair is one of a directory
-pub record CanClear (t : Kept) (index : ℕ) : Type 0 where
+pub record CanClear (t : KeptThread) (index : ℕ) : Type 0 where
   pub accepted : IsAcceptedImage t.disk t.pairs
-  pub writable : IsWritable t.disk t.pairs
-  pub none : HasNoMove (gstate_of t.pairs)
+  pub writable : IsWritableImage t.disk t.pairs
+  pub none : HasNoMove (gstate_of_pairs t.pairs)
   pub reached : AllReached t.pairs
   pub behind : pair_count_before_root t.pairs ≤ index
   pub below : index < length t.pairs
 
-module _ (t : Kept) (index : ℕ) (can : CanClear t index) where
+module _ (t : KeptThread) (index : ℕ) (can : CanClear t index) where
   pub h : HasSite t.pairs index
   h = site_of_number t.disk t.pairs index can.accepted can.behind can.below
 
@@ -124,17 +124,17 @@ module _ (t : Kept) (index : ℕ) (can : CanClear t index) where
   accepted : IsAcceptedImage t.disk (thread_at h.site (h.pair ∷ []))
   accepted = subst (IsAcceptedImage t.disk) h.is can.accepted
 
-  fits : IsWritable t.disk (thread_at h.site (h.pair ∷ []))
-  fits = subst (IsWritable t.disk) h.is can.writable
+  fits : IsWritableImage t.disk (thread_at h.site (h.pair ∷ []))
+  fits = subst (IsWritableImage t.disk) h.is can.writable
 
-  pub clear_state : gstate_of (thread_at h.site (y ∷ [])) ≡ zero_gstate
+  pub clear_state : gstate_of_pairs (thread_at h.site (y ∷ [])) ≡ zero_gstate
   clear_state = set_state_is t h.site.chain (h.site.before ++ h.site.left) h.pair (h.site.right ++ h.site.after) index place zero_gstate y refl
 
-  pub clear_pairs : pairs_with_content_at_index t index (set_content t index zero_gstate) ≡ thread_at h.site (y ∷ [])
-  clear_pairs = ap (pairs_with_content_at_index t index) content_is ∙ with_is t h.site.chain (h.site.before ++ h.site.left) h.pair (h.site.right ++ h.site.after) index place (with_move h.pair.content (delta_reaching_gstate t index zero_gstate))
+  pub clear_pairs : thread_pairs_with_content_replaced_at_index t index (set_content t index zero_gstate) ≡ thread_at h.site (y ∷ [])
+  clear_pairs = ap (thread_pairs_with_content_replaced_at_index t index) content_is ∙ with_is t h.site.chain (h.site.before ++ h.site.left) h.pair (h.site.right ++ h.site.after) index place (with_move h.pair.content (delta_reaching_gstate t index zero_gstate))
 
-  pub clear_alike : AreAlike t.pairs (thread_at h.site (y ∷ []))
-  clear_alike = subst (λ z. AreAlike z (thread_at h.site (y ∷ []))) (sym h.is)
+  pub clear_alike : ArePairsWithSameAddressesAndSlots t.pairs (thread_at h.site (y ∷ []))
+  clear_alike = subst (λ z. ArePairsWithSameAddressesAndSlots z (thread_at h.site (y ∷ []))) (sym h.is)
       (alike_append h.site.chain ((h.site.before ++ h.site.left) ++ h.pair ∷ (h.site.right ++ h.site.after)) h.site.chain ((h.site.before ++ h.site.left) ++ y ∷ (h.site.right ++ h.site.after)) (alike_itself h.site.chain)
       (alike_append (h.site.before ++ h.site.left) (h.pair ∷ (h.site.right ++ h.site.after)) (h.site.before ++ h.site.left) (y ∷ (h.site.right ++ h.site.after)) (alike_itself (h.site.before ++ h.site.left))
       (refl, refl, alike_itself (h.site.right ++ h.site.after))))
@@ -147,7 +147,7 @@ module _ (t : Kept) (index : ℕ) (can : CanClear t index) where
   step disk is = record {
     accepted = accepted;
     site = h.is_site;
-    no_move = subst (λ z. HasNoMove (gstate_of z)) h.is can.none;
+    no_move = subst (λ z. HasNoMove (gstate_of_pairs z)) h.is can.none;
     still_none = subst HasNoMove (sym clear_state) (record { kind = refl; id = refl; pair = refl });
     device = device_on disk is;
     free = record { distinct = accepted.owned_once; in_range = λ k d l. absurd (omega arith) };
@@ -157,7 +157,7 @@ module _ (t : Kept) (index : ℕ) (can : CanClear t index) where
     splice = record { front = λ e. refl; entries = tt; lists = tt; blocks = λ b. omega arith };
   }
 
-  pub clear_taken : (disk : Disk) → IsPairWrittenOnDisk t index (set_content t index zero_gstate) disk → IsOnlyStep t.disk (thread_at h.site (h.pair ∷ [])) disk (thread_at h.site (y ∷ [])) (λ t. t) (λ d. d)
+  pub clear_taken : (disk : Disk) → IsPairWrittenOnDisk t index (set_content t index zero_gstate) disk → IsWritableImageAfterTreeChange t.disk (thread_at h.site (h.pair ∷ [])) disk (thread_at h.site (y ∷ [])) (λ t. t) (λ d. d)
   clear_taken disk is = record {
     follows = slots_stay t.disk disk h.site h.pair [] y [] [] h.pair.content.slots [] (step disk is) (λ off. subst AllReached h.is can.reached);
     writable = step_writable t.disk disk h.site h.pair [] y [] [] [] h.pair.content.slots [] [] [] (step disk is) fits (within_same t.disk h.pair y refl (within_at t.disk h.site h.pair [] fits), tt) (λ x. x);
@@ -165,21 +165,21 @@ module _ (t : Kept) (index : ℕ) (can : CanClear t index) where
 
   -- a stop leaves the tree
   pub clear_left : CanSetGstateInPair t index zero_gstate → Are32BitPairAddresses (delta_reaching_gstate t index zero_gstate).pair
-      → (left : Blocks) → LeavesPairOldOrChanged t index (gstate_setting_changes t index zero_gstate) left → IsLeftOf (with_blocks left t.disk) (tree_on_disk t.disk t.pairs) (tree_on_disk t.disk t.pairs)
-  clear_left set address left is = subst (λ z. IsLeftOf (with_blocks left t.disk) (tree_on_disk t.disk z) (tree_on_disk t.disk z)) (sym h.is) (go is.is)
+      → (left : Blocks) → PowerLossLeavesPairOldOrChanged t index (gstate_setting_changes t index zero_gstate) left → IsLeftOf (disk_with_blocks left t.disk) (tree_on_disk t.disk t.pairs) (tree_on_disk t.disk t.pairs)
+  clear_left set address left is = subst (λ z. IsLeftOf (disk_with_blocks left t.disk) (tree_on_disk t.disk z) (tree_on_disk t.disk z)) (sym h.is) (go is.is)
     where
       old : List Pair
       old = thread_at h.site (h.pair ∷ [])
 
-      go : (is.content ≡ (kept_pair_at_index t index).content) ⊎ ((complete_content_after_changes t index (gstate_setting_changes t index zero_gstate) ≡ Some is.content) × IsContentFittingPair t.disk.block_size t.disk.page is.content)
-          → IsLeftOf (with_blocks left t.disk) (tree_on_disk t.disk old) (tree_on_disk t.disk old)
+      go : (is.content ≡ (thread_pair_at_index t index).content) ⊎ ((complete_content_after_changes t index (gstate_setting_changes t index zero_gstate) ≡ Some is.content) × IsContentFittingPair t.disk.block_size t.disk.page is.content)
+          → IsLeftOf (disk_with_blocks left t.disk) (tree_on_disk t.disk old) (tree_on_disk t.disk old)
       go (inl e) =
           let same : is.content ≡ h.pair.content = e ∙ ap (λ (z : Pair). z.content) (here_is t h.site.chain (h.site.before ++ h.site.left) h.pair (h.site.right ++ h.site.after) index place) in
-          let on = placed_device t h.site.chain (h.site.before ++ h.site.left) h.pair (h.site.right ++ h.site.after) index place (with_blocks left t.disk) h.pair.content refl accepted
-          (subst (λ c. IsPairWrittenOnDisk t index c (with_blocks left t.disk)) same is.written) in
-          taken_before t.disk old (with_blocks left t.disk) old (λ d. d) (tree_on_disk t.disk old)
-          (nothing_taken t.disk (with_blocks left t.disk) h.site.chain (h.site.before ++ h.site.left) h.pair (h.site.right ++ h.site.after) h.is_site.chain accepted fits on)
+          let on = placed_device t h.site.chain (h.site.before ++ h.site.left) h.pair (h.site.right ++ h.site.after) index place (disk_with_blocks left t.disk) h.pair.content refl accepted
+          (subst (λ c. IsPairWrittenOnDisk t index c (disk_with_blocks left t.disk)) same is.written) in
+          taken_before t.disk old (disk_with_blocks left t.disk) old (λ d. d) (tree_on_disk t.disk old)
+          (nothing_taken t.disk (disk_with_blocks left t.disk) h.site.chain (h.site.before ++ h.site.left) h.pair (h.site.right ++ h.site.after) h.is_site.chain accepted fits on)
       go (inr m) =
           let same : is.content ≡ set_content t index zero_gstate = same_Some is.content (set_content t index zero_gstate) (sym m.0 ∙ set_made t index zero_gstate set address) in
-          taken_before t.disk old (with_blocks left t.disk) (thread_at h.site (y ∷ [])) (λ d. d) (tree_on_disk t.disk old)
-          (clear_taken (with_blocks left t.disk) (subst (λ c. IsPairWrittenOnDisk t index c (with_blocks left t.disk)) same is.written))
+          taken_before t.disk old (disk_with_blocks left t.disk) (thread_at h.site (y ∷ [])) (λ d. d) (tree_on_disk t.disk old)
+          (clear_taken (disk_with_blocks left t.disk) (subst (λ c. IsPairWrittenOnDisk t index c (disk_with_blocks left t.disk)) same is.written))

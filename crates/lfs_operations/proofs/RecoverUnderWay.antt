@@ -6,34 +6,34 @@ use Rattle.std.proofs.lemmas.Option.{same_Some}
 use Rattle.std.proofs.lemmas.List.Elements.{recursion_from_All}
 use Rattle.lfs_model.specs.Blocks.{Blocks}
 use Rattle.lfs_model.specs.Disk.{Disk}
-use Rattle.lfs_model.specs.Layout.{directory_address_of_pair, directory_address_after_pair}
+use Rattle.lfs_model.specs.Layout.{directory_address_of_pair, directory_address_continued_by_hard_tail}
 use Rattle.lfs_model.specs.History.{IsTrueOfEachCallSince}
 use Rattle.lfs_model.specs.LoggedContent.{Are32BitPairAddresses}
-use Rattle.lfs_model.specs.PowerLoss.{ShowsTreeBeforeOrAfter as IsLeftOf, SurvivesStopsSince, with_blocks}
+use Rattle.lfs_model.specs.PowerLoss.{HasTreeBeforeOrAfterOperation as IsLeftOf, SurvivesPowerLossInCallsSince, disk_with_blocks}
 use Rattle.lfs_model.specs.Slots.{Gstate, Slot, zero_gstate, same_pair}
-use Rattle.lfs_model.specs.Thread.{Pair, blocks_of_pairs, pairs_of_all_directories, first_pair_address, gstate_of, pair_count_before_root}
+use Rattle.lfs_model.specs.Thread.{Pair, blocks_of_pairs, pairs_from_root_directory_on, first_pair_address, gstate_of_pairs, pair_count_before_root}
 use Rattle.lfs_model.specs.View.{IsAcceptedImage}
-use Rattle.lfs_model.specs.Shown.{IsDirectoryReached, all_slots_not_moved, tree_on_disk, used_blocks}
-use Rattle.lfs_model.specs.Profile.{IsWritable}
+use Rattle.lfs_model.specs.Shown.{IsDirectoryAddressReachedBySomePath, all_slots_not_moved, tree_on_disk, used_blocks}
+use Rattle.lfs_model.specs.Profile.{IsWritableImage}
 use Rattle.lfs_model.proofs.AfterStops.{survives_then}
 use Rattle.lfs_model.proofs.Changes.{SameFiles}
-use Rattle.lfs_model.proofs.Counts.{count, count_append, once_from_distinct}
-use Rattle.lfs_model.proofs.Files.{HasSameFile}
+use Rattle.lfs_model.proofs.Counts.{occurrence_count_of_number, count_append, once_from_distinct}
+use Rattle.lfs_model.proofs.Files.{HasSameFileBlocksOfStructOnDisks}
 use Rattle.lfs_model.proofs.Found.{HasDirectory, chain_of_thread, led_directory}
 use Rattle.lfs_model.proofs.Global.{HasNoMove}
-use Rattle.lfs_model.proofs.Histories.{IsTrueOfEachCallSince-weaker, IsTrueAfterEachStopSince-weaker, goes_on_by}
+use Rattle.lfs_model.proofs.Histories.{IsTrueOfEachCallSince-weaker, IsTrueAfterAnyPowerLossSince-weaker, goes_on_by}
 use Rattle.lfs_model.proofs.Layouts.{joined_singles, onward_all}
 use Rattle.lfs_model.proofs.Listings.{Ends}
 use Rattle.lfs_model.proofs.Pairs.{pair_back, pair_itself, pair_on}
 use Rattle.lfs_model.proofs.Recovering.{recovery_begins}
 use Rattle.lfs_model.proofs.Searches.{same_number}
-use Rattle.lfs_model.proofs.Splices.{files_of, slots_in}
+use Rattle.lfs_model.proofs.Splices.{file_blocks_of_slots, slots_of_pairs_in_order}
 use Rattle.lfs_model.proofs.Unthreaded.{IsReady, IsUnthreaded, same_parts}
-use Rattle.lfs_thread.specs.Device.{StopsAfterCleanErasesLeave, blocks_of_address}
-use Rattle.lfs_thread.specs.Kept.{Kept}
-use Rattle.lfs_thread.specs.Steps.{HasSameGeometry, IsPairAfterIndexDropped, LeavesPairOldOrChanged, IsPairWrittenOnDisk, ThreadChangesOnlyTheseBlocks, no_pair, kept_pair_at_index, pairs_with_content_at_index, map_with_freed_pair}
-use Rattle.lfs_operations.specs.Deltas.{CanTakeOverNextPair, FitsGstateFields, IsPairAddressIfSome, delta_after_taking_over_next_pair, next_pair_takeover_changes, pair_named_by_optional_tail}
-use Rattle.lfs_operations.specs.Recovering.{AreUnreachedPairNumbers, AreUnreachedPairNumbersFrom, CanDropUnreachedPairs, list_blocks_of_numbered_pairs, gstate_wanted_after_drop}
+use Rattle.lfs_thread.specs.Device.{PowerLossLeavesSuchBlocksAfterCleanErases, blocks_of_pair_address}
+use Rattle.lfs_thread.specs.Kept.{KeptThread}
+use Rattle.lfs_thread.specs.Steps.{HasSameGeometry, IsPairAfterIndexDropped, PowerLossLeavesPairOldOrChanged, IsPairWrittenOnDisk, ThreadChangesOnlyTheseBlocks, empty_pair_at_anchor, thread_pair_at_index, thread_pairs_with_content_replaced_at_index, block_map_with_freed_pair}
+use Rattle.lfs_operations.specs.Deltas.{CanTakeOverNextPair, FitsGstateFields, Is32BitPairAddressIfSome, delta_after_taking_over_next_pair, next_pair_takeover_changes, pair_named_by_optional_tail}
+use Rattle.lfs_operations.specs.Recovering.{AreUnreachedPairNumbers, AreUnreachedPairNumbersFrom, CanDropUnreachedPairs, list_blocks_of_numbered_pairs, gstate_zero_after_last_unreached_pair_drop}
 use Rattle.lfs_operations.specs.Dropping.{HasSameBlocksInFlight}
 use Rattle.lfs_operations.proofs.RecoverLists.{lists_kept, lists_more, numbered}
 use Rattle.lfs_operations.proofs.RecoverLoop.{FirstsOnly, IsAtDrop, IsAtEnd, IsOnWay, all_but, drops, goes_to, ready, soft, stands, sync_set, unled}
@@ -47,20 +47,20 @@ use Rattle.lfs_operations.proofs.RecoverSteps.{IsUnled, over_left, over_on, stat
 -- ---- the device
 
 -- as many blocks and pages, of the same sizes; and the history goes on
-pub record StaysOn (old new : Kept) : Type 0 where
+pub record StaysOn (old new : KeptThread) : Type 0 where
   pub shape : HasSameGeometry old.disk new.disk
   pub calls : IsTrueOfEachCallSince (λ e. Unit {0}) old.history new.history
 
-pub stays_itself : (t : Kept) → StaysOn t t
+pub stays_itself : (t : KeptThread) → StaysOn t t
 stays_itself t = record { shape = record { block_size = refl; page = refl; order = refl; count = refl }; calls = record { events = []; extends = refl; each = tt } }
 
-pub stays_then : (a b c : Kept) → StaysOn a b → StaysOn b c → StaysOn a c
+pub stays_then : (a b c : KeptThread) → StaysOn a b → StaysOn b c → StaysOn a c
 stays_then a b c h k = record {
   shape = record { block_size = k.shape.block_size ∙ h.shape.block_size; page = k.shape.page ∙ h.shape.page; order = k.shape.order ∙ h.shape.order; count = k.shape.count ∙ h.shape.count };
   calls = goes_on_by h.calls k.calls;
 }
 
-pub stays_by : (bs : List ℕ) (a b : Kept) → ThreadChangesOnlyTheseBlocks bs a b → StaysOn a b
+pub stays_by : (bs : List ℕ) (a b : KeptThread) → ThreadChangesOnlyTheseBlocks bs a b → StaysOn a b
 stays_by bs a b w = record { shape = w.shape; calls = IsTrueOfEachCallSince-weaker (λ e k. tt) w.at_worst }
 
 -- ---- the beginning
@@ -71,7 +71,7 @@ get_behind (x ∷ xs) p ys = get_behind xs p ys
 
 ends_on : (from : Option (ℕ × ℕ)) (p : Pair) (ps : List Pair) → Ends (p ∷ ps) → onward_all from (p ∷ ps) ≡ None
 ends_on from p [] h = ap (λ b. cond b (Some (directory_address_of_pair from p)) None) h
-ends_on from p (q ∷ ps) h = ends_on (directory_address_after_pair from p) q ps h
+ends_on from p (q ∷ ps) h = ends_on (directory_address_continued_by_hard_tail from p) q ps h
 
 ends_none : (before : List Pair) → Ends before → onward_all None before ≡ None
 ends_none [] h = refl
@@ -81,13 +81,13 @@ module _ (disk : Disk) (ps : List Pair) (ok : IsAcceptedImage disk ps) where
   abbrev chain : List Pair
   chain = take (pair_count_before_root ps) ps
 
-  abbrev whole : ps ≡ take (pair_count_before_root ps) ps ++ pairs_of_all_directories ps
+  abbrev whole : ps ≡ take (pair_count_before_root ps) ps ++ pairs_from_root_directory_on ps
   whole = (chain_of_thread ps).0
 
   -- no path leads to a pair that a hard tail leads to
-  not_led : (xs : List Pair) (y : Pair) (ys : List Pair) → pairs_of_all_directories ps ≡ xs ++ y ∷ ys → is_some (onward_all None xs) ≡ true → IsDirectoryReached ps y.at → ⊥
+  not_led : (xs : List Pair) (y : Pair) (ys : List Pair) → pairs_from_root_directory_on ps ≡ xs ++ y ∷ ys → is_some (onward_all None xs) ≡ true → IsDirectoryAddressReachedBySomePath ps y.at → ⊥
   not_led xs y ys parts hard (path, a, (l, s)) =
-      let d : HasDirectory (pairs_of_all_directories ps) a = led_directory disk ps path a ok l in
+      let d : HasDirectory (pairs_from_root_directory_on ps) a = led_directory disk ps path a ok l in
       let one : ps ≡ (chain ++ d.before) ++ d.first ∷ (d.run ++ d.after) = whole ∙ ap (λ z. chain ++ z) d.is ∙ sym (append_assoc chain d.before (d.first ∷ (d.run ++ d.after))) in
       let two : ps ≡ (chain ++ xs) ++ y ∷ ys = whole ∙ ap (λ z. chain ++ z) parts ∙ sym (append_assoc chain xs (y ∷ ys)) in
       let first = ap (λ z. slice_get z (length (chain ++ d.before))) one ∙ get_behind (chain ++ d.before) d.first (d.run ++ d.after) in
@@ -96,29 +96,29 @@ module _ (disk : Disk) (ps : List Pair) (ok : IsAcceptedImage disk ps) where
       let same = same_parts d.before d.first (d.run ++ d.after) xs y ys (let e = length-append chain d.before in let f = length-append chain xs in omega arith) (sym d.is ∙ parts) in
       absurd (let none = ap (onward_all None) (sym same.front) ∙ ends_none d.before d.ends in let z = sym hard ∙ ap is_some none in cc)
 
-  firsts_from : (xs ys : List Pair) → pairs_of_all_directories ps ≡ xs ++ ys → FirstsOnly (IsDirectoryReached ps) (onward_all None xs) ys
+  firsts_from : (xs ys : List Pair) → pairs_from_root_directory_on ps ≡ xs ++ ys → FirstsOnly (IsDirectoryAddressReachedBySomePath ps) (onward_all None xs) ys
   firsts_from xs [] parts = tt
   firsts_from xs (y ∷ ys) parts = (
     not_led xs y ys parts,
-    subst (λ z. FirstsOnly (IsDirectoryReached ps) z ys) (end_at None xs) (firsts_from (xs ++ y ∷ []) ys (parts ∙ sym (append_assoc xs (y ∷ []) ys))),
+    subst (λ z. FirstsOnly (IsDirectoryAddressReachedBySomePath ps) z ys) (end_at None xs) (firsts_from (xs ++ y ∷ []) ys (parts ∙ sym (append_assoc xs (y ∷ []) ys))),
   )
     where
-      end_at : (from : Option (ℕ × ℕ)) (xs : List Pair) → onward_all from (xs ++ y ∷ []) ≡ directory_address_after_pair (onward_all from xs) y
+      end_at : (from : Option (ℕ × ℕ)) (xs : List Pair) → onward_all from (xs ++ y ∷ []) ≡ directory_address_continued_by_hard_tail (onward_all from xs) y
       end_at from [] = refl
-      end_at from (x ∷ xs) = end_at (directory_address_after_pair from x) xs
+      end_at from (x ∷ xs) = end_at (directory_address_continued_by_hard_tail from x) xs
 
-  root_reached : (x : Pair) (xs : List Pair) → pairs_of_all_directories ps ≡ x ∷ xs → IsDirectoryReached ps x.at
-  root_reached x xs e = ([], first_pair_address (pairs_of_all_directories ps), (refl, subst (λ z. same_pair x.at (first_pair_address z) ≡ true) (sym e) (pair_itself x.at)))
+  root_reached : (x : Pair) (xs : List Pair) → pairs_from_root_directory_on ps ≡ x ∷ xs → IsDirectoryAddressReachedBySomePath ps x.at
+  root_reached x xs e = ([], first_pair_address (pairs_from_root_directory_on ps), (refl, subst (λ z. same_pair x.at (first_pair_address z) ≡ true) (sym e) (pair_itself x.at)))
 
 -- ---- on the way
 
-pub record IsUnderWay (old now : Kept) (dropped : ℕ) (numbers : List ℕ) : Type 0 where
+pub record IsUnderWay (old now : KeptThread) (dropped : ℕ) (numbers : List ℕ) : Type 0 where
   pub seen : List Pair
   pub todo : List Pair
   pub parts : List (List Pair)
   pub kept : List Pair
   pub way : IsOnWay old.disk old.pairs now dropped (take (pair_count_before_root old.pairs) old.pairs) seen todo parts kept numbers
-  pub state : 0 < dropped → numbers ≡ [] → gstate_of now.pairs ≡ zero_gstate
+  pub state : 0 < dropped → numbers ≡ [] → gstate_of_pairs now.pairs ≡ zero_gstate
   pub device : StaysOn old now
   pub gone : List ℕ
   pub map : HasMap now gone
@@ -126,23 +126,23 @@ pub record IsUnderWay (old now : Kept) (dropped : ℕ) (numbers : List ℕ) : Ty
   pub took : List ℕ
   pub reported : AreUnreachedPairNumbers old.pairs (took ++ numbers)
   pub gone_are : gone ≡ list_blocks_of_numbered_pairs old took
-  pub lost : (b : ℕ) → count b gone + count b (files_of now.disk (slots_in now.pairs)) ≡ count b (files_of old.disk (slots_in old.pairs))
+  pub lost : (b : ℕ) → occurrence_count_of_number b gone + occurrence_count_of_number b (file_blocks_of_slots now.disk (slots_of_pairs_in_order now.pairs)) ≡ occurrence_count_of_number b (file_blocks_of_slots old.disk (slots_of_pairs_in_order old.pairs))
   pub flying : HasSameBlocksInFlight old.map now.map
-  pub fewer : (b : ℕ) → count b (blocks_of_pairs now.pairs) ≤ count b (blocks_of_pairs old.pairs)
+  pub fewer : (b : ℕ) → occurrence_count_of_number b (blocks_of_pairs now.pairs) ≤ occurrence_count_of_number b (blocks_of_pairs old.pairs)
   pub writes : ThreadChangesOnlyTheseBlocks (blocks_of_pairs old.pairs) old now
-  pub survives : SurvivesStopsSince old.disk old.history now.history (tree_on_disk old.disk old.pairs) (tree_on_disk old.disk old.pairs)
+  pub survives : SurvivesPowerLossInCallsSince old.disk old.history now.history (tree_on_disk old.disk old.pairs) (tree_on_disk old.disk old.pairs)
 
-pub begins : (t : Kept) (numbers : List ℕ) → CanDropUnreachedPairs t numbers → IsUnderWay t t 0 numbers
+pub begins : (t : KeptThread) (numbers : List ℕ) → CanDropUnreachedPairs t numbers → IsUnderWay t t 0 numbers
 begins t numbers can =
     let ok = can.accepted in
     let fits = can.writable in
     let none = can.none in
     let reported = can.reported in
     let e = chain_of_thread t.pairs in
-    let count : pair_count_before_root t.pairs ≡ length (take (pair_count_before_root t.pairs) t.pairs) + 0 + 0 = let a = ap pair_count_before_root e.0 in let b = e.1 in omega arith in
+    let occurrence_count_of_number : pair_count_before_root t.pairs ≡ length (take (pair_count_before_root t.pairs) t.pairs) + 0 + 0 = let a = ap pair_count_before_root e.0 in let b = e.1 in omega arith in
     record {
       seen = [];
-      todo = pairs_of_all_directories t.pairs;
+      todo = pairs_from_root_directory_on t.pairs;
       parts = [];
       kept = [];
       way = record {
@@ -150,8 +150,8 @@ begins t numbers can =
         there = e.0;
         counted = refl;
         no_move = none;
-        reported = subst (λ n. AreUnreachedPairNumbersFrom (IsDirectoryReached t.pairs) n None (pairs_of_all_directories t.pairs) numbers) count reported;
-        firsts = firsts_from t.disk t.pairs ok [] (pairs_of_all_directories t.pairs) refl;
+        reported = subst (λ n. AreUnreachedPairNumbersFrom (IsDirectoryAddressReachedBySomePath t.pairs) n None (pairs_from_root_directory_on t.pairs) numbers) occurrence_count_of_number reported;
+        firsts = firsts_from t.disk t.pairs ok [] (pairs_from_root_directory_on t.pairs) refl;
         filled = fits.no_empty_pair;
         begins = tt;
         goes_on = inl refl;
@@ -181,7 +181,7 @@ begins t numbers can =
 -- ---- the next pair that goes
 
 -- the pair at an index goes, which stands behind the one before it
-pub record IsNext (old now : Kept) (dropped number : ℕ) (rest : List ℕ) : Type 0 where
+pub record IsNext (old now : KeptThread) (dropped number : ℕ) (rest : List ℕ) : Type 0 where
   pub numbers : List ℕ
   pub seen : List Pair
   pub x : Pair
@@ -189,8 +189,8 @@ pub record IsNext (old now : Kept) (dropped number : ℕ) (rest : List ℕ) : Ty
   pub parts : List (List Pair)
   pub kept : List Pair
   pub way : IsOnWay old.disk old.pairs now dropped (take (pair_count_before_root old.pairs) old.pairs) seen (x ∷ todo) parts kept numbers
-  pub unreached : IsDirectoryReached old.pairs (directory_address_of_pair (onward_all None seen) x) → ⊥
-  pub more : AreUnreachedPairNumbersFrom (IsDirectoryReached old.pairs) (suc (length (take (pair_count_before_root old.pairs) old.pairs) + length kept + dropped)) (directory_address_after_pair (onward_all None seen) x) todo rest
+  pub unreached : IsDirectoryAddressReachedBySomePath old.pairs (directory_address_of_pair (onward_all None seen) x) → ⊥
+  pub more : AreUnreachedPairNumbersFrom (IsDirectoryAddressReachedBySomePath old.pairs) (suc (length (take (pair_count_before_root old.pairs) old.pairs) + length kept + dropped)) (directory_address_continued_by_hard_tail (onward_all None seen) x) todo rest
   pub front : List Pair
   pub before : Pair
   pub split : kept ≡ front ++ before ∷ []
@@ -205,7 +205,7 @@ has_last : (x : Pair) (xs : List Pair) → HasLast (x ∷ xs)
 has_last x [] = record { front = []; last = x; is = refl }
 has_last x (y ∷ xs) = let l = has_last y xs in record { front = x ∷ l.front; last = l.last; is = ap (λ z. x ∷ z) l.is }
 
-pub next_goes : (old now : Kept) (dropped number : ℕ) (rest : List ℕ) → IsUnderWay old now dropped (number ∷ rest) → IsNext old now dropped number rest
+pub next_goes : (old now : KeptThread) (dropped number : ℕ) (rest : List ℕ) → IsUnderWay old now dropped (number ∷ rest) → IsNext old now dropped number rest
 next_goes old now dropped number rest u = go (goes_to old.disk old.pairs now dropped (take (pair_count_before_root old.pairs) old.pairs) u.seen u.todo u.parts u.kept (number ∷ rest) u.way)
   where
     C : List Pair
@@ -235,7 +235,7 @@ next_goes old now dropped number rest u = go (goes_to old.disk old.pairs now dro
               kept = d.kept;
               way = d.way;
               unreached = d.unreached;
-              more = subst (λ z. AreUnreachedPairNumbersFrom (IsDirectoryReached old.pairs) (suc (length C + length d.kept + dropped)) (directory_address_after_pair (onward_all None d.seen) d.x) d.todo z) (tail d.is) d.more;
+              more = subst (λ z. AreUnreachedPairNumbersFrom (IsDirectoryAddressReachedBySomePath old.pairs) (suc (length C + length d.kept + dropped)) (directory_address_continued_by_hard_tail (onward_all None d.seen) d.x) d.todo z) (tail d.is) d.more;
               front = l.front;
               before = l.last;
               split = e ∙ l.is;
@@ -243,11 +243,11 @@ next_goes old now dropped number rest u = go (goes_to old.disk old.pairs now dro
             }
 
 -- the state that is wanted: none with the last one
-pub record IsWanted (now : Kept) (rest : List ℕ) (g : Gstate) : Type 0 where
+pub record IsWanted (now : KeptThread) (rest : List ℕ) (g : Gstate) : Type 0 where
   pub last : rest ≡ [] → g ≡ zero_gstate
-  pub other : rest ≢ [] → g ≡ gstate_of now.pairs
+  pub other : rest ≢ [] → g ≡ gstate_of_pairs now.pairs
 
-module _ (old now : Kept) (dropped number : ℕ) (rest : List ℕ) (n : IsNext old now dropped number rest) (g : Gstate) (want : IsWanted now rest g) where
+module _ (old now : KeptThread) (dropped number : ℕ) (rest : List ℕ) (n : IsNext old now dropped number rest) (g : Gstate) (want : IsWanted now rest g) where
   abbrev C : List Pair
   C = take (pair_count_before_root old.pairs) old.pairs
 
@@ -264,8 +264,8 @@ module _ (old now : Kept) (dropped number : ℕ) (rest : List ℕ) (n : IsNext o
   is_ready = subst (IsReady now.disk C) (ap (λ z. z ++ n.x ∷ n.todo) n.split ∙ append_assoc n.front (n.before ∷ []) (n.x ∷ n.todo))
       (ready old.disk old.pairs now dropped C n.seen n.x n.todo n.parts n.kept n.numbers n.way n.unreached n.front n.before n.split)
 
-  now_none : HasNoMove (gstate_of now.pairs)
-  now_none = subst (λ z. HasNoMove (gstate_of z)) (sym whole_is) is_ready.no_move
+  now_none : HasNoMove (gstate_of_pairs now.pairs)
+  now_none = subst (λ z. HasNoMove (gstate_of_pairs z)) (sym whole_is) is_ready.no_move
 
   cases : (HasNoMove g) × (g.sync ≡ false → rest ≡ [])
   cases = go rest refl
@@ -282,7 +282,7 @@ module _ (old now : Kept) (dropped number : ℕ) (rest : List ℕ) (n : IsNext o
     soft = soft old.disk old.pairs now dropped C n.seen n.x n.todo n.parts n.kept n.numbers n.way n.unreached n.front n.before n.split;
     unled = unled old.disk old.pairs now dropped C n.seen n.x n.todo n.parts n.kept n.numbers n.way n.unreached n.front n.before n.split;
     reached = λ off. all_but old.disk old.pairs now dropped C n.seen n.x n.todo n.parts n.kept n.numbers n.way n.unreached n.front n.before n.split
-        (subst (λ z. AreUnreachedPairNumbersFrom (IsDirectoryReached old.pairs) (suc (length C + length n.kept + dropped)) (directory_address_after_pair (onward_all None n.seen) n.x) n.todo z) (cases.1 off) n.more);
+        (subst (λ z. AreUnreachedPairNumbersFrom (IsDirectoryAddressReachedBySomePath old.pairs) (suc (length C + length n.kept + dropped)) (directory_address_continued_by_hard_tail (onward_all None n.seen) n.x) n.todo z) (cases.1 off) n.more);
   }
 
   fields : FitsGstateFields g
@@ -291,7 +291,7 @@ module _ (old now : Kept) (dropped number : ℕ) (rest : List ℕ) (n : IsNext o
   pub can_take : (index behind : ℕ) → behind ≡ index + 1 → behind + dropped ≡ number → CanTakeOverNextPair now index behind g
   can_take index behind next e = record {
     accepted = subst (IsAcceptedImage now.disk) (sym whole_is) is_ready.accepted;
-    writable = subst (IsWritable now.disk) (sym whole_is) is_ready.writable;
+    writable = subst (IsWritableImage now.disk) (sym whole_is) is_ready.writable;
     next = next;
     below = let b = next_below now C n.front n.before n.x n.todo at place in let k = n.number_is in omega arith;
     fields = fields;
@@ -308,30 +308,30 @@ module _ (old now : Kept) (dropped number : ℕ) (rest : List ℕ) (n : IsNext o
     shows : tree_on_disk now.disk now.pairs ≡ tree_on_disk old.disk old.pairs
     shows = ap (tree_on_disk now.disk) (n.way.there ∙ ap (λ z. C ++ (n.kept ++ z)) (sym (joined_singles (n.x ∷ n.todo)))) ∙ n.way.is.taken.follows.shows
 
-    disk_is : StaysOn old now → (left : Blocks) → with_blocks left now.disk ≡ with_blocks left old.disk
+    disk_is : StaysOn old now → (left : Blocks) → disk_with_blocks left now.disk ≡ disk_with_blocks left old.disk
     disk_is d left = λ j. record { block_size = d.shape.block_size j; page = d.shape.page j; order = d.shape.order j; blocks = left }
 
-    number_there : slice_index_or old.pairs number no_pair ≡ n.x
+    number_there : slice_index_or old.pairs number empty_pair_at_anchor ≡ n.x
     number_there = numbered old.pairs C n.seen n.x n.todo number n.way.is.are
         (let k = n.number_is in let c = n.way.counted in let a = ap length n.split in let b = length-append n.front (n.before ∷ []) in omega arith)
 
-    pub survives_on : (new : Kept) → IsUnderWay old now dropped (number ∷ rest) → Are32BitPairAddresses (delta_after_taking_over_next_pair now index behind g).pair → IsPairAddressIfSome (pair_named_by_optional_tail (kept_pair_at_index now behind).content.tail)
-        → StaysOn now new → StopsAfterCleanErasesLeave now.history new.history (LeavesPairOldOrChanged now index (next_pair_takeover_changes now index behind g))
-        → SurvivesStopsSince old.disk old.history new.history (tree_on_disk old.disk old.pairs) (tree_on_disk old.disk old.pairs)
+    pub survives_on : (new : KeptThread) → IsUnderWay old now dropped (number ∷ rest) → Are32BitPairAddresses (delta_after_taking_over_next_pair now index behind g).pair → Is32BitPairAddressIfSome (pair_named_by_optional_tail (thread_pair_at_index now behind).content.tail)
+        → StaysOn now new → PowerLossLeavesSuchBlocksAfterCleanErases now.history new.history (PowerLossLeavesPairOldOrChanged now index (next_pair_takeover_changes now index behind g))
+        → SurvivesPowerLossInCallsSince old.disk old.history new.history (tree_on_disk old.disk old.pairs) (tree_on_disk old.disk old.pairs)
     survives_on new u address words on stops =
         survives_then old.disk old.history now.history new.history (tree_on_disk old.disk old.pairs) (tree_on_disk old.disk old.pairs) u.device.calls on.calls u.survives
-        (λ clean. IsTrueAfterEachStopSince-weaker (λ left x. subst (λ z. IsLeftOf z (tree_on_disk old.disk old.pairs) (tree_on_disk old.disk old.pairs)) (disk_is u.device left)
-        (subst (λ z. IsLeftOf (with_blocks left now.disk) z z) shows
+        (λ clean. IsTrueAfterAnyPowerLossSince-weaker (λ left x. subst (λ z. IsLeftOf z (tree_on_disk old.disk old.pairs) (tree_on_disk old.disk old.pairs)) (disk_is u.device left)
+        (subst (λ z. IsLeftOf (disk_with_blocks left now.disk) z z) shows
         (over_left now C n.front n.before n.x n.todo index behind g here next is_ready is_unled (can_take index behind next e) address words left x))) (stops clean))
 
-    pub writes_on : (new : Kept) → IsUnderWay old now dropped (number ∷ rest) → ThreadChangesOnlyTheseBlocks (blocks_of_address (kept_pair_at_index now index).at) now new → ThreadChangesOnlyTheseBlocks (blocks_of_pairs old.pairs) old new
+    pub writes_on : (new : KeptThread) → IsUnderWay old now dropped (number ∷ rest) → ThreadChangesOnlyTheseBlocks (blocks_of_pair_address (thread_pair_at_index now index).at) now new → ThreadChangesOnlyTheseBlocks (blocks_of_pairs old.pairs) old new
     writes_on new u writes =
         let can = can_take index behind next e in
         let low : index < length now.pairs = let w = can.next in let z = can.below in omega arith in
         writes_trans u.writes (writes_fewer _ (blocks_of_pairs old.pairs) (λ b. let f = u.fewer b in let l = two_fewer now.pairs index low b in omega arith) writes)
 
-    pub moves_on : (new : Kept) → IsUnderWay old now dropped (number ∷ rest) → Are32BitPairAddresses (delta_after_taking_over_next_pair now index behind g).pair → IsPairAddressIfSome (pair_named_by_optional_tail (kept_pair_at_index now behind).content.tail)
-        → IsPairAfterIndexDropped now index (next_pair_takeover_changes now index behind g) new → ThreadChangesOnlyTheseBlocks (blocks_of_address (kept_pair_at_index now index).at) now new → StopsAfterCleanErasesLeave now.history new.history (LeavesPairOldOrChanged now index (next_pair_takeover_changes now index behind g))
+    pub moves_on : (new : KeptThread) → IsUnderWay old now dropped (number ∷ rest) → Are32BitPairAddresses (delta_after_taking_over_next_pair now index behind g).pair → Is32BitPairAddressIfSome (pair_named_by_optional_tail (thread_pair_at_index now behind).content.tail)
+        → IsPairAfterIndexDropped now index (next_pair_takeover_changes now index behind g) new → ThreadChangesOnlyTheseBlocks (blocks_of_pair_address (thread_pair_at_index now index).at) now new → PowerLossLeavesSuchBlocksAfterCleanErases now.history new.history (PowerLossLeavesPairOldOrChanged now index (next_pair_takeover_changes now index behind g))
         → IsUnderWay old new (suc dropped) rest
     moves_on new u address words is writes stops =
         let on = stays_by _ now new writes in
@@ -340,15 +340,15 @@ module _ (old now : Kept) (dropped number : ℕ) (rest : List ℕ) (n : IsNext o
         let written = subst (λ c. IsPairWrittenOnDisk now index c new.disk) same is.written in
         let q : Pair = record { at = n.before.at; content = over_content now index behind g } in
         let apart = over_on now C n.front n.before n.x n.todo index behind g here next is_ready is_unled new.disk written in
-        let pairs : new.pairs ≡ C ++ (n.front ++ q ∷ n.todo) = is.pairs ∙ ap (λ c. remove (pairs_with_content_at_index now index c) (index + 1)) same ∙ without_is now C n.front n.before n.x n.todo index here (over_content now index behind g) in
+        let pairs : new.pairs ≡ C ++ (n.front ++ q ∷ n.todo) = is.pairs ∙ ap (λ c. remove (thread_pairs_with_content_replaced_at_index now index c) (index + 1)) same ∙ without_is now C n.front n.before n.x n.todo index here (over_content now index behind g) in
         let were : now.pairs ≡ (C ++ n.front) ++ n.before ∷ n.x ∷ n.todo = whole_is ∙ sym (append_assoc C n.front (n.before ∷ n.x ∷ n.todo)) in
         let are : new.pairs ≡ (C ++ n.front) ++ q ∷ n.todo = pairs ∙ sym (append_assoc C n.front (q ∷ n.todo)) in
         let files : SameFiles now.disk new.disk (all_slots_not_moved now.pairs) = subst (λ z. SameFiles now.disk new.disk (all_slots_not_moved z)) (sym whole_is)
-        (recursion_from_All (λ (s : Slot). HasSameFile now.disk new.disk s.struct) (all_slots_not_moved (C ++ (n.front ++ n.before ∷ n.x ∷ n.todo))) apart.device.files) in
-        let still : HasNoMove (gstate_of new.pairs) = subst (λ z. HasNoMove (gstate_of z)) (sym pairs) apart.no_move in
-        let map_is : new.map ≡ map_with_freed_pair now.map n.x.at = is.map ∙ ap (λ (z : Pair). map_with_freed_pair now.map z.at) (next_is now C n.front n.before n.x n.todo index here) in
+        (recursion_from_All (λ (s : Slot). HasSameFileBlocksOfStructOnDisks now.disk new.disk s.struct) (all_slots_not_moved (C ++ (n.front ++ n.before ∷ n.x ∷ n.todo))) apart.device.files) in
+        let still : HasNoMove (gstate_of_pairs new.pairs) = subst (λ z. HasNoMove (gstate_of_pairs z)) (sym pairs) apart.no_move in
+        let map_is : new.map ≡ block_map_with_freed_pair now.map n.x.at = is.map ∙ ap (λ (z : Pair). block_map_with_freed_pair now.map z.at) (next_is now C n.front n.before n.x n.todo index here) in
         record {
-          gone = u.gone ++ files_of now.disk n.x.content.slots;
+          gone = u.gone ++ file_blocks_of_slots now.disk n.x.content.slots;
           was = u.was;
           took = u.took ++ number ∷ [];
           reported = subst (AreUnreachedPairNumbers old.pairs) (sym (append_assoc u.took (number ∷ []) rest)) u.reported;
@@ -356,7 +356,7 @@ module _ (old now : Kept) (dropped number : ℕ) (rest : List ℕ) (n : IsNext o
           map = map_drops now new (C ++ n.front) n.before n.x q n.todo were are refl apart.slots now_none still apart.device.geometry files u.gone map_is on.shape.count u.map;
           lost = λ b.
               let f = files_count now new (C ++ n.front) n.before n.x q n.todo were are refl apart.slots now_none still apart.device.geometry files b in
-              let a = count_append b u.gone (files_of now.disk n.x.content.slots) in
+              let a = count_append b u.gone (file_blocks_of_slots now.disk n.x.content.slots) in
               let l = u.lost b in
               omega arith;
           flying = λ b.
@@ -370,7 +370,7 @@ module _ (old now : Kept) (dropped number : ℕ) (rest : List ℕ) (n : IsNext o
           kept = n.front ++ q ∷ [];
           way = drops old.disk old.pairs now dropped C n.seen n.x n.todo n.parts n.kept n.numbers n.way n.unreached n.front n.before n.split new q rest n.more
               (subst (λ z. IsUnthreaded now.disk new.disk C n.front n.before n.x q z) (sym (joined_singles n.todo)) apart) pairs;
-          state = λ some none. ap gstate_of pairs ∙ state_now now C n.front n.before n.x n.todo index behind g here next is_ready is_unled ∙ want.last none;
+          state = λ some none. ap gstate_of_pairs pairs ∙ state_now now C n.front n.before n.x n.todo index behind g here next is_ready is_unled ∙ want.last none;
           device = stays_then old now new u.device on;
           survives = survives_on new u address words on stops;
         }
@@ -394,10 +394,10 @@ drop_all zero (x ∷ xs) l = absurd (omega arith)
 drop_all (suc n) [] l = refl
 drop_all (suc n) (x ∷ xs) l = drop_all n xs (omega arith)
 
-pub way_at : (old now : Kept) (xs : List ℕ) (dropped : ℕ) → dropped < length xs → IsUnderWay old now dropped (drop dropped xs) → IsUnderWay old now dropped (slice_index_or xs dropped 0 ∷ drop (suc dropped) xs)
+pub way_at : (old now : KeptThread) (xs : List ℕ) (dropped : ℕ) → dropped < length xs → IsUnderWay old now dropped (drop dropped xs) → IsUnderWay old now dropped (slice_index_or xs dropped 0 ∷ drop (suc dropped) xs)
 way_at old now xs dropped low u = subst (IsUnderWay old now dropped) (drop_here dropped xs low) u
 
-pub next_at : (old now : Kept) (xs : List ℕ) (dropped : ℕ) → dropped < length xs → IsUnderWay old now dropped (drop dropped xs) → IsNext old now dropped (slice_index_or xs dropped 0) (drop (suc dropped) xs)
+pub next_at : (old now : KeptThread) (xs : List ℕ) (dropped : ℕ) → dropped < length xs → IsUnderWay old now dropped (drop dropped xs) → IsNext old now dropped (slice_index_or xs dropped 0) (drop (suc dropped) xs)
 next_at old now xs dropped low u = next_goes old now dropped (slice_index_or xs dropped 0) (drop (suc dropped) xs) (way_at old now xs dropped low u)
 
 -- how the number, the index and the one in front of it hang together
@@ -407,11 +407,11 @@ pub record AreIndexes (number dropped : ℕ) : Type 0 where
   pub next : number - dropped ≡ number - dropped - 1 + 1
   pub sum : number - dropped + dropped ≡ number
 
-pub indexes : (old now : Kept) (dropped number : ℕ) (rest : List ℕ) → IsNext old now dropped number rest → AreIndexes number dropped
+pub indexes : (old now : KeptThread) (dropped number : ℕ) (rest : List ℕ) → IsNext old now dropped number rest → AreIndexes number dropped
 indexes old now dropped number rest n = let k = n.number_is in record { enough = omega arith; some = omega arith; next = omega arith; sum = omega arith }
 
-pub wanted : (now : Kept) (xs : List ℕ) (dropped : ℕ) (g : Gstate) → dropped < length xs → g ≡ gstate_wanted_after_drop now (nat_eq (dropped + 1) (length xs)) → IsWanted now (drop (suc dropped) xs) g
+pub wanted : (now : KeptThread) (xs : List ℕ) (dropped : ℕ) (g : Gstate) → dropped < length xs → g ≡ gstate_zero_after_last_unreached_pair_drop now (nat_eq (dropped + 1) (length xs)) → IsWanted now (drop (suc dropped) xs) g
 wanted now xs dropped g low is = record {
-  last = λ none. is ∙ ap (gstate_wanted_after_drop now) (eq-eqb (dropped + 1) (length xs) (let l = drop_none (suc dropped) xs none in omega arith));
-  other = λ some. is ∙ ap (gstate_wanted_after_drop now) (ne_eqb (dropped + 1) (length xs) (λ e. some (drop_all (suc dropped) xs (omega arith))));
+  last = λ none. is ∙ ap (gstate_zero_after_last_unreached_pair_drop now) (eq-eqb (dropped + 1) (length xs) (let l = drop_none (suc dropped) xs none in omega arith));
+  other = λ some. is ∙ ap (gstate_zero_after_last_unreached_pair_drop now) (ne_eqb (dropped + 1) (length xs) (λ e. some (drop_all (suc dropped) xs (omega arith))));
 }

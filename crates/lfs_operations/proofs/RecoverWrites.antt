@@ -3,36 +3,36 @@ use Rattle.std.proofs.Common.{ℕ, zero, suc, ◌≡◌, ◌≢◌, ◌<◌, ◌
 use Rattle.std.specs.Prelude.{slice_index_or}
 use Rattle.std.proofs.lemmas.List.Elements.{All-from_recursion, recursion_from_All}
 use Rattle.lfs_model.specs.Thread.{Pair, blocks_of_pairs}
-use Rattle.lfs_model.proofs.Counts.{Each, count}
+use Rattle.lfs_model.proofs.Counts.{Each, occurrence_count_of_number}
 use Rattle.lfs_model.proofs.Histories.{AreBytesStillUnprogrammed-refl}
 use Rattle.lfs_model.proofs.Overwrites.{AreBlocksEqualExceptThese-refl}
-use Rattle.lfs_thread.specs.Device.{blocks_of_address}
-use Rattle.lfs_thread.specs.Kept.{Kept}
-use Rattle.lfs_thread.specs.Steps.{ThreadChangesOnlyTheseBlocks, no_pair}
+use Rattle.lfs_thread.specs.Device.{blocks_of_pair_address}
+use Rattle.lfs_thread.specs.Kept.{KeptThread}
+use Rattle.lfs_thread.specs.Steps.{ThreadChangesOnlyTheseBlocks, empty_pair_at_anchor}
 use Rattle.lfs_operations.proofs.UnlinkedSteps.{writes_wider}
 
-none_counted : (b : ℕ) (xs : List ℕ) → Each (λ c. c ≢ b) xs → count b xs ≡ 0
+none_counted : (b : ℕ) (xs : List ℕ) → Each (λ c. c ≢ b) xs → occurrence_count_of_number b xs ≡ 0
 none_counted b [] h = refl
 none_counted b (x ∷ xs) h = go (nat_eq b x) refl (none_counted b xs h.1)
   where
-    go : (t : Bool) → nat_eq b x ≡ t → count b xs ≡ 0 → cond t 1 0 + count b xs ≡ 0
+    go : (t : Bool) → nat_eq b x ≡ t → occurrence_count_of_number b xs ≡ 0 → cond t 1 0 + occurrence_count_of_number b xs ≡ 0
     go true e k = absurd (h.0 (sym (eqb-true b x e)))
     go false e k = omega arith
 
-pub none_there : (b : ℕ) (xs : List ℕ) → count b xs ≡ 0 → Each (λ c. c ≢ b) xs
+pub none_there : (b : ℕ) (xs : List ℕ) → occurrence_count_of_number b xs ≡ 0 → Each (λ c. c ≢ b) xs
 none_there b [] h = tt
 none_there b (x ∷ xs) h = go (nat_eq b x) refl h (λ k. none_there b xs k)
   where
-    go : (t : Bool) → nat_eq b x ≡ t → cond t 1 0 + count b xs ≡ 0 → (count b xs ≡ 0 → Each (λ c. c ≢ b) xs) → (x ≢ b) × Each (λ c. c ≢ b) xs
+    go : (t : Bool) → nat_eq b x ≡ t → cond t 1 0 + occurrence_count_of_number b xs ≡ 0 → (occurrence_count_of_number b xs ≡ 0 → Each (λ c. c ≢ b) xs) → (x ≢ b) × Each (λ c. c ≢ b) xs
     go true e k next = absurd (omega arith)
     go false e k next = ((λ same. absurd (let z = sym (eq-eqb b x (sym same)) ∙ e in cc)), next (omega arith))
 
 -- of more blocks
-pub writes_fewer : (bs cs : List ℕ) {old new : Kept} → ((b : ℕ) → count b bs ≤ count b cs) → ThreadChangesOnlyTheseBlocks bs old new → ThreadChangesOnlyTheseBlocks cs old new
+pub writes_fewer : (bs cs : List ℕ) {old new : KeptThread} → ((b : ℕ) → occurrence_count_of_number b bs ≤ occurrence_count_of_number b cs) → ThreadChangesOnlyTheseBlocks bs old new → ThreadChangesOnlyTheseBlocks cs old new
 writes_fewer bs cs fewer w = writes_wider cs
     (λ b apart. All-from_recursion (λ c. c ≢ b) bs (none_there b bs (let k = none_counted b cs (recursion_from_All (λ (c : ℕ). c ≢ b) cs apart) in let f = fewer b in omega arith))) w
 
-pub writes_none : (bs : List ℕ) (t : Kept) → ThreadChangesOnlyTheseBlocks bs t t
+pub writes_none : (bs : List ℕ) (t : KeptThread) → ThreadChangesOnlyTheseBlocks bs t t
 writes_none bs t = record {
   others = AreBlocksEqualExceptThese-refl bs t.disk.blocks;
   elsewhere = AreBytesStillUnprogrammed-refl bs t.history;
@@ -40,7 +40,7 @@ writes_none bs t = record {
   at_worst = record { events = []; extends = refl; each = tt };
 }
 
-pub two_fewer : (ps : List Pair) (index : ℕ) → index < length ps → (b : ℕ) → count b (blocks_of_address (slice_index_or ps index no_pair).at) ≤ count b (blocks_of_pairs ps)
+pub two_fewer : (ps : List Pair) (index : ℕ) → index < length ps → (b : ℕ) → occurrence_count_of_number b (blocks_of_pair_address (slice_index_or ps index empty_pair_at_anchor).at) ≤ occurrence_count_of_number b (blocks_of_pairs ps)
 two_fewer [] index low b = absurd (omega arith)
 two_fewer (p ∷ ps) zero low b = omega arith
 two_fewer (p ∷ ps) (suc index) low b = let k = two_fewer ps index (omega arith) b in omega arith

@@ -9,23 +9,23 @@ use Rattle.std.proofs.lemmas.Option.{same_Some}
 use Rattle.std.proofs.lemmas.List.Sums.{sum_by-append, sum_by-cons}
 use Rattle.lfs_model.specs.TreeEdits.{tree_after_removal}
 use Rattle.lfs_model.specs.BlockSets.BlockState.{Free, InFlight}
-use Rattle.lfs_model.specs.Changes.{Delete, content_after_changes}
-use Rattle.lfs_model.specs.Content.{RawContent, content_if_slots_are_complete, raw_content_of_pair_at}
+use Rattle.lfs_model.specs.Changes.{Delete, raw_pair_content_after_changes}
+use Rattle.lfs_model.specs.Content.{RawPairContent, pair_content_if_slots_complete, raw_content_of_pair_at}
 use Rattle.lfs_model.specs.Disk.{Disk}
-use Rattle.lfs_model.specs.History.{CallEvent}
+use Rattle.lfs_model.specs.History.{DeviceCallEvent}
 use Rattle.lfs_model.specs.Operations as ops
-use Rattle.lfs_model.specs.PowerLoss.{SurvivesStopsSince}
-use Rattle.lfs_model.specs.Slots.{Content, IsContentFittingPair, Slot, same_pair, slot_size}
-use Rattle.lfs_model.specs.Thread.{Pair, blocks_of_pairs, first_pair_address, pair_named_by_tail}
+use Rattle.lfs_model.specs.PowerLoss.{SurvivesPowerLossInCallsSince}
+use Rattle.lfs_model.specs.Slots.{PairContent, IsContentFittingPair, Slot, same_pair, slot_size}
+use Rattle.lfs_model.specs.Thread.{Pair, blocks_of_pairs, first_pair_address, pair_address_named_by_tail}
 use Rattle.lfs_model.specs.Tree.{Tree}
 use Rattle.lfs_model.specs.Shown.{IsPathToDirectory, skip_list_blocks_of_struct, tree_on_disk}
 use Rattle.lfs_model.specs.Names.{Name}
-use Rattle.lfs_model.proofs.Changes.{Follows}
-use Rattle.lfs_model.proofs.Committed.{IsCompleted, commit_step, recovered_from}
+use Rattle.lfs_model.proofs.Changes.{IsImageAfterTreeChange}
+use Rattle.lfs_model.proofs.Committed.{IsImageAfterCompletedOperation, commit_step, recovered_from}
 use Rattle.lfs_model.proofs.Completed.{complete_length, complete_remove, completed_from, completed_parts}
 use Rattle.lfs_model.proofs.Counts.{count_append}
 use Rattle.lfs_model.proofs.Effects.{deletes, does_first, does_nothing}
-use Rattle.lfs_model.proofs.Histories.{IsTrueAfterEachStopSince-weaker}
+use Rattle.lfs_model.proofs.Histories.{IsTrueAfterAnyPowerLossSince-weaker}
 use Rattle.lfs_model.proofs.Listings.{Ends}
 use Rattle.lfs_model.proofs.Moves.{file_goes, remove_here}
 use Rattle.lfs_model.proofs.OneCommit.{remove_completed}
@@ -35,13 +35,13 @@ use Rattle.lfs_model.specs.InDirectory.{IsPairAtAddress}
 use Rattle.std.specs.List.{IsDistinct}
 use Rattle.lfs_model.proofs.Sites.{Site, begin_of, thread_at}
 use Rattle.lfs_model.proofs.Writable.{ends_in_hard_tail}
-use Rattle.lfs_thread.specs.Device.{StopsAfterCleanErasesLeave}
-use Rattle.lfs_thread.specs.Kept.{Kept, ThreadView}
-use Rattle.lfs_thread.specs.Steps.{CanChangePair, HasReportedIoOrUnwrittenNoMemory, IsPairChanged, LeavesPairOldOrChanged, IsCommitRefused, complete_content_after_changes, kept_pair_at_index}
+use Rattle.lfs_thread.specs.Device.{PowerLossLeavesSuchBlocksAfterCleanErases}
+use Rattle.lfs_thread.specs.Kept.{KeptThread, ThreadView}
+use Rattle.lfs_thread.specs.Steps.{CanChangePair, IoMeantFaultNoMemoryWroteNothing, IsPairChanged, PowerLossLeavesPairOldOrChanged, IsCommitRefused, complete_content_after_changes, thread_pair_at_index}
 use Rattle.lfs_operations.specs.Editing.{CanEditEntryOfPair, slot_of_editable_entry}
-use Rattle.lfs_operations.specs.Dropping.{ShowsTreeAfterDrops}
-use Rattle.lfs_operations.specs.Ready.{ShowsTreeReadyOnceBlocksSettle}
-use Rattle.lfs_operations.specs.Removing.{CanRemoveFileInPair, IsFileRemoved, ReportsCommitTakingNoBlock, is_pair_dropped_with_slot, tree_without_named_entry}
+use Rattle.lfs_operations.specs.Dropping.{ShowsTreeAfterPairDrops}
+use Rattle.lfs_operations.specs.Ready.{ShowsTreeReadyOnceMapIsUpdated}
+use Rattle.lfs_operations.specs.Removing.{CanRemoveFileInPair, IsFileRemoved, ReportsErrorsOfCommitTakingNoBlock, is_pair_dropped_with_slot, tree_without_named_entry}
 use Rattle.lfs_operations.proofs.Held.{CompletesTo, below, fits_there, here, raw_there}
 use Rattle.lfs_operations.proofs.Splicing.{Commits, IsSplicing}
 use Rattle.lfs_operations.proofs.Stepped.{HasStep, becomes, put_step, survives}
@@ -71,7 +71,7 @@ alone chain before (x ∷ left) tail p a first distinct h b n =
     absurd (omega arith)
 
 -- where no block comes, and none becomes free
-pub shrunk_from : (t new : Kept) (tree : Tree) (gone : List ℕ) → ShowsTreeReadyOnceBlocksSettle t new tree gone [] → ShowsTreeAfterDrops t new tree gone
+pub shrunk_from : (t new : KeptThread) (tree : Tree) (gone : List ℕ) → ShowsTreeReadyOnceMapIsUpdated t new tree gone [] → ShowsTreeAfterPairDrops t new tree gone
 shrunk_from t new tree gone h = record {
   ready = h.ready;
   shows = h.shows;
@@ -80,20 +80,20 @@ shrunk_from t new tree gone h = record {
 }
 
 -- a pair that doesn't go with its slot is the first of its directory, or has another one
-pub stays_there : (t : Kept) (index id first : ℕ) (can : CanEditEntryOfPair t index id) → can.first ≡ first → is_pair_dropped_with_slot t index first ≡ false → (index ≡ can.first) ⊎ (1 < length (kept_pair_at_index t index).content.slots)
-stays_there t index id first can begins goes = by (nat_eq index first) (nat_eq (length (kept_pair_at_index t index).content.slots) 1) refl refl goes
+pub stays_there : (t : KeptThread) (index id first : ℕ) (can : CanEditEntryOfPair t index id) → can.first ≡ first → is_pair_dropped_with_slot t index first ≡ false → (index ≡ can.first) ⊎ (1 < length (thread_pair_at_index t index).content.slots)
+stays_there t index id first can begins goes = by (nat_eq index first) (nat_eq (length (thread_pair_at_index t index).content.slots) 1) refl refl goes
   where
-    by : (x y : Bool) → nat_eq index first ≡ x → nat_eq (length (kept_pair_at_index t index).content.slots) 1 ≡ y → not x && y ≡ false → (index ≡ can.first) ⊎ (1 < length (kept_pair_at_index t index).content.slots)
+    by : (x y : Bool) → nat_eq index first ≡ x → nat_eq (length (thread_pair_at_index t index).content.slots) 1 ≡ y → not x && y ≡ false → (index ≡ can.first) ⊎ (1 < length (thread_pair_at_index t index).content.slots)
     by true y e f k = inl (eqb-true index first e ∙ sym begins)
     by false true e f k = absurd (cc)
     by false false e f k = inr (
-        let n = eqb-false (length (kept_pair_at_index t index).content.slots) 1 f in
+        let n = eqb-false (length (thread_pair_at_index t index).content.slots) 1 f in
         let h = ap length can.stands.stands.held in
         let l = length-append can.stands.stands.left (can.stands.stands.slot ∷ can.stands.stands.right) in
         let p = ap (λ (z : Pair). length z.content.slots) (here t can.ready can.first index can.stands.pair can.stands.rest can.stands.place) in
         omega arith)
 
-module _ (t : Kept) (index id first : ℕ) (take : CanRemoveFileInPair t index id first) (goes : is_pair_dropped_with_slot t index first ≡ false) where
+module _ (t : KeptThread) (index id first : ℕ) (take : CanRemoveFileInPair t index id first) (goes : is_pair_dropped_with_slot t index first ≡ false) where
   abbrev can : CanEditEntryOfPair t index id
   can = take.can
 
@@ -117,20 +117,20 @@ module _ (t : Kept) (index id first : ℕ) (take : CanRemoveFileInPair t index i
   within : id < length p.content.slots
   within = let h = ap length can.stands.stands.held in let k = length-append l (u ∷ r) in let n = can.stands.stands.number in omega arith
 
-  abbrev c : CompletesTo (raw_content_of_pair_at t.disk (kept_pair_at_index t index).at) p.content
+  abbrev c : CompletesTo (raw_content_of_pair_at t.disk (thread_pair_at_index t index).at) p.content
   c = raw_there t can.ready can.first index p can.stands.rest can.stands.place
 
-  abbrev raw_now : RawContent
+  abbrev raw_now : RawPairContent
   raw_now = record c.raw { slots = remove c.raw.slots id }
 
-  changed_now : content_after_changes c.raw (Delete id ∷ []) ≡ Some raw_now
+  changed_now : raw_pair_content_after_changes c.raw (Delete id ∷ []) ≡ Some raw_now
   changed_now =
       let few = (fits_there t can.ready can.first index p can.stands.rest can.stands.place).count in
       let n = complete_length c.raw.slots p.content.slots (completed_parts c.raw p.content c.complete).slots in
       let m = within in
       does_first (Delete id) [] c.raw raw_now raw_now (deletes c.raw id (omega arith) (omega arith)) (does_nothing raw_now)
 
-  abbrev now : Content
+  abbrev now : PairContent
   now = record { slots = remove p.content.slots id; tail = p.content.tail; move = p.content.move }
 
   slots_now : remove p.content.slots id ≡ l ++ ([] ++ r)
@@ -139,8 +139,8 @@ module _ (t : Kept) (index id first : ℕ) (take : CanRemoveFileInPair t index i
   made : complete_content_after_changes t index (Delete id ∷ []) ≡ Some now
   made =
       let parts = completed_parts c.raw p.content c.complete in
-      ap (λ o. option_and_then content_if_slots_are_complete (option_and_then (λ (x : RawContent). content_after_changes x (Delete id ∷ [])) o)) c.is
-      ∙ ap (λ o. option_and_then content_if_slots_are_complete o) changed_now
+      ap (λ o. option_and_then pair_content_if_slots_complete (option_and_then (λ (x : RawPairContent). raw_pair_content_after_changes x (Delete id ∷ [])) o)) c.is
+      ∙ ap (λ o. option_and_then pair_content_if_slots_complete o) changed_now
       ∙ completed_from raw_now (remove p.content.slots id) (complete_remove c.raw.slots p.content.slots id parts.slots)
       ∙ ap₂ (λ t m. Some (record { slots = remove p.content.slots id; tail = t; move = m })) (sym parts.tail) (sym parts.move)
 
@@ -149,7 +149,7 @@ module _ (t : Kept) (index id first : ℕ) (take : CanRemoveFileInPair t index i
     below = below t can.ready can.first index p can.stands.rest can.stands.place;
     content = now;
     made = made;
-    next = ap (λ (z : Pair). pair_named_by_tail z.content.tail) (sym (here t can.ready can.first index p can.stands.rest can.stands.place));
+    next = ap (λ (z : Pair). pair_address_named_by_tail z.content.tail) (sym (here t can.ready can.first index p can.stands.rest can.stands.place));
   }
 
   -- what is left fits
@@ -169,7 +169,7 @@ module _ (t : Kept) (index id first : ℕ) (take : CanRemoveFileInPair t index i
       let n = f.count in
       record { size = omega arith; count = omega arith }
 
-  pub not_refused : (new : Kept) → IsCommitRefused t index (Delete id ∷ []) new → ⊥
+  pub not_refused : (new : KeptThread) → IsCommitRefused t index (Delete id ∷ []) new → ⊥
   not_refused new is = is.too_large (subst (IsContentFittingPair t.disk.block_size t.disk.page) (sym (same_Some is.content now (sym is.made ∙ made))) still_fits)
 
   -- ---- in the image
@@ -208,7 +208,7 @@ module _ (t : Kept) (index id first : ℕ) (take : CanRemoveFileInPair t index i
   filled : ends_in_hard_tail false (w.before ++ w.left) ≡ true → l ++ ([] ++ r) ≢ []
   filled hard none = go (stays_there t index id first can take.begins goes)
     where
-      go : (index ≡ can.first) ⊎ (1 < length (kept_pair_at_index t index).content.slots) → ⊥
+      go : (index ≡ can.first) ⊎ (1 < length (thread_pair_at_index t index).content.slots) → ⊥
       go (inl e) =
           let none_before = alone w.chain w.before w.left (w.right ++ w.after) p can.at can.first (subst (λ z. IsDistinct nat_eq (blocks_of_pairs z)) there can.ready.accepted.thread.distinct) same_begin
           (subst (λ z. IsPairAtAddress z can.at can.first) there can.begins) (sym e ∙ number_is t.disk t.pairs can.path can.at can.ready.accepted can.leads can.first index p can.stands.rest can.stands.place can.begins) in
@@ -226,28 +226,28 @@ module _ (t : Kept) (index id first : ℕ) (take : CanRemoveFileInPair t index i
   abbrev turn : Tree → Tree
   turn = tree_after_removal (can.path ++ can.name ∷ [])
 
-  follows : (disk : Disk) (q : Pair) (more : List Pair) → Commits t w p l (u ∷ []) [] r [] disk q more → Follows t.disk (thread_at w (p ∷ [])) disk (thread_at w (q ∷ more)) turn (λ d. d)
-  follows disk q more x = subst (λ (n : Name). Follows t.disk (thread_at w (p ∷ [])) disk (thread_at w (q ∷ more)) (tree_after_removal (can.path ++ n ∷ [])) (λ d. d)) can.stands.stands.named
+  follows : (disk : Disk) (q : Pair) (more : List Pair) → Commits t w p l (u ∷ []) [] r [] disk q more → IsImageAfterTreeChange t.disk (thread_at w (p ∷ [])) disk (thread_at w (q ∷ more)) turn (λ d. d)
+  follows disk q more x = subst (λ (n : Name). IsImageAfterTreeChange t.disk (thread_at w (p ∷ [])) disk (thread_at w (q ∷ more)) (tree_after_removal (can.path ++ n ∷ [])) (λ d. d)) can.stands.stands.named
       (file_goes t.disk disk w p [] q more (blocks_of_pairs more) [] l r u (commit_step t.disk disk w p q more [] l (u ∷ []) [] r x.commit) can.stands.stands.entry can.path can.at led same_begin take.file
       (λ e. (recovered_from t.disk (thread_at w (p ∷ [])) x.commit.accepted x.commit.settled).reached))
 
-  pub gone : (new : Kept) → IsPairChanged t index (Delete id ∷ []) new → IsFileRemoved t new take.can.path take.can.name (slot_of_editable_entry take.can).struct
+  pub gone : (new : KeptThread) → IsPairChanged t index (Delete id ∷ []) new → IsFileRemoved t new take.can.path take.can.name (slot_of_editable_entry take.can).struct
   gone new is = go (put_step t index (Delete id ∷ []) w p l (u ∷ []) [] r (skip_list_blocks_of_struct t.disk u.struct) [] spliced new (inl is))
     where
       go : HasStep t w p l (u ∷ []) [] r (skip_list_blocks_of_struct t.disk u.struct) [] new → IsFileRemoved t new can.path can.name u.struct
       go x = record {
         now = shrunk_from t new (turn (tree_on_disk t.disk t.pairs)) (skip_list_blocks_of_struct t.disk u.struct)
             (becomes t index (Delete id ∷ []) w p l (u ∷ []) [] r (skip_list_blocks_of_struct t.disk u.struct) [] spliced turn (λ disk q more y. ((λ d. d), follows disk q more y)) filled new x);
-        completed = λ z given tree is_path. subst (λ y. IsCompleted t.disk y z (ops.Remove given) new.disk new.pairs) (sym there)
-            (subst (λ y. IsCompleted t.disk (thread_at w (p ∷ [])) z (ops.Remove given) new.disk y) (sym x.pairs)
+        completed = λ z given tree is_path. subst (λ y. IsImageAfterCompletedOperation t.disk y z (ops.Remove given) new.disk new.pairs) (sym there)
+            (subst (λ y. IsImageAfterCompletedOperation t.disk (thread_at w (p ∷ [])) z (ops.Remove given) new.disk y) (sym x.pairs)
             (remove_completed t.disk new.disk w p x.q x.more l r u x.commit.commit can.stands.stands.entry take.file can.path can.at led same_begin z given (tree ∙ ap (tree_on_disk t.disk) there)
             (is_path ∙ ap (λ n. can.path ++ n ∷ []) (sym can.stands.stands.named)) filled));
         once = λ b. let e = x.used.same b in let o = x.once b in omega arith;
       }
 
-  pub remove_survives : (new : List CallEvent) → StopsAfterCleanErasesLeave t.history new (LeavesPairOldOrChanged t index (Delete id ∷ [])) → SurvivesStopsSince t.disk t.history new (tree_on_disk t.disk t.pairs) (tree_without_named_entry t take.can.path take.can.name)
+  pub remove_survives : (new : List DeviceCallEvent) → PowerLossLeavesSuchBlocksAfterCleanErases t.history new (PowerLossLeavesPairOldOrChanged t index (Delete id ∷ [])) → SurvivesPowerLossInCallsSince t.disk t.history new (tree_on_disk t.disk t.pairs) (tree_without_named_entry t take.can.path take.can.name)
   remove_survives new stops = survives t index (Delete id ∷ []) w p l (u ∷ []) [] r (skip_list_blocks_of_struct t.disk u.struct) [] spliced turn (λ disk q more y. ((λ d. d), follows disk q more y)) filled new
-      (λ clean. IsTrueAfterEachStopSince-weaker (λ left x. inl x) (stops clean))
+      (λ clean. IsTrueAfterAnyPowerLossSince-weaker (λ left x. inl x) (stops clean))
 
 -- ---- what it tells
 
@@ -255,7 +255,7 @@ same_err : {A : Type 0} (a b : Error) (r : Result A Error) → r ≡ Err a → r
 same_err a b r h k = cc
 
 -- an error that is passed on
-pub reports_again : {X Y : Type 0} (old new : ThreadView) (e : Error) (result : Result X Error) (given : Result Y Error) → result ≡ Err e → given ≡ Err e → new.failed ≡ is_err result → HasReportedIoOrUnwrittenNoMemory old.kept new.kept result → ReportsCommitTakingNoBlock old new given
+pub reports_again : {X Y : Type 0} (old new : ThreadView) (e : Error) (result : Result X Error) (given : Result Y Error) → result ≡ Err e → given ≡ Err e → new.failed ≡ is_err result → IoMeantFaultNoMemoryWroteNothing old.kept new.kept result → ReportsErrorsOfCommitTakingNoBlock old new given
 reports_again old new e result given is same failed reported = record {
   failed = failed ∙ ap is_err is ∙ sym (ap is_err same);
   reported = record {

@@ -7,34 +7,34 @@ use Rattle.lfs_model.specs.TreeEdits.{tree_after_removal}
 use Rattle.lfs_model.specs.Blocks.{Blocks}
 use Rattle.lfs_model.specs.BlockSets.{AreExactlyTheUsedBlocks}
 use Rattle.lfs_model.specs.Disk.{Disk}
-use Rattle.lfs_model.specs.History.{CallEvent}
+use Rattle.lfs_model.specs.History.{DeviceCallEvent}
 use Rattle.lfs_model.specs.InDirectory.{IsPairAtAddress}
 use Rattle.lfs_model.specs.Operations as ops
-use Rattle.lfs_model.specs.PowerLoss.{ShowsTreeBeforeOrAfter as IsLeftOf, SurvivesStopsSince, with_blocks}
-use Rattle.lfs_model.specs.Slots.{Content, IsContentFittingPair, Slot, Tail, zero_gstate, same_pair}
-use Rattle.lfs_model.specs.Thread.{Pair, blocks_of_pairs, first_pair_address, gstate_of, is_hard_tail, pair_count_before_root}
+use Rattle.lfs_model.specs.PowerLoss.{HasTreeBeforeOrAfterOperation as IsLeftOf, SurvivesPowerLossInCallsSince, disk_with_blocks}
+use Rattle.lfs_model.specs.Slots.{PairContent, IsContentFittingPair, Slot, Tail, zero_gstate, same_pair}
+use Rattle.lfs_model.specs.Thread.{Pair, blocks_of_pairs, first_pair_address, gstate_of_pairs, is_hard_tail, pair_count_before_root}
 use Rattle.lfs_model.specs.Tree.{Tree, branch_address_of_struct}
 use Rattle.lfs_model.specs.View.{IsAcceptedImage}
-use Rattle.lfs_model.specs.Profile.{IsWritable}
+use Rattle.lfs_model.specs.Profile.{IsWritableImage}
 use Rattle.lfs_model.specs.Shown.{IsPathToDirectory, skip_list_blocks_of_struct, tree_on_disk, used_blocks}
-use Rattle.lfs_model.proofs.Changes.{Follows}
-use Rattle.lfs_model.proofs.Committed.{IsCompleted, no_move_from, recovered_from}
-use Rattle.lfs_model.proofs.Counts.{Each, each_right, count, count_append, once_from_distinct}
+use Rattle.lfs_model.proofs.Changes.{IsImageAfterTreeChange}
+use Rattle.lfs_model.proofs.Committed.{IsImageAfterCompletedOperation, no_move_from, recovered_from}
+use Rattle.lfs_model.proofs.Counts.{Each, each_right, occurrence_count_of_number, count_append, once_from_distinct}
 use Rattle.lfs_model.proofs.Dropped.{IsDrop, drop_completed, drop_step, drop_writable}
 use Rattle.lfs_model.proofs.Global.{HasNoMove}
-use Rattle.lfs_model.proofs.Histories.{IsTrueAfterEachStopSince-weaker}
+use Rattle.lfs_model.proofs.Histories.{IsTrueAfterAnyPowerLossSince-weaker}
 use Rattle.lfs_model.proofs.Listings.{IsRun}
 use Rattle.lfs_model.proofs.Moves.{file_goes}
 use Rattle.lfs_model.proofs.Searches.{is_site, number_is, same, same_number, site, thread_is}
 use Rattle.lfs_model.proofs.Pairs.{pair_back, pair_on}
 use Rattle.lfs_model.proofs.Sites.{IsSite, Site, begin_of, dirs_at, thread_at}
-use Rattle.lfs_model.proofs.Splices.{IsDevice, files_of}
+use Rattle.lfs_model.proofs.Splices.{IsDevice, file_blocks_of_slots}
 use Rattle.lfs_model.proofs.Superblocks.{IsChain}
 use Rattle.lfs_model.proofs.Writable.{ends_in_hard_tail}
-use Rattle.lfs_thread.specs.Device.{StopsAfterCleanErasesLeave, blocks_of_address}
-use Rattle.lfs_thread.specs.Kept.{Kept}
-use Rattle.lfs_thread.specs.Steps.{IsPairWrittenOnDisk, kept_pair_at_index, map_with_freed_pair}
-use Rattle.lfs_operations.specs.Dropping.{CanDropPairAt, IsNextPairDropped, ShowsTreeAfterDrops, IsLeftByStoppedDrop, HasSameBlocksInFlight, tail_over_dropped_pair, content_after_drop}
+use Rattle.lfs_thread.specs.Device.{PowerLossLeavesSuchBlocksAfterCleanErases, blocks_of_pair_address}
+use Rattle.lfs_thread.specs.Kept.{KeptThread}
+use Rattle.lfs_thread.specs.Steps.{IsPairWrittenOnDisk, thread_pair_at_index, block_map_with_freed_pair}
+use Rattle.lfs_operations.specs.Dropping.{CanDropPairAt, IsNextPairDropped, ShowsTreeAfterPairDrops, IsLeftByStoppedPairDrop, HasSameBlocksInFlight, tail_over_dropped_pair, content_after_next_pair_drop}
 use Rattle.lfs_operations.specs.Editing.{CanEditEntryOfPair, slot_of_editable_entry}
 use Rattle.lfs_operations.specs.Removing.{IsFileRemoved, is_pair_dropped_with_slot, tree_without_named_entry}
 use Rattle.lfs_operations.proofs.Dropped.{device_dropped, device_kept, dropped_count, flying_same, length_fewer, profile_same, used_fewer}
@@ -89,7 +89,7 @@ only_slot (s ∷ []) r u e = absurd (omega arith)
 only_slot (s ∷ x ∷ l) r u e = absurd (omega arith)
 
 -- The pair o of the slot stands behind x, whose hard tail leads to it, and holds nothing else.
-pub record StandsWhole (t : Kept) (index id : ℕ) (can : CanEditEntryOfPair t index id) : Type 0 where
+pub record StandsWhole (t : KeptThread) (index id : ℕ) (can : CanEditEntryOfPair t index id) : Type 0 where
   pub w : Site
   pub x : Pair
   pub there : t.pairs ≡ thread_at w (x ∷ can.stands.pair ∷ [])
@@ -99,7 +99,7 @@ pub record StandsWhole (t : Kept) (index id : ℕ) (can : CanEditEntryOfPair t i
   pub same : same_pair (begin_of w (x ∷ can.stands.pair ∷ [])) can.at ≡ true
   pub held : can.stands.pair.content.slots ≡ can.stands.stands.slot ∷ []
 
-module _ (t : Kept) (index id first : ℕ) (can : CanEditEntryOfPair t index id) (begins : can.first ≡ first) (goes : is_pair_dropped_with_slot t index first ≡ true) where
+module _ (t : KeptThread) (index id first : ℕ) (can : CanEditEntryOfPair t index id) (begins : can.first ≡ first) (goes : is_pair_dropped_with_slot t index first ≡ true) where
   abbrev o : Pair
   o = can.stands.pair
 
@@ -123,13 +123,13 @@ module _ (t : Kept) (index id first : ℕ) (can : CanEditEntryOfPair t index id)
 
   -- ---- what is known by it
 
-  alone_there : (index ≡ can.first → ⊥) × (length (kept_pair_at_index t index).content.slots ≡ 1)
-  alone_there = by (nat_eq index first) (nat_eq (length (kept_pair_at_index t index).content.slots) 1) refl refl goes
+  alone_there : (index ≡ can.first → ⊥) × (length (thread_pair_at_index t index).content.slots ≡ 1)
+  alone_there = by (nat_eq index first) (nat_eq (length (thread_pair_at_index t index).content.slots) 1) refl refl goes
     where
-      by : (x y : Bool) → nat_eq index first ≡ x → nat_eq (length (kept_pair_at_index t index).content.slots) 1 ≡ y → not x && y ≡ true → (index ≡ can.first → ⊥) × (length (kept_pair_at_index t index).content.slots ≡ 1)
+      by : (x y : Bool) → nat_eq index first ≡ x → nat_eq (length (thread_pair_at_index t index).content.slots) 1 ≡ y → not x && y ≡ true → (index ≡ can.first → ⊥) × (length (thread_pair_at_index t index).content.slots ≡ 1)
       by true y e f k = absurd (cc)
       by false false e f k = absurd (cc)
-      by false true e f k = ((λ same. eqb-false index first e (same ∙ begins)), eqb-true (length (kept_pair_at_index t index).content.slots) 1 f)
+      by false true e f k = ((λ same. eqb-false index first e (same ∙ begins)), eqb-true (length (thread_pair_at_index t index).content.slots) 1 f)
 
   held : o.content.slots ≡ u ∷ []
   held =
@@ -203,10 +203,10 @@ module _ (t : Kept) (index id first : ℕ) (can : CanEditEntryOfPair t index id)
   pub stands_whole : StandsWhole t index id can
   stands_whole = record { w = w; x = x; there = there; site = site_now; number = place; hard = hard; same = same_now; held = held }
 
-  front_there : kept_pair_at_index t (index - 1) ≡ x
+  front_there : thread_pair_at_index t (index - 1) ≡ x
   front_there = front_is t (index - 1) ahead x o back is number
 
-  gone_there : kept_pair_at_index t (index - 1 + 1) ≡ o
+  gone_there : thread_pair_at_index t (index - 1 + 1) ≡ o
   gone_there = gone_is t (index - 1) ahead x o back is number
 
   pub below_whole : index - 1 + 1 < length t.pairs
@@ -229,8 +229,8 @@ module _ (t : Kept) (index id first : ℕ) (can : CanEditEntryOfPair t index id)
 
   -- ---- what it leaves
 
-  abbrev c : Content
-  c = content_after_drop t (index - 1) zero_gstate
+  abbrev c : PairContent
+  c = content_after_next_pair_drop t (index - 1) zero_gstate
 
   abbrev q : Pair
   q = record { at = x.at; content = c }
@@ -238,8 +238,8 @@ module _ (t : Kept) (index id first : ℕ) (can : CanEditEntryOfPair t index id)
   slots_same : c.slots ≡ x.content.slots
   slots_same = ap (λ (z : Pair). z.content.slots) front_there
 
-  still : gstate_of (thread_at w (q ∷ [])) ≡ zero_gstate
-  still = ap gstate_of (grouped (q ∷ [])) ∙ gstate_is t (index - 1) ahead x o back is number zero_gstate q refl
+  still : gstate_of_pairs (thread_at w (q ∷ [])) ≡ zero_gstate
+  still = ap gstate_of_pairs (grouped (q ∷ [])) ∙ gstate_is t (index - 1) ahead x o back is number zero_gstate q refl
 
   accepted : IsAcceptedImage t.disk (thread_at w (x ∷ o ∷ []))
   accepted = subst (IsAcceptedImage t.disk) there can.ready.accepted
@@ -247,8 +247,8 @@ module _ (t : Kept) (index id first : ℕ) (can : CanEditEntryOfPair t index id)
   drop_on : (disk : Disk) → IsPairWrittenOnDisk t (index - 1) c disk → IsDrop t.disk disk w x o q u
   drop_on disk written = record {
     accepted = accepted;
-    writable = subst (IsWritable t.disk) there can.ready.writable;
-    settled = ap gstate_of (sym there) ∙ can.ready.settled;
+    writable = subst (IsWritableImage t.disk) there can.ready.writable;
+    settled = ap gstate_of_pairs (sym there) ∙ can.ready.settled;
     still = still;
     site = site_now;
     device = subst (λ z. IsDevice t.disk disk z (thread_at w (q ∷ []))) (sym (grouped (x ∷ o ∷ []))) (subst (IsDevice t.disk disk (ahead ++ x ∷ o ∷ back)) (sym (grouped (q ∷ [])))
@@ -269,34 +269,34 @@ module _ (t : Kept) (index id first : ℕ) (can : CanEditEntryOfPair t index id)
     leads_now : IsPathToDirectory (thread_at w (x ∷ o ∷ [])) can.path can.at
     leads_now = subst (λ z. IsPathToDirectory z can.path can.at) there can.leads
 
-    follows : (disk : Disk) → IsPairWrittenOnDisk t (index - 1) c disk → Follows t.disk (thread_at w (x ∷ o ∷ [])) disk (thread_at w (q ∷ [])) turn (λ d. d)
-    follows disk written = subst (λ n. Follows t.disk (thread_at w (x ∷ o ∷ [])) disk (thread_at w (q ∷ [])) (tree_after_removal (can.path ++ n ∷ [])) (λ d. d)) can.stands.stands.named
+    follows : (disk : Disk) → IsPairWrittenOnDisk t (index - 1) c disk → IsImageAfterTreeChange t.disk (thread_at w (x ∷ o ∷ [])) disk (thread_at w (q ∷ [])) turn (λ d. d)
+    follows disk written = subst (λ n. IsImageAfterTreeChange t.disk (thread_at w (x ∷ o ∷ [])) disk (thread_at w (q ∷ [])) (tree_after_removal (can.path ++ n ∷ [])) (λ d. d)) can.stands.stands.named
         (file_goes t.disk disk w x (o ∷ []) q [] [] [] x.content.slots [] u (drop_step t.disk disk w x o q u (drop_on disk written)) can.stands.stands.entry can.path can.at leads_now same_now file
-        (λ e. (recovered_from t.disk (thread_at w (x ∷ o ∷ [])) accepted (ap gstate_of (sym there) ∙ can.ready.settled)).reached))
+        (λ e. (recovered_from t.disk (thread_at w (x ∷ o ∷ [])) accepted (ap gstate_of_pairs (sym there) ∙ can.ready.settled)).reached))
 
-    pairs_now : (new : Kept) → IsNextPairDropped t (index - 1) zero_gstate new → new.pairs ≡ thread_at w (q ∷ [])
+    pairs_now : (new : KeptThread) → IsNextPairDropped t (index - 1) zero_gstate new → new.pairs ≡ thread_at w (q ∷ [])
     pairs_now new h = h.pairs ∙ without_is t (index - 1) ahead x o back is number c ∙ sym (grouped (q ∷ []))
 
-    module _ (new : Kept) (h : IsNextPairDropped t (index - 1) zero_gstate new) where
-      now_used : (b : ℕ) → count b (used_blocks new.disk new.pairs ++ skip_list_blocks_of_struct t.disk u.struct) + count b (blocks_of_address o.at) ≡ count b (used_blocks t.disk t.pairs)
+    module _ (new : KeptThread) (h : IsNextPairDropped t (index - 1) zero_gstate new) where
+      now_used : (b : ℕ) → occurrence_count_of_number b (used_blocks new.disk new.pairs ++ skip_list_blocks_of_struct t.disk u.struct) + occurrence_count_of_number b (blocks_of_pair_address o.at) ≡ occurrence_count_of_number b (used_blocks t.disk t.pairs)
       now_used b =
           let d = drop_on new.disk h.written in
-          let e = dropped_count t.disk new.disk ahead x o q back (subst (λ z. HasNoMove (gstate_of z)) is (no_move_from t.pairs can.ready.settled)) (subst (λ z. HasNoMove (gstate_of z)) (grouped (q ∷ [])) (no_move_from (thread_at w (q ∷ [])) still))
+          let e = dropped_count t.disk new.disk ahead x o q back (subst (λ z. HasNoMove (gstate_of_pairs z)) is (no_move_from t.pairs can.ready.settled)) (subst (λ z. HasNoMove (gstate_of_pairs z)) (grouped (q ∷ [])) (no_move_from (thread_at w (q ∷ [])) still))
           (device_dropped t (index - 1) ahead x o back is number (subst (IsAcceptedImage t.disk) is can.ready.accepted) new.disk c slots_same h.written) refl slots_same b in
-          let f = ap (λ z. count b (used_blocks new.disk z)) (pairs_now new h ∙ grouped (q ∷ [])) in
-          let g = ap (λ z. count b (used_blocks t.disk z)) is in
+          let f = ap (λ z. occurrence_count_of_number b (used_blocks new.disk z)) (pairs_now new h ∙ grouped (q ∷ [])) in
+          let g = ap (λ z. occurrence_count_of_number b (used_blocks t.disk z)) is in
           let k = count_append b (used_blocks new.disk new.pairs) (skip_list_blocks_of_struct t.disk u.struct) in
-          let m = ap (λ z. count b (files_of t.disk z)) held in
+          let m = ap (λ z. occurrence_count_of_number b (file_blocks_of_slots t.disk z)) held in
           let n = count_append b (skip_list_blocks_of_struct t.disk u.struct) [] in
           omega arith
 
-      map_is : new.map ≡ map_with_freed_pair t.map o.at
-      map_is = h.map ∙ ap (λ (z : Pair). map_with_freed_pair t.map z.at) gone_there
+      map_is : new.map ≡ block_map_with_freed_pair t.map o.at
+      map_is = h.map ∙ ap (λ (z : Pair). block_map_with_freed_pair t.map z.at) gone_there
 
-      once : (b : ℕ) → count b (used_blocks t.disk t.pairs) ≤ 1
+      once : (b : ℕ) → occurrence_count_of_number b (used_blocks t.disk t.pairs) ≤ 1
       once b = once_from_distinct (used_blocks t.disk t.pairs) can.ready.accepted.owned_once b
 
-      shrunk : ShowsTreeAfterDrops t new (tree_without_named_entry t can.path can.name) (skip_list_blocks_of_struct t.disk u.struct)
+      shrunk : ShowsTreeAfterPairDrops t new (tree_without_named_entry t can.path can.name) (skip_list_blocks_of_struct t.disk u.struct)
       shrunk =
           let f = follows new.disk h.written in
           let p = pairs_now new h in
@@ -304,7 +304,7 @@ module _ (t : Kept) (index id first : ℕ) (can : CanEditEntryOfPair t index id)
           record {
             ready = record {
               accepted = subst (IsAcceptedImage new.disk) (sym p) f.accepted;
-              writable = subst (IsWritable new.disk) (sym p) (drop_writable t.disk new.disk w x o q u (drop_on new.disk h.written));
+              writable = subst (IsWritableImage new.disk) (sym p) (drop_writable t.disk new.disk w x o q u (drop_on new.disk h.written));
               settled = h.gstate;
               used = record {
                 owned = used_blocks new.disk new.pairs ++ skip_list_blocks_of_struct t.disk u.struct;
@@ -324,8 +324,8 @@ module _ (t : Kept) (index id first : ℕ) (can : CanEditEntryOfPair t index id)
       pub gone_whole : IsFileRemoved t new can.path can.name (slot_of_editable_entry can).struct
       gone_whole = record {
         now = shrunk;
-        completed = λ z given tree is_path. subst (λ y. IsCompleted t.disk y z (ops.Remove given) new.disk new.pairs) (sym there)
-            (subst (λ y. IsCompleted t.disk (thread_at w (x ∷ o ∷ [])) z (ops.Remove given) new.disk y) (sym (pairs_now new h))
+        completed = λ z given tree is_path. subst (λ y. IsImageAfterCompletedOperation t.disk y z (ops.Remove given) new.disk new.pairs) (sym there)
+            (subst (λ y. IsImageAfterCompletedOperation t.disk (thread_at w (x ∷ o ∷ [])) z (ops.Remove given) new.disk y) (sym (pairs_now new h))
             (drop_completed t.disk new.disk w x o q u (drop_on new.disk h.written) file can.path can.at leads_now same_now z given (tree ∙ ap (tree_on_disk t.disk) there)
             (is_path ∙ ap (λ n. can.path ++ n ∷ []) (sym can.stands.stands.named))));
         once = λ b.
@@ -337,32 +337,32 @@ module _ (t : Kept) (index id first : ℕ) (can : CanEditEntryOfPair t index id)
 
     -- ---- at a stop
 
-    left_tree : (left : Blocks) → IsLeftByStoppedDrop t (index - 1) zero_gstate left → IsLeftOf (with_blocks left t.disk) (tree_on_disk t.disk t.pairs) (turn (tree_on_disk t.disk t.pairs))
+    left_tree : (left : Blocks) → IsLeftByStoppedPairDrop t (index - 1) zero_gstate left → IsLeftOf (disk_with_blocks left t.disk) (tree_on_disk t.disk t.pairs) (turn (tree_on_disk t.disk t.pairs))
     left_tree left h = go h.is
       where
-        go : (h.content ≡ (kept_pair_at_index t (index - 1)).content) ⊎ (h.content ≡ content_after_drop t (index - 1) zero_gstate) → IsLeftOf (with_blocks left t.disk) (tree_on_disk t.disk t.pairs) (turn (tree_on_disk t.disk t.pairs))
+        go : (h.content ≡ (thread_pair_at_index t (index - 1)).content) ⊎ (h.content ≡ content_after_next_pair_drop t (index - 1) zero_gstate) → IsLeftOf (disk_with_blocks left t.disk) (tree_on_disk t.disk t.pairs) (turn (tree_on_disk t.disk t.pairs))
         go (inl e) =
             let same = e ∙ ap (λ (z : Pair). z.content) front_there in
-            let d = device_kept t (index - 1) ahead x o back is number (subst (IsAcceptedImage t.disk) is can.ready.accepted) (with_blocks left t.disk) x.content refl
-            (subst (λ y. IsPairWrittenOnDisk t (index - 1) y (with_blocks left t.disk)) same h.written) in
-            let on = subst (λ z. IsDevice t.disk (with_blocks left t.disk) z z) (sym is ∙ there_before) d in
-            let f = nothing_came t.disk (with_blocks left t.disk) v o site_before (subst (IsAcceptedImage t.disk) there_before can.ready.accepted) on in
+            let d = device_kept t (index - 1) ahead x o back is number (subst (IsAcceptedImage t.disk) is can.ready.accepted) (disk_with_blocks left t.disk) x.content refl
+            (subst (λ y. IsPairWrittenOnDisk t (index - 1) y (disk_with_blocks left t.disk)) same h.written) in
+            let on = subst (λ z. IsDevice t.disk (disk_with_blocks left t.disk) z z) (sym is ∙ there_before) d in
+            let f = nothing_came t.disk (disk_with_blocks left t.disk) v o site_before (subst (IsAcceptedImage t.disk) there_before can.ready.accepted) on in
             record {
               pairs = thread_at v (o ∷ []);
               accepted = f.accepted;
-              writable = profile_same t.disk (with_blocks left t.disk) (thread_at v (o ∷ [])) refl refl (subst (IsWritable t.disk) there_before can.ready.writable);
+              writable = profile_same t.disk (disk_with_blocks left t.disk) (thread_at v (o ∷ [])) refl refl (subst (IsWritableImage t.disk) there_before can.ready.writable);
               tree = inl (f.shows ∙ ap (tree_on_disk t.disk) (sym there_before));
             }
         go (inr e) =
-            let written = subst (λ y. IsPairWrittenOnDisk t (index - 1) y (with_blocks left t.disk)) e h.written in
-            let f = follows (with_blocks left t.disk) written in
+            let written = subst (λ y. IsPairWrittenOnDisk t (index - 1) y (disk_with_blocks left t.disk)) e h.written in
+            let f = follows (disk_with_blocks left t.disk) written in
             record {
               pairs = thread_at w (q ∷ []);
               accepted = f.accepted;
-              writable = drop_writable t.disk (with_blocks left t.disk) w x o q u (drop_on (with_blocks left t.disk) written);
+              writable = drop_writable t.disk (disk_with_blocks left t.disk) w x o q u (drop_on (disk_with_blocks left t.disk) written);
               tree = inr (f.shows ∙ ap (λ z. turn (tree_on_disk t.disk z)) (sym there));
             }
 
-    pub whole_survives : (new : List CallEvent) → StopsAfterCleanErasesLeave t.history new (IsLeftByStoppedDrop t (index - 1) zero_gstate)
-        → SurvivesStopsSince t.disk t.history new (tree_on_disk t.disk t.pairs) (tree_without_named_entry t can.path can.name)
-    whole_survives new stops clean = IsTrueAfterEachStopSince-weaker left_tree (stops clean)
+    pub whole_survives : (new : List DeviceCallEvent) → PowerLossLeavesSuchBlocksAfterCleanErases t.history new (IsLeftByStoppedPairDrop t (index - 1) zero_gstate)
+        → SurvivesPowerLossInCallsSince t.disk t.history new (tree_on_disk t.disk t.pairs) (tree_without_named_entry t can.path can.name)
+    whole_survives new stops clean = IsTrueAfterAnyPowerLossSince-weaker left_tree (stops clean)

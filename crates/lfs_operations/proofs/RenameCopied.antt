@@ -4,13 +4,13 @@ use Rattle.std.proofs.lemmas.List.{length-map}
 use Rattle.std.specs.Prelude.{IsSome}
 use Rattle.std.specs.Option.{option_and_then, option_map}
 use Rattle.std.proofs.lemmas.Option.{same_Some}
-use Rattle.lfs_model.specs.Content.{RawContent, RawSlot, complete, slots_if_all_complete, content_after_log_entries, empty_slot, kind_of_name_type, empty_raw_content, slot_of_id, struct_of_type_and_bytes}
+use Rattle.lfs_model.specs.Content.{RawPairContent, RawSlot, slot_if_name_and_struct_present, slots_if_names_and_structs_present, content_after_log_entries, empty_slot, kind_of_name_type, empty_raw_pair_content, slot_of_id, struct_of_type_and_bytes}
 use Rattle.lfs_model.specs.Log.{log_entries_of_block}
-use Rattle.lfs_model.specs.Slots.{Content, Slot}
+use Rattle.lfs_model.specs.Slots.{PairContent, Slot}
 use Rattle.lfs_model.proofs.Completed.{complete_length, complete_parts, completed_parts}
-use Rattle.lfs_tag.specs.ContentView.{attribute_view, content_view, part_view, slot_view}
+use Rattle.lfs_tag.specs.ContentView.{attribute_view, content_view, name_or_struct_view, slot_view}
 use Rattle.lfs_tag.specs.declared.content.Content as code
-use Rattle.lfs_tag.specs.declared.content.Part.{Part}
+use Rattle.lfs_tag.specs.declared.content.NameOrStruct.{NameOrStruct}
 use Rattle.lfs_tag.specs.declared.content.Slot as slots
 use Rattle.lfs_thread.specs.CachedLog.{IsLogBlockOfContent}
 
@@ -21,34 +21,34 @@ at_id f (y ∷ xs) (suc i) x d l e = at_id f xs i x d (omega arith) e
 
 record IsComplete (s : RawSlot) : Type 0 where
   slot : Slot
-  is : complete s ≡ Some slot
+  is : slot_if_name_and_struct_present s ≡ Some slot
 
-complete_at_id : (xs : List RawSlot) (us : List Slot) (i : ℕ) → slots_if_all_complete xs ≡ Some us → i < length xs → IsComplete (slot_of_id xs i)
+complete_at_id : (xs : List RawSlot) (us : List Slot) (i : ℕ) → slots_if_names_and_structs_present xs ≡ Some us → i < length xs → IsComplete (slot_of_id xs i)
 complete_at_id [] us i h l = absurd (omega arith)
 complete_at_id (x ∷ xs) us zero h l = let p = complete_parts x xs us h in record { slot = p.first; is = p.is_first }
 complete_at_id (x ∷ xs) us (suc i) h l = let p = complete_parts x xs us h in complete_at_id xs p.others i p.are_others (omega arith)
 
-has_parts : (s : slots.Slot) (u : Slot) → complete (slot_view s) ≡ Some u → IsSome s.name × IsSome s.structure
+has_parts : (s : slots.Slot) (u : Slot) → slot_if_name_and_struct_present (slot_view s) ≡ Some u → IsSome s.name × IsSome s.structure
 has_parts s u h = go s.name s.structure h
   where
-    go : (n p : Option Part) → option_and_then (λ name. option_map (λ struct. record {
+    go : (n p : Option NameOrStruct) → option_and_then (λ name. option_map (λ struct. record {
       kind = kind_of_name_type name.0;
       name = name.1;
       struct = struct_of_type_and_bytes struct.0 struct.1;
       attributes = map attribute_view s.attributes.items;
-    }) (option_map part_view p)) (option_map part_view n) ≡ Some u → IsSome n × IsSome p
+    }) (option_map name_or_struct_view p)) (option_map name_or_struct_view n) ≡ Some u → IsSome n × IsSome p
     go None p k = absurd (cc)
     go (Some n) None k = absurd (cc)
     go (Some n) (Some p) k = (refl, refl)
 
-module _ (block : List ℕ) (content : Content) (is : IsLogBlockOfContent block content) (id : ℕ) (below : id < length content.slots) (read : code.Content) (log : content_after_log_entries empty_raw_content (log_entries_of_block block) ≡ Some (content_view read)) where
+module _ (block : List ℕ) (content : PairContent) (is : IsLogBlockOfContent block content) (id : ℕ) (below : id < length content.slots) (read : code.Content) (log : content_after_log_entries empty_raw_pair_content (log_entries_of_block block) ≡ Some (content_view read)) where
   same_raw : content_view read ≡ is.raw
   same_raw = same_Some (content_view read) is.raw (sym log ∙ is.log)
 
   slots_are : map slot_view read.slots.items ≡ is.raw.slots
-  slots_are = ap (λ (r : RawContent). r.slots) same_raw
+  slots_are = ap (λ (r : RawPairContent). r.slots) same_raw
 
-  all : slots_if_all_complete is.raw.slots ≡ Some content.slots
+  all : slots_if_names_and_structs_present is.raw.slots ≡ Some content.slots
   all = (completed_parts is.raw content is.complete).slots
 
   pub read_below : id < length read.slots.items
@@ -61,7 +61,7 @@ module _ (block : List ℕ) (content : Content) (is : IsLogBlockOfContent block 
     both : IsSome slot.name × IsSome slot.structure
     both =
         let k = complete_at_id is.raw.slots content.slots id all (let a = complete_length is.raw.slots content.slots all in omega arith) in
-        has_parts slot k.slot (ap complete (sym there_read) ∙ k.is)
+        has_parts slot k.slot (ap slot_if_name_and_struct_present (sym there_read) ∙ k.is)
 
     pub is_named : IsSome slot.name
     is_named = both.0

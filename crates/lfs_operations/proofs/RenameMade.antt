@@ -3,15 +3,15 @@ use Rattle.std.proofs.Common.{ℕ, ◌≡◌, ◌⊎◌, inl, inr, ◌<◌, ◌�
 use Rattle.std.specs.Prelude.{unwrap_or}
 use Rattle.std.specs.Option.{option_and_then}
 use Rattle.std.proofs.lemmas.List.Sums.{sum_by-append, sum_by-cons}
-use Rattle.lfs_model.specs.Changes.{ContentChange, content_after_changes}
-use Rattle.lfs_model.specs.Content.{RawContent, RawSlot, slots_if_all_complete, content_if_slots_are_complete, empty_raw_content, raw_content_of_pair_at, slot_of_id}
-use Rattle.lfs_model.specs.Cut.{CanBeCut}
+use Rattle.lfs_model.specs.Changes.{PairContentChange, raw_pair_content_after_changes}
+use Rattle.lfs_model.specs.Content.{RawPairContent, RawSlot, slots_if_names_and_structs_present, pair_content_if_slots_complete, empty_raw_pair_content, raw_content_of_pair_at, slot_of_id}
+use Rattle.lfs_model.specs.Cut.{CanSplitSlotsIntoTwoPairs}
 use Rattle.lfs_model.specs.InDirectory.{IsPairOfDirectory, HasEntryOfNameAtId}
 use Rattle.lfs_model.specs.LoggedContent.{IsWellFormedRawSlot, AreWellFormedRawSlots}
-use Rattle.lfs_model.specs.Names.{Name, is_name}
-use Rattle.lfs_model.specs.Slots.{Content, IsContentFittingPair, Slot, slot_size}
-use Rattle.lfs_model.specs.Thread.{Pair, pair_named_by_tail}
-use Rattle.lfs_model.specs.Profile.{FitsEntryLimits}
+use Rattle.lfs_model.specs.Names.{Name, is_valid_name}
+use Rattle.lfs_model.specs.Slots.{PairContent, IsContentFittingPair, Slot, slot_size}
+use Rattle.lfs_model.specs.Thread.{Pair, pair_address_named_by_tail}
+use Rattle.lfs_model.specs.Profile.{IsEntryWithinWritableLimits}
 use Rattle.lfs_model.proofs.Completed.{complete_insert, complete_length, complete_remove, completed_from, completed_parts}
 use Rattle.lfs_model.proofs.Effects.{deletes, does_first}
 use Rattle.lfs_model.proofs.Halves.{content_cut, entry_small}
@@ -19,10 +19,10 @@ use Rattle.lfs_model.proofs.Moves.{insert_here, remove_here}
 use Rattle.lfs_model.proofs.StoredChanges.{logged_changed}
 use Rattle.lfs_model.specs.Changes as model
 use Rattle.lfs_pair.specs.Commit.{pair_content_after_changes}
-use Rattle.lfs_thread.specs.Kept.{Kept}
-use Rattle.lfs_thread.specs.Steps.{complete_content_after_changes, kept_pair_at_index}
+use Rattle.lfs_thread.specs.Kept.{KeptThread}
+use Rattle.lfs_thread.specs.Steps.{complete_content_after_changes, thread_pair_at_index}
 use Rattle.lfs_operations.specs.Changing.{CanChangeOrSplitPair}
-use Rattle.lfs_operations.specs.Ready.{HasLoggableContentAt, IsImageReadyForChange}
+use Rattle.lfs_operations.specs.Ready.{IsRawPairContentWellFormed, IsImageReadyForChange}
 use Rattle.lfs_operations.specs.RenamingSlots.{NamelessSlot, nameless_slot_at, nameless_slot_of, slot_creation_changes}
 use Rattle.lfs_operations.proofs.Held.{CompletesTo, below, fits_there, here, raw_there}
 use Rattle.lfs_operations.proofs.RawSlots.{IsRaw, is_raw}
@@ -56,7 +56,7 @@ behind_or_ahead (x ∷ xs) u ys (a ∷ left) right e = go (behind_or_ahead xs u 
 
 -- ---- a slot goes
 
-pub fits_without : (block_size page : ℕ) (c : Content) (xs : List Slot) (u : Slot) (ys : List Slot) → c.slots ≡ xs ++ u ∷ ys → IsContentFittingPair block_size page c
+pub fits_without : (block_size page : ℕ) (c : PairContent) (xs : List Slot) (u : Slot) (ys : List Slot) → c.slots ≡ xs ++ u ∷ ys → IsContentFittingPair block_size page c
     → IsContentFittingPair block_size page (record c { slots = xs ++ ys })
 fits_without block_size page c xs u ys e f =
     let a = ap (sum_by slot_size) e in
@@ -76,17 +76,17 @@ parts_in (x ∷ xs) zero h l = h.0
 parts_in (x ∷ xs) (suc i) h l = parts_in xs i h.1 (omega arith)
 
 -- What slots are left of a content, by changes.
-pub record Leaves (c : RawContent) (changes : List ContentChange) (slots : List Slot) : Type 0 where
-  pub left : RawContent
-  pub does : (rest : List ContentChange) (e : RawContent) → content_after_changes left rest ≡ Some e → content_after_changes c (changes ++ rest) ≡ Some e
-  pub are : slots_if_all_complete left.slots ≡ Some slots
+pub record Leaves (c : RawPairContent) (changes : List PairContentChange) (slots : List Slot) : Type 0 where
+  pub left : RawPairContent
+  pub does : (rest : List PairContentChange) (e : RawPairContent) → raw_pair_content_after_changes left rest ≡ Some e → raw_pair_content_after_changes c (changes ++ rest) ≡ Some e
+  pub are : slots_if_names_and_structs_present left.slots ≡ Some slots
   pub tail : left.tail ≡ c.tail
   pub move : left.move ≡ c.move
 
-pub leaves_all : (c : RawContent) (slots : List Slot) → slots_if_all_complete c.slots ≡ Some slots → Leaves c [] slots
+pub leaves_all : (c : RawPairContent) (slots : List Slot) → slots_if_names_and_structs_present c.slots ≡ Some slots → Leaves c [] slots
 leaves_all c slots e = record { left = c; does = λ rest d h. h; are = e; tail = refl; move = refl }
 
-pub leaves_without : (c : RawContent) (xs : List Slot) (u : Slot) (ys : List Slot) (id : ℕ) → id < 0x3ff → length xs ≡ id → slots_if_all_complete c.slots ≡ Some (xs ++ u ∷ ys) → Leaves c (model.Delete id ∷ []) (xs ++ ys)
+pub leaves_without : (c : RawPairContent) (xs : List Slot) (u : Slot) (ys : List Slot) (id : ℕ) → id < 0x3ff → length xs ≡ id → slots_if_names_and_structs_present c.slots ≡ Some (xs ++ u ∷ ys) → Leaves c (model.Delete id ∷ []) (xs ++ ys)
 leaves_without c xs u ys id small number e = record {
   left = record c { slots = remove c.slots id };
   does = λ rest d h. does_first (model.Delete id) rest c (record c { slots = remove c.slots id }) d
@@ -97,10 +97,10 @@ leaves_without c xs u ys id small number e = record {
 }
 
 -- one after another
-pub leaves_then : (c : RawContent) (changes more : List ContentChange) (slots others : List Slot) (k : Leaves c changes slots) → Leaves k.left more others → Leaves c (changes ++ more) others
+pub leaves_then : (c : RawPairContent) (changes more : List PairContentChange) (slots others : List Slot) (k : Leaves c changes slots) → Leaves k.left more others → Leaves c (changes ++ more) others
 leaves_then c changes more slots others k m = record {
   left = m.left;
-  does = λ rest e h. subst (λ (z : List ContentChange). content_after_changes c z ≡ Some e) (sym (append_assoc changes more rest)) (k.does (more ++ rest) e (m.does rest e h));
+  does = λ rest e h. subst (λ (z : List PairContentChange). raw_pair_content_after_changes c z ≡ Some e) (sym (append_assoc changes more rest)) (k.does (more ++ rest) e (m.does rest e h));
   are = m.are;
   tail = m.tail ∙ k.tail;
   move = m.move ∙ k.move;
@@ -108,9 +108,9 @@ leaves_then c changes more slots others k m = record {
 
 -- ---- in a pair
 
-module _ (t : Kept) (index id : ℕ) (ready : IsImageReadyForChange t) (first : ℕ) (p : Pair) (rest : List Pair) (place : IsPairOfDirectory t.pairs first index p rest) (logged : HasLoggableContentAt t.disk (kept_pair_at_index t index).at)
+module _ (t : KeptThread) (index id : ℕ) (ready : IsImageReadyForChange t) (first : ℕ) (p : Pair) (rest : List Pair) (place : IsPairOfDirectory t.pairs first index p rest) (logged : IsRawPairContentWellFormed t.disk (thread_pair_at_index t index).at)
     (was : Name) (s : HasEntryOfNameAtId p.content.slots was id) where
-  abbrev pub c : CompletesTo (raw_content_of_pair_at t.disk (kept_pair_at_index t index).at) p.content
+  abbrev pub c : CompletesTo (raw_content_of_pair_at t.disk (thread_pair_at_index t index).at) p.content
   c = raw_there t ready first index p rest place
 
   pub within : id < length p.content.slots
@@ -119,7 +119,7 @@ module _ (t : Kept) (index id : ℕ) (ready : IsImageReadyForChange t) (first : 
   pub small : length p.content.slots ≤ 1000
   small = let few = (fits_there t ready first index p rest place).count in omega arith
 
-  pub all_slots : slots_if_all_complete c.raw.slots ≡ Some p.content.slots
+  pub all_slots : slots_if_names_and_structs_present c.raw.slots ≡ Some p.content.slots
   all_slots = (completed_parts c.raw p.content c.complete).slots
 
   pub raw : IsRaw c.raw.slots s.left s.slot
@@ -129,16 +129,16 @@ module _ (t : Kept) (index id : ℕ) (ready : IsImageReadyForChange t) (first : 
   there_raw = ap (slot_of_id c.raw.slots) (sym s.number) ∙ raw.there
 
   pub parts_are : nameless_slot_at t index id ≡ nameless_slot_of raw.here
-  parts_are = ap (λ (o : Option RawContent). nameless_slot_of (slot_of_id (unwrap_or o empty_raw_content).slots id)) c.is ∙ ap nameless_slot_of there_raw
+  parts_are = ap (λ (o : Option RawPairContent). nameless_slot_of (slot_of_id (unwrap_or o empty_raw_pair_content).slots id)) c.is ∙ ap nameless_slot_of there_raw
 
   pub is_slot : IsOf raw.here s.slot
   is_slot = is_of raw.here s.slot
       (subst IsWellFormedRawSlot there_raw (parts_in c.raw.slots id (logged c.raw c.is).slots (let l = complete_length c.raw.slots p.content.slots all_slots in let w = within in omega arith))) raw.is s.entry
 
   -- the slots that are left are cut where it comes
-  module _ (front : List ContentChange) (a b : List Slot) (left : Leaves c.raw front (a ++ b)) (fits_left : IsContentFittingPair t.disk.block_size t.disk.page (record p.content { slots = a ++ b }))
-      (at : ℕ) (number : length a ≡ at) (name : Name) (named : is_name name ≡ true) (fits : FitsEntryLimits t.disk.block_size t.disk.page (record s.slot { name = name })) where
-    abbrev pub changes : List ContentChange
+  module _ (front : List PairContentChange) (a b : List Slot) (left : Leaves c.raw front (a ++ b)) (fits_left : IsContentFittingPair t.disk.block_size t.disk.page (record p.content { slots = a ++ b }))
+      (at : ℕ) (number : length a ≡ at) (name : Name) (named : is_valid_name name ≡ true) (fits : IsEntryWithinWritableLimits t.disk.block_size t.disk.page (record s.slot { name = name })) where
+    abbrev pub changes : List PairContentChange
     changes = front ++ slot_creation_changes at name (nameless_slot_at t index id)
 
     abbrev pub moved : Slot
@@ -147,30 +147,30 @@ module _ (t : Kept) (index id : ℕ) (ready : IsImageReadyForChange t) (first : 
     raw_moved : RawSlot
     raw_moved = slot_of_parts name (nameless_slot_of raw.here)
 
-    raw_now : RawContent
+    raw_now : RawPairContent
     raw_now = with_slot left.left at raw_moved
 
     length_left : length left.left.slots ≡ length (a ++ b)
     length_left = sym (complete_length left.left.slots (a ++ b) left.are)
 
-    changed_now : content_after_changes c.raw (front ++ slot_creation_changes at name (nameless_slot_at t index id)) ≡ Some raw_now
+    changed_now : raw_pair_content_after_changes c.raw (front ++ slot_creation_changes at name (nameless_slot_at t index id)) ≡ Some raw_now
     unfolding raw_now raw_moved
     changed_now = left.does (slot_creation_changes at name (nameless_slot_at t index id)) raw_now
-        (ap (λ (z : NamelessSlot). content_after_changes left.left (slot_creation_changes at name z)) parts_are
+        (ap (λ (z : NamelessSlot). raw_pair_content_after_changes left.left (slot_creation_changes at name z)) parts_are
         ∙ slot_comes left.left at name (nameless_slot_of raw.here) (let n = fits_left.count in let k = length-append a b in omega arith)
         (let k = length-append a b in let l = length_left in omega arith) (name_length name named) is_slot.are)
 
-    made_raw : pair_content_after_changes t.disk (kept_pair_at_index t index).at (front ++ slot_creation_changes at name (nameless_slot_at t index id)) ≡ Some raw_now
-    made_raw = ap (λ o. option_and_then (λ (x : RawContent). content_after_changes x (front ++ slot_creation_changes at name (nameless_slot_at t index id))) o) c.is ∙ changed_now
+    made_raw : pair_content_after_changes t.disk (thread_pair_at_index t index).at (front ++ slot_creation_changes at name (nameless_slot_at t index id)) ≡ Some raw_now
+    made_raw = ap (λ o. option_and_then (λ (x : RawPairContent). raw_pair_content_after_changes x (front ++ slot_creation_changes at name (nameless_slot_at t index id))) o) c.is ∙ changed_now
 
-    abbrev pub now : Content
+    abbrev pub now : PairContent
     now = record { slots = a ++ record s.slot { name = name } ∷ b; tail = p.content.tail; move = p.content.move }
 
-    slots_now : slots_if_all_complete raw_now.slots ≡ Some (a ++ record s.slot { name = name } ∷ b)
+    slots_now : slots_if_names_and_structs_present raw_now.slots ≡ Some (a ++ record s.slot { name = name } ∷ b)
     unfolding raw_moved raw_now
     slots_now = complete_insert left.left.slots (a ++ b) at raw_moved moved left.are (is_slot.complete name) ∙ ap (λ (i : ℕ). Some (insert (a ++ b) i moved)) (sym number) ∙ ap Some (insert_here a b moved)
 
-    now_complete : content_if_slots_are_complete raw_now ≡ Some now
+    now_complete : pair_content_if_slots_complete raw_now ≡ Some now
     unfolding raw_now
     now_complete =
         let parts = completed_parts c.raw p.content c.complete in
@@ -178,9 +178,9 @@ module _ (t : Kept) (index id : ℕ) (ready : IsImageReadyForChange t) (first : 
         ∙ ap₂ (λ t m. Some (record { slots = a ++ moved ∷ b; tail = t; move = m })) (left.tail ∙ sym parts.tail) (left.move ∙ sym parts.move)
 
     pub made : complete_content_after_changes t index (front ++ slot_creation_changes at name (nameless_slot_at t index id)) ≡ Some now
-    made = ap (λ o. option_and_then content_if_slots_are_complete o) made_raw ∙ now_complete
+    made = ap (λ o. option_and_then pair_content_if_slots_complete o) made_raw ∙ now_complete
 
-    cut : CanBeCut t.disk.block_size t.disk.page raw_now.slots
+    cut : CanSplitSlotsIntoTwoPairs t.disk.block_size t.disk.page raw_now.slots
     cut = content_cut t.disk.block_size t.disk.page raw_now now a moved b (logged_changed c.raw changes raw_now (logged c.raw c.is) changed_now) now_complete refl
         (entry_small t.disk.block_size t.disk.page moved ready.large fits)
         (let f = fits_left.size in let k = sum_by-append slot_size a b in omega arith)
@@ -192,7 +192,7 @@ module _ (t : Kept) (index id : ℕ) (ready : IsImageReadyForChange t) (first : 
         below = below t ready first index p rest place;
         content = now;
         made = made;
-        next = ap (λ (z : Pair). pair_named_by_tail z.content.tail) (sym (here t ready first index p rest place));
+        next = ap (λ (z : Pair). pair_address_named_by_tail z.content.tail) (sym (here t ready first index p rest place));
       };
       raw = raw_now;
       made = made_raw;

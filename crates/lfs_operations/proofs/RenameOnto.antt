@@ -4,106 +4,106 @@ use Rattle.std.proofs.lemmas.List.Elements.{filter-append}
 use Rattle.std.proofs.Math.Seq.{set-append_seam}
 use Rattle.lfs_model.specs.Disk.{Disk}
 use Rattle.lfs_model.specs.Slots.{Slot, is_superblock, same_pair}
-use Rattle.lfs_model.specs.Thread.{Pair, gstate_of}
+use Rattle.lfs_model.specs.Thread.{Pair, gstate_of_pairs}
 use Rattle.lfs_model.specs.Tree.{Path, branch_address_of_struct}
 use Rattle.lfs_model.specs.Shown.{IsPathToDirectory, entries_by_directory_in_thread}
-use Rattle.lfs_model.specs.TreeEdits.{renamed}
-use Rattle.lfs_model.specs.InDirectory.{entries_only}
-use Rattle.lfs_model.proofs.Changes.{Follows}
+use Rattle.lfs_model.specs.TreeEdits.{tree_after_rename}
+use Rattle.lfs_model.specs.InDirectory.{slots_without_superblock}
+use Rattle.lfs_model.proofs.Changes.{IsImageAfterTreeChange}
 use Rattle.lfs_model.proofs.Sites.{Site, thread_at, begin_of}
 use Rattle.lfs_model.proofs.Moves.{AllReached, IsStep, place_at, shown_before, shown_behind, entry_only, get_here, remove_here}
-use Rattle.lfs_model.proofs.Renames.{entry_moves_onto, rename_walk}
+use Rattle.lfs_model.proofs.Renames.{entry_moves_onto, directory_addresses_after_rename}
 use Rattle.lfs_model.proofs.Indexes.{site_shows}
 use Rattle.lfs_model.proofs.RenameSteps.{sibling_apart}
 
-both_entries : (xs ys : List Slot) → entries_only (xs ++ ys) ≡ entries_only xs ++ entries_only ys
+both_entries : (xs ys : List Slot) → slots_without_superblock (xs ++ ys) ≡ slots_without_superblock xs ++ slots_without_superblock ys
 both_entries xs ys = filter-append (λ (s : Slot). not (is_superblock s)) xs ys
 
 -- one entry among others
-entry_among : (xs : List Slot) (u : Slot) (ys : List Slot) → is_superblock u ≡ false → entries_only (xs ++ u ∷ ys) ≡ entries_only xs ++ u ∷ entries_only ys
-entry_among xs u ys other = both_entries xs (u ∷ ys) ∙ ap (λ z. entries_only xs ++ z) (both_entries (u ∷ []) ys ∙ ap (λ z. z ++ entries_only ys) (entry_only u other))
+entry_among : (xs : List Slot) (u : Slot) (ys : List Slot) → is_superblock u ≡ false → slots_without_superblock (xs ++ u ∷ ys) ≡ slots_without_superblock xs ++ u ∷ slots_without_superblock ys
+entry_among xs u ys other = both_entries xs (u ∷ ys) ∙ ap (λ z. slots_without_superblock xs ++ z) (both_entries (u ∷ []) ys ∙ ap (λ z. z ++ slots_without_superblock ys) (entry_only u other))
 
 -- the file stands behind the old slot
 module _ (disk new : Disk) (w : Site) (p q : Pair) (more : List Pair) (extra : List ℕ) (l : List Slot) (u : Slot) (passed : List Slot) (target : Slot) (r : List Slot)
     (c : IsStep disk new w p [] q more extra [] l (u ∷ (passed ++ target ∷ [])) (passed ++ record u { name = target.name } ∷ []) r) (held : p.content.slots ≡ l ++ ((u ∷ (passed ++ target ∷ [])) ++ r)) (other : is_superblock u ≡ false) (entry : is_superblock target ≡ false)
-    (file : (gstate_of (thread_at w (q ∷ more))).sync ≡ false → (branch_address_of_struct target.struct ≡ None) × AllReached (thread_at w (p ∷ [])))
+    (file : (gstate_of_pairs (thread_at w (q ∷ more))).sync ≡ false → (branch_address_of_struct target.struct ≡ None) × AllReached (thread_at w (p ∷ [])))
     (differs : target.name ≡ u.name → ⊥)
     (P : Path) (a : ℕ × ℕ) (leads : IsPathToDirectory (thread_at w (p ∷ [])) P a) (same : same_pair (begin_of w (p ∷ [])) a ≡ true) where
   abbrev moved : Slot
   moved = record u { name = target.name }
 
   abbrev ahead : List Slot
-  ahead = shown_before w l ++ entries_only passed
+  ahead = shown_before w l ++ slots_without_superblock passed
 
-  shows : entries_by_directory_in_thread (thread_at w (p ∷ [])) a ≡ shown_before w l ++ u ∷ (entries_only passed ++ target ∷ shown_behind w r)
+  shows : entries_by_directory_in_thread (thread_at w (p ∷ [])) a ≡ shown_before w l ++ u ∷ (slots_without_superblock passed ++ target ∷ shown_behind w r)
   shows = site_shows disk w p l (u ∷ (passed ++ target ∷ [])) r a c.accepted c.site c.no_move same held
       ∙ ap (λ z. shown_before w l ++ (z ++ shown_behind w r)) (entry_among [] u (passed ++ target ∷ []) other ∙ ap (λ z. u ∷ z) (entry_among passed target [] entry))
-      ∙ ap (λ z. shown_before w l ++ u ∷ z) (append_assoc (entries_only passed) (target ∷ []) (shown_behind w r))
+      ∙ ap (λ z. shown_before w l ++ u ∷ z) (append_assoc (slots_without_superblock passed) (target ∷ []) (shown_behind w r))
 
   at_old : slice_get (entries_by_directory_in_thread (thread_at w (p ∷ [])) a) (place_at w l) ≡ Some u
-  at_old = ap (λ z. slice_get z (place_at w l)) shows ∙ get_here (shown_before w l) (entries_only passed ++ target ∷ shown_behind w r) u
+  at_old = ap (λ z. slice_get z (place_at w l)) shows ∙ get_here (shown_before w l) (slots_without_superblock passed ++ target ∷ shown_behind w r) u
 
-  left_over : remove (entries_by_directory_in_thread (thread_at w (p ∷ [])) a) (place_at w l) ≡ (shown_before w l ++ entries_only passed) ++ target ∷ shown_behind w r
-  left_over = ap (λ z. remove z (place_at w l)) shows ∙ remove_here (shown_before w l) (entries_only passed ++ target ∷ shown_behind w r) u ∙ sym (append_assoc (shown_before w l) (entries_only passed) (target ∷ shown_behind w r))
+  left_over : remove (entries_by_directory_in_thread (thread_at w (p ∷ [])) a) (place_at w l) ≡ (shown_before w l ++ slots_without_superblock passed) ++ target ∷ shown_behind w r
+  left_over = ap (λ z. remove z (place_at w l)) shows ∙ remove_here (shown_before w l) (slots_without_superblock passed ++ target ∷ shown_behind w r) u ∙ sym (append_assoc (shown_before w l) (slots_without_superblock passed) (target ∷ shown_behind w r))
 
   abbrev number : ℕ
-  number = length (shown_before w l ++ entries_only passed)
+  number = length (shown_before w l ++ slots_without_superblock passed)
 
-  there : slice_get (remove (entries_by_directory_in_thread (thread_at w (p ∷ [])) a) (place_at w l)) (length (shown_before w l ++ entries_only passed)) ≡ Some target
+  there : slice_get (remove (entries_by_directory_in_thread (thread_at w (p ∷ [])) a) (place_at w l)) (length (shown_before w l ++ slots_without_superblock passed)) ≡ Some target
   there = ap (λ z. slice_get z number) left_over ∙ get_here ahead (shown_behind w r) target
 
-  shown_moved : shown_before w l ++ (entries_only (passed ++ record u { name = target.name } ∷ []) ++ shown_behind w r)
-      ≡ set (remove (entries_by_directory_in_thread (thread_at w (p ∷ [])) a) (place_at w l)) (length (shown_before w l ++ entries_only passed)) (record u { name = target.name })
+  shown_moved : shown_before w l ++ (slots_without_superblock (passed ++ record u { name = target.name } ∷ []) ++ shown_behind w r)
+      ≡ set (remove (entries_by_directory_in_thread (thread_at w (p ∷ [])) a) (place_at w l)) (length (shown_before w l ++ slots_without_superblock passed)) (record u { name = target.name })
   shown_moved = ap (λ z. shown_before w l ++ (z ++ shown_behind w r)) (entry_among passed moved [] other)
-      ∙ ap (λ z. shown_before w l ++ z) (append_assoc (entries_only passed) (moved ∷ []) (shown_behind w r)) ∙ sym (append_assoc (shown_before w l) (entries_only passed) (moved ∷ shown_behind w r))
+      ∙ ap (λ z. shown_before w l ++ z) (append_assoc (slots_without_superblock passed) (moved ∷ []) (shown_behind w r)) ∙ sym (append_assoc (shown_before w l) (slots_without_superblock passed) (moved ∷ shown_behind w r))
       ∙ sym (set-append_seam ahead target (shown_behind w r) moved) ∙ ap (λ z. set z number moved) (sym left_over)
 
-  at_target : slice_get (entries_by_directory_in_thread (thread_at w (p ∷ [])) a) (length (shown_before w l ++ u ∷ entries_only passed)) ≡ Some target
-  at_target = ap (λ z. slice_get z (length (shown_before w l ++ u ∷ entries_only passed))) (shows ∙ sym (append_assoc (shown_before w l) (u ∷ entries_only passed) (target ∷ shown_behind w r)))
-      ∙ get_here (shown_before w l ++ u ∷ entries_only passed) (shown_behind w r) target
+  at_target : slice_get (entries_by_directory_in_thread (thread_at w (p ∷ [])) a) (length (shown_before w l ++ u ∷ slots_without_superblock passed)) ≡ Some target
+  at_target = ap (λ z. slice_get z (length (shown_before w l ++ u ∷ slots_without_superblock passed))) (shows ∙ sym (append_assoc (shown_before w l) (u ∷ slots_without_superblock passed) (target ∷ shown_behind w r)))
+      ∙ get_here (shown_before w l ++ u ∷ slots_without_superblock passed) (shown_behind w r) target
 
-  pub onto_behind_follows : Follows disk (thread_at w (p ∷ [])) new (thread_at w (q ∷ more)) (renamed (P ++ u.name ∷ []) (P ++ target.name ∷ [])) (rename_walk (P ++ u.name ∷ []) (P ++ target.name ∷ []))
+  pub onto_behind_follows : IsImageAfterTreeChange disk (thread_at w (p ∷ [])) new (thread_at w (q ∷ more)) (tree_after_rename (P ++ u.name ∷ []) (P ++ target.name ∷ [])) (directory_addresses_after_rename (P ++ u.name ∷ []) (P ++ target.name ∷ []))
   onto_behind_follows = entry_moves_onto disk new w p [] q more extra [] l (u ∷ (passed ++ target ∷ [])) (passed ++ moved ∷ []) r c
       P a leads same (place_at w l) u at_old number target there shown_moved (sibling_apart P u.name target.name differs) file
 
 -- the file stands in front of it
 module _ (disk new : Disk) (w : Site) (p q : Pair) (more : List Pair) (extra : List ℕ) (l : List Slot) (u : Slot) (passed : List Slot) (target : Slot) (r : List Slot)
     (c : IsStep disk new w p [] q more extra [] l (target ∷ (passed ++ u ∷ [])) (record u { name = target.name } ∷ passed) r) (held : p.content.slots ≡ l ++ ((target ∷ (passed ++ u ∷ [])) ++ r)) (other : is_superblock u ≡ false) (entry : is_superblock target ≡ false)
-    (file : (gstate_of (thread_at w (q ∷ more))).sync ≡ false → (branch_address_of_struct target.struct ≡ None) × AllReached (thread_at w (p ∷ [])))
+    (file : (gstate_of_pairs (thread_at w (q ∷ more))).sync ≡ false → (branch_address_of_struct target.struct ≡ None) × AllReached (thread_at w (p ∷ [])))
     (differs : target.name ≡ u.name → ⊥)
     (P : Path) (a : ℕ × ℕ) (leads : IsPathToDirectory (thread_at w (p ∷ [])) P a) (same : same_pair (begin_of w (p ∷ [])) a ≡ true) where
   abbrev moved2 : Slot
   moved2 = record u { name = target.name }
 
   abbrev before_old : List Slot
-  before_old = shown_before w l ++ target ∷ entries_only passed
+  before_old = shown_before w l ++ target ∷ slots_without_superblock passed
 
-  shows2 : entries_by_directory_in_thread (thread_at w (p ∷ [])) a ≡ (shown_before w l ++ target ∷ entries_only passed) ++ u ∷ shown_behind w r
+  shows2 : entries_by_directory_in_thread (thread_at w (p ∷ [])) a ≡ (shown_before w l ++ target ∷ slots_without_superblock passed) ++ u ∷ shown_behind w r
   shows2 = site_shows disk w p l (target ∷ (passed ++ u ∷ [])) r a c.accepted c.site c.no_move same held
       ∙ ap (λ z. shown_before w l ++ (z ++ shown_behind w r)) (entry_among [] target (passed ++ u ∷ []) entry ∙ ap (λ z. target ∷ z) (entry_among passed u [] other))
-      ∙ ap (λ z. shown_before w l ++ target ∷ z) (append_assoc (entries_only passed) (u ∷ []) (shown_behind w r)) ∙ sym (append_assoc (shown_before w l) (target ∷ entries_only passed) (u ∷ shown_behind w r))
+      ∙ ap (λ z. shown_before w l ++ target ∷ z) (append_assoc (slots_without_superblock passed) (u ∷ []) (shown_behind w r)) ∙ sym (append_assoc (shown_before w l) (target ∷ slots_without_superblock passed) (u ∷ shown_behind w r))
 
   abbrev old_number : ℕ
-  old_number = length (shown_before w l ++ target ∷ entries_only passed)
+  old_number = length (shown_before w l ++ target ∷ slots_without_superblock passed)
 
-  at_old2 : slice_get (entries_by_directory_in_thread (thread_at w (p ∷ [])) a) (length (shown_before w l ++ target ∷ entries_only passed)) ≡ Some u
+  at_old2 : slice_get (entries_by_directory_in_thread (thread_at w (p ∷ [])) a) (length (shown_before w l ++ target ∷ slots_without_superblock passed)) ≡ Some u
   at_old2 = ap (λ z. slice_get z old_number) shows2 ∙ get_here before_old (shown_behind w r) u
 
-  left_over2 : remove (entries_by_directory_in_thread (thread_at w (p ∷ [])) a) (length (shown_before w l ++ target ∷ entries_only passed)) ≡ shown_before w l ++ target ∷ (entries_only passed ++ shown_behind w r)
-  left_over2 = ap (λ z. remove z old_number) shows2 ∙ remove_here before_old (shown_behind w r) u ∙ append_assoc (shown_before w l) (target ∷ entries_only passed) (shown_behind w r)
+  left_over2 : remove (entries_by_directory_in_thread (thread_at w (p ∷ [])) a) (length (shown_before w l ++ target ∷ slots_without_superblock passed)) ≡ shown_before w l ++ target ∷ (slots_without_superblock passed ++ shown_behind w r)
+  left_over2 = ap (λ z. remove z old_number) shows2 ∙ remove_here before_old (shown_behind w r) u ∙ append_assoc (shown_before w l) (target ∷ slots_without_superblock passed) (shown_behind w r)
 
-  there2 : slice_get (remove (entries_by_directory_in_thread (thread_at w (p ∷ [])) a) (length (shown_before w l ++ target ∷ entries_only passed))) (place_at w l) ≡ Some target
-  there2 = ap (λ z. slice_get z (place_at w l)) left_over2 ∙ get_here (shown_before w l) (entries_only passed ++ shown_behind w r) target
+  there2 : slice_get (remove (entries_by_directory_in_thread (thread_at w (p ∷ [])) a) (length (shown_before w l ++ target ∷ slots_without_superblock passed))) (place_at w l) ≡ Some target
+  there2 = ap (λ z. slice_get z (place_at w l)) left_over2 ∙ get_here (shown_before w l) (slots_without_superblock passed ++ shown_behind w r) target
 
-  shown_moved2 : shown_before w l ++ (entries_only (record u { name = target.name } ∷ passed) ++ shown_behind w r)
-      ≡ set (remove (entries_by_directory_in_thread (thread_at w (p ∷ [])) a) (length (shown_before w l ++ target ∷ entries_only passed))) (place_at w l) (record u { name = target.name })
+  shown_moved2 : shown_before w l ++ (slots_without_superblock (record u { name = target.name } ∷ passed) ++ shown_behind w r)
+      ≡ set (remove (entries_by_directory_in_thread (thread_at w (p ∷ [])) a) (length (shown_before w l ++ target ∷ slots_without_superblock passed))) (place_at w l) (record u { name = target.name })
   shown_moved2 = ap (λ z. shown_before w l ++ (z ++ shown_behind w r)) (entry_among [] moved2 passed other)
-      ∙ sym (set-append_seam (shown_before w l) target (entries_only passed ++ shown_behind w r) moved2) ∙ ap (λ z. set z (place_at w l) moved2) (sym left_over2)
+      ∙ sym (set-append_seam (shown_before w l) target (slots_without_superblock passed ++ shown_behind w r) moved2) ∙ ap (λ z. set z (place_at w l) moved2) (sym left_over2)
 
   at_target2 : slice_get (entries_by_directory_in_thread (thread_at w (p ∷ [])) a) (place_at w l) ≡ Some target
-  at_target2 = ap (λ z. slice_get z (place_at w l)) (shows2 ∙ append_assoc (shown_before w l) (target ∷ entries_only passed) (u ∷ shown_behind w r))
-      ∙ get_here (shown_before w l) (entries_only passed ++ u ∷ shown_behind w r) target
+  at_target2 = ap (λ z. slice_get z (place_at w l)) (shows2 ∙ append_assoc (shown_before w l) (target ∷ slots_without_superblock passed) (u ∷ shown_behind w r))
+      ∙ get_here (shown_before w l) (slots_without_superblock passed ++ u ∷ shown_behind w r) target
 
-  pub onto_ahead_follows : Follows disk (thread_at w (p ∷ [])) new (thread_at w (q ∷ more)) (renamed (P ++ u.name ∷ []) (P ++ target.name ∷ [])) (rename_walk (P ++ u.name ∷ []) (P ++ target.name ∷ []))
+  pub onto_ahead_follows : IsImageAfterTreeChange disk (thread_at w (p ∷ [])) new (thread_at w (q ∷ more)) (tree_after_rename (P ++ u.name ∷ []) (P ++ target.name ∷ [])) (directory_addresses_after_rename (P ++ u.name ∷ []) (P ++ target.name ∷ []))
   onto_ahead_follows = entry_moves_onto disk new w p [] q more extra [] l (target ∷ (passed ++ u ∷ [])) (moved2 ∷ passed) r c
       P a leads same old_number u at_old2 (place_at w l) target there2 shown_moved2 (sibling_apart P u.name target.name differs) file

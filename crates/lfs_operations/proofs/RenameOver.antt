@@ -4,42 +4,42 @@ use Rattle.std.specs.Option.{option_and_then}
 use Rattle.std.proofs.lemmas.List.Elements.{recursion_from_All}
 use Rattle.std.proofs.lemmas.List.Sums.{sum_by-append, sum_by-cons}
 use Rattle.std.proofs.lemmas.Option.{same_Some}
-use Rattle.lfs_model.specs.TreeEdits.{renamed}
+use Rattle.lfs_model.specs.TreeEdits.{tree_after_rename}
 use Rattle.lfs_model.specs.Blocks.{Blocks}
-use Rattle.lfs_model.specs.Changes.{ContentChange, Delete, PutMove, content_after_changes}
-use Rattle.lfs_model.specs.Content.{RawContent, RawSlot, slots_if_all_complete, content_if_slots_are_complete, content_of_pair_at, current_block_of_pair_at, raw_content_of_pair_at}
+use Rattle.lfs_model.specs.Changes.{PairContentChange, Delete, PutMove, raw_pair_content_after_changes}
+use Rattle.lfs_model.specs.Content.{RawPairContent, RawSlot, slots_if_names_and_structs_present, pair_content_if_slots_complete, content_of_pair_at, current_block_of_pair_at, raw_content_of_pair_at}
 use Rattle.lfs_model.specs.Disk.{Disk}
-use Rattle.lfs_model.specs.History.{CallEvent}
+use Rattle.lfs_model.specs.History.{DeviceCallEvent}
 use Rattle.lfs_model.specs.InDirectory.{HasEntryOfNameAtId}
-use Rattle.lfs_model.specs.LoggedContent.{IsWellFormedMoveState}
-use Rattle.lfs_model.specs.Names.{Name, is_name}
-use Rattle.lfs_model.specs.PowerLoss.{ShowsTreeBeforeOrAfter as IsLeftOf, SurvivesStopsSince, with_blocks}
+use Rattle.lfs_model.specs.LoggedContent.{AreMoveStateFieldsWithinBitWidths}
+use Rattle.lfs_model.specs.Names.{Name, is_valid_name}
+use Rattle.lfs_model.specs.PowerLoss.{HasTreeBeforeOrAfterOperation as IsLeftOf, SurvivesPowerLossInCallsSince, disk_with_blocks}
 use Rattle.lfs_model.specs.SlotEdits.{pair_with_slots}
-use Rattle.lfs_model.specs.Slots.{Content, IsContentFittingPair, Gstate, Slot, gstate_xor, zero_gstate, same_pair, slot_size, struct_len}
-use Rattle.lfs_model.specs.Thread.{Pair, gstate_of, pair_named_by_tail, starts_with_superblock}
+use Rattle.lfs_model.specs.Slots.{PairContent, IsContentFittingPair, Gstate, Slot, gstate_xor, zero_gstate, same_pair, slot_size, struct_len}
+use Rattle.lfs_model.specs.Thread.{Pair, gstate_of_pairs, pair_address_named_by_tail, starts_with_superblock}
 use Rattle.lfs_model.specs.View.{BeginsWithLogEntry, IsAcceptedImage, IsFileOrDirectoryEntry, superblock_name_log_entry}
-use Rattle.lfs_model.specs.Profile.{IsWritable}
+use Rattle.lfs_model.specs.Profile.{IsWritableImage}
 use Rattle.lfs_model.specs.Shown.{IsPathToDirectory, all_slots_not_moved, tree_on_disk}
 use Rattle.lfs_model.proofs.Became.{fits_same}
-use Rattle.lfs_model.proofs.Changes.{Follows, SameFiles}
+use Rattle.lfs_model.proofs.Changes.{IsImageAfterTreeChange, SameFiles}
 use Rattle.lfs_model.proofs.Committed.{no_move_from}
 use Rattle.lfs_model.proofs.Completed.{complete_insert, complete_length, completed_from, completed_parts}
 use Rattle.lfs_model.proofs.Effects.{does_first, puts_move}
-use Rattle.lfs_model.proofs.Files.{HasSameFile}
-use Rattle.lfs_model.proofs.Global.{HasNoMove, gstate_comm, gstate_cons, gstate_moved, gstate_right, sync_delta, turned_is}
-use Rattle.lfs_model.proofs.Histories.{IsTrueAfterEachStopSince-weaker}
+use Rattle.lfs_model.proofs.Files.{HasSameFileBlocksOfStructOnDisks}
+use Rattle.lfs_model.proofs.Global.{HasNoMove, gstate_comm, gstate_cons, gstate_moved, gstate_right, sync_bit_delta, turned_is}
+use Rattle.lfs_model.proofs.Histories.{IsTrueAfterAnyPowerLossSince-weaker}
 use Rattle.lfs_model.proofs.Moves.{IsStep, insert_here}
 use Rattle.lfs_model.proofs.OneCommit.{some_filled}
-use Rattle.lfs_model.proofs.Renames.{rename_walk}
+use Rattle.lfs_model.proofs.Renames.{directory_addresses_after_rename}
 use Rattle.lfs_model.proofs.Searches.{is_site, number_is, site}
 use Rattle.lfs_model.proofs.Sites.{Site, begin_of, thread_at}
 use Rattle.lfs_model.proofs.Splices.{IsDevice, stays_shape}
-use Rattle.lfs_model.proofs.StepsTaken.{IsOnlyStep, commit_taken}
+use Rattle.lfs_model.proofs.StepsTaken.{IsWritableImageAfterTreeChange, commit_taken}
 use Rattle.lfs_model.proofs.Unchanged.{HasFirst}
 use Rattle.lfs_pair.specs.Commit.{KeepsBlocksOutsidePair}
-use Rattle.lfs_thread.specs.Device.{StopsAfterCleanErasesLeave}
-use Rattle.lfs_thread.specs.Kept.{Kept}
-use Rattle.lfs_thread.specs.Steps.{CanChangePair, IsPairChanged, LeavesPairOldOrChanged, IsCommitRefused, IsPairWrittenOnDisk, SlotsBeginWithSuperblock, complete_content_after_changes, kept_pair_at_index, pairs_with_content_at_index}
+use Rattle.lfs_thread.specs.Device.{PowerLossLeavesSuchBlocksAfterCleanErases}
+use Rattle.lfs_thread.specs.Kept.{KeptThread}
+use Rattle.lfs_thread.specs.Steps.{CanChangePair, IsPairChanged, PowerLossLeavesPairOldOrChanged, IsCommitRefused, IsPairWrittenOnDisk, SlotsBeginWithSuperblock, complete_content_after_changes, thread_pair_at_index, thread_pairs_with_content_replaced_at_index}
 use Rattle.lfs_operations.specs.Editing.{CanEditEntryOfPair}
 use Rattle.lfs_operations.specs.Renaming.{id_after_slot_removal, tree_with_renamed_entry}
 use Rattle.lfs_operations.specs.RenamingOver.{CanReplaceDirectoryInPair, IsDirectoryReplacedInPair, replace_directory_in_pair_changes}
@@ -56,27 +56,27 @@ use Rattle.lfs_operations.proofs.RenameTarget.{follower}
 
 -- ---- a delta that turns the sync bit
 
-turned_small : (g : Gstate) → IsWellFormedMoveState g → IsWellFormedMoveState (gstate_xor g sync_delta)
-turned_small g h = subst IsWellFormedMoveState (sym (gstate_comm g sync_delta ∙ turned_is g)) (record { kind = h.kind; id = h.id; pair = h.pair })
+turned_small : (g : Gstate) → AreMoveStateFieldsWithinBitWidths g → AreMoveStateFieldsWithinBitWidths (gstate_xor g sync_bit_delta)
+turned_small g h = subst AreMoveStateFieldsWithinBitWidths (sym (gstate_comm g sync_bit_delta ∙ turned_is g)) (record { kind = h.kind; id = h.id; pair = h.pair })
 
 -- ---- a slot comes into what is left
 
-module _ (c : RawContent) (front : List ContentChange) (a b : List Slot) (left : Leaves c front (a ++ b)) (at : ℕ) (number : length a ≡ at) (few : length (a ++ b) ≤ 1000) (name : Name) (named : is_name name ≡ true)
+module _ (c : RawPairContent) (front : List PairContentChange) (a b : List Slot) (left : Leaves c front (a ++ b)) (at : ℕ) (number : length a ≡ at) (few : length (a ++ b) ≤ 1000) (name : Name) (named : is_valid_name name ≡ true)
     (x : RawSlot) (u : Slot) (is : IsOf x u) where
   abbrev raw_moved : RawSlot
   raw_moved = slot_of_parts name (nameless_slot_of x)
 
-  comes_again : content_after_changes c (front ++ slot_creation_changes at name (nameless_slot_of x)) ≡ Some (with_slot left.left at (slot_of_parts name (nameless_slot_of x)))
+  comes_again : raw_pair_content_after_changes c (front ++ slot_creation_changes at name (nameless_slot_of x)) ≡ Some (with_slot left.left at (slot_of_parts name (nameless_slot_of x)))
   comes_again =
       let l = complete_length left.left.slots (a ++ b) left.are in
       let k = length-append a b in
       left.does (slot_creation_changes at name (nameless_slot_of x)) (with_slot left.left at raw_moved) (slot_comes left.left at name (nameless_slot_of x) (omega arith) (omega arith) (name_length name named) is.are)
 
-  are_again : slots_if_all_complete (with_slot left.left at (slot_of_parts name (nameless_slot_of x))).slots ≡ Some (a ++ record u { name = name } ∷ b)
+  are_again : slots_if_names_and_structs_present (with_slot left.left at (slot_of_parts name (nameless_slot_of x))).slots ≡ Some (a ++ record u { name = name } ∷ b)
   are_again = complete_insert left.left.slots (a ++ b) at raw_moved (record u { name = name }) left.are (is.complete name) ∙ ap (λ (i : ℕ). Some (insert (a ++ b) i (record u { name = name }))) (sym number)
       ∙ ap Some (insert_here a b (record u { name = name }))
 
-module _ (t : Kept) (index id place : ℕ) (name : Name) (rename : CanReplaceDirectoryInPair t index id place name) where
+module _ (t : KeptThread) (index id place : ℕ) (name : Name) (rename : CanReplaceDirectoryInPair t index id place name) where
   abbrev can : CanEditEntryOfPair t index id
   can = rename.can
 
@@ -119,35 +119,35 @@ module _ (t : Kept) (index id place : ℕ) (name : Name) (rename : CanReplaceDir
   fits_here : IsContentFittingPair t.disk.block_size t.disk.page p.content
   fits_here = both.fits_here t index id place name can rename.target rename.differs
 
-  abbrev c : CompletesTo (raw_content_of_pair_at t.disk (kept_pair_at_index t index).at) p.content
+  abbrev c : CompletesTo (raw_content_of_pair_at t.disk (thread_pair_at_index t index).at) p.content
   c = raw_there t can.ready can.first index p can.stands.rest can.stands.place
 
   pub differs : target.name ≡ u.name → ⊥
   differs = both.differs t index id place name can rename.target rename.differs
 
-  named : is_name name ≡ true
+  named : is_valid_name name ≡ true
   named = both.named t index id place name can rename.target rename.differs
 
   entry_again : IsFileOrDirectoryEntry u → IsFileOrDirectoryEntry (with_name u name)
   entry_again = both.entry_again t index id place name can rename.target rename.differs
 
   abbrev delta : Gstate
-  delta = gstate_xor (kept_pair_at_index t index).content.move sync_delta
+  delta = gstate_xor (thread_pair_at_index t index).content.move sync_bit_delta
 
   -- ---- what the changes make
 
-  abbrev turned_raw : RawContent
+  abbrev turned_raw : RawPairContent
   turned_raw = record c.raw { move = delta }
 
-  does_turn : (rest : List ContentChange) (e : RawContent) → content_after_changes (record c.raw { move = delta }) rest ≡ Some e → content_after_changes c.raw (PutMove delta ∷ rest) ≡ Some e
+  does_turn : (rest : List PairContentChange) (e : RawPairContent) → raw_pair_content_after_changes (record c.raw { move = delta }) rest ≡ Some e → raw_pair_content_after_changes c.raw (PutMove delta ∷ rest) ≡ Some e
   does_turn rest e h = does_first (PutMove delta) rest c.raw turned_raw e
-      (puts_move c.raw delta (turned_small (kept_pair_at_index t index).content.move
-      (subst IsWellFormedMoveState (sym (completed_parts c.raw p.content c.complete).move ∙ ap (λ (z : Pair). z.content.move) (sym (here t can.ready can.first index p can.stands.rest can.stands.place))) (can.logged c.raw c.is).move))) h
+      (puts_move c.raw delta (turned_small (thread_pair_at_index t index).content.move
+      (subst AreMoveStateFieldsWithinBitWidths (sym (completed_parts c.raw p.content c.complete).move ∙ ap (λ (z : Pair). z.content.move) (sym (here t can.ready can.first index p can.stands.rest can.stands.place))) (can.logged c.raw c.is).move))) h
 
   abbrev pub IsLeftOver : List Slot → List Slot → Type 0
   IsLeftOver = both.IsLeftOver t index id place name can rename.target rename.differs
 
-  abbrev pub over_content : List Slot → List Slot → Content
+  abbrev pub over_content : List Slot → List Slot → PairContent
   over_content x y = record { slots = x ++ with_name u name ∷ y; tail = p.content.tail; move = delta }
 
   module _ (x y : List Slot) (over : IsLeftOver x y) where
@@ -164,11 +164,11 @@ module _ (t : Kept) (index id place : ℕ) (name : Name) (rename : CanReplaceDir
     abbrev raw_here : RawSlot
     raw_here = (made.raw t index id can.ready can.first p can.stands.rest can.stands.place can.logged can.name s).here
 
-    abbrev raw_now : RawContent
+    abbrev raw_now : RawPairContent
     raw_now = with_slot left_two.left (id_after_slot_removal id place) (slot_of_parts name (nameless_slot_of raw_here))
 
-    changed_now : content_after_changes c.raw (replace_directory_in_pair_changes t index id place name) ≡ Some raw_now
-    changed_now = ap (λ (z : NamelessSlot). content_after_changes c.raw (PutMove delta ∷ Delete id ∷ Delete (id_after_slot_removal id place) ∷ slot_creation_changes (id_after_slot_removal id place) name z))
+    changed_now : raw_pair_content_after_changes c.raw (replace_directory_in_pair_changes t index id place name) ≡ Some raw_now
+    changed_now = ap (λ (z : NamelessSlot). raw_pair_content_after_changes c.raw (PutMove delta ∷ Delete id ∷ Delete (id_after_slot_removal id place) ∷ slot_creation_changes (id_after_slot_removal id place) name z))
         (made.parts_are t index id can.ready can.first p can.stands.rest can.stands.place can.logged can.name s)
         ∙ does_turn (Delete id ∷ Delete (id_after_slot_removal id place) ∷ slot_creation_changes (id_after_slot_removal id place) name (nameless_slot_of raw_here)) raw_now
         (comes_again turned_raw (Delete id ∷ Delete (id_after_slot_removal id place) ∷ []) x y left_two (id_after_slot_removal id place) over.1 fits_two.count name named raw_here u is_raw_slot)
@@ -176,8 +176,8 @@ module _ (t : Kept) (index id place : ℕ) (name : Name) (rename : CanReplaceDir
     over_made : complete_content_after_changes t index (replace_directory_in_pair_changes t index id place name) ≡ Some (over_content x y)
     over_made =
         let parts = completed_parts c.raw p.content c.complete in
-        ap (λ o. option_and_then content_if_slots_are_complete (option_and_then (λ (z : RawContent). content_after_changes z (replace_directory_in_pair_changes t index id place name)) o)) c.is
-        ∙ ap (λ o. option_and_then content_if_slots_are_complete o) changed_now
+        ap (λ o. option_and_then pair_content_if_slots_complete (option_and_then (λ (z : RawPairContent). raw_pair_content_after_changes z (replace_directory_in_pair_changes t index id place name)) o)) c.is
+        ∙ ap (λ o. option_and_then pair_content_if_slots_complete o) changed_now
         ∙ completed_from raw_now (x ++ with_name u name ∷ y) (are_again turned_raw (Delete id ∷ Delete (id_after_slot_removal id place) ∷ []) x y left_two (id_after_slot_removal id place) over.1 fits_two.count name named raw_here u is_raw_slot)
         ∙ ap₂ (λ a m. Some (record { slots = x ++ with_name u name ∷ y; tail = a; move = m })) (left_two.tail ∙ sym parts.tail) left_two.move
 
@@ -217,11 +217,11 @@ module _ (t : Kept) (index id place : ℕ) (name : Name) (rename : CanReplaceDir
     pub r : List Slot
     pub placed : IsPlaced t index (replace_directory_in_pair_changes t index id place name) w p l olds news r (target ∷ []) u (with_name u name)
     pub is_content : placed.content ≡ over_content x y
-    pub follows : (disk : Disk) (q : Pair) → IsStep t.disk disk w p [] q [] [] [] l olds news r → (gstate_of (thread_at w (q ∷ []))).sync ≡ true
-        → Follows t.disk (thread_at w (p ∷ [])) disk (thread_at w (q ∷ [])) (renamed (can.path ++ can.name ∷ []) (can.path ++ name ∷ [])) (rename_walk (can.path ++ can.name ∷ []) (can.path ++ name ∷ []))
+    pub follows : (disk : Disk) (q : Pair) → IsStep t.disk disk w p [] q [] [] [] l olds news r → (gstate_of_pairs (thread_at w (q ∷ []))).sync ≡ true
+        → IsImageAfterTreeChange t.disk (thread_at w (p ∷ [])) disk (thread_at w (q ∷ [])) (tree_after_rename (can.path ++ can.name ∷ []) (can.path ++ name ∷ [])) (directory_addresses_after_rename (can.path ++ can.name ∷ []) (can.path ++ name ∷ []))
 
   abbrev FollowsAs : Disk → Pair → Name → Name → Type 0
-  FollowsAs disk q n m = Follows t.disk (thread_at w (p ∷ [])) disk (thread_at w (q ∷ [])) (renamed (can.path ++ n ∷ []) (can.path ++ m ∷ [])) (rename_walk (can.path ++ n ∷ []) (can.path ++ m ∷ []))
+  FollowsAs disk q n m = IsImageAfterTreeChange t.disk (thread_at w (p ∷ [])) disk (thread_at w (q ∷ [])) (tree_after_rename (can.path ++ n ∷ []) (can.path ++ m ∷ [])) (directory_addresses_after_rename (can.path ++ n ∷ []) (can.path ++ m ∷ []))
 
   other_names : (disk : Disk) (q : Pair) → FollowsAs disk q u.name target.name → FollowsAs disk q can.name name
   other_names disk q h = subst (λ (n : Name). FollowsAs disk q n name) s.named (subst (λ (n : Name). FollowsAs disk q u.name n) rename.target.stands.named h)
@@ -317,18 +317,18 @@ module _ (t : Kept) (index id place : ℕ) (name : Name) (rename : CanReplaceDir
     q = record { at = p.at; content = over_content h.x h.y }
 
     kept : q.content.slots ≡ h.l ++ (h.news ++ h.r)
-    kept = ap (λ (z : Content). z.slots) (sym h.is_content) ∙ k.now
+    kept = ap (λ (z : PairContent). z.slots) (sym h.is_content) ∙ k.now
 
     accepted : IsAcceptedImage t.disk (thread_at w (p ∷ []))
     accepted = subst (IsAcceptedImage t.disk) there can.ready.accepted
 
-    settled : gstate_of (thread_at w (p ∷ [])) ≡ zero_gstate
-    settled = ap gstate_of (sym there) ∙ can.ready.settled
+    settled : gstate_of_pairs (thread_at w (p ∷ [])) ≡ zero_gstate
+    settled = ap gstate_of_pairs (sym there) ∙ can.ready.settled
 
-    pair_there : kept_pair_at_index t index ≡ p
+    pair_there : thread_pair_at_index t index ≡ p
     pair_there = here t can.ready can.first index p can.stands.rest can.stands.place
 
-    at_is : (kept_pair_at_index t index).at ≡ p.at
+    at_is : (thread_pair_at_index t index).at ≡ p.at
     at_is = ap (λ (z : Pair). z.at) pair_there
 
     abbrev ahead : List Pair
@@ -340,14 +340,14 @@ module _ (t : Kept) (index id place : ℕ) (name : Name) (rename : CanReplaceDir
     grouped : (z : Pair) → thread_at w (z ∷ []) ≡ (w.chain ++ (w.before ++ w.left)) ++ z ∷ (w.right ++ w.after)
     grouped z = sym (append_assoc w.chain (w.before ++ w.left) (z ∷ (w.right ++ w.after)))
 
-    pub gstate_now : gstate_of (thread_at w (q ∷ [])) ≡ sync_delta
+    pub gstate_now : gstate_of_pairs (thread_at w (q ∷ [])) ≡ sync_bit_delta
     gstate_now =
-        let turn : gstate_of (q ∷ []) ≡ gstate_xor sync_delta (gstate_of (p ∷ []))
-        = gstate_cons q [] ∙ gstate_right q.content.move ∙ ap (λ (z : Pair). gstate_xor z.content.move sync_delta) pair_there ∙ gstate_comm p.content.move sync_delta
-        ∙ ap (gstate_xor sync_delta) (sym (gstate_cons p [] ∙ gstate_right p.content.move)) in
-        ap gstate_of (grouped q) ∙ gstate_moved sync_delta ahead (p ∷ []) (q ∷ []) behind turn ∙ ap (λ z. gstate_xor sync_delta (gstate_of z)) (sym (grouped p)) ∙ ap (gstate_xor sync_delta) settled ∙ gstate_right sync_delta
+        let turn : gstate_of_pairs (q ∷ []) ≡ gstate_xor sync_bit_delta (gstate_of_pairs (p ∷ []))
+        = gstate_cons q [] ∙ gstate_right q.content.move ∙ ap (λ (z : Pair). gstate_xor z.content.move sync_bit_delta) pair_there ∙ gstate_comm p.content.move sync_bit_delta
+        ∙ ap (gstate_xor sync_bit_delta) (sym (gstate_cons p [] ∙ gstate_right p.content.move)) in
+        ap gstate_of_pairs (grouped q) ∙ gstate_moved sync_bit_delta ahead (p ∷ []) (q ∷ []) behind turn ∙ ap (λ z. gstate_xor sync_bit_delta (gstate_of_pairs z)) (sym (grouped p)) ∙ ap (gstate_xor sync_bit_delta) settled ∙ gstate_right sync_bit_delta
 
-    no_move_now : HasNoMove (gstate_of (thread_at w (q ∷ [])))
+    no_move_now : HasNoMove (gstate_of_pairs (thread_at w (q ∷ [])))
     no_move_now = subst HasNoMove (sym gstate_now) (record { kind = refl; id = refl; pair = refl })
 
     still_first : (olds news r l : List Slot) → starts_with_superblock (olds ++ r) ≡ false → SlotsBeginWithSuperblock (l ++ (olds ++ r)) → SlotsBeginWithSuperblock (l ++ (news ++ r))
@@ -361,7 +361,7 @@ module _ (t : Kept) (index id place : ℕ) (name : Name) (rename : CanReplaceDir
     still_has : HasFirst p.content.slots → SlotsBeginWithSuperblock q.content.slots
     still_has first = subst SlotsBeginWithSuperblock (sym kept) (still_first h.olds h.news h.r h.l k.front (subst SlotsBeginWithSuperblock k.was (first.kind, first.name)))
 
-    placed_on : (disk : Disk) (d : Content) → (HasFirst p.content.slots → SlotsBeginWithSuperblock d.slots) → IsPairWrittenOnDisk t index d disk → IsPlacedOn t.disk disk p (record { at = p.at; content = d }) [] []
+    placed_on : (disk : Disk) (d : PairContent) → (HasFirst p.content.slots → SlotsBeginWithSuperblock d.slots) → IsPairWrittenOnDisk t index d disk → IsPlacedOn t.disk disk p (record { at = p.at; content = d }) [] []
     placed_on disk d first is = record {
       geometry = record { block_size = is.shape.block_size; page = is.shape.page; order = is.shape.order; count = is.shape.count };
       same = λ b none. (subst (λ at. KeepsBlocksOutsidePair at t.disk.blocks disk.blocks) at_is is.others).others b (all_apart (p.at.0 ∷ p.at.1 ∷ []) b none);
@@ -375,7 +375,7 @@ module _ (t : Kept) (index id place : ℕ) (name : Name) (rename : CanReplaceDir
     pub step : (disk : Disk) → IsPairWrittenOnDisk t index (over_content h.x h.y) disk → IsStep t.disk disk w p [] q [] [] [] h.l h.olds h.news h.r
     step disk is =
         let on = device_of disk is in
-        let files = subst (λ z. SameFiles t.disk disk (all_slots_not_moved z)) (sym there) (recursion_from_All (λ (x : Slot). HasSameFile t.disk disk x.struct) (all_slots_not_moved (thread_at w (p ∷ []))) on.files) in
+        let files = subst (λ z. SameFiles t.disk disk (all_slots_not_moved z)) (sym there) (recursion_from_All (λ (x : Slot). HasSameFileBlocksOfStructOnDisks t.disk disk x.struct) (all_slots_not_moved (thread_at w (p ∷ []))) on.files) in
         record {
           accepted = accepted;
           site = k.site;
@@ -395,20 +395,20 @@ module _ (t : Kept) (index id place : ℕ) (name : Name) (rename : CanReplaceDir
         }
 
     pub taken : (disk : Disk) → IsPairWrittenOnDisk t index (over_content h.x h.y) disk
-        → IsOnlyStep t.disk (thread_at w (p ∷ [])) disk (thread_at w (q ∷ [])) (renamed (can.path ++ can.name ∷ []) (can.path ++ name ∷ [])) (rename_walk (can.path ++ can.name ∷ []) (can.path ++ name ∷ []))
+        → IsWritableImageAfterTreeChange t.disk (thread_at w (p ∷ [])) disk (thread_at w (q ∷ [])) (tree_after_rename (can.path ++ can.name ∷ []) (can.path ++ name ∷ [])) (directory_addresses_after_rename (can.path ++ can.name ∷ []) (can.path ++ name ∷ []))
     taken disk is = commit_taken t.disk w p q [] h.l h.olds h.news h.r
         (record {
-          writable = subst (IsWritable t.disk) there can.ready.writable;
+          writable = subst (IsWritableImage t.disk) there can.ready.writable;
           was = k.was;
           is = append-nil q.content.slots ∙ kept;
           became = (refl, fits_same t.disk q (pair_with_slots (h.l ++ (h.news ++ h.r)) p) (sym kept) (over_fits h.x h.y h.over));
           fit = fit_now t index (replace_directory_in_pair_changes t index id place name) w p h.l h.olds h.news h.r (target ∷ []) u (with_name u name) k;
           filled = λ e none. some_filled h.x h.y (with_name u name) (kept ∙ none);
         })
-        disk [] [] (renamed (can.path ++ can.name ∷ []) (can.path ++ name ∷ [])) (rename_walk (can.path ++ can.name ∷ []) (can.path ++ name ∷ [])) (step disk is)
+        disk [] [] (tree_after_rename (can.path ++ can.name ∷ []) (can.path ++ name ∷ [])) (directory_addresses_after_rename (can.path ++ can.name ∷ []) (can.path ++ name ∷ [])) (step disk is)
         (h.follows disk q (step disk is) (ap (λ (g : Gstate). g.sync) gstate_now))
 
-    pub pair_now : pairs_with_content_at_index t index (over_content h.x h.y) ≡ thread_at w (q ∷ [])
+    pub pair_now : thread_pairs_with_content_replaced_at_index t index (over_content h.x h.y) ≡ thread_at w (q ∷ [])
     pair_now =
         ap (λ (z : Pair). set t.pairs index (record { at = z.at; content = over_content h.x h.y })) pair_there
         ∙ ap₂ (λ (z : List Pair) (i : ℕ). set z i q) (there ∙ grouped p) (k.place ∙ sym (length-append w.chain (w.before ++ w.left))) ∙ set_at ahead p behind q ∙ sym (grouped q)
@@ -422,20 +422,20 @@ module _ (t : Kept) (index id place : ℕ) (name : Name) (rename : CanReplaceDir
     below = below t can.ready can.first index p can.stands.rest can.stands.place;
     content = over_content has_over.x has_over.y;
     made = over_made has_over.x has_over.y has_over.over;
-    next = ap (λ (z : Pair). pair_named_by_tail z.content.tail) (sym (here t can.ready can.first index p can.stands.rest can.stands.place));
+    next = ap (λ (z : Pair). pair_address_named_by_tail z.content.tail) (sym (here t can.ready can.first index p can.stands.rest can.stands.place));
   }
 
-  pub same_made : (z : Content) → complete_content_after_changes t index (replace_directory_in_pair_changes t index id place name) ≡ Some z → z ≡ over_content has_over.x has_over.y
+  pub same_made : (z : PairContent) → complete_content_after_changes t index (replace_directory_in_pair_changes t index id place name) ≡ Some z → z ≡ over_content has_over.x has_over.y
   same_made z m = same_Some z (over_content has_over.x has_over.y) (sym m ∙ over_made has_over.x has_over.y has_over.over)
 
-  pub over_not_refused : (new : Kept) → IsCommitRefused t index (replace_directory_in_pair_changes t index id place name) new → ⊥
+  pub over_not_refused : (new : KeptThread) → IsCommitRefused t index (replace_directory_in_pair_changes t index id place name) new → ⊥
   over_not_refused new is = is.too_large (subst (IsContentFittingPair t.disk.block_size t.disk.page) (sym (same_made is.content is.made)) (over_fits has_over.x has_over.y has_over.over))
 
-  pub renamed_over : (new : Kept) → IsPairChanged t index (replace_directory_in_pair_changes t index id place name) new → IsDirectoryReplacedInPair t new index id place rename.can.path rename.can.name name
+  pub renamed_over : (new : KeptThread) → IsPairChanged t index (replace_directory_in_pair_changes t index id place name) new → IsDirectoryReplacedInPair t new index id place rename.can.path rename.can.name name
   renamed_over new is =
       let e = same_made is.content is.made in
       let written = subst (λ z. IsPairWrittenOnDisk t index z new.disk) e is.written in
-      let pairs = is.pairs ∙ ap (pairs_with_content_at_index t index) e in
+      let pairs = is.pairs ∙ ap (thread_pairs_with_content_replaced_at_index t index) e in
       let now = pairs ∙ pair_now has_over in
       let done = taken has_over new.disk written in
       record {
@@ -445,38 +445,38 @@ module _ (t : Kept) (index id place : ℕ) (name : Name) (rename : CanReplaceDir
         pairs = pairs;
         thread = is.thread;
         map = is.map;
-        gstate = ap gstate_of now ∙ gstate_now has_over;
-        taken = subst (λ z. IsOnlyStep t.disk t.pairs new.disk z (renamed (can.path ++ can.name ∷ []) (can.path ++ name ∷ [])) (rename_walk (can.path ++ can.name ∷ []) (can.path ++ name ∷ []))) (sym now)
-            (subst (λ z. IsOnlyStep t.disk z new.disk (thread_at w (q has_over ∷ [])) (renamed (can.path ++ can.name ∷ []) (can.path ++ name ∷ [])) (rename_walk (can.path ++ can.name ∷ []) (can.path ++ name ∷ []))) (sym there) done);
+        gstate = ap gstate_of_pairs now ∙ gstate_now has_over;
+        taken = subst (λ z. IsWritableImageAfterTreeChange t.disk t.pairs new.disk z (tree_after_rename (can.path ++ can.name ∷ []) (can.path ++ name ∷ [])) (directory_addresses_after_rename (can.path ++ can.name ∷ []) (can.path ++ name ∷ []))) (sym now)
+            (subst (λ z. IsWritableImageAfterTreeChange t.disk z new.disk (thread_at w (q has_over ∷ [])) (tree_after_rename (can.path ++ can.name ∷ []) (can.path ++ name ∷ [])) (directory_addresses_after_rename (can.path ++ can.name ∷ []) (can.path ++ name ∷ []))) (sym there) done);
       }
 
   -- ---- at a stop
 
-  left_over : (left : Blocks) → LeavesPairOldOrChanged t index (replace_directory_in_pair_changes t index id place name) left → IsLeftOf (with_blocks left t.disk) (tree_on_disk t.disk t.pairs) (tree_with_renamed_entry t can.path can.name name)
+  left_over : (left : Blocks) → PowerLossLeavesPairOldOrChanged t index (replace_directory_in_pair_changes t index id place name) left → IsLeftOf (disk_with_blocks left t.disk) (tree_on_disk t.disk t.pairs) (tree_with_renamed_entry t can.path can.name name)
   left_over left is = go is.is
     where
-      go : (is.content ≡ (kept_pair_at_index t index).content) ⊎ ((complete_content_after_changes t index (replace_directory_in_pair_changes t index id place name) ≡ Some is.content) × IsContentFittingPair t.disk.block_size t.disk.page is.content)
-          → IsLeftOf (with_blocks left t.disk) (tree_on_disk t.disk t.pairs) (tree_with_renamed_entry t can.path can.name name)
+      go : (is.content ≡ (thread_pair_at_index t index).content) ⊎ ((complete_content_after_changes t index (replace_directory_in_pair_changes t index id place name) ≡ Some is.content) × IsContentFittingPair t.disk.block_size t.disk.page is.content)
+          → IsLeftOf (disk_with_blocks left t.disk) (tree_on_disk t.disk t.pairs) (tree_with_renamed_entry t can.path can.name name)
       go (inl e) =
           let same = e ∙ ap (λ (z : Pair). z.content) (here t can.ready can.first index p can.stands.rest can.stands.place) in
           let ok = subst (IsAcceptedImage t.disk) there can.ready.accepted in
-          let f = nothing_came t.disk (with_blocks left t.disk) w p has_over.placed.site ok
-          (device t.disk (with_blocks left t.disk) w p p [] [] ok ok.owned_once (placed_on has_over (with_blocks left t.disk) p.content (λ z. (z.kind, z.name)) (subst (λ z. IsPairWrittenOnDisk t index z (with_blocks left t.disk)) same is.written))) in
+          let f = nothing_came t.disk (disk_with_blocks left t.disk) w p has_over.placed.site ok
+          (device t.disk (disk_with_blocks left t.disk) w p p [] [] ok ok.owned_once (placed_on has_over (disk_with_blocks left t.disk) p.content (λ z. (z.kind, z.name)) (subst (λ z. IsPairWrittenOnDisk t index z (disk_with_blocks left t.disk)) same is.written))) in
           record {
             pairs = thread_at w (p ∷ []);
             accepted = f.accepted;
-            writable = (let o = subst (IsWritable t.disk) there can.ready.writable in record { pairs = o.pairs; slots = o.slots; no_empty_pair = o.no_empty_pair });
+            writable = (let o = subst (IsWritableImage t.disk) there can.ready.writable in record { pairs = o.pairs; slots = o.slots; no_empty_pair = o.no_empty_pair });
             tree = inl (f.shows ∙ ap (tree_on_disk t.disk) (sym there));
           }
       go (inr m) =
-          let done = taken has_over (with_blocks left t.disk) (subst (λ z. IsPairWrittenOnDisk t index z (with_blocks left t.disk)) (same_made is.content m.0) is.written) in
+          let done = taken has_over (disk_with_blocks left t.disk) (subst (λ z. IsPairWrittenOnDisk t index z (disk_with_blocks left t.disk)) (same_made is.content m.0) is.written) in
           record {
             pairs = thread_at w (q has_over ∷ []);
             accepted = done.follows.accepted;
             writable = done.writable;
-            tree = inr (done.follows.shows ∙ ap (λ z. renamed (can.path ++ can.name ∷ []) (can.path ++ name ∷ []) (tree_on_disk t.disk z)) (sym there));
+            tree = inr (done.follows.shows ∙ ap (λ z. tree_after_rename (can.path ++ can.name ∷ []) (can.path ++ name ∷ []) (tree_on_disk t.disk z)) (sym there));
           }
 
-  pub over_survives : (new : List CallEvent) → StopsAfterCleanErasesLeave t.history new (LeavesPairOldOrChanged t index (replace_directory_in_pair_changes t index id place name))
-      → SurvivesStopsSince t.disk t.history new (tree_on_disk t.disk t.pairs) (tree_with_renamed_entry t rename.can.path rename.can.name name)
-  over_survives new stops clean = IsTrueAfterEachStopSince-weaker left_over (stops clean)
+  pub over_survives : (new : List DeviceCallEvent) → PowerLossLeavesSuchBlocksAfterCleanErases t.history new (PowerLossLeavesPairOldOrChanged t index (replace_directory_in_pair_changes t index id place name))
+      → SurvivesPowerLossInCallsSince t.disk t.history new (tree_on_disk t.disk t.pairs) (tree_with_renamed_entry t rename.can.path rename.can.name name)
+  over_survives new stops clean = IsTrueAfterAnyPowerLossSince-weaker left_over (stops clean)

@@ -3,20 +3,20 @@ use Rattle.std.proofs.Common.{ℕ, ◌≡◌, ◌+◌, false, List, [], ◌∷�
 use Rattle.std.specs.Prelude.{All}
 use Rattle.std.proofs.lemmas.List.{take-append-drop}
 use Rattle.std.proofs.lemmas.List.Elements.{recursion_from_All}
-use Rattle.lfs_model.specs.Changes.{ContentChange}
+use Rattle.lfs_model.specs.Changes.{PairContentChange}
 use Rattle.lfs_model.specs.Disk.{Disk, SameGeometry}
-use Rattle.lfs_model.specs.Slots.{Content, Slot, is_superblock}
-use Rattle.lfs_model.specs.Thread.{Pair, gstate_of, starts_with_superblock, pair_count_before_root}
-use Rattle.lfs_model.specs.Profile.{FitsEntryLimits, FitsSlotLimits}
-use Rattle.lfs_model.specs.View.{HasSuperblockOfBytesIfAny, IsAcceptedImage, IsFileOrDirectoryEntry, IsListIfCtz}
+use Rattle.lfs_model.specs.Slots.{PairContent, Slot, is_superblock}
+use Rattle.lfs_model.specs.Thread.{Pair, gstate_of_pairs, starts_with_superblock, pair_count_before_root}
+use Rattle.lfs_model.specs.Profile.{IsEntryWithinWritableLimits, IsSlotWithinWritableLimits}
+use Rattle.lfs_model.specs.View.{HasSuperblockWithInlineBytesIfAnySlot, IsAcceptedImage, IsFileOrDirectoryEntry, IsSkipListIfCtzStruct}
 use Rattle.lfs_model.specs.Shown.{all_slots_not_moved, skip_list_blocks_of_struct}
 use Rattle.lfs_model.proofs.Changes.{SameFiles, slots_files}
 use Rattle.lfs_model.proofs.Committed.{no_move_from}
-use Rattle.lfs_model.proofs.Counts.{Each, count, count_append, each_append, each_both, each_left, each_pieces, each_right, each_weaker}
-use Rattle.lfs_model.proofs.Files.{HasSameFile, is_list_same}
+use Rattle.lfs_model.proofs.Counts.{Each, occurrence_count_of_number, count_append, each_append, each_both, each_left, each_pieces, each_right, each_weaker}
+use Rattle.lfs_model.proofs.Files.{HasSameFileBlocksOfStructOnDisks, is_list_same}
 use Rattle.lfs_model.proofs.Sites.{Site, IsSite, dirs_at, thread_at}
-use Rattle.lfs_model.proofs.Splices.{count_files, files_of, unmoved_in}
-use Rattle.lfs_thread.specs.Kept.{Kept}
+use Rattle.lfs_model.proofs.Splices.{count_files, file_blocks_of_slots, unmoved_in}
+use Rattle.lfs_thread.specs.Kept.{KeptThread}
 use Rattle.lfs_thread.specs.Steps.{complete_content_after_changes}
 use Rattle.lfs_operations.specs.Ready.{IsImageReadyForChange}
 use Rattle.lfs_operations.proofs.Splicing.{IsSplicing}
@@ -27,7 +27,7 @@ use Rattle.lfs_operations.proofs.Splicing.{IsSplicing}
 pub record MovesSlots (olds news gone : List Slot) (u moved : Slot) : Type 1 where
   pub each : (P : Slot → Type 0) → (P u → P moved) → Each P olds → Each P news
   pub of_old : (P : Slot → Type 0) → Each P olds → P u
-  pub files : (disk : Disk) (b : ℕ) → count b (files_of disk news) + count b (files_of disk gone) ≡ count b (files_of disk olds)
+  pub files : (disk : Disk) (b : ℕ) → occurrence_count_of_number b (file_blocks_of_slots disk news) + occurrence_count_of_number b (file_blocks_of_slots disk gone) ≡ occurrence_count_of_number b (file_blocks_of_slots disk olds)
 
 -- the same struct
 abbrev pub with_name : Slot → List ℕ → Slot
@@ -39,8 +39,8 @@ carries_behind u name passed gone = record {
   of_old = λ P h. h.0;
   files = λ disk b.
       let a = count_files b disk passed (with_name u name ∷ []) in
-      let c = count_append b (skip_list_blocks_of_struct disk u.struct) (files_of disk []) in
-      let d = count_append b (skip_list_blocks_of_struct disk u.struct) (files_of disk (passed ++ gone)) in
+      let c = count_append b (skip_list_blocks_of_struct disk u.struct) (file_blocks_of_slots disk []) in
+      let d = count_append b (skip_list_blocks_of_struct disk u.struct) (file_blocks_of_slots disk (passed ++ gone)) in
       let e = count_files b disk passed gone in
       omega arith;
 }
@@ -52,8 +52,8 @@ carries_ahead u name gone passed = record {
   files = λ disk b.
       let a = count_files b disk gone (passed ++ u ∷ []) in
       let c = count_files b disk passed (u ∷ []) in
-      let d = count_append b (skip_list_blocks_of_struct disk u.struct) (files_of disk []) in
-      let e = count_append b (skip_list_blocks_of_struct disk u.struct) (files_of disk passed) in
+      let d = count_append b (skip_list_blocks_of_struct disk u.struct) (file_blocks_of_slots disk []) in
+      let e = count_append b (skip_list_blocks_of_struct disk u.struct) (file_blocks_of_slots disk passed) in
       omega arith;
 }
 
@@ -63,7 +63,7 @@ carries_ahead u name gone passed = record {
 abbrev HasRests : List Slot → Type 0
 HasRests slots = (l xs : List Slot) → slots ≡ l ++ xs → starts_with_superblock xs ≡ false → Each IsFileOrDirectoryEntry xs
 
-headed_rests : (bytes : List ℕ) (slots : List Slot) → HasSuperblockOfBytesIfAny bytes slots → HasRests slots
+headed_rests : (bytes : List ℕ) (slots : List Slot) → HasSuperblockWithInlineBytesIfAnySlot bytes slots → HasRests slots
 headed_rests bytes [] h [] xs e f = subst (Each IsFileOrDirectoryEntry) e tt
 headed_rests bytes [] h (x ∷ l) xs e f = absurd (cc)
 headed_rests bytes (s ∷ slots) h [] xs e f = absurd (let z = sym f ∙ ap starts_with_superblock (sym e) ∙ h.0 in cc)
@@ -78,20 +78,20 @@ all_rests slots h l xs e f = each_right IsFileOrDirectoryEntry l xs (subst (Each
 each_rests : (disk : Disk) (ps : List Pair) → IsAcceptedImage disk ps → Each (λ p. HasRests p.content.slots) ps
 each_rests disk ps ok = subst (Each (λ p. HasRests p.content.slots)) (take-append-drop (pair_count_before_root ps + 1) ps)
     (each_append (λ p. HasRests p.content.slots) (take (pair_count_before_root ps + 1) ps) (drop (pair_count_before_root ps + 1) ps)
-    (each_weaker (λ (p : Pair). HasSuperblockOfBytesIfAny ok.superblock.0 p.content.slots) (λ (p : Pair). HasRests p.content.slots) (λ p h. headed_rests ok.superblock.0 p.content.slots h)
-    (take (pair_count_before_root ps + 1) ps) (recursion_from_All (λ (p : Pair). HasSuperblockOfBytesIfAny ok.superblock.0 p.content.slots) (take (pair_count_before_root ps + 1) ps) ok.superblock.1.1))
+    (each_weaker (λ (p : Pair). HasSuperblockWithInlineBytesIfAnySlot ok.superblock.0 p.content.slots) (λ (p : Pair). HasRests p.content.slots) (λ p h. headed_rests ok.superblock.0 p.content.slots h)
+    (take (pair_count_before_root ps + 1) ps) (recursion_from_All (λ (p : Pair). HasSuperblockWithInlineBytesIfAnySlot ok.superblock.0 p.content.slots) (take (pair_count_before_root ps + 1) ps) ok.superblock.1.1))
     (each_weaker (λ (p : Pair). All IsFileOrDirectoryEntry p.content.slots) (λ (p : Pair). HasRests p.content.slots) (λ p h. all_rests p.content.slots h) (drop (pair_count_before_root ps + 1) ps)
     (recursion_from_All (λ (p : Pair). All IsFileOrDirectoryEntry p.content.slots) (drop (pair_count_before_root ps + 1) ps) ok.slots)))
 
 -- ---- the commit
 
 -- At the site stands the pair of that number, whose slots are replaced; what the changes make of it is known.
-pub record IsPlaced (t : Kept) (index : ℕ) (changes : List ContentChange) (w : Site) (p : Pair) (l olds news r gone : List Slot) (u moved : Slot) : Type 1 where
+pub record IsPlaced (t : KeptThread) (index : ℕ) (changes : List PairContentChange) (w : Site) (p : Pair) (l olds news r gone : List Slot) (u moved : Slot) : Type 1 where
   pub ready : IsImageReadyForChange t
   pub there : t.pairs ≡ thread_at w (p ∷ [])
   pub place : index ≡ length w.chain + length (w.before ++ w.left)
   pub site : IsSite w (p ∷ [])
-  pub content : Content
+  pub content : PairContent
   pub made : complete_content_after_changes t index changes ≡ Some content
   pub tail : content.tail ≡ p.content.tail
   pub was : p.content.slots ≡ l ++ (olds ++ r)
@@ -101,9 +101,9 @@ pub record IsPlaced (t : Kept) (index : ℕ) (changes : List ContentChange) (w :
   pub entry : IsFileOrDirectoryEntry u → IsFileOrDirectoryEntry moved
   pub struct : moved.struct ≡ u.struct
   pub other : is_superblock moved ≡ false
-  pub fits : FitsEntryLimits t.disk.block_size t.disk.page moved
+  pub fits : IsEntryWithinWritableLimits t.disk.block_size t.disk.page moved
 
-module _ (t : Kept) (index : ℕ) (changes : List ContentChange) (w : Site) (p : Pair) (l olds news r gone : List Slot) (u moved : Slot) (k : IsPlaced t index changes w p l olds news r gone u moved) where
+module _ (t : KeptThread) (index : ℕ) (changes : List PairContentChange) (w : Site) (p : Pair) (l olds news r gone : List Slot) (u moved : Slot) (k : IsPlaced t index changes w p l olds news r gone u moved) where
   -- of the pairs at the site
   at_site : (P : Pair → Type 0) → Each P t.pairs → P p
   at_site P h = (each_right P (w.before ++ w.left) (p ∷ [] ++ (w.right ++ w.after)) (each_right P w.chain (dirs_at w (p ∷ [])) (subst (Each P) k.there h))).0
@@ -114,38 +114,38 @@ module _ (t : Kept) (index : ℕ) (changes : List ContentChange) (w : Site) (p :
   -- what holds of all slots holds of those that are replaced
   pub of_olds : (P : Slot → Type 0) → Each P (all_slots_not_moved t.pairs) → Each P olds
   of_olds P h =
-      let on = subst (Each P) (unmoved_in (gstate_of t.pairs) (no_move_from t.pairs k.ready.settled) t.pairs) h in
+      let on = subst (Each P) (unmoved_in (gstate_of_pairs t.pairs) (no_move_from t.pairs k.ready.settled) t.pairs) h in
       of_slots P (at_site (λ (x : Pair). Each P x.content.slots) (each_pieces P (λ (x : Pair). x.content.slots) t.pairs on))
 
   entries_were : Each IsFileOrDirectoryEntry olds
   entries_were = each_left IsFileOrDirectoryEntry olds r (at_site (λ (x : Pair). HasRests x.content.slots) (each_rests t.disk t.pairs k.ready.accepted) l (olds ++ r) k.was k.front)
 
-  fit_were : Each (FitsSlotLimits t.disk.block_size t.disk.page) olds
-  fit_were = of_slots (FitsSlotLimits t.disk.block_size t.disk.page) (recursion_from_All (FitsSlotLimits t.disk.block_size t.disk.page) p.content.slots
-      (at_site (λ (x : Pair). All (FitsSlotLimits t.disk.block_size t.disk.page) x.content.slots) (recursion_from_All (λ (x : Pair). All (FitsSlotLimits t.disk.block_size t.disk.page) x.content.slots) t.pairs k.ready.writable.slots)))
+  fit_were : Each (IsSlotWithinWritableLimits t.disk.block_size t.disk.page) olds
+  fit_were = of_slots (IsSlotWithinWritableLimits t.disk.block_size t.disk.page) (recursion_from_All (IsSlotWithinWritableLimits t.disk.block_size t.disk.page) p.content.slots
+      (at_site (λ (x : Pair). All (IsSlotWithinWritableLimits t.disk.block_size t.disk.page) x.content.slots) (recursion_from_All (λ (x : Pair). All (IsSlotWithinWritableLimits t.disk.block_size t.disk.page) x.content.slots) t.pairs k.ready.writable.slots)))
 
   pub entries_now : Each IsFileOrDirectoryEntry news
   entries_now = k.carries.each IsFileOrDirectoryEntry k.entry entries_were
 
-  pub fit_now : Each (FitsSlotLimits t.disk.block_size t.disk.page) news
-  fit_now = k.carries.each (FitsSlotLimits t.disk.block_size t.disk.page) (λ f. ((λ e. absurd (let z = sym k.other ∙ e in cc)), (λ e. k.fits))) fit_were
+  pub fit_now : Each (IsSlotWithinWritableLimits t.disk.block_size t.disk.page) news
+  fit_now = k.carries.each (IsSlotWithinWritableLimits t.disk.block_size t.disk.page) (λ f. ((λ e. absurd (let z = sym k.other ∙ e in cc)), (λ e. k.fits))) fit_were
 
-  pub lists_now : (disk : Disk) → SameGeometry t.disk disk → SameFiles t.disk disk (all_slots_not_moved t.pairs) → Each (λ s. IsListIfCtz disk s.struct) news
-  lists_now disk geometry files = k.carries.each (λ (s : Slot). IsListIfCtz disk s.struct) (λ h. subst (IsListIfCtz disk) (sym k.struct) h)
-      (each_both (λ (s : Slot). HasSameFile t.disk disk s.struct) (λ (s : Slot). IsListIfCtz t.disk s.struct) (λ (s : Slot). IsListIfCtz disk s.struct) (λ s f h. is_list_same t.disk disk s.struct geometry f h) olds
-      (of_olds (λ (s : Slot). HasSameFile t.disk disk s.struct) files)
-      (of_olds (λ (s : Slot). IsListIfCtz t.disk s.struct) (recursion_from_All (λ (s : Slot). IsListIfCtz t.disk s.struct) (all_slots_not_moved t.pairs) k.ready.accepted.lists)))
+  pub lists_now : (disk : Disk) → SameGeometry t.disk disk → SameFiles t.disk disk (all_slots_not_moved t.pairs) → Each (λ s. IsSkipListIfCtzStruct disk s.struct) news
+  lists_now disk geometry files = k.carries.each (λ (s : Slot). IsSkipListIfCtzStruct disk s.struct) (λ h. subst (IsSkipListIfCtzStruct disk) (sym k.struct) h)
+      (each_both (λ (s : Slot). HasSameFileBlocksOfStructOnDisks t.disk disk s.struct) (λ (s : Slot). IsSkipListIfCtzStruct t.disk s.struct) (λ (s : Slot). IsSkipListIfCtzStruct disk s.struct) (λ s f h. is_list_same t.disk disk s.struct geometry f h) olds
+      (of_olds (λ (s : Slot). HasSameFileBlocksOfStructOnDisks t.disk disk s.struct) files)
+      (of_olds (λ (s : Slot). IsSkipListIfCtzStruct t.disk s.struct) (recursion_from_All (λ (s : Slot). IsSkipListIfCtzStruct t.disk s.struct) (all_slots_not_moved t.pairs) k.ready.accepted.lists)))
 
-  pub blocks_now : (disk : Disk) → SameGeometry t.disk disk → SameFiles t.disk disk (all_slots_not_moved t.pairs) → (b : ℕ) → count b (files_of disk news) + count b (files_of t.disk gone) ≡ count b (files_of t.disk olds)
+  pub blocks_now : (disk : Disk) → SameGeometry t.disk disk → SameFiles t.disk disk (all_slots_not_moved t.pairs) → (b : ℕ) → occurrence_count_of_number b (file_blocks_of_slots disk news) + occurrence_count_of_number b (file_blocks_of_slots t.disk gone) ≡ occurrence_count_of_number b (file_blocks_of_slots t.disk olds)
   blocks_now disk geometry files b =
-      let same = of_olds (λ (s : Slot). HasSameFile t.disk disk s.struct) files in
-      let kept = k.carries.each (λ (s : Slot). HasSameFile t.disk disk s.struct) (λ h. subst (HasSameFile t.disk disk) (sym k.struct) h) same in
-      let e = ap (count b) (slots_files t.disk disk news geometry kept) in
+      let same = of_olds (λ (s : Slot). HasSameFileBlocksOfStructOnDisks t.disk disk s.struct) files in
+      let kept = k.carries.each (λ (s : Slot). HasSameFileBlocksOfStructOnDisks t.disk disk s.struct) (λ h. subst (HasSameFileBlocksOfStructOnDisks t.disk disk) (sym k.struct) h) same in
+      let e = ap (occurrence_count_of_number b) (slots_files t.disk disk news geometry kept) in
       let f = k.carries.files t.disk b in
       omega arith
 
   -- where the delta of the global state stays
-  pub splicing : k.content.move ≡ p.content.move → IsSplicing t index changes w p l olds news r (files_of t.disk gone) []
+  pub splicing : k.content.move ≡ p.content.move → IsSplicing t index changes w p l olds news r (file_blocks_of_slots t.disk gone) []
   splicing move = record {
     ready = k.ready;
     there = k.there;

@@ -4,39 +4,39 @@ use Rattle.std.specs.Prelude.{IfErr}
 use Rattle.lfs_device.specs.declared.error.Error.{Error}
 use Rattle.lfs_device.specs.declared.error.Error.TheVariants.{Io, NoMemory, NoSpace}
 use Rattle.lfs_model.specs.Blocks.{Blocks}
-use Rattle.lfs_model.specs.Changes.{ContentChange}
+use Rattle.lfs_model.specs.Changes.{PairContentChange}
 use Rattle.lfs_model.specs.Disk.{Disk}
-use Rattle.lfs_model.specs.History.{CallEvent, AreCallsSinceOnlyReads, faults}
+use Rattle.lfs_model.specs.History.{DeviceCallEvent, AreCallsSinceOnlyReads, fault_count_of_history}
 use Rattle.lfs_model.specs.InDirectory.{IsPairOfDirectory}
-use Rattle.lfs_model.specs.PowerLoss.{SurvivesStopsSince, with_blocks}
-use Rattle.lfs_model.specs.Slots.{Content}
+use Rattle.lfs_model.specs.PowerLoss.{SurvivesPowerLossInCallsSince, disk_with_blocks}
+use Rattle.lfs_model.specs.Slots.{PairContent}
 use Rattle.lfs_model.specs.Thread.{Pair}
 use Rattle.lfs_model.specs.Tree.{Tree}
 use Rattle.lfs_model.specs.Shown.{tree_on_disk}
-use Rattle.lfs_model.proofs.Histories.{IsTrueAfterEachStopSince-weaker, IsTrueAfterEachStopSince-trans, IsTrueAfterEachStopSince-reads, IsTrueOfEachCallSince-behind, IsLeftByStopIn-read}
-use Rattle.lfs_thread.specs.Device.{StopsAfterCleanErasesLeave}
-use Rattle.lfs_thread.specs.Kept.{Kept, ThreadView}
-use Rattle.lfs_thread.specs.Steps.{HasReportedIoOrUnwrittenNoMemory, IsPairChanged, IsThreadOnlyRead, IsPairWrittenOnDisk, kept_pair_at_index}
-use Rattle.lfs_operations.specs.Changing.{CanChangeOrSplitPair, IsLeftByStoppedChangeOrSplit, IsPairChangedOrSplit, IsChangedContentTooLarge, ReportsChangeOrSplit, ReportsFaultOrNoSpace, WritesPairAndTwoFreeBlocks}
+use Rattle.lfs_model.proofs.Histories.{IsTrueAfterAnyPowerLossSince-weaker, IsTrueAfterAnyPowerLossSince-trans, IsTrueAfterAnyPowerLossSince-read_count_of_history, IsTrueOfEachCallSince-behind, AreBlocksLeftByPowerLossInCall-read}
+use Rattle.lfs_thread.specs.Device.{PowerLossLeavesSuchBlocksAfterCleanErases}
+use Rattle.lfs_thread.specs.Kept.{KeptThread, ThreadView}
+use Rattle.lfs_thread.specs.Steps.{IoMeantFaultNoMemoryWroteNothing, IsPairChanged, IsThreadOnlyRead, IsPairWrittenOnDisk, thread_pair_at_index}
+use Rattle.lfs_operations.specs.Changing.{CanChangeOrSplitPair, IsLeftByStoppedChangeOrSplit, IsPairChangedOrSplit, IsChangedContentTooLarge, ReportsErrorsOfChangeOrSplit, ReportsFaultsChangingNothingAtNoSpace, WritesPairAndTwoFreeBlocks}
 use Rattle.lfs_operations.specs.Ready.{IsImageReadyForChange}
-use Rattle.lfs_operations.specs.Renaming.{ReportsSlotReadThenChangeOrSplit}
+use Rattle.lfs_operations.specs.Renaming.{ReportsErrorsOfReadThenChangeOrSplit}
 use Rattle.lfs_operations.proofs.Held.{here, holds}
 use Rattle.lfs_operations.proofs.Putting.{cut_later, left_later, read_is, reports_later, with_history, writes_later, writes_none}
 
 -- ---- only read
 
-pub read_survives : (t : Kept) (h : List CallEvent) → AreCallsSinceOnlyReads t.disk.blocks t.history h → IsImageReadyForChange t → (tree : Tree) → SurvivesStopsSince t.disk t.history h (tree_on_disk t.disk t.pairs) tree
-read_survives t h reads ready tree clean = IsTrueAfterEachStopSince-reads IsLeftByStopIn-read reads (record { pairs = t.pairs; accepted = ready.accepted; writable = ready.writable; tree = inl refl })
+pub read_survives : (t : KeptThread) (h : List DeviceCallEvent) → AreCallsSinceOnlyReads t.disk.blocks t.history h → IsImageReadyForChange t → (tree : Tree) → SurvivesPowerLossInCallsSince t.disk t.history h (tree_on_disk t.disk t.pairs) tree
+read_survives t h reads ready tree clean = IsTrueAfterAnyPowerLossSince-read_count_of_history AreBlocksLeftByPowerLossInCall-read reads (record { pairs = t.pairs; accepted = ready.accepted; writable = ready.writable; tree = inl refl })
 
-pub read_writes : (t mid : Kept) → IsThreadOnlyRead t mid → (index : ℕ) → WritesPairAndTwoFreeBlocks t index mid
-read_writes t mid only index = subst (λ (k : Kept). WritesPairAndTwoFreeBlocks t index k) (sym (read_is t mid only))
+pub read_writes : (t mid : KeptThread) → IsThreadOnlyRead t mid → (index : ℕ) → WritesPairAndTwoFreeBlocks t index mid
+read_writes t mid only index = subst (λ (k : KeptThread). WritesPairAndTwoFreeBlocks t index k) (sym (read_is t mid only))
     (writes_later t mid.history only.reads index [] (with_history t mid.history) (writes_none (with_history t mid.history) index))
 
 same_err : {A : Type 0} (a b : Error) (r : Result A Error) → r ≡ Err a → r ≡ Err b → a ≡ b
 same_err a b r h k = cc
 
 -- an error of a call that only reads, passed on
-pub reports_read : {X Y : Type 0} (t mid : Kept) (e : Error) (result : Result X Error) (given : Result Y Error) → result ≡ Err e → given ≡ Err e → HasReportedIoOrUnwrittenNoMemory t mid result → ReportsFaultOrNoSpace t mid given
+pub reports_read : {X Y : Type 0} (t mid : KeptThread) (e : Error) (result : Result X Error) (given : Result Y Error) → result ≡ Err e → given ≡ Err e → IoMeantFaultNoMemoryWroteNothing t mid result → ReportsFaultsChangingNothingAtNoSpace t mid given
 reports_read t mid e result given is same reported = record {
   errors = subst (λ r. IfErr r (λ x. (x ≡ Io) ⊎ ((x ≡ NoMemory) ⊎ (x ≡ NoSpace)))) (sym same) (widen is_one);
   fault = λ io. reported.fault (is ∙ ap Err (same_err e Io given same io));
@@ -58,8 +58,8 @@ reports_read t mid e result given is same reported = record {
     not_space (inr b) k = absurd (cc)
 
 -- it couldn't be read
-pub moves_unread : {X Y : Type 0} (old new : ThreadView) (index : ℕ) (changes : List ContentChange) (e : Error) (result : Result X Error) (given : Result Y Error) → result ≡ Err e → given ≡ Err e
-    → new.failed ≡ false → IsThreadOnlyRead old.kept new.kept → HasReportedIoOrUnwrittenNoMemory old.kept new.kept result → ReportsSlotReadThenChangeOrSplit old new index changes given
+pub moves_unread : {X Y : Type 0} (old new : ThreadView) (index : ℕ) (changes : List PairContentChange) (e : Error) (result : Result X Error) (given : Result Y Error) → result ≡ Err e → given ≡ Err e
+    → new.failed ≡ false → IsThreadOnlyRead old.kept new.kept → IoMeantFaultNoMemoryWroteNothing old.kept new.kept result → ReportsErrorsOfReadThenChangeOrSplit old new index changes given
 moves_unread old new index changes e result given is same works only reported =
     let reports = reports_read old.kept new.kept e result given is same reported in
     record {
@@ -77,11 +77,11 @@ moves_unread old new index changes e result given is same works only reported =
 
 -- ---- changed or split then
 
-pub written_earlier : (t : Kept) (h : List CallEvent) (index : ℕ) (content : Content) (disk : Disk) → IsPairWrittenOnDisk (with_history t h) index content disk → IsPairWrittenOnDisk t index content disk
+pub written_earlier : (t : KeptThread) (h : List DeviceCallEvent) (index : ℕ) (content : PairContent) (disk : Disk) → IsPairWrittenOnDisk (with_history t h) index content disk → IsPairWrittenOnDisk t index content disk
 written_earlier t h index content disk w = record { holds = w.holds; others = w.others; shape = w.shape; first = w.first }
 
-module _ (t : Kept) (h : List CallEvent) (reads : AreCallsSinceOnlyReads t.disk.blocks t.history h) (index : ℕ) (changes : List ContentChange) where
-  pub changed_earlier : (new : Kept) → IsPairChanged (with_history t h) index changes new → IsPairChanged t index changes new
+module _ (t : KeptThread) (h : List DeviceCallEvent) (reads : AreCallsSinceOnlyReads t.disk.blocks t.history h) (index : ℕ) (changes : List PairContentChange) where
+  pub changed_earlier : (new : KeptThread) → IsPairChanged (with_history t h) index changes new → IsPairChanged t index changes new
   changed_earlier new is = record {
     content = is.content;
     made = is.made;
@@ -92,18 +92,18 @@ module _ (t : Kept) (h : List CallEvent) (reads : AreCallsSinceOnlyReads t.disk.
     map = is.map;
   }
 
-  pub put_earlier : (new : Kept) → IsPairChangedOrSplit (with_history t h) index changes new → IsPairChangedOrSplit t index changes new
+  pub put_earlier : (new : KeptThread) → IsPairChangedOrSplit (with_history t h) index changes new → IsPairChangedOrSplit t index changes new
   put_earlier new (inl is) = inl (changed_earlier new is)
   put_earlier new (inr (large, is)) = inr (large, cut_later t h reads index changes new is)
 
   left_earlier : (left : Blocks) → IsLeftByStoppedChangeOrSplit (with_history t h) index changes left → IsLeftByStoppedChangeOrSplit t index changes left
-  left_earlier left (inl is) = inl (record { content = is.content; is = is.is; written = written_earlier t h index is.content (with_blocks left t.disk) is.written })
+  left_earlier left (inl is) = inl (record { content = is.content; is = is.is; written = written_earlier t h index is.content (disk_with_blocks left t.disk) is.written })
   left_earlier left (inr (large, is)) = inr (large, left_later t h reads index changes left is)
 
 -- the pair as it was, at a stop in a read
-still_there : (t : Kept) (index : ℕ) (changes : List ContentChange) → IsImageReadyForChange t → (first : ℕ) (p : Pair) (rest : List Pair) → IsPairOfDirectory t.pairs first index p rest → IsLeftByStoppedChangeOrSplit t index changes t.disk.blocks
+still_there : (t : KeptThread) (index : ℕ) (changes : List PairContentChange) → IsImageReadyForChange t → (first : ℕ) (p : Pair) (rest : List Pair) → IsPairOfDirectory t.pairs first index p rest → IsLeftByStoppedChangeOrSplit t index changes t.disk.blocks
 still_there t index changes ready first p rest place = inl (record {
-  content = (kept_pair_at_index t index).content;
+  content = (thread_pair_at_index t index).content;
   is = inl refl;
   written = record {
     holds = holds t ready first index p rest place ∙ ap (λ (z : Pair). Some z.content) (sym (here t ready first index p rest place));
@@ -113,31 +113,31 @@ still_there t index changes ready first p rest place = inl (record {
   };
 })
 
-pub stops_after_read : (t mid new : Kept) (index : ℕ) (changes : List ContentChange) → IsThreadOnlyRead t mid → IsImageReadyForChange t → (first : ℕ) (p : Pair) (rest : List Pair) → IsPairOfDirectory t.pairs first index p rest
-    → WritesPairAndTwoFreeBlocks mid index new → StopsAfterCleanErasesLeave mid.history new.history (IsLeftByStoppedChangeOrSplit mid index changes) → StopsAfterCleanErasesLeave t.history new.history (IsLeftByStoppedChangeOrSplit t index changes)
+pub stops_after_read : (t mid new : KeptThread) (index : ℕ) (changes : List PairContentChange) → IsThreadOnlyRead t mid → IsImageReadyForChange t → (first : ℕ) (p : Pair) (rest : List Pair) → IsPairOfDirectory t.pairs first index p rest
+    → WritesPairAndTwoFreeBlocks mid index new → PowerLossLeavesSuchBlocksAfterCleanErases mid.history new.history (IsLeftByStoppedChangeOrSplit mid index changes) → PowerLossLeavesSuchBlocksAfterCleanErases t.history new.history (IsLeftByStoppedChangeOrSplit t index changes)
 stops_after_read t mid new index changes only ready first p rest place writes stops clean =
-    IsTrueAfterEachStopSince-trans (IsTrueAfterEachStopSince-reads IsLeftByStopIn-read only.reads (still_there t index changes ready first p rest place))
-    (IsTrueAfterEachStopSince-weaker (λ left l. left_earlier t mid.history only.reads index changes left (subst (λ (k : Kept). IsLeftByStoppedChangeOrSplit k index changes left) (read_is t mid only) l))
+    IsTrueAfterAnyPowerLossSince-trans (IsTrueAfterAnyPowerLossSince-read_count_of_history AreBlocksLeftByPowerLossInCall-read only.reads (still_there t index changes ready first p rest place))
+    (IsTrueAfterAnyPowerLossSince-weaker (λ left l. left_earlier t mid.history only.reads index changes left (subst (λ (k : KeptThread). IsLeftByStoppedChangeOrSplit k index changes left) (read_is t mid only) l))
     (stops (IsTrueOfEachCallSince-behind clean only.reads writes.writes.at_worst)))
 
-pub put_after_read : (t mid new : Kept) (index : ℕ) (changes : List ContentChange) → IsThreadOnlyRead t mid → IsPairChangedOrSplit mid index changes new → IsPairChangedOrSplit t index changes new
-put_after_read t mid new index changes only is = put_earlier t mid.history only.reads index changes new (subst (λ (k : Kept). IsPairChangedOrSplit k index changes new) (read_is t mid only) is)
+pub put_after_read : (t mid new : KeptThread) (index : ℕ) (changes : List PairContentChange) → IsThreadOnlyRead t mid → IsPairChangedOrSplit mid index changes new → IsPairChangedOrSplit t index changes new
+put_after_read t mid new index changes only is = put_earlier t mid.history only.reads index changes new (subst (λ (k : KeptThread). IsPairChangedOrSplit k index changes new) (read_is t mid only) is)
 
-pub writes_after_read : (t mid new : Kept) (index : ℕ) → IsThreadOnlyRead t mid → WritesPairAndTwoFreeBlocks mid index new → WritesPairAndTwoFreeBlocks t index new
-writes_after_read t mid new index only w = writes_later t mid.history only.reads index [] new (subst (λ (k : Kept). WritesPairAndTwoFreeBlocks k index new) (read_is t mid only) w)
+pub writes_after_read : (t mid new : KeptThread) (index : ℕ) → IsThreadOnlyRead t mid → WritesPairAndTwoFreeBlocks mid index new → WritesPairAndTwoFreeBlocks t index new
+writes_after_read t mid new index only w = writes_later t mid.history only.reads index [] new (subst (λ (k : KeptThread). WritesPairAndTwoFreeBlocks k index new) (read_is t mid only) w)
 
-pub can_after_read : (t mid : Kept) (index : ℕ) (changes : List ContentChange) → IsThreadOnlyRead t mid → CanChangeOrSplitPair t index changes → CanChangeOrSplitPair mid index changes
-can_after_read t mid index changes only can = subst (λ (k : Kept). CanChangeOrSplitPair k index changes) (sym (read_is t mid only)) (record {
+pub can_after_read : (t mid : KeptThread) (index : ℕ) (changes : List PairContentChange) → IsThreadOnlyRead t mid → CanChangeOrSplitPair t index changes → CanChangeOrSplitPair mid index changes
+can_after_read t mid index changes only can = subst (λ (k : KeptThread). CanChangeOrSplitPair k index changes) (sym (read_is t mid only)) (record {
   can = record { below = can.can.below; content = can.can.content; made = can.can.made; next = can.can.next };
   raw = can.raw;
   made = can.made;
   cut = can.cut;
 })
 
-pub moves_after_read : {X : Type 0} (old mid new : ThreadView) (index : ℕ) (changes : List ContentChange) (result : Result X Error) → IsThreadOnlyRead old.kept mid.kept → faults mid.kept.history ≡ faults old.kept.history
-    → ReportsChangeOrSplit mid new index changes result → ReportsSlotReadThenChangeOrSplit old new index changes result
+pub moves_after_read : {X : Type 0} (old mid new : ThreadView) (index : ℕ) (changes : List PairContentChange) (result : Result X Error) → IsThreadOnlyRead old.kept mid.kept → fault_count_of_history mid.kept.history ≡ fault_count_of_history old.kept.history
+    → ReportsErrorsOfChangeOrSplit mid new index changes result → ReportsErrorsOfReadThenChangeOrSplit old new index changes result
 moves_after_read old mid new index changes result only same reported = record {
   failed = inl reported.reports.failed;
-  reports = reports_later old.kept mid.kept.history only.reads index changes new.kept result same (subst (λ (k : Kept). ReportsFaultOrNoSpace k new.kept result) (read_is old.kept mid.kept only) reported.reports.reports);
-  too_large = λ none. subst (λ (k : Kept). IsChangedContentTooLarge k index changes) (read_is old.kept mid.kept only) (reported.too_large none);
+  reports = reports_later old.kept mid.kept.history only.reads index changes new.kept result same (subst (λ (k : KeptThread). ReportsFaultsChangingNothingAtNoSpace k new.kept result) (read_is old.kept mid.kept only) reported.reports.reports);
+  too_large = λ none. subst (λ (k : KeptThread). IsChangedContentTooLarge k index changes) (read_is old.kept mid.kept only) (reported.too_large none);
 }

@@ -4,28 +4,28 @@ use Rattle.std.specs.Prelude.{IfErr, is_err}
 use Rattle.lfs_device.specs.declared.error.Error.{Error}
 use Rattle.lfs_device.specs.declared.error.Error.TheVariants.{Io, NoMemory}
 use Rattle.lfs_model.specs.Blocks.{Blocks}
-use Rattle.lfs_model.specs.Changes.{ContentChange}
-use Rattle.lfs_model.specs.History.{CallEvent, AreCallsSinceOnlyReads, faults}
+use Rattle.lfs_model.specs.Changes.{PairContentChange}
+use Rattle.lfs_model.specs.History.{DeviceCallEvent, AreCallsSinceOnlyReads, fault_count_of_history}
 use Rattle.lfs_model.specs.InDirectory.{IsPairOfDirectory}
-use Rattle.lfs_model.specs.PowerLoss.{with_blocks}
+use Rattle.lfs_model.specs.PowerLoss.{disk_with_blocks}
 use Rattle.lfs_model.specs.Thread.{Pair}
-use Rattle.lfs_model.proofs.Histories.{IsWorstOutcomeOfStop-read, IsTrueOfEachCallSince-behind, IsTrueAfterEachStopSince-reads, IsTrueAfterEachStopSince-trans, IsTrueAfterEachStopSince-weaker, AreCallsSinceOnlyReads-trans, AreBytesStillUnprogrammed-reads, AreBytesStillUnprogrammed-trans, IsLeftByStopIn-read}
-use Rattle.lfs_thread.specs.Device.{StopsAfterCleanErasesLeave}
-use Rattle.lfs_thread.specs.Kept.{Kept, ThreadView}
-use Rattle.lfs_thread.specs.Steps.{CanChangePair, HasReportedIoOrUnwrittenNoMemory, IsPairChanged, LeavesPairOldOrChanged, IsThreadOnlyRead, IsCommitRefused, ThreadChangesOnlyTheseBlocks, kept_pair_at_index}
+use Rattle.lfs_model.proofs.Histories.{ArePossibleBlocksAfterPowerLossInCall-read, IsTrueOfEachCallSince-behind, IsTrueAfterAnyPowerLossSince-read_count_of_history, IsTrueAfterAnyPowerLossSince-trans, IsTrueAfterAnyPowerLossSince-weaker, AreCallsSinceOnlyReads-trans, AreBytesStillUnprogrammed-read_count_of_history, AreBytesStillUnprogrammed-trans, AreBlocksLeftByPowerLossInCall-read}
+use Rattle.lfs_thread.specs.Device.{PowerLossLeavesSuchBlocksAfterCleanErases}
+use Rattle.lfs_thread.specs.Kept.{KeptThread, ThreadView}
+use Rattle.lfs_thread.specs.Steps.{CanChangePair, IoMeantFaultNoMemoryWroteNothing, IsPairChanged, PowerLossLeavesPairOldOrChanged, IsThreadOnlyRead, IsCommitRefused, ThreadChangesOnlyTheseBlocks, thread_pair_at_index}
 use Rattle.lfs_operations.specs.Ready.{IsImageReadyForChange}
-use Rattle.lfs_operations.specs.RenamingOver.{ReportsSlotReadThenCommit}
+use Rattle.lfs_operations.specs.RenamingOver.{ReportsErrorsOfReadThenCommit}
 use Rattle.lfs_operations.proofs.Held.{here, holds}
 use Rattle.lfs_operations.proofs.Putting.{read_is, with_history}
 use Rattle.lfs_operations.proofs.RenameRead.{changed_earlier, written_earlier}
 
-pub changed_after_read : (t mid new : Kept) (index : ℕ) (changes : List ContentChange) → IsThreadOnlyRead t mid → IsPairChanged mid index changes new → IsPairChanged t index changes new
-changed_after_read t mid new index changes only is = changed_earlier t mid.history only.reads index changes new (subst (λ (k : Kept). IsPairChanged k index changes new) (read_is t mid only) is)
+pub changed_after_read : (t mid new : KeptThread) (index : ℕ) (changes : List PairContentChange) → IsThreadOnlyRead t mid → IsPairChanged mid index changes new → IsPairChanged t index changes new
+changed_after_read t mid new index changes only is = changed_earlier t mid.history only.reads index changes new (subst (λ (k : KeptThread). IsPairChanged k index changes new) (read_is t mid only) is)
 
-pub can_change_after_read : (t mid : Kept) (index : ℕ) (changes : List ContentChange) → IsThreadOnlyRead t mid → CanChangePair t index changes → CanChangePair mid index changes
-can_change_after_read t mid index changes only can = subst (λ (k : Kept). CanChangePair k index changes) (sym (read_is t mid only)) (record { below = can.below; content = can.content; made = can.made; next = can.next })
+pub can_change_after_read : (t mid : KeptThread) (index : ℕ) (changes : List PairContentChange) → IsThreadOnlyRead t mid → CanChangePair t index changes → CanChangePair mid index changes
+can_change_after_read t mid index changes only can = subst (λ (k : KeptThread). CanChangePair k index changes) (sym (read_is t mid only)) (record { below = can.below; content = can.content; made = can.made; next = can.next })
 
-refused_earlier : (t : Kept) (h : List CallEvent) (new : Kept) (index : ℕ) (changes : List ContentChange) → AreCallsSinceOnlyReads t.disk.blocks t.history h → IsCommitRefused (with_history t h) index changes new → IsCommitRefused t index changes new
+refused_earlier : (t : KeptThread) (h : List DeviceCallEvent) (new : KeptThread) (index : ℕ) (changes : List PairContentChange) → AreCallsSinceOnlyReads t.disk.blocks t.history h → IsCommitRefused (with_history t h) index changes new → IsCommitRefused t index changes new
 refused_earlier t h new index changes reads is = record {
   content = is.content;
   made = is.made;
@@ -33,33 +33,33 @@ refused_earlier t h new index changes reads is = record {
   only = record { disk = is.only.disk; reads = AreCallsSinceOnlyReads-trans reads is.only.reads refl; pairs = is.only.pairs; map = is.only.map };
 }
 
-pub refused_after_read : (t mid new : Kept) (index : ℕ) (changes : List ContentChange) → IsThreadOnlyRead t mid → IsCommitRefused mid index changes new → IsCommitRefused t index changes new
-refused_after_read t mid new index changes only is = refused_earlier t mid.history new index changes only.reads (subst (λ (k : Kept). IsCommitRefused k index changes new) (read_is t mid only) is)
+pub refused_after_read : (t mid new : KeptThread) (index : ℕ) (changes : List PairContentChange) → IsThreadOnlyRead t mid → IsCommitRefused mid index changes new → IsCommitRefused t index changes new
+refused_after_read t mid new index changes only is = refused_earlier t mid.history new index changes only.reads (subst (λ (k : KeptThread). IsCommitRefused k index changes new) (read_is t mid only) is)
 
-writes_earlier : (t : Kept) (h : List CallEvent) (new : Kept) (bs : List ℕ) → AreCallsSinceOnlyReads t.disk.blocks t.history h → ThreadChangesOnlyTheseBlocks bs (with_history t h) new → ThreadChangesOnlyTheseBlocks bs t new
+writes_earlier : (t : KeptThread) (h : List DeviceCallEvent) (new : KeptThread) (bs : List ℕ) → AreCallsSinceOnlyReads t.disk.blocks t.history h → ThreadChangesOnlyTheseBlocks bs (with_history t h) new → ThreadChangesOnlyTheseBlocks bs t new
 writes_earlier t h new bs reads w = record {
   others = w.others;
-  elsewhere = AreBytesStillUnprogrammed-trans (AreBytesStillUnprogrammed-reads bs reads) w.elsewhere;
+  elsewhere = AreBytesStillUnprogrammed-trans (AreBytesStillUnprogrammed-read_count_of_history bs reads) w.elsewhere;
   shape = w.shape;
-  at_worst = IsTrueAfterEachStopSince-trans (IsTrueAfterEachStopSince-reads IsWorstOutcomeOfStop-read reads (record { count = refl; sizes = λ b. refl; others = λ b apart. refl })) w.at_worst;
+  at_worst = IsTrueAfterAnyPowerLossSince-trans (IsTrueAfterAnyPowerLossSince-read_count_of_history ArePossibleBlocksAfterPowerLossInCall-read reads (record { count = refl; sizes = λ b. refl; others = λ b apart. refl })) w.at_worst;
 }
 
-pub blocks_after_read : (t mid new : Kept) (bs : List ℕ) → IsThreadOnlyRead t mid → ThreadChangesOnlyTheseBlocks bs mid new → ThreadChangesOnlyTheseBlocks bs t new
-blocks_after_read t mid new bs only w = writes_earlier t mid.history new bs only.reads (subst (λ (k : Kept). ThreadChangesOnlyTheseBlocks bs k new) (read_is t mid only) w)
+pub blocks_after_read : (t mid new : KeptThread) (bs : List ℕ) → IsThreadOnlyRead t mid → ThreadChangesOnlyTheseBlocks bs mid new → ThreadChangesOnlyTheseBlocks bs t new
+blocks_after_read t mid new bs only w = writes_earlier t mid.history new bs only.reads (subst (λ (k : KeptThread). ThreadChangesOnlyTheseBlocks bs k new) (read_is t mid only) w)
 
-pub only_read_writes : (t mid : Kept) (bs : List ℕ) → IsThreadOnlyRead t mid → ThreadChangesOnlyTheseBlocks bs t mid
-only_read_writes t mid bs only = subst (λ (k : Kept). ThreadChangesOnlyTheseBlocks bs t k) (sym (read_is t mid only)) (record {
+pub only_read_writes : (t mid : KeptThread) (bs : List ℕ) → IsThreadOnlyRead t mid → ThreadChangesOnlyTheseBlocks bs t mid
+only_read_writes t mid bs only = subst (λ (k : KeptThread). ThreadChangesOnlyTheseBlocks bs t k) (sym (read_is t mid only)) (record {
   others = record { count = refl; sizes = λ b. refl; others = λ b apart. refl };
-  elsewhere = AreBytesStillUnprogrammed-reads bs only.reads;
+  elsewhere = AreBytesStillUnprogrammed-read_count_of_history bs only.reads;
   shape = record { block_size = refl; page = refl; order = refl; count = refl };
-  at_worst = IsTrueAfterEachStopSince-reads IsWorstOutcomeOfStop-read only.reads (record { count = refl; sizes = λ b. refl; others = λ b apart. refl });
+  at_worst = IsTrueAfterAnyPowerLossSince-read_count_of_history ArePossibleBlocksAfterPowerLossInCall-read only.reads (record { count = refl; sizes = λ b. refl; others = λ b apart. refl });
 })
 
-pub change_stops_after_read : (t mid new : Kept) (index : ℕ) (changes : List ContentChange) (bs : List ℕ) → IsThreadOnlyRead t mid → IsImageReadyForChange t → (first : ℕ) (p : Pair) (rest : List Pair) → IsPairOfDirectory t.pairs first index p rest
-    → ThreadChangesOnlyTheseBlocks bs mid new → StopsAfterCleanErasesLeave mid.history new.history (LeavesPairOldOrChanged mid index changes) → StopsAfterCleanErasesLeave t.history new.history (LeavesPairOldOrChanged t index changes)
+pub change_stops_after_read : (t mid new : KeptThread) (index : ℕ) (changes : List PairContentChange) (bs : List ℕ) → IsThreadOnlyRead t mid → IsImageReadyForChange t → (first : ℕ) (p : Pair) (rest : List Pair) → IsPairOfDirectory t.pairs first index p rest
+    → ThreadChangesOnlyTheseBlocks bs mid new → PowerLossLeavesSuchBlocksAfterCleanErases mid.history new.history (PowerLossLeavesPairOldOrChanged mid index changes) → PowerLossLeavesSuchBlocksAfterCleanErases t.history new.history (PowerLossLeavesPairOldOrChanged t index changes)
 change_stops_after_read t mid new index changes bs only ready first p rest place writes stops clean =
-    IsTrueAfterEachStopSince-trans (IsTrueAfterEachStopSince-reads IsLeftByStopIn-read only.reads (record {
-      content = (kept_pair_at_index t index).content;
+    IsTrueAfterAnyPowerLossSince-trans (IsTrueAfterAnyPowerLossSince-read_count_of_history AreBlocksLeftByPowerLossInCall-read only.reads (record {
+      content = (thread_pair_at_index t index).content;
       is = inl refl;
       written = record {
         holds = holds t ready first index p rest place ∙ ap (λ (z : Pair). Some z.content) (sym (here t ready first index p rest place));
@@ -67,10 +67,10 @@ change_stops_after_read t mid new index changes bs only ready first p rest place
         shape = record { block_size = refl; page = refl; order = refl; count = refl };
         first = λ b k. b;
       };
-    })) (IsTrueAfterEachStopSince-weaker (λ left l. earlier left (subst (λ (k : Kept). LeavesPairOldOrChanged k index changes left) (read_is t mid only) l)) (stops (IsTrueOfEachCallSince-behind clean only.reads writes.at_worst)))
+    })) (IsTrueAfterAnyPowerLossSince-weaker (λ left l. earlier left (subst (λ (k : KeptThread). PowerLossLeavesPairOldOrChanged k index changes left) (read_is t mid only) l)) (stops (IsTrueOfEachCallSince-behind clean only.reads writes.at_worst)))
   where
-    earlier : (left : Blocks) → LeavesPairOldOrChanged (with_history t mid.history) index changes left → LeavesPairOldOrChanged t index changes left
-    earlier left is = record { content = is.content; is = is.is; written = written_earlier t mid.history index is.content (with_blocks left t.disk) is.written }
+    earlier : (left : Blocks) → PowerLossLeavesPairOldOrChanged (with_history t mid.history) index changes left → PowerLossLeavesPairOldOrChanged t index changes left
+    earlier left is = record { content = is.content; is = is.is; written = written_earlier t mid.history index is.content (disk_with_blocks left t.disk) is.written }
 
 -- ---- what it tells
 
@@ -78,7 +78,7 @@ same_err : {A : Type 0} (a b : Error) (r : Result A Error) → r ≡ Err a → r
 same_err a b r h k = cc
 
 -- an error passed on
-reported_again : {X Y : Type 0} (t new : Kept) (e : Error) (result : Result X Error) (given : Result Y Error) → result ≡ Err e → given ≡ Err e → HasReportedIoOrUnwrittenNoMemory t new result → HasReportedIoOrUnwrittenNoMemory t new given
+reported_again : {X Y : Type 0} (t new : KeptThread) (e : Error) (result : Result X Error) (given : Result Y Error) → result ≡ Err e → given ≡ Err e → IoMeantFaultNoMemoryWroteNothing t new result → IoMeantFaultNoMemoryWroteNothing t new given
 reported_again t new e result given is same reported = record {
   errors = subst (λ r. IfErr r (λ x. (x ≡ Io) ⊎ (x ≡ NoMemory))) (sym same) (subst (λ r. IfErr r (λ x. (x ≡ Io) ⊎ (x ≡ NoMemory))) is reported.errors);
   fault = λ io. reported.fault (is ∙ ap Err (same_err e Io given same io));
@@ -87,10 +87,10 @@ reported_again t new e result given is same reported = record {
 }
 
 pub over_unread : {X Y : Type 0} (old new : ThreadView) (e : Error) (result : Result X Error) (given : Result Y Error) → result ≡ Err e → given ≡ Err e → new.failed ≡ false → IsThreadOnlyRead old.kept new.kept
-    → HasReportedIoOrUnwrittenNoMemory old.kept new.kept result → ReportsSlotReadThenCommit old new given
+    → IoMeantFaultNoMemoryWroteNothing old.kept new.kept result → ReportsErrorsOfReadThenCommit old new given
 over_unread old new e result given is same works only reported = record { failed = inr (works, only); reported = reported_again old.kept new.kept e result given is same reported }
 
-later : {X : Type 0} (t : Kept) (h : List CallEvent) (new : Kept) (result : Result X Error) → AreCallsSinceOnlyReads t.disk.blocks t.history h → faults h ≡ faults t.history → HasReportedIoOrUnwrittenNoMemory (with_history t h) new result → HasReportedIoOrUnwrittenNoMemory t new result
+later : {X : Type 0} (t : KeptThread) (h : List DeviceCallEvent) (new : KeptThread) (result : Result X Error) → AreCallsSinceOnlyReads t.disk.blocks t.history h → fault_count_of_history h ≡ fault_count_of_history t.history → IoMeantFaultNoMemoryWroteNothing (with_history t h) new result → IoMeantFaultNoMemoryWroteNothing t new result
 later t h new result reads same reported = record {
   errors = reported.errors;
   fault = λ io. (let k = reported.fault io in omega (arith, k, same));
@@ -98,18 +98,18 @@ later t h new result reads same reported = record {
   unwritten = λ none. (let u = reported.unwritten none in record { disk = u.disk; reads = AreCallsSinceOnlyReads-trans reads u.reads refl });
 }
 
-reported_later : {X : Type 0} (t mid new : Kept) (result : Result X Error) → IsThreadOnlyRead t mid → faults mid.history ≡ faults t.history → HasReportedIoOrUnwrittenNoMemory mid new result → HasReportedIoOrUnwrittenNoMemory t new result
-reported_later t mid new result only same reported = later t mid.history new result only.reads same (subst (λ (k : Kept). HasReportedIoOrUnwrittenNoMemory k new result) (read_is t mid only) reported)
+reported_later : {X : Type 0} (t mid new : KeptThread) (result : Result X Error) → IsThreadOnlyRead t mid → fault_count_of_history mid.history ≡ fault_count_of_history t.history → IoMeantFaultNoMemoryWroteNothing mid new result → IoMeantFaultNoMemoryWroteNothing t new result
+reported_later t mid new result only same reported = later t mid.history new result only.reads same (subst (λ (k : KeptThread). IoMeantFaultNoMemoryWroteNothing k new result) (read_is t mid only) reported)
 
 pub over_failed : {X Y : Type 0} (old mid new : ThreadView) (e : Error) (result : Result X Error) (given : Result Y Error) → result ≡ Err e → given ≡ Err e → IsThreadOnlyRead old.kept mid.kept
-    → faults mid.kept.history ≡ faults old.kept.history → new.failed ≡ is_err result → HasReportedIoOrUnwrittenNoMemory mid.kept new.kept result → ReportsSlotReadThenCommit old new given
+    → fault_count_of_history mid.kept.history ≡ fault_count_of_history old.kept.history → new.failed ≡ is_err result → IoMeantFaultNoMemoryWroteNothing mid.kept new.kept result → ReportsErrorsOfReadThenCommit old new given
 over_failed old mid new e result given is same only faultless failed reported = record {
   failed = inl (failed ∙ ap is_err is ∙ sym (ap is_err same));
   reported = reported_again old.kept new.kept e result given is same (reported_later old.kept mid.kept new.kept result only faultless reported);
 }
 
 pub over_done : {X Y : Type 0} (old mid new : ThreadView) (x : X) (y : Y) (result : Result X Error) (given : Result Y Error) → result ≡ Ok x → given ≡ Ok y → IsThreadOnlyRead old.kept mid.kept
-    → faults mid.kept.history ≡ faults old.kept.history → new.failed ≡ is_err result → HasReportedIoOrUnwrittenNoMemory mid.kept new.kept result → ReportsSlotReadThenCommit old new given
+    → fault_count_of_history mid.kept.history ≡ fault_count_of_history old.kept.history → new.failed ≡ is_err result → IoMeantFaultNoMemoryWroteNothing mid.kept new.kept result → ReportsErrorsOfReadThenCommit old new given
 over_done old mid new x y result given is same only faultless failed reported = record {
   failed = inl (failed ∙ ap is_err is ∙ sym (ap is_err same));
   reported = record {

@@ -1,31 +1,31 @@
 -- A rename within one pair onto a file.
 use Rattle.std.proofs.Common.{ℕ, ◌≡◌, ◌≤◌, ◌+◌, ◌⊎◌, inl, inr, true, List, [], ◌∷◌, ◌++◌, refl, sym, ap, subst, ◌∙◌, append_assoc, append-nil}
-use Rattle.lfs_model.specs.TreeEdits.{renamed}
+use Rattle.lfs_model.specs.TreeEdits.{tree_after_rename}
 use Rattle.lfs_model.specs.Changes.{Delete}
 use Rattle.lfs_model.specs.Content.{raw_content_of_pair_at}
 use Rattle.lfs_model.specs.Disk.{Disk}
-use Rattle.lfs_model.specs.History.{CallEvent}
+use Rattle.lfs_model.specs.History.{DeviceCallEvent}
 use Rattle.lfs_model.specs.InDirectory.{HasEntryOfNameAtId}
-use Rattle.lfs_model.specs.Names.{Name, is_name}
-use Rattle.lfs_model.specs.PowerLoss.{SurvivesStopsSince}
+use Rattle.lfs_model.specs.Names.{Name, is_valid_name}
+use Rattle.lfs_model.specs.PowerLoss.{SurvivesPowerLossInCallsSince}
 use Rattle.lfs_model.specs.Slots.{IsContentFittingPair, Slot, same_pair}
 use Rattle.lfs_model.specs.Thread.{Pair, blocks_of_pairs}
 use Rattle.lfs_model.specs.View.{IsFileOrDirectoryEntry}
 use Rattle.lfs_model.specs.Shown.{IsPathToDirectory, skip_list_blocks_of_struct, tree_on_disk, used_blocks}
-use Rattle.lfs_model.proofs.Changes.{Follows}
+use Rattle.lfs_model.proofs.Changes.{IsImageAfterTreeChange}
 use Rattle.lfs_model.proofs.Committed.{IsCommit, commit_step, recovered_from}
-use Rattle.lfs_model.proofs.Counts.{count}
+use Rattle.lfs_model.proofs.Counts.{occurrence_count_of_number}
 use Rattle.lfs_model.proofs.OneCommit.{some_filled}
 use Rattle.lfs_model.proofs.RenameOntoFile.{onto_file_ahead_completed, onto_file_behind_completed}
-use Rattle.lfs_model.proofs.Renames.{rename_walk}
+use Rattle.lfs_model.proofs.Renames.{directory_addresses_after_rename}
 use Rattle.lfs_model.proofs.Searches.{is_site, number_is, site}
 use Rattle.lfs_model.proofs.Sites.{Site, begin_of, thread_at}
-use Rattle.lfs_thread.specs.Device.{StopsAfterCleanErasesLeave}
-use Rattle.lfs_thread.specs.Kept.{Kept}
-use Rattle.lfs_thread.specs.Steps.{kept_pair_at_index}
+use Rattle.lfs_thread.specs.Device.{PowerLossLeavesSuchBlocksAfterCleanErases}
+use Rattle.lfs_thread.specs.Kept.{KeptThread}
+use Rattle.lfs_thread.specs.Steps.{thread_pair_at_index}
 use Rattle.lfs_operations.specs.Changing.{CanChangeOrSplitPair, IsLeftByStoppedChangeOrSplit, IsPairChangedOrSplit}
 use Rattle.lfs_operations.specs.Editing.{CanEditEntryOfPair}
-use Rattle.lfs_operations.specs.Ready.{ShowsTreeReadyOnceBlocksSettle}
+use Rattle.lfs_operations.specs.Ready.{ShowsTreeReadyOnceMapIsUpdated}
 use Rattle.lfs_operations.specs.Renaming.{CanRenameOntoFileInPair, IsEntryRenamedOntoFileInPair, id_after_slot_removal, rename_onto_file_in_pair_changes, tree_with_renamed_entry}
 use Rattle.lfs_operations.specs.RenamingSlots.{HasSlotOfId}
 use Rattle.lfs_operations.proofs.Held.{CompletesTo, raw_there}
@@ -37,7 +37,7 @@ use Rattle.lfs_operations.proofs.RenameStepped.{IsMoving, moved_becomes, moved_c
 use Rattle.lfs_operations.proofs.RenameTarget as both
 use Rattle.lfs_operations.proofs.RenameTarget.{Follower, follower}
 
-module _ (t : Kept) (index id place : ℕ) (name : Name) (rename : CanRenameOntoFileInPair t index id place name) where
+module _ (t : KeptThread) (index id place : ℕ) (name : Name) (rename : CanRenameOntoFileInPair t index id place name) where
   abbrev can : CanEditEntryOfPair t index id
   can = rename.can
 
@@ -77,13 +77,13 @@ module _ (t : Kept) (index id place : ℕ) (name : Name) (rename : CanRenameOnto
   same_there : same_pair (begin_of w (p ∷ [])) can.at ≡ true
   same_there = both.same_there t index id place name can rename.target rename.differs
 
-  abbrev c : CompletesTo (raw_content_of_pair_at t.disk (kept_pair_at_index t index).at) p.content
+  abbrev c : CompletesTo (raw_content_of_pair_at t.disk (thread_pair_at_index t index).at) p.content
   c = raw_there t can.ready can.first index p can.stands.rest can.stands.place
 
   differs : target.name ≡ u.name → ⊥
   differs = both.differs t index id place name can rename.target rename.differs
 
-  named : is_name name ≡ true
+  named : is_valid_name name ≡ true
   named = both.named t index id place name can rename.target rename.differs
 
   entry_again : IsFileOrDirectoryEntry u → IsFileOrDirectoryEntry (with_name u name)
@@ -150,8 +150,8 @@ module _ (t : Kept) (index id place : ℕ) (name : Name) (rename : CanRenameOnto
       move = refl;
       filled = λ e. some_filled (s.left ++ d.passed) r2 (with_name u name) (now_behind ∙ e);
       follows = λ disk q more k.
-          subst (λ (n : Name). Follows t.disk (thread_at w (p ∷ [])) disk (thread_at w (q ∷ more)) (renamed (can.path ++ n ∷ []) (can.path ++ name ∷ [])) (rename_walk (can.path ++ n ∷ []) (can.path ++ name ∷ []))) s.named
-          (subst (λ (n : Name). Follows t.disk (thread_at w (p ∷ [])) disk (thread_at w (q ∷ more)) (renamed (can.path ++ u.name ∷ []) (can.path ++ n ∷ [])) (rename_walk (can.path ++ u.name ∷ []) (can.path ++ n ∷ []))) rename.target.stands.named
+          subst (λ (n : Name). IsImageAfterTreeChange t.disk (thread_at w (p ∷ [])) disk (thread_at w (q ∷ more)) (tree_after_rename (can.path ++ n ∷ []) (can.path ++ name ∷ [])) (directory_addresses_after_rename (can.path ++ n ∷ []) (can.path ++ name ∷ []))) s.named
+          (subst (λ (n : Name). IsImageAfterTreeChange t.disk (thread_at w (p ∷ [])) disk (thread_at w (q ∷ more)) (tree_after_rename (can.path ++ u.name ∷ []) (can.path ++ n ∷ [])) (directory_addresses_after_rename (can.path ++ u.name ∷ []) (can.path ++ n ∷ []))) rename.target.stands.named
           (onto_behind_follows t.disk disk w p q more (blocks_of_pairs more) s.left u d.passed target r2
           (commit_step t.disk disk w p q more [] s.left (u ∷ (d.passed ++ target ∷ [])) (d.passed ++ with_name u target.name ∷ []) r2 (under_its_name disk q more k)) k.was s.entry rename.target.stands.entry
           (λ e. (rename.file, (recovered_from t.disk (thread_at w (p ∷ [])) k.accepted k.settled).reached)) differs can.path can.at leads_there same_there));
@@ -201,8 +201,8 @@ module _ (t : Kept) (index id place : ℕ) (name : Name) (rename : CanRenameOnto
       move = refl;
       filled = some_filled l2 (passed ++ s.right) (with_name u name);
       follows = λ disk q more k.
-          subst (λ (n : Name). Follows t.disk (thread_at w (p ∷ [])) disk (thread_at w (q ∷ more)) (renamed (can.path ++ n ∷ []) (can.path ++ name ∷ [])) (rename_walk (can.path ++ n ∷ []) (can.path ++ name ∷ []))) s.named
-          (subst (λ (n : Name). Follows t.disk (thread_at w (p ∷ [])) disk (thread_at w (q ∷ more)) (renamed (can.path ++ u.name ∷ []) (can.path ++ n ∷ [])) (rename_walk (can.path ++ u.name ∷ []) (can.path ++ n ∷ []))) rename.target.stands.named
+          subst (λ (n : Name). IsImageAfterTreeChange t.disk (thread_at w (p ∷ [])) disk (thread_at w (q ∷ more)) (tree_after_rename (can.path ++ n ∷ []) (can.path ++ name ∷ [])) (directory_addresses_after_rename (can.path ++ n ∷ []) (can.path ++ name ∷ []))) s.named
+          (subst (λ (n : Name). IsImageAfterTreeChange t.disk (thread_at w (p ∷ [])) disk (thread_at w (q ∷ more)) (tree_after_rename (can.path ++ u.name ∷ []) (can.path ++ n ∷ [])) (directory_addresses_after_rename (can.path ++ u.name ∷ []) (can.path ++ n ∷ []))) rename.target.stands.named
           (onto_ahead_follows t.disk disk w p q more (blocks_of_pairs more) l2 u passed target s.right
           (commit_step t.disk disk w p q more [] l2 (target ∷ (passed ++ u ∷ [])) (with_name u target.name ∷ passed) s.right (under_that_name disk q more k)) k.was s.entry rename.target.stands.entry
           (λ e. (rename.file, (recovered_from t.disk (thread_at w (p ∷ [])) k.accepted k.settled).reached)) differs can.path can.at leads_there same_there));
@@ -233,15 +233,15 @@ module _ (t : Kept) (index id place : ℕ) (name : Name) (rename : CanRenameOnto
       go (inl d) = moving_behind d
       go (inr d) = let f = ahead_of d in moving_ahead f.between (d.front ∙ ap (λ z. l2 ++ z) f.are) f.back
 
-  pub renamed_onto : (new : Kept) → IsPairChangedOrSplit t index (rename_onto_file_in_pair_changes t index id place name) new → IsEntryRenamedOntoFileInPair t new rename.can.path rename.can.name name rename.target.stands.slot.struct
+  pub renamed_onto : (new : KeptThread) → IsPairChangedOrSplit t index (rename_onto_file_in_pair_changes t index id place name) new → IsEntryRenamedOntoFileInPair t new rename.can.path rename.can.name name rename.target.stands.slot.struct
   renamed_onto new is = record {
-    now = subst (λ z. ShowsTreeReadyOnceBlocksSettle t new (tree_with_renamed_entry t can.path can.name name) z []) (append-nil (skip_list_blocks_of_struct t.disk target.struct))
+    now = subst (λ z. ShowsTreeReadyOnceMapIsUpdated t new (tree_with_renamed_entry t can.path can.name name) z []) (append-nil (skip_list_blocks_of_struct t.disk target.struct))
         (moved_becomes t index (rename_onto_file_in_pair_changes t index id place name) can.path can.name name (target ∷ []) moving new is);
-    once = subst (λ (z : List ℕ). (b : ℕ) → count b (used_blocks new.disk new.pairs) + count b z ≤ 1) (append-nil (skip_list_blocks_of_struct t.disk target.struct))
+    once = subst (λ (z : List ℕ). (b : ℕ) → occurrence_count_of_number b (used_blocks new.disk new.pairs) + occurrence_count_of_number b z ≤ 1) (append-nil (skip_list_blocks_of_struct t.disk target.struct))
         (moved_once t index (rename_onto_file_in_pair_changes t index id place name) can.path can.name name (target ∷ []) moving new is);
     completed = moved_completed t index (rename_onto_file_in_pair_changes t index id place name) can.path can.name name (target ∷ []) moving new is;
   }
 
-  pub onto_survives : (new : List CallEvent) → StopsAfterCleanErasesLeave t.history new (IsLeftByStoppedChangeOrSplit t index (rename_onto_file_in_pair_changes t index id place name))
-      → SurvivesStopsSince t.disk t.history new (tree_on_disk t.disk t.pairs) (tree_with_renamed_entry t rename.can.path rename.can.name name)
+  pub onto_survives : (new : List DeviceCallEvent) → PowerLossLeavesSuchBlocksAfterCleanErases t.history new (IsLeftByStoppedChangeOrSplit t index (rename_onto_file_in_pair_changes t index id place name))
+      → SurvivesPowerLossInCallsSince t.disk t.history new (tree_on_disk t.disk t.pairs) (tree_with_renamed_entry t rename.can.path rename.can.name name)
   onto_survives new stops = moved_survives t index (rename_onto_file_in_pair_changes t index id place name) can.path can.name name (target ∷ []) moving new stops

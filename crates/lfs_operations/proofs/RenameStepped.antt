@@ -1,35 +1,35 @@
 -- A rename within one pair as a step of the thread, whatever is replaced by whatever.
 use Rattle.std.proofs.Common.{ℕ, ◌≡◌, ◌≢◌, ◌≤◌, ◌+◌, List, [], ◌∷◌, ◌++◌, sym, ap, subst, ◌∙◌, arith}
-use Rattle.lfs_model.specs.TreeEdits.{renamed}
-use Rattle.lfs_model.specs.Changes.{ContentChange}
+use Rattle.lfs_model.specs.TreeEdits.{tree_after_rename}
+use Rattle.lfs_model.specs.Changes.{PairContentChange}
 use Rattle.lfs_model.specs.Disk.{Disk}
-use Rattle.lfs_model.specs.History.{CallEvent}
+use Rattle.lfs_model.specs.History.{DeviceCallEvent}
 use Rattle.lfs_model.specs.Names.{Name}
 use Rattle.lfs_model.specs.Operations as ops
-use Rattle.lfs_model.specs.PowerLoss.{SurvivesStopsSince}
+use Rattle.lfs_model.specs.PowerLoss.{SurvivesPowerLossInCallsSince}
 use Rattle.lfs_model.specs.Session.{Session}
 use Rattle.lfs_model.specs.Slots.{Slot}
-use Rattle.lfs_model.specs.Refusals.{path_or_root}
+use Rattle.lfs_model.specs.Refusals.{path_of_bytes_or_root}
 use Rattle.lfs_model.specs.Thread.{Pair}
 use Rattle.lfs_model.specs.Tree.{Path}
 use Rattle.lfs_model.specs.Shown.{tree_on_disk, used_blocks}
-use Rattle.lfs_model.proofs.Changes.{Follows}
-use Rattle.lfs_model.proofs.Committed.{IsCommit, IsCompleted}
-use Rattle.lfs_model.proofs.Renames.{rename_walk}
+use Rattle.lfs_model.proofs.Changes.{IsImageAfterTreeChange}
+use Rattle.lfs_model.proofs.Committed.{IsCommit, IsImageAfterCompletedOperation}
+use Rattle.lfs_model.proofs.Renames.{directory_addresses_after_rename}
 use Rattle.lfs_model.proofs.Sites.{Site, thread_at}
-use Rattle.lfs_model.proofs.Splices.{files_of}
-use Rattle.lfs_thread.specs.Device.{StopsAfterCleanErasesLeave}
-use Rattle.lfs_thread.specs.Kept.{Kept}
+use Rattle.lfs_model.proofs.Splices.{file_blocks_of_slots}
+use Rattle.lfs_thread.specs.Device.{PowerLossLeavesSuchBlocksAfterCleanErases}
+use Rattle.lfs_thread.specs.Kept.{KeptThread}
 use Rattle.lfs_operations.specs.Changing.{IsLeftByStoppedChangeOrSplit, IsPairChangedOrSplit}
-use Rattle.lfs_operations.specs.Ready.{ShowsTreeReadyOnceBlocksSettle}
-use Rattle.lfs_model.proofs.Counts.{count}
+use Rattle.lfs_operations.specs.Ready.{ShowsTreeReadyOnceMapIsUpdated}
+use Rattle.lfs_model.proofs.Counts.{occurrence_count_of_number}
 use Rattle.lfs_operations.specs.Renaming.{CompletesRenameInDirectory, tree_with_renamed_entry}
 use Rattle.lfs_operations.proofs.RenamePlaced.{IsPlaced, splicing}
 use Rattle.lfs_operations.proofs.Splicing.{IsSplicing}
 use Rattle.lfs_operations.proofs.Stepped.{HasStep, becomes, put_step, survives}
 
 -- The slots that are replaced, and those by which they are; each commit of them is a rename.
-pub record IsMoving (t : Kept) (index : ℕ) (changes : List ContentChange) (path : Path) (from to : Name) (gone : List Slot) : Type 1 where
+pub record IsMoving (t : KeptThread) (index : ℕ) (changes : List PairContentChange) (path : Path) (from to : Name) (gone : List Slot) : Type 1 where
   pub w : Site
   pub p : Pair
   pub l : List Slot
@@ -42,35 +42,35 @@ pub record IsMoving (t : Kept) (index : ℕ) (changes : List ContentChange) (pat
   pub move : placed.content.move ≡ p.content.move
   pub filled : l ++ (news ++ r) ≢ []
   pub follows : (disk : Disk) (q : Pair) (more : List Pair) → IsCommit t.disk disk w p q more [] l olds news r
-      → Follows t.disk (thread_at w (p ∷ [])) disk (thread_at w (q ∷ more)) (renamed (path ++ from ∷ []) (path ++ to ∷ [])) (rename_walk (path ++ from ∷ []) (path ++ to ∷ []))
+      → IsImageAfterTreeChange t.disk (thread_at w (p ∷ [])) disk (thread_at w (q ∷ more)) (tree_after_rename (path ++ from ∷ []) (path ++ to ∷ [])) (directory_addresses_after_rename (path ++ from ∷ []) (path ++ to ∷ []))
   pub completed : (disk : Disk) (q : Pair) (more : List Pair) → IsCommit t.disk disk w p q more [] l olds news r → (s : Session) (given to_given : List ℕ) → s.tree ≡ tree_on_disk t.disk (thread_at w (p ∷ []))
-      → path_or_root given ≡ path ++ from ∷ [] → path_or_root to_given ≡ path ++ to ∷ [] → IsCompleted t.disk (thread_at w (p ∷ [])) s (ops.Rename given to_given) disk (thread_at w (q ∷ more))
+      → path_of_bytes_or_root given ≡ path ++ from ∷ [] → path_of_bytes_or_root to_given ≡ path ++ to ∷ [] → IsImageAfterCompletedOperation t.disk (thread_at w (p ∷ [])) s (ops.Rename given to_given) disk (thread_at w (q ∷ more))
 
-module _ (t : Kept) (index : ℕ) (changes : List ContentChange) (path : Path) (from to : Name) (gone : List Slot) (m : IsMoving t index changes path from to gone) where
-  spliced : IsSplicing t index changes m.w m.p m.l m.olds m.news m.r (files_of t.disk gone) []
+module _ (t : KeptThread) (index : ℕ) (changes : List PairContentChange) (path : Path) (from to : Name) (gone : List Slot) (m : IsMoving t index changes path from to gone) where
+  spliced : IsSplicing t index changes m.w m.p m.l m.olds m.news m.r (file_blocks_of_slots t.disk gone) []
   spliced = splicing t index changes m.w m.p m.l m.olds m.news m.r gone m.u m.moved m.placed m.move
 
-  stepped : (new : Kept) → IsPairChangedOrSplit t index changes new → HasStep t m.w m.p m.l m.olds m.news m.r (files_of t.disk gone) [] new
-  stepped new is = put_step t index changes m.w m.p m.l m.olds m.news m.r (files_of t.disk gone) [] spliced new is
+  stepped : (new : KeptThread) → IsPairChangedOrSplit t index changes new → HasStep t m.w m.p m.l m.olds m.news m.r (file_blocks_of_slots t.disk gone) [] new
+  stepped new is = put_step t index changes m.w m.p m.l m.olds m.news m.r (file_blocks_of_slots t.disk gone) [] spliced new is
 
-  pub moved_becomes : (new : Kept) → IsPairChangedOrSplit t index changes new → ShowsTreeReadyOnceBlocksSettle t new (tree_with_renamed_entry t path from to) (files_of t.disk gone) []
-  moved_becomes new is = becomes t index changes m.w m.p m.l m.olds m.news m.r (files_of t.disk gone) [] spliced (renamed (path ++ from ∷ []) (path ++ to ∷ []))
-      (λ disk q more c. (rename_walk (path ++ from ∷ []) (path ++ to ∷ []), m.follows disk q more c.commit)) (λ e. m.filled) new (stepped new is)
+  pub moved_becomes : (new : KeptThread) → IsPairChangedOrSplit t index changes new → ShowsTreeReadyOnceMapIsUpdated t new (tree_with_renamed_entry t path from to) (file_blocks_of_slots t.disk gone) []
+  moved_becomes new is = becomes t index changes m.w m.p m.l m.olds m.news m.r (file_blocks_of_slots t.disk gone) [] spliced (tree_after_rename (path ++ from ∷ []) (path ++ to ∷ []))
+      (λ disk q more c. (directory_addresses_after_rename (path ++ from ∷ []) (path ++ to ∷ []), m.follows disk q more c.commit)) (λ e. m.filled) new (stepped new is)
 
-  pub moved_once : (new : Kept) → IsPairChangedOrSplit t index changes new → (b : ℕ) → count b (used_blocks new.disk new.pairs) + count b (files_of t.disk gone) ≤ 1
+  pub moved_once : (new : KeptThread) → IsPairChangedOrSplit t index changes new → (b : ℕ) → occurrence_count_of_number b (used_blocks new.disk new.pairs) + occurrence_count_of_number b (file_blocks_of_slots t.disk gone) ≤ 1
   moved_once new is b =
       let x = stepped new is in
       let e = x.used.same b in
       let o = x.once b in
       omega arith
 
-  pub moved_completed : (new : Kept) → IsPairChangedOrSplit t index changes new → CompletesRenameInDirectory t new path from to
+  pub moved_completed : (new : KeptThread) → IsPairChangedOrSplit t index changes new → CompletesRenameInDirectory t new path from to
   moved_completed new is s given to_given tree given_is to_is =
       let x = stepped new is in
-      subst (λ y. IsCompleted t.disk y s (ops.Rename given to_given) new.disk new.pairs) (sym m.placed.there)
-      (subst (λ y. IsCompleted t.disk (thread_at m.w (m.p ∷ [])) s (ops.Rename given to_given) new.disk y) (sym x.pairs)
+      subst (λ y. IsImageAfterCompletedOperation t.disk y s (ops.Rename given to_given) new.disk new.pairs) (sym m.placed.there)
+      (subst (λ y. IsImageAfterCompletedOperation t.disk (thread_at m.w (m.p ∷ [])) s (ops.Rename given to_given) new.disk y) (sym x.pairs)
       (m.completed new.disk x.q x.more x.commit.commit s given to_given (tree ∙ ap (tree_on_disk t.disk) m.placed.there) given_is to_is))
 
-  pub moved_survives : (new : List CallEvent) → StopsAfterCleanErasesLeave t.history new (IsLeftByStoppedChangeOrSplit t index changes) → SurvivesStopsSince t.disk t.history new (tree_on_disk t.disk t.pairs) (tree_with_renamed_entry t path from to)
-  moved_survives new stops = survives t index changes m.w m.p m.l m.olds m.news m.r (files_of t.disk gone) [] spliced (renamed (path ++ from ∷ []) (path ++ to ∷ []))
-      (λ disk q more c. (rename_walk (path ++ from ∷ []) (path ++ to ∷ []), m.follows disk q more c.commit)) (λ e. m.filled) new stops
+  pub moved_survives : (new : List DeviceCallEvent) → PowerLossLeavesSuchBlocksAfterCleanErases t.history new (IsLeftByStoppedChangeOrSplit t index changes) → SurvivesPowerLossInCallsSince t.disk t.history new (tree_on_disk t.disk t.pairs) (tree_with_renamed_entry t path from to)
+  moved_survives new stops = survives t index changes m.w m.p m.l m.olds m.news m.r (file_blocks_of_slots t.disk gone) [] spliced (tree_after_rename (path ++ from ∷ []) (path ++ to ∷ []))
+      (λ disk q more c. (directory_addresses_after_rename (path ++ from ∷ []) (path ++ to ∷ []), m.follows disk q more c.commit)) (λ e. m.filled) new stops

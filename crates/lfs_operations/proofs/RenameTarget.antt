@@ -2,9 +2,9 @@
 use Rattle.std.proofs.Common.{ℕ, ◌≡◌, true, List, [], ◌∷◌, ◌++◌, length, Some, sym, ap, subst, ◌∙◌, arith, append_assoc, length-append, refl}
 use Rattle.std.specs.Prelude.{◌≢◌}
 use Rattle.lfs_model.specs.Changes.{Delete}
-use Rattle.lfs_model.specs.Content.{RawContent, slots_if_all_complete}
+use Rattle.lfs_model.specs.Content.{RawPairContent, slots_if_names_and_structs_present}
 use Rattle.lfs_model.specs.InDirectory.{IsPlaceOfNameInDirectory, HasEntryOfNameAtId}
-use Rattle.lfs_model.specs.Names.{Name, is_name}
+use Rattle.lfs_model.specs.Names.{Name, is_valid_name}
 use Rattle.lfs_model.specs.Slots.{IsContentFittingPair, Slot, same_pair}
 use Rattle.lfs_model.specs.Thread.{Pair}
 use Rattle.lfs_model.specs.View.{IsFileOrDirectoryEntry}
@@ -12,7 +12,7 @@ use Rattle.lfs_model.specs.Shown.{IsPathToDirectory}
 use Rattle.lfs_model.proofs.Counts.{Each, each_right}
 use Rattle.lfs_model.proofs.Searches.{same, site, thread_is}
 use Rattle.lfs_model.proofs.Sites.{Site, begin_of, thread_at}
-use Rattle.lfs_thread.specs.Kept.{Kept}
+use Rattle.lfs_thread.specs.Kept.{KeptThread}
 use Rattle.lfs_operations.specs.Editing.{CanEditEntryOfPair}
 use Rattle.lfs_operations.specs.Renaming.{id_after_slot_removal}
 use Rattle.lfs_operations.specs.RenamingSlots.{HasSlotOfId}
@@ -35,7 +35,7 @@ follower target tail u behind (x ∷ passed) apart e = record { between = passed
     first : x ≡ target
     first = cc
 
-module _ (t : Kept) (index id place : ℕ) (name : Name) (can : CanEditEntryOfPair t index id) (to : IsPlaceOfNameInDirectory t.pairs can.first name index place) (apart : name ≢ can.name) where
+module _ (t : KeptThread) (index id place : ℕ) (name : Name) (can : CanEditEntryOfPair t index id) (to : IsPlaceOfNameInDirectory t.pairs can.first name index place) (apart : name ≢ can.name) where
   abbrev s : HasEntryOfNameAtId can.stands.pair.content.slots can.name id
   s = can.stands.stands
 
@@ -82,11 +82,11 @@ module _ (t : Kept) (index id place : ℕ) (name : Name) (can : CanEditEntryOfPa
   differs e = apart (sym to.stands.named ∙ e ∙ s.named)
 
   -- the other entry has the name, so this one may have it
-  pub named : is_name name ≡ true
+  pub named : is_valid_name name ≡ true
   named =
       let all = each_pair t can.ready can.first index p can.stands.rest can.stands.place (λ x. Each IsEntryIfOther x.content.slots) (other_entries t.disk t.pairs can.ready.accepted) in
       let e = (each_right IsEntryIfOther to.stands.left (target ∷ to.stands.right) (subst (Each IsEntryIfOther) target_held all)).0 to.stands.entry in
-      ap is_name (sym to.stands.named) ∙ e.name
+      ap is_valid_name (sym to.stands.named) ∙ e.name
 
   pub entry_again : IsFileOrDirectoryEntry can.stands.stands.slot → IsFileOrDirectoryEntry (with_name can.stands.stands.slot name)
   entry_again e = record { name = named; struct = e.struct }
@@ -103,7 +103,7 @@ module _ (t : Kept) (index id place : ℕ) (name : Name) (can : CanEditEntryOfPa
     pub fits_both : IsContentFittingPair t.disk.block_size t.disk.page (record can.stands.pair.content { slots = x ++ y })
     fits_both = fits_without t.disk.block_size t.disk.page (record p.content { slots = x ++ target ∷ y }) x target y refl fits_one
 
-    module _ (raw : RawContent) (all : slots_if_all_complete raw.slots ≡ Some can.stands.pair.content.slots) where
+    module _ (raw : RawPairContent) (all : slots_if_names_and_structs_present raw.slots ≡ Some can.stands.pair.content.slots) where
       left_one : Leaves raw (Delete id ∷ []) (x ++ target ∷ y)
       left_one = subst (Leaves raw (Delete id ∷ [])) over.0
           (leaves_without raw s.left u s.right id (let few = fits_here.count in let i = made.within t index id can.ready can.first p can.stands.rest can.stands.place can.logged can.name s in omega arith) s.number

@@ -1,29 +1,29 @@
 -- A rename within one pair to a name that is new.
 use Rattle.std.proofs.Common.{ℕ, ◌≡◌, ◌⊎◌, inl, inr, ◌-◌, ◌<◌, ◌≤◌, true, cond, List, [], ◌∷◌, ◌++◌, length, Some, refl, sym, ap, subst, ◌∙◌, arith, append_assoc, append-nil, length-append}
 use Rattle.std.proofs.lemmas.Bool.{le-ltb, lt-ltb}
-use Rattle.lfs_model.specs.TreeEdits.{renamed}
+use Rattle.lfs_model.specs.TreeEdits.{tree_after_rename}
 use Rattle.lfs_model.specs.Changes.{Delete}
 use Rattle.lfs_model.specs.Content.{raw_content_of_pair_at}
-use Rattle.lfs_model.specs.History.{CallEvent}
+use Rattle.lfs_model.specs.History.{DeviceCallEvent}
 use Rattle.lfs_model.specs.InDirectory.{IsPlaceWhereNameBelongs, HasEntryOfNameAtId}
 use Rattle.lfs_model.specs.Names.{Name}
-use Rattle.lfs_model.specs.PowerLoss.{SurvivesStopsSince}
+use Rattle.lfs_model.specs.PowerLoss.{SurvivesPowerLossInCallsSince}
 use Rattle.lfs_model.specs.Slots.{IsContentFittingPair, Slot, same_pair}
 use Rattle.lfs_model.specs.Thread.{Pair, starts_with_superblock}
 use Rattle.lfs_model.specs.View.{IsFileOrDirectoryEntry}
 use Rattle.lfs_model.specs.Shown.{IsPathToDirectory, entries_by_directory_in_thread, tree_on_disk}
-use Rattle.lfs_model.proofs.Changes.{Follows}
+use Rattle.lfs_model.proofs.Changes.{IsImageAfterTreeChange}
 use Rattle.lfs_model.proofs.Committed.{no_move_from}
 use Rattle.lfs_model.proofs.Moves.{place_at}
 use Rattle.lfs_model.proofs.Names.{IsPlace}
 use Rattle.lfs_model.proofs.OneCommit.{some_filled}
 use Rattle.lfs_model.proofs.RenameSteps.{ahead_follows, behind_follows, renamed_ahead_completed, renamed_behind_completed}
-use Rattle.lfs_model.proofs.Renames.{rename_walk}
+use Rattle.lfs_model.proofs.Renames.{directory_addresses_after_rename}
 use Rattle.lfs_model.proofs.Searches.{is_site, number_is, place_of_belongs, same, site, thread_is}
 use Rattle.lfs_model.proofs.Sites.{Site, begin_of, thread_at}
-use Rattle.lfs_thread.specs.Device.{StopsAfterCleanErasesLeave}
-use Rattle.lfs_thread.specs.Kept.{Kept}
-use Rattle.lfs_thread.specs.Steps.{kept_pair_at_index}
+use Rattle.lfs_thread.specs.Device.{PowerLossLeavesSuchBlocksAfterCleanErases}
+use Rattle.lfs_thread.specs.Kept.{KeptThread}
+use Rattle.lfs_thread.specs.Steps.{thread_pair_at_index}
 use Rattle.lfs_operations.specs.Changing.{CanChangeOrSplitPair, IsLeftByStoppedChangeOrSplit, IsPairChangedOrSplit}
 use Rattle.lfs_operations.specs.Editing.{CanEditEntryOfPair}
 use Rattle.lfs_operations.specs.Renaming.{CanRenameWithinPair, IsEntryRenamedInPair, id_after_slot_removal, rename_within_pair_changes, tree_with_renamed_entry}
@@ -41,7 +41,7 @@ place_behind_is id place less = ap (λ b. cond b (place - 1) place) (lt-ltb id p
 pub place_ahead_is : (id place : ℕ) → place ≤ id → id_after_slot_removal id place ≡ place
 place_ahead_is id place le = ap (λ b. cond b (place - 1) place) (le-ltb id place le)
 
-module _ (t : Kept) (index id place : ℕ) (name : Name) (rename : CanRenameWithinPair t index id place name) where
+module _ (t : KeptThread) (index id place : ℕ) (name : Name) (rename : CanRenameWithinPair t index id place name) where
   abbrev can : CanEditEntryOfPair t index id
   can = rename.can
 
@@ -96,7 +96,7 @@ module _ (t : Kept) (index id place : ℕ) (name : Name) (rename : CanRenameWith
   fits_here : IsContentFittingPair t.disk.block_size t.disk.page p.content
   fits_here = fits_there t can.ready can.first index p (b.later ++ b.rest) b.place
 
-  abbrev c : CompletesTo (raw_content_of_pair_at t.disk (kept_pair_at_index t index).at) p.content
+  abbrev c : CompletesTo (raw_content_of_pair_at t.disk (thread_pair_at_index t index).at) p.content
   c = raw_there t can.ready can.first index p (b.later ++ b.rest) b.place
 
   -- ---- the slots that are left are cut in two
@@ -168,7 +168,7 @@ module _ (t : Kept) (index id place : ℕ) (name : Name) (rename : CanRenameWith
       move = refl;
       filled = λ e. some_filled (s.left ++ d.passed) b.right (with_name u name)
           (append_assoc s.left d.passed (with_name u name ∷ b.right) ∙ ap (λ z. s.left ++ z) (sym (append_assoc d.passed (with_name u name ∷ []) b.right)) ∙ e);
-      follows = λ disk q more k. subst (λ (n : Name). Follows t.disk (thread_at w (p ∷ [])) disk (thread_at w (q ∷ more)) (renamed (can.path ++ n ∷ []) (can.path ++ name ∷ [])) (rename_walk (can.path ++ n ∷ []) (can.path ++ name ∷ []))) s.named
+      follows = λ disk q more k. subst (λ (n : Name). IsImageAfterTreeChange t.disk (thread_at w (p ∷ [])) disk (thread_at w (q ∷ more)) (tree_after_rename (can.path ++ n ∷ []) (can.path ++ name ∷ [])) (directory_addresses_after_rename (can.path ++ n ∷ []) (can.path ++ name ∷ []))) s.named
           (behind_follows t.disk disk w p q more s.left u d.passed b.right name k s.entry can.path can.at leads_there same_there place_now);
       completed = λ disk q more k z given to_given tree given_is to_is.
           renamed_behind_completed t.disk disk w p q more s.left u d.passed b.right name k s.entry can.path can.at leads_there same_there place_now z given to_given tree
@@ -222,7 +222,7 @@ module _ (t : Kept) (index id place : ℕ) (name : Name) (rename : CanRenameWith
       };
       move = refl;
       filled = some_filled b.left (d.passed ++ s.right) (with_name u name);
-      follows = λ disk q more k. subst (λ (n : Name). Follows t.disk (thread_at w (p ∷ [])) disk (thread_at w (q ∷ more)) (renamed (can.path ++ n ∷ []) (can.path ++ name ∷ [])) (rename_walk (can.path ++ n ∷ []) (can.path ++ name ∷ []))) s.named
+      follows = λ disk q more k. subst (λ (n : Name). IsImageAfterTreeChange t.disk (thread_at w (p ∷ [])) disk (thread_at w (q ∷ more)) (tree_after_rename (can.path ++ n ∷ []) (can.path ++ name ∷ [])) (directory_addresses_after_rename (can.path ++ n ∷ []) (can.path ++ name ∷ []))) s.named
           (ahead_follows t.disk disk w p q more b.left u d.passed s.right name k s.entry can.path can.at leads_there same_there place_there);
       completed = λ disk q more k z given to_given tree given_is to_is.
           renamed_ahead_completed t.disk disk w p q more b.left u d.passed s.right name k s.entry can.path can.at leads_there same_there place_there z given to_given tree
@@ -248,12 +248,12 @@ module _ (t : Kept) (index id place : ℕ) (name : Name) (rename : CanRenameWith
       go (inl d) = moving_behind d
       go (inr d) = moving_ahead d
 
-  pub renamed_within : (new : Kept) → IsPairChangedOrSplit t index (rename_within_pair_changes t index id place name) new → IsEntryRenamedInPair t new rename.can.path rename.can.name name
+  pub renamed_within : (new : KeptThread) → IsPairChangedOrSplit t index (rename_within_pair_changes t index id place name) new → IsEntryRenamedInPair t new rename.can.path rename.can.name name
   renamed_within new is = record {
     now = ready_again t new (tree_with_renamed_entry t can.path can.name name) (moved_becomes t index (rename_within_pair_changes t index id place name) can.path can.name name [] moving new is);
     completed = moved_completed t index (rename_within_pair_changes t index id place name) can.path can.name name [] moving new is;
   }
 
-  pub rename_survives : (new : List CallEvent) → StopsAfterCleanErasesLeave t.history new (IsLeftByStoppedChangeOrSplit t index (rename_within_pair_changes t index id place name))
-      → SurvivesStopsSince t.disk t.history new (tree_on_disk t.disk t.pairs) (tree_with_renamed_entry t rename.can.path rename.can.name name)
+  pub rename_survives : (new : List DeviceCallEvent) → PowerLossLeavesSuchBlocksAfterCleanErases t.history new (IsLeftByStoppedChangeOrSplit t index (rename_within_pair_changes t index id place name))
+      → SurvivesPowerLossInCallsSince t.disk t.history new (tree_on_disk t.disk t.pairs) (tree_with_renamed_entry t rename.can.path rename.can.name name)
   rename_survives new stops = moved_survives t index (rename_within_pair_changes t index id place name) can.path can.name name [] moving new stops

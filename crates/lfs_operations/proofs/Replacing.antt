@@ -4,33 +4,33 @@ use Rattle.std.specs.Prelude.{is_some}
 use Rattle.std.specs.Option.{option_and_then}
 use Rattle.std.proofs.lemmas.Option.{same_Some}
 use Rattle.std.proofs.lemmas.List.Sums.{sum_by-append, sum_by-cons}
-use Rattle.lfs_model.specs.Changes.{ContentChange, content_after_changes}
-use Rattle.lfs_model.specs.Content.{RawContent, RawSlot, raw_content_of_pair_at, complete, content_if_slots_are_complete, raw_slots_after_slot_change, slot_of_id}
-use Rattle.lfs_model.specs.Cut.{CanBeCut}
+use Rattle.lfs_model.specs.Changes.{PairContentChange, raw_pair_content_after_changes}
+use Rattle.lfs_model.specs.Content.{RawPairContent, RawSlot, raw_content_of_pair_at, slot_if_name_and_struct_present, pair_content_if_slots_complete, raw_slots_with_function_applied_at_id, slot_of_id}
+use Rattle.lfs_model.specs.Cut.{CanSplitSlotsIntoTwoPairs}
 use Rattle.lfs_model.specs.Disk.{Disk, SameGeometry, block_bytes_on_disk}
 use Rattle.lfs_model.specs.InDirectory.{IsPlaceOfNameInDirectory}
-use Rattle.lfs_model.specs.Slots.{Slot, Content, IsContentFittingPair, is_superblock, same_pair, slot_size}
-use Rattle.lfs_model.specs.Thread.{Pair, gstate_of, pair_named_by_tail}
-use Rattle.lfs_model.specs.View.{IsFileOrDirectoryEntry, IsListIfCtz}
-use Rattle.lfs_model.specs.Profile.{FitsEntryLimits}
+use Rattle.lfs_model.specs.Slots.{Slot, PairContent, IsContentFittingPair, is_superblock, same_pair, slot_size}
+use Rattle.lfs_model.specs.Thread.{Pair, gstate_of_pairs, pair_address_named_by_tail}
+use Rattle.lfs_model.specs.View.{IsFileOrDirectoryEntry, IsSkipListIfCtzStruct}
+use Rattle.lfs_model.specs.Profile.{IsEntryWithinWritableLimits}
 use Rattle.lfs_model.specs.Shown.{IsPathToDirectory, all_slots_not_moved, skip_list_blocks_of_struct, used_blocks}
 use Rattle.lfs_model.proofs.Committed.{no_move_from}
 use Rattle.lfs_model.proofs.Completed.{complete_set, completed_parts, completed_from}
-use Rattle.lfs_model.proofs.Counts.{Each, each_pieces, each_right, count, count_append}
+use Rattle.lfs_model.proofs.Counts.{Each, each_pieces, each_right, occurrence_count_of_number, count_append}
 use Rattle.lfs_model.proofs.Effects.{Does, IsNamed, does_first, does_nothing}
-use Rattle.lfs_model.proofs.Files.{HasSameFile}
+use Rattle.lfs_model.proofs.Files.{HasSameFileBlocksOfStructOnDisks}
 use Rattle.lfs_model.proofs.Halves.{entry_small, set_cut}
 use Rattle.lfs_model.proofs.Moves.{set_here}
 use Rattle.lfs_model.proofs.Searches.{site, thread_is, is_site, same, number_is}
 use Rattle.lfs_model.proofs.Superblocks.{entry_is_other}
 use Rattle.std.specs.List.{IsDistinct}
-use Rattle.lfs_model.specs.BlockSets.{IsInFlight}
+use Rattle.lfs_model.specs.BlockSets.{IsBlockInFlight}
 use Rattle.lfs_model.proofs.Sites.{Site, dirs_at, thread_at, begin_of}
 use Rattle.lfs_model.proofs.Splices.{unmoved_in}
 use Rattle.lfs_model.proofs.StoredChanges.{logged_changed}
 use Rattle.lfs_pair.specs.Commit.{pair_content_after_changes}
-use Rattle.lfs_thread.specs.Kept.{Kept}
-use Rattle.lfs_thread.specs.Steps.{IsCommitRefused, kept_pair_at_index, complete_content_after_changes}
+use Rattle.lfs_thread.specs.Kept.{KeptThread}
+use Rattle.lfs_thread.specs.Steps.{IsCommitRefused, thread_pair_at_index, complete_content_after_changes}
 use Rattle.lfs_operations.specs.Changing.{CanChangeOrSplitPair}
 use Rattle.lfs_operations.specs.Editing.{CanEditEntryOfPair, slot_of_editable_entry}
 use Rattle.lfs_operations.proofs.Held.{CompletesTo, IsEntryIfOther, below, each_pair, fits_there, here, other_entries, raw_there}
@@ -38,15 +38,15 @@ use Rattle.lfs_operations.proofs.RawSlots.{IsRaw, is_named, is_raw}
 use Rattle.lfs_operations.proofs.Splicing.{IsSplicing}
 
 -- the change makes that of the slot at the id
-abbrev pub Makes : ContentChange → ℕ → (RawSlot → RawSlot) → Type 0
-Makes change id g = (c : RawContent) → id < 0x3ff → IsNamed c.slots id → Does change c (record c { slots = raw_slots_after_slot_change g c.slots id })
+abbrev pub Makes : PairContentChange → ℕ → (RawSlot → RawSlot) → Type 0
+Makes change id g = (c : RawPairContent) → id < 0x3ff → IsNamed c.slots id → Does change c (record c { slots = raw_slots_with_function_applied_at_id g c.slots id })
 
 -- of what is complete it makes something complete
 abbrev pub Turns : (RawSlot → RawSlot) → Slot → Slot → Type 0
-Turns g u v = (x : RawSlot) → complete x ≡ Some u → complete (g x) ≡ Some v
+Turns g u v = (x : RawSlot) → slot_if_name_and_struct_present x ≡ Some u → slot_if_name_and_struct_present (g x) ≡ Some v
 
-module _ (t : Kept) (index id : ℕ) (can : CanEditEntryOfPair t index id) (g : RawSlot → RawSlot) (v : Slot) (change : ContentChange) (does : Makes change id g) (turns : Turns g (slot_of_editable_entry can) v)
-    (fits : FitsEntryLimits t.disk.block_size t.disk.page v) where
+module _ (t : KeptThread) (index id : ℕ) (can : CanEditEntryOfPair t index id) (g : RawSlot → RawSlot) (v : Slot) (change : PairContentChange) (does : Makes change id g) (turns : Turns g (slot_of_editable_entry can) v)
+    (fits : IsEntryWithinWritableLimits t.disk.block_size t.disk.page v) where
   abbrev pub s : IsPlaceOfNameInDirectory t.pairs can.first can.name index id
   s = can.stands
 
@@ -70,7 +70,7 @@ module _ (t : Kept) (index id : ℕ) (can : CanEditEntryOfPair t index id) (g : 
   within : id < length p.content.slots
   within = let h = ap length s.stands.held in let k = length-append l (u ∷ r) in let n = s.stands.number in omega arith
 
-  abbrev c : CompletesTo (raw_content_of_pair_at t.disk (kept_pair_at_index t index).at) p.content
+  abbrev c : CompletesTo (raw_content_of_pair_at t.disk (thread_pair_at_index t index).at) p.content
   c = raw_there t can.ready can.first index p s.rest s.place
 
   raw : IsRaw c.raw.slots l u
@@ -79,35 +79,35 @@ module _ (t : Kept) (index id : ℕ) (can : CanEditEntryOfPair t index id) (g : 
   there_raw : slot_of_id c.raw.slots id ≡ raw.here
   there_raw = ap (slot_of_id c.raw.slots) (sym s.stands.number) ∙ raw.there
 
-  abbrev raw_now : RawContent
-  raw_now = record c.raw { slots = raw_slots_after_slot_change g c.raw.slots id }
+  abbrev raw_now : RawPairContent
+  raw_now = record c.raw { slots = raw_slots_with_function_applied_at_id g c.raw.slots id }
 
-  changed_now : content_after_changes c.raw (change ∷ []) ≡ Some raw_now
+  changed_now : raw_pair_content_after_changes c.raw (change ∷ []) ≡ Some raw_now
   changed_now =
       let few = (fits_there t can.ready can.first index p s.rest s.place).count in
       let m = within in
       does_first change [] c.raw raw_now raw_now (does c.raw (omega arith) (ap (λ (z : RawSlot). is_some z.name) there_raw ∙ is_named raw.here u raw.is)) (does_nothing raw_now)
 
-  made_raw : pair_content_after_changes t.disk (kept_pair_at_index t index).at (change ∷ []) ≡ Some raw_now
-  made_raw = ap (λ o. option_and_then (λ (x : RawContent). content_after_changes x (change ∷ [])) o) c.is ∙ changed_now
+  made_raw : pair_content_after_changes t.disk (thread_pair_at_index t index).at (change ∷ []) ≡ Some raw_now
+  made_raw = ap (λ o. option_and_then (λ (x : RawPairContent). raw_pair_content_after_changes x (change ∷ [])) o) c.is ∙ changed_now
 
-  abbrev now : Content
+  abbrev now : PairContent
   now = record { slots = set p.content.slots id v; tail = p.content.tail; move = p.content.move }
 
   slots_now : set p.content.slots id v ≡ l ++ (v ∷ [] ++ r)
   slots_now = ap₂ (λ (z : List Slot) (i : ℕ). set z i v) s.stands.held (sym s.stands.number) ∙ set_here l r u v
 
-  now_complete : content_if_slots_are_complete raw_now ≡ Some now
+  now_complete : pair_content_if_slots_complete raw_now ≡ Some now
   now_complete =
       let parts = completed_parts c.raw p.content c.complete in
       completed_from raw_now (set p.content.slots id v) (complete_set c.raw.slots p.content.slots id (g (slot_of_id c.raw.slots id)) v parts.slots
-      (ap (λ (z : RawSlot). complete (g z)) there_raw ∙ turns raw.here raw.is))
+      (ap (λ (z : RawSlot). slot_if_name_and_struct_present (g z)) there_raw ∙ turns raw.here raw.is))
       ∙ ap₂ (λ t m. Some (record { slots = set p.content.slots id v; tail = t; move = m })) (sym parts.tail) (sym parts.move)
 
   made : complete_content_after_changes t index (change ∷ []) ≡ Some now
-  made = ap (λ o. option_and_then content_if_slots_are_complete o) made_raw ∙ now_complete
+  made = ap (λ o. option_and_then pair_content_if_slots_complete o) made_raw ∙ now_complete
 
-  cut : CanBeCut t.disk.block_size t.disk.page raw_now.slots
+  cut : CanSplitSlotsIntoTwoPairs t.disk.block_size t.disk.page raw_now.slots
   cut = set_cut t.disk.block_size t.disk.page raw_now now p.content l u v r (logged_changed c.raw (change ∷ []) raw_now (can.logged c.raw c.is) changed_now) now_complete s.stands.held slots_now
       (entry_small t.disk.block_size t.disk.page v can.ready.large fits) (fits_there t can.ready can.first index p s.rest s.place)
 
@@ -126,10 +126,10 @@ module _ (t : Kept) (index id : ℕ) (can : CanEditEntryOfPair t index id) (g : 
       let j = ap length slots_now in
       let k = length-append l (v ∷ r) in
       let size = f.size in
-      let count = f.count in
+      let occurrence_count_of_number = f.count in
       record { size = omega arith; count = omega arith }
 
-  pub not_refused : slot_size v ≤ slot_size u → (new : Kept) → IsCommitRefused t index (change ∷ []) new → ⊥
+  pub not_refused : slot_size v ≤ slot_size u → (new : KeptThread) → IsCommitRefused t index (change ∷ []) new → ⊥
   not_refused less new is = is.too_large (subst (IsContentFittingPair t.disk.block_size t.disk.page) (sym (same_Some is.content now (sym is.made ∙ made))) (fits_as_before less))
 
   pub can_put : CanChangeOrSplitPair t index (change ∷ [])
@@ -138,7 +138,7 @@ module _ (t : Kept) (index id : ℕ) (can : CanEditEntryOfPair t index id) (g : 
       below = below t can.ready can.first index p s.rest s.place;
       content = now;
       made = made;
-      next = ap (λ (z : Pair). pair_named_by_tail z.content.tail) (sym (here t can.ready can.first index p s.rest s.place));
+      next = ap (λ (z : Pair). pair_address_named_by_tail z.content.tail) (sym (here t can.ready can.first index p s.rest s.place));
     };
     raw = raw_now;
     made = made_raw;
@@ -153,7 +153,7 @@ module _ (t : Kept) (index id : ℕ) (can : CanEditEntryOfPair t index id) (g : 
   -- what holds of all slots holds of it
   pub of_slot : (P : Slot → Type 0) → Each P (all_slots_not_moved t.pairs) → P u
   of_slot P h =
-      let on = subst (Each P) (unmoved_in (gstate_of (thread_at w (p ∷ []))) (no_move_from (thread_at w (p ∷ [])) (ap gstate_of (sym there) ∙ can.ready.settled)) (thread_at w (p ∷ []))) (subst (λ z. Each P (all_slots_not_moved z)) there h) in
+      let on = subst (Each P) (unmoved_in (gstate_of_pairs (thread_at w (p ∷ []))) (no_move_from (thread_at w (p ∷ [])) (ap gstate_of_pairs (sym there) ∙ can.ready.settled)) (thread_at w (p ∷ []))) (subst (λ z. Each P (all_slots_not_moved z)) there h) in
       let pieces = each_pieces P (λ (x : Pair). x.content.slots) (thread_at w (p ∷ [])) on in
       let here = (each_right (λ (x : Pair). Each P x.content.slots) (w.before ++ w.left) (p ∷ [] ++ (w.right ++ w.after)) (each_right (λ (x : Pair). Each P x.content.slots) w.chain (dirs_at w (p ∷ [])) pieces)).0 in
       (each_right P l (u ∷ r) (subst (Each P) s.stands.held here)).0
@@ -169,11 +169,11 @@ module _ (t : Kept) (index id : ℕ) (can : CanEditEntryOfPair t index id) (g : 
   -- the blocks that the two name
   pub record Names (gone come : List ℕ) : Type 0 where
     pub entry : IsFileOrDirectoryEntry v
-    pub flying : Each (IsInFlight t.map) come
+    pub flying : Each (IsBlockInFlight t.map) come
     pub apart : IsDistinct nat_eq (come ++ used_blocks t.disk t.pairs)
-    pub lists : (disk : Disk) → SameGeometry t.disk disk → HasSameFile t.disk disk u.struct → Each (λ b. block_bytes_on_disk disk b ≡ block_bytes_on_disk t.disk b) come → IsListIfCtz disk v.struct
-    pub blocks : (disk : Disk) → SameGeometry t.disk disk → HasSameFile t.disk disk u.struct → Each (λ b. block_bytes_on_disk disk b ≡ block_bytes_on_disk t.disk b) come
-        → (b : ℕ) → count b (skip_list_blocks_of_struct disk v.struct) + count b gone ≡ count b come + count b (skip_list_blocks_of_struct t.disk u.struct)
+    pub lists : (disk : Disk) → SameGeometry t.disk disk → HasSameFileBlocksOfStructOnDisks t.disk disk u.struct → Each (λ b. block_bytes_on_disk disk b ≡ block_bytes_on_disk t.disk b) come → IsSkipListIfCtzStruct disk v.struct
+    pub blocks : (disk : Disk) → SameGeometry t.disk disk → HasSameFileBlocksOfStructOnDisks t.disk disk u.struct → Each (λ b. block_bytes_on_disk disk b ≡ block_bytes_on_disk t.disk b) come
+        → (b : ℕ) → occurrence_count_of_number b (skip_list_blocks_of_struct disk v.struct) + occurrence_count_of_number b gone ≡ occurrence_count_of_number b come + occurrence_count_of_number b (skip_list_blocks_of_struct t.disk u.struct)
 
   pub splicing : (gone come : List ℕ) → Names gone come → IsSplicing t index (change ∷ []) w p l (u ∷ []) (v ∷ []) r gone come
   splicing gone come n = record {
@@ -192,9 +192,9 @@ module _ (t : Kept) (index id : ℕ) (can : CanEditEntryOfPair t index id) (g : 
     fit = (((λ e. absurd (let z = sym (entry_is_other v n.entry) ∙ e in cc)), (λ e. fits)), tt);
     flying = n.flying;
     apart = n.apart;
-    lists = λ disk geometry files same. (n.lists disk geometry (of_slot (λ x. HasSameFile t.disk disk x.struct) files) same, tt);
+    lists = λ disk geometry files same. (n.lists disk geometry (of_slot (λ x. HasSameFileBlocksOfStructOnDisks t.disk disk x.struct) files) same, tt);
     blocks = λ disk geometry files same b.
-        let e = n.blocks disk geometry (of_slot (λ x. HasSameFile t.disk disk x.struct) files) same b in
+        let e = n.blocks disk geometry (of_slot (λ x. HasSameFileBlocksOfStructOnDisks t.disk disk x.struct) files) same b in
         let f = count_append b (skip_list_blocks_of_struct disk v.struct) [] in
         let h = count_append b (skip_list_blocks_of_struct t.disk u.struct) [] in
         omega arith;

@@ -4,10 +4,10 @@ use Rattle.std.specs.Option.{option_and_then}
 use Rattle.std.specs.Prelude.{is_some}
 use Rattle.std.proofs.lemmas.Option.{same_Some}
 use Rattle.lfs_model.specs.Disk.{Disk}
-use Rattle.lfs_model.specs.Layout.{directory_address_of_pair, directory_address_after_pair}
+use Rattle.lfs_model.specs.Layout.{directory_address_of_pair, directory_address_continued_by_hard_tail}
 use Rattle.lfs_model.specs.Slots.{Branch, Slot, same_pair}
-use Rattle.lfs_model.specs.Thread.{Pair, pairs_of_all_directories, first_pair_address, gstate_of, is_hard_tail, root_directory_of_pairs}
-use Rattle.lfs_model.specs.Tree.{Path, branch_address_of_struct, directory_address_at_path, directory_address_from_slot, root_slot}
+use Rattle.lfs_model.specs.Thread.{Pair, pairs_from_root_directory_on, first_pair_address, gstate_of_pairs, is_hard_tail, root_directory_address_of_pairs}
+use Rattle.lfs_model.specs.Tree.{Path, branch_address_of_struct, directory_address_at_path, directory_address_at_path_from_slot, root_slot}
 use Rattle.lfs_model.specs.View.{IsAcceptedImage}
 use Rattle.lfs_model.specs.Shown.{IsPathToDirectory, entries_by_directory_in_thread}
 use Rattle.lfs_model.proofs.Found.{HasDirectory, led_directory}
@@ -67,11 +67,11 @@ where_is (a ∷ xs) p ys (f ∷ front) x o back e =
 
 pub soft_end : (from : Option (ℕ × ℕ)) (xs : List Pair) (x : Pair) → is_hard_tail x.content.tail ≡ false → onward_all from (xs ++ x ∷ []) ≡ None
 soft_end from [] x e = ap (λ b. cond b (Some (directory_address_of_pair from x)) None) e
-soft_end from (z ∷ xs) x e = soft_end (directory_address_after_pair from z) xs x e
+soft_end from (z ∷ xs) x e = soft_end (directory_address_continued_by_hard_tail from z) xs x e
 
 pub flag_from : (from : Option (ℕ × ℕ)) (xs : List Pair) → is_some (onward_all from xs) ≡ ends_in_hard_tail (is_some from) xs
 flag_from from [] = refl
-flag_from from (x ∷ xs) = flag_from (directory_address_after_pair from x) xs ∙ ap (λ b. ends_in_hard_tail b xs) (onward_some from x)
+flag_from from (x ∷ xs) = flag_from (directory_address_continued_by_hard_tail from x) xs ∙ ap (λ b. ends_in_hard_tail b xs) (onward_some from x)
 
 ends_last : (xs : List Pair) (x : Pair) → Ends (xs ++ x ∷ []) → is_hard_tail x.content.tail ≡ false
 ends_last [] x h = h
@@ -88,9 +88,9 @@ pub directory_led : (disk : Disk) (ps : List Pair) (P : Path) (a : ℕ × ℕ) (
     → IsPathToDirectory ps (P ++ u.name ∷ []) d
 directory_led disk ps P a k u d ok leads there branch =
     let E = entries_by_directory_in_thread ps in
-    ap (directory_address_at_path (entries_by_directory_in_thread ps) (root_directory_of_pairs ps)) (sym (append-nil (P ++ u.name ∷ [])) ∙ append_step P u.name [])
-    ∙ leads_below (entries_by_directory_in_thread ps) (root_slot (root_directory_of_pairs ps)) P a leads u.name []
-    ∙ ap (option_and_then (λ z. directory_address_from_slot (entries_by_directory_in_thread ps) z [])) (found_at disk.order (entries_by_directory_in_thread ps a) k u ((accepted_sound disk ps ok).tree.order P a leads) there)
+    ap (directory_address_at_path (entries_by_directory_in_thread ps) (root_directory_address_of_pairs ps)) (sym (append-nil (P ++ u.name ∷ [])) ∙ append_step P u.name [])
+    ∙ leads_below (entries_by_directory_in_thread ps) (root_slot (root_directory_address_of_pairs ps)) P a leads u.name []
+    ∙ ap (option_and_then (λ z. directory_address_at_path_from_slot (entries_by_directory_in_thread ps) z [])) (found_at disk.order (entries_by_directory_in_thread ps a) k u ((accepted_sound disk ps ok).tree.order P a leads) there)
     ∙ ap branch_address_of_struct branch
 
 path_some : (P : Path) (n : List ℕ) → [] ≡ P ++ n ∷ [] → ⊥
@@ -133,17 +133,17 @@ front_of dirs d h not_root = by h.before refl
         }
 
 -- the root isn't named by an entry
-pub not_the_root : (disk : Disk) (ps : List Pair) (P : Path) (n : List ℕ) (d : ℕ × ℕ) → IsAcceptedImage disk ps → IsPathToDirectory ps (P ++ n ∷ []) d → same_pair (root_directory_of_pairs ps) d ≡ true → ⊥
-not_the_root disk ps P n d ok led e = path_some P n (ok.once [] (P ++ n ∷ []) (root_directory_of_pairs ps) d refl led e)
+pub not_the_root : (disk : Disk) (ps : List Pair) (P : Path) (n : List ℕ) (d : ℕ × ℕ) → IsAcceptedImage disk ps → IsPathToDirectory ps (P ++ n ∷ []) d → same_pair (root_directory_address_of_pairs ps) d ≡ true → ⊥
+not_the_root disk ps P n d ok led e = path_some P n (ok.once [] (P ++ n ∷ []) (root_directory_address_of_pairs ps) d refl led e)
 
 pub has_front : (disk : Disk) (chain dirs : List Pair) (P : Path) (n : List ℕ) (d : ℕ × ℕ) → IsAcceptedImage disk (chain ++ dirs) → IsChain chain dirs → IsPathToDirectory (chain ++ dirs) (P ++ n ∷ []) d → HasFront dirs d
 has_front disk chain dirs P n d ok is_chain led =
     let h = led_directory disk (chain ++ dirs) (P ++ n ∷ []) d ok led in
-    subst (λ z. HasFront z d) (pairs_behind chain dirs is_chain) (front_of (pairs_of_all_directories (chain ++ dirs)) d h
+    subst (λ z. HasFront z d) (pairs_behind chain dirs is_chain) (front_of (pairs_from_root_directory_on (chain ++ dirs)) d h
     (λ e. not_the_root disk (chain ++ dirs) P n d ok led (subst (λ z. same_pair z d ≡ true) (sym (ap first_pair_address (h.is ∙ ap (λ z. z ++ (h.first ∷ h.run ++ h.after)) e))) h.at)))
 
 -- with no slots it shows nothing
-pub shows_nothing : (disk : Disk) (chain dirs : List Pair) (d : ℕ × ℕ) → IsAcceptedImage disk (chain ++ dirs) → IsChain chain dirs → HasNoMove (gstate_of (chain ++ dirs)) → (h : HasFront dirs d) → is_hard_tail h.first.content.tail ≡ false
+pub shows_nothing : (disk : Disk) (chain dirs : List Pair) (d : ℕ × ℕ) → IsAcceptedImage disk (chain ++ dirs) → IsChain chain dirs → HasNoMove (gstate_of_pairs (chain ++ dirs)) → (h : HasFront dirs d) → is_hard_tail h.first.content.tail ≡ false
     → h.first.content.slots ≡ [] → entries_by_directory_in_thread (chain ++ dirs) d ≡ []
 shows_nothing disk chain dirs d ok is_chain none h soft empty =
     let v : Site = record { chain = chain; before = h.front ++ h.before ∷ []; left = []; right = []; after = h.after } in
@@ -154,7 +154,7 @@ shows_nothing disk chain dirs d ok is_chain none h soft empty =
     ap (λ z. entries_by_directory_in_thread (chain ++ z) d) whole
     ∙ site_shows disk v h.first [] [] [] d (subst (λ z. IsAcceptedImage disk (chain ++ z)) whole ok)
     (record { chain = subst (IsChain chain) whole is_chain; ends = h.ends; run = soft })
-    (subst (λ z. HasNoMove (gstate_of (chain ++ z))) whole none) h.at empty
+    (subst (λ z. HasNoMove (gstate_of_pairs (chain ++ z))) whole none) h.at empty
 
 -- its number
 pub number_of_first : (disk : Disk) (chain dirs : List Pair) (d : ℕ × ℕ) (ok : IsAcceptedImage disk (chain ++ dirs)) (h : HasFront dirs d) (n : ℕ) (o : Pair) → slice_get (chain ++ dirs) n ≡ Some o → same_pair o.at d ≡ true

@@ -8,31 +8,31 @@ use Rattle.lfs_model.specs.Content.{content_of_pair_at, current_block_of_pair_at
 use Rattle.lfs_model.specs.Disk.{Disk}
 use Rattle.lfs_model.specs.InDirectory.{IsPairAtAddress}
 use Rattle.lfs_model.specs.Operations as ops
-use Rattle.lfs_model.specs.PowerLoss.{ShowsTreeBeforeOrAfter as IsLeftOf, with_blocks}
+use Rattle.lfs_model.specs.PowerLoss.{HasTreeBeforeOrAfterOperation as IsLeftOf, disk_with_blocks}
 use Rattle.lfs_model.specs.SlotEdits.{pair_with_slots}
-use Rattle.lfs_model.specs.Slots.{Content, Gstate, Slot, gstate_xor, zero_gstate, same_pair}
-use Rattle.lfs_model.specs.Thread.{Pair, blocks_of_pairs, gstate_of, is_hard_tail, starts_with_superblock, pair_count_before_root}
+use Rattle.lfs_model.specs.Slots.{PairContent, Gstate, Slot, gstate_xor, zero_gstate, same_pair}
+use Rattle.lfs_model.specs.Thread.{Pair, blocks_of_pairs, gstate_of_pairs, is_hard_tail, starts_with_superblock, pair_count_before_root}
 use Rattle.lfs_model.specs.View.{BeginsWithLogEntry, IsAcceptedImage, superblock_name_log_entry}
-use Rattle.lfs_model.specs.Profile.{IsWritable}
+use Rattle.lfs_model.specs.Profile.{IsWritableImage}
 use Rattle.lfs_model.specs.Shown.{IsPathToDirectory, entries_by_directory_in_thread, tree_on_disk, used_blocks}
 use Rattle.lfs_model.proofs.Became.{fits_same}
-use Rattle.lfs_model.proofs.Committed.{IsCompleted, no_move_from}
-use Rattle.lfs_model.proofs.Counts.{count, once_from_distinct}
-use Rattle.lfs_model.proofs.Global.{HasNoMove, gstate_comm, gstate_cons, gstate_moved, gstate_right, sync_delta}
+use Rattle.lfs_model.proofs.Committed.{IsImageAfterCompletedOperation, no_move_from}
+use Rattle.lfs_model.proofs.Counts.{occurrence_count_of_number, once_from_distinct}
+use Rattle.lfs_model.proofs.Global.{HasNoMove, gstate_comm, gstate_cons, gstate_moved, gstate_right, sync_bit_delta}
 use Rattle.lfs_model.proofs.Indexes.{site_shows}
 use Rattle.lfs_model.proofs.Moves.{IsStep, directory_goes, entry_only, get_here, place_at, shown_before, shown_behind}
 use Rattle.lfs_model.proofs.RmdirSteps.{IsGone, step_chain}
 use Rattle.lfs_model.proofs.Searches.{is_site, number_is, same, site, thread_is}
 use Rattle.lfs_model.proofs.Sites.{IsSite, Site, begin_of, dirs_at, run_changed, thread_at}
-use Rattle.lfs_model.proofs.Splices.{IsDevice, files_of, stays_shape}
-use Rattle.lfs_model.proofs.StepsTaken.{IsOnlyStep, commit_taken}
+use Rattle.lfs_model.proofs.Splices.{IsDevice, file_blocks_of_slots, stays_shape}
+use Rattle.lfs_model.proofs.StepsTaken.{IsWritableImageAfterTreeChange, commit_taken}
 use Rattle.lfs_model.proofs.Unchanged.{HasFirst}
 use Rattle.lfs_model.proofs.Writable.{ends_in_hard_tail}
 use Rattle.lfs_pair.specs.Commit.{KeepsBlocksOutsidePair}
-use Rattle.lfs_thread.specs.Device.{blocks_of_address}
-use Rattle.lfs_thread.specs.Kept.{Kept}
-use Rattle.lfs_thread.specs.Steps.{IsPairWrittenOnDisk, SlotsBeginWithSuperblock, no_pair, kept_pair_at_index, map_with_freed_pair}
-use Rattle.lfs_operations.specs.Dropping.{CanDropPairAt, IsNextPairDropped, IsLeftByStoppedDrop, HasSameBlocksInFlight, content_after_drop}
+use Rattle.lfs_thread.specs.Device.{blocks_of_pair_address}
+use Rattle.lfs_thread.specs.Kept.{KeptThread}
+use Rattle.lfs_thread.specs.Steps.{IsPairWrittenOnDisk, SlotsBeginWithSuperblock, empty_pair_at_anchor, thread_pair_at_index, block_map_with_freed_pair}
+use Rattle.lfs_operations.specs.Dropping.{CanDropPairAt, IsNextPairDropped, IsLeftByStoppedPairDrop, HasSameBlocksInFlight, content_after_next_pair_drop}
 use Rattle.lfs_operations.specs.Editing.{CanEditEntryOfPair}
 use Rattle.lfs_operations.specs.Removing.{is_pair_dropped_with_slot, tree_without_named_entry}
 use Rattle.lfs_operations.specs.Unlinking.{CanRemoveDirectory, IsDirectoryRemoved, IsLeftByStoppedUnlink, IsDirectoryEntryUnlinked, content_without_directory_entry}
@@ -50,7 +50,7 @@ get_at : (xs : List Pair) (p : Pair) (zs : List Pair) (n : ℕ) (q : Pair) → l
 get_at [] p zs n q e = ap (λ (k : ℕ). set (p ∷ zs) k q) (sym e)
 get_at (x ∷ xs) p zs n q e = ap (λ (k : ℕ). set (x ∷ (xs ++ p ∷ zs)) k q) (sym e) ∙ ap (λ z. x ∷ z) (get_at xs p zs (length xs) q refl)
 
-module _ (t : Kept) (index id first gone : ℕ) (take : CanRemoveDirectory t index id first gone) (goes : is_pair_dropped_with_slot t index first ≡ false) where
+module _ (t : KeptThread) (index id first gone : ℕ) (take : CanRemoveDirectory t index id first gone) (goes : is_pair_dropped_with_slot t index first ≡ false) where
   abbrev can : CanEditEntryOfPair t index id
   can = take.can
 
@@ -67,7 +67,7 @@ module _ (t : Kept) (index id first gone : ℕ) (take : CanRemoveDirectory t ind
   u = can.stands.stands.slot
 
   abbrev o : Pair
-  o = kept_pair_at_index t gone
+  o = thread_pair_at_index t gone
 
   abbrev w : Site
   w = site t.disk t.pairs can.path can.at can.ready.accepted can.leads can.first index p can.stands.rest can.stands.place can.begins
@@ -87,11 +87,11 @@ module _ (t : Kept) (index id first gone : ℕ) (take : CanRemoveDirectory t ind
   accepted : IsAcceptedImage t.disk (thread_at w (p ∷ []))
   accepted = subst (IsAcceptedImage t.disk) there can.ready.accepted
 
-  writable : IsWritable t.disk (thread_at w (p ∷ []))
-  writable = subst (IsWritable t.disk) there can.ready.writable
+  writable : IsWritableImage t.disk (thread_at w (p ∷ []))
+  writable = subst (IsWritableImage t.disk) there can.ready.writable
 
-  settled : gstate_of (thread_at w (p ∷ [])) ≡ zero_gstate
-  settled = ap gstate_of (sym there) ∙ can.ready.settled
+  settled : gstate_of_pairs (thread_at w (p ∷ [])) ≡ zero_gstate
+  settled = ap gstate_of_pairs (sym there) ∙ can.ready.settled
 
   leads : IsPathToDirectory (thread_at w (p ∷ [])) can.path can.at
   leads = subst (λ z. IsPathToDirectory z can.path can.at) there can.leads
@@ -113,7 +113,7 @@ module _ (t : Kept) (index id first gone : ℕ) (take : CanRemoveDirectory t ind
 
   first_is : (gone ≡ length (w.chain ++ front.front) + 1) × (front.first ≡ o)
   first_is = number_of_first t.disk w.chain (dirs_at w (p ∷ [])) take.to accepted front gone o
-      (subst (λ z. slice_get z gone ≡ Some o) there (get_some t.pairs gone no_pair take.below)) take.at
+      (subst (λ z. slice_get z gone ≡ Some o) there (get_some t.pairs gone empty_pair_at_anchor take.below)) take.at
 
   alone_first : is_hard_tail front.first.content.tail ≡ false
   alone_first = ap (λ (z : Pair). is_hard_tail z.content.tail) first_is.1 ∙ take.alone
@@ -129,7 +129,7 @@ module _ (t : Kept) (index id first gone : ℕ) (take : CanRemoveDirectory t ind
   filled : ends_in_hard_tail false (w.before ++ w.left) ≡ true → l ++ ([] ++ r) ≢ []
   filled hard none = go (stays_there t index id first take.can take.begins goes)
     where
-      go : (index ≡ can.first) ⊎ (1 < length (kept_pair_at_index t index).content.slots) → ⊥
+      go : (index ≡ can.first) ⊎ (1 < length (thread_pair_at_index t index).content.slots) → ⊥
       go (inl e) =
           let none_before = alone w.chain w.before w.left (w.right ++ w.after) p can.at can.first (subst (λ z. IsDistinct nat_eq (blocks_of_pairs z)) there can.ready.accepted.thread.distinct) same_begin
           (subst (λ z. IsPairAtAddress z can.at can.first) there can.begins) (sym e ∙ number_there) in
@@ -144,13 +144,13 @@ module _ (t : Kept) (index id first gone : ℕ) (take : CanRemoveDirectory t ind
 
   -- ---- the first step
 
-  abbrev c : Content
+  abbrev c : PairContent
   c = content_without_directory_entry t index id
 
   abbrev q : Pair
   q = record { at = p.at; content = c }
 
-  at_is : (kept_pair_at_index t index).at ≡ p.at
+  at_is : (thread_pair_at_index t index).at ≡ p.at
   at_is = ap (λ (z : Pair). z.at) (pair_there t index id can)
 
   kept : q.content.slots ≡ l ++ r
@@ -171,14 +171,14 @@ module _ (t : Kept) (index id first gone : ℕ) (take : CanRemoveDirectory t ind
   number_ahead : length ahead ≡ index
   number_ahead = length-append w.chain (w.before ++ w.left) ∙ sym number_there
 
-  gstate_middle : gstate_of (thread_at w (q ∷ [])) ≡ sync_delta
+  gstate_middle : gstate_of_pairs (thread_at w (q ∷ [])) ≡ sync_bit_delta
   gstate_middle =
-      let turned : gstate_of (q ∷ []) ≡ gstate_xor sync_delta (gstate_of (p ∷ []))
-      = gstate_cons q [] ∙ gstate_right q.content.move ∙ ap (λ (z : Pair). gstate_xor z.content.move sync_delta) (pair_there t index id can) ∙ gstate_comm p.content.move sync_delta
-      ∙ ap (gstate_xor sync_delta) (sym (gstate_cons p [] ∙ gstate_right p.content.move)) in
-      ap gstate_of (grouped q) ∙ gstate_moved sync_delta ahead (p ∷ []) (q ∷ []) behind turned ∙ ap (λ z. gstate_xor sync_delta (gstate_of z)) (sym (grouped p)) ∙ ap (gstate_xor sync_delta) settled ∙ gstate_right sync_delta
+      let turned : gstate_of_pairs (q ∷ []) ≡ gstate_xor sync_bit_delta (gstate_of_pairs (p ∷ []))
+      = gstate_cons q [] ∙ gstate_right q.content.move ∙ ap (λ (z : Pair). gstate_xor z.content.move sync_bit_delta) (pair_there t index id can) ∙ gstate_comm p.content.move sync_bit_delta
+      ∙ ap (gstate_xor sync_bit_delta) (sym (gstate_cons p [] ∙ gstate_right p.content.move)) in
+      ap gstate_of_pairs (grouped q) ∙ gstate_moved sync_bit_delta ahead (p ∷ []) (q ∷ []) behind turned ∙ ap (λ z. gstate_xor sync_bit_delta (gstate_of_pairs z)) (sym (grouped p)) ∙ ap (gstate_xor sync_bit_delta) settled ∙ gstate_right sync_bit_delta
 
-  no_move_middle : HasNoMove (gstate_of (thread_at w (q ∷ [])))
+  no_move_middle : HasNoMove (gstate_of_pairs (thread_at w (q ∷ [])))
   no_move_middle = subst HasNoMove (sym gstate_middle) (record { kind = refl; id = refl; pair = refl })
 
   -- the superblock stays in slot 0
@@ -189,7 +189,7 @@ module _ (t : Kept) (index id first gone : ℕ) (take : CanRemoveDirectory t ind
       go [] f e = absurd (let z = sym (f refl) ∙ e.0 in cc)
       go (s ∷ l) f e = e
 
-  placed : (disk : Disk) (d : Content) → (HasFirst p.content.slots → SlotsBeginWithSuperblock d.slots) → IsPairWrittenOnDisk t index d disk → IsPlaced t.disk disk p (record { at = p.at; content = d }) [] []
+  placed : (disk : Disk) (d : PairContent) → (HasFirst p.content.slots → SlotsBeginWithSuperblock d.slots) → IsPairWrittenOnDisk t index d disk → IsPlaced t.disk disk p (record { at = p.at; content = d }) [] []
   placed disk d first h = record {
     geometry = record { block_size = h.shape.block_size; page = h.shape.page; order = h.shape.order; count = h.shape.count };
     same = λ b none. (subst (λ at. KeepsBlocksOutsidePair at t.disk.blocks disk.blocks) at_is h.others).others b (all_apart (p.at.0 ∷ p.at.1 ∷ []) b none);
@@ -221,7 +221,7 @@ module _ (t : Kept) (index id first gone : ℕ) (take : CanRemoveDirectory t ind
     splice = record { front = λ e. can.stands.stands.entry; entries = tt; lists = tt; blocks = λ b. omega arith };
   }
 
-  first_taken : (disk : Disk) → IsPairWrittenOnDisk t index c disk → IsOnlyStep t.disk (thread_at w (p ∷ [])) disk (thread_at w (q ∷ [])) (tree_after_removal (can.path ++ u.name ∷ [])) (tree_after_subtree_replacement (can.path ++ u.name ∷ []) (λ t. None))
+  first_taken : (disk : Disk) → IsPairWrittenOnDisk t index c disk → IsWritableImageAfterTreeChange t.disk (thread_at w (p ∷ [])) disk (thread_at w (q ∷ [])) (tree_after_removal (can.path ++ u.name ∷ [])) (tree_after_subtree_replacement (can.path ++ u.name ∷ []) (λ t. None))
   first_taken disk h = commit_taken t.disk w p q [] l (u ∷ []) [] r
       (record {
         writable = writable;
@@ -257,7 +257,7 @@ module _ (t : Kept) (index id first gone : ℕ) (take : CanRemoveDirectory t ind
 
   -- ---- between the steps
 
-  module _ (m : Kept) (h : IsDirectoryEntryUnlinked t index id m) where
+  module _ (m : KeptThread) (h : IsDirectoryEntryUnlinked t index id m) where
     abbrev k : HasPlace t.disk m.disk w p q u can.path o (length front.front)
     k = place m.disk h.written
 
@@ -286,10 +286,10 @@ module _ (t : Kept) (index id first gone : ℕ) (take : CanRemoveDirectory t ind
     accepted_parts : IsAcceptedImage m.disk (first_part ++ k.x ∷ o ∷ k.back)
     accepted_parts = subst (IsAcceptedImage m.disk) (sym pairs_middle ∙ is_middle) accepted_middle
 
-    x_there : kept_pair_at_index m (gone - 1) ≡ k.x
+    x_there : thread_pair_at_index m (gone - 1) ≡ k.x
     x_there = end.x_there m (gone - 1) w.chain k.front k.x o k.back is_middle number_middle
 
-    o_there : kept_pair_at_index m (gone - 1 + 1) ≡ o
+    o_there : thread_pair_at_index m (gone - 1 + 1) ≡ o
     o_there = end.o_there m (gone - 1) w.chain k.front k.x o k.back is_middle number_middle
 
     pub can_drop_gone : CanDropPairAt m gone zero_gstate
@@ -302,14 +302,14 @@ module _ (t : Kept) (index id first gone : ℕ) (take : CanRemoveDirectory t ind
           let f = first_is.0 in
           omega arith;
       thread = h.thread;
-      fits = end.x_fits m (gone - 1) w.chain k.front k.x o k.back is_middle number_middle (subst (IsWritable m.disk) (sym pairs_middle) (first_taken m.disk h.written).writable);
+      fits = end.x_fits m (gone - 1) w.chain k.front k.x o k.back is_middle number_middle (subst (IsWritableImage m.disk) (sym pairs_middle) (first_taken m.disk h.written).writable);
       storable = no_move_state;
     }
 
     -- ---- the second step
 
-    abbrev d : Content
-    d = content_after_drop m (gone - 1) zero_gstate
+    abbrev d : PairContent
+    d = content_after_next_pair_drop m (gone - 1) zero_gstate
 
     abbrev y : Pair
     y = record { at = k.x.at; content = d }
@@ -320,7 +320,7 @@ module _ (t : Kept) (index id first gone : ℕ) (take : CanRemoveDirectory t ind
     regrouped : w.chain ++ (k.front ++ y ∷ k.back) ≡ first_part ++ y ∷ k.back
     regrouped = end.regrouped m (gone - 1) w.chain k.front k.x o k.back is_middle number_middle
 
-    settled_end : gstate_of (w.chain ++ (k.front ++ y ∷ k.back)) ≡ zero_gstate
+    settled_end : gstate_of_pairs (w.chain ++ (k.front ++ y ∷ k.back)) ≡ zero_gstate
     settled_end = end.settled_end m (gone - 1) w.chain k.front k.x o k.back is_middle number_middle
 
     device_end : (disk : Disk) → IsPairWrittenOnDisk m (gone - 1) d disk → IsDevice m.disk disk (first_part ++ k.x ∷ o ∷ k.back) (first_part ++ y ∷ k.back)
@@ -330,32 +330,32 @@ module _ (t : Kept) (index id first gone : ℕ) (take : CanRemoveDirectory t ind
     is_gone = end.is_gone m (gone - 1) w.chain k.front k.x o k.back is_middle number_middle accepted_parts k.soft
 
     end_taken : (disk : Disk) → IsPairWrittenOnDisk m (gone - 1) d disk
-        → IsOnlyStep t.disk (thread_at w (p ∷ [])) disk (w.chain ++ (k.front ++ y ∷ k.back)) (tree_after_removal (can.path ++ u.name ∷ [])) (tree_after_subtree_replacement (can.path ++ u.name ∷ []) (λ t. None))
+        → IsWritableImageAfterTreeChange t.disk (thread_at w (p ∷ [])) disk (w.chain ++ (k.front ++ y ∷ k.back)) (tree_after_removal (can.path ++ u.name ∷ [])) (tree_after_subtree_replacement (can.path ++ u.name ∷ []) (λ t. None))
     end_taken disk written = k.taken disk y (is_gone disk written)
 
     turned : tree_after_removal (can.path ++ u.name ∷ []) (tree_on_disk t.disk (thread_at w (p ∷ []))) ≡ tree_without_named_entry t can.path can.name
     turned = ap₂ (λ n z. tree_after_removal (can.path ++ n ∷ []) (tree_on_disk t.disk z)) can.stands.stands.named (sym there)
 
-    module _ (new : Kept) (g : IsNextPairDropped m (gone - 1) zero_gstate new) where
+    module _ (new : KeptThread) (g : IsNextPairDropped m (gone - 1) zero_gstate new) where
       pairs_end : new.pairs ≡ w.chain ++ (k.front ++ y ∷ k.back)
       pairs_end = end.pairs_end m (gone - 1) w.chain k.front k.x o k.back is_middle number_middle new g
 
-      map_end : new.map ≡ map_with_freed_pair t.map o.at
-      map_end = g.map ∙ ap₂ (λ s (z : Pair). map_with_freed_pair s z.at) h.map o_there
+      map_end : new.map ≡ block_map_with_freed_pair t.map o.at
+      map_end = g.map ∙ ap₂ (λ s (z : Pair). block_map_with_freed_pair s z.at) h.map o_there
 
-      end_used : (b : ℕ) → count b (used_blocks new.disk new.pairs) + count b (blocks_of_address o.at) ≡ count b (used_blocks t.disk t.pairs)
+      end_used : (b : ℕ) → occurrence_count_of_number b (used_blocks new.disk new.pairs) + occurrence_count_of_number b (blocks_of_pair_address o.at) ≡ occurrence_count_of_number b (used_blocks t.disk t.pairs)
       end_used b =
-          let e1 = unlinked_count t.disk m.disk ahead p q behind l r u take.to (subst (λ z. HasNoMove (gstate_of z)) (grouped p) (no_move_from (thread_at w (p ∷ [])) settled)) (subst (λ z. HasNoMove (gstate_of z)) (grouped q) no_move_middle)
+          let e1 = unlinked_count t.disk m.disk ahead p q behind l r u take.to (subst (λ z. HasNoMove (gstate_of_pairs z)) (grouped p) (no_move_from (thread_at w (p ∷ [])) settled)) (subst (λ z. HasNoMove (gstate_of_pairs z)) (grouped q) no_move_middle)
           (subst (λ z. IsDevice t.disk m.disk z (ahead ++ q ∷ behind)) (grouped p) (subst (IsDevice t.disk m.disk (thread_at w (p ∷ []))) (grouped q) (device_of m.disk h.written))) refl held kept take.branch b in
-          let e2 = dropped_count m.disk new.disk first_part k.x o y k.back (subst (λ z. HasNoMove (gstate_of z)) (sym pairs_middle ∙ is_middle) no_move_middle)
-          (subst (λ z. HasNoMove (gstate_of z)) regrouped (no_move_from (w.chain ++ (k.front ++ y ∷ k.back)) settled_end)) (device_end new.disk g.written) refl d_slots b in
-          let f1 = ap (λ z. count b (used_blocks new.disk z)) (pairs_end ∙ regrouped) in
-          let f2 = ap (λ z. count b (used_blocks m.disk z)) (sym (grouped q) ∙ sym pairs_middle ∙ is_middle) in
-          let f3 = ap (λ z. count b (used_blocks t.disk z)) (there ∙ grouped p) in
-          let f4 = ap (λ z. count b (files_of m.disk z)) take.empty in
+          let e2 = dropped_count m.disk new.disk first_part k.x o y k.back (subst (λ z. HasNoMove (gstate_of_pairs z)) (sym pairs_middle ∙ is_middle) no_move_middle)
+          (subst (λ z. HasNoMove (gstate_of_pairs z)) regrouped (no_move_from (w.chain ++ (k.front ++ y ∷ k.back)) settled_end)) (device_end new.disk g.written) refl d_slots b in
+          let f1 = ap (λ z. occurrence_count_of_number b (used_blocks new.disk z)) (pairs_end ∙ regrouped) in
+          let f2 = ap (λ z. occurrence_count_of_number b (used_blocks m.disk z)) (sym (grouped q) ∙ sym pairs_middle ∙ is_middle) in
+          let f3 = ap (λ z. occurrence_count_of_number b (used_blocks t.disk z)) (there ∙ grouped p) in
+          let f4 = ap (λ z. occurrence_count_of_number b (file_blocks_of_slots m.disk z)) take.empty in
           omega arith
 
-      once : (b : ℕ) → count b (used_blocks t.disk t.pairs) ≤ 1
+      once : (b : ℕ) → occurrence_count_of_number b (used_blocks t.disk t.pairs) ≤ 1
       once b = once_from_distinct (used_blocks t.disk t.pairs) can.ready.accepted.owned_once b
 
       pub directory_removed : IsDirectoryRemoved t new take.can.path take.can.name
@@ -365,7 +365,7 @@ module _ (t : Kept) (index id first gone : ℕ) (take : CanRemoveDirectory t ind
             now = record {
               ready = record {
                 accepted = subst (IsAcceptedImage new.disk) (sym pairs_end) f.follows.accepted;
-                writable = subst (IsWritable new.disk) (sym pairs_end) f.writable;
+                writable = subst (IsWritableImage new.disk) (sym pairs_end) f.writable;
                 settled = g.gstate;
                 used = record {
                   owned = used_blocks new.disk new.pairs;
@@ -380,14 +380,14 @@ module _ (t : Kept) (index id first gone : ℕ) (take : CanRemoveDirectory t ind
               flying = subst (HasSameBlocksInFlight t.map) (sym map_end) (flying_same t.map o.at (used_blocks t.disk t.pairs) (used_blocks new.disk new.pairs) can.ready.used once end_used);
               root = ap pair_count_before_root pairs_end ∙ root_stays t.disk new.disk w.chain (dirs_at w (p ∷ [])) (k.front ++ y ∷ k.back) site_is.chain accepted f.follows.accepted f.follows.root ∙ sym (ap pair_count_before_root there);
             };
-            completed = λ z given tree is_path. subst (λ s. IsCompleted t.disk s z (ops.Remove given) new.disk new.pairs) (sym there)
-                (subst (λ s. IsCompleted t.disk (thread_at w (p ∷ [])) z (ops.Remove given) new.disk s) (sym pairs_end)
+            completed = λ z given tree is_path. subst (λ s. IsImageAfterCompletedOperation t.disk s z (ops.Remove given) new.disk new.pairs) (sym there)
+                (subst (λ s. IsImageAfterCompletedOperation t.disk (thread_at w (p ∷ [])) z (ops.Remove given) new.disk s) (sym pairs_end)
                 (k.completed new.disk y (is_gone new.disk g.written) z given (tree ∙ ap (tree_on_disk t.disk) there) (is_path ∙ ap (λ n. can.path ++ n ∷ []) (sym can.stands.stands.named))));
           }
 
     -- ---- at a stop in the second step
 
-    same_shape : (left : Blocks) → with_blocks left m.disk ≡ with_blocks left t.disk
+    same_shape : (left : Blocks) → disk_with_blocks left m.disk ≡ disk_with_blocks left t.disk
     same_shape left = λ j. record { block_size = h.written.shape.block_size j; page = h.written.shape.page j; order = h.written.shape.order j; blocks = left }
 
     site_middle : IsSite w (q ∷ [])
@@ -397,21 +397,21 @@ module _ (t : Kept) (index id first gone : ℕ) (take : CanRemoveDirectory t ind
       run = run_changed w.left p w.right q w.right ((step m.disk h.written).shape.run w.right) site_is.run;
     }
 
-    pub left_second : (left : Blocks) → IsLeftByStoppedDrop m (gone - 1) zero_gstate left → IsLeftOf (with_blocks left t.disk) (tree_on_disk t.disk t.pairs) (tree_without_named_entry t take.can.path take.can.name)
+    pub left_second : (left : Blocks) → IsLeftByStoppedPairDrop m (gone - 1) zero_gstate left → IsLeftOf (disk_with_blocks left t.disk) (tree_on_disk t.disk t.pairs) (tree_without_named_entry t take.can.path take.can.name)
     left_second left g = subst (λ z. IsLeftOf z (tree_on_disk t.disk t.pairs) (tree_without_named_entry t can.path can.name)) (same_shape left) (go g.is)
       where
-        go : (g.content ≡ (kept_pair_at_index m (gone - 1)).content) ⊎ (g.content ≡ content_after_drop m (gone - 1) zero_gstate) → IsLeftOf (with_blocks left m.disk) (tree_on_disk t.disk t.pairs) (tree_without_named_entry t can.path can.name)
+        go : (g.content ≡ (thread_pair_at_index m (gone - 1)).content) ⊎ (g.content ≡ content_after_next_pair_drop m (gone - 1) zero_gstate) → IsLeftOf (disk_with_blocks left m.disk) (tree_on_disk t.disk t.pairs) (tree_without_named_entry t can.path can.name)
         go (inl e) =
-            let on = end.device_left m (gone - 1) w.chain k.front k.x o k.back is_middle number_middle accepted_parts (with_blocks left m.disk) (subst (λ z. IsPairWrittenOnDisk m (gone - 1) z (with_blocks left m.disk)) e g.written) in
-            let f = nothing_came m.disk (with_blocks left m.disk) w q site_middle accepted_middle (subst (λ z. IsDevice m.disk (with_blocks left m.disk) z z) pairs_middle on) in
+            let on = end.device_left m (gone - 1) w.chain k.front k.x o k.back is_middle number_middle accepted_parts (disk_with_blocks left m.disk) (subst (λ z. IsPairWrittenOnDisk m (gone - 1) z (disk_with_blocks left m.disk)) e g.written) in
+            let f = nothing_came m.disk (disk_with_blocks left m.disk) w q site_middle accepted_middle (subst (λ z. IsDevice m.disk (disk_with_blocks left m.disk) z z) pairs_middle on) in
             record {
               pairs = thread_at w (q ∷ []);
               accepted = f.accepted;
-              writable = profile_same m.disk (with_blocks left m.disk) (thread_at w (q ∷ [])) refl refl (first_taken m.disk h.written).writable;
+              writable = profile_same m.disk (disk_with_blocks left m.disk) (thread_at w (q ∷ [])) refl refl (first_taken m.disk h.written).writable;
               tree = inr (f.shows ∙ (first_taken m.disk h.written).follows.shows ∙ turned);
             }
         go (inr e) =
-            let f = end_taken (with_blocks left m.disk) (subst (λ z. IsPairWrittenOnDisk m (gone - 1) z (with_blocks left m.disk)) e g.written) in
+            let f = end_taken (disk_with_blocks left m.disk) (subst (λ z. IsPairWrittenOnDisk m (gone - 1) z (disk_with_blocks left m.disk)) e g.written) in
             record {
               pairs = w.chain ++ (k.front ++ y ∷ k.back);
               accepted = f.follows.accepted;
@@ -421,23 +421,23 @@ module _ (t : Kept) (index id first gone : ℕ) (take : CanRemoveDirectory t ind
 
   -- ---- at a stop in the first step
 
-  pub left_first : (left : Blocks) → IsLeftByStoppedUnlink t index id left → IsLeftOf (with_blocks left t.disk) (tree_on_disk t.disk t.pairs) (tree_without_named_entry t take.can.path take.can.name)
+  pub left_first : (left : Blocks) → IsLeftByStoppedUnlink t index id left → IsLeftOf (disk_with_blocks left t.disk) (tree_on_disk t.disk t.pairs) (tree_without_named_entry t take.can.path take.can.name)
   left_first left g = go g.is
     where
-      go : (g.content ≡ (kept_pair_at_index t index).content) ⊎ (g.content ≡ content_without_directory_entry t index id) → IsLeftOf (with_blocks left t.disk) (tree_on_disk t.disk t.pairs) (tree_without_named_entry t can.path can.name)
+      go : (g.content ≡ (thread_pair_at_index t index).content) ⊎ (g.content ≡ content_without_directory_entry t index id) → IsLeftOf (disk_with_blocks left t.disk) (tree_on_disk t.disk t.pairs) (tree_without_named_entry t can.path can.name)
       go (inl e) =
           let same = e ∙ ap (λ (z : Pair). z.content) (pair_there t index id can) in
-          let on = device t.disk (with_blocks left t.disk) w p p [] [] accepted accepted.owned_once
-          (placed (with_blocks left t.disk) p.content (λ h. (h.kind, h.name)) (subst (λ z. IsPairWrittenOnDisk t index z (with_blocks left t.disk)) same g.written)) in
-          let f = nothing_came t.disk (with_blocks left t.disk) w p site_is accepted on in
+          let on = device t.disk (disk_with_blocks left t.disk) w p p [] [] accepted accepted.owned_once
+          (placed (disk_with_blocks left t.disk) p.content (λ h. (h.kind, h.name)) (subst (λ z. IsPairWrittenOnDisk t index z (disk_with_blocks left t.disk)) same g.written)) in
+          let f = nothing_came t.disk (disk_with_blocks left t.disk) w p site_is accepted on in
           record {
             pairs = thread_at w (p ∷ []);
             accepted = f.accepted;
-            writable = profile_same t.disk (with_blocks left t.disk) (thread_at w (p ∷ [])) refl refl writable;
+            writable = profile_same t.disk (disk_with_blocks left t.disk) (thread_at w (p ∷ [])) refl refl writable;
             tree = inl (f.shows ∙ ap (tree_on_disk t.disk) (sym there));
           }
       go (inr e) =
-          let f = first_taken (with_blocks left t.disk) (subst (λ z. IsPairWrittenOnDisk t index z (with_blocks left t.disk)) e g.written) in
+          let f = first_taken (disk_with_blocks left t.disk) (subst (λ z. IsPairWrittenOnDisk t index z (disk_with_blocks left t.disk)) e g.written) in
           record {
             pairs = thread_at w (q ∷ []);
             accepted = f.follows.accepted;

@@ -2,15 +2,15 @@
 use Rattle.std.proofs.Common.{ℕ, zero, suc, ◌≡◌, ◌<◌, ◌≤◌, ◌-◌, Bool, true, false, take, List, [], ◌∷◌, ◌++◌, length, drop, Option, Some, refl, sym, ap, subst, ◌∙◌, arith, set, get_or, remove, slice_get}
 use Rattle.std.proofs.lemmas.Option.{same_Some}
 use Rattle.lfs_model.specs.Disk.{Disk}
-use Rattle.lfs_model.specs.Slots.{Content, same_pair}
-use Rattle.lfs_model.specs.Steps.{AreAlike, ends_in_hard_tail}
-use Rattle.lfs_model.specs.Thread.{AreLinkedByTails, Pair, anchor_pair_address, pairs_of_all_directories, first_pair_address, pair_named_by_tail, root_directory_of_pairs, starts_with_superblock, pair_count_before_root}
+use Rattle.lfs_model.specs.Slots.{PairContent, same_pair}
+use Rattle.lfs_model.specs.Steps.{ArePairsWithSameAddressesAndSlots, ends_in_hard_tail}
+use Rattle.lfs_model.specs.Thread.{AreLinkedByTails, Pair, anchor_pair_address, pairs_from_root_directory_on, first_pair_address, pair_address_named_by_tail, root_directory_address_of_pairs, starts_with_superblock, pair_count_before_root}
 use Rattle.lfs_model.specs.View.{IsAcceptedImage, first_pair_slots}
 use Rattle.lfs_model.proofs.Pairs.{pair_itself}
 use Rattle.lfs_model.proofs.Searches.{same_number}
 use Rattle.lfs_model.proofs.Superblocks.{IsChain, pairs_behind}
-use Rattle.lfs_thread.specs.Kept.{Kept}
-use Rattle.lfs_thread.specs.Steps.{no_pair}
+use Rattle.lfs_thread.specs.Kept.{KeptThread}
+use Rattle.lfs_thread.specs.Steps.{empty_pair_at_anchor}
 use Rattle.lfs_operations.specs.MoveEnds.{CanEndMoveAt, HasEndedMoveAt, content_after_move_ends, is_pair_named_by_hard_tail, pairs_after_move_ends}
 use Rattle.lfs_operations.specs.Ready.{KeepsPairCountBeforeRoot}
 
@@ -26,14 +26,14 @@ get_dropped [] (suc n) d ds e = absurd (cc)
 get_dropped (p ∷ ps) zero d ds e = cc
 get_dropped (p ∷ ps) (suc n) d ds e = get_dropped ps n d ds e
 
-root_there : (disk : Disk) (ps : List Pair) → IsAcceptedImage disk ps → HasAddress ps (pair_count_before_root ps) (root_directory_of_pairs ps)
-root_there disk ps ok = go (pairs_of_all_directories ps) refl
+root_there : (disk : Disk) (ps : List Pair) → IsAcceptedImage disk ps → HasAddress ps (pair_count_before_root ps) (root_directory_address_of_pairs ps)
+root_there disk ps ok = go (pairs_from_root_directory_on ps) refl
   where
-    go : (ds : List Pair) → pairs_of_all_directories ps ≡ ds → HasAddress ps (pair_count_before_root ps) (root_directory_of_pairs ps)
+    go : (ds : List Pair) → pairs_from_root_directory_on ps ≡ ds → HasAddress ps (pair_count_before_root ps) (root_directory_address_of_pairs ps)
     go [] e = absurd (let k = ap (λ z. starts_with_superblock (first_pair_slots z)) (sym e) ∙ ok.root in cc)
     go (d ∷ ds) e = (d, (get_dropped ps (pair_count_before_root ps) d ds e, ap first_pair_address (sym e)))
 
-number_of_root : (disk : Disk) (ps : List Pair) (n : ℕ) → IsAcceptedImage disk ps → HasAddress ps n (root_directory_of_pairs ps) → pair_count_before_root ps ≡ n
+number_of_root : (disk : Disk) (ps : List Pair) (n : ℕ) → IsAcceptedImage disk ps → HasAddress ps n (root_directory_address_of_pairs ps) → pair_count_before_root ps ≡ n
 number_of_root disk ps n ok (p, (there, at)) =
     let r = root_there disk ps ok in
     same_number ps (pair_count_before_root ps) n r.0 p ok.thread.distinct r.1.0 there (subst (λ a. same_pair r.0.at a ≡ true) (r.1.1 ∙ sym at) (pair_itself r.0.at))
@@ -42,7 +42,7 @@ number_of_root disk ps n ok (p, (there, at)) =
 
 two_links : (at : Option (ℕ × ℕ)) (chain dirs news : List Pair) → AreLinkedByTails at (chain ++ dirs) → AreLinkedByTails at (chain ++ news) → (to : Option (ℕ × ℕ)) × (AreLinkedByTails to dirs × AreLinkedByTails to news)
 two_links at [] dirs news l m = (at, (l, m))
-two_links at (c ∷ chain) dirs news l m = two_links (pair_named_by_tail c.content.tail) chain dirs news l.1 m.1
+two_links at (c ∷ chain) dirs news l m = two_links (pair_address_named_by_tail c.content.tail) chain dirs news l.1 m.1
 
 get_behind : (chain : List Pair) (p : Pair) (ps : List Pair) → slice_get (chain ++ p ∷ ps) (length chain) ≡ Some p
 get_behind [] p ps = refl
@@ -53,7 +53,7 @@ first_there chain to [] news l m e = absurd (cc)
 first_there chain to (d ∷ dirs) [] l m e = absurd (let k = sym m ∙ l.0 in cc)
 first_there chain to (d ∷ dirs) (n ∷ news) l m e = (n, (get_behind chain n news, same_Some n.at d.at (sym m.0 ∙ l.0)))
 
-pub root_stays : (disk new : Disk) (chain dirs news : List Pair) → IsChain chain dirs → IsAcceptedImage disk (chain ++ dirs) → IsAcceptedImage new (chain ++ news) → root_directory_of_pairs (chain ++ news) ≡ root_directory_of_pairs (chain ++ dirs)
+pub root_stays : (disk new : Disk) (chain dirs news : List Pair) → IsChain chain dirs → IsAcceptedImage disk (chain ++ dirs) → IsAcceptedImage new (chain ++ news) → root_directory_address_of_pairs (chain ++ news) ≡ root_directory_address_of_pairs (chain ++ dirs)
     → pair_count_before_root (chain ++ news) ≡ pair_count_before_root (chain ++ dirs)
 root_stays disk new chain dirs news is_chain ok now same =
     let l = two_links (Some anchor_pair_address) chain dirs news ok.thread.links now.thread.links in
@@ -63,21 +63,21 @@ root_stays disk new chain dirs news is_chain ok now same =
 
 -- ---- pairs of the same addresses
 
-alike_there : (ps qs : List Pair) (n : ℕ) (at : ℕ × ℕ) → AreAlike ps qs → HasAddress ps n at → HasAddress qs n at
+alike_there : (ps qs : List Pair) (n : ℕ) (at : ℕ × ℕ) → ArePairsWithSameAddressesAndSlots ps qs → HasAddress ps n at → HasAddress qs n at
 alike_there [] qs n at alike (p, (e, a)) = absurd (cc)
 alike_there (x ∷ ps) [] n at alike h = absurd alike
 alike_there (x ∷ ps) (y ∷ qs) zero at alike (p, (e, a)) = (y, (refl, alike.0 ∙ ap (λ (z : Pair). z.at) (same_Some x p e) ∙ a))
 alike_there (x ∷ ps) (y ∷ qs) (suc n) at alike h = alike_there ps qs n at alike.2 h
 
-stays_there : (new : Disk) (ps qs : List Pair) → IsAcceptedImage new qs → root_directory_of_pairs qs ≡ root_directory_of_pairs ps → HasAddress qs (pair_count_before_root ps) (root_directory_of_pairs ps) → pair_count_before_root qs ≡ pair_count_before_root ps
+stays_there : (new : Disk) (ps qs : List Pair) → IsAcceptedImage new qs → root_directory_address_of_pairs qs ≡ root_directory_address_of_pairs ps → HasAddress qs (pair_count_before_root ps) (root_directory_address_of_pairs ps) → pair_count_before_root qs ≡ pair_count_before_root ps
 stays_there new ps qs now same h = number_of_root new qs (pair_count_before_root ps) now (h.0, (h.1.0, h.1.1 ∙ sym same))
 
-pub alike_stays : (disk new : Disk) (ps qs : List Pair) → IsAcceptedImage disk ps → IsAcceptedImage new qs → root_directory_of_pairs qs ≡ root_directory_of_pairs ps → AreAlike ps qs → pair_count_before_root qs ≡ pair_count_before_root ps
-alike_stays disk new ps qs ok now same alike = stays_there new ps qs now same (alike_there ps qs (pair_count_before_root ps) (root_directory_of_pairs ps) alike (root_there disk ps ok))
+pub alike_stays : (disk new : Disk) (ps qs : List Pair) → IsAcceptedImage disk ps → IsAcceptedImage new qs → root_directory_address_of_pairs qs ≡ root_directory_address_of_pairs ps → ArePairsWithSameAddressesAndSlots ps qs → pair_count_before_root qs ≡ pair_count_before_root ps
+alike_stays disk new ps qs ok now same alike = stays_there new ps qs now same (alike_there ps qs (pair_count_before_root ps) (root_directory_address_of_pairs ps) alike (root_there disk ps ok))
 
 -- ---- a move ends
 
-set_there : (ps : List Pair) (i n : ℕ) (c : Content) (at : ℕ × ℕ) → HasAddress ps n at → HasAddress (set ps i (record { at = (get_or ps i no_pair).at; content = c })) n at
+set_there : (ps : List Pair) (i n : ℕ) (c : PairContent) (at : ℕ × ℕ) → HasAddress ps n at → HasAddress (set ps i (record { at = (get_or ps i empty_pair_at_anchor).at; content = c })) n at
 set_there [] i n c at (p, (e, a)) = absurd (cc)
 set_there (x ∷ ps) zero zero c at (p, (e, a)) = (record { at = x.at; content = c }, (refl, ap (λ (z : Pair). z.at) (same_Some x p e) ∙ a))
 set_there (x ∷ ps) zero (suc n) c at h = h
@@ -95,18 +95,18 @@ led_behind : (ps : List Pair) (pair : ℕ) → pair_count_before_root ps ≤ pai
 led_behind ps pair low led = go (pair - pair_count_before_root ps) refl
   where
     go : (n : ℕ) → pair - pair_count_before_root ps ≡ n → pair_count_before_root ps < pair
-    go zero e = absurd (let k = sym (ap (λ i. ends_in_hard_tail false (take i (pairs_of_all_directories ps))) e) ∙ led in cc)
+    go zero e = absurd (let k = sym (ap (λ i. ends_in_hard_tail false (take i (pairs_from_root_directory_on ps))) e) ∙ led in cc)
     go (suc n) e = omega arith
 
-pub move_end_stays : (old new : Kept) (pair id : ℕ) (goes : Bool) → CanEndMoveAt old pair id goes → HasEndedMoveAt old pair id goes new → KeepsPairCountBeforeRoot old new
+pub move_end_stays : (old new : KeptThread) (pair id : ℕ) (goes : Bool) → CanEndMoveAt old pair id goes → HasEndedMoveAt old pair id goes new → KeepsPairCountBeforeRoot old new
 move_end_stays old new pair id goes can ended = stays_there new.disk old.pairs new.pairs ended.taken.follows.accepted ended.taken.follows.root
-    (alike_there (pairs_after_move_ends old pair id goes) new.pairs (pair_count_before_root old.pairs) (root_directory_of_pairs old.pairs) ended.alike (go goes refl))
+    (alike_there (pairs_after_move_ends old pair id goes) new.pairs (pair_count_before_root old.pairs) (root_directory_address_of_pairs old.pairs) ended.alike (go goes refl))
   where
-    was : HasAddress old.pairs (pair_count_before_root old.pairs) (root_directory_of_pairs old.pairs)
+    was : HasAddress old.pairs (pair_count_before_root old.pairs) (root_directory_address_of_pairs old.pairs)
     was = root_there old.disk old.pairs can.accepted
 
-    go : (b : Bool) → goes ≡ b → HasAddress (pairs_after_move_ends old pair id goes) (pair_count_before_root old.pairs) (root_directory_of_pairs old.pairs)
-    go true e = subst (λ b. HasAddress (pairs_after_move_ends old pair id b) (pair_count_before_root old.pairs) (root_directory_of_pairs old.pairs)) (sym e)
-        (remove_there old.pairs pair (pair_count_before_root old.pairs) (root_directory_of_pairs old.pairs) (led_behind old.pairs pair can.begins (can.alone e).0) was)
-    go false e = subst (λ b. HasAddress (pairs_after_move_ends old pair id b) (pair_count_before_root old.pairs) (root_directory_of_pairs old.pairs)) (sym e)
-        (set_there old.pairs pair (pair_count_before_root old.pairs) (content_after_move_ends old pair id) (root_directory_of_pairs old.pairs) was)
+    go : (b : Bool) → goes ≡ b → HasAddress (pairs_after_move_ends old pair id goes) (pair_count_before_root old.pairs) (root_directory_address_of_pairs old.pairs)
+    go true e = subst (λ b. HasAddress (pairs_after_move_ends old pair id b) (pair_count_before_root old.pairs) (root_directory_address_of_pairs old.pairs)) (sym e)
+        (remove_there old.pairs pair (pair_count_before_root old.pairs) (root_directory_address_of_pairs old.pairs) (led_behind old.pairs pair can.begins (can.alone e).0) was)
+    go false e = subst (λ b. HasAddress (pairs_after_move_ends old pair id b) (pair_count_before_root old.pairs) (root_directory_address_of_pairs old.pairs)) (sym e)
+        (set_there old.pairs pair (pair_count_before_root old.pairs) (content_after_move_ends old pair id) (root_directory_address_of_pairs old.pairs) was)

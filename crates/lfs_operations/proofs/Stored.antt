@@ -6,35 +6,35 @@ use Rattle.std.proofs.lemmas.Bool.{cases_lt}
 use Rattle.std.proofs.lemmas.List.Elements.{recursion_from_All}
 use Rattle.lfs_model.specs.TreeEdits.{tree_after_change_of_node}
 use Rattle.lfs_model.specs.Names.{Name}
-use Rattle.lfs_model.specs.BlockSets.{IsInFlight}
+use Rattle.lfs_model.specs.BlockSets.{IsBlockInFlight}
 use Rattle.lfs_model.specs.BlockSets.BlockState.{InFlight, Used}
-use Rattle.lfs_model.specs.Changes.{ContentChange, PutStruct}
+use Rattle.lfs_model.specs.Changes.{PairContentChange, PutStruct}
 use Rattle.lfs_model.specs.Content.{struct_of_type_and_bytes}
 use Rattle.lfs_model.specs.Disk.{Disk, SameGeometry, block_bytes_on_disk, inline_limit}
-use Rattle.lfs_model.specs.History.{CallEvent}
+use Rattle.lfs_model.specs.History.{DeviceCallEvent}
 use Rattle.lfs_model.specs.Operations as ops
 use Rattle.lfs_model.specs.Operations.{Operation}
-use Rattle.lfs_model.specs.PowerLoss.{SurvivesStopsSince}
+use Rattle.lfs_model.specs.PowerLoss.{SurvivesPowerLossInCallsSince}
 use Rattle.lfs_model.specs.Session.{Session}
-use Rattle.lfs_model.specs.SlotEdits.{Stores}
+use Rattle.lfs_model.specs.SlotEdits.{IsStructStoringBytes}
 use Rattle.lfs_model.specs.Slots.{Slot, Struct, Inline, Ctz, Branch, KindOfSlot, File, Directory, Superblock, Attributes, is_superblock, same_pair}
 use Rattle.lfs_model.specs.Effects.{node_with_bytes}
 use Rattle.lfs_model.specs.Thread.{Pair, blocks_of_pairs}
 use Rattle.lfs_model.specs.Tree.{EntriesByDirectory, FileNode, Tree, branch_address_of_struct, node_of_struct_and_attributes}
-use Rattle.lfs_model.specs.Profile.{FitsEntryLimits, FitsSlotLimits, HasInlineBytesWithin}
+use Rattle.lfs_model.specs.Profile.{IsEntryWithinWritableLimits, IsSlotWithinWritableLimits, HasInlineBytesWithinLimit}
 use Rattle.lfs_model.specs.View.{IsFileOrDirectoryEntry, IsStructOfKind}
 use Rattle.lfs_model.specs.Shown.{IsPathToDirectory, all_slots_not_moved, skip_list_bytes_on_disk, entries_by_directory_in_thread, skip_list_blocks_of_struct, tree_on_disk, used_blocks}
-use Rattle.lfs_model.proofs.BlockSets.{Contains-count}
-use Rattle.lfs_model.proofs.Changes.{Follows}
-use Rattle.lfs_model.proofs.Committed.{IsCompleted, commit_step, recovered_from}
-use Rattle.lfs_model.proofs.Counts.{Each, count, count_append, distinct_from_once, each_counted, each_from_counted, each_right, once_from_distinct}
+use Rattle.lfs_model.proofs.BlockSets.{Contains-occurrence_count_of_number}
+use Rattle.lfs_model.proofs.Changes.{IsImageAfterTreeChange}
+use Rattle.lfs_model.proofs.Committed.{IsImageAfterCompletedOperation, commit_step, recovered_from}
+use Rattle.lfs_model.proofs.Counts.{Each, occurrence_count_of_number, count_append, distinct_from_once, each_counted, each_from_counted, each_right, once_from_distinct}
 use Rattle.lfs_model.proofs.Effects.{puts_struct, with_struct}
-use Rattle.lfs_model.proofs.Files.{HasSameFile, contents_same, file_blocks_same, is_list_same}
+use Rattle.lfs_model.proofs.Files.{HasSameFileBlocksOfStructOnDisks, contents_same, file_blocks_same, is_list_same}
 use Rattle.lfs_model.proofs.Moves.{bytes_change}
 use Rattle.lfs_model.proofs.OneCommit.{close_completed, some_filled, sync_completed}
 use Rattle.lfs_model.proofs.Sites.{Site, begin_of, thread_at}
-use Rattle.lfs_thread.specs.Device.{StopsAfterCleanErasesLeave}
-use Rattle.lfs_thread.specs.Kept.{Kept}
+use Rattle.lfs_thread.specs.Device.{PowerLossLeavesSuchBlocksAfterCleanErases}
+use Rattle.lfs_thread.specs.Kept.{KeptThread}
 use Rattle.lfs_operations.specs.Changing.{CanChangeOrSplitPair, IsLeftByStoppedChangeOrSplit, IsPairChangedOrSplit}
 use Rattle.lfs_operations.specs.Editing.{CanEditEntryOfPair, slot_of_editable_entry}
 use Rattle.lfs_operations.specs.Storing.{CanSetFileStruct, HasStoredContentsOfFile, tree_with_contents_at}
@@ -48,7 +48,7 @@ use Rattle.lfs_operations.proofs.Stepped.{HasStep, becomes, put_step, survives}
 -- ---- structs
 
 -- a file may have it
-suits_file : (disk : Disk) (contents : List ℕ) (k : KindOfSlot) (was now : Struct) → IsStructOfKind k was → branch_address_of_struct was ≡ None → Stores disk contents now → IsStructOfKind k now
+suits_file : (disk : Disk) (contents : List ℕ) (k : KindOfSlot) (was now : Struct) → IsStructOfKind k was → branch_address_of_struct was ≡ None → IsStructStoringBytes disk contents now → IsStructOfKind k now
 suits_file disk contents File was (Inline b) s f h = tt
 suits_file disk contents File was (Ctz head size) s f h = tt
 suits_file disk contents k was (Branch to) s f h = absurd h
@@ -60,19 +60,19 @@ suits_file disk contents Directory (Ctz a z) (Inline b) s f h = absurd s
 suits_file disk contents Directory (Ctz a z) (Ctz head size) s f h = absurd s
 suits_file disk contents Superblock was now s f h = absurd s
 
-has_inline : (disk : Disk) (contents : List ℕ) (now : Struct) → Stores disk contents now → HasInlineBytesWithin (inline_limit disk.block_size) now
+has_inline : (disk : Disk) (contents : List ℕ) (now : Struct) → IsStructStoringBytes disk contents now → HasInlineBytesWithinLimit (inline_limit disk.block_size) now
 has_inline disk contents (Inline b) h = let e = ap length h.0 in let l = h.1 in omega arith
 has_inline disk contents (Ctz head size) h = tt
 has_inline disk contents (Branch to) h = tt
 
 -- where its blocks are as they were
-stores_same : (disk new : Disk) (contents : List ℕ) (s : Struct) → SameGeometry disk new → HasSameFile disk new s → Stores disk contents s → Stores new contents s
+stores_same : (disk new : Disk) (contents : List ℕ) (s : Struct) → SameGeometry disk new → HasSameFileBlocksOfStructOnDisks disk new s → IsStructStoringBytes disk contents s → IsStructStoringBytes new contents s
 stores_same disk new contents (Inline b) g f h = (h.0, subst (λ n. length contents ≤ inline_limit n) (sym g.block_size) h.1)
 stores_same disk new contents (Ctz head size) g f h =
     (h.0, contents_same disk new (Ctz head size) head size refl g f ∙ h.1, subst (λ n. inline_limit n < length contents) (sym g.block_size) h.2)
 stores_same disk new contents (Branch to) g f h = absurd h
 
-stores_node : (disk : Disk) (E : EntriesByDirectory) (attributes : Attributes) (s : Struct) (contents : List ℕ) → Stores disk contents s → node_of_struct_and_attributes (skip_list_bytes_on_disk disk) E attributes s ≡ FileNode attributes contents
+stores_node : (disk : Disk) (E : EntriesByDirectory) (attributes : Attributes) (s : Struct) (contents : List ℕ) → IsStructStoringBytes disk contents s → node_of_struct_and_attributes (skip_list_bytes_on_disk disk) E attributes s ≡ FileNode attributes contents
 stores_node disk E attributes (Inline own) contents h = ap (FileNode attributes) h.0
 stores_node disk E attributes (Ctz head size) contents h = ap (FileNode attributes) h.1
 stores_node disk E attributes (Branch to) contents h = absurd h
@@ -80,11 +80,11 @@ stores_node disk E attributes (Branch to) contents h = absurd h
 unlike : Some InFlight ≡ Some Used → ⊥
 unlike e = absurd (cc)
 
-module _ (t : Kept) (index id kind : ℕ) (bytes : List ℕ) (store : CanSetFileStruct t index id kind bytes) where
+module _ (t : KeptThread) (index id kind : ℕ) (bytes : List ℕ) (store : CanSetFileStruct t index id kind bytes) where
   abbrev can : CanEditEntryOfPair t index id
   can = store.can
 
-  abbrev change : ContentChange
+  abbrev change : PairContentChange
   change = PutStruct id kind bytes
 
   abbrev u : Slot
@@ -100,13 +100,13 @@ module _ (t : Kept) (index id kind : ℕ) (bytes : List ℕ) (store : CanSetFile
   turns x h = complete_struct x u (kind, bytes) h
 
   -- what it takes with any inline contents is as before
-  pub fits : FitsEntryLimits t.disk.block_size t.disk.page (record (slot_of_editable_entry store.can) { struct = struct_of_type_and_bytes kind bytes })
+  pub fits : IsEntryWithinWritableLimits t.disk.block_size t.disk.page (record (slot_of_editable_entry store.can) { struct = struct_of_type_and_bytes kind bytes })
   fits =
       let s = can.stands in
-      let here = each_pair t can.ready can.first index s.pair s.rest s.place (λ x. All (FitsSlotLimits t.disk.block_size t.disk.page) x.content.slots)
-      (recursion_from_All (λ (x : Pair). All (FitsSlotLimits t.disk.block_size t.disk.page) x.content.slots) t.pairs can.ready.writable.slots) in
-      let slots = subst (Each (FitsSlotLimits t.disk.block_size t.disk.page)) s.stands.held (recursion_from_All (FitsSlotLimits t.disk.block_size t.disk.page) s.pair.content.slots here) in
-      let was = (each_right (FitsSlotLimits t.disk.block_size t.disk.page) s.stands.left (s.stands.slot ∷ s.stands.right) slots).0.1 s.stands.entry in
+      let here = each_pair t can.ready can.first index s.pair s.rest s.place (λ x. All (IsSlotWithinWritableLimits t.disk.block_size t.disk.page) x.content.slots)
+      (recursion_from_All (λ (x : Pair). All (IsSlotWithinWritableLimits t.disk.block_size t.disk.page) x.content.slots) t.pairs can.ready.writable.slots) in
+      let slots = subst (Each (IsSlotWithinWritableLimits t.disk.block_size t.disk.page)) s.stands.held (recursion_from_All (IsSlotWithinWritableLimits t.disk.block_size t.disk.page) s.pair.content.slots here) in
+      let was = (each_right (IsSlotWithinWritableLimits t.disk.block_size t.disk.page) s.stands.left (s.stands.slot ∷ s.stands.right) slots).0.1 s.stands.entry in
       record { charge = was.charge; inline = has_inline t.disk store.contents (struct_of_type_and_bytes kind bytes) store.stores }
 
   abbrev w : Site
@@ -131,24 +131,24 @@ module _ (t : Kept) (index id kind : ℕ) (bytes : List ℕ) (store : CanSetFile
   there_now = there t index id can (with_struct (kind, bytes)) v change does turns fits
 
   -- its blocks are as they were where those of the old file and those that come are
-  file_same : (disk : Disk) → HasSameFile t.disk disk u.struct → Each (λ b. block_bytes_on_disk disk b ≡ block_bytes_on_disk t.disk b) store.come → HasSameFile t.disk disk v.struct
-  file_same disk file come = each_from_counted (λ b. block_bytes_on_disk disk b ≡ block_bytes_on_disk t.disk b) (skip_list_blocks_of_struct t.disk v.struct) (λ b some. go b some (cases_lt 0 (count b store.come)))
+  file_same : (disk : Disk) → HasSameFileBlocksOfStructOnDisks t.disk disk u.struct → Each (λ b. block_bytes_on_disk disk b ≡ block_bytes_on_disk t.disk b) store.come → HasSameFileBlocksOfStructOnDisks t.disk disk v.struct
+  file_same disk file come = each_from_counted (λ b. block_bytes_on_disk disk b ≡ block_bytes_on_disk t.disk b) (skip_list_blocks_of_struct t.disk v.struct) (λ b some. go b some (cases_lt 0 (occurrence_count_of_number b store.come)))
     where
-      go : (b : ℕ) → 1 ≤ count b (skip_list_blocks_of_struct t.disk v.struct) → (0 < count b store.come) ⊎ (count b store.come ≤ 0) → block_bytes_on_disk disk b ≡ block_bytes_on_disk t.disk b
+      go : (b : ℕ) → 1 ≤ occurrence_count_of_number b (skip_list_blocks_of_struct t.disk v.struct) → (0 < occurrence_count_of_number b store.come) ⊎ (occurrence_count_of_number b store.come ≤ 0) → block_bytes_on_disk disk b ≡ block_bytes_on_disk t.disk b
       go b some (inl c) = each_counted (λ b. block_bytes_on_disk disk b ≡ block_bytes_on_disk t.disk b) store.come come b (omega arith)
       go b some (inr c) = each_counted (λ b. block_bytes_on_disk disk b ≡ block_bytes_on_disk t.disk b) (skip_list_blocks_of_struct t.disk u.struct) file b (let e = store.blocks b in omega arith)
 
   -- none that comes is used
   come_apart : IsDistinct nat_eq (store.come ++ used_blocks t.disk t.pairs)
-  come_apart = distinct_from_once (store.come ++ used_blocks t.disk t.pairs) (λ b. go b (cases_lt 0 (count b store.come)))
+  come_apart = distinct_from_once (store.come ++ used_blocks t.disk t.pairs) (λ b. go b (cases_lt 0 (occurrence_count_of_number b store.come)))
     where
-      go : (b : ℕ) → (0 < count b store.come) ⊎ (count b store.come ≤ 0) → count b (store.come ++ used_blocks t.disk t.pairs) ≤ 1
+      go : (b : ℕ) → (0 < occurrence_count_of_number b store.come) ⊎ (occurrence_count_of_number b store.come ≤ 0) → occurrence_count_of_number b (store.come ++ used_blocks t.disk t.pairs) ≤ 1
       go b (inr c) = let e = count_append b store.come (used_blocks t.disk t.pairs) in let n = once_from_distinct (used_blocks t.disk t.pairs) can.ready.accepted.owned_once b in omega arith
-      go b (inl c) = none (cases_lt 0 (count b (used_blocks t.disk t.pairs)))
+      go b (inl c) = none (cases_lt 0 (occurrence_count_of_number b (used_blocks t.disk t.pairs)))
         where
-          none : (0 < count b (used_blocks t.disk t.pairs)) ⊎ (count b (used_blocks t.disk t.pairs) ≤ 0) → count b (store.come ++ used_blocks t.disk t.pairs) ≤ 1
+          none : (0 < occurrence_count_of_number b (used_blocks t.disk t.pairs)) ⊎ (occurrence_count_of_number b (used_blocks t.disk t.pairs) ≤ 0) → occurrence_count_of_number b (store.come ++ used_blocks t.disk t.pairs) ≤ 1
           none (inr z) = let e = count_append b store.come (used_blocks t.disk t.pairs) in let n = once_from_distinct store.come store.apart b in omega arith
-          none (inl z) = absurd (unlike (sym (each_counted (IsInFlight t.map) store.come store.flying b (omega arith)) ∙ (can.ready.used b).1 (Contains-count (used_blocks t.disk t.pairs) b (omega arith))))
+          none (inl z) = absurd (unlike (sym (each_counted (IsBlockInFlight t.map) store.come store.flying b (omega arith)) ∙ (can.ready.used b).1 (Contains-occurrence_count_of_number (used_blocks t.disk t.pairs) b (omega arith))))
 
   names : Names t index id can (with_struct (kind, bytes)) v change does turns fits store.gone store.come
   names = record {
@@ -156,7 +156,7 @@ module _ (t : Kept) (index id kind : ℕ) (bytes : List ℕ) (store : CanSetFile
     flying = store.flying;
     apart = come_apart;
     lists = λ disk geometry file come. is_list_same t.disk disk v.struct geometry (file_same disk file come) store.list;
-    blocks = λ disk geometry file come b. let e = ap (count b) (file_blocks_same t.disk disk v.struct geometry (file_same disk file come)) in let f = store.blocks b in omega arith;
+    blocks = λ disk geometry file come b. let e = ap (occurrence_count_of_number b) (file_blocks_same t.disk disk v.struct geometry (file_same disk file come)) in let f = store.blocks b in omega arith;
   }
 
   spliced : IsSplicing t index (change ∷ []) w p l (u ∷ []) (v ∷ []) r store.gone store.come
@@ -174,24 +174,24 @@ module _ (t : Kept) (index id kind : ℕ) (bytes : List ℕ) (store : CanSetFile
   abbrev turn : Tree → Tree
   turn = tree_after_change_of_node (can.path ++ can.name ∷ []) (node_with_bytes store.contents)
 
-  old_file_same : (disk : Disk) (q : Pair) (more : List Pair) → Commits t w p l (u ∷ []) (v ∷ []) r store.come disk q more → HasSameFile t.disk disk u.struct
-  old_file_same disk q more c = of_slot t index id can (with_struct (kind, bytes)) v change does turns fits (λ x. HasSameFile t.disk disk x.struct)
-      (subst (λ z. Each (λ x. HasSameFile t.disk disk x.struct) (all_slots_not_moved z)) (sym there_now) (recursion_from_All (λ (x : Slot). HasSameFile t.disk disk x.struct) (all_slots_not_moved (thread_at w (p ∷ []))) c.commit.device.files))
+  old_file_same : (disk : Disk) (q : Pair) (more : List Pair) → Commits t w p l (u ∷ []) (v ∷ []) r store.come disk q more → HasSameFileBlocksOfStructOnDisks t.disk disk u.struct
+  old_file_same disk q more c = of_slot t index id can (with_struct (kind, bytes)) v change does turns fits (λ x. HasSameFileBlocksOfStructOnDisks t.disk disk x.struct)
+      (subst (λ z. Each (λ x. HasSameFileBlocksOfStructOnDisks t.disk disk x.struct) (all_slots_not_moved z)) (sym there_now) (recursion_from_All (λ (x : Slot). HasSameFileBlocksOfStructOnDisks t.disk disk x.struct) (all_slots_not_moved (thread_at w (p ∷ []))) c.commit.device.files))
 
-  stores_now : (disk : Disk) (q : Pair) (more : List Pair) → Commits t w p l (u ∷ []) (v ∷ []) r store.come disk q more → Stores disk store.contents v.struct
+  stores_now : (disk : Disk) (q : Pair) (more : List Pair) → Commits t w p l (u ∷ []) (v ∷ []) r store.come disk q more → IsStructStoringBytes disk store.contents v.struct
   stores_now disk q more c = stores_same t.disk disk store.contents v.struct c.commit.device.geometry (file_same disk (old_file_same disk q more c) c.come_same) store.stores
 
-  follows : (disk : Disk) (q : Pair) (more : List Pair) → Commits t w p l (u ∷ []) (v ∷ []) r store.come disk q more → Follows t.disk (thread_at w (p ∷ [])) disk (thread_at w (q ∷ more)) turn (λ d. d)
-  follows disk q more c = subst (λ (n : Name). Follows t.disk (thread_at w (p ∷ [])) disk (thread_at w (q ∷ more)) (tree_after_change_of_node (can.path ++ n ∷ []) (node_with_bytes store.contents)) (λ d. d)) can.stands.stands.named
+  follows : (disk : Disk) (q : Pair) (more : List Pair) → Commits t w p l (u ∷ []) (v ∷ []) r store.come disk q more → IsImageAfterTreeChange t.disk (thread_at w (p ∷ [])) disk (thread_at w (q ∷ more)) turn (λ d. d)
+  follows disk q more c = subst (λ (n : Name). IsImageAfterTreeChange t.disk (thread_at w (p ∷ [])) disk (thread_at w (q ∷ more)) (tree_after_change_of_node (can.path ++ n ∷ []) (node_with_bytes store.contents)) (λ d. d)) can.stands.stands.named
       (bytes_change t.disk disk w p [] q more (blocks_of_pairs more) store.come l r u v (commit_step t.disk disk w p q more store.come l (u ∷ []) (v ∷ []) r c.commit) other_slot can.path can.at led same_begin store.contents refl store.file
       (stores_node disk (entries_by_directory_in_thread (thread_at w (p ∷ []))) u.attributes v.struct store.contents (stores_now disk q more c))
       (λ e. (recovered_from t.disk (thread_at w (p ∷ [])) c.commit.accepted c.commit.settled).reached))
 
-  completed_there : (new : Kept) (x : HasStep t w p l (u ∷ []) (v ∷ []) r store.gone store.come new) (z : Session) (op : Operation) → IsCompleted t.disk (thread_at w (p ∷ [])) z op new.disk (thread_at w (x.q ∷ x.more))
-      → IsCompleted t.disk t.pairs z op new.disk new.pairs
-  completed_there new x z op h = subst (λ y. IsCompleted t.disk y z op new.disk new.pairs) (sym there_now) (subst (λ y. IsCompleted t.disk (thread_at w (p ∷ [])) z op new.disk y) (sym x.pairs) h)
+  completed_there : (new : KeptThread) (x : HasStep t w p l (u ∷ []) (v ∷ []) r store.gone store.come new) (z : Session) (op : Operation) → IsImageAfterCompletedOperation t.disk (thread_at w (p ∷ [])) z op new.disk (thread_at w (x.q ∷ x.more))
+      → IsImageAfterCompletedOperation t.disk t.pairs z op new.disk new.pairs
+  completed_there new x z op h = subst (λ y. IsImageAfterCompletedOperation t.disk y z op new.disk new.pairs) (sym there_now) (subst (λ y. IsImageAfterCompletedOperation t.disk (thread_at w (p ∷ [])) z op new.disk y) (sym x.pairs) h)
 
-  pub stored : (new : Kept) → IsPairChangedOrSplit t index (PutStruct id kind bytes ∷ []) new → HasStoredContentsOfFile t new store.can.path store.can.name store.contents store.gone store.come
+  pub stored : (new : KeptThread) → IsPairChangedOrSplit t index (PutStruct id kind bytes ∷ []) new → HasStoredContentsOfFile t new store.can.path store.can.name store.contents store.gone store.come
   stored new is = go (put_step t index (change ∷ []) w p l (u ∷ []) (v ∷ []) r store.gone store.come spliced new is)
     where
       go : HasStep t w p l (u ∷ []) (v ∷ []) r store.gone store.come new → HasStoredContentsOfFile t new can.path can.name store.contents store.gone store.come
@@ -199,14 +199,14 @@ module _ (t : Kept) (index id kind : ℕ) (bytes : List ℕ) (store : CanSetFile
         now = becomes t index (change ∷ []) w p l (u ∷ []) (v ∷ []) r store.gone store.come spliced turn (λ disk q more c. ((λ d. d), follows disk q more c)) (λ e. some_filled l r v) new x;
         synced = λ z fd writer tree is. completed_there new x z (ops.Sync fd)
             (sync_completed t.disk new.disk w p x.q x.more store.come l r u v x.commit.commit other_slot can.path can.at led same_begin z (tree ∙ ap (tree_on_disk t.disk) there_now) writer is.1.0
-            (is.1.1.0 ∙ ap (λ n. can.path ++ n ∷ []) (sym can.stands.stands.named)) refl store.file (subst (λ b. Stores new.disk b v.struct) (sym is.1.1.1) (stores_now new.disk x.q x.more x.commit)) fd is.0);
+            (is.1.1.0 ∙ ap (λ n. can.path ++ n ∷ []) (sym can.stands.stands.named)) refl store.file (subst (λ b. IsStructStoringBytes new.disk b v.struct) (sym is.1.1.1) (stores_now new.disk x.q x.more x.commit)) fd is.0);
         closed = λ z fd writer tree is. completed_there new x z (ops.Close fd)
             (close_completed t.disk new.disk w p x.q x.more store.come l r u v x.commit.commit other_slot can.path can.at led same_begin z (tree ∙ ap (tree_on_disk t.disk) there_now) writer is.1.0
-            (is.1.1.0 ∙ ap (λ n. can.path ++ n ∷ []) (sym can.stands.stands.named)) refl store.file (subst (λ b. Stores new.disk b v.struct) (sym is.1.1.1) (stores_now new.disk x.q x.more x.commit)) fd is.0);
+            (is.1.1.0 ∙ ap (λ n. can.path ++ n ∷ []) (sym can.stands.stands.named)) refl store.file (subst (λ b. IsStructStoringBytes new.disk b v.struct) (sym is.1.1.1) (stores_now new.disk x.q x.more x.commit)) fd is.0);
         once = λ b. let e = x.used.same b in let o = x.once b in omega arith;
         places = x.places;
       }
 
-  pub store_survives : (new : List CallEvent) → StopsAfterCleanErasesLeave t.history new (IsLeftByStoppedChangeOrSplit t index (PutStruct id kind bytes ∷ []))
-      → SurvivesStopsSince t.disk t.history new (tree_on_disk t.disk t.pairs) (tree_with_contents_at t store.can.path store.can.name store.contents)
+  pub store_survives : (new : List DeviceCallEvent) → PowerLossLeavesSuchBlocksAfterCleanErases t.history new (IsLeftByStoppedChangeOrSplit t index (PutStruct id kind bytes ∷ []))
+      → SurvivesPowerLossInCallsSince t.disk t.history new (tree_on_disk t.disk t.pairs) (tree_with_contents_at t store.can.path store.can.name store.contents)
   store_survives new stops = survives t index (change ∷ []) w p l (u ∷ []) (v ∷ []) r store.gone store.come spliced turn (λ disk q more c. ((λ d. d), follows disk q more c)) (λ e. some_filled l r v) new stops

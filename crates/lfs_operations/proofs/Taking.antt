@@ -1,7 +1,7 @@
 -- Two free blocks that are taken.
 use Rattle.std.proofs.Common.{ℕ, zero, suc, ◌≡◌, ◌≢◌, ◌<◌, Bool, true, false, nat_eq, [], ◌∷◌, length, Some, refl, sym, ap, subst, ◌∙◌, arith, set, slice_get, eqb-true, eq-eqb}
 use Rattle.std.proofs.lemmas.Option.{same_Some}
-use Rattle.lfs_model.specs.BlockSets.{BlockState, BlockStateList, IsFree}
+use Rattle.lfs_model.specs.BlockSets.{BlockState, BlockStateList, IsBlockFree}
 use Rattle.lfs_model.specs.BlockSets.BlockState.{Free, InFlight}
 use Rattle.lfs_model.proofs.BlockSets.{slice_get-set_same, slice_get-set_other}
 use Rattle.lfs_operations.specs.Changing.{AreTwoFreeBlocks}
@@ -21,7 +21,7 @@ flies : Free ≡ InFlight → ⊥
 flies e = absurd (cc)
 
 -- the second one is another
-pub two_free : (sets : BlockStateList) (a b : ℕ) → IsFree sets a → IsFree (set sets a InFlight) b → AreTwoFreeBlocks sets (a, b)
+pub two_free : (sets : BlockStateList) (a b : ℕ) → IsBlockFree sets a → IsBlockFree (set sets a InFlight) b → AreTwoFreeBlocks sets (a, b)
 two_free sets a b first second = record {
   apart = apart;
   first = first;
@@ -32,7 +32,7 @@ two_free sets a b first second = record {
     apart e = flies (sym (same_Some InFlight Free (sym (slice_get-set_same sets a InFlight (within sets a Free first)) ∙ subst (λ z. slice_get (set sets a InFlight) z ≡ Some Free) (sym e) second)))
 
 -- where the second isn't there, no two are
-pub not_two : (sets : BlockStateList) (a : ℕ) → ((b : ℕ) → IsFree (set sets a InFlight) b → ⊥) → (fresh : ℕ × ℕ) → AreTwoFreeBlocks sets fresh → ⊥
+pub not_two : (sets : BlockStateList) (a : ℕ) → ((b : ℕ) → IsBlockFree (set sets a InFlight) b → ⊥) → (fresh : ℕ × ℕ) → AreTwoFreeBlocks sets fresh → ⊥
 not_two sets a none fresh two = go (nat_eq fresh.0 a) refl
   where
     go : (t : Bool) → nat_eq fresh.0 a ≡ t → ⊥

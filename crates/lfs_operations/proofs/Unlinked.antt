@@ -4,26 +4,26 @@ use Rattle.std.specs.Option.{option_and_then}
 use Rattle.std.proofs.lemmas.Option.{same_Some}
 use Rattle.std.proofs.lemmas.List.Sums.{sum_by-append, sum_by-cons}
 use Rattle.lfs_model.specs.Blocks.{Blocks}
-use Rattle.lfs_model.specs.Changes.{Delete, PutMove, content_after_changes}
-use Rattle.lfs_model.specs.Content.{RawContent, content_if_slots_are_complete, raw_content_of_pair_at}
-use Rattle.lfs_model.specs.LoggedContent.{IsWellFormedMoveState}
+use Rattle.lfs_model.specs.Changes.{Delete, PutMove, raw_pair_content_after_changes}
+use Rattle.lfs_model.specs.Content.{RawPairContent, pair_content_if_slots_complete, raw_content_of_pair_at}
+use Rattle.lfs_model.specs.LoggedContent.{AreMoveStateFieldsWithinBitWidths}
 use Rattle.lfs_model.specs.Slots.{IsContentFittingPair, Gstate, Slot, gstate_xor, slot_size}
 use Rattle.lfs_model.specs.Thread.{Pair}
 use Rattle.lfs_model.proofs.Completed.{complete_length, complete_remove, completed_from, completed_parts}
 use Rattle.lfs_model.proofs.Effects.{deletes, does_first, does_nothing, puts_move}
-use Rattle.lfs_model.proofs.Global.{sync_delta}
+use Rattle.lfs_model.proofs.Global.{sync_bit_delta}
 use Rattle.lfs_model.proofs.Moves.{remove_here}
-use Rattle.lfs_thread.specs.Kept.{Kept}
-use Rattle.lfs_thread.specs.Steps.{CanChangePair, IsPairChanged, LeavesPairOldOrChanged, IsCommitRefused, IsPairWrittenOnDisk, complete_content_after_changes, kept_pair_at_index, pairs_with_content_at_index}
+use Rattle.lfs_thread.specs.Kept.{KeptThread}
+use Rattle.lfs_thread.specs.Steps.{CanChangePair, IsPairChanged, PowerLossLeavesPairOldOrChanged, IsCommitRefused, IsPairWrittenOnDisk, complete_content_after_changes, thread_pair_at_index, thread_pairs_with_content_replaced_at_index}
 use Rattle.lfs_operations.specs.Editing.{CanEditEntryOfPair}
 use Rattle.lfs_operations.specs.Unlinking.{IsLeftByStoppedUnlink, IsDirectoryEntryUnlinked, directory_unlink_changes, content_without_directory_entry}
 use Rattle.lfs_operations.proofs.DroppedTails.{move_xor}
 use Rattle.lfs_operations.proofs.Held.{CompletesTo, below, fits_there, here, raw_there}
 
-sync_small : IsWellFormedMoveState sync_delta
+sync_small : AreMoveStateFieldsWithinBitWidths sync_bit_delta
 sync_small = record { kind = omega arith; id = omega arith; pair = (omega arith, omega arith) }
 
-module _ (t : Kept) (index id : ℕ) (can : CanEditEntryOfPair t index id) where
+module _ (t : KeptThread) (index id : ℕ) (can : CanEditEntryOfPair t index id) where
   abbrev l : List Slot
   l = can.stands.stands.left
 
@@ -33,51 +33,51 @@ module _ (t : Kept) (index id : ℕ) (can : CanEditEntryOfPair t index id) where
   abbrev u : Slot
   u = can.stands.stands.slot
 
-  pub pair_there : kept_pair_at_index t index ≡ can.stands.pair
+  pub pair_there : thread_pair_at_index t index ≡ can.stands.pair
   pair_there = here t can.ready can.first index can.stands.pair can.stands.rest can.stands.place
 
-  pub held_there : (kept_pair_at_index t index).content.slots ≡ l ++ u ∷ r
+  pub held_there : (thread_pair_at_index t index).content.slots ≡ l ++ u ∷ r
   held_there = ap (λ (z : Pair). z.content.slots) pair_there ∙ can.stands.stands.held
 
-  pub slots_gone : remove (kept_pair_at_index t index).content.slots id ≡ l ++ r
+  pub slots_gone : remove (thread_pair_at_index t index).content.slots id ≡ l ++ r
   slots_gone = ap₂ (λ (z : List Slot) (i : ℕ). remove z i) held_there (sym can.stands.stands.number) ∙ remove_here l r u
 
-  within : id < length (kept_pair_at_index t index).content.slots
+  within : id < length (thread_pair_at_index t index).content.slots
   within = let h = ap length held_there in let k = length-append l (u ∷ r) in let n = can.stands.stands.number in omega arith
 
-  fits_held : IsContentFittingPair t.disk.block_size t.disk.page (kept_pair_at_index t index).content
+  fits_held : IsContentFittingPair t.disk.block_size t.disk.page (thread_pair_at_index t index).content
   fits_held = subst (λ (z : Pair). IsContentFittingPair t.disk.block_size t.disk.page z.content) (sym pair_there) (fits_there t can.ready can.first index can.stands.pair can.stands.rest can.stands.place)
 
-  c : CompletesTo (raw_content_of_pair_at t.disk (kept_pair_at_index t index).at) (kept_pair_at_index t index).content
-  c = subst (λ (z : Pair). CompletesTo (raw_content_of_pair_at t.disk (kept_pair_at_index t index).at) z.content) (sym pair_there) (raw_there t can.ready can.first index can.stands.pair can.stands.rest can.stands.place)
+  c : CompletesTo (raw_content_of_pair_at t.disk (thread_pair_at_index t index).at) (thread_pair_at_index t index).content
+  c = subst (λ (z : Pair). CompletesTo (raw_content_of_pair_at t.disk (thread_pair_at_index t index).at) z.content) (sym pair_there) (raw_there t can.ready can.first index can.stands.pair can.stands.rest can.stands.place)
 
   abbrev delta : Gstate
-  delta = gstate_xor (kept_pair_at_index t index).content.move sync_delta
+  delta = gstate_xor (thread_pair_at_index t index).content.move sync_bit_delta
 
-  small : IsWellFormedMoveState delta
+  small : AreMoveStateFieldsWithinBitWidths delta
   small =
-      let parts = completed_parts c.raw (kept_pair_at_index t index).content c.complete in
-      move_xor (kept_pair_at_index t index).content.move sync_delta (subst IsWellFormedMoveState (sym parts.move) (can.logged c.raw c.is).move) sync_small
+      let parts = completed_parts c.raw (thread_pair_at_index t index).content c.complete in
+      move_xor (thread_pair_at_index t index).content.move sync_bit_delta (subst AreMoveStateFieldsWithinBitWidths (sym parts.move) (can.logged c.raw c.is).move) sync_small
 
-  abbrev raw_now : RawContent
+  abbrev raw_now : RawPairContent
   raw_now = record { slots = remove c.raw.slots id; tail = c.raw.tail; move = delta }
 
-  changed_now : content_after_changes c.raw (directory_unlink_changes t index id) ≡ Some raw_now
+  changed_now : raw_pair_content_after_changes c.raw (directory_unlink_changes t index id) ≡ Some raw_now
   changed_now =
       let few = fits_held.count in
-      let n = complete_length c.raw.slots (kept_pair_at_index t index).content.slots (completed_parts c.raw (kept_pair_at_index t index).content c.complete).slots in
+      let n = complete_length c.raw.slots (thread_pair_at_index t index).content.slots (completed_parts c.raw (thread_pair_at_index t index).content c.complete).slots in
       let m = within in
-      let middle : RawContent = record c.raw { slots = remove c.raw.slots id } in
+      let middle : RawPairContent = record c.raw { slots = remove c.raw.slots id } in
       does_first (Delete id) (PutMove delta ∷ []) c.raw middle raw_now (deletes c.raw id (omega arith) (omega arith))
       (does_first (PutMove delta) [] middle raw_now raw_now (puts_move middle delta small) (does_nothing raw_now))
 
   pub unlink_made : complete_content_after_changes t index (directory_unlink_changes t index id) ≡ Some (content_without_directory_entry t index id)
   unlink_made =
-      let parts = completed_parts c.raw (kept_pair_at_index t index).content c.complete in
-      ap (λ o. option_and_then content_if_slots_are_complete (option_and_then (λ (x : RawContent). content_after_changes x (directory_unlink_changes t index id)) o)) c.is
-      ∙ ap (λ o. option_and_then content_if_slots_are_complete o) changed_now
-      ∙ completed_from raw_now (remove (kept_pair_at_index t index).content.slots id) (complete_remove c.raw.slots (kept_pair_at_index t index).content.slots id parts.slots)
-      ∙ ap (λ z. Some (record { slots = remove (kept_pair_at_index t index).content.slots id; tail = z; move = delta })) (sym parts.tail)
+      let parts = completed_parts c.raw (thread_pair_at_index t index).content c.complete in
+      ap (λ o. option_and_then pair_content_if_slots_complete (option_and_then (λ (x : RawPairContent). raw_pair_content_after_changes x (directory_unlink_changes t index id)) o)) c.is
+      ∙ ap (λ o. option_and_then pair_content_if_slots_complete o) changed_now
+      ∙ completed_from raw_now (remove (thread_pair_at_index t index).content.slots id) (complete_remove c.raw.slots (thread_pair_at_index t index).content.slots id parts.slots)
+      ∙ ap (λ z. Some (record { slots = remove (thread_pair_at_index t index).content.slots id; tail = z; move = delta })) (sym parts.tail)
 
   pub can_unlink : CanChangePair t index (directory_unlink_changes t index id)
   can_unlink = record {
@@ -102,23 +102,23 @@ module _ (t : Kept) (index id : ℕ) (can : CanEditEntryOfPair t index id) where
       let n = fits_held.count in
       record { size = omega arith; count = omega arith }
 
-  pub unlink_not_refused : (new : Kept) → IsCommitRefused t index (directory_unlink_changes t index id) new → ⊥
+  pub unlink_not_refused : (new : KeptThread) → IsCommitRefused t index (directory_unlink_changes t index id) new → ⊥
   unlink_not_refused new is = is.too_large (subst (IsContentFittingPair t.disk.block_size t.disk.page) (same_Some (content_without_directory_entry t index id) is.content (sym unlink_made ∙ is.made)) fits_gone)
 
-  pub has_unlinked : (new : Kept) → IsPairChanged t index (directory_unlink_changes t index id) new → IsDirectoryEntryUnlinked t index id new
+  pub has_unlinked : (new : KeptThread) → IsPairChanged t index (directory_unlink_changes t index id) new → IsDirectoryEntryUnlinked t index id new
   has_unlinked new is =
       let same = same_Some is.content (content_without_directory_entry t index id) (sym is.made ∙ unlink_made) in
       record {
         written = subst (λ z. IsPairWrittenOnDisk t index z new.disk) same is.written;
-        pairs = is.pairs ∙ ap (pairs_with_content_at_index t index) same;
+        pairs = is.pairs ∙ ap (thread_pairs_with_content_replaced_at_index t index) same;
         thread = is.thread;
         map = is.map;
       }
 
-  pub left_by_unlink : (left : Blocks) → LeavesPairOldOrChanged t index (directory_unlink_changes t index id) left → IsLeftByStoppedUnlink t index id left
+  pub left_by_unlink : (left : Blocks) → PowerLossLeavesPairOldOrChanged t index (directory_unlink_changes t index id) left → IsLeftByStoppedUnlink t index id left
   left_by_unlink left is = record { content = is.content; is = go is.is; written = is.written }
     where
-      go : (is.content ≡ (kept_pair_at_index t index).content) ⊎ ((complete_content_after_changes t index (directory_unlink_changes t index id) ≡ Some is.content) × IsContentFittingPair t.disk.block_size t.disk.page is.content)
-          → (is.content ≡ (kept_pair_at_index t index).content) ⊎ (is.content ≡ content_without_directory_entry t index id)
+      go : (is.content ≡ (thread_pair_at_index t index).content) ⊎ ((complete_content_after_changes t index (directory_unlink_changes t index id) ≡ Some is.content) × IsContentFittingPair t.disk.block_size t.disk.page is.content)
+          → (is.content ≡ (thread_pair_at_index t index).content) ⊎ (is.content ≡ content_without_directory_entry t index id)
       go (inl e) = inl e
       go (inr k) = inr (same_Some is.content (content_without_directory_entry t index id) (sym k.0 ∙ unlink_made))

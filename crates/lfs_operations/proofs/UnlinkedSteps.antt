@@ -3,35 +3,35 @@ use Rattle.std.proofs.Common.{◌⊎◌, ℕ, zero, suc, ◌≡◌, ◌≢◌, �
 use Rattle.std.specs.Prelude.{All}
 use Rattle.std.proofs.lemmas.List.Elements.{All-from_recursion, recursion_from_All}
 use Rattle.lfs_device.specs.declared.error.Error.{Error}
-use Rattle.lfs_model.specs.History.{CallEvent, faults}
-use Rattle.lfs_model.specs.PowerLoss.{SurvivesStopsSince}
-use Rattle.lfs_model.specs.Slots.{Content, zero_gstate}
+use Rattle.lfs_model.specs.History.{DeviceCallEvent, fault_count_of_history}
+use Rattle.lfs_model.specs.PowerLoss.{SurvivesPowerLossInCallsSince}
+use Rattle.lfs_model.specs.Slots.{PairContent, zero_gstate}
 use Rattle.lfs_model.specs.Thread.{Pair}
 use Rattle.lfs_model.specs.Shown.{tree_on_disk}
-use Rattle.lfs_model.proofs.Histories.{IsTrueOfEachCallSince-behind, IsTrueOfEachCallSince-until, IsTrueAfterEachStopSince-trans, IsTrueAfterEachStopSince-weaker, AreBytesStillUnprogrammed-trans, AreBytesStillUnprogrammed-wider}
+use Rattle.lfs_model.proofs.Histories.{IsTrueOfEachCallSince-behind, IsTrueOfEachCallSince-until, IsTrueAfterAnyPowerLossSince-trans, IsTrueAfterAnyPowerLossSince-weaker, AreBytesStillUnprogrammed-trans, AreBytesStillUnprogrammed-wider}
 use Rattle.lfs_model.proofs.Overwrites.{AreBlocksEqualExceptThese-trans, AreBlocksEqualExceptThese-wider}
-use Rattle.lfs_thread.specs.Device.{StopsAfterCleanErasesLeave, blocks_of_two_addresses, blocks_of_address}
-use Rattle.lfs_thread.specs.Kept.{Kept, ThreadView}
-use Rattle.lfs_thread.specs.Steps.{ThreadChangesOnlyTheseBlocks, no_pair, kept_pair_at_index}
-use Rattle.lfs_operations.specs.Dropping.{IsNextPairDropped, IsLeftByStoppedDrop}
-use Rattle.lfs_operations.specs.Removing.{ReportsCommitTakingNoBlock, is_pair_dropped_with_slot, tree_without_named_entry, pair_address_written_by_removal}
-use Rattle.lfs_operations.specs.Unlinking.{CanRemoveDirectory, IsLeftByStoppedUnlink, IsDirectoryEntryUnlinked, ReportsCommitsTakingNoBlock, pair_number_after_drop, content_without_directory_entry}
+use Rattle.lfs_thread.specs.Device.{PowerLossLeavesSuchBlocksAfterCleanErases, blocks_of_two_pair_addresses, blocks_of_pair_address}
+use Rattle.lfs_thread.specs.Kept.{KeptThread, ThreadView}
+use Rattle.lfs_thread.specs.Steps.{ThreadChangesOnlyTheseBlocks, empty_pair_at_anchor, thread_pair_at_index}
+use Rattle.lfs_operations.specs.Dropping.{IsNextPairDropped, IsLeftByStoppedPairDrop}
+use Rattle.lfs_operations.specs.Removing.{ReportsErrorsOfCommitTakingNoBlock, is_pair_dropped_with_slot, tree_without_named_entry, pair_address_written_by_removal}
+use Rattle.lfs_operations.specs.Unlinking.{CanRemoveDirectory, IsLeftByStoppedUnlink, IsDirectoryEntryUnlinked, ReportsErrorsOfCommitsTakingNoBlock, pair_number_after_drop, content_without_directory_entry}
 use Rattle.lfs_operations.proofs.RemovedWhole.{StandsWhole}
 use Rattle.lfs_operations.proofs.RmdirThread.{left_first, left_second}
 use Rattle.lfs_operations.proofs.UnlinkedWhole.{whole_first, whole_second, written_then}
-use Rattle.lfs_model.proofs.Global.{sync_delta}
+use Rattle.lfs_model.proofs.Global.{sync_bit_delta}
 
 -- ---- blocks
 
-pub writes_wider : {bs : List ℕ} (cs : List ℕ) {old new : Kept} → ((b : ℕ) → All (λ c. c ≢ b) cs → All (λ c. c ≢ b) bs) → ThreadChangesOnlyTheseBlocks bs old new → ThreadChangesOnlyTheseBlocks cs old new
+pub writes_wider : {bs : List ℕ} (cs : List ℕ) {old new : KeptThread} → ((b : ℕ) → All (λ c. c ≢ b) cs → All (λ c. c ≢ b) bs) → ThreadChangesOnlyTheseBlocks bs old new → ThreadChangesOnlyTheseBlocks cs old new
 writes_wider cs f h = record {
   others = AreBlocksEqualExceptThese-wider cs f h.others;
   elsewhere = AreBytesStillUnprogrammed-wider cs f h.elsewhere;
   shape = h.shape;
-  at_worst = IsTrueAfterEachStopSince-weaker (λ blocks k. AreBlocksEqualExceptThese-wider cs f k) h.at_worst;
+  at_worst = IsTrueAfterAnyPowerLossSince-weaker (λ blocks k. AreBlocksEqualExceptThese-wider cs f k) h.at_worst;
 }
 
-pub writes_trans : {bs : List ℕ} {old mid new : Kept} → ThreadChangesOnlyTheseBlocks bs old mid → ThreadChangesOnlyTheseBlocks bs mid new → ThreadChangesOnlyTheseBlocks bs old new
+pub writes_trans : {bs : List ℕ} {old mid new : KeptThread} → ThreadChangesOnlyTheseBlocks bs old mid → ThreadChangesOnlyTheseBlocks bs mid new → ThreadChangesOnlyTheseBlocks bs old new
 writes_trans first second = record {
   others = AreBlocksEqualExceptThese-trans first.others second.others;
   elsewhere = AreBytesStillUnprogrammed-trans first.elsewhere second.elsewhere;
@@ -41,87 +41,87 @@ writes_trans first second = record {
     order = second.shape.order ∙ first.shape.order;
     count = second.shape.count ∙ first.shape.count;
   };
-  at_worst = IsTrueAfterEachStopSince-trans first.at_worst (IsTrueAfterEachStopSince-weaker (λ blocks k. AreBlocksEqualExceptThese-trans first.others k) second.at_worst);
+  at_worst = IsTrueAfterAnyPowerLossSince-trans first.at_worst (IsTrueAfterAnyPowerLossSince-weaker (λ blocks k. AreBlocksEqualExceptThese-trans first.others k) second.at_worst);
 }
 
-first_two : (a b : ℕ × ℕ) (x : ℕ) → All (λ c. c ≢ x) (blocks_of_two_addresses a b) → All (λ c. c ≢ x) (blocks_of_address a)
-first_two a b x h = let k = recursion_from_All (λ (c : ℕ). c ≢ x) (blocks_of_two_addresses a b) h in All-from_recursion (λ c. c ≢ x) (blocks_of_address a) (k.0, (k.1.0, tt))
+first_two : (a b : ℕ × ℕ) (x : ℕ) → All (λ c. c ≢ x) (blocks_of_two_pair_addresses a b) → All (λ c. c ≢ x) (blocks_of_pair_address a)
+first_two a b x h = let k = recursion_from_All (λ (c : ℕ). c ≢ x) (blocks_of_two_pair_addresses a b) h in All-from_recursion (λ c. c ≢ x) (blocks_of_pair_address a) (k.0, (k.1.0, tt))
 
-last_two : (a b : ℕ × ℕ) (x : ℕ) → All (λ c. c ≢ x) (blocks_of_two_addresses a b) → All (λ c. c ≢ x) (blocks_of_address b)
-last_two a b x h = let k = recursion_from_All (λ (c : ℕ). c ≢ x) (blocks_of_two_addresses a b) h in All-from_recursion (λ c. c ≢ x) (blocks_of_address b) (k.1.1.0, (k.1.1.1.0, tt))
+last_two : (a b : ℕ × ℕ) (x : ℕ) → All (λ c. c ≢ x) (blocks_of_two_pair_addresses a b) → All (λ c. c ≢ x) (blocks_of_pair_address b)
+last_two a b x h = let k = recursion_from_All (λ (c : ℕ). c ≢ x) (blocks_of_two_pair_addresses a b) h in All-from_recursion (λ c. c ≢ x) (blocks_of_pair_address b) (k.1.1.0, (k.1.1.1.0, tt))
 
-pub writes_first : (a b : ℕ × ℕ) {old new : Kept} → ThreadChangesOnlyTheseBlocks (blocks_of_address a) old new → ThreadChangesOnlyTheseBlocks (blocks_of_two_addresses a b) old new
-writes_first a b h = writes_wider (blocks_of_two_addresses a b) (first_two a b) h
+pub writes_first : (a b : ℕ × ℕ) {old new : KeptThread} → ThreadChangesOnlyTheseBlocks (blocks_of_pair_address a) old new → ThreadChangesOnlyTheseBlocks (blocks_of_two_pair_addresses a b) old new
+writes_first a b h = writes_wider (blocks_of_two_pair_addresses a b) (first_two a b) h
 
-pub writes_both : (a b : ℕ × ℕ) {old mid new : Kept} → ThreadChangesOnlyTheseBlocks (blocks_of_address a) old mid → ThreadChangesOnlyTheseBlocks (blocks_of_address b) mid new → ThreadChangesOnlyTheseBlocks (blocks_of_two_addresses a b) old new
-writes_both a b first second = writes_trans (writes_first a b first) (writes_wider (blocks_of_two_addresses a b) (last_two a b) second)
+pub writes_both : (a b : ℕ × ℕ) {old mid new : KeptThread} → ThreadChangesOnlyTheseBlocks (blocks_of_pair_address a) old mid → ThreadChangesOnlyTheseBlocks (blocks_of_pair_address b) mid new → ThreadChangesOnlyTheseBlocks (blocks_of_two_pair_addresses a b) old new
+writes_both a b first second = writes_trans (writes_first a b first) (writes_wider (blocks_of_two_pair_addresses a b) (last_two a b) second)
 
 -- a change leaves each pair where it is
-pub at_kept : (xs : List Pair) (n k : ℕ) (c : Content) (d : Pair) → (get_or (set xs n (record { at = (get_or xs n d).at; content = c })) k d).at ≡ (get_or xs k d).at
+pub at_kept : (xs : List Pair) (n k : ℕ) (c : PairContent) (d : Pair) → (get_or (set xs n (record { at = (get_or xs n d).at; content = c })) k d).at ≡ (get_or xs k d).at
 at_kept [] n k c d = refl
 at_kept (x ∷ xs) zero zero c d = refl
 at_kept (x ∷ xs) zero (suc k) c d = refl
 at_kept (x ∷ xs) (suc n) zero c d = refl
 at_kept (x ∷ xs) (suc n) (suc k) c d = at_kept xs n k c d
 
-pub at_there : (t m : Kept) (index id k : ℕ) → IsDirectoryEntryUnlinked t index id m → (kept_pair_at_index m k).at ≡ (kept_pair_at_index t k).at
-at_there t m index id k h = ap (λ (z : List Pair). (get_or z k no_pair).at) h.pairs ∙ at_kept t.pairs index k (content_without_directory_entry t index id) no_pair
+pub at_there : (t m : KeptThread) (index id k : ℕ) → IsDirectoryEntryUnlinked t index id m → (thread_pair_at_index m k).at ≡ (thread_pair_at_index t k).at
+at_there t m index id k h = ap (λ (z : List Pair). (get_or z k empty_pair_at_anchor).at) h.pairs ∙ at_kept t.pairs index k (content_without_directory_entry t index id) empty_pair_at_anchor
 
-pub writes_two : (t m new : Kept) (index id gone : ℕ) → IsDirectoryEntryUnlinked t index id m → ThreadChangesOnlyTheseBlocks (blocks_of_address (kept_pair_at_index t index).at) t m → ThreadChangesOnlyTheseBlocks (blocks_of_address (kept_pair_at_index m (gone - 1)).at) m new
-    → ThreadChangesOnlyTheseBlocks (blocks_of_two_addresses (kept_pair_at_index t index).at (kept_pair_at_index t (gone - 1)).at) t new
+pub writes_two : (t m new : KeptThread) (index id gone : ℕ) → IsDirectoryEntryUnlinked t index id m → ThreadChangesOnlyTheseBlocks (blocks_of_pair_address (thread_pair_at_index t index).at) t m → ThreadChangesOnlyTheseBlocks (blocks_of_pair_address (thread_pair_at_index m (gone - 1)).at) m new
+    → ThreadChangesOnlyTheseBlocks (blocks_of_two_pair_addresses (thread_pair_at_index t index).at (thread_pair_at_index t (gone - 1)).at) t new
 writes_two t m new index id gone h first second =
-    writes_both (kept_pair_at_index t index).at (kept_pair_at_index t (gone - 1)).at first (subst (λ at. ThreadChangesOnlyTheseBlocks (blocks_of_address at) m new) (at_there t m index id (gone - 1) h) second)
+    writes_both (thread_pair_at_index t index).at (thread_pair_at_index t (gone - 1)).at first (subst (λ at. ThreadChangesOnlyTheseBlocks (blocks_of_pair_address at) m new) (at_there t m index id (gone - 1) h) second)
 
 -- ---- what they tell
 
-pub steps_from : {X : Type 0} (old new : ThreadView) (result : Result X Error) → ReportsCommitTakingNoBlock old new result → ReportsCommitsTakingNoBlock old new result
+pub steps_from : {X : Type 0} (old new : ThreadView) (result : Result X Error) → ReportsErrorsOfCommitTakingNoBlock old new result → ReportsErrorsOfCommitsTakingNoBlock old new result
 steps_from old new result h = record { failed = h.failed; errors = h.reported.errors; fault = h.reported.fault; no_fault = h.reported.no_fault }
 
-pub steps_then : {X Y : Type 0} (old mid new : ThreadView) (a : X) (first : Result X Error) (second : Result Y Error) → first ≡ Ok a → ReportsCommitTakingNoBlock old mid first → ReportsCommitTakingNoBlock mid new second → ReportsCommitsTakingNoBlock old new second
+pub steps_then : {X Y : Type 0} (old mid new : ThreadView) (a : X) (first : Result X Error) (second : Result Y Error) → first ≡ Ok a → ReportsErrorsOfCommitTakingNoBlock old mid first → ReportsErrorsOfCommitTakingNoBlock mid new second → ReportsErrorsOfCommitsTakingNoBlock old new second
 steps_then old mid new a first second ok one two =
-    let same : faults mid.kept.history ≡ faults old.kept.history = one.reported.no_fault (λ io. absurd (let z = sym ok ∙ io in cc)) in
+    let same : fault_count_of_history mid.kept.history ≡ fault_count_of_history old.kept.history = one.reported.no_fault (λ io. absurd (let z = sym ok ∙ io in cc)) in
     record {
       failed = two.failed;
       errors = two.reported.errors;
-      fault = λ io. subst (λ n. n < faults new.kept.history) same (two.reported.fault io);
+      fault = λ io. subst (λ n. n < fault_count_of_history new.kept.history) same (two.reported.fault io);
       no_fault = λ other. two.reported.no_fault other ∙ same;
     }
 
 -- ---- at a stop
 
-module _ (t : Kept) (index id first gone : ℕ) (take : CanRemoveDirectory t index id first gone) where
+module _ (t : KeptThread) (index id first gone : ℕ) (take : CanRemoveDirectory t index id first gone) where
   module _ (goes : is_pair_dropped_with_slot t index first ≡ false) where
-    pub first_survives : (new : List CallEvent) → StopsAfterCleanErasesLeave t.history new (IsLeftByStoppedUnlink t index id) → SurvivesStopsSince t.disk t.history new (tree_on_disk t.disk t.pairs) (tree_without_named_entry t take.can.path take.can.name)
-    first_survives new stops clean = IsTrueAfterEachStopSince-weaker (left_first t index id first gone take goes) (stops clean)
+    pub first_survives : (new : List DeviceCallEvent) → PowerLossLeavesSuchBlocksAfterCleanErases t.history new (IsLeftByStoppedUnlink t index id) → SurvivesPowerLossInCallsSince t.disk t.history new (tree_on_disk t.disk t.pairs) (tree_without_named_entry t take.can.path take.can.name)
+    first_survives new stops clean = IsTrueAfterAnyPowerLossSince-weaker (left_first t index id first gone take goes) (stops clean)
 
-    pub both_survive : (m new : Kept) (bs cs : List ℕ) → IsDirectoryEntryUnlinked t index id m → ThreadChangesOnlyTheseBlocks bs t m → ThreadChangesOnlyTheseBlocks cs m new → StopsAfterCleanErasesLeave t.history m.history (IsLeftByStoppedUnlink t index id)
-        → StopsAfterCleanErasesLeave m.history new.history (IsLeftByStoppedDrop m (gone - 1) zero_gstate) → SurvivesStopsSince t.disk t.history new.history (tree_on_disk t.disk t.pairs) (tree_without_named_entry t take.can.path take.can.name)
-    both_survive m new bs cs h one two before after clean = IsTrueAfterEachStopSince-trans
-        (IsTrueAfterEachStopSince-weaker (left_first t index id first gone take goes) (before (IsTrueOfEachCallSince-until clean one.at_worst two.at_worst)))
-        (IsTrueAfterEachStopSince-weaker (left_second t index id first gone take goes m h) (after (IsTrueOfEachCallSince-behind clean one.at_worst two.at_worst)))
+    pub both_survive : (m new : KeptThread) (bs cs : List ℕ) → IsDirectoryEntryUnlinked t index id m → ThreadChangesOnlyTheseBlocks bs t m → ThreadChangesOnlyTheseBlocks cs m new → PowerLossLeavesSuchBlocksAfterCleanErases t.history m.history (IsLeftByStoppedUnlink t index id)
+        → PowerLossLeavesSuchBlocksAfterCleanErases m.history new.history (IsLeftByStoppedPairDrop m (gone - 1) zero_gstate) → SurvivesPowerLossInCallsSince t.disk t.history new.history (tree_on_disk t.disk t.pairs) (tree_without_named_entry t take.can.path take.can.name)
+    both_survive m new bs cs h one two before after clean = IsTrueAfterAnyPowerLossSince-trans
+        (IsTrueAfterAnyPowerLossSince-weaker (left_first t index id first gone take goes) (before (IsTrueOfEachCallSince-until clean one.at_worst two.at_worst)))
+        (IsTrueAfterAnyPowerLossSince-weaker (left_second t index id first gone take goes m h) (after (IsTrueOfEachCallSince-behind clean one.at_worst two.at_worst)))
 
   module _ (s : StandsWhole t index id take.can) where
-    pub first_survives_whole : (new : List CallEvent) → StopsAfterCleanErasesLeave t.history new (IsLeftByStoppedDrop t (index - 1) sync_delta) → SurvivesStopsSince t.disk t.history new (tree_on_disk t.disk t.pairs) (tree_without_named_entry t take.can.path take.can.name)
-    first_survives_whole new stops clean = IsTrueAfterEachStopSince-weaker (whole_first t index id first gone take s) (stops clean)
+    pub first_survives_whole : (new : List DeviceCallEvent) → PowerLossLeavesSuchBlocksAfterCleanErases t.history new (IsLeftByStoppedPairDrop t (index - 1) sync_bit_delta) → SurvivesPowerLossInCallsSince t.disk t.history new (tree_on_disk t.disk t.pairs) (tree_without_named_entry t take.can.path take.can.name)
+    first_survives_whole new stops clean = IsTrueAfterAnyPowerLossSince-weaker (whole_first t index id first gone take s) (stops clean)
 
-    pub both_survive_whole : (m new : Kept) (bs cs : List ℕ) → IsNextPairDropped t (index - 1) sync_delta m → ThreadChangesOnlyTheseBlocks bs t m → ThreadChangesOnlyTheseBlocks cs m new → StopsAfterCleanErasesLeave t.history m.history (IsLeftByStoppedDrop t (index - 1) sync_delta)
-        → StopsAfterCleanErasesLeave m.history new.history (IsLeftByStoppedDrop m (pair_number_after_drop index gone - 1) zero_gstate) → SurvivesStopsSince t.disk t.history new.history (tree_on_disk t.disk t.pairs) (tree_without_named_entry t take.can.path take.can.name)
-    both_survive_whole m new bs cs h one two before after clean = IsTrueAfterEachStopSince-trans
-        (IsTrueAfterEachStopSince-weaker (whole_first t index id first gone take s) (before (IsTrueOfEachCallSince-until clean one.at_worst two.at_worst)))
-        (IsTrueAfterEachStopSince-weaker (whole_second t index id first gone take s m h) (after (IsTrueOfEachCallSince-behind clean one.at_worst two.at_worst)))
+    pub both_survive_whole : (m new : KeptThread) (bs cs : List ℕ) → IsNextPairDropped t (index - 1) sync_bit_delta m → ThreadChangesOnlyTheseBlocks bs t m → ThreadChangesOnlyTheseBlocks cs m new → PowerLossLeavesSuchBlocksAfterCleanErases t.history m.history (IsLeftByStoppedPairDrop t (index - 1) sync_bit_delta)
+        → PowerLossLeavesSuchBlocksAfterCleanErases m.history new.history (IsLeftByStoppedPairDrop m (pair_number_after_drop index gone - 1) zero_gstate) → SurvivesPowerLossInCallsSince t.disk t.history new.history (tree_on_disk t.disk t.pairs) (tree_without_named_entry t take.can.path take.can.name)
+    both_survive_whole m new bs cs h one two before after clean = IsTrueAfterAnyPowerLossSince-trans
+        (IsTrueAfterAnyPowerLossSince-weaker (whole_first t index id first gone take s) (before (IsTrueOfEachCallSince-until clean one.at_worst two.at_worst)))
+        (IsTrueAfterAnyPowerLossSince-weaker (whole_second t index id first gone take s m h) (after (IsTrueOfEachCallSince-behind clean one.at_worst two.at_worst)))
 
-    pub writes_whole : (m new : Kept) → IsNextPairDropped t (index - 1) sync_delta m → ThreadChangesOnlyTheseBlocks (blocks_of_address (kept_pair_at_index t (index - 1)).at) t m → ThreadChangesOnlyTheseBlocks (blocks_of_address (kept_pair_at_index m (pair_number_after_drop index gone - 1)).at) m new
-        → ThreadChangesOnlyTheseBlocks (blocks_of_two_addresses (kept_pair_at_index t (index - 1)).at (kept_pair_at_index t (gone - 1)).at) t new
+    pub writes_whole : (m new : KeptThread) → IsNextPairDropped t (index - 1) sync_bit_delta m → ThreadChangesOnlyTheseBlocks (blocks_of_pair_address (thread_pair_at_index t (index - 1)).at) t m → ThreadChangesOnlyTheseBlocks (blocks_of_pair_address (thread_pair_at_index m (pair_number_after_drop index gone - 1)).at) m new
+        → ThreadChangesOnlyTheseBlocks (blocks_of_two_pair_addresses (thread_pair_at_index t (index - 1)).at (thread_pair_at_index t (gone - 1)).at) t new
     writes_whole m new h one two = go (written_then t index id first gone take s m h)
       where
-        go : ((kept_pair_at_index m (pair_number_after_drop index gone - 1)).at ≡ (kept_pair_at_index t (gone - 1)).at) ⊎ ((kept_pair_at_index m (pair_number_after_drop index gone - 1)).at ≡ (kept_pair_at_index t (index - 1)).at)
-            → ThreadChangesOnlyTheseBlocks (blocks_of_two_addresses (kept_pair_at_index t (index - 1)).at (kept_pair_at_index t (gone - 1)).at) t new
-        go (inl e) = writes_both (kept_pair_at_index t (index - 1)).at (kept_pair_at_index t (gone - 1)).at one (subst (λ at. ThreadChangesOnlyTheseBlocks (blocks_of_address at) m new) e two)
-        go (inr e) = writes_first (kept_pair_at_index t (index - 1)).at (kept_pair_at_index t (gone - 1)).at (writes_trans one (subst (λ at. ThreadChangesOnlyTheseBlocks (blocks_of_address at) m new) e two))
+        go : ((thread_pair_at_index m (pair_number_after_drop index gone - 1)).at ≡ (thread_pair_at_index t (gone - 1)).at) ⊎ ((thread_pair_at_index m (pair_number_after_drop index gone - 1)).at ≡ (thread_pair_at_index t (index - 1)).at)
+            → ThreadChangesOnlyTheseBlocks (blocks_of_two_pair_addresses (thread_pair_at_index t (index - 1)).at (thread_pair_at_index t (gone - 1)).at) t new
+        go (inl e) = writes_both (thread_pair_at_index t (index - 1)).at (thread_pair_at_index t (gone - 1)).at one (subst (λ at. ThreadChangesOnlyTheseBlocks (blocks_of_pair_address at) m new) e two)
+        go (inr e) = writes_first (thread_pair_at_index t (index - 1)).at (thread_pair_at_index t (gone - 1)).at (writes_trans one (subst (λ at. ThreadChangesOnlyTheseBlocks (blocks_of_pair_address at) m new) e two))
 
 -- which pair the first step writes
-pub written_beside : (t : Kept) (index first : ℕ) → is_pair_dropped_with_slot t index first ≡ false → pair_address_written_by_removal t index first ≡ (kept_pair_at_index t index).at
-written_beside t index first goes = ap (λ b. cond b (kept_pair_at_index t (index - 1)).at (kept_pair_at_index t index).at) goes
+pub written_beside : (t : KeptThread) (index first : ℕ) → is_pair_dropped_with_slot t index first ≡ false → pair_address_written_by_removal t index first ≡ (thread_pair_at_index t index).at
+written_beside t index first goes = ap (λ b. cond b (thread_pair_at_index t (index - 1)).at (thread_pair_at_index t index).at) goes
 
-pub written_whole : (t : Kept) (index first : ℕ) → is_pair_dropped_with_slot t index first ≡ true → pair_address_written_by_removal t index first ≡ (kept_pair_at_index t (index - 1)).at
-written_whole t index first goes = ap (λ b. cond b (kept_pair_at_index t (index - 1)).at (kept_pair_at_index t index).at) goes
+pub written_whole : (t : KeptThread) (index first : ℕ) → is_pair_dropped_with_slot t index first ≡ true → pair_address_written_by_removal t index first ≡ (thread_pair_at_index t (index - 1)).at
+written_whole t index first goes = ap (λ b. cond b (thread_pair_at_index t (index - 1)).at (thread_pair_at_index t index).at) goes

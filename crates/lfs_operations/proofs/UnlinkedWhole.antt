@@ -9,26 +9,26 @@ use Rattle.lfs_model.specs.Blocks.{Blocks}
 use Rattle.lfs_model.specs.BlockSets.{AreExactlyTheUsedBlocks}
 use Rattle.lfs_model.specs.Disk.{Disk}
 use Rattle.lfs_model.specs.Operations as ops
-use Rattle.lfs_model.specs.PowerLoss.{ShowsTreeBeforeOrAfter as IsLeftOf, with_blocks}
-use Rattle.lfs_model.specs.Slots.{Content, IsContentFittingPair, Gstate, Slot, zero_gstate}
-use Rattle.lfs_model.specs.Thread.{Pair, gstate_of, is_hard_tail, starts_with_superblock, pair_count_before_root}
+use Rattle.lfs_model.specs.PowerLoss.{HasTreeBeforeOrAfterOperation as IsLeftOf, disk_with_blocks}
+use Rattle.lfs_model.specs.Slots.{PairContent, IsContentFittingPair, Gstate, Slot, zero_gstate}
+use Rattle.lfs_model.specs.Thread.{Pair, gstate_of_pairs, is_hard_tail, starts_with_superblock, pair_count_before_root}
 use Rattle.lfs_model.specs.Tree.{branch_address_of_struct}
 use Rattle.lfs_model.specs.View.{IsAcceptedImage}
-use Rattle.lfs_model.specs.Profile.{IsWritable}
+use Rattle.lfs_model.specs.Profile.{IsWritableImage}
 use Rattle.lfs_model.specs.Shown.{IsPathToDirectory, entries_by_directory_in_thread, tree_on_disk, used_blocks}
-use Rattle.lfs_model.proofs.Committed.{IsCompleted, no_move_from}
-use Rattle.lfs_model.proofs.Counts.{Each, count, each_right, once_from_distinct}
-use Rattle.lfs_model.proofs.Global.{HasNoMove, sync_delta}
+use Rattle.lfs_model.proofs.Committed.{IsImageAfterCompletedOperation, no_move_from}
+use Rattle.lfs_model.proofs.Counts.{Each, occurrence_count_of_number, each_right, once_from_distinct}
+use Rattle.lfs_model.proofs.Global.{HasNoMove, sync_bit_delta}
 use Rattle.lfs_model.proofs.Moves.{IsStep, directory_goes}
 use Rattle.lfs_model.proofs.RmdirSteps.{IsGone, step_chain}
 use Rattle.lfs_model.proofs.Searches.{slot_of_stands}
 use Rattle.lfs_model.proofs.Sites.{IsSite, Site, dirs_at, run_changed, thread_at}
-use Rattle.lfs_model.proofs.Splices.{IsDevice, drop_shape, files_of}
-use Rattle.lfs_model.proofs.StepsTaken.{IsOnlyStep, drop_taken}
-use Rattle.lfs_thread.specs.Device.{blocks_of_address}
-use Rattle.lfs_thread.specs.Kept.{Kept}
-use Rattle.lfs_thread.specs.Steps.{IsPairWrittenOnDisk, no_pair, kept_pair_at_index, map_with_freed_pair}
-use Rattle.lfs_operations.specs.Dropping.{CanDropPairAt, IsNextPairDropped, IsLeftByStoppedDrop, HasSameBlocksInFlight, tail_over_dropped_pair, content_after_drop}
+use Rattle.lfs_model.proofs.Splices.{IsDevice, drop_shape, file_blocks_of_slots}
+use Rattle.lfs_model.proofs.StepsTaken.{IsWritableImageAfterTreeChange, drop_taken}
+use Rattle.lfs_thread.specs.Device.{blocks_of_pair_address}
+use Rattle.lfs_thread.specs.Kept.{KeptThread}
+use Rattle.lfs_thread.specs.Steps.{IsPairWrittenOnDisk, empty_pair_at_anchor, thread_pair_at_index, block_map_with_freed_pair}
+use Rattle.lfs_operations.specs.Dropping.{CanDropPairAt, IsNextPairDropped, IsLeftByStoppedPairDrop, HasSameBlocksInFlight, tail_over_dropped_pair, content_after_next_pair_drop}
 use Rattle.lfs_operations.specs.Editing.{CanEditEntryOfPair}
 use Rattle.lfs_operations.specs.Removing.{tree_without_named_entry}
 use Rattle.lfs_operations.specs.Unlinking.{CanRemoveDirectory, IsDirectoryRemoved, pair_number_after_drop}
@@ -41,7 +41,7 @@ use Rattle.lfs_operations.proofs.RmdirPlaces.{HasFront, get_some, has_front, num
 use Rattle.lfs_operations.proofs.RmdirWhole.{HasPlaceWhole, UnlinksWhole, place_whole}
 use Rattle.lfs_operations.proofs.RootStays.{root_stays}
 
-module _ (t : Kept) (index id first gone : ℕ) (take : CanRemoveDirectory t index id first gone) (s : StandsWhole t index id take.can) where
+module _ (t : KeptThread) (index id first gone : ℕ) (take : CanRemoveDirectory t index id first gone) (s : StandsWhole t index id take.can) where
   abbrev can : CanEditEntryOfPair t index id
   can = take.can
 
@@ -52,7 +52,7 @@ module _ (t : Kept) (index id first gone : ℕ) (take : CanRemoveDirectory t ind
   u = can.stands.stands.slot
 
   abbrev o : Pair
-  o = kept_pair_at_index t gone
+  o = thread_pair_at_index t gone
 
   abbrev w : Site
   w = s.w
@@ -66,11 +66,11 @@ module _ (t : Kept) (index id first gone : ℕ) (take : CanRemoveDirectory t ind
   accepted : IsAcceptedImage t.disk old
   accepted = subst (IsAcceptedImage t.disk) s.there can.ready.accepted
 
-  writable : IsWritable t.disk old
-  writable = subst (IsWritable t.disk) s.there can.ready.writable
+  writable : IsWritableImage t.disk old
+  writable = subst (IsWritableImage t.disk) s.there can.ready.writable
 
-  settled : gstate_of old ≡ zero_gstate
-  settled = ap gstate_of (sym s.there) ∙ can.ready.settled
+  settled : gstate_of_pairs old ≡ zero_gstate
+  settled = ap gstate_of_pairs (sym s.there) ∙ can.ready.settled
 
   leads : IsPathToDirectory old can.path can.at
   leads = subst (λ z. IsPathToDirectory z can.path can.at) s.there can.leads
@@ -88,7 +88,7 @@ module _ (t : Kept) (index id first gone : ℕ) (take : CanRemoveDirectory t ind
 
   first_is : (gone ≡ length (w.chain ++ front.front) + 1) × (front.first ≡ o)
   first_is = number_of_first t.disk w.chain (dirs_at w (x0 ∷ e ∷ [])) take.to accepted front gone o
-      (subst (λ z. slice_get z gone ≡ Some o) s.there (get_some t.pairs gone no_pair take.below)) take.at
+      (subst (λ z. slice_get z gone ≡ Some o) s.there (get_some t.pairs gone empty_pair_at_anchor take.below)) take.at
 
   pub above_gone : 0 < gone
   above_gone = let f = first_is.0 in omega arith
@@ -120,13 +120,13 @@ module _ (t : Kept) (index id first gone : ℕ) (take : CanRemoveDirectory t ind
   accepted_is : IsAcceptedImage t.disk (ahead ++ x0 ∷ e ∷ behind)
   accepted_is = subst (IsAcceptedImage t.disk) is can.ready.accepted
 
-  x0_there : kept_pair_at_index t (index - 1) ≡ x0
+  x0_there : thread_pair_at_index t (index - 1) ≡ x0
   x0_there = front_is t (index - 1) ahead x0 e behind is number
 
-  e_there : kept_pair_at_index t (index - 1 + 1) ≡ e
+  e_there : thread_pair_at_index t (index - 1 + 1) ≡ e
   e_there = gone_is t (index - 1) ahead x0 e behind is number
 
-  pub can_drop_entry : CanDropPairAt t index sync_delta
+  pub can_drop_entry : CanDropPairAt t index sync_bit_delta
   can_drop_entry = record {
     above = let n = s.number in omega arith;
     below =
@@ -141,8 +141,8 @@ module _ (t : Kept) (index id first gone : ℕ) (take : CanRemoveDirectory t ind
     storable = record { kind = omega arith; id = omega arith; pair = (omega arith, omega arith) };
   }
 
-  abbrev c : Content
-  c = content_after_drop t (index - 1) sync_delta
+  abbrev c : PairContent
+  c = content_after_next_pair_drop t (index - 1) sync_bit_delta
 
   abbrev q : Pair
   q = record { at = x0.at; content = c }
@@ -153,10 +153,10 @@ module _ (t : Kept) (index id first gone : ℕ) (take : CanRemoveDirectory t ind
   tail_same : q.content.tail ≡ e.content.tail
   tail_same = ap₂ (λ (y z : Pair). tail_over_dropped_pair y.content.tail z.content.tail) x0_there e_there ∙ over_hard x0.content.tail e.content.tail s.hard
 
-  gstate_middle : gstate_of (thread_at w (q ∷ [])) ≡ sync_delta
-  gstate_middle = ap gstate_of (grouped (q ∷ [])) ∙ gstate_is t (index - 1) ahead x0 e behind is number sync_delta q refl
+  gstate_middle : gstate_of_pairs (thread_at w (q ∷ [])) ≡ sync_bit_delta
+  gstate_middle = ap gstate_of_pairs (grouped (q ∷ [])) ∙ gstate_is t (index - 1) ahead x0 e behind is number sync_bit_delta q refl
 
-  no_move_middle : HasNoMove (gstate_of (thread_at w (q ∷ [])))
+  no_move_middle : HasNoMove (gstate_of_pairs (thread_at w (q ∷ [])))
   no_move_middle = subst HasNoMove (sym gstate_middle) (record { kind = refl; id = refl; pair = refl })
 
   device_first : (disk : Disk) → IsPairWrittenOnDisk t (index - 1) c disk → IsDevice t.disk disk (ahead ++ x0 ∷ e ∷ behind) (ahead ++ q ∷ behind)
@@ -176,7 +176,7 @@ module _ (t : Kept) (index id first gone : ℕ) (take : CanRemoveDirectory t ind
     splice = record { front = λ k. can.stands.stands.entry; entries = tt; lists = tt; blocks = λ b. omega arith };
   }
 
-  first_taken : (disk : Disk) → IsPairWrittenOnDisk t (index - 1) c disk → IsOnlyStep t.disk old disk (thread_at w (q ∷ [])) (tree_after_removal (can.path ++ u.name ∷ [])) (tree_after_subtree_replacement (can.path ++ u.name ∷ []) (λ t. None))
+  first_taken : (disk : Disk) → IsPairWrittenOnDisk t (index - 1) c disk → IsWritableImageAfterTreeChange t.disk old disk (thread_at w (q ∷ [])) (tree_after_removal (can.path ++ u.name ∷ [])) (tree_after_subtree_replacement (can.path ++ u.name ∷ []) (λ t. None))
   first_taken disk h = drop_taken t.disk w x0 e q (record { writable = writable; tail = tail_same; slots = slots_same })
       disk [] [] x0.content.slots (u ∷ []) [] [] (tree_after_removal (can.path ++ u.name ∷ [])) (tree_after_subtree_replacement (can.path ++ u.name ∷ []) (λ t. None)) (step disk h)
       (directory_goes t.disk disk w x0 (e ∷ []) q [] [] [] x0.content.slots [] u (step disk h) can.stands.stands.entry can.path can.at leads s.same take.to take.branch empty (ap (λ (g : Gstate). g.sync) gstate_middle))
@@ -209,7 +209,7 @@ module _ (t : Kept) (index id first gone : ℕ) (take : CanRemoveDirectory t ind
   abbrev now : ℕ
   now = pair_number_after_drop index gone
 
-  module _ (m : Kept) (h : IsNextPairDropped t (index - 1) sync_delta m) where
+  module _ (m : KeptThread) (h : IsNextPairDropped t (index - 1) sync_bit_delta m) where
     abbrev k : HasPlaceWhole t.disk m.disk w x0 e q u can.path o (length front.front) front.before
     k = place m.disk h.written
 
@@ -266,23 +266,23 @@ module _ (t : Kept) (index id first gone : ℕ) (take : CanRemoveDirectory t ind
     accepted_parts : IsAcceptedImage m.disk (first_part ++ k.x ∷ o ∷ k.back)
     accepted_parts = subst (IsAcceptedImage m.disk) (sym pairs_middle ∙ is_middle) accepted_middle
 
-    x_there : kept_pair_at_index m (now - 1) ≡ k.x
+    x_there : thread_pair_at_index m (now - 1) ≡ k.x
     x_there = end.x_there m (now - 1) w.chain k.front k.x o k.back is_middle number_middle
 
-    pub o_there : kept_pair_at_index m (now - 1 + 1) ≡ o
+    pub o_there : thread_pair_at_index m (now - 1 + 1) ≡ o
     o_there = end.o_there m (now - 1) w.chain k.front k.x o k.back is_middle number_middle
 
     -- the pair that is written in the second step is where the one in front of it was, or where the one in front of the entry's was
-    pub written_then : ((kept_pair_at_index m (now - 1)).at ≡ (kept_pair_at_index t (gone - 1)).at) ⊎ ((kept_pair_at_index m (now - 1)).at ≡ (kept_pair_at_index t (index - 1)).at)
+    pub written_then : ((thread_pair_at_index m (now - 1)).at ≡ (thread_pair_at_index t (gone - 1)).at) ⊎ ((thread_pair_at_index m (now - 1)).at ≡ (thread_pair_at_index t (index - 1)).at)
     written_then = go k.was
       where
         is_old : t.pairs ≡ (w.chain ++ front.front) ++ front.before ∷ o ∷ (front.run ++ front.after)
         is_old = s.there ∙ ap (λ z. w.chain ++ z) dirs_are ∙ sym (append_assoc w.chain front.front (front.before ∷ o ∷ (front.run ++ front.after)))
 
-        old_front : kept_pair_at_index t (gone - 1) ≡ front.before
+        old_front : thread_pair_at_index t (gone - 1) ≡ front.before
         old_front = front_is t (gone - 1) (w.chain ++ front.front) front.before o (front.run ++ front.after) is_old (let g = first_is.0 in omega arith)
 
-        go : (k.x.at ≡ front.before.at) ⊎ (k.x.at ≡ x0.at) → ((kept_pair_at_index m (now - 1)).at ≡ (kept_pair_at_index t (gone - 1)).at) ⊎ ((kept_pair_at_index m (now - 1)).at ≡ (kept_pair_at_index t (index - 1)).at)
+        go : (k.x.at ≡ front.before.at) ⊎ (k.x.at ≡ x0.at) → ((thread_pair_at_index m (now - 1)).at ≡ (thread_pair_at_index t (gone - 1)).at) ⊎ ((thread_pair_at_index m (now - 1)).at ≡ (thread_pair_at_index t (index - 1)).at)
         go (inl z) = inl (ap (λ (v : Pair). v.at) x_there ∙ z ∙ ap (λ (v : Pair). v.at) (sym old_front))
         go (inr z) = inr (ap (λ (v : Pair). v.at) x_there ∙ z ∙ ap (λ (v : Pair). v.at) (sym x0_there))
 
@@ -295,14 +295,14 @@ module _ (t : Kept) (index id first gone : ℕ) (take : CanRemoveDirectory t ind
           let n = number_now in
           omega arith;
       thread = h.thread;
-      fits = end.x_fits m (now - 1) w.chain k.front k.x o k.back is_middle number_middle (subst (IsWritable m.disk) (sym pairs_middle) (first_taken m.disk h.written).writable);
+      fits = end.x_fits m (now - 1) w.chain k.front k.x o k.back is_middle number_middle (subst (IsWritableImage m.disk) (sym pairs_middle) (first_taken m.disk h.written).writable);
       storable = no_move_state;
     }
 
     -- ---- the second step
 
-    abbrev d : Content
-    d = content_after_drop m (now - 1) zero_gstate
+    abbrev d : PairContent
+    d = content_after_next_pair_drop m (now - 1) zero_gstate
 
     abbrev y : Pair
     y = record { at = k.x.at; content = d }
@@ -313,7 +313,7 @@ module _ (t : Kept) (index id first gone : ℕ) (take : CanRemoveDirectory t ind
     regrouped : w.chain ++ (k.front ++ y ∷ k.back) ≡ first_part ++ y ∷ k.back
     regrouped = end.regrouped m (now - 1) w.chain k.front k.x o k.back is_middle number_middle
 
-    settled_end : gstate_of (w.chain ++ (k.front ++ y ∷ k.back)) ≡ zero_gstate
+    settled_end : gstate_of_pairs (w.chain ++ (k.front ++ y ∷ k.back)) ≡ zero_gstate
     settled_end = end.settled_end m (now - 1) w.chain k.front k.x o k.back is_middle number_middle
 
     device_end : (disk : Disk) → IsPairWrittenOnDisk m (now - 1) d disk → IsDevice m.disk disk (first_part ++ k.x ∷ o ∷ k.back) (first_part ++ y ∷ k.back)
@@ -323,45 +323,45 @@ module _ (t : Kept) (index id first gone : ℕ) (take : CanRemoveDirectory t ind
     is_gone = end.is_gone m (now - 1) w.chain k.front k.x o k.back is_middle number_middle accepted_parts k.soft
 
     end_taken : (disk : Disk) → IsPairWrittenOnDisk m (now - 1) d disk
-        → IsOnlyStep t.disk (old) disk (w.chain ++ (k.front ++ y ∷ k.back)) (tree_after_removal (can.path ++ u.name ∷ [])) (tree_after_subtree_replacement (can.path ++ u.name ∷ []) (λ t. None))
+        → IsWritableImageAfterTreeChange t.disk (old) disk (w.chain ++ (k.front ++ y ∷ k.back)) (tree_after_removal (can.path ++ u.name ∷ [])) (tree_after_subtree_replacement (can.path ++ u.name ∷ []) (λ t. None))
     end_taken disk written = k.taken disk y (is_gone disk written)
 
     turned : tree_after_removal (can.path ++ u.name ∷ []) (tree_on_disk t.disk (old)) ≡ tree_without_named_entry t can.path can.name
     turned = ap₂ (λ n z. tree_after_removal (can.path ++ n ∷ []) (tree_on_disk t.disk z)) can.stands.stands.named (sym s.there)
 
-    module _ (new : Kept) (g : IsNextPairDropped m (now - 1) zero_gstate new) where
+    module _ (new : KeptThread) (g : IsNextPairDropped m (now - 1) zero_gstate new) where
       pairs_end : new.pairs ≡ w.chain ++ (k.front ++ y ∷ k.back)
       pairs_end = end.pairs_end m (now - 1) w.chain k.front k.x o k.back is_middle number_middle new g
 
-      map_middle : m.map ≡ map_with_freed_pair t.map e.at
-      map_middle = h.map ∙ ap (λ (z : Pair). map_with_freed_pair t.map z.at) e_there
+      map_middle : m.map ≡ block_map_with_freed_pair t.map e.at
+      map_middle = h.map ∙ ap (λ (z : Pair). block_map_with_freed_pair t.map z.at) e_there
 
-      map_end : new.map ≡ map_with_freed_pair m.map o.at
-      map_end = g.map ∙ ap (λ (z : Pair). map_with_freed_pair m.map z.at) o_there
+      map_end : new.map ≡ block_map_with_freed_pair m.map o.at
+      map_end = g.map ∙ ap (λ (z : Pair). block_map_with_freed_pair m.map z.at) o_there
 
-      middle_used : (b : ℕ) → count b (used_blocks m.disk m.pairs) + count b (blocks_of_address e.at) ≡ count b (used_blocks t.disk t.pairs)
+      middle_used : (b : ℕ) → occurrence_count_of_number b (used_blocks m.disk m.pairs) + occurrence_count_of_number b (blocks_of_pair_address e.at) ≡ occurrence_count_of_number b (used_blocks t.disk t.pairs)
       middle_used b =
-          let e1 = dropped_count t.disk m.disk ahead x0 e q behind (subst (λ z. HasNoMove (gstate_of z)) (grouped (x0 ∷ e ∷ [])) (no_move_from old settled)) (subst (λ z. HasNoMove (gstate_of z)) (grouped (q ∷ [])) no_move_middle)
+          let e1 = dropped_count t.disk m.disk ahead x0 e q behind (subst (λ z. HasNoMove (gstate_of_pairs z)) (grouped (x0 ∷ e ∷ [])) (no_move_from old settled)) (subst (λ z. HasNoMove (gstate_of_pairs z)) (grouped (q ∷ [])) no_move_middle)
           (device_first m.disk h.written) refl slots_same b in
-          let f1 = ap (λ z. count b (used_blocks m.disk z)) (pairs_middle ∙ grouped (q ∷ [])) in
-          let f2 = ap (λ z. count b (used_blocks t.disk z)) is in
-          let f3 = ap (λ z. count b (files_of t.disk z)) s.held in
-          let f4 : count b (files_of t.disk (u ∷ [])) ≡ 0 = ap (λ z. count b (files_of t.disk (record u { struct = z } ∷ []))) take.branch in
+          let f1 = ap (λ z. occurrence_count_of_number b (used_blocks m.disk z)) (pairs_middle ∙ grouped (q ∷ [])) in
+          let f2 = ap (λ z. occurrence_count_of_number b (used_blocks t.disk z)) is in
+          let f3 = ap (λ z. occurrence_count_of_number b (file_blocks_of_slots t.disk z)) s.held in
+          let f4 : occurrence_count_of_number b (file_blocks_of_slots t.disk (u ∷ [])) ≡ 0 = ap (λ z. occurrence_count_of_number b (file_blocks_of_slots t.disk (record u { struct = z } ∷ []))) take.branch in
           omega arith
 
-      end_used : (b : ℕ) → count b (used_blocks new.disk new.pairs) + count b (blocks_of_address o.at) ≡ count b (used_blocks m.disk m.pairs)
+      end_used : (b : ℕ) → occurrence_count_of_number b (used_blocks new.disk new.pairs) + occurrence_count_of_number b (blocks_of_pair_address o.at) ≡ occurrence_count_of_number b (used_blocks m.disk m.pairs)
       end_used b =
-          let e2 = dropped_count m.disk new.disk first_part k.x o y k.back (subst (λ z. HasNoMove (gstate_of z)) (sym pairs_middle ∙ is_middle) no_move_middle)
-          (subst (λ z. HasNoMove (gstate_of z)) regrouped (no_move_from (w.chain ++ (k.front ++ y ∷ k.back)) settled_end)) (device_end new.disk g.written) refl d_slots b in
-          let f1 = ap (λ z. count b (used_blocks new.disk z)) (pairs_end ∙ regrouped) in
-          let f2 = ap (λ z. count b (used_blocks m.disk z)) is_middle in
-          let f4 = ap (λ z. count b (files_of m.disk z)) take.empty in
+          let e2 = dropped_count m.disk new.disk first_part k.x o y k.back (subst (λ z. HasNoMove (gstate_of_pairs z)) (sym pairs_middle ∙ is_middle) no_move_middle)
+          (subst (λ z. HasNoMove (gstate_of_pairs z)) regrouped (no_move_from (w.chain ++ (k.front ++ y ∷ k.back)) settled_end)) (device_end new.disk g.written) refl d_slots b in
+          let f1 = ap (λ z. occurrence_count_of_number b (used_blocks new.disk z)) (pairs_end ∙ regrouped) in
+          let f2 = ap (λ z. occurrence_count_of_number b (used_blocks m.disk z)) is_middle in
+          let f4 = ap (λ z. occurrence_count_of_number b (file_blocks_of_slots m.disk z)) take.empty in
           omega arith
 
-      once : (b : ℕ) → count b (used_blocks t.disk t.pairs) ≤ 1
+      once : (b : ℕ) → occurrence_count_of_number b (used_blocks t.disk t.pairs) ≤ 1
       once b = once_from_distinct (used_blocks t.disk t.pairs) can.ready.accepted.owned_once b
 
-      once_middle : (b : ℕ) → count b (used_blocks m.disk m.pairs) ≤ 1
+      once_middle : (b : ℕ) → occurrence_count_of_number b (used_blocks m.disk m.pairs) ≤ 1
       once_middle b = let k = once b in let l = middle_used b in omega arith
 
       used_middle : AreExactlyTheUsedBlocks m.map (used_blocks m.disk m.pairs)
@@ -380,7 +380,7 @@ module _ (t : Kept) (index id first gone : ℕ) (take : CanRemoveDirectory t ind
             now = record {
               ready = record {
                 accepted = subst (IsAcceptedImage new.disk) (sym pairs_end) f.follows.accepted;
-                writable = subst (IsWritable new.disk) (sym pairs_end) f.writable;
+                writable = subst (IsWritableImage new.disk) (sym pairs_end) f.writable;
                 settled = g.gstate;
                 used = record {
                   owned = used_blocks new.disk new.pairs;
@@ -398,14 +398,14 @@ module _ (t : Kept) (index id first gone : ℕ) (take : CanRemoveDirectory t ind
                   ∙ root_stays t.disk new.disk w.chain (dirs_at w (x0 ∷ e ∷ [])) (k.front ++ y ∷ k.back) s.site.chain (subst (IsAcceptedImage t.disk) s.there can.ready.accepted) f.follows.accepted f.follows.root
                   ∙ sym (ap pair_count_before_root s.there);
             };
-            completed = λ z given tree is_path. subst (λ s. IsCompleted t.disk s z (ops.Remove given) new.disk new.pairs) (sym s.there)
-                (subst (λ s. IsCompleted t.disk (old) z (ops.Remove given) new.disk s) (sym pairs_end)
+            completed = λ z given tree is_path. subst (λ s. IsImageAfterCompletedOperation t.disk s z (ops.Remove given) new.disk new.pairs) (sym s.there)
+                (subst (λ s. IsImageAfterCompletedOperation t.disk (old) z (ops.Remove given) new.disk s) (sym pairs_end)
                 (k.completed new.disk y (is_gone new.disk g.written) z given (tree ∙ ap (tree_on_disk t.disk) s.there) (is_path ∙ ap (λ n. can.path ++ n ∷ []) (sym can.stands.stands.named))));
           }
 
     -- ---- at a stop in the second step
 
-    same_shape : (left : Blocks) → with_blocks left m.disk ≡ with_blocks left t.disk
+    same_shape : (left : Blocks) → disk_with_blocks left m.disk ≡ disk_with_blocks left t.disk
     same_shape left = λ j. record { block_size = h.written.shape.block_size j; page = h.written.shape.page j; order = h.written.shape.order j; blocks = left }
 
     site_middle : IsSite w (q ∷ [])
@@ -415,21 +415,21 @@ module _ (t : Kept) (index id first gone : ℕ) (take : CanRemoveDirectory t ind
       run = run_changed w.left x0 (e ∷ w.right) q w.right ((step m.disk h.written).shape.run w.right) s.site.run;
     }
 
-    pub whole_second : (left : Blocks) → IsLeftByStoppedDrop m (now - 1) zero_gstate left → IsLeftOf (with_blocks left t.disk) (tree_on_disk t.disk t.pairs) (tree_without_named_entry t can.path can.name)
+    pub whole_second : (left : Blocks) → IsLeftByStoppedPairDrop m (now - 1) zero_gstate left → IsLeftOf (disk_with_blocks left t.disk) (tree_on_disk t.disk t.pairs) (tree_without_named_entry t can.path can.name)
     whole_second left g = subst (λ z. IsLeftOf z (tree_on_disk t.disk t.pairs) (tree_without_named_entry t can.path can.name)) (same_shape left) (go g.is)
       where
-        go : (g.content ≡ (kept_pair_at_index m (now - 1)).content) ⊎ (g.content ≡ content_after_drop m (now - 1) zero_gstate) → IsLeftOf (with_blocks left m.disk) (tree_on_disk t.disk t.pairs) (tree_without_named_entry t can.path can.name)
+        go : (g.content ≡ (thread_pair_at_index m (now - 1)).content) ⊎ (g.content ≡ content_after_next_pair_drop m (now - 1) zero_gstate) → IsLeftOf (disk_with_blocks left m.disk) (tree_on_disk t.disk t.pairs) (tree_without_named_entry t can.path can.name)
         go (inl e) =
-            let on = end.device_left m (now - 1) w.chain k.front k.x o k.back is_middle number_middle accepted_parts (with_blocks left m.disk) (subst (λ z. IsPairWrittenOnDisk m (now - 1) z (with_blocks left m.disk)) e g.written) in
-            let f = nothing_came m.disk (with_blocks left m.disk) w q site_middle accepted_middle (subst (λ z. IsDevice m.disk (with_blocks left m.disk) z z) pairs_middle on) in
+            let on = end.device_left m (now - 1) w.chain k.front k.x o k.back is_middle number_middle accepted_parts (disk_with_blocks left m.disk) (subst (λ z. IsPairWrittenOnDisk m (now - 1) z (disk_with_blocks left m.disk)) e g.written) in
+            let f = nothing_came m.disk (disk_with_blocks left m.disk) w q site_middle accepted_middle (subst (λ z. IsDevice m.disk (disk_with_blocks left m.disk) z z) pairs_middle on) in
             record {
               pairs = thread_at w (q ∷ []);
               accepted = f.accepted;
-              writable = profile_same m.disk (with_blocks left m.disk) (thread_at w (q ∷ [])) refl refl (first_taken m.disk h.written).writable;
+              writable = profile_same m.disk (disk_with_blocks left m.disk) (thread_at w (q ∷ [])) refl refl (first_taken m.disk h.written).writable;
               tree = inr (f.shows ∙ (first_taken m.disk h.written).follows.shows ∙ turned);
             }
         go (inr e) =
-            let f = end_taken (with_blocks left m.disk) (subst (λ z. IsPairWrittenOnDisk m (now - 1) z (with_blocks left m.disk)) e g.written) in
+            let f = end_taken (disk_with_blocks left m.disk) (subst (λ z. IsPairWrittenOnDisk m (now - 1) z (disk_with_blocks left m.disk)) e g.written) in
             record {
               pairs = w.chain ++ (k.front ++ y ∷ k.back);
               accepted = f.follows.accepted;
@@ -449,23 +449,23 @@ module _ (t : Kept) (index id first gone : ℕ) (take : CanRemoveDirectory t ind
 
   -- ---- at a stop in the first step
 
-  pub whole_first : (left : Blocks) → IsLeftByStoppedDrop t (index - 1) sync_delta left → IsLeftOf (with_blocks left t.disk) (tree_on_disk t.disk t.pairs) (tree_without_named_entry t can.path can.name)
+  pub whole_first : (left : Blocks) → IsLeftByStoppedPairDrop t (index - 1) sync_bit_delta left → IsLeftOf (disk_with_blocks left t.disk) (tree_on_disk t.disk t.pairs) (tree_without_named_entry t can.path can.name)
   whole_first left g = go g.is
     where
-      go : (g.content ≡ (kept_pair_at_index t (index - 1)).content) ⊎ (g.content ≡ content_after_drop t (index - 1) sync_delta) → IsLeftOf (with_blocks left t.disk) (tree_on_disk t.disk t.pairs) (tree_without_named_entry t can.path can.name)
+      go : (g.content ≡ (thread_pair_at_index t (index - 1)).content) ⊎ (g.content ≡ content_after_next_pair_drop t (index - 1) sync_bit_delta) → IsLeftOf (disk_with_blocks left t.disk) (tree_on_disk t.disk t.pairs) (tree_without_named_entry t can.path can.name)
       go (inl z) =
           let same = z ∙ ap (λ (z : Pair). z.content) x0_there in
-          let on = device_kept t (index - 1) ahead x0 e behind is number accepted_is (with_blocks left t.disk) x0.content refl (subst (λ z. IsPairWrittenOnDisk t (index - 1) z (with_blocks left t.disk)) same g.written) in
-          let f = nothing_came t.disk (with_blocks left t.disk) before_it x0 site_before (subst (IsAcceptedImage t.disk) is_before can.ready.accepted)
-          (subst (λ z. IsDevice t.disk (with_blocks left t.disk) z z) (sym is ∙ is_before) on) in
+          let on = device_kept t (index - 1) ahead x0 e behind is number accepted_is (disk_with_blocks left t.disk) x0.content refl (subst (λ z. IsPairWrittenOnDisk t (index - 1) z (disk_with_blocks left t.disk)) same g.written) in
+          let f = nothing_came t.disk (disk_with_blocks left t.disk) before_it x0 site_before (subst (IsAcceptedImage t.disk) is_before can.ready.accepted)
+          (subst (λ z. IsDevice t.disk (disk_with_blocks left t.disk) z z) (sym is ∙ is_before) on) in
           record {
             pairs = thread_at before_it (x0 ∷ []);
             accepted = f.accepted;
-            writable = profile_same t.disk (with_blocks left t.disk) (thread_at before_it (x0 ∷ [])) refl refl (subst (IsWritable t.disk) is_before can.ready.writable);
+            writable = profile_same t.disk (disk_with_blocks left t.disk) (thread_at before_it (x0 ∷ [])) refl refl (subst (IsWritableImage t.disk) is_before can.ready.writable);
             tree = inl (f.shows ∙ ap (tree_on_disk t.disk) (sym is_before));
           }
       go (inr z) =
-          let f = first_taken (with_blocks left t.disk) (subst (λ y. IsPairWrittenOnDisk t (index - 1) y (with_blocks left t.disk)) z g.written) in
+          let f = first_taken (disk_with_blocks left t.disk) (subst (λ y. IsPairWrittenOnDisk t (index - 1) y (disk_with_blocks left t.disk)) z g.written) in
           record {
             pairs = thread_at w (q ∷ []);
             accepted = f.follows.accepted;

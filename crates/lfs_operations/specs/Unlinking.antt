@@ -4,65 +4,65 @@ use Rattle.std.specs.List.{remove}
 use Rattle.lfs_device.specs.declared.error.Error.{Error}
 use Rattle.lfs_device.specs.declared.error.Error.TheVariants.{Io, NoMemory}
 use Rattle.lfs_model.specs.Blocks.{Blocks}
-use Rattle.lfs_model.specs.Changes.{ContentChange, Delete, PutMove}
+use Rattle.lfs_model.specs.Changes.{PairContentChange, Delete, PutMove}
 use Rattle.lfs_model.specs.Content.{content_of_pair_at}
 use Rattle.lfs_model.specs.Disk.{block_count}
-use Rattle.lfs_model.specs.History.{faults}
+use Rattle.lfs_model.specs.History.{fault_count_of_history}
 use Rattle.lfs_model.specs.Names.{Name}
 use Rattle.lfs_model.specs.Operations as ops
 use Rattle.lfs_model.specs.Session.{Session}
-use Rattle.lfs_model.specs.Slots.{Branch, Content, gstate_xor, same_pair}
-use Rattle.lfs_model.specs.Refusals.{path_or_root}
-use Rattle.lfs_model.specs.Thread.{IsThread, is_hard_tail}
+use Rattle.lfs_model.specs.Slots.{Branch, PairContent, gstate_xor, same_pair}
+use Rattle.lfs_model.specs.Refusals.{path_of_bytes_or_root}
+use Rattle.lfs_model.specs.Thread.{IsThreadOfMetadataPairs, is_hard_tail}
 use Rattle.lfs_model.specs.Tree.{Path}
 use Rattle.lfs_model.specs.Shown.{tree_on_disk}
-use Rattle.lfs_model.specs.Steps.{IsCompleted, sync_delta}
-use Rattle.lfs_thread.specs.Kept.{Kept, ThreadView}
-use Rattle.lfs_thread.specs.Steps.{IsPairWrittenOnDisk, kept_pair_at_index, pairs_with_content_at_index}
-use Rattle.lfs_operations.specs.Changing.{AltersPair}
-use Rattle.lfs_operations.specs.Dropping.{ShowsTreeAfterDrops}
+use Rattle.lfs_model.specs.Steps.{IsImageAfterCompletedOperation, sync_bit_delta}
+use Rattle.lfs_thread.specs.Kept.{KeptThread, ThreadView}
+use Rattle.lfs_thread.specs.Steps.{IsPairWrittenOnDisk, thread_pair_at_index, thread_pairs_with_content_replaced_at_index}
+use Rattle.lfs_operations.specs.Changing.{IsPairAltered}
+use Rattle.lfs_operations.specs.Dropping.{ShowsTreeAfterPairDrops}
 use Rattle.lfs_operations.specs.Editing.{CanEditEntryOfPair, slot_of_editable_entry}
 use Rattle.lfs_operations.specs.Removing.{is_pair_dropped_with_slot, tree_without_named_entry}
 
 -- ---- the entry is removed
 
 -- what the entry's pair holds without it; the pair's delta turns the sync bit
-abbrev pub content_without_directory_entry : Kept → ℕ → ℕ → Content
+abbrev pub content_without_directory_entry : KeptThread → ℕ → ℕ → PairContent
 content_without_directory_entry t pair id = record {
-  slots = remove (kept_pair_at_index t pair).content.slots id;
-  tail = (kept_pair_at_index t pair).content.tail;
-  move = gstate_xor (kept_pair_at_index t pair).content.move sync_delta;
+  slots = remove (thread_pair_at_index t pair).content.slots id;
+  tail = (thread_pair_at_index t pair).content.tail;
+  move = gstate_xor (thread_pair_at_index t pair).content.move sync_bit_delta;
 }
 
-abbrev pub directory_unlink_changes : Kept → ℕ → ℕ → List ContentChange
-directory_unlink_changes t pair id = Delete id ∷ PutMove (gstate_xor (kept_pair_at_index t pair).content.move sync_delta) ∷ []
+abbrev pub directory_unlink_changes : KeptThread → ℕ → ℕ → List PairContentChange
+directory_unlink_changes t pair id = Delete id ∷ PutMove (gstate_xor (thread_pair_at_index t pair).content.move sync_bit_delta) ∷ []
 
 -- the pair holds that, and everything else is as it was
-pub record IsDirectoryEntryUnlinked (old : Kept) (pair id : ℕ) (new : Kept) : Type 0 where
+pub record IsDirectoryEntryUnlinked (old : KeptThread) (pair id : ℕ) (new : KeptThread) : Type 0 where
   pub written : IsPairWrittenOnDisk old pair (content_without_directory_entry old pair id) new.disk
-  pub pairs : new.pairs ≡ pairs_with_content_at_index old pair (content_without_directory_entry old pair id)
-  pub thread : IsThread (content_of_pair_at new.disk) (block_count new.disk) new.pairs
+  pub pairs : new.pairs ≡ thread_pairs_with_content_replaced_at_index old pair (content_without_directory_entry old pair id)
+  pub thread : IsThreadOfMetadataPairs (content_of_pair_at new.disk) (block_count new.disk) new.pairs
   pub map : new.map ≡ old.map
 
 -- what a stop leaves: the pair with its old content, or with its new one
-pub record IsLeftByStoppedUnlink (old : Kept) (pair id : ℕ) (left : Blocks) : Type 0 where
-  pub content : Content
-  pub is : (content ≡ (kept_pair_at_index old pair).content) ⊎ (content ≡ content_without_directory_entry old pair id)
+pub record IsLeftByStoppedUnlink (old : KeptThread) (pair id : ℕ) (left : Blocks) : Type 0 where
+  pub content : PairContent
+  pub is : (content ≡ (thread_pair_at_index old pair).content) ⊎ (content ≡ content_without_directory_entry old pair id)
   pub written : IsPairWrittenOnDisk old pair content (record old.disk { blocks = left })
 
 -- ---- the operation
 
 -- A directory's entry is at the id of the pair, in the directory that begins with the pair of number `first`. The pair of number
 -- `gone` is the only one of the directory that is removed, and has no slots.
-pub record CanRemoveDirectory (t : Kept) (pair id first gone : ℕ) : Type 0 where
+pub record CanRemoveDirectory (t : KeptThread) (pair id first gone : ℕ) : Type 0 where
   pub can : CanEditEntryOfPair t pair id
   pub begins : can.first ≡ first
   pub to : ℕ × ℕ
   pub branch : (slot_of_editable_entry can).struct ≡ Branch to
   pub below : gone < length t.pairs
-  pub at : same_pair (kept_pair_at_index t gone).at to ≡ true
-  pub empty : (kept_pair_at_index t gone).content.slots ≡ []
-  pub alone : is_hard_tail (kept_pair_at_index t gone).content.tail ≡ false
+  pub at : same_pair (thread_pair_at_index t gone).at to ≡ true
+  pub empty : (thread_pair_at_index t gone).content.slots ≡ []
+  pub alone : is_hard_tail (thread_pair_at_index t gone).content.tail ≡ false
 
 -- the number of a pair after another one was dropped
 abbrev pub pair_number_after_drop : ℕ → ℕ → ℕ
@@ -70,21 +70,21 @@ pair_number_after_drop other pair = if nat_lt other pair then pair - 1 else pair
 
 -- The tree has no such directory, the other slots are where the layout wants them, and its pair is dropped. So a remove of its
 -- path is completed.
-pub record IsDirectoryRemoved (old new : Kept) (path : Path) (name : Name) : Type 0 where
-  pub now : ShowsTreeAfterDrops old new (tree_without_named_entry old path name) []
-  pub completed : (s : Session) (given : List ℕ) → s.tree ≡ tree_on_disk old.disk old.pairs → path_or_root given ≡ path ++ name ∷ []
-      → IsCompleted old.disk old.pairs s (ops.Remove given) new.disk new.pairs
+pub record IsDirectoryRemoved (old new : KeptThread) (path : Path) (name : Name) : Type 0 where
+  pub now : ShowsTreeAfterPairDrops old new (tree_without_named_entry old path name) []
+  pub completed : (s : Session) (given : List ℕ) → s.tree ≡ tree_on_disk old.disk old.pairs → path_of_bytes_or_root given ≡ path ++ name ∷ []
+      → IsImageAfterCompletedOperation old.disk old.pairs s (ops.Remove given) new.disk new.pairs
 
 -- The pair before the directory's own one doesn't stay with what it held. Nor does the one before the entry's pair, where that is
 -- dropped too.
-pub record AltersPairsBeforeDroppedOnes (old : Kept) (pair first gone : ℕ) (new : Kept) : Type 0 where
-  pub front : AltersPair old (gone - 1) new
-  pub entry : is_pair_dropped_with_slot old pair first ≡ true → AltersPair old (pair - 1) new
+pub record ArePairsBeforeDroppedPairsAltered (old : KeptThread) (pair first gone : ℕ) (new : KeptThread) : Type 0 where
+  pub front : IsPairAltered old (gone - 1) new
+  pub entry : is_pair_dropped_with_slot old pair first ≡ true → IsPairAltered old (pair - 1) new
 
 -- What several steps report that take no block: `Io` comes with a fault of the device, and any other result with none. After an
 -- error the thread has failed.
-pub record ReportsCommitsTakingNoBlock {X : Type 0} (old new : ThreadView) (result : Result X Error) : Type 0 where
+pub record ReportsErrorsOfCommitsTakingNoBlock {X : Type 0} (old new : ThreadView) (result : Result X Error) : Type 0 where
   pub failed : new.failed ≡ is_err result
   pub errors : IfErr result (λ e. (e ≡ Io) ⊎ (e ≡ NoMemory))
-  pub fault : IsErrOf result Io → faults old.kept.history < faults new.kept.history
-  pub no_fault : ¬ IsErrOf result Io → faults new.kept.history ≡ faults old.kept.history
+  pub fault : IsErrOf result Io → fault_count_of_history old.kept.history < fault_count_of_history new.kept.history
+  pub no_fault : ¬ IsErrOf result Io → fault_count_of_history new.kept.history ≡ fault_count_of_history old.kept.history

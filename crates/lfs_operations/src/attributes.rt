@@ -3,15 +3,15 @@
 ghost use Rattle.std.specs.Prelude.{◌≡◌, ◌∷◌, [], false, OnOk};
 ghost use Rattle.lfs_model.specs.Changes.{PutAttribute};
 ghost use Rattle.lfs_model.specs.Content.{attributes_with_attribute, attributes_without_attribute};
-ghost use Rattle.lfs_model.specs.PowerLoss.{SurvivesStopsSince};
+ghost use Rattle.lfs_model.specs.PowerLoss.{SurvivesPowerLossInCallsSince};
 ghost use Rattle.lfs_model.specs.Shown.{tree_on_disk};
-ghost use Rattle.lfs_thread.specs.Device.{blocks_of_address};
-ghost use Rattle.lfs_thread.specs.Steps.{ThreadChangesOnlyTheseBlocks, kept_pair_at_index};
-ghost use Rattle.lfs_operations.specs.Changing.{ReportsChangeOrSplit, WritesPairAndTwoFreeBlocks};
+ghost use Rattle.lfs_thread.specs.Device.{blocks_of_pair_address};
+ghost use Rattle.lfs_thread.specs.Steps.{ThreadChangesOnlyTheseBlocks, thread_pair_at_index};
+ghost use Rattle.lfs_operations.specs.Changing.{ReportsErrorsOfChangeOrSplit, WritesPairAndTwoFreeBlocks};
 ghost use Rattle.lfs_operations.specs.Editing.{CanEditEntryOfPair, CanSetAttribute, HasRemovedAttribute, HasSetAttribute, tree_with_attributes_at};
-ghost use Rattle.lfs_operations.specs.Removing.{ReportsCommitTakingNoBlock};
+ghost use Rattle.lfs_operations.specs.Removing.{ReportsErrorsOfCommitTakingNoBlock};
 
-use crate::changes::put;
+use crate::changes::change_or_split_pair;
 use lfs_device::{BlockDevice, Error};
 use lfs_pair::Change;
 use lfs_thread::Thread;
@@ -22,7 +22,7 @@ use std::alloc::Global;
 /// split into itself and two free blocks. The caller's condition: the attribute has at most 1,022
 /// bytes, and the entry with it takes at most half of what a pair holds.
 ///
-/// Errors are those of [`create`](crate::create).
+/// Errors are those of [`create_file`](crate::create_file).
 pub fn set_attribute<D: BlockDevice>(
     alloc: Global,
     thread: &mut Thread<D>,
@@ -34,9 +34,9 @@ pub fn set_attribute<D: BlockDevice>(
     requires works { thread.old.failed ≡ false }
     requires can { CanSetAttribute thread.old.kept pair id kind bytes.now }
     ensures is_set { OnOk result ((set : CanSetAttribute thread.old.kept pair id kind bytes.now) → HasSetAttribute thread.old.kept thread.new.kept set.can.path set.can.name kind bytes.now) }
-    ensures errors { ReportsChangeOrSplit thread.old thread.new pair (PutAttribute id kind bytes.now ∷ []) result }
+    ensures errors { ReportsErrorsOfChangeOrSplit thread.old thread.new pair (PutAttribute id kind bytes.now ∷ []) result }
     ensures device { WritesPairAndTwoFreeBlocks thread.old.kept pair thread.new.kept }
-    ensures survives { (set : CanSetAttribute thread.old.kept pair id kind bytes.now) → SurvivesStopsSince thread.old.kept.disk thread.old.kept.history thread.new.kept.history
+    ensures survives { (set : CanSetAttribute thread.old.kept pair id kind bytes.now) → SurvivesPowerLossInCallsSince thread.old.kept.disk thread.old.kept.history thread.new.kept.history
         (tree_on_disk thread.old.kept.disk thread.old.kept.pairs) (tree_with_attributes_at thread.old.kept set.can.path set.can.name (attributes_with_attribute kind bytes.now)) }
 {
     let changes = [Change::Attr {
@@ -44,7 +44,7 @@ pub fn set_attribute<D: BlockDevice>(
         attr: kind,
         bytes,
     }];
-    put(alloc, thread, pair, &changes)?;
+    change_or_split_pair(alloc, thread, pair, &changes)?;
     Ok(())
 }
 
@@ -61,12 +61,12 @@ pub fn remove_attribute<D: BlockDevice>(
     requires works { thread.old.failed ≡ false }
     requires can { CanEditEntryOfPair thread.old.kept pair id }
     ensures is_removed { OnOk result ((can : CanEditEntryOfPair thread.old.kept pair id) → HasRemovedAttribute thread.old.kept thread.new.kept can.path can.name kind) }
-    ensures errors { ReportsCommitTakingNoBlock thread.old thread.new result }
-    ensures device { ThreadChangesOnlyTheseBlocks (blocks_of_address (kept_pair_at_index thread.old.kept pair).at) thread.old.kept thread.new.kept }
-    ensures survives { (can : CanEditEntryOfPair thread.old.kept pair id) → SurvivesStopsSince thread.old.kept.disk thread.old.kept.history thread.new.kept.history
+    ensures errors { ReportsErrorsOfCommitTakingNoBlock thread.old thread.new result }
+    ensures device { ThreadChangesOnlyTheseBlocks (blocks_of_pair_address (thread_pair_at_index thread.old.kept pair).at) thread.old.kept thread.new.kept }
+    ensures survives { (can : CanEditEntryOfPair thread.old.kept pair id) → SurvivesPowerLossInCallsSince thread.old.kept.disk thread.old.kept.history thread.new.kept.history
         (tree_on_disk thread.old.kept.disk thread.old.kept.pairs) (tree_with_attributes_at thread.old.kept can.path can.name (attributes_without_attribute kind)) }
 {
     // What is left fits, so the commit is never refused.
-    thread.change(alloc, pair, &[Change::NoAttr { id, attr: kind }])?;
+    thread.commit_pair_changes(alloc, pair, &[Change::NoAttr { id, attr: kind }])?;
     Ok(())
 }

@@ -1,11 +1,11 @@
 // Pairs that are changed, or split where what the changes make doesn't fit.
 
 ghost use Rattle.std.specs.Prelude.{◌≡◌, ◌≤◌, ◌+◌, false, IfSome, IfNone, OnOk};
-ghost use Rattle.lfs_model.specs.History.{reads};
+ghost use Rattle.lfs_model.specs.History.{read_count_of_history};
 ghost use Rattle.lfs_model.specs.Slots.{pair_address_of_array};
 ghost use Rattle.lfs_pair.specs.ChangeView.{changes_view};
-ghost use Rattle.lfs_thread.specs.Device.{StopsAfterCleanErasesLeave};
-ghost use Rattle.lfs_operations.specs.Changing.{AreTwoFreeBlocks, CanChangeOrSplitPair, HasTwoFreeBlocks, IsPairSplit, IsLeftByStoppedSplit, IsLeftByStoppedChangeOrSplit, IsPairChangedOrSplit, Reports, ReportsChangeOrSplit, WritesPairAndTwoFreeBlocks, map_with_two_blocks_in_flight};
+ghost use Rattle.lfs_thread.specs.Device.{PowerLossLeavesSuchBlocksAfterCleanErases};
+ghost use Rattle.lfs_operations.specs.Changing.{AreTwoFreeBlocks, CanChangeOrSplitPair, HasTwoFreeBlocks, IsPairSplit, IsLeftByStoppedSplit, IsLeftByStoppedChangeOrSplit, IsPairChangedOrSplit, ReportsErrorsOfCommitTakingBlocks, ReportsErrorsOfChangeOrSplit, WritesPairAndTwoFreeBlocks, map_with_two_blocks_in_flight};
 
 use lfs_device::{BlockDevice, Error};
 use lfs_pair::{Change, Outcome};
@@ -41,10 +41,10 @@ fn split_pair_in_two<D: BlockDevice>(
     requires works { thread.old.failed ≡ false }
     requires can { CanChangeOrSplitPair thread.old.kept index (changes_view changes.now) }
     ensures is_cut { OnOk result (IsPairSplit thread.old.kept index (changes_view changes.now) thread.new.kept) }
-    ensures errors { Reports thread.old thread.new result }
+    ensures errors { ReportsErrorsOfCommitTakingBlocks thread.old thread.new result }
     ensures device { WritesPairAndTwoFreeBlocks thread.old.kept index thread.new.kept }
-    ensures few { reads thread.new.kept.history ≤ reads thread.old.kept.history + 4 }
-    ensures stops { StopsAfterCleanErasesLeave thread.old.kept.history thread.new.kept.history (IsLeftByStoppedSplit thread.old.kept index (changes_view changes.now)) }
+    ensures few { read_count_of_history thread.new.kept.history ≤ read_count_of_history thread.old.kept.history + 4 }
+    ensures stops { PowerLossLeavesSuchBlocksAfterCleanErases thread.old.kept.history thread.new.kept.history (IsLeftByStoppedSplit thread.old.kept index (changes_view changes.now)) }
 {
     let Some(fresh) = take_two_free_blocks(thread) else {
         return Err(Error::NoSpace);
@@ -54,7 +54,7 @@ fn split_pair_in_two<D: BlockDevice>(
 }
 
 // Commits changes to a pair, or splits the pair where what they make doesn't fit.
-pub(crate) fn put<D: BlockDevice>(
+pub(crate) fn change_or_split_pair<D: BlockDevice>(
     alloc: Global,
     thread: &mut Thread<D>,
     index: usize,
@@ -63,12 +63,12 @@ pub(crate) fn put<D: BlockDevice>(
     requires works { thread.old.failed ≡ false }
     requires can { CanChangeOrSplitPair thread.old.kept index (changes_view changes.now) }
     ensures is_put { OnOk result (IsPairChangedOrSplit thread.old.kept index (changes_view changes.now) thread.new.kept) }
-    ensures errors { ReportsChangeOrSplit thread.old thread.new index (changes_view changes.now) result }
+    ensures errors { ReportsErrorsOfChangeOrSplit thread.old thread.new index (changes_view changes.now) result }
     ensures device { WritesPairAndTwoFreeBlocks thread.old.kept index thread.new.kept }
-    ensures few { reads thread.new.kept.history ≤ reads thread.old.kept.history + 6 }
-    ensures stops { StopsAfterCleanErasesLeave thread.old.kept.history thread.new.kept.history (IsLeftByStoppedChangeOrSplit thread.old.kept index (changes_view changes.now)) }
+    ensures few { read_count_of_history thread.new.kept.history ≤ read_count_of_history thread.old.kept.history + 6 }
+    ensures stops { PowerLossLeavesSuchBlocksAfterCleanErases thread.old.kept.history thread.new.kept.history (IsLeftByStoppedChangeOrSplit thread.old.kept index (changes_view changes.now)) }
 {
-    match thread.change(alloc, index, changes)? {
+    match thread.commit_pair_changes(alloc, index, changes)? {
         Outcome::Done => Ok(()),
         Outcome::Full => {
             split_pair_in_two(alloc, thread, index, changes)?;

@@ -1,27 +1,27 @@
 // Empty directories that are removed.
 
 ghost use Rattle.std.specs.Prelude.{◌≡◌, ◌-◌, true, false, OnOk};
-ghost use Rattle.lfs_model.specs.PowerLoss.{SurvivesStopsSince};
+ghost use Rattle.lfs_model.specs.PowerLoss.{SurvivesPowerLossInCallsSince};
 ghost use Rattle.lfs_model.specs.Shown.{tree_on_disk};
-ghost use Rattle.lfs_model.specs.Steps.{sync_delta};
+ghost use Rattle.lfs_model.specs.Steps.{sync_bit_delta};
 ghost use Rattle.lfs_tag.specs.FieldsView.{move_view};
-ghost use Rattle.lfs_thread.specs.Device.{StopsAfterCleanErasesLeave, blocks_of_two_addresses, blocks_of_address};
-ghost use Rattle.lfs_thread.specs.Steps.{ThreadChangesOnlyTheseBlocks, kept_pair_at_index};
+ghost use Rattle.lfs_thread.specs.Device.{PowerLossLeavesSuchBlocksAfterCleanErases, blocks_of_two_pair_addresses, blocks_of_pair_address};
+ghost use Rattle.lfs_thread.specs.Steps.{ThreadChangesOnlyTheseBlocks, thread_pair_at_index};
 ghost use Rattle.lfs_operations.specs.Editing.{CanEditEntryOfPair};
-ghost use Rattle.lfs_operations.specs.Removing.{ReportsCommitTakingNoBlock, is_pair_dropped_with_slot, tree_without_named_entry, pair_address_written_by_removal};
-ghost use Rattle.lfs_operations.specs.Unlinking.{AltersPairsBeforeDroppedOnes, CanRemoveDirectory, IsDirectoryRemoved, IsLeftByStoppedUnlink, IsDirectoryEntryUnlinked, ReportsCommitsTakingNoBlock, pair_number_after_drop};
+ghost use Rattle.lfs_operations.specs.Removing.{ReportsErrorsOfCommitTakingNoBlock, is_pair_dropped_with_slot, tree_without_named_entry, pair_address_written_by_removal};
+ghost use Rattle.lfs_operations.specs.Unlinking.{ArePairsBeforeDroppedPairsAltered, CanRemoveDirectory, IsDirectoryRemoved, IsLeftByStoppedUnlink, IsDirectoryEntryUnlinked, ReportsErrorsOfCommitsTakingNoBlock, pair_number_after_drop};
 
-use crate::drops::drop_at;
+use crate::drops::drop_pair_at;
 use crate::removals::is_pair_dropped_with_only_slot;
 use lfs_device::{BlockDevice, Error};
 use lfs_pair::Change;
 use lfs_tag::MoveState;
-use lfs_thread::{Thread, with_delta};
+use lfs_thread::{Thread, gstate_xor_delta};
 use std::alloc::Global;
 
 // Returns the delta that turns the sync bit.
 pub(crate) fn delta_of_sync_bit() -> MoveState
-    ensures { move_view result ≡ sync_delta }
+    ensures { move_view result ≡ sync_bit_delta }
 {
     MoveState {
         sync: true,
@@ -42,14 +42,14 @@ fn unlink_directory_entry<D: BlockDevice>(
     requires works { thread.old.failed ≡ false }
     requires can { CanEditEntryOfPair thread.old.kept pair id }
     ensures is_unlinked { OnOk result (IsDirectoryEntryUnlinked thread.old.kept pair id thread.new.kept) }
-    ensures errors { ReportsCommitTakingNoBlock thread.old thread.new result }
-    ensures device { ThreadChangesOnlyTheseBlocks (blocks_of_address (kept_pair_at_index thread.old.kept pair).at) thread.old.kept thread.new.kept }
-    ensures stops { StopsAfterCleanErasesLeave thread.old.kept.history thread.new.kept.history (IsLeftByStoppedUnlink thread.old.kept pair id) }
+    ensures errors { ReportsErrorsOfCommitTakingNoBlock thread.old thread.new result }
+    ensures device { ThreadChangesOnlyTheseBlocks (blocks_of_pair_address (thread_pair_at_index thread.old.kept pair).at) thread.old.kept thread.new.kept }
+    ensures stops { PowerLossLeavesSuchBlocksAfterCleanErases thread.old.kept.history thread.new.kept.history (IsLeftByStoppedUnlink thread.old.kept pair id) }
 {
-    let state = with_delta(&thread.delta(pair), &delta_of_sync_bit());
+    let state = gstate_xor_delta(&thread.delta(pair), &delta_of_sync_bit());
     let changes = [Change::Delete { id }, Change::Move { state }];
     // What is left fits, so the commit is never refused.
-    thread.change(alloc, pair, &changes)?;
+    thread.commit_pair_changes(alloc, pair, &changes)?;
     Ok(())
 }
 
@@ -73,14 +73,14 @@ fn remove_directory_keeping_entry_pair<D: BlockDevice>(
     requires can { CanRemoveDirectory thread.old.kept pair id first gone }
     requires stays { is_pair_dropped_with_slot thread.old.kept pair first ≡ false }
     ensures is_removed { OnOk result ((take : CanRemoveDirectory thread.old.kept pair id first gone) → IsDirectoryRemoved thread.old.kept thread.new.kept take.can.path take.can.name) }
-    ensures alters { OnOk result (AltersPairsBeforeDroppedOnes thread.old.kept pair first gone thread.new.kept) }
-    ensures errors { ReportsCommitsTakingNoBlock thread.old thread.new result }
-    ensures device { ThreadChangesOnlyTheseBlocks (blocks_of_two_addresses (pair_address_written_by_removal thread.old.kept pair first) (kept_pair_at_index thread.old.kept (gone - 1)).at) thread.old.kept thread.new.kept }
-    ensures survives { (take : CanRemoveDirectory thread.old.kept pair id first gone) → SurvivesStopsSince thread.old.kept.disk thread.old.kept.history thread.new.kept.history
+    ensures alters { OnOk result (ArePairsBeforeDroppedPairsAltered thread.old.kept pair first gone thread.new.kept) }
+    ensures errors { ReportsErrorsOfCommitsTakingNoBlock thread.old thread.new result }
+    ensures device { ThreadChangesOnlyTheseBlocks (blocks_of_two_pair_addresses (pair_address_written_by_removal thread.old.kept pair first) (thread_pair_at_index thread.old.kept (gone - 1)).at) thread.old.kept thread.new.kept }
+    ensures survives { (take : CanRemoveDirectory thread.old.kept pair id first gone) → SurvivesPowerLossInCallsSince thread.old.kept.disk thread.old.kept.history thread.new.kept.history
         (tree_on_disk thread.old.kept.disk thread.old.kept.pairs) (tree_without_named_entry thread.old.kept take.can.path take.can.name) }
 {
     unlink_directory_entry(alloc, thread, pair, id)?;
-    drop_at(alloc, thread, gone, &MoveState::none())?;
+    drop_pair_at(alloc, thread, gone, &MoveState::none())?;
     Ok(())
 }
 
@@ -97,14 +97,14 @@ fn remove_directory_with_entry_pair<D: BlockDevice>(
     requires can { CanRemoveDirectory thread.old.kept pair id first gone }
     requires goes { is_pair_dropped_with_slot thread.old.kept pair first ≡ true }
     ensures is_removed { OnOk result ((take : CanRemoveDirectory thread.old.kept pair id first gone) → IsDirectoryRemoved thread.old.kept thread.new.kept take.can.path take.can.name) }
-    ensures alters { OnOk result (AltersPairsBeforeDroppedOnes thread.old.kept pair first gone thread.new.kept) }
-    ensures errors { ReportsCommitsTakingNoBlock thread.old thread.new result }
-    ensures device { ThreadChangesOnlyTheseBlocks (blocks_of_two_addresses (pair_address_written_by_removal thread.old.kept pair first) (kept_pair_at_index thread.old.kept (gone - 1)).at) thread.old.kept thread.new.kept }
-    ensures survives { (take : CanRemoveDirectory thread.old.kept pair id first gone) → SurvivesStopsSince thread.old.kept.disk thread.old.kept.history thread.new.kept.history
+    ensures alters { OnOk result (ArePairsBeforeDroppedPairsAltered thread.old.kept pair first gone thread.new.kept) }
+    ensures errors { ReportsErrorsOfCommitsTakingNoBlock thread.old thread.new result }
+    ensures device { ThreadChangesOnlyTheseBlocks (blocks_of_two_pair_addresses (pair_address_written_by_removal thread.old.kept pair first) (thread_pair_at_index thread.old.kept (gone - 1)).at) thread.old.kept thread.new.kept }
+    ensures survives { (take : CanRemoveDirectory thread.old.kept pair id first gone) → SurvivesPowerLossInCallsSince thread.old.kept.disk thread.old.kept.history thread.new.kept.history
         (tree_on_disk thread.old.kept.disk thread.old.kept.pairs) (tree_without_named_entry thread.old.kept take.can.path take.can.name) }
 {
-    drop_at(alloc, thread, pair, &delta_of_sync_bit())?;
-    drop_at(
+    drop_pair_at(alloc, thread, pair, &delta_of_sync_bit())?;
+    drop_pair_at(
         alloc,
         thread,
         number_of_pair_after_drop(pair, gone),
@@ -133,10 +133,10 @@ pub fn remove_directory<D: BlockDevice>(
     requires works { thread.old.failed ≡ false }
     requires can { CanRemoveDirectory thread.old.kept pair id first gone }
     ensures is_removed { OnOk result ((take : CanRemoveDirectory thread.old.kept pair id first gone) → IsDirectoryRemoved thread.old.kept thread.new.kept take.can.path take.can.name) }
-    ensures alters { OnOk result (AltersPairsBeforeDroppedOnes thread.old.kept pair first gone thread.new.kept) }
-    ensures errors { ReportsCommitsTakingNoBlock thread.old thread.new result }
-    ensures device { ThreadChangesOnlyTheseBlocks (blocks_of_two_addresses (pair_address_written_by_removal thread.old.kept pair first) (kept_pair_at_index thread.old.kept (gone - 1)).at) thread.old.kept thread.new.kept }
-    ensures survives { (take : CanRemoveDirectory thread.old.kept pair id first gone) → SurvivesStopsSince thread.old.kept.disk thread.old.kept.history thread.new.kept.history
+    ensures alters { OnOk result (ArePairsBeforeDroppedPairsAltered thread.old.kept pair first gone thread.new.kept) }
+    ensures errors { ReportsErrorsOfCommitsTakingNoBlock thread.old thread.new result }
+    ensures device { ThreadChangesOnlyTheseBlocks (blocks_of_two_pair_addresses (pair_address_written_by_removal thread.old.kept pair first) (thread_pair_at_index thread.old.kept (gone - 1)).at) thread.old.kept thread.new.kept }
+    ensures survives { (take : CanRemoveDirectory thread.old.kept pair id first gone) → SurvivesPowerLossInCallsSince thread.old.kept.disk thread.old.kept.history thread.new.kept.history
         (tree_on_disk thread.old.kept.disk thread.old.kept.pairs) (tree_without_named_entry thread.old.kept take.can.path take.can.name) }
 {
     if is_pair_dropped_with_only_slot(thread, pair, first) {

@@ -18,9 +18,11 @@ mod structs;
 
 pub use attributes::{remove_attribute, set_attribute};
 pub use directory_removals::remove_directory;
-pub use moves::{rename_across, rename_onto_directory_across, rename_onto_file_across};
+pub use moves::{
+    rename_across_pairs, rename_onto_directory_across_pairs, rename_onto_file_across_pairs,
+};
 pub use new_directories::make_directory;
-pub use new_files::create;
+pub use new_files::create_file;
 pub use recovery::{drop_unreached_pairs, end_move};
 pub use removals::remove_file;
 pub use renames::{rename, rename_onto_file};

@@ -6,31 +6,31 @@ ghost use Rattle.lfs_model.specs.Slots.{gstate_xor};
 ghost use Rattle.lfs_operations.specs.RenamingView.{slot_copy_view};
 ghost use Rattle.lfs_operations.specs.RenamingSlots.{slot_creation_changes};
 ghost use Rattle.lfs_model.specs.LoggedContent.{Are32BitPairAddresses};
-ghost use Rattle.lfs_model.specs.PowerLoss.{SurvivesStopsSince};
-ghost use Rattle.lfs_model.specs.Thread.{gstate_of};
+ghost use Rattle.lfs_model.specs.PowerLoss.{SurvivesPowerLossInCallsSince};
+ghost use Rattle.lfs_model.specs.Thread.{gstate_of_pairs};
 ghost use Rattle.lfs_model.specs.Shown.{tree_on_disk};
 ghost use Rattle.lfs_tag.specs.FieldsView.{move_view};
-ghost use Rattle.lfs_thread.specs.Device.{blocks_of_two_addresses, blocks_of_address};
-ghost use Rattle.lfs_thread.specs.Kept.{Kept};
-ghost use Rattle.lfs_thread.specs.Steps.{ThreadChangesOnlyTheseBlocks, kept_pair_at_index};
+ghost use Rattle.lfs_thread.specs.Device.{blocks_of_two_pair_addresses, blocks_of_pair_address};
+ghost use Rattle.lfs_thread.specs.Kept.{KeptThread};
+ghost use Rattle.lfs_thread.specs.Steps.{ThreadChangesOnlyTheseBlocks, thread_pair_at_index};
 ghost use Rattle.lfs_pair.specs.ChangeView.{changes_view};
 ghost use Rattle.lfs_operations.specs.Altering.{ChangesOnlyGivenAlteredOrFreeBlocks};
-ghost use Rattle.lfs_operations.specs.Changing.{CanChangeOrSplitPair, IsPairChangedOrSplit, WritesPairsAndTwoFreeBlocks};
-ghost use Rattle.lfs_operations.specs.MoveEnds.{CanEndMoveAt, HasEndedMoveAt, pair_written_at_move_end, move_of, delta_without_move, gstate_of_sync_alone};
-ghost use Rattle.lfs_operations.specs.MovingSteps.{CanEndMoveAfterPut, IsSlotPutAndMoveEnded, SurvivesBothMoveCommits, ReportsCommitsTakingBlocks, WritesTwoPairsAndTwoFreeBlocks, pair_written_by_second_move_commit, pair_number_after_insertion};
+ghost use Rattle.lfs_operations.specs.Changing.{CanChangeOrSplitPair, IsPairChangedOrSplit, WritesOnlyThreadPairsAndTwoFreeBlocks};
+ghost use Rattle.lfs_operations.specs.MoveEnds.{CanEndMoveAt, HasEndedMoveAt, pair_written_at_move_end, gstate_naming_moved_slot, delta_without_move, gstate_of_sync_alone};
+ghost use Rattle.lfs_operations.specs.MovingSteps.{CanEndMoveAfterFirstCommit, IsSlotPutAndMoveEnded, SurvivesBothMoveCommits, ReportsErrorsOfCommitsTakingBlocks, WritesTwoPairsAndTwoFreeBlocks, pair_written_by_second_move_commit, pair_number_after_insertion};
 ghost use Rattle.lfs_operations.specs.MovingAcross.{CanRenameAcrossPairs, IsEntryRenamedAcrossPairs, rename_across_pairs_changes, tree_with_moved_entry};
 ghost use Rattle.lfs_operations.specs.MovingOnto.{CanReplaceEntryAcrossPairs, CanReplaceFileAcrossPairs, CanReplaceDirectoryAcrossPairs, IsEntryReplacedAcrossPairs, IsFileReplacedAcrossPairs, replace_entry_across_pairs_changes, replace_file_across_pairs_changes};
-ghost use Rattle.lfs_operations.specs.Removing.{ReportsCommitTakingNoBlock};
+ghost use Rattle.lfs_operations.specs.Removing.{ReportsErrorsOfCommitTakingNoBlock};
 
-use crate::changes::put;
-use crate::drops::drop_at;
+use crate::changes::change_or_split_pair;
+use crate::drops::drop_pair_at;
 use crate::removals::is_pair_dropped_with_only_slot;
 use crate::slot_copies::{SlotCopy, copy_slot_of_pair, push_slot_creation_changes};
 use lfs_device::{BlockDevice, Error};
 use lfs_pair::Change;
 use lfs_tag::MoveState;
 use lfs_tag::kinds::DELETE;
-use lfs_thread::{Thread, number_of, with_delta};
+use lfs_thread::{Thread, gstate_xor_delta, pair_number_at_address};
 use std::alloc::{AllocError, Global};
 
 // Returns a pair's delta of the global state, changed so that no move is set.
@@ -43,7 +43,7 @@ fn delta_without_move<D: BlockDevice>(thread: &Thread<D>, pair: usize) -> MoveSt
     let mut state = thread.state();
     state.sync = false;
     let delta = thread.delta(pair);
-    with_delta(&state, &delta)
+    gstate_xor_delta(&state, &delta)
 }
 
 // Removes the slot that a set move names from its pair, which stays, and ends the move.
@@ -56,14 +56,14 @@ fn end_move_keeping_pair<D: BlockDevice>(
     requires works { thread.old.failed ≡ false }
     requires can { CanEndMoveAt thread.old.kept pair id false }
     ensures ended { OnOk result (HasEndedMoveAt thread.old.kept pair id false thread.new.kept) }
-    ensures errors { ReportsCommitTakingNoBlock thread.old thread.new result }
-    ensures device { ThreadChangesOnlyTheseBlocks (blocks_of_address (kept_pair_at_index thread.old.kept pair).at) thread.old.kept thread.new.kept }
-    ensures survives { SurvivesStopsSince thread.old.kept.disk thread.old.kept.history thread.new.kept.history
+    ensures errors { ReportsErrorsOfCommitTakingNoBlock thread.old thread.new result }
+    ensures device { ThreadChangesOnlyTheseBlocks (blocks_of_pair_address (thread_pair_at_index thread.old.kept pair).at) thread.old.kept thread.new.kept }
+    ensures survives { SurvivesPowerLossInCallsSince thread.old.kept.disk thread.old.kept.history thread.new.kept.history
         (tree_on_disk thread.old.kept.disk thread.old.kept.pairs) (tree_on_disk thread.old.kept.disk thread.old.kept.pairs) }
 {
     let state = delta_without_move(thread, pair);
     // What is left fits, so the commit is never refused.
-    thread.change(
+    thread.commit_pair_changes(
         alloc,
         pair,
         &[Change::Delete { id }, Change::Move { state }],
@@ -74,7 +74,7 @@ fn end_move_keeping_pair<D: BlockDevice>(
 // Returns the global state without the move that is set.
 fn thread_gstate_without_move<D: BlockDevice>(thread: &Thread<D>) -> MoveState
     requires { thread.now.failed ≡ false }
-    ensures { move_view result ≡ gstate_of_sync_alone (gstate_of thread.now.kept.pairs) }
+    ensures { move_view result ≡ gstate_of_sync_alone (gstate_of_pairs thread.now.kept.pairs) }
 {
     let mut state = MoveState::none();
     state.sync = thread.state().sync;
@@ -91,13 +91,13 @@ fn end_move_dropping_pair<D: BlockDevice>(
     requires works { thread.old.failed ≡ false }
     requires can { CanEndMoveAt thread.old.kept pair id true }
     ensures ended { OnOk result (HasEndedMoveAt thread.old.kept pair id true thread.new.kept) }
-    ensures errors { ReportsCommitTakingNoBlock thread.old thread.new result }
-    ensures device { ThreadChangesOnlyTheseBlocks (blocks_of_address (kept_pair_at_index thread.old.kept (pair - 1)).at) thread.old.kept thread.new.kept }
-    ensures survives { SurvivesStopsSince thread.old.kept.disk thread.old.kept.history thread.new.kept.history
+    ensures errors { ReportsErrorsOfCommitTakingNoBlock thread.old thread.new result }
+    ensures device { ThreadChangesOnlyTheseBlocks (blocks_of_pair_address (thread_pair_at_index thread.old.kept (pair - 1)).at) thread.old.kept thread.new.kept }
+    ensures survives { SurvivesPowerLossInCallsSince thread.old.kept.disk thread.old.kept.history thread.new.kept.history
         (tree_on_disk thread.old.kept.disk thread.old.kept.pairs) (tree_on_disk thread.old.kept.disk thread.old.kept.pairs) }
 {
     let state = thread_gstate_without_move(thread);
-    drop_at(alloc, thread, pair, &state)?;
+    drop_pair_at(alloc, thread, pair, &state)?;
     Ok(())
 }
 
@@ -113,9 +113,9 @@ pub(crate) fn end_move<D: BlockDevice>(
     requires works { thread.old.failed ≡ false }
     requires can { CanEndMoveAt thread.old.kept pair id goes }
     ensures ended { OnOk result (HasEndedMoveAt thread.old.kept pair id goes thread.new.kept) }
-    ensures errors { ReportsCommitTakingNoBlock thread.old thread.new result }
-    ensures device { ThreadChangesOnlyTheseBlocks (blocks_of_address (kept_pair_at_index thread.old.kept (pair_written_at_move_end pair goes)).at) thread.old.kept thread.new.kept }
-    ensures survives { SurvivesStopsSince thread.old.kept.disk thread.old.kept.history thread.new.kept.history
+    ensures errors { ReportsErrorsOfCommitTakingNoBlock thread.old thread.new result }
+    ensures device { ThreadChangesOnlyTheseBlocks (blocks_of_pair_address (thread_pair_at_index thread.old.kept (pair_written_at_move_end pair goes)).at) thread.old.kept thread.new.kept }
+    ensures survives { SurvivesPowerLossInCallsSince thread.old.kept.disk thread.old.kept.history thread.new.kept.history
         (tree_on_disk thread.old.kept.disk thread.old.kept.pairs) (tree_on_disk thread.old.kept.disk thread.old.kept.pairs) }
 {
     if goes {
@@ -126,7 +126,7 @@ pub(crate) fn end_move<D: BlockDevice>(
 }
 
 // Returns the number of a pair after `fresh` pairs were put in after the pair `other`.
-fn place_after(pair: usize, other: usize, fresh: usize) -> usize
+fn pair_number_after_inserted_pairs(pair: usize, other: usize, fresh: usize) -> usize
     requires { pair_number_after_insertion pair other fresh < 2 ^ 64 }
     ensures { result ≡ pair_number_after_insertion pair other fresh }
 {
@@ -146,16 +146,16 @@ fn put_changes_and_end_move<D: BlockDevice>(
 ) -> Result<(), Error>
     requires works { thread.old.failed ≡ false }
     requires can { CanChangeOrSplitPair thread.old.kept new_pair (changes_view changes.now) }
-    requires ends { (mid : Kept) → IsPairChangedOrSplit thread.old.kept new_pair (changes_view changes.now) mid → CanEndMoveAfterPut thread.old.kept old_pair old_id goes new_pair mid }
+    requires ends { (mid : KeptThread) → IsPairChangedOrSplit thread.old.kept new_pair (changes_view changes.now) mid → CanEndMoveAfterFirstCommit thread.old.kept old_pair old_id goes new_pair mid }
     ensures done { OnOk result (IsSlotPutAndMoveEnded thread.old.kept old_pair old_id goes new_pair (changes_view changes.now) thread.new.kept) }
-    ensures errors { ReportsCommitsTakingBlocks thread.old thread.new new_pair (changes_view changes.now) result }
+    ensures errors { ReportsErrorsOfCommitsTakingBlocks thread.old thread.new new_pair (changes_view changes.now) result }
     ensures device { WritesTwoPairsAndTwoFreeBlocks thread.old.kept (pair_written_at_move_end old_pair goes) new_pair thread.new.kept }
     ensures survives { SurvivesBothMoveCommits thread.old.kept new_pair (changes_view changes.now) thread.new.kept }
 {
     let before = thread.len();
-    put(alloc, thread, new_pair, changes)?;
+    change_or_split_pair(alloc, thread, new_pair, changes)?;
     let fresh = thread.len() - before;
-    let pair = place_after(old_pair, new_pair, fresh);
+    let pair = pair_number_after_inserted_pairs(old_pair, new_pair, fresh);
     end_move(alloc, thread, pair, old_id, goes)?;
     Ok(())
 }
@@ -172,10 +172,10 @@ fn delta_that_sets_move<D: BlockDevice>(
     requires works { thread.now.failed ≡ false }
     requires old_below { old_pair < length thread.now.kept.pairs }
     requires new_below { new_pair < length thread.now.kept.pairs }
-    ensures delta { move_view result ≡ gstate_xor (move_of sync (kept_pair_at_index thread.now.kept old_pair).at old_id) (kept_pair_at_index thread.now.kept new_pair).content.move }
-    ensures address { Are32BitPairAddresses (kept_pair_at_index thread.now.kept old_pair).at }
+    ensures delta { move_view result ≡ gstate_xor (gstate_naming_moved_slot sync (thread_pair_at_index thread.now.kept old_pair).at old_id) (thread_pair_at_index thread.now.kept new_pair).content.move }
+    ensures address { Are32BitPairAddresses (thread_pair_at_index thread.now.kept old_pair).at }
 {
-    let pair = thread.address(old_pair);
+    let pair = thread.blocks_of_pair(old_pair);
     let state = MoveState {
         sync,
         kind: DELETE,
@@ -183,11 +183,11 @@ fn delta_that_sets_move<D: BlockDevice>(
         pair,
     };
     let delta = thread.delta(new_pair);
-    with_delta(&state, &delta)
+    gstate_xor_delta(&state, &delta)
 }
 
 // Returns the changes that set a delta of the global state, and put in a copied slot at an id.
-fn changes_of<'a>(
+fn changes_setting_move_and_copying_slot<'a>(
     alloc: Global,
     state: MoveState,
     id: u16,
@@ -217,7 +217,7 @@ fn changes_of<'a>(
 /// pairs' slots, a copy of the entry and the pairs' blocks isn't granted. After `Io` and `NoMemory`
 /// the thread works on where the entry couldn't be read. Else it has failed, and the device may be
 /// between the two commits, where it shows the new tree.
-pub fn rename_across<D: BlockDevice>(
+pub fn rename_across_pairs<D: BlockDevice>(
     alloc: Global,
     thread: &mut Thread<D>,
     old_pair: usize,
@@ -231,23 +231,23 @@ pub fn rename_across<D: BlockDevice>(
     requires can { CanRenameAcrossPairs thread.old.kept old_pair old_id first new_pair new_id name.now }
     ensures renamed { OnOk result ((rename : CanRenameAcrossPairs thread.old.kept old_pair old_id first new_pair new_id name.now)
         → IsEntryRenamedAcrossPairs thread.old.kept thread.new.kept rename.old.path rename.old.name rename.path name.now) }
-    ensures alters { OnOk result (ChangesOnlyGivenAlteredOrFreeBlocks thread.old.kept (blocks_of_address (kept_pair_at_index thread.old.kept old_pair).at) thread.new.kept) }
-    ensures errors { ReportsCommitsTakingBlocks thread.old thread.new new_pair (rename_across_pairs_changes thread.old.kept old_pair old_id new_pair new_id name.now) result }
+    ensures alters { OnOk result (ChangesOnlyGivenAlteredOrFreeBlocks thread.old.kept (blocks_of_pair_address (thread_pair_at_index thread.old.kept old_pair).at) thread.new.kept) }
+    ensures errors { ReportsErrorsOfCommitsTakingBlocks thread.old thread.new new_pair (rename_across_pairs_changes thread.old.kept old_pair old_id new_pair new_id name.now) result }
     ensures device { WritesTwoPairsAndTwoFreeBlocks thread.old.kept (pair_written_by_second_move_commit thread.old.kept old_pair first) new_pair thread.new.kept }
-    ensures survives { (rename : CanRenameAcrossPairs thread.old.kept old_pair old_id first new_pair new_id name.now) → SurvivesStopsSince thread.old.kept.disk thread.old.kept.history thread.new.kept.history
+    ensures survives { (rename : CanRenameAcrossPairs thread.old.kept old_pair old_id first new_pair new_id name.now) → SurvivesPowerLossInCallsSince thread.old.kept.disk thread.old.kept.history thread.new.kept.history
         (tree_on_disk thread.old.kept.disk thread.old.kept.pairs) (tree_with_moved_entry thread.old.kept rename.old.path rename.old.name rename.path name.now) }
 {
     let goes = is_pair_dropped_with_only_slot(thread, old_pair, first);
     let copy = copy_slot_of_pair(alloc, thread, old_pair, old_id)?;
     let state = delta_that_sets_move(thread, old_pair, old_id, new_pair, false);
-    let changes = changes_of(alloc, state, new_id, name, &copy)?;
+    let changes = changes_setting_move_and_copying_slot(alloc, state, new_id, name, &copy)?;
     put_changes_and_end_move(alloc, thread, old_pair, old_id, goes, new_pair, &changes)?;
     Ok(())
 }
 
 // Returns the changes that set a delta of the global state, and put a copied slot in place of the
 // slot at an id.
-fn changes_onto<'a>(
+fn changes_setting_move_and_replacing_slot<'a>(
     alloc: Global,
     state: MoveState,
     id: u16,
@@ -264,8 +264,8 @@ fn changes_onto<'a>(
 }
 
 // Puts the entry at an id of a pair in place of the one at an id of another pair, as
-// `rename_across` does. The sync bit is set with it, or not.
-fn replace_entry_across<D: BlockDevice>(
+// `rename_across_pairs` does. The sync bit is set with it, or not.
+fn replace_entry_across_pairs<D: BlockDevice>(
     alloc: Global,
     thread: &mut Thread<D>,
     old_pair: usize,
@@ -279,26 +279,26 @@ fn replace_entry_across<D: BlockDevice>(
     requires works { thread.old.failed ≡ false }
     requires can { CanReplaceEntryAcrossPairs thread.old.kept sync old_pair old_id first new_pair new_id name.now }
     ensures moved { OnOk result (IsEntryReplacedAcrossPairs thread.old.kept sync old_pair old_id first new_pair new_id name.now thread.new.kept) }
-    ensures errors { ReportsCommitsTakingBlocks thread.old thread.new new_pair (replace_entry_across_pairs_changes sync thread.old.kept old_pair old_id new_pair new_id name.now) result }
+    ensures errors { ReportsErrorsOfCommitsTakingBlocks thread.old thread.new new_pair (replace_entry_across_pairs_changes sync thread.old.kept old_pair old_id new_pair new_id name.now) result }
     ensures device { WritesTwoPairsAndTwoFreeBlocks thread.old.kept (pair_written_by_second_move_commit thread.old.kept old_pair first) new_pair thread.new.kept }
-    ensures survives { (rename : CanReplaceEntryAcrossPairs thread.old.kept sync old_pair old_id first new_pair new_id name.now) → SurvivesStopsSince thread.old.kept.disk thread.old.kept.history thread.new.kept.history
+    ensures survives { (rename : CanReplaceEntryAcrossPairs thread.old.kept sync old_pair old_id first new_pair new_id name.now) → SurvivesPowerLossInCallsSince thread.old.kept.disk thread.old.kept.history thread.new.kept.history
         (tree_on_disk thread.old.kept.disk thread.old.kept.pairs) (tree_with_moved_entry thread.old.kept rename.old.path rename.old.name rename.path name.now) }
 {
     let goes = is_pair_dropped_with_only_slot(thread, old_pair, first);
     let copy = copy_slot_of_pair(alloc, thread, old_pair, old_id)?;
     let state = delta_that_sets_move(thread, old_pair, old_id, new_pair, sync);
-    let changes = changes_onto(alloc, state, new_id, name, &copy)?;
+    let changes = changes_setting_move_and_replacing_slot(alloc, state, new_id, name, &copy)?;
     put_changes_and_end_move(alloc, thread, old_pair, old_id, goes, new_pair, &changes)?;
     Ok(())
 }
 
 /// Renames an entry of one pair onto a file at an id of another pair, in the same directory or
 /// another one. The entry gets the file's name, and keeps its own struct and attributes. All else
-/// is as in [`rename_across`]. The blocks of the file's list stay used in the map; the caller frees
+/// is as in [`rename_across_pairs`]. The blocks of the file's list stay used in the map; the caller frees
 /// them.
 ///
-/// Errors are those of [`rename_across`].
-pub fn rename_onto_file_across<D: BlockDevice>(
+/// Errors are those of [`rename_across_pairs`].
+pub fn rename_onto_file_across_pairs<D: BlockDevice>(
     alloc: Global,
     thread: &mut Thread<D>,
     old_pair: usize,
@@ -312,25 +312,25 @@ pub fn rename_onto_file_across<D: BlockDevice>(
     requires can { CanReplaceFileAcrossPairs thread.old.kept old_pair old_id first new_pair new_id name.now }
     ensures replaced { OnOk result ((rename : CanReplaceFileAcrossPairs thread.old.kept old_pair old_id first new_pair new_id name.now)
         → IsFileReplacedAcrossPairs thread.old.kept thread.new.kept rename.old.path rename.old.name rename.path name.now rename.target.stands.slot.struct) }
-    ensures alters { OnOk result (ChangesOnlyGivenAlteredOrFreeBlocks thread.old.kept (blocks_of_two_addresses (kept_pair_at_index thread.old.kept old_pair).at (kept_pair_at_index thread.old.kept new_pair).at) thread.new.kept) }
-    ensures errors { ReportsCommitsTakingBlocks thread.old thread.new new_pair (replace_file_across_pairs_changes thread.old.kept old_pair old_id new_pair new_id name.now) result }
+    ensures alters { OnOk result (ChangesOnlyGivenAlteredOrFreeBlocks thread.old.kept (blocks_of_two_pair_addresses (thread_pair_at_index thread.old.kept old_pair).at (thread_pair_at_index thread.old.kept new_pair).at) thread.new.kept) }
+    ensures errors { ReportsErrorsOfCommitsTakingBlocks thread.old thread.new new_pair (replace_file_across_pairs_changes thread.old.kept old_pair old_id new_pair new_id name.now) result }
     ensures device { WritesTwoPairsAndTwoFreeBlocks thread.old.kept (pair_written_by_second_move_commit thread.old.kept old_pair first) new_pair thread.new.kept }
-    ensures survives { (rename : CanReplaceFileAcrossPairs thread.old.kept old_pair old_id first new_pair new_id name.now) → SurvivesStopsSince thread.old.kept.disk thread.old.kept.history thread.new.kept.history
+    ensures survives { (rename : CanReplaceFileAcrossPairs thread.old.kept old_pair old_id first new_pair new_id name.now) → SurvivesPowerLossInCallsSince thread.old.kept.disk thread.old.kept.history thread.new.kept.history
         (tree_on_disk thread.old.kept.disk thread.old.kept.pairs) (tree_with_moved_entry thread.old.kept rename.old.path rename.old.name rename.path name.now) }
 {
-    replace_entry_across(
+    replace_entry_across_pairs(
         alloc, thread, old_pair, old_id, first, new_pair, new_id, name, false,
     )
 }
 
 /// Renames an entry of one pair onto an empty directory at an id of another pair, in the same
 /// directory or another one. The directory's own pair has number `gone` in the thread. The call
-/// works as [`rename_onto_file_across`], with two differences. The sync bit is set with the move.
+/// works as [`rename_onto_file_across_pairs`], with two differences. The sync bit is set with the move.
 /// And a third commit drops the directory's own pair, to which no path leads any more, and clears
 /// the bit.
 ///
-/// Errors are those of [`rename_across`].
-pub fn rename_onto_directory_across<D: BlockDevice>(
+/// Errors are those of [`rename_across_pairs`].
+pub fn rename_onto_directory_across_pairs<D: BlockDevice>(
     alloc: Global,
     thread: &mut Thread<D>,
     old_pair: usize,
@@ -345,19 +345,19 @@ pub fn rename_onto_directory_across<D: BlockDevice>(
     requires can { CanReplaceDirectoryAcrossPairs thread.old.kept old_pair old_id first new_pair new_id name.now gone }
     ensures renamed { OnOk result ((rename : CanReplaceDirectoryAcrossPairs thread.old.kept old_pair old_id first new_pair new_id name.now gone)
         → IsEntryRenamedAcrossPairs thread.old.kept thread.new.kept rename.old.path rename.old.name rename.path name.now) }
-    ensures alters { OnOk result (ChangesOnlyGivenAlteredOrFreeBlocks thread.old.kept (blocks_of_two_addresses (kept_pair_at_index thread.old.kept old_pair).at (kept_pair_at_index thread.old.kept new_pair).at) thread.new.kept) }
-    ensures errors { ReportsCommitsTakingBlocks thread.old thread.new new_pair (replace_entry_across_pairs_changes true thread.old.kept old_pair old_id new_pair new_id name.now) result }
-    ensures device { WritesPairsAndTwoFreeBlocks thread.old.kept thread.new.kept }
-    ensures survives { (rename : CanReplaceDirectoryAcrossPairs thread.old.kept old_pair old_id first new_pair new_id name.now gone) → SurvivesStopsSince thread.old.kept.disk thread.old.kept.history thread.new.kept.history
+    ensures alters { OnOk result (ChangesOnlyGivenAlteredOrFreeBlocks thread.old.kept (blocks_of_two_pair_addresses (thread_pair_at_index thread.old.kept old_pair).at (thread_pair_at_index thread.old.kept new_pair).at) thread.new.kept) }
+    ensures errors { ReportsErrorsOfCommitsTakingBlocks thread.old thread.new new_pair (replace_entry_across_pairs_changes true thread.old.kept old_pair old_id new_pair new_id name.now) result }
+    ensures device { WritesOnlyThreadPairsAndTwoFreeBlocks thread.old.kept thread.new.kept }
+    ensures survives { (rename : CanReplaceDirectoryAcrossPairs thread.old.kept old_pair old_id first new_pair new_id name.now gone) → SurvivesPowerLossInCallsSince thread.old.kept.disk thread.old.kept.history thread.new.kept.history
         (tree_on_disk thread.old.kept.disk thread.old.kept.pairs) (tree_with_moved_entry thread.old.kept rename.old.path rename.old.name rename.path name.now) }
 {
-    let at = thread.address(gone);
-    replace_entry_across(
+    let at = thread.blocks_of_pair(gone);
+    replace_entry_across_pairs(
         alloc, thread, old_pair, old_id, first, new_pair, new_id, name, true,
     )?;
     // Other pairs may have been put in or dropped before it in the thread.
-    if let Some(index) = number_of(thread, at) {
-        drop_at(alloc, thread, index, &MoveState::none())?;
+    if let Some(index) = pair_number_at_address(thread, at) {
+        drop_pair_at(alloc, thread, index, &MoveState::none())?;
     }
     Ok(())
 }

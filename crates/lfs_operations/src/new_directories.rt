@@ -1,19 +1,19 @@
 // Empty directories that are made.
 
 ghost use Rattle.std.specs.Prelude.{◌≡◌, ◌<◌, ◌^◌, ℕ, false, is_err, length, Err, OnOk};
-ghost use Rattle.lfs_device.specs.Bytes.{HasBytes};
+ghost use Rattle.lfs_device.specs.Bytes.{AreAllBlockElementsBelow256};
 ghost use Rattle.lfs_model.specs.Disk.{block_count};
-ghost use Rattle.lfs_model.specs.PowerLoss.{ShowsTreeBeforeOrAfter, SurvivesStopsSince};
+ghost use Rattle.lfs_model.specs.PowerLoss.{HasTreeBeforeOrAfterOperation, SurvivesPowerLossInCallsSince};
 ghost use Rattle.lfs_model.specs.Slots.{pair_address_of_array};
 ghost use Rattle.lfs_model.specs.Shown.{tree_on_disk};
-ghost use Rattle.lfs_model.specs.Steps.{turned};
+ghost use Rattle.lfs_model.specs.Steps.{gstate_with_inverted_sync_bit};
 ghost use Rattle.lfs_tag.specs.FieldsView.{move_view};
-ghost use Rattle.lfs_thread.specs.Device.{StopsAfterCleanErasesLeave, blocks_of_two_addresses, blocks_of_address};
-ghost use Rattle.lfs_thread.specs.Steps.{CanThreadInFreshPair, HasReportedIoOrNoMemoryBesideBlocks, IsFreshPairThreadedIn, LeavesPairOldOrThreadedIn, ThreadChangesOnlyTheseBlocks, kept_pair_at_index};
-ghost use Rattle.lfs_operations.specs.Changing.{CanChangeOrSplitPair, IsLeftByStoppedChangeOrSplit, IsPairChangedOrSplit, ReportsChangeOrSplit, WritesPairAndTwoFreeBlocks};
-ghost use Rattle.lfs_operations.specs.Making.{AltersPairAndLastPair, CanMakeDirectoryAt, FitsPairWithTailToNewPair, IsLastPairOfHardTailRun, IsDirectoryMade, ReportsMakingOfDirectory, WritesPairAndLastPair, directory_entry_changes, directory_naming_changes, changes_threading_new_pair, tree_with_new_directory};
+ghost use Rattle.lfs_thread.specs.Device.{PowerLossLeavesSuchBlocksAfterCleanErases, blocks_of_two_pair_addresses, blocks_of_pair_address};
+ghost use Rattle.lfs_thread.specs.Steps.{CanThreadInFreshPair, IoMeantFaultNoMemoryKeptOtherBlocks, IsFreshPairThreadedIn, PowerLossLeavesPairOldOrThreadedIn, ThreadChangesOnlyTheseBlocks, thread_pair_at_index};
+ghost use Rattle.lfs_operations.specs.Changing.{CanChangeOrSplitPair, IsLeftByStoppedChangeOrSplit, IsPairChangedOrSplit, ReportsErrorsOfChangeOrSplit, WritesPairAndTwoFreeBlocks};
+ghost use Rattle.lfs_operations.specs.Making.{ArePairAndLastPairOfDirectoryAltered, CanMakeDirectoryAt, FitsPairWithTailToNewPair, IsLastPairOfHardTailRun, IsDirectoryMade, ReportsErrorsOfMakingDirectory, WritesPairLastPairAndFourFreeBlocks, directory_entry_changes, changes_adding_entry_for_directory_pair, changes_threading_new_pair, tree_with_new_directory};
 
-use crate::changes::{put, take_two_free_blocks};
+use crate::changes::{change_or_split_pair, take_two_free_blocks};
 use lfs_device::{BlockDevice, Error};
 use lfs_pair::Change;
 use lfs_tag::kinds::{DIRECTORY_NAME, DIRECTORY_STRUCT};
@@ -25,7 +25,7 @@ use std::alloc::Global;
 // bits.
 fn show_device_facts_to_proof<D: BlockDevice>(thread: &Thread<D>)
     ensures count { block_count thread.now.kept.disk < 2 ^ 32 }
-    ensures bytes { HasBytes thread.now.kept.disk.blocks }
+    ensures bytes { AreAllBlockElementsBelow256 thread.now.kept.disk.blocks }
 {
     let _count = thread.device().geometry().block_count;
 }
@@ -46,8 +46,8 @@ fn last_pair_of_directory_from<D: BlockDevice>(thread: &Thread<D>, index: usize)
 
 // Returns a delta with its sync bit turned. Set in its pair, it turns the sync bit of the global
 // state.
-fn turned(delta: &MoveState) -> MoveState
-    ensures { move_view result ≡ turned (move_view delta.now) }
+fn delta_with_sync_bit_turned(delta: &MoveState) -> MoveState
+    ensures { move_view result ≡ gstate_with_inverted_sync_bit (move_view delta.now) }
 {
     MoveState {
         sync: !delta.sync,
@@ -59,7 +59,7 @@ fn turned(delta: &MoveState) -> MoveState
 
 // Puts a fresh pair without slots into the thread, after the last pair of a directory. No entry
 // names it yet, so the sync bit is set.
-fn thread_new_pair_behind<D: BlockDevice>(
+fn link_new_pair_into_thread_after<D: BlockDevice>(
     alloc: Global,
     thread: &mut Thread<D>,
     last: usize,
@@ -70,9 +70,9 @@ fn thread_new_pair_behind<D: BlockDevice>(
     requires fits { FitsPairWithTailToNewPair thread.old.kept last (pair_address_of_array fresh) }
     ensures is_joined { OnOk result (IsFreshPairThreadedIn thread.old.kept last (pair_address_of_array fresh) (changes_threading_new_pair thread.old.kept last (pair_address_of_array fresh)) thread.new.kept) }
     ensures failed { thread.new.failed ≡ is_err result }
-    ensures errors { HasReportedIoOrNoMemoryBesideBlocks (blocks_of_address (pair_address_of_array fresh)) thread.old.kept thread.new.kept result }
-    ensures device { ThreadChangesOnlyTheseBlocks (blocks_of_two_addresses (kept_pair_at_index thread.old.kept last).at (pair_address_of_array fresh)) thread.old.kept thread.new.kept }
-    ensures stops { StopsAfterCleanErasesLeave thread.old.kept.history thread.new.kept.history (LeavesPairOldOrThreadedIn thread.old.kept last (pair_address_of_array fresh) (changes_threading_new_pair thread.old.kept last (pair_address_of_array fresh))) }
+    ensures errors { IoMeantFaultNoMemoryKeptOtherBlocks (blocks_of_pair_address (pair_address_of_array fresh)) thread.old.kept thread.new.kept result }
+    ensures device { ThreadChangesOnlyTheseBlocks (blocks_of_two_pair_addresses (thread_pair_at_index thread.old.kept last).at (pair_address_of_array fresh)) thread.old.kept thread.new.kept }
+    ensures stops { PowerLossLeavesSuchBlocksAfterCleanErases thread.old.kept.history thread.new.kept.history (PowerLossLeavesPairOldOrThreadedIn thread.old.kept last (pair_address_of_array fresh) (changes_threading_new_pair thread.old.kept last (pair_address_of_array fresh))) }
 {
     let changes = [
         Change::Tail {
@@ -80,7 +80,7 @@ fn thread_new_pair_behind<D: BlockDevice>(
             pair: Some(fresh),
         },
         Change::Move {
-            state: turned(&thread.delta(last)),
+            state: delta_with_sync_bit_turned(&thread.delta(last)),
         },
     ];
     // The pair has room of its own for tail and delta, so the commit is never refused.
@@ -89,7 +89,7 @@ fn thread_new_pair_behind<D: BlockDevice>(
 }
 
 // Puts an entry with a directory's struct into a pair, and turns the sync bit.
-fn put_entry<'a, D: BlockDevice>(
+fn put_directory_entry_in_pair<'a, D: BlockDevice>(
     alloc: Global,
     thread: &mut Thread<D>,
     pair: usize,
@@ -100,9 +100,9 @@ fn put_entry<'a, D: BlockDevice>(
     requires works { thread.old.failed ≡ false }
     requires can { CanChangeOrSplitPair thread.old.kept pair (directory_entry_changes thread.old.kept pair id name.now branch.now) }
     ensures is_put { OnOk result (IsPairChangedOrSplit thread.old.kept pair (directory_entry_changes thread.old.kept pair id name.now branch.now) thread.new.kept) }
-    ensures errors { ReportsChangeOrSplit thread.old thread.new pair (directory_entry_changes thread.old.kept pair id name.now branch.now) result }
+    ensures errors { ReportsErrorsOfChangeOrSplit thread.old thread.new pair (directory_entry_changes thread.old.kept pair id name.now branch.now) result }
     ensures device { WritesPairAndTwoFreeBlocks thread.old.kept pair thread.new.kept }
-    ensures stops { StopsAfterCleanErasesLeave thread.old.kept.history thread.new.kept.history (IsLeftByStoppedChangeOrSplit thread.old.kept pair (directory_entry_changes thread.old.kept pair id name.now branch.now)) }
+    ensures stops { PowerLossLeavesSuchBlocksAfterCleanErases thread.old.kept.history thread.new.kept.history (IsLeftByStoppedChangeOrSplit thread.old.kept pair (directory_entry_changes thread.old.kept pair id name.now branch.now)) }
 {
     let changes = [
         Change::Create {
@@ -116,10 +116,10 @@ fn put_entry<'a, D: BlockDevice>(
             bytes: branch,
         },
         Change::Move {
-            state: turned(&thread.delta(pair)),
+            state: delta_with_sync_bit_turned(&thread.delta(pair)),
         },
     ];
-    put(alloc, thread, pair, &changes)?;
+    change_or_split_pair(alloc, thread, pair, &changes)?;
     Ok(())
 }
 
@@ -133,14 +133,14 @@ fn put_entry_of_new_directory<D: BlockDevice>(
     at: [u32; 2],
 ) -> Result<(), Error>
     requires works { thread.old.failed ≡ false }
-    requires can { CanChangeOrSplitPair thread.old.kept pair (directory_naming_changes thread.old.kept pair id name.now (pair_address_of_array at)) }
-    ensures is_put { OnOk result (IsPairChangedOrSplit thread.old.kept pair (directory_naming_changes thread.old.kept pair id name.now (pair_address_of_array at)) thread.new.kept) }
-    ensures errors { ReportsChangeOrSplit thread.old thread.new pair (directory_naming_changes thread.old.kept pair id name.now (pair_address_of_array at)) result }
+    requires can { CanChangeOrSplitPair thread.old.kept pair (changes_adding_entry_for_directory_pair thread.old.kept pair id name.now (pair_address_of_array at)) }
+    ensures is_put { OnOk result (IsPairChangedOrSplit thread.old.kept pair (changes_adding_entry_for_directory_pair thread.old.kept pair id name.now (pair_address_of_array at)) thread.new.kept) }
+    ensures errors { ReportsErrorsOfChangeOrSplit thread.old thread.new pair (changes_adding_entry_for_directory_pair thread.old.kept pair id name.now (pair_address_of_array at)) result }
     ensures device { WritesPairAndTwoFreeBlocks thread.old.kept pair thread.new.kept }
-    ensures stops { StopsAfterCleanErasesLeave thread.old.kept.history thread.new.kept.history (IsLeftByStoppedChangeOrSplit thread.old.kept pair (directory_naming_changes thread.old.kept pair id name.now (pair_address_of_array at))) }
+    ensures stops { PowerLossLeavesSuchBlocksAfterCleanErases thread.old.kept.history thread.new.kept.history (IsLeftByStoppedChangeOrSplit thread.old.kept pair (changes_adding_entry_for_directory_pair thread.old.kept pair id name.now (pair_address_of_array at))) }
 {
     let branch = pair_bytes(at);
-    put_entry(alloc, thread, pair, id, name, &branch)?;
+    put_directory_entry_in_pair(alloc, thread, pair, id, name, &branch)?;
     Ok(())
 }
 
@@ -163,12 +163,12 @@ pub fn make_directory<D: BlockDevice>(
     requires works { thread.old.failed ≡ false }
     requires can { CanMakeDirectoryAt thread.old.kept pair id name.now }
     ensures made { OnOk result ((can : CanMakeDirectoryAt thread.old.kept pair id name.now) → IsDirectoryMade thread.old.kept thread.new.kept can.path name.now) }
-    ensures alters { OnOk result (AltersPairAndLastPair thread.old.kept pair thread.new.kept) }
-    ensures errors { ReportsMakingOfDirectory thread.old thread.new result }
-    ensures device { WritesPairAndLastPair thread.old.kept pair thread.new.kept }
-    ensures stands { result ≡ Err Error.NoMemory → (can : CanMakeDirectoryAt thread.old.kept pair id name.now) → ShowsTreeBeforeOrAfter thread.new.kept.disk
+    ensures alters { OnOk result (ArePairAndLastPairOfDirectoryAltered thread.old.kept pair thread.new.kept) }
+    ensures errors { ReportsErrorsOfMakingDirectory thread.old thread.new result }
+    ensures device { WritesPairLastPairAndFourFreeBlocks thread.old.kept pair thread.new.kept }
+    ensures stands { result ≡ Err Error.NoMemory → (can : CanMakeDirectoryAt thread.old.kept pair id name.now) → HasTreeBeforeOrAfterOperation thread.new.kept.disk
         (tree_on_disk thread.old.kept.disk thread.old.kept.pairs) (tree_with_new_directory thread.old.kept can.path name.now) }
-    ensures survives { (can : CanMakeDirectoryAt thread.old.kept pair id name.now) → SurvivesStopsSince thread.old.kept.disk thread.old.kept.history thread.new.kept.history
+    ensures survives { (can : CanMakeDirectoryAt thread.old.kept pair id name.now) → SurvivesPowerLossInCallsSince thread.old.kept.disk thread.old.kept.history thread.new.kept.history
         (tree_on_disk thread.old.kept.disk thread.old.kept.pairs) (tree_with_new_directory thread.old.kept can.path name.now) }
 {
     let last = last_pair_of_directory_from(thread, pair);
@@ -176,7 +176,7 @@ pub fn make_directory<D: BlockDevice>(
     let Some(fresh) = take_two_free_blocks(thread) else {
         return Err(Error::NoSpace);
     };
-    thread_new_pair_behind(alloc, thread, last, fresh)?;
+    link_new_pair_into_thread_after(alloc, thread, last, fresh)?;
     show_device_facts_to_proof(thread);
     put_entry_of_new_directory(alloc, thread, pair, id, name, fresh)?;
     Ok(())

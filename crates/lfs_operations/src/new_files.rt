@@ -1,13 +1,13 @@
 // Empty files that are created.
 
 ghost use Rattle.std.specs.Prelude.{◌≡◌, ◌≤◌, ◌+◌, false, OnOk};
-ghost use Rattle.lfs_model.specs.History.{reads};
-ghost use Rattle.lfs_model.specs.PowerLoss.{SurvivesStopsSince};
+ghost use Rattle.lfs_model.specs.History.{read_count_of_history};
+ghost use Rattle.lfs_model.specs.PowerLoss.{SurvivesPowerLossInCallsSince};
 ghost use Rattle.lfs_model.specs.Shown.{tree_on_disk};
-ghost use Rattle.lfs_operations.specs.Changing.{AltersPair, ReportsChangeOrSplit, WritesPairAndTwoFreeBlocks};
+ghost use Rattle.lfs_operations.specs.Changing.{IsPairAltered, ReportsErrorsOfChangeOrSplit, WritesPairAndTwoFreeBlocks};
 ghost use Rattle.lfs_operations.specs.Creating.{CanCreateFileInPair, IsFileCreated, file_creation_changes, tree_with_new_file};
 
-use crate::changes::put;
+use crate::changes::change_or_split_pair;
 use lfs_device::{BlockDevice, Error};
 use lfs_pair::Change;
 use lfs_tag::kinds::{FILE_NAME, INLINE_STRUCT};
@@ -22,7 +22,7 @@ use std::alloc::Global;
 /// as it was then. `Io` where a call of the device failed. `NoMemory` where memory for the pair's
 /// slots and its block isn't granted; nothing was written then. After `Io` and `NoMemory` the
 /// thread has failed.
-pub fn create<D: BlockDevice>(
+pub fn create_file<D: BlockDevice>(
     alloc: Global,
     thread: &mut Thread<D>,
     pair: usize,
@@ -32,11 +32,11 @@ pub fn create<D: BlockDevice>(
     requires works { thread.old.failed ≡ false }
     requires can { CanCreateFileInPair thread.old.kept pair id name.now }
     ensures created { OnOk result ((can : CanCreateFileInPair thread.old.kept pair id name.now) → IsFileCreated thread.old.kept thread.new.kept can.path name.now) }
-    ensures alters { OnOk result (AltersPair thread.old.kept pair thread.new.kept) }
-    ensures errors { ReportsChangeOrSplit thread.old thread.new pair (file_creation_changes id name.now) result }
+    ensures alters { OnOk result (IsPairAltered thread.old.kept pair thread.new.kept) }
+    ensures errors { ReportsErrorsOfChangeOrSplit thread.old thread.new pair (file_creation_changes id name.now) result }
     ensures device { WritesPairAndTwoFreeBlocks thread.old.kept pair thread.new.kept }
-    ensures few { reads thread.new.kept.history ≤ reads thread.old.kept.history + 6 }
-    ensures survives { (can : CanCreateFileInPair thread.old.kept pair id name.now) → SurvivesStopsSince thread.old.kept.disk thread.old.kept.history thread.new.kept.history
+    ensures few { read_count_of_history thread.new.kept.history ≤ read_count_of_history thread.old.kept.history + 6 }
+    ensures survives { (can : CanCreateFileInPair thread.old.kept pair id name.now) → SurvivesPowerLossInCallsSince thread.old.kept.disk thread.old.kept.history thread.new.kept.history
         (tree_on_disk thread.old.kept.disk thread.old.kept.pairs) (tree_with_new_file thread.old.kept can.path name.now) }
 {
     let changes = [
@@ -51,6 +51,6 @@ pub fn create<D: BlockDevice>(
             bytes: &[],
         },
     ];
-    put(alloc, thread, pair, &changes)?;
+    change_or_split_pair(alloc, thread, pair, &changes)?;
     Ok(())
 }

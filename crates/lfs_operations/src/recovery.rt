@@ -3,27 +3,27 @@
 ghost use Rattle.std.specs.Prelude.{ℕ, ◌≡◌, ◌<◌, ◌+◌, ◌-◌, ◌&&◌, false, OnOk, length, if◌then◌else◌, IfNone, IfSome, Option};
 ghost use Rattle.std.specs.Option.{option_map};
 ghost use Rattle.lfs_model.specs.LoggedContent.{Are32BitPairAddresses};
-ghost use Rattle.lfs_model.specs.PowerLoss.{SurvivesStopsSince};
+ghost use Rattle.lfs_model.specs.PowerLoss.{SurvivesPowerLossInCallsSince};
 ghost use Rattle.lfs_model.specs.Recovery.{IsNothingLeftToRecover};
 ghost use Rattle.lfs_model.specs.Slots.{Gstate, pair_address_of_array, gstate_xor, zero_gstate};
-ghost use Rattle.lfs_model.specs.Thread.{blocks_of_pairs, gstate_of, is_hard_tail};
+ghost use Rattle.lfs_model.specs.Thread.{blocks_of_pairs, gstate_of_pairs, is_hard_tail};
 ghost use Rattle.lfs_model.specs.View.{IsAcceptedImage};
 ghost use Rattle.lfs_model.specs.Shown.{tree_on_disk};
 ghost use Rattle.lfs_model.specs.Steps.{HasNoMove};
 ghost use Rattle.lfs_tag.specs.ContentView.{tail_view};
 ghost use Rattle.lfs_tag.specs.FieldsView.{move_view};
-ghost use Rattle.lfs_thread.specs.Device.{StopsAfterCleanErasesLeave, blocks_of_address};
-ghost use Rattle.lfs_thread.specs.Steps.{IsPairChanged, IsPairAfterIndexDropped, LeavesPairOldOrChanged, ThreadChangesOnlyTheseBlocks, kept_pair_at_index};
-ghost use Rattle.lfs_operations.specs.Deltas.{CanSetGstateInPair, CanTakeOverNextPair, IsPairAddressIfSome, has_hard_tail_at, gstate_setting_changes, delta_reaching_gstate, next_pair_takeover_changes, delta_after_taking_over_next_pair, pair_named_by_optional_tail};
-ghost use Rattle.lfs_operations.specs.Recovering.{CanClearSyncBit, CanDropUnreachedPairs, HasDroppedUnreachedAndRecovered, IsSyncBitCleared, ReportsOfRecovery, gstate_wanted_after_drop};
+ghost use Rattle.lfs_thread.specs.Device.{PowerLossLeavesSuchBlocksAfterCleanErases, blocks_of_pair_address};
+ghost use Rattle.lfs_thread.specs.Steps.{IsPairChanged, IsPairAfterIndexDropped, PowerLossLeavesPairOldOrChanged, ThreadChangesOnlyTheseBlocks, thread_pair_at_index};
+ghost use Rattle.lfs_operations.specs.Deltas.{CanSetGstateInPair, CanTakeOverNextPair, Is32BitPairAddressIfSome, has_hard_tail_at, gstate_setting_changes, delta_reaching_gstate, next_pair_takeover_changes, delta_after_taking_over_next_pair, pair_named_by_optional_tail};
+ghost use Rattle.lfs_operations.specs.Recovering.{CanClearSyncBit, CanDropUnreachedPairs, HasDroppedUnreachedPairsAndRecovered, IsSyncBitCleared, ReportsErrorsOfRecovery, gstate_zero_after_last_unreached_pair_drop};
 ghost use Rattle.lfs_operations.specs.EndingMove.{CanEndMove, CanRemoveMovedSlot, HasEndedMove, HasMovedSlotInPair, has_one_slot_after_hard_tail, remove_moved_slot_changes, gstate_without_move};
-ghost use Rattle.lfs_operations.specs.Removing.{ReportsCommitTakingNoBlock};
+ghost use Rattle.lfs_operations.specs.Removing.{ReportsErrorsOfCommitTakingNoBlock};
 
 use lfs_device::{BlockDevice, Error};
 use lfs_pair::Change;
 use lfs_tag::kinds::DELETE;
 use lfs_tag::{MoveState, Tail};
-use lfs_thread::{Thread, number_of, with_delta};
+use lfs_thread::{Thread, gstate_xor_delta, pair_number_at_address};
 use std::alloc::Global;
 
 // Returns the address as it is. For the proof, its blocks are words of 32 bits.
@@ -35,7 +35,7 @@ fn show_pair_address_to_proof(pair: [u32; 2]) -> [u32; 2]
 }
 
 // Returns the delta that a pair gets, so that the global state becomes `wanted`.
-fn delta_for_wanted_gstate<D: BlockDevice>(
+fn delta_that_reaches_gstate<D: BlockDevice>(
     thread: &Thread<D>,
     index: usize,
     wanted: &MoveState,
@@ -44,12 +44,12 @@ fn delta_for_wanted_gstate<D: BlockDevice>(
     requires below { index < length thread.now.kept.pairs }
     ensures { move_view result ≡ delta_reaching_gstate thread.now.kept index (move_view wanted.now) }
 {
-    let change = with_delta(wanted, &thread.state());
-    with_delta(&change, &thread.delta(index))
+    let change = gstate_xor_delta(wanted, &thread.state());
+    gstate_xor_delta(&change, &thread.delta(index))
 }
 
 // Returns a global state as it can be stored.
-fn storable(state: MoveState) -> MoveState
+fn show_gstate_address_to_proof(state: MoveState) -> MoveState
     ensures same { move_view result ≡ move_view state }
     ensures words { Are32BitPairAddresses (move_view result).pair }
 {
@@ -63,7 +63,7 @@ fn storable(state: MoveState) -> MoveState
 }
 
 // Returns whether a pair's tail is a hard one.
-fn goes_on<D: BlockDevice>(thread: &Thread<D>, index: usize) -> bool
+fn is_tail_of_pair_hard<D: BlockDevice>(thread: &Thread<D>, index: usize) -> bool
     requires works { thread.now.failed ≡ false }
     requires below { index < length thread.now.kept.pairs }
     ensures { result ≡ has_hard_tail_at thread.now.kept index }
@@ -72,9 +72,9 @@ fn goes_on<D: BlockDevice>(thread: &Thread<D>, index: usize) -> bool
 }
 
 // Returns the address of the pair that a tail names.
-fn target(tail: Option<Tail>) -> Option<[u32; 2]>
+fn address_named_by_tail(tail: Option<Tail>) -> Option<[u32; 2]>
     ensures same { option_map pair_address_of_array result ≡ pair_named_by_optional_tail (option_map tail_view tail) }
-    ensures words { IsPairAddressIfSome (option_map pair_address_of_array result) }
+    ensures words { Is32BitPairAddressIfSome (option_map pair_address_of_array result) }
 {
     match tail {
         None => None,
@@ -89,7 +89,7 @@ fn have_both_hard_tails<D: BlockDevice>(thread: &Thread<D>, index: usize, behind
     requires second { behind < length thread.now.kept.pairs }
     ensures { result ≡ (has_hard_tail_at thread.now.kept index && has_hard_tail_at thread.now.kept behind) }
 {
-    goes_on(thread, index) && goes_on(thread, behind)
+    is_tail_of_pair_hard(thread, index) && is_tail_of_pair_hard(thread, behind)
 }
 
 // Changes a pair's delta, so that the global state becomes `wanted`.
@@ -102,20 +102,20 @@ fn set_gstate_in_pair<D: BlockDevice>(
     requires works { thread.old.failed ≡ false }
     requires can { CanSetGstateInPair thread.old.kept index (move_view wanted.now) }
     ensures is_set { OnOk result (IsPairChanged thread.old.kept index (gstate_setting_changes thread.old.kept index (move_view wanted.now)) thread.new.kept) }
-    ensures errors { ReportsCommitTakingNoBlock thread.old thread.new result }
+    ensures errors { ReportsErrorsOfCommitTakingNoBlock thread.old thread.new result }
     ensures words { Are32BitPairAddresses (delta_reaching_gstate thread.old.kept index (move_view wanted.now)).pair }
-    ensures device { ThreadChangesOnlyTheseBlocks (blocks_of_address (kept_pair_at_index thread.old.kept index).at) thread.old.kept thread.new.kept }
-    ensures stops { StopsAfterCleanErasesLeave thread.old.kept.history thread.new.kept.history (LeavesPairOldOrChanged thread.old.kept index (gstate_setting_changes thread.old.kept index (move_view wanted.now))) }
+    ensures device { ThreadChangesOnlyTheseBlocks (blocks_of_pair_address (thread_pair_at_index thread.old.kept index).at) thread.old.kept thread.new.kept }
+    ensures stops { PowerLossLeavesSuchBlocksAfterCleanErases thread.old.kept.history thread.new.kept.history (PowerLossLeavesPairOldOrChanged thread.old.kept index (gstate_setting_changes thread.old.kept index (move_view wanted.now))) }
 {
-    let state = storable(delta_for_wanted_gstate(thread, index, wanted));
+    let state = show_gstate_address_to_proof(delta_that_reaches_gstate(thread, index, wanted));
     // The pair has the slots that it had, so the commit is never refused.
-    thread.change(alloc, index, &[Change::Move { state }])?;
+    thread.commit_pair_changes(alloc, index, &[Change::Move { state }])?;
     Ok(())
 }
 
 // Drops the pair after the one at the index, so that the global state becomes `wanted`. The pair at
 // the index takes over its delta and its tail, which is hard only where both tails are.
-fn drop_behind<D: BlockDevice>(
+fn drop_pair_behind_index<D: BlockDevice>(
     alloc: Global,
     thread: &mut Thread<D>,
     index: usize,
@@ -125,15 +125,15 @@ fn drop_behind<D: BlockDevice>(
     requires works { thread.old.failed ≡ false }
     requires can { CanTakeOverNextPair thread.old.kept index behind (move_view wanted.now) }
     ensures is_dropped { OnOk result (IsPairAfterIndexDropped thread.old.kept index (next_pair_takeover_changes thread.old.kept index behind (move_view wanted.now)) thread.new.kept) }
-    ensures errors { ReportsCommitTakingNoBlock thread.old thread.new result }
-    ensures words { Are32BitPairAddresses (delta_after_taking_over_next_pair thread.old.kept index behind (move_view wanted.now)).pair × IsPairAddressIfSome (pair_named_by_optional_tail (kept_pair_at_index thread.old.kept behind).content.tail) }
-    ensures device { ThreadChangesOnlyTheseBlocks (blocks_of_address (kept_pair_at_index thread.old.kept index).at) thread.old.kept thread.new.kept }
-    ensures stops { StopsAfterCleanErasesLeave thread.old.kept.history thread.new.kept.history (LeavesPairOldOrChanged thread.old.kept index (next_pair_takeover_changes thread.old.kept index behind (move_view wanted.now))) }
+    ensures errors { ReportsErrorsOfCommitTakingNoBlock thread.old thread.new result }
+    ensures words { Are32BitPairAddresses (delta_after_taking_over_next_pair thread.old.kept index behind (move_view wanted.now)).pair × Is32BitPairAddressIfSome (pair_named_by_optional_tail (thread_pair_at_index thread.old.kept behind).content.tail) }
+    ensures device { ThreadChangesOnlyTheseBlocks (blocks_of_pair_address (thread_pair_at_index thread.old.kept index).at) thread.old.kept thread.new.kept }
+    ensures stops { PowerLossLeavesSuchBlocksAfterCleanErases thread.old.kept.history thread.new.kept.history (PowerLossLeavesPairOldOrChanged thread.old.kept index (next_pair_takeover_changes thread.old.kept index behind (move_view wanted.now))) }
 {
-    let delta = delta_for_wanted_gstate(thread, index, wanted);
-    let state = storable(with_delta(&delta, &thread.delta(behind)));
+    let delta = delta_that_reaches_gstate(thread, index, wanted);
+    let state = show_gstate_address_to_proof(gstate_xor_delta(&delta, &thread.delta(behind)));
     let hard = have_both_hard_tails(thread, index, behind);
-    let pair = target(thread.tail(behind));
+    let pair = address_named_by_tail(thread.tail_of_pair(behind));
     // The pair has the slots that it had, so the commit is never refused.
     thread.drop_next(
         alloc,
@@ -144,9 +144,12 @@ fn drop_behind<D: BlockDevice>(
 }
 
 // Returns the global state that is wanted after a pair is dropped: zero after the last one.
-fn gstate_wanted_after_pair_drop<D: BlockDevice>(thread: &Thread<D>, is_last: bool) -> MoveState
+fn gstate_zero_after_dropping_last_unreached_pair<D: BlockDevice>(
+    thread: &Thread<D>,
+    is_last: bool,
+) -> MoveState
     requires { thread.now.failed ≡ false }
-    ensures { move_view result ≡ gstate_wanted_after_drop thread.now.kept is_last }
+    ensures { move_view result ≡ gstate_zero_after_last_unreached_pair_drop thread.now.kept is_last }
 {
     if is_last {
         MoveState::none()
@@ -159,11 +162,11 @@ fn gstate_wanted_after_pair_drop<D: BlockDevice>(thread: &Thread<D>, is_last: bo
 fn clear_sync_bit<D: BlockDevice>(alloc: Global, thread: &mut Thread<D>) -> Result<(), Error>
     requires works { thread.old.failed ≡ false }
     requires can { CanClearSyncBit thread.old.kept }
-    ensures nothing { gstate_of thread.old.kept.pairs ≡ zero_gstate → thread.new.kept ≡ thread.old.kept }
+    ensures nothing { gstate_of_pairs thread.old.kept.pairs ≡ zero_gstate → thread.new.kept ≡ thread.old.kept }
     ensures is_cleared { OnOk result (IsSyncBitCleared thread.old.kept thread.new.kept) }
-    ensures errors { ReportsCommitTakingNoBlock thread.old thread.new result }
+    ensures errors { ReportsErrorsOfCommitTakingNoBlock thread.old thread.new result }
     ensures device { ThreadChangesOnlyTheseBlocks (blocks_of_pairs thread.old.kept.pairs) thread.old.kept thread.new.kept }
-    ensures survives { SurvivesStopsSince thread.old.kept.disk thread.old.kept.history thread.new.kept.history
+    ensures survives { SurvivesPowerLossInCallsSince thread.old.kept.disk thread.old.kept.history thread.new.kept.history
         (tree_on_disk thread.old.kept.disk thread.old.kept.pairs) (tree_on_disk thread.old.kept.disk thread.old.kept.pairs) }
 {
     if thread.state().sync {
@@ -192,16 +195,19 @@ pub fn drop_unreached_pairs<D: BlockDevice>(
     requires works { thread.old.failed ≡ false }
     requires can { CanDropUnreachedPairs thread.old.kept unreached.now }
     ensures nothing { IsNothingLeftToRecover thread.old.kept.pairs → thread.new.kept ≡ thread.old.kept }
-    ensures recovered { OnOk result (HasDroppedUnreachedAndRecovered thread.old.kept unreached.now thread.new.kept) }
-    ensures errors { ReportsOfRecovery thread.old thread.new result }
+    ensures recovered { OnOk result (HasDroppedUnreachedPairsAndRecovered thread.old.kept unreached.now thread.new.kept) }
+    ensures errors { ReportsErrorsOfRecovery thread.old thread.new result }
     ensures device { ThreadChangesOnlyTheseBlocks (blocks_of_pairs thread.old.kept.pairs) thread.old.kept thread.new.kept }
-    ensures survives { SurvivesStopsSince thread.old.kept.disk thread.old.kept.history thread.new.kept.history
+    ensures survives { SurvivesPowerLossInCallsSince thread.old.kept.disk thread.old.kept.history thread.new.kept.history
         (tree_on_disk thread.old.kept.disk thread.old.kept.pairs) (tree_on_disk thread.old.kept.disk thread.old.kept.pairs) }
 {
     for dropped in 0..unreached.len() {
         let behind = unreached[dropped] - dropped;
-        let wanted = gstate_wanted_after_pair_drop(thread, dropped + 1 == unreached.len());
-        drop_behind(alloc, thread, behind - 1, behind, &wanted)?;
+        let wanted = gstate_zero_after_dropping_last_unreached_pair(
+            thread,
+            dropped + 1 == unreached.len(),
+        );
+        drop_pair_behind_index(alloc, thread, behind - 1, behind, &wanted)?;
     }
     clear_sync_bit(alloc, thread)?;
     Ok(())
@@ -210,14 +216,14 @@ pub fn drop_unreached_pairs<D: BlockDevice>(
 // Returns the number of the pair whose slot a set move names. Returns None where no move is set.
 fn pair_number_of_moved_slot<D: BlockDevice>(thread: &Thread<D>, state: &MoveState) -> Option<usize>
     requires accepted { IsAcceptedImage thread.now.kept.disk thread.now.kept.pairs }
-    requires state { move_view state.now ≡ gstate_of thread.now.kept.pairs }
+    requires state { move_view state.now ≡ gstate_of_pairs thread.now.kept.pairs }
     ensures there { IfSome result (HasMovedSlotInPair thread.now.kept) }
-    ensures none { IfNone result (HasNoMove (gstate_of thread.now.kept.pairs)) }
+    ensures none { IfNone result (HasNoMove (gstate_of_pairs thread.now.kept.pairs)) }
 {
     if state.kind != DELETE {
         return None;
     }
-    number_of(thread, state.pair)
+    pair_number_at_address(thread, state.pair)
 }
 
 // Returns the global state without a move.
@@ -238,7 +244,7 @@ fn is_one_slot_after_hard_tail<D: BlockDevice>(thread: &Thread<D>, index: usize)
     requires below { index < length thread.now.kept.pairs }
     ensures { result ≡ has_one_slot_after_hard_tail thread.now.kept index }
 {
-    index > 0 && thread.slot_count(index) == 1 && goes_on(thread, index - 1)
+    index > 0 && thread.slot_count(index) == 1 && is_tail_of_pair_hard(thread, index - 1)
 }
 
 // Removes the slot at the id from a pair, so that the global state becomes `wanted`.
@@ -252,14 +258,14 @@ fn remove_moved_slot_of_pair<D: BlockDevice>(
     requires works { thread.old.failed ≡ false }
     requires can { CanRemoveMovedSlot thread.old.kept index id (move_view wanted.now) }
     ensures is_taken { OnOk result (IsPairChanged thread.old.kept index (remove_moved_slot_changes thread.old.kept index id (move_view wanted.now)) thread.new.kept) }
-    ensures errors { ReportsCommitTakingNoBlock thread.old thread.new result }
+    ensures errors { ReportsErrorsOfCommitTakingNoBlock thread.old thread.new result }
     ensures words { Are32BitPairAddresses (delta_reaching_gstate thread.old.kept index (move_view wanted.now)).pair }
-    ensures device { ThreadChangesOnlyTheseBlocks (blocks_of_address (kept_pair_at_index thread.old.kept index).at) thread.old.kept thread.new.kept }
-    ensures stops { StopsAfterCleanErasesLeave thread.old.kept.history thread.new.kept.history (LeavesPairOldOrChanged thread.old.kept index (remove_moved_slot_changes thread.old.kept index id (move_view wanted.now))) }
+    ensures device { ThreadChangesOnlyTheseBlocks (blocks_of_pair_address (thread_pair_at_index thread.old.kept index).at) thread.old.kept thread.new.kept }
+    ensures stops { PowerLossLeavesSuchBlocksAfterCleanErases thread.old.kept.history thread.new.kept.history (PowerLossLeavesPairOldOrChanged thread.old.kept index (remove_moved_slot_changes thread.old.kept index id (move_view wanted.now))) }
 {
-    let state = storable(delta_for_wanted_gstate(thread, index, wanted));
+    let state = show_gstate_address_to_proof(delta_that_reaches_gstate(thread, index, wanted));
     // The pair has a slot less than before, so the commit is never refused.
-    thread.change(
+    thread.commit_pair_changes(
         alloc,
         index,
         &[Change::Delete { id }, Change::Move { state }],
@@ -276,11 +282,11 @@ fn remove_moved_slot_of_pair<D: BlockDevice>(
 pub fn end_move<D: BlockDevice>(alloc: Global, thread: &mut Thread<D>) -> Result<(), Error>
     requires works { thread.old.failed ≡ false }
     requires can { CanEndMove thread.old.kept }
-    ensures nothing { HasNoMove (gstate_of thread.old.kept.pairs) → thread.new.kept ≡ thread.old.kept }
+    ensures nothing { HasNoMove (gstate_of_pairs thread.old.kept.pairs) → thread.new.kept ≡ thread.old.kept }
     ensures ended { OnOk result (HasEndedMove thread.old.kept thread.new.kept) }
-    ensures errors { ReportsOfRecovery thread.old thread.new result }
+    ensures errors { ReportsErrorsOfRecovery thread.old thread.new result }
     ensures device { ThreadChangesOnlyTheseBlocks (blocks_of_pairs thread.old.kept.pairs) thread.old.kept thread.new.kept }
-    ensures survives { SurvivesStopsSince thread.old.kept.disk thread.old.kept.history thread.new.kept.history
+    ensures survives { SurvivesPowerLossInCallsSince thread.old.kept.disk thread.old.kept.history thread.new.kept.history
         (tree_on_disk thread.old.kept.disk thread.old.kept.pairs) (tree_on_disk thread.old.kept.disk thread.old.kept.pairs) }
 {
     let state = thread.state();
@@ -289,7 +295,7 @@ pub fn end_move<D: BlockDevice>(alloc: Global, thread: &mut Thread<D>) -> Result
     };
     let wanted = move_state_with_sync_only(&state);
     if is_one_slot_after_hard_tail(thread, index) {
-        drop_behind(alloc, thread, index - 1, index, &wanted)?;
+        drop_pair_behind_index(alloc, thread, index - 1, index, &wanted)?;
     } else {
         remove_moved_slot_of_pair(alloc, thread, index, state.id, &wanted)?;
     }

@@ -1,15 +1,15 @@
 // Files that are removed.
 
 ghost use Rattle.std.specs.Prelude.{◌≡◌, ◌<◌, ◌-◌, length, false, true, OnOk};
-ghost use Rattle.lfs_model.specs.PowerLoss.{SurvivesStopsSince};
+ghost use Rattle.lfs_model.specs.PowerLoss.{SurvivesPowerLossInCallsSince};
 ghost use Rattle.lfs_model.specs.Shown.{tree_on_disk};
-ghost use Rattle.lfs_thread.specs.Device.{blocks_of_address};
+ghost use Rattle.lfs_thread.specs.Device.{blocks_of_pair_address};
 ghost use Rattle.lfs_thread.specs.Steps.{ThreadChangesOnlyTheseBlocks};
-ghost use Rattle.lfs_operations.specs.Changing.{AltersPair};
+ghost use Rattle.lfs_operations.specs.Changing.{IsPairAltered};
 ghost use Rattle.lfs_operations.specs.Editing.{slot_of_editable_entry};
-ghost use Rattle.lfs_operations.specs.Removing.{CanRemoveFileInPair, IsFileRemoved, ReportsCommitTakingNoBlock, is_pair_dropped_with_slot, tree_without_named_entry, pair_address_written_by_removal};
+ghost use Rattle.lfs_operations.specs.Removing.{CanRemoveFileInPair, IsFileRemoved, ReportsErrorsOfCommitTakingNoBlock, is_pair_dropped_with_slot, tree_without_named_entry, pair_address_written_by_removal};
 
-use crate::drops::drop_at;
+use crate::drops::drop_pair_at;
 use lfs_device::{BlockDevice, Error};
 use lfs_pair::Change;
 use lfs_tag::MoveState;
@@ -47,17 +47,17 @@ pub fn remove_file<D: BlockDevice>(
     requires works { thread.old.failed ≡ false }
     requires can { CanRemoveFileInPair thread.old.kept pair id first }
     ensures is_removed { OnOk result ((take : CanRemoveFileInPair thread.old.kept pair id first) → IsFileRemoved thread.old.kept thread.new.kept take.can.path take.can.name (slot_of_editable_entry take.can).struct) }
-    ensures alters { OnOk result (is_pair_dropped_with_slot thread.old.kept pair first ≡ true → AltersPair thread.old.kept (pair - 1) thread.new.kept) }
-    ensures errors { ReportsCommitTakingNoBlock thread.old thread.new result }
-    ensures device { ThreadChangesOnlyTheseBlocks (blocks_of_address (pair_address_written_by_removal thread.old.kept pair first)) thread.old.kept thread.new.kept }
-    ensures survives { (take : CanRemoveFileInPair thread.old.kept pair id first) → SurvivesStopsSince thread.old.kept.disk thread.old.kept.history thread.new.kept.history
+    ensures alters { OnOk result (is_pair_dropped_with_slot thread.old.kept pair first ≡ true → IsPairAltered thread.old.kept (pair - 1) thread.new.kept) }
+    ensures errors { ReportsErrorsOfCommitTakingNoBlock thread.old thread.new result }
+    ensures device { ThreadChangesOnlyTheseBlocks (blocks_of_pair_address (pair_address_written_by_removal thread.old.kept pair first)) thread.old.kept thread.new.kept }
+    ensures survives { (take : CanRemoveFileInPair thread.old.kept pair id first) → SurvivesPowerLossInCallsSince thread.old.kept.disk thread.old.kept.history thread.new.kept.history
         (tree_on_disk thread.old.kept.disk thread.old.kept.pairs) (tree_without_named_entry thread.old.kept take.can.path take.can.name) }
 {
     if is_pair_dropped_with_only_slot(thread, pair, first) {
-        drop_at(alloc, thread, pair, &MoveState::none())?;
+        drop_pair_at(alloc, thread, pair, &MoveState::none())?;
         return Ok(());
     }
     // What is left fits, so the commit is never refused.
-    thread.change(alloc, pair, &[Change::Delete { id }])?;
+    thread.commit_pair_changes(alloc, pair, &[Change::Delete { id }])?;
     Ok(())
 }

@@ -2,15 +2,15 @@
 
 ghost use Rattle.std.specs.Prelude.{◌≡◌, ◌∷◌, IfOk, OnOk, false};
 ghost use Rattle.lfs_model.specs.Changes.{Delete};
-ghost use Rattle.lfs_model.specs.PowerLoss.{SurvivesStopsSince};
+ghost use Rattle.lfs_model.specs.PowerLoss.{SurvivesPowerLossInCallsSince};
 ghost use Rattle.lfs_model.specs.Shown.{tree_on_disk};
 ghost use Rattle.lfs_pair.specs.ChangeView.{changes_view};
 ghost use Rattle.lfs_operations.specs.Changing.{WritesPairAndTwoFreeBlocks};
-ghost use Rattle.lfs_operations.specs.Renaming.{CanRenameWithinPair, CanRenameOntoFileInPair, IsEntryRenamedInPair, IsEntryRenamedOntoFileInPair, ReportsSlotReadThenChangeOrSplit, id_after_slot_removal, rename_within_pair_changes, rename_onto_file_in_pair_changes, tree_with_renamed_entry};
+ghost use Rattle.lfs_operations.specs.Renaming.{CanRenameWithinPair, CanRenameOntoFileInPair, IsEntryRenamedInPair, IsEntryRenamedOntoFileInPair, ReportsErrorsOfReadThenChangeOrSplit, id_after_slot_removal, rename_within_pair_changes, rename_onto_file_in_pair_changes, tree_with_renamed_entry};
 ghost use Rattle.lfs_operations.specs.RenamingView.{slot_copy_view};
 ghost use Rattle.lfs_operations.specs.RenamingSlots.{slot_creation_changes};
 
-use crate::changes::put;
+use crate::changes::change_or_split_pair;
 use crate::slot_copies::{SlotCopy, copy_slot_of_pair, push_slot_creation_changes};
 use lfs_device::{BlockDevice, Error};
 use lfs_pair::Change;
@@ -18,14 +18,14 @@ use lfs_thread::Thread;
 use std::alloc::{AllocError, Global};
 
 // Returns a place among slots after the slot at an id was removed.
-pub(crate) fn place_without(id: u16, place: u16) -> u16
+pub(crate) fn slot_id_after_other_slot_removal(id: u16, place: u16) -> u16
     ensures { result ≡ id_after_slot_removal id place }
 {
     if id < place { place - 1 } else { place }
 }
 
 // Returns the changes that remove the slot at an id, and put in its copy at a place.
-fn changes_of<'a>(
+fn changes_renaming_slot_in_pair<'a>(
     alloc: Global,
     id: u16,
     place: u16,
@@ -36,7 +36,12 @@ fn changes_of<'a>(
 {
     let mut changes = Vec::new(alloc);
     changes.push(Change::Delete { id })?;
-    push_slot_creation_changes(&mut changes, place_without(id, place), name, copy)?;
+    push_slot_creation_changes(
+        &mut changes,
+        slot_id_after_other_slot_removal(id, place),
+        name,
+        copy,
+    )?;
     Ok(changes)
 }
 
@@ -61,20 +66,20 @@ pub fn rename<D: BlockDevice>(
     requires works { thread.old.failed ≡ false }
     requires can { CanRenameWithinPair thread.old.kept pair id place name.now }
     ensures renamed { OnOk result ((rename : CanRenameWithinPair thread.old.kept pair id place name.now) → IsEntryRenamedInPair thread.old.kept thread.new.kept rename.can.path rename.can.name name.now) }
-    ensures errors { ReportsSlotReadThenChangeOrSplit thread.old thread.new pair (rename_within_pair_changes thread.old.kept pair id place name.now) result }
+    ensures errors { ReportsErrorsOfReadThenChangeOrSplit thread.old thread.new pair (rename_within_pair_changes thread.old.kept pair id place name.now) result }
     ensures device { WritesPairAndTwoFreeBlocks thread.old.kept pair thread.new.kept }
-    ensures survives { (rename : CanRenameWithinPair thread.old.kept pair id place name.now) → SurvivesStopsSince thread.old.kept.disk thread.old.kept.history thread.new.kept.history
+    ensures survives { (rename : CanRenameWithinPair thread.old.kept pair id place name.now) → SurvivesPowerLossInCallsSince thread.old.kept.disk thread.old.kept.history thread.new.kept.history
         (tree_on_disk thread.old.kept.disk thread.old.kept.pairs) (tree_with_renamed_entry thread.old.kept rename.can.path rename.can.name name.now) }
 {
     let copy = copy_slot_of_pair(alloc, thread, pair, id)?;
-    let changes = changes_of(alloc, id, place, name, &copy)?;
-    put(alloc, thread, pair, &changes)?;
+    let changes = changes_renaming_slot_in_pair(alloc, id, place, name, &copy)?;
+    change_or_split_pair(alloc, thread, pair, &changes)?;
     Ok(())
 }
 
 // Returns the changes that remove the slots at an id and a place, and put in a copy of the first at
 // the place.
-fn changes_onto<'a>(
+fn changes_renaming_slot_onto_file<'a>(
     alloc: Global,
     id: u16,
     place: u16,
@@ -83,7 +88,7 @@ fn changes_onto<'a>(
 ) -> Result<Vec<Change<'a>>, AllocError>
     ensures { IfOk result (λ changes. changes_view changes.items ≡ Delete id ∷ Delete (id_after_slot_removal id place) ∷ slot_creation_changes (id_after_slot_removal id place) name.now (slot_copy_view copy.now)) }
 {
-    let place = place_without(id, place);
+    let place = slot_id_after_other_slot_removal(id, place);
     let mut changes = Vec::new(alloc);
     changes.push(Change::Delete { id })?;
     changes.push(Change::Delete { id: place })?;
@@ -109,13 +114,13 @@ pub fn rename_onto_file<D: BlockDevice>(
     requires can { CanRenameOntoFileInPair thread.old.kept pair id place name.now }
     ensures renamed { OnOk result ((rename : CanRenameOntoFileInPair thread.old.kept pair id place name.now)
         → IsEntryRenamedOntoFileInPair thread.old.kept thread.new.kept rename.can.path rename.can.name name.now rename.target.stands.slot.struct) }
-    ensures errors { ReportsSlotReadThenChangeOrSplit thread.old thread.new pair (rename_onto_file_in_pair_changes thread.old.kept pair id place name.now) result }
+    ensures errors { ReportsErrorsOfReadThenChangeOrSplit thread.old thread.new pair (rename_onto_file_in_pair_changes thread.old.kept pair id place name.now) result }
     ensures device { WritesPairAndTwoFreeBlocks thread.old.kept pair thread.new.kept }
-    ensures survives { (rename : CanRenameOntoFileInPair thread.old.kept pair id place name.now) → SurvivesStopsSince thread.old.kept.disk thread.old.kept.history thread.new.kept.history
+    ensures survives { (rename : CanRenameOntoFileInPair thread.old.kept pair id place name.now) → SurvivesPowerLossInCallsSince thread.old.kept.disk thread.old.kept.history thread.new.kept.history
         (tree_on_disk thread.old.kept.disk thread.old.kept.pairs) (tree_with_renamed_entry thread.old.kept rename.can.path rename.can.name name.now) }
 {
     let copy = copy_slot_of_pair(alloc, thread, pair, id)?;
-    let changes = changes_onto(alloc, id, place, name, &copy)?;
-    put(alloc, thread, pair, &changes)?;
+    let changes = changes_renaming_slot_onto_file(alloc, id, place, name, &copy)?;
+    change_or_split_pair(alloc, thread, pair, &changes)?;
     Ok(())
 }

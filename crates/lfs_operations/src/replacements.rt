@@ -2,26 +2,26 @@
 
 ghost use Rattle.std.specs.Prelude.{◌≡◌, ◌-◌, ◌∷◌, IfOk, OnOk, false};
 ghost use Rattle.lfs_model.specs.Changes.{Delete, PutMove};
-ghost use Rattle.lfs_model.specs.PowerLoss.{SurvivesStopsSince};
+ghost use Rattle.lfs_model.specs.PowerLoss.{SurvivesPowerLossInCallsSince};
 ghost use Rattle.lfs_model.specs.Shown.{tree_on_disk};
 ghost use Rattle.lfs_tag.specs.FieldsView.{move_view};
 ghost use Rattle.lfs_pair.specs.ChangeView.{changes_view};
-ghost use Rattle.lfs_thread.specs.Device.{blocks_of_two_addresses, blocks_of_address};
-ghost use Rattle.lfs_thread.specs.Steps.{ThreadChangesOnlyTheseBlocks, kept_pair_at_index};
+ghost use Rattle.lfs_thread.specs.Device.{blocks_of_two_pair_addresses, blocks_of_pair_address};
+ghost use Rattle.lfs_thread.specs.Steps.{ThreadChangesOnlyTheseBlocks, thread_pair_at_index};
 ghost use Rattle.lfs_operations.specs.Altering.{ChangesOnlyGivenAlteredOrFreeBlocks};
 ghost use Rattle.lfs_operations.specs.Renaming.{id_after_slot_removal, tree_with_renamed_entry};
-ghost use Rattle.lfs_operations.specs.RenamingOver.{CanRenameOntoDirectoryInPair, CanReplaceDirectoryInPair, IsEntryRenamedOntoDirectory, IsDirectoryReplacedInPair, ReportsSlotReadThenCommit, ReportsSlotReadThenCommits};
+ghost use Rattle.lfs_operations.specs.RenamingOver.{CanRenameOntoDirectoryInPair, CanReplaceDirectoryInPair, IsEntryRenamedOntoDirectory, IsDirectoryReplacedInPair, ReportsErrorsOfReadThenCommit, ReportsErrorsOfReadThenCommits};
 ghost use Rattle.lfs_operations.specs.RenamingView.{slot_copy_view};
 ghost use Rattle.lfs_operations.specs.RenamingSlots.{slot_creation_changes};
 
 use crate::directory_removals::delta_of_sync_bit;
-use crate::drops::drop_at;
-use crate::renames::place_without;
+use crate::drops::drop_pair_at;
+use crate::renames::slot_id_after_other_slot_removal;
 use crate::slot_copies::{SlotCopy, copy_slot_of_pair, push_slot_creation_changes};
 use lfs_device::{BlockDevice, Error};
 use lfs_pair::Change;
 use lfs_tag::MoveState;
-use lfs_thread::{Thread, with_delta};
+use lfs_thread::{Thread, gstate_xor_delta};
 use std::alloc::{AllocError, Global};
 
 // Returns the changes that set a delta, remove the slots at an id and a place, and put in a copy of
@@ -36,7 +36,7 @@ fn changes_replacing_directory<'a>(
 ) -> Result<Vec<Change<'a>>, AllocError>
     ensures { IfOk result (λ changes. changes_view changes.items ≡ PutMove (move_view state) ∷ Delete id ∷ Delete (id_after_slot_removal id place) ∷ slot_creation_changes (id_after_slot_removal id place) name.now (slot_copy_view copy.now)) }
 {
-    let place = place_without(id, place);
+    let place = slot_id_after_other_slot_removal(id, place);
     let mut changes = Vec::new(alloc);
     changes.push(Change::Move { state })?;
     changes.push(Change::Delete { id })?;
@@ -63,17 +63,17 @@ pub(crate) fn rename_over_directory_in_pair<D: BlockDevice>(
     requires works { thread.old.failed ≡ false }
     requires can { CanReplaceDirectoryInPair thread.old.kept pair id place name.now }
     ensures renamed { OnOk result ((rename : CanReplaceDirectoryInPair thread.old.kept pair id place name.now) → IsDirectoryReplacedInPair thread.old.kept thread.new.kept pair id place rename.can.path rename.can.name name.now) }
-    ensures errors { ReportsSlotReadThenCommit thread.old thread.new result }
-    ensures device { ThreadChangesOnlyTheseBlocks (blocks_of_address (kept_pair_at_index thread.old.kept pair).at) thread.old.kept thread.new.kept }
-    ensures survives { (rename : CanReplaceDirectoryInPair thread.old.kept pair id place name.now) → SurvivesStopsSince thread.old.kept.disk thread.old.kept.history thread.new.kept.history
+    ensures errors { ReportsErrorsOfReadThenCommit thread.old thread.new result }
+    ensures device { ThreadChangesOnlyTheseBlocks (blocks_of_pair_address (thread_pair_at_index thread.old.kept pair).at) thread.old.kept thread.new.kept }
+    ensures survives { (rename : CanReplaceDirectoryInPair thread.old.kept pair id place name.now) → SurvivesPowerLossInCallsSince thread.old.kept.disk thread.old.kept.history thread.new.kept.history
         (tree_on_disk thread.old.kept.disk thread.old.kept.pairs) (tree_with_renamed_entry thread.old.kept rename.can.path rename.can.name name.now) }
 {
     let copy = copy_slot_of_pair(alloc, thread, pair, id)?;
-    let state = with_delta(&thread.delta(pair), &delta_of_sync_bit());
+    let state = gstate_xor_delta(&thread.delta(pair), &delta_of_sync_bit());
     let changes = changes_replacing_directory(alloc, state, id, place, name, &copy)?;
     // Two slots are replaced by one, with the name of the one and the rest of the other. So the
     // commit is never refused.
-    thread.change(alloc, pair, &changes)?;
+    thread.commit_pair_changes(alloc, pair, &changes)?;
     Ok(())
 }
 
@@ -100,13 +100,13 @@ pub fn rename_onto_directory<D: BlockDevice>(
     requires can { CanRenameOntoDirectoryInPair thread.old.kept pair id place name.now gone }
     ensures renamed { OnOk result ((rename : CanRenameOntoDirectoryInPair thread.old.kept pair id place name.now gone)
         → IsEntryRenamedOntoDirectory thread.old.kept thread.new.kept rename.over.can.path rename.over.can.name name.now) }
-    ensures alters { OnOk result (ChangesOnlyGivenAlteredOrFreeBlocks thread.old.kept (blocks_of_address (kept_pair_at_index thread.old.kept pair).at) thread.new.kept) }
-    ensures errors { ReportsSlotReadThenCommits thread.old thread.new result }
-    ensures device { ThreadChangesOnlyTheseBlocks (blocks_of_two_addresses (kept_pair_at_index thread.old.kept pair).at (kept_pair_at_index thread.old.kept (gone - 1)).at) thread.old.kept thread.new.kept }
-    ensures survives { (rename : CanRenameOntoDirectoryInPair thread.old.kept pair id place name.now gone) → SurvivesStopsSince thread.old.kept.disk thread.old.kept.history thread.new.kept.history
+    ensures alters { OnOk result (ChangesOnlyGivenAlteredOrFreeBlocks thread.old.kept (blocks_of_pair_address (thread_pair_at_index thread.old.kept pair).at) thread.new.kept) }
+    ensures errors { ReportsErrorsOfReadThenCommits thread.old thread.new result }
+    ensures device { ThreadChangesOnlyTheseBlocks (blocks_of_two_pair_addresses (thread_pair_at_index thread.old.kept pair).at (thread_pair_at_index thread.old.kept (gone - 1)).at) thread.old.kept thread.new.kept }
+    ensures survives { (rename : CanRenameOntoDirectoryInPair thread.old.kept pair id place name.now gone) → SurvivesPowerLossInCallsSince thread.old.kept.disk thread.old.kept.history thread.new.kept.history
         (tree_on_disk thread.old.kept.disk thread.old.kept.pairs) (tree_with_renamed_entry thread.old.kept rename.over.can.path rename.over.can.name name.now) }
 {
     rename_over_directory_in_pair(alloc, thread, pair, id, place, name)?;
-    drop_at(alloc, thread, gone, &MoveState::none())?;
+    drop_pair_at(alloc, thread, gone, &MoveState::none())?;
     Ok(())
 }

@@ -1,26 +1,26 @@
 // Copies of slots, which are written elsewhere.
 
 ghost use Rattle.std.specs.Prelude.{◌≡◌, ◌<◌, ◌++◌, Some, IfErr, IfOk, IsSome, OnOk, false, length, map};
-ghost use Rattle.lfs_model.specs.Changes.{ContentChange as ModelChange};
-ghost use Rattle.lfs_model.specs.Content.{RawContent, content_after_log_entries, empty_raw_content, slot_of_id};
+ghost use Rattle.lfs_model.specs.Changes.{PairContentChange as ModelChange};
+ghost use Rattle.lfs_model.specs.Content.{RawPairContent, content_after_log_entries, empty_raw_pair_content, slot_of_id};
 ghost use Rattle.lfs_model.specs.Log.{log_entries_of_block};
-ghost use Rattle.lfs_model.specs.Slots.{Content as ModelContent};
+ghost use Rattle.lfs_model.specs.Slots.{PairContent as ModelContent};
 ghost use Rattle.lfs_pair.specs.ChangeView.{changes_view};
-ghost use Rattle.lfs_tag.specs.ContentView.{attribute_view, part_view, slot_view};
+ghost use Rattle.lfs_tag.specs.ContentView.{attribute_view, name_or_struct_view, slot_view};
 ghost use Rattle.lfs_thread.specs.CachedLog.{IsLogBlockOfContent};
-ghost use Rattle.lfs_thread.specs.Steps.{HasReportedIoOrUnwrittenNoMemory, IsThreadOnlyRead, kept_pair_at_index};
+ghost use Rattle.lfs_thread.specs.Steps.{IoMeantFaultNoMemoryWroteNothing, IsThreadOnlyRead, thread_pair_at_index};
 ghost use Rattle.lfs_operations.specs.RenamingSlots.{HasSlotOfId, put_attribute_changes, nameless_slot_at, nameless_slot_of, slot_creation_changes};
-ghost use Rattle.lfs_operations.specs.RenamingView.{attribute_copy_view, slot_copy_view, part_copy_view};
+ghost use Rattle.lfs_operations.specs.RenamingView.{attribute_copy_view, slot_copy_view, struct_copy_view};
 
 use lfs_device::{BlockDevice, Error};
 use lfs_pair::Change;
-use lfs_tag::{Attribute, Content, Log, Part, Slot};
+use lfs_tag::{Attribute, Content, Log, NameOrStruct, Slot};
 use lfs_thread::Thread;
 use std::alloc::{AllocError, Global};
 
 // The type and the bytes of a struct.
 #[derive(Drop)]
-pub(crate) struct PartCopy {
+pub(crate) struct StructCopy {
     kind: u16,
     bytes: Vec<u8>,
 }
@@ -36,15 +36,18 @@ pub(crate) struct AttributeCopy {
 #[derive(Drop)]
 pub(crate) struct SlotCopy {
     name_kind: u16,
-    structure: PartCopy,
+    structure: StructCopy,
     attributes: Vec<AttributeCopy>,
 }
 
-fn copy_part(alloc: Global, part: &Part<'_>) -> Result<PartCopy, AllocError>
-    ensures { IfOk result (λ copy. part_copy_view copy ≡ part_view part.now) }
+fn copy_struct_type_and_bytes(
+    alloc: Global,
+    part: &NameOrStruct<'_>,
+) -> Result<StructCopy, AllocError>
+    ensures { IfOk result (λ copy. struct_copy_view copy ≡ name_or_struct_view part.now) }
 {
     let bytes = Vec::from_slice(alloc, part.bytes)?;
-    Ok(PartCopy {
+    Ok(StructCopy {
         kind: part.kind,
         bytes,
     })
@@ -80,7 +83,7 @@ fn copy_slot(alloc: Global, slot: &Slot<'_>) -> Result<SlotCopy, AllocError>
     ensures { IfOk result (λ copy. slot_copy_view copy ≡ nameless_slot_of (slot_view slot.now)) }
 {
     let name_kind = slot.name.unwrap().kind;
-    let structure = copy_part(alloc, &slot.structure.unwrap())?;
+    let structure = copy_struct_type_and_bytes(alloc, &slot.structure.unwrap())?;
     let attributes = copy_attributes(alloc, &slot.attributes)?;
     Ok(SlotCopy {
         name_kind,
@@ -92,7 +95,7 @@ fn copy_slot(alloc: Global, slot: &Slot<'_>) -> Result<SlotCopy, AllocError>
 // Copies the slot at an id of a log.
 fn copy_slot_of_log(alloc: Global, log: &Log<'_>, id: u16) -> Result<SlotCopy, Error>
     requires { (content : ModelContent) × (IsLogBlockOfContent log.now content × (id < length content.slots)) }
-    ensures copied { (raw : RawContent) → content_after_log_entries empty_raw_content (log_entries_of_block log.now) ≡ Some raw → IfOk result (λ copy. slot_copy_view copy ≡ nameless_slot_of (slot_of_id raw.slots id)) }
+    ensures copied { (raw : RawPairContent) → content_after_log_entries empty_raw_pair_content (log_entries_of_block log.now) ≡ Some raw → IfOk result (λ copy. slot_copy_view copy ≡ nameless_slot_of (slot_of_id raw.slots id)) }
     ensures errors { IfErr result (λ e. e ≡ Error.NoMemory) }
 {
     let content = Content::read(alloc, log)?;
@@ -112,7 +115,7 @@ pub(crate) fn copy_slot_of_pair<D: BlockDevice>(
     ensures copied { IfOk result (λ copy. slot_copy_view copy ≡ nameless_slot_at thread.old.kept pair id) }
     ensures only { IsThreadOnlyRead thread.old.kept thread.new.kept }
     ensures works { thread.new.failed ≡ false }
-    ensures errors { HasReportedIoOrUnwrittenNoMemory thread.old.kept thread.new.kept result }
+    ensures errors { IoMeantFaultNoMemoryWroteNothing thread.old.kept thread.new.kept result }
 {
     thread.load_pair(pair)?;
     let copy = copy_slot_of_log(alloc, &thread.lend(pair).unwrap(), id)?;

@@ -4,8 +4,8 @@ use Rattle.std.specs.List.{list_all}
 use Rattle.std.proofs.lemmas.Bool.{and_parts}
 use Rattle.std.proofs.lemmas.List.{append-nil}
 use Rattle.std.proofs.lemmas.List.Concat.{flat_map-append}
-use Rattle.lfs_model.specs.Content.{RawContent, content_after_log_entries}
-use Rattle.lfs_model.specs.Changes.{ContentChange, log_entries_of_change, log_entries_of_changes}
+use Rattle.lfs_model.specs.Content.{RawPairContent, content_after_log_entries}
+use Rattle.lfs_model.specs.Changes.{PairContentChange, log_entries_of_change, log_entries_of_changes}
 use Rattle.lfs_model.proofs.WrittenAnew.{then, content_after_log_entries-append}
 use Rattle.lfs_tag.specs.declared.content.ContentError.{ContentError}
 use Rattle.lfs_tag.specs.declared.content.ContentError.TheVariants.{Malformed, NoMemory}
@@ -32,14 +32,14 @@ mapped_split f (x ∷ xs) (suc i) d l =
     let more : suc i + 1 ≡ suc (i + 1) = omega arith in rw more (ap (λ ys. f x ∷ ys) (mapped_split f xs i d (omega arith)))
 
 -- one change more
-pub one_more : (c mid new : RawContent) (front : List ContentChange) (change : ContentChange) → content_after_log_entries c (log_entries_of_changes front) ≡ Some mid → content_after_log_entries mid (log_entries_of_change change) ≡ Some new
+pub one_more : (c mid new : RawPairContent) (front : List PairContentChange) (change : PairContentChange) → content_after_log_entries c (log_entries_of_changes front) ≡ Some mid → content_after_log_entries mid (log_entries_of_change change) ≡ Some new
     → content_after_log_entries c (log_entries_of_changes (front ++ change ∷ [])) ≡ Some new
 one_more c mid new front change so_far here =
     ap (content_after_log_entries c) (flat_map-append log_entries_of_change front (change ∷ []) ∙ ap (λ z. log_entries_of_changes front ++ z) (append-nil (log_entries_of_change change)))
     ∙ then c mid (log_entries_of_changes front) (log_entries_of_change change) (Some new) so_far here
 
 -- a change that fails makes all fail
-pub one_fails : (c mid : RawContent) (front : List ContentChange) (change : ContentChange) (others : List ContentChange) → content_after_log_entries c (log_entries_of_changes front) ≡ Some mid → content_after_log_entries mid (log_entries_of_change change) ≡ None
+pub one_fails : (c mid : RawPairContent) (front : List PairContentChange) (change : PairContentChange) (others : List PairContentChange) → content_after_log_entries c (log_entries_of_changes front) ≡ Some mid → content_after_log_entries mid (log_entries_of_change change) ≡ None
     → content_after_log_entries c (log_entries_of_changes (front ++ change ∷ others)) ≡ None
 one_fails c mid front change others so_far here =
     ap (content_after_log_entries c) (flat_map-append log_entries_of_change front (change ∷ others))

@@ -6,7 +6,7 @@ use Rattle.std.proofs.lemmas.List.Sums.{sum_by-cons, sum_by-take-drop, sum_by-ta
 use Rattle.lfs_model.specs.Disk.{pair_capacity, slots_per_pair_limit}
 use Rattle.lfs_model.specs.Content.{RawSlot}
 use Rattle.lfs_model.specs.WrittenContent.{raw_slot_size}
-use Rattle.lfs_pair.specs.Cut.{FitSlots, IsCutOfSlots, CanBeCut, IsMiddleCutOfSlots}
+use Rattle.lfs_pair.specs.Cut.{AreSlotsFittingPair, IsFittingSplitOfSlots, CanSplitSlotsIntoTwoPairs, IsCutIndexNearHalfOfSlotBytes}
 
 -- a longer front is no smaller
 front_grows : {X : Type 0} (f : X → ℕ) (xs : List X) (a b : ℕ) → a ≤ b → sum_by f (take a xs) ≤ sum_by f (take b xs)
@@ -16,11 +16,11 @@ front_grows f (x ∷ xs) (suc a) zero l = absurd (omega arith)
 front_grows f (x ∷ xs) (suc a) (suc b) l = omega (arith, front_grows f xs a b (omega arith), sum_by-cons f x (take a xs), sum_by-cons f x (take b xs))
 
 -- what is cut fits two pairs
-total_small : (block_size page : ℕ) (slots : List RawSlot) → CanBeCut block_size page slots → sum_by raw_slot_size slots ≤ 2 * pair_capacity block_size page
+total_small : (block_size page : ℕ) (slots : List RawSlot) → CanSplitSlotsIntoTwoPairs block_size page slots → sum_by raw_slot_size slots ≤ 2 * pair_capacity block_size page
 total_small block_size page slots can = omega (arith, sum_by-take-drop raw_slot_size slots can.cut, can.is_cut.front.size, can.is_cut.back.size)
 
 -- behind a longer front the back fits too
-cut_after : (block_size page : ℕ) (slots : List RawSlot) (first cut : ℕ) → IsCutOfSlots block_size page slots first → first ≤ cut → cut ≤ length slots → FitSlots block_size page (take cut slots) → IsCutOfSlots block_size page slots cut
+cut_after : (block_size page : ℕ) (slots : List RawSlot) (first cut : ℕ) → IsFittingSplitOfSlots block_size page slots first → first ≤ cut → cut ≤ length slots → AreSlotsFittingPair block_size page (take cut slots) → IsFittingSplitOfSlots block_size page slots cut
 cut_after block_size page slots first cut is before within fits =
     let less = front_grows raw_slot_size slots first cut before in
     record {
@@ -33,7 +33,7 @@ cut_after block_size page slots first cut is before within fits =
     }
 
 -- where a longer front doesn't fit, no cut is later
-not_later : (block_size page : ℕ) (slots : List RawSlot) (cut k : ℕ) → (cut + 1 ≤ slots_per_pair_limit → sum_by raw_slot_size (take (cut + 1) slots) ≤ pair_capacity block_size page → ⊥) → IsCutOfSlots block_size page slots k → k ≤ cut
+not_later : (block_size page : ℕ) (slots : List RawSlot) (cut k : ℕ) → (cut + 1 ≤ slots_per_pair_limit → sum_by raw_slot_size (take (cut + 1) slots) ≤ pair_capacity block_size page → ⊥) → IsFittingSplitOfSlots block_size page slots k → k ≤ cut
 not_later block_size page slots cut k full is = elim (cases_lt cut k) [
   | inl later ↦ absurd (full (omega (arith, length-take-le k slots is.within, is.front.count)) (omega (arith, front_grows raw_slot_size slots (cut + 1) k (omega arith), is.front.size)))
   | inr le ↦ le
@@ -41,22 +41,22 @@ not_later block_size page slots cut k full is = elim (cases_lt cut k) [
 
 -- an earlier cut was passed over, since more may stand in front
 abbrev pub Passes : ℕ → ℕ → List RawSlot → ℕ → Type 0
-Passes block_size page slots cut = (k : ℕ) → k < cut → IsCutOfSlots block_size page slots k → 2 * sum_by raw_slot_size (take cut slots) ≤ sum_by raw_slot_size slots
+Passes block_size page slots cut = (k : ℕ) → k < cut → IsFittingSplitOfSlots block_size page slots k → 2 * sum_by raw_slot_size (take cut slots) ≤ sum_by raw_slot_size slots
 
 -- the slots that may stand in front before the cut
 pub record Fronts (block_size page : ℕ) (slots : List RawSlot) (cut : ℕ) : Type 0 where
-  pub fits : FitSlots block_size page (take cut slots)
+  pub fits : AreSlotsFittingPair block_size page (take cut slots)
   pub passes : Passes block_size page slots cut
 
 pub nothing_in_front : (block_size page : ℕ) (slots : List RawSlot) → Fronts block_size page slots 0
 nothing_in_front block_size page slots = record { fits = record { size = omega arith; count = omega arith }; passes = λ k l is. absurd (omega arith) }
 
 -- at the end all stand in front
-pub cut_at_end : (block_size page : ℕ) (slots : List RawSlot) (cut : ℕ) → cut ≡ length slots → Fronts block_size page slots cut → IsMiddleCutOfSlots block_size page slots cut
+pub cut_at_end : (block_size page : ℕ) (slots : List RawSlot) (cut : ℕ) → cut ≡ length slots → Fronts block_size page slots cut → IsCutIndexNearHalfOfSlotBytes block_size page slots cut
 cut_at_end block_size page slots cut is front =
     let none : drop cut slots ≡ [] = drop_of_length-le slots (omega arith) in
     record {
-      is_cut = record { within = omega arith; front = front.fits; back = subst (FitSlots block_size page) (sym none) (record { size = omega arith; count = omega arith }) };
+      is_cut = record { within = omega arith; front = front.fits; back = subst (AreSlotsFittingPair block_size page) (sym none) (record { size = omega arith; count = omega arith }) };
       later = λ k l other. absurd (omega (arith, other.within));
       earlier = front.passes;
     }
@@ -64,7 +64,7 @@ cut_at_end block_size page slots cut is front =
 -- the back fits, and one slot more in front is past the middle
 pub cut_where_fits : (block_size page : ℕ) (slots : List RawSlot) (cut : ℕ) → cut ≤ length slots → Fronts block_size page slots cut
     → sum_by raw_slot_size slots - sum_by raw_slot_size (take cut slots) ≤ pair_capacity block_size page → length slots - cut ≤ slots_per_pair_limit
-    → sum_by raw_slot_size slots < 2 * sum_by raw_slot_size (take (cut + 1) slots) → IsMiddleCutOfSlots block_size page slots cut
+    → sum_by raw_slot_size slots < 2 * sum_by raw_slot_size (take (cut + 1) slots) → IsCutIndexNearHalfOfSlotBytes block_size page slots cut
 cut_where_fits block_size page slots cut within front size count past =
     record {
       is_cut = record {
@@ -77,8 +77,8 @@ cut_where_fits block_size page slots cut within front size count past =
     }
 
 -- the next slot doesn't fit in front
-pub cut_where_full : (block_size page : ℕ) (slots : List RawSlot) (cut : ℕ) → cut < length slots → Fronts block_size page slots cut → CanBeCut block_size page slots
-    → (cut + 1 ≤ slots_per_pair_limit → sum_by raw_slot_size (take (cut + 1) slots) ≤ pair_capacity block_size page → ⊥) → IsMiddleCutOfSlots block_size page slots cut
+pub cut_where_full : (block_size page : ℕ) (slots : List RawSlot) (cut : ℕ) → cut < length slots → Fronts block_size page slots cut → CanSplitSlotsIntoTwoPairs block_size page slots
+    → (cut + 1 ≤ slots_per_pair_limit → sum_by raw_slot_size (take (cut + 1) slots) ≤ pair_capacity block_size page → ⊥) → IsCutIndexNearHalfOfSlotBytes block_size page slots cut
 cut_where_full block_size page slots cut within front can full =
     record {
       is_cut = cut_after block_size page slots can.cut cut can.is_cut (not_later block_size page slots cut can.cut full can.is_cut) (omega arith) front.fits;
@@ -90,7 +90,7 @@ cut_where_full block_size page slots cut within front can full =
 pub passes_where_small : (block_size page : ℕ) (slots : List RawSlot) (cut : ℕ) → 2 * sum_by raw_slot_size (take (cut + 1) slots) ≤ sum_by raw_slot_size slots → Passes block_size page slots (cut + 1)
 passes_where_small block_size page slots cut small = λ k l is. small
 
-pub passes_where_back : (block_size page : ℕ) (slots : List RawSlot) (cut : ℕ) → cut ≤ length slots → FitSlots block_size page (take cut slots)
+pub passes_where_back : (block_size page : ℕ) (slots : List RawSlot) (cut : ℕ) → cut ≤ length slots → AreSlotsFittingPair block_size page (take cut slots)
     → (length slots - cut ≤ slots_per_pair_limit → sum_by raw_slot_size slots - sum_by raw_slot_size (take cut slots) ≤ pair_capacity block_size page → ⊥) → Passes block_size page slots (cut + 1)
 passes_where_back block_size page slots cut within fits back = λ k l is.
     let here = cut_after block_size page slots k cut is (omega arith) within fits in
@@ -107,7 +107,7 @@ front_more f g (y ∷ xs) (suc i) x l at =
 
 -- ---- the numbers of the code
 
-pub total_is : (block_size page : ℕ) (slots : List RawSlot) (total : ℕ) → block_size < 2 ^ 32 → CanBeCut block_size page slots → total ≡ min (sum_by raw_slot_size slots) (2 ^ 64 - 1)
+pub total_is : (block_size page : ℕ) (slots : List RawSlot) (total : ℕ) → block_size < 2 ^ 32 → CanSplitSlotsIntoTwoPairs block_size page slots → total ≡ min (sum_by raw_slot_size slots) (2 ^ 64 - 1)
     → total ≡ sum_by raw_slot_size slots
 total_is block_size page slots total device can is = omega (arith, total_small block_size page slots can)
 
@@ -117,7 +117,7 @@ pub record Sums (block_size page : ℕ) (slots : List RawSlot) (i size : ℕ) : 
   pub longer : sum_by raw_slot_size (take i slots) + size ≡ sum_by raw_slot_size (take (i + 1) slots)
   pub within : sum_by raw_slot_size (take i slots) + size ≤ sum_by raw_slot_size slots
 
-pub sums_of : {X : Type 0} (g : X → RawSlot) (block_size page : ℕ) (xs : List X) (i : ℕ) (x : X) (size : ℕ) → block_size < 2 ^ 32 → CanBeCut block_size page (map g xs) → i < length xs → x ≡ get_or xs i x
+pub sums_of : {X : Type 0} (g : X → RawSlot) (block_size page : ℕ) (xs : List X) (i : ℕ) (x : X) (size : ℕ) → block_size < 2 ^ 32 → CanSplitSlotsIntoTwoPairs block_size page (map g xs) → i < length xs → x ≡ get_or xs i x
     → size ≡ min (raw_slot_size (g x)) (2 ^ 64 - 1) → Sums block_size page (map g xs) i size
 sums_of g block_size page xs i x size device can l at is =
     let small = total_small block_size page (map g xs) can in
@@ -127,5 +127,5 @@ sums_of g block_size page xs i x size device can l at is =
     record { small = omega arith; longer = omega arith; within = omega arith }
 
 pub fits_more : {X : Type 0} (g : X → RawSlot) (block_size page : ℕ) (xs : List X) (i : ℕ) → i < length xs → i + 1 ≤ slots_per_pair_limit → sum_by raw_slot_size (take (i + 1) (map g xs)) ≤ pair_capacity block_size page
-    → FitSlots block_size page (take (i + 1) (map g xs))
+    → AreSlotsFittingPair block_size page (take (i + 1) (map g xs))
 fits_more g block_size page xs i l count within = record { size = within; count = omega (arith, length-take-le (i + 1) (map g xs) (omega (arith, length-map xs g))) }

@@ -3,12 +3,12 @@ use Rattle.std.proofs.Common.{ℕ, ◌≡◌, Bool, true, false, cond, not, ◌&
 use Rattle.std.specs.Prelude.{IfErr, IfOk, Result}
 use Rattle.std.specs.Option.{option_and_then}
 use Rattle.lfs_device.specs.declared.error.Error.{Error}
-use Rattle.lfs_model.specs.Content.{RawContent, has_commit, is_later_revision, current_block_of_pair_at, content_after_log_entries, empty_raw_content, raw_content_of_pair_at}
+use Rattle.lfs_model.specs.Content.{RawPairContent, has_commit, is_later_revision, current_block_of_pair_at, content_after_log_entries, empty_raw_pair_content, raw_content_of_pair_at}
 use Rattle.lfs_model.specs.Disk.{Disk, block_bytes_on_disk}
-use Rattle.lfs_model.specs.History.{CallEvent}
+use Rattle.lfs_model.specs.History.{DeviceCallEvent}
 use Rattle.lfs_model.specs.Log.{log_entries_of_block, revision_of_block}
 use Rattle.lfs_model.specs.Slots.{pair_address_of_array}
-use Rattle.lfs_pair.specs.Pair.{HeaderDescribesLog, FetchFindsPair, active_block_at, fetch_reads, later_block_first, is_second_block_active}
+use Rattle.lfs_pair.specs.Pair.{HeaderDescribesLog, FetchFindsPair, active_block_at, read_count_of_pair_fetch, pair_blocks_later_revision_first, is_second_block_active}
 use Rattle.lfs_pair.specs.declared.pair.Pair.{Pair}
 
 -- that block of the pair is the one that holds
@@ -16,7 +16,7 @@ pub record HoldsAt (disk : Disk) (at : ℕ × ℕ) (block : ℕ) : Type 0 where
   pub active : block ≡ active_block_at disk at
   pub holds : current_block_of_pair_at disk at ≡ Some (block_bytes_on_disk disk block)
 
-pub later_holds : (disk : Disk) (at order : ℕ × ℕ) → order ≡ later_block_first disk at → has_commit (block_bytes_on_disk disk order.0) ≡ true → HoldsAt disk at order.0
+pub later_holds : (disk : Disk) (at order : ℕ × ℕ) → order ≡ pair_blocks_later_revision_first disk at → has_commit (block_bytes_on_disk disk order.0) ≡ true → HoldsAt disk at order.0
 later_holds disk at order is has = subst (λ (o : ℕ × ℕ). HoldsAt disk at o.0) (sym is) (go (has_commit (block_bytes_on_disk disk at.0)) (has_commit (block_bytes_on_disk disk at.1)) (is_later_revision (revision_of_block (block_bytes_on_disk disk at.0)) (revision_of_block (block_bytes_on_disk disk at.1))) refl refl refl (sym (ap (λ (o : ℕ × ℕ). has_commit (block_bytes_on_disk disk o.0)) is) ∙ has))
   where
     go : (ca cb later : Bool) → has_commit (block_bytes_on_disk disk at.0) ≡ ca → has_commit (block_bytes_on_disk disk at.1) ≡ cb → is_later_revision (revision_of_block (block_bytes_on_disk disk at.0)) (revision_of_block (block_bytes_on_disk disk at.1)) ≡ later
@@ -29,7 +29,7 @@ later_holds disk at order is has = subst (λ (o : ℕ × ℕ). HoldsAt disk at o
     go false cb false e f l h = absurd (let k = sym e ∙ h in cc)
     go false false true e f l h = absurd (let k = sym f ∙ h in cc)
 
-pub other_holds : (disk : Disk) (at order : ℕ × ℕ) → order ≡ later_block_first disk at → has_commit (block_bytes_on_disk disk order.0) ≡ false → has_commit (block_bytes_on_disk disk order.1) ≡ true → HoldsAt disk at order.1
+pub other_holds : (disk : Disk) (at order : ℕ × ℕ) → order ≡ pair_blocks_later_revision_first disk at → has_commit (block_bytes_on_disk disk order.0) ≡ false → has_commit (block_bytes_on_disk disk order.1) ≡ true → HoldsAt disk at order.1
 other_holds disk at order is none has = subst (λ (o : ℕ × ℕ). HoldsAt disk at o.1) (sym is) (go (has_commit (block_bytes_on_disk disk at.0)) (has_commit (block_bytes_on_disk disk at.1)) (is_later_revision (revision_of_block (block_bytes_on_disk disk at.0)) (revision_of_block (block_bytes_on_disk disk at.1))) refl refl refl
     (sym (ap (λ (o : ℕ × ℕ). has_commit (block_bytes_on_disk disk o.0)) is) ∙ none) (sym (ap (λ (o : ℕ × ℕ). has_commit (block_bytes_on_disk disk o.1)) is) ∙ has))
   where
@@ -43,7 +43,7 @@ other_holds disk at order is none has = subst (λ (o : ℕ × ℕ). HoldsAt disk
     go false false false e f l n h = absurd (let k = sym f ∙ h in cc)
 
 -- where neither block has a commit there is no content
-pub none_holds : (disk : Disk) (at order : ℕ × ℕ) → order ≡ later_block_first disk at → has_commit (block_bytes_on_disk disk order.0) ≡ false → has_commit (block_bytes_on_disk disk order.1) ≡ false → raw_content_of_pair_at disk at ≡ None
+pub none_holds : (disk : Disk) (at order : ℕ × ℕ) → order ≡ pair_blocks_later_revision_first disk at → has_commit (block_bytes_on_disk disk order.0) ≡ false → has_commit (block_bytes_on_disk disk order.1) ≡ false → raw_content_of_pair_at disk at ≡ None
 none_holds disk at order is first second = go (is_later_revision (revision_of_block (block_bytes_on_disk disk at.0)) (revision_of_block (block_bytes_on_disk disk at.1)))
     (sym (ap (λ (o : ℕ × ℕ). has_commit (block_bytes_on_disk disk o.0)) is) ∙ first) (sym (ap (λ (o : ℕ × ℕ). has_commit (block_bytes_on_disk disk o.1)) is) ∙ second)
   where
@@ -52,12 +52,12 @@ none_holds disk at order is first second = go (is_later_revision (revision_of_bl
     go false e f = rw (e, f) refl
 
 -- what a pair holds, by the block that holds
-pub content_held : (disk : Disk) (at : ℕ × ℕ) (block : ℕ) → HoldsAt disk at block → raw_content_of_pair_at disk at ≡ content_after_log_entries empty_raw_content (log_entries_of_block (block_bytes_on_disk disk block))
-content_held disk at block h = ap (option_and_then (λ b. content_after_log_entries empty_raw_content (log_entries_of_block b))) h.holds
+pub content_held : (disk : Disk) (at : ℕ × ℕ) (block : ℕ) → HoldsAt disk at block → raw_content_of_pair_at disk at ≡ content_after_log_entries empty_raw_pair_content (log_entries_of_block (block_bytes_on_disk disk block))
+content_held disk at block h = ap (option_and_then (λ b. content_after_log_entries empty_raw_pair_content (log_entries_of_block b))) h.holds
 
 -- the header that was made of the block that holds
-pub fetches : (disk : Disk) (history : List CallEvent) (blocks : List ℕ) (bytes : List ℕ) (active : ℕ) (r : Result Pair Error) → HoldsAt disk (pair_address_of_array blocks) active → bytes ≡ block_bytes_on_disk disk active
-    → IfOk r (λ pair. (held : RawContent) × HeaderDescribesLog bytes pair held) → IfOk r (λ pair. pair.blocks ≡ blocks) → IfOk r (λ pair. pair.active ≡ active) → IfOk r (λ pair. pair.is_fetched ≡ true)
+pub fetches : (disk : Disk) (history : List DeviceCallEvent) (blocks : List ℕ) (bytes : List ℕ) (active : ℕ) (r : Result Pair Error) → HoldsAt disk (pair_address_of_array blocks) active → bytes ≡ block_bytes_on_disk disk active
+    → IfOk r (λ pair. (held : RawPairContent) × HeaderDescribesLog bytes pair held) → IfOk r (λ pair. pair.blocks ≡ blocks) → IfOk r (λ pair. pair.active ≡ active) → IfOk r (λ pair. pair.is_fetched ≡ true)
     → IfOk r (λ pair. FetchFindsPair disk history (pair_address_of_array blocks) pair)
 fetches disk history blocks bytes active (Err e) h same described at is fetched = tt
 fetches disk history blocks bytes active (Ok pair) h same described at is fetched =
@@ -74,6 +74,6 @@ fetches disk history blocks bytes active (Ok pair) h same described at is fetche
         unprogrammed = λ e. absurd (let k = sym fetched ∙ e in cc);
       };
       at = address;
-      content = content_held disk (pair_address_of_array blocks) active h ∙ ap (λ b. content_after_log_entries empty_raw_content (log_entries_of_block b)) (ap (block_bytes_on_disk disk) (sym is)) ∙ described_block.content;
+      content = content_held disk (pair_address_of_array blocks) active h ∙ ap (λ b. content_after_log_entries empty_raw_pair_content (log_entries_of_block b)) (ap (block_bytes_on_disk disk) (sym is)) ∙ described_block.content;
       fetched = fetched;
     }

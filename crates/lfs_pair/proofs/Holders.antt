@@ -4,7 +4,7 @@ use Rattle.std.specs.Option.{option_and_then}
 use Rattle.std.proofs.lemmas.Option.{same_Some}
 use Rattle.lfs_model.specs.Disk.{Disk, block_bytes_on_disk}
 use Rattle.lfs_model.specs.Log.{log_entries_of_block, revision_of_block}
-use Rattle.lfs_model.specs.Content.{has_commit, is_later_revision, current_block_of_two, current_block_of_pair_at, content_after_log_entries, empty_raw_content, raw_content_of_pair_at}
+use Rattle.lfs_model.specs.Content.{has_commit, is_later_revision, current_block_of_two, current_block_of_pair_at, content_after_log_entries, empty_raw_pair_content, raw_content_of_pair_at}
 use Rattle.lfs_pair.specs.Pair.{is_second_block_active}
 
 -- the block that holds, by which of the two it is
@@ -37,8 +37,8 @@ pub held_commit : (disk : Disk) (at : ℕ × ℕ) (active : ℕ) → current_blo
 held_commit disk at active holds = holder_has (block_bytes_on_disk disk at.0) (block_bytes_on_disk disk at.1) (block_bytes_on_disk disk active) holds
 
 -- a pair holds what the block that holds does
-pub raw_held : (disk : Disk) (at : ℕ × ℕ) (active : ℕ) → current_block_of_pair_at disk at ≡ Some (block_bytes_on_disk disk active) → raw_content_of_pair_at disk at ≡ content_after_log_entries empty_raw_content (log_entries_of_block (block_bytes_on_disk disk active))
-raw_held disk at active holds = ap (option_and_then (λ block. content_after_log_entries empty_raw_content (log_entries_of_block block))) holds
+pub raw_held : (disk : Disk) (at : ℕ × ℕ) (active : ℕ) → current_block_of_pair_at disk at ≡ Some (block_bytes_on_disk disk active) → raw_content_of_pair_at disk at ≡ content_after_log_entries empty_raw_pair_content (log_entries_of_block (block_bytes_on_disk disk active))
+raw_held disk at active holds = ap (option_and_then (λ block. content_after_log_entries empty_raw_pair_content (log_entries_of_block block))) holds
 
 -- ---- a commit behind others
 

@@ -5,28 +5,28 @@ use Rattle.std.proofs.lemmas.Bool.{cases_lt, ne_eqb}
 use Rattle.std.proofs.lemmas.List.{take_all}
 use Rattle.lfs_device.specs.Shown.{disk_of_geometry_and_blocks}
 use Rattle.lfs_device.specs.declared.geometry.Geometry.{Geometry}
-use Rattle.lfs_model.specs.Blocks.{Blocks, block_bytes_in}
+use Rattle.lfs_model.specs.Blocks.{Blocks, block_bytes_by_number}
 use Rattle.lfs_model.specs.Disk.{Disk, pair_capacity, slots_per_pair_limit}
-use Rattle.lfs_model.specs.History.{IsTrueOfEachCallSince, CallEvent, AreCallsSinceOnlyReads}
-use Rattle.lfs_model.specs.Slots.{null_address}
-use Rattle.lfs_model.specs.Content.{RawSlot, RawContent, current_block_of_pair_at, raw_content_of_pair_at}
+use Rattle.lfs_model.specs.History.{IsTrueOfEachCallSince, DeviceCallEvent, AreCallsSinceOnlyReads}
+use Rattle.lfs_model.specs.Slots.{null_block_address}
+use Rattle.lfs_model.specs.Content.{RawSlot, RawPairContent, current_block_of_pair_at, raw_content_of_pair_at}
 use Rattle.lfs_model.specs.Log.{LogEntry}
-use Rattle.lfs_model.specs.LoggedContent.{AreNamedSlots, AreWellFormedRawSlots, IsWellFormedRawContent}
+use Rattle.lfs_model.specs.LoggedContent.{AreNamedSlots, AreWellFormedRawSlots, IsWellFormedRawPairContent}
 use Rattle.lfs_model.specs.WrittenContent.{IsRawContentFittingPair, raw_slot_size}
-use Rattle.lfs_model.specs.Changes.{ContentChange}
+use Rattle.lfs_model.specs.Changes.{PairContentChange}
 use Rattle.lfs_model.proofs.Histories.{IsTrueOfEachCallSince-until}
 use Rattle.lfs_model.proofs.Logged.{nothing_logged}
 use Rattle.lfs_model.proofs.Overwrites.{AreBlocksEqualExceptThese-refl, AreBlocksEqualExceptThese-trans, AreBlocksEqualExceptThese-wider}
 use Rattle.lfs_model.proofs.Staying.{AreElsewhere, current_block_of_pair_at-stays, raw_content_of_pair_at-stays}
 use Rattle.lfs_pair.specs.declared.pair.Pair.{Pair}
-use Rattle.lfs_pair.specs.Pair.{address_of_header}
+use Rattle.lfs_pair.specs.Pair.{pair_address_in_header}
 use Rattle.lfs_model.specs.View.{BeginsWithLogEntry}
-use Rattle.lfs_pair.specs.Commit.{HasPairNewContent, HasPairContentAsBefore, KeepsFirstEntry, LeavesOldOrNewContent, KeepsBlocksOutsidePair, log_content_after_changes, pair_content_after_changes}
-use Rattle.lfs_pair.specs.Cut.{IsCutOfSlots}
-use Rattle.lfs_pair.specs.Fresh.{WritesBlocksAndClearsOne}
+use Rattle.lfs_pair.specs.Commit.{HasPairNewContent, HasPairContentAsBefore, KeepsFirstEntryOfPairLog, PowerLossLeavesOldOrNewContent, KeepsBlocksOutsidePair, log_content_after_changes, pair_content_after_changes}
+use Rattle.lfs_pair.specs.Cut.{IsFittingSplitOfSlots}
+use Rattle.lfs_pair.specs.Fresh.{HasErasedOneMoreBlockThanProgrammed}
 use Rattle.lfs_pair.specs.Writing.{IsBlockWrittenAnew}
-use Rattle.lfs_pair.specs.Split.{HaveNoCommonBlock, ArePartsOfContent, CanSplitPair, BothPartsHaveSlots, LeavesOldContentOrParts, KeepsBlocksOutsideBothPairs}
-use Rattle.lfs_pair.proofs.Stay.{IsPairOnDisk-reads}
+use Rattle.lfs_pair.specs.Split.{HaveNoCommonBlock, IsContentCutIntoFrontAndBack, CanSplitPair, BothPartsHaveSlotsIfWholeIsTooLarge, PowerLossLeavesOldContentOrSplitPairs, KeepsBlocksOutsideBothPairs}
+use Rattle.lfs_pair.proofs.Stay.{IsPairOnDiskAsHeaderSays-reads}
 use Rattle.lfs_pair.proofs.Changed.{made_here, made_is, some_same}
 
 -- ---- blocks of two pairs
@@ -86,26 +86,26 @@ AreNamedSlots-drop (suc n) [] have = tt
 AreNamedSlots-drop (suc n) (s ∷ slots) have = AreNamedSlots-drop n slots have.1
 
 -- a content that can be written anew
-pub record IsReady (block_size page : ℕ) (c : RawContent) : Type 0 where
-  pub logged : IsWellFormedRawContent c
+pub record IsReady (block_size page : ℕ) (c : RawPairContent) : Type 0 where
+  pub logged : IsWellFormedRawPairContent c
   pub names : AreNamedSlots c.slots
   pub fits : IsRawContentFittingPair block_size page c
 
-pub front_ready : {block_size page : ℕ} {whole front back : RawContent} {fresh : ℕ × ℕ} → ArePartsOfContent block_size page whole fresh front back → IsWellFormedRawContent whole → AreNamedSlots whole.slots
+pub front_ready : {block_size page : ℕ} {whole front back : RawPairContent} {fresh : ℕ × ℕ} → IsContentCutIntoFrontAndBack block_size page whole fresh front back → IsWellFormedRawPairContent whole → AreNamedSlots whole.slots
     → fresh.0 < 2 ^ 16 → fresh.1 < 2 ^ 16 → IsReady block_size page front
 front_ready {block_size} {page} {whole} {fresh = fresh} parts logged names first second =
-    let real : (fresh.0 == null_address) ≡ false = ne_eqb fresh.0 null_address (λ is. absurd (omega (arith, is, first))) in
+    let real : (fresh.0 == null_block_address) ≡ false = ne_eqb fresh.0 null_block_address (λ is. absurd (omega (arith, is, first))) in
     subst (IsReady block_size page) (sym parts.front_is) (record {
       logged = record {
         slots = HaveParts-take parts.cut whole.slots logged.slots;
-        tail = ((omega (arith, first), omega (arith, second)), ap (λ b. b && fresh.1 == null_address) real);
+        tail = ((omega (arith, first), omega (arith, second)), ap (λ b. b && fresh.1 == null_block_address) real);
         move = logged.move;
       };
       names = AreNamedSlots-take parts.cut whole.slots names;
       fits = record { size = parts.is_cut.front.size; count = parts.is_cut.front.count };
     })
 
-pub back_ready : {block_size page : ℕ} {whole front back : RawContent} {fresh : ℕ × ℕ} → ArePartsOfContent block_size page whole fresh front back → IsWellFormedRawContent whole → AreNamedSlots whole.slots → IsReady block_size page back
+pub back_ready : {block_size page : ℕ} {whole front back : RawPairContent} {fresh : ℕ × ℕ} → IsContentCutIntoFrontAndBack block_size page whole fresh front back → IsWellFormedRawPairContent whole → AreNamedSlots whole.slots → IsReady block_size page back
 back_ready {block_size} {page} {whole} parts logged names =
     subst (IsReady block_size page) (sym parts.back_is) (record {
       logged = record {
@@ -118,10 +118,10 @@ back_ready {block_size} {page} {whole} parts logged names =
     })
 
 -- where the whole doesn't fit, neither part is empty
-pub cut_inside : {block_size page cut : ℕ} {whole : RawContent} → IsCutOfSlots block_size page whole.slots cut → BothPartsHaveSlots block_size page whole cut
+pub cut_inside : {block_size page cut : ℕ} {whole : RawPairContent} → IsFittingSplitOfSlots block_size page whole.slots cut → BothPartsHaveSlotsIfWholeIsTooLarge block_size page whole cut
 cut_inside {block_size} {page} {cut} {whole} is full = (front cut is, back)
   where
-    front : (k : ℕ) → IsCutOfSlots block_size page whole.slots k → 0 < k
+    front : (k : ℕ) → IsFittingSplitOfSlots block_size page whole.slots k → 0 < k
     front zero none = absurd (full (record { size = none.back.size; count = none.back.count }))
     front (suc k) some = omega arith
 
@@ -134,8 +134,8 @@ cut_inside {block_size} {page} {cut} {whole} is full = (front cut is, back)
     ]
 
 -- one more block written anew
-pub clears_more : {count revision : ℕ} {c : RawContent} {block : List ℕ} {before mid history : List CallEvent} {P Q : CallEvent → Type 0} → IsTrueOfEachCallSince P before mid → IsTrueOfEachCallSince Q mid history → WritesBlocksAndClearsOne count before mid → IsBlockWrittenAnew revision c block mid history
-    → WritesBlocksAndClearsOne (count + 1) before history
+pub clears_more : {count revision : ℕ} {c : RawPairContent} {block : List ℕ} {before mid history : List DeviceCallEvent} {P Q : DeviceCallEvent → Type 0} → IsTrueOfEachCallSince P before mid → IsTrueOfEachCallSince Q mid history → HasErasedOneMoreBlockThanProgrammed count before mid → IsBlockWrittenAnew revision c block mid history
+    → HasErasedOneMoreBlockThanProgrammed (count + 1) before history
 clears_more {before = before} {mid = mid} {history = history} first second clears anew = record {
   erases = let some = clears.erases in let more = anew.erases in omega (arith, some, more);
   at_most = let most = clears.at_most in let more = anew.programs in omega (arith, most, more);
@@ -144,25 +144,25 @@ clears_more {before = before} {mid = mid} {history = history} first second clear
 
 -- ---- a pair that is being split
 
-pub record IsSplitting (disk : Disk) (at fresh : ℕ × ℕ) (changes : List ContentChange) (front back : RawContent) : Type 0 where
-  pub whole : RawContent
+pub record IsSplitting (disk : Disk) (at fresh : ℕ × ℕ) (changes : List PairContentChange) (front back : RawPairContent) : Type 0 where
+  pub whole : RawPairContent
   pub made : pair_content_after_changes disk at changes ≡ Some whole
-  pub logged : IsWellFormedRawContent whole
-  pub parts : ArePartsOfContent disk.block_size disk.page whole fresh front back
+  pub logged : IsWellFormedRawPairContent whole
+  pub parts : IsContentCutIntoFrontAndBack disk.block_size disk.page whole fresh front back
   pub apart : HaveNoCommonBlock at fresh
   pub front_ready : IsReady disk.block_size disk.page front
   pub back_ready : IsReady disk.block_size disk.page back
 
-pub is_splitting : (geometry here : Geometry) (blocks : Blocks) (history : List CallEvent) (pair : Pair) (fresh : ℕ × ℕ) (block : List ℕ) (changes : List ContentChange) (whole front back : RawContent)
-    → here ≡ geometry → length blocks ≡ geometry.block_count → CanSplitPair (disk_of_geometry_and_blocks geometry blocks) history pair fresh changes → block ≡ block_bytes_in blocks pair.active
-    → log_content_after_changes block changes ≡ Some whole → IsWellFormedRawContent whole → ArePartsOfContent here.block_size here.page whole fresh front back
-    → IsSplitting (disk_of_geometry_and_blocks geometry blocks) (address_of_header pair) fresh changes front back
+pub is_splitting : (geometry here : Geometry) (blocks : Blocks) (history : List DeviceCallEvent) (pair : Pair) (fresh : ℕ × ℕ) (block : List ℕ) (changes : List PairContentChange) (whole front back : RawPairContent)
+    → here ≡ geometry → length blocks ≡ geometry.block_count → CanSplitPair (disk_of_geometry_and_blocks geometry blocks) history pair fresh changes → block ≡ block_bytes_by_number blocks pair.active
+    → log_content_after_changes block changes ≡ Some whole → IsWellFormedRawPairContent whole → IsContentCutIntoFrontAndBack here.block_size here.page whole fresh front back
+    → IsSplitting (disk_of_geometry_and_blocks geometry blocks) (pair_address_in_header pair) fresh changes front back
 is_splitting geometry here blocks history pair fresh block changes whole front back same count can is made_is_whole logged cut =
     let commit = can.commit in
     let made = made_here (disk_of_geometry_and_blocks geometry blocks) history pair commit.held block changes (Some whole) commit.is_pair is made_is_whole in
     let whole_is : commit.new ≡ whole = some_same (sym (made_is (disk_of_geometry_and_blocks geometry blocks) history pair commit.held changes commit.is_pair ∙ commit.changed) ∙ made) in
-    let names = subst (λ (c : RawContent). AreNamedSlots c.slots) whole_is commit.names in
-    let parts = subst (λ (k : Geometry). ArePartsOfContent k.block_size k.page whole fresh front back) same cut in
+    let names = subst (λ (c : RawPairContent). AreNamedSlots c.slots) whole_is commit.names in
+    let parts = subst (λ (k : Geometry). IsContentCutIntoFrontAndBack k.block_size k.page whole fresh front back) same cut in
     let few = geometry.valid.no_more in
     record {
       whole = whole;
@@ -174,12 +174,12 @@ is_splitting geometry here blocks history pair fresh block changes whole front b
       back_ready = back_ready parts logged names;
     }
 
-pub CanSplitPair-reads : {blocks : Blocks} {disk : Disk} {before after : List CallEvent} {pair : Pair} {fresh : ℕ × ℕ} {changes : List ContentChange} → AreCallsSinceOnlyReads blocks before after
+pub CanSplitPair-reads : {blocks : Blocks} {disk : Disk} {before after : List DeviceCallEvent} {pair : Pair} {fresh : ℕ × ℕ} {changes : List PairContentChange} → AreCallsSinceOnlyReads blocks before after
     → CanSplitPair disk before pair fresh changes → CanSplitPair disk after pair fresh changes
 CanSplitPair-reads reads can =
     let commit = can.commit in
     record {
-      commit = record { address = commit.address; held = commit.held; is_pair = IsPairOnDisk-reads reads commit.is_pair; new = commit.new; changed = commit.changed; names = commit.names };
+      commit = record { address = commit.address; held = commit.held; is_pair = IsPairOnDiskAsHeaderSays-reads reads commit.is_pair; new = commit.new; changed = commit.changed; names = commit.names };
       fresh_is = can.fresh_is;
       apart = can.apart;
       cut = can.cut;
@@ -188,7 +188,7 @@ CanSplitPair-reads reads can =
 -- ---- what a stop on the way there leaves
 
 -- before a call
-pub left_before : (old : Disk) (at fresh : ℕ × ℕ) (changes : List ContentChange) → LeavesOldContentOrParts old at fresh changes old.blocks
+pub left_before : (old : Disk) (at fresh : ℕ × ℕ) (changes : List PairContentChange) → PowerLossLeavesOldContentOrSplitPairs old at fresh changes old.blocks
 left_before old at fresh changes = record { others = AreBlocksEqualExceptThese-refl (at.0 ∷ at.1 ∷ fresh.0 ∷ fresh.1 ∷ []) old.blocks; content = inl (record { content = refl; first = λ e h. h }) }
 
 still_elsewhere : (old : Disk) (at fresh : ℕ × ℕ) (left : Blocks) → HaveNoCommonBlock at fresh → KeepsBlocksOutsidePair fresh old.blocks left → HasPairContentAsBefore old at (record old { blocks = left })
@@ -202,16 +202,16 @@ pub first_while_fresh : (old : Disk) (at fresh : ℕ × ℕ) (left : Blocks) →
 first_while_fresh old at fresh left apart same = (still_elsewhere old at fresh left apart same).first
 
 -- the first entry stays where the fresh pair was written first
-pub first_behind : (old : Disk) (at fresh : ℕ × ℕ) (mid left : Blocks) (new : RawContent) → HaveNoCommonBlock at fresh → KeepsBlocksOutsidePair fresh old.blocks mid
-    → KeepsFirstEntry (record old { blocks = mid }) at (Some new) (record old { blocks = left }) → KeepsFirstEntry old at (Some new) (record old { blocks = left })
+pub first_behind : (old : Disk) (at fresh : ℕ × ℕ) (mid left : Blocks) (new : RawPairContent) → HaveNoCommonBlock at fresh → KeepsBlocksOutsidePair fresh old.blocks mid
+    → KeepsFirstEntryOfPairLog (record old { blocks = mid }) at (Some new) (record old { blocks = left }) → KeepsFirstEntryOfPairLog old at (Some new) (record old { blocks = left })
 first_behind old at fresh mid left new apart same keeps e h anew = keeps e ((still_elsewhere old at fresh mid apart same).first e h) anew
 
-pub left_while_fresh : (old : Disk) (at fresh : ℕ × ℕ) (changes : List ContentChange) (left : Blocks) → HaveNoCommonBlock at fresh → KeepsBlocksOutsidePair fresh old.blocks left → LeavesOldContentOrParts old at fresh changes left
+pub left_while_fresh : (old : Disk) (at fresh : ℕ × ℕ) (changes : List PairContentChange) (left : Blocks) → HaveNoCommonBlock at fresh → KeepsBlocksOutsidePair fresh old.blocks left → PowerLossLeavesOldContentOrSplitPairs old at fresh changes left
 left_while_fresh old at fresh changes left apart same = record { others = keeps_by_fresh at fresh same; content = inl (still_elsewhere old at fresh left apart same) }
 
-pub left_while_old : (old : Disk) (at fresh : ℕ × ℕ) (changes : List ContentChange) (mid left : Blocks) {whole front back : RawContent} → HaveNoCommonBlock at fresh → KeepsBlocksOutsidePair fresh old.blocks mid
-    → pair_content_after_changes old at changes ≡ Some whole → IsWellFormedRawContent whole → ArePartsOfContent old.block_size old.page whole fresh front back → raw_content_of_pair_at (record old { blocks = mid }) fresh ≡ Some back
-    → LeavesOldOrNewContent (record old { blocks = mid }) at front left → LeavesOldContentOrParts old at fresh changes left
+pub left_while_old : (old : Disk) (at fresh : ℕ × ℕ) (changes : List PairContentChange) (mid left : Blocks) {whole front back : RawPairContent} → HaveNoCommonBlock at fresh → KeepsBlocksOutsidePair fresh old.blocks mid
+    → pair_content_after_changes old at changes ≡ Some whole → IsWellFormedRawPairContent whole → IsContentCutIntoFrontAndBack old.block_size old.page whole fresh front back → raw_content_of_pair_at (record old { blocks = mid }) fresh ≡ Some back
+    → PowerLossLeavesOldOrNewContent (record old { blocks = mid }) at front left → PowerLossLeavesOldContentOrSplitPairs old at fresh changes left
 left_while_old old at fresh changes mid left {whole} {front} apart same made logged parts held stopped = record {
   others = keeps_by_both at fresh same stopped.others;
   content = elim stopped.content [

@@ -6,7 +6,7 @@ use Rattle.std.proofs.lemmas.List.Concat.{flat_map-append}
 use Rattle.lfs_model.specs.Log.{LogEntry}
 use Rattle.lfs_model.specs.Content.{RawSlot}
 use Rattle.lfs_model.specs.LoggedContent.{AreAttributesInTypeOrder, IsWellFormedRawSlot, AreWellFormedRawSlots}
-use Rattle.lfs_model.specs.WrittenContent.{log_entries_of_attributes, first_attribute_type, log_entry_with, log_entries_of_slot, log_entries_of_slots}
+use Rattle.lfs_model.specs.WrittenContent.{log_entries_of_attributes, lowest_attribute_type, log_entry_of_type_id_and_bytes, log_entries_of_slot, log_entries_of_slots}
 use Rattle.lfs_tag.specs.Builder.{CommitBeingBuilt}
 use Rattle.lfs_tag.specs.declared.content.Attribute.{Attribute}
 use Rattle.lfs_tag.specs.ContentView.{attribute_view}
@@ -24,11 +24,11 @@ with_more es fs old mid new first second =
 
 -- one attribute more
 pub attributes_more : (id kind : ℕ) (xs : List Attribute) (i : ℕ) (d : Attribute) (old mid new : CommitBeingBuilt) → i < length xs → kind ≡ (get_or xs i d).kind
-    → mid ≡ commit_with_more_entries (log_entries_of_attributes id (map attribute_view (take i xs))) old → new ≡ commit_with_more_entries (log_entry_with (first_attribute_type + kind) id (get_or xs i d).bytes.now ∷ []) mid
+    → mid ≡ commit_with_more_entries (log_entries_of_attributes id (map attribute_view (take i xs))) old → new ≡ commit_with_more_entries (log_entry_of_type_id_and_bytes (lowest_attribute_type + kind) id (get_or xs i d).bytes.now ∷ []) mid
     → new ≡ commit_with_more_entries (log_entries_of_attributes id (map attribute_view (take (i + 1) xs))) old
 attributes_more id kind xs i d old mid new l is first second =
     let bytes : List ℕ = (get_or xs i d).bytes.now in
-    with_more (log_entries_of_attributes id (map attribute_view (take i xs))) (log_entry_with (first_attribute_type + (get_or xs i d).kind) id bytes ∷ []) old mid new first (second ∙ ap (λ k. commit_with_more_entries (log_entry_with (first_attribute_type + k) id bytes ∷ []) mid) is)
+    with_more (log_entries_of_attributes id (map attribute_view (take i xs))) (log_entry_of_type_id_and_bytes (lowest_attribute_type + (get_or xs i d).kind) id bytes ∷ []) old mid new first (second ∙ ap (λ k. commit_with_more_entries (log_entry_of_type_id_and_bytes (lowest_attribute_type + k) id bytes ∷ []) mid) is)
     ∙ ap (λ es. commit_with_more_entries es old) (sym (ap (log_entries_of_attributes id) (mapped_front attribute_view xs i d l) ∙ map-append _ (map attribute_view (take i xs)) (attribute_view (get_or xs i d) ∷ [])))
 
 -- one element more of a list where each has a list of entries

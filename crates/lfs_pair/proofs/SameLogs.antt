@@ -1,7 +1,7 @@
 -- What blocks of the same log share.
 use Rattle.std.proofs.Common.{ℕ, ◌≡◌, true, false, List, [], ◌∷◌, length, Option, Some, None, refl, sym, ap, ◌∙◌, flat_map}
 use Rattle.std.specs.Prelude.{nat_lt}
-use Rattle.lfs_model.specs.Log.{LogEntry, BlockLog, chain_of, revision_of_block, log_entries_of_block, log_unless_empty}
+use Rattle.lfs_model.specs.Log.{LogEntry, BlockLog, chain_of, revision_of_block, log_entries_of_block, block_log_if_any_commits}
 use Rattle.lfs_model.specs.Content.{has_commit}
 use Rattle.lfs_model.specs.Stops.{SameLog, HasNoLog}
 
@@ -13,11 +13,11 @@ abbrev revision_in : Option BlockLog → ℕ
 revision_in None = 0
 revision_in (Some log) = log.revision
 
-commits_reported : (r : ℕ) (cs : List (List LogEntry)) → commits_in (log_unless_empty r cs) ≡ cs
+commits_reported : (r : ℕ) (cs : List (List LogEntry)) → commits_in (block_log_if_any_commits r cs) ≡ cs
 commits_reported r [] = refl
 commits_reported r (c ∷ cs) = refl
 
-revision_reported : (r : ℕ) (cs : List (List LogEntry)) → nat_lt 0 (length cs) ≡ true → revision_in (log_unless_empty r cs) ≡ r
+revision_reported : (r : ℕ) (cs : List (List LogEntry)) → nat_lt 0 (length cs) ≡ true → revision_in (block_log_if_any_commits r cs) ≡ r
 revision_reported r [] some = absurd (cc)
 revision_reported r (c ∷ cs) some = refl
 

@@ -4,12 +4,12 @@ use Rattle.std.proofs.Common.{ℕ, ◌≡◌, ◌≢◌, Bool, true, false, cond
 use Rattle.lfs_model.specs.Blocks.{Blocks, AreBlocksEqualExceptThese}
 use Rattle.lfs_model.specs.Disk.{Disk, block_bytes_on_disk}
 use Rattle.lfs_model.specs.Log.{revision_of_block}
-use Rattle.lfs_model.specs.History.{CallEvent, AreCallsSinceOnlyReads, AreBytesStillUnprogrammed}
-use Rattle.lfs_model.specs.Content.{RawContent}
-use Rattle.lfs_model.proofs.Histories.{AreBytesUnprogrammed-reads, AreBytesUnprogrammed-stays}
+use Rattle.lfs_model.specs.History.{DeviceCallEvent, AreCallsSinceOnlyReads, AreBytesStillUnprogrammed}
+use Rattle.lfs_model.specs.Content.{RawPairContent}
+use Rattle.lfs_model.proofs.Histories.{AreBytesUnprogrammed-read_count_of_history, AreBytesUnprogrammed-stays}
 use Rattle.lfs_model.proofs.Staying.{AreElsewhere, current_block_of_pair_at-stays, raw_content_of_pair_at-stays}
 use Rattle.lfs_pair.specs.declared.pair.Pair.{Pair}
-use Rattle.lfs_pair.specs.Pair.{IsPairOnDisk, HeaderDescribesLog, is_second_block_active, active_block_at, address_of_header}
+use Rattle.lfs_pair.specs.Pair.{IsPairOnDiskAsHeaderSays, HeaderDescribesLog, is_second_block_active, active_block_at, pair_address_in_header}
 use Rattle.lfs_pair.specs.Commit.{HeaderSaysActiveBlock, PairHasContent}
 
 -- ---- on the disk
@@ -29,7 +29,7 @@ active_elsewhere {at} {bs} disk active elsewhere is = go (is_second_block_active
     go true e = subst (λ (a : ℕ). All (λ b. b ≢ a) bs) (sym e) elsewhere.second
     go false e = subst (λ (a : ℕ). All (λ b. b ≢ a) bs) (sym e) elsewhere.first
 
-pub HeaderSaysActiveBlock-stays : {bs : List ℕ} {disk : Disk} {blocks : Blocks} {pair : Pair} → AreElsewhere (address_of_header pair) bs → AreBlocksEqualExceptThese bs disk.blocks blocks
+pub HeaderSaysActiveBlock-stays : {bs : List ℕ} {disk : Disk} {blocks : Blocks} {pair : Pair} → AreElsewhere (pair_address_in_header pair) bs → AreBlocksEqualExceptThese bs disk.blocks blocks
     → HeaderSaysActiveBlock disk pair → HeaderSaysActiveBlock (record disk { blocks = blocks }) pair
 HeaderSaysActiveBlock-stays {disk = disk} {pair = pair} elsewhere same is =
     let block = same.others pair.active (active_elsewhere disk pair.active elsewhere is.active) in
@@ -39,9 +39,9 @@ HeaderSaysActiveBlock-stays {disk = disk} {pair = pair} elsewhere same is =
       revision_is = is.revision_is ∙ ap revision_of_block (sym block);
     }
 
-pub IsPairOnDisk-stays : {bs : List ℕ} {disk : Disk} {blocks : Blocks} {before after : List CallEvent} {pair : Pair} {held : RawContent}
-    → AreElsewhere (address_of_header pair) bs → AreBlocksEqualExceptThese bs disk.blocks blocks → AreBytesStillUnprogrammed bs before after → IsPairOnDisk disk before pair held → IsPairOnDisk (record disk { blocks = blocks }) after pair held
-IsPairOnDisk-stays {disk = disk} {pair = pair} {held} elsewhere same stay is =
+pub IsPairOnDiskAsHeaderSays-stays : {bs : List ℕ} {disk : Disk} {blocks : Blocks} {before after : List DeviceCallEvent} {pair : Pair} {held : RawPairContent}
+    → AreElsewhere (pair_address_in_header pair) bs → AreBlocksEqualExceptThese bs disk.blocks blocks → AreBytesStillUnprogrammed bs before after → IsPairOnDiskAsHeaderSays disk before pair held → IsPairOnDiskAsHeaderSays (record disk { blocks = blocks }) after pair held
+IsPairOnDiskAsHeaderSays-stays {disk = disk} {pair = pair} {held} elsewhere same stay is =
     let apart = active_elsewhere disk pair.active elsewhere is.active in
     let block = same.others pair.active apart in
     record {
@@ -53,10 +53,10 @@ IsPairOnDisk-stays {disk = disk} {pair = pair} {held} elsewhere same stay is =
     }
 
 -- a pair's address is that of its blocks
-pub NowHolds-stays : {at : ℕ × ℕ} {bs : List ℕ} {disk : Disk} {blocks : Blocks} {before after : List CallEvent} {pair : Pair} {held : RawContent}
+pub NowHolds-stays : {at : ℕ × ℕ} {bs : List ℕ} {disk : Disk} {blocks : Blocks} {before after : List DeviceCallEvent} {pair : Pair} {held : RawPairContent}
     → AreElsewhere at bs → AreBlocksEqualExceptThese bs disk.blocks blocks → AreBytesStillUnprogrammed bs before after → PairHasContent disk before at pair held → PairHasContent (record disk { blocks = blocks }) after at pair held
 NowHolds-stays {bs = bs} {disk = disk} elsewhere same stay holds = record {
-  is_pair = IsPairOnDisk-stays (subst (λ a. AreElsewhere a bs) (sym holds.same) elsewhere) same stay holds.is_pair;
+  is_pair = IsPairOnDiskAsHeaderSays-stays (subst (λ a. AreElsewhere a bs) (sym holds.same) elsewhere) same stay holds.is_pair;
   same = holds.same;
   content = raw_content_of_pair_at-stays disk elsewhere same ∙ holds.content;
   written = holds.written;
@@ -64,11 +64,11 @@ NowHolds-stays {bs = bs} {disk = disk} elsewhere same stay holds = record {
 
 -- ---- after reads
 
-pub IsPairOnDisk-reads : {blocks : Blocks} {disk : Disk} {before after : List CallEvent} {pair : Pair} {held : RawContent} → AreCallsSinceOnlyReads blocks before after → IsPairOnDisk disk before pair held → IsPairOnDisk disk after pair held
-IsPairOnDisk-reads {pair = pair} reads is = record {
+pub IsPairOnDiskAsHeaderSays-reads : {blocks : Blocks} {disk : Disk} {before after : List DeviceCallEvent} {pair : Pair} {held : RawPairContent} → AreCallsSinceOnlyReads blocks before after → IsPairOnDiskAsHeaderSays disk before pair held → IsPairOnDiskAsHeaderSays disk after pair held
+IsPairOnDiskAsHeaderSays-reads {pair = pair} reads is = record {
   active = is.active;
   holds = is.holds;
   describes = is.describes;
   whole_pages = is.whole_pages;
-  unprogrammed = λ written. AreBytesUnprogrammed-reads pair.active reads (is.unprogrammed written);
+  unprogrammed = λ written. AreBytesUnprogrammed-read_count_of_history pair.active reads (is.unprogrammed written);
 }

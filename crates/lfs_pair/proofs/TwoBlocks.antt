@@ -3,11 +3,11 @@ use Rattle.std.proofs.Common.{ℕ, ◌≡◌, ◌≢◌, ◌⊎◌, ◌+◌, ◌
 use Rattle.std.specs.Prelude.{All}
 use Rattle.std.proofs.lemmas.Bool.{ne_eqb}
 use Rattle.std.specs.Option.{option_and_then}
-use Rattle.lfs_model.specs.Blocks.{Blocks, AreBlocksEqualExceptOne, block_bytes_in}
+use Rattle.lfs_model.specs.Blocks.{Blocks, AreBlocksEqualExceptOne, block_bytes_by_number}
 use Rattle.lfs_model.specs.Disk.{Disk, block_bytes_on_disk, block_count}
 use Rattle.lfs_model.specs.Log.{revision_of_block, log_entries_of_block}
 use Rattle.lfs_model.specs.Stops.{SameLog, HasNoLog}
-use Rattle.lfs_model.specs.Content.{has_commit, is_later_revision, raw_content_of_pair_at, content_after_log_entries, empty_raw_content}
+use Rattle.lfs_model.specs.Content.{has_commit, is_later_revision, raw_content_of_pair_at, content_after_log_entries, empty_raw_pair_content}
 use Rattle.lfs_pair.specs.Pair.{is_second_block_active, active_block_at, inactive_block_of}
 use Rattle.lfs_pair.specs.Commit.{IsPairAddressOnDisk, KeepsBlocksOutsidePair}
 use Rattle.lfs_model.proofs.Overwrites.{AreBlocksEqualExceptThese-refl, AreBlocksEqualExceptThese-one}
@@ -26,11 +26,11 @@ active_block disk at active is = ap (block_bytes_on_disk disk) is ∙ picked dis
 
 -- a pair holds what its active block does
 pub raw_is : (disk : Disk) (at : ℕ × ℕ) (active : ℕ) → active ≡ active_block_at disk at → has_commit (block_bytes_on_disk disk active) ≡ true
-    → raw_content_of_pair_at disk at ≡ content_after_log_entries empty_raw_content (log_entries_of_block (block_bytes_on_disk disk active))
+    → raw_content_of_pair_at disk at ≡ content_after_log_entries empty_raw_pair_content (log_entries_of_block (block_bytes_on_disk disk active))
 raw_is disk at active is has =
     let same = active_block disk at active is in
-    ap (option_and_then (λ block. content_after_log_entries empty_raw_content (log_entries_of_block block))) (holder_is (block_bytes_on_disk disk at.0) (block_bytes_on_disk disk at.1) (sym (ap has_commit same) ∙ has))
-    ∙ ap (λ block. content_after_log_entries empty_raw_content (log_entries_of_block block)) (sym same)
+    ap (option_and_then (λ block. content_after_log_entries empty_raw_pair_content (log_entries_of_block block))) (holder_is (block_bytes_on_disk disk at.0) (block_bytes_on_disk disk at.1) (sym (ap has_commit same) ∙ has))
+    ∙ ap (λ block. content_after_log_entries empty_raw_pair_content (log_entries_of_block block)) (sym same)
 
 -- which of the two is the active one
 pub data Sides (disk : Disk) (at : ℕ × ℕ) (active other : ℕ) : Type 0 where
@@ -97,30 +97,30 @@ first_stays a b c d held stays weaker = go (has_commit d) refl
 
 -- the block that held still does
 pub still_active : (disk : Disk) (at : ℕ × ℕ) (active other : ℕ) (left : Blocks) → Sides disk at active other
-    → Stays (block_bytes_on_disk disk active) (block_bytes_in left active) → Weaker (block_bytes_on_disk disk other) (block_bytes_in left other)
+    → Stays (block_bytes_on_disk disk active) (block_bytes_by_number left active) → Weaker (block_bytes_on_disk disk other) (block_bytes_by_number left other)
     → active ≡ active_block_at (record disk { blocks = left }) at
 still_active disk at active other left (first e is also) stays weaker =
-    is ∙ sym (ap (λ s. cond s at.1 at.0) (first_stays (block_bytes_on_disk disk at.0) (block_bytes_on_disk disk at.1) (block_bytes_in left at.0) (block_bytes_in left at.1) e
-    (subst (λ b. Stays (block_bytes_on_disk disk b) (block_bytes_in left b)) is stays) (subst (λ b. Weaker (block_bytes_on_disk disk b) (block_bytes_in left b)) also weaker)))
+    is ∙ sym (ap (λ s. cond s at.1 at.0) (first_stays (block_bytes_on_disk disk at.0) (block_bytes_on_disk disk at.1) (block_bytes_by_number left at.0) (block_bytes_by_number left at.1) e
+    (subst (λ b. Stays (block_bytes_on_disk disk b) (block_bytes_by_number left b)) is stays) (subst (λ b. Weaker (block_bytes_on_disk disk b) (block_bytes_by_number left b)) also weaker)))
 still_active disk at active other left (second e is also) stays weaker =
-    is ∙ sym (ap (λ s. cond s at.1 at.0) (second_stays (block_bytes_on_disk disk at.0) (block_bytes_on_disk disk at.1) (block_bytes_in left at.0) (block_bytes_in left at.1) e
-    (subst (λ b. Stays (block_bytes_on_disk disk b) (block_bytes_in left b)) is stays) (subst (λ b. Weaker (block_bytes_on_disk disk b) (block_bytes_in left b)) also weaker)))
+    is ∙ sym (ap (λ s. cond s at.1 at.0) (second_stays (block_bytes_on_disk disk at.0) (block_bytes_on_disk disk at.1) (block_bytes_by_number left at.0) (block_bytes_by_number left at.1) e
+    (subst (λ b. Stays (block_bytes_on_disk disk b) (block_bytes_by_number left b)) is stays) (subst (λ b. Weaker (block_bytes_on_disk disk b) (block_bytes_by_number left b)) also weaker)))
 
 -- the other block holds, as it has the next revision
 pub other_active : (disk : Disk) (at : ℕ × ℕ) (active other : ℕ) (left : Blocks) → Sides disk at active other
-    → has_commit (block_bytes_in left active) ≡ true → has_commit (block_bytes_in left other) ≡ true → revision_of_block (block_bytes_in left active) < 2 ^ 32
-    → revision_of_block (block_bytes_in left other) ≡ (revision_of_block (block_bytes_in left active) + 1) % 2 ^ 32
+    → has_commit (block_bytes_by_number left active) ≡ true → has_commit (block_bytes_by_number left other) ≡ true → revision_of_block (block_bytes_by_number left active) < 2 ^ 32
+    → revision_of_block (block_bytes_by_number left other) ≡ (revision_of_block (block_bytes_by_number left active) + 1) % 2 ^ 32
     → other ≡ active_block_at (record disk { blocks = left }) at
 other_active disk at active other left (first e is also) had has small next =
-    also ∙ sym (ap (λ s. cond s at.1 at.0) (is_second_block_active-written (block_bytes_in left at.0) (block_bytes_in left at.1)
-    (ap (λ b. has_commit (block_bytes_in left b)) (sym is) ∙ had) (ap (λ b. has_commit (block_bytes_in left b)) (sym also) ∙ has)
-    (subst (λ b. revision_of_block (block_bytes_in left b) < 2 ^ 32) is small)
-    (ap (λ b. revision_of_block (block_bytes_in left b)) (sym also) ∙ next ∙ ap (λ b. (revision_of_block (block_bytes_in left b) + 1) % 2 ^ 32) is)))
+    also ∙ sym (ap (λ s. cond s at.1 at.0) (is_second_block_active-written (block_bytes_by_number left at.0) (block_bytes_by_number left at.1)
+    (ap (λ b. has_commit (block_bytes_by_number left b)) (sym is) ∙ had) (ap (λ b. has_commit (block_bytes_by_number left b)) (sym also) ∙ has)
+    (subst (λ b. revision_of_block (block_bytes_by_number left b) < 2 ^ 32) is small)
+    (ap (λ b. revision_of_block (block_bytes_by_number left b)) (sym also) ∙ next ∙ ap (λ b. (revision_of_block (block_bytes_by_number left b) + 1) % 2 ^ 32) is)))
 other_active disk at active other left (second e is also) had has small next =
-    also ∙ sym (ap (λ s. cond s at.1 at.0) (first_holds-written (block_bytes_in left at.0) (block_bytes_in left at.1)
-    (ap (λ b. has_commit (block_bytes_in left b)) (sym is) ∙ had) (ap (λ b. has_commit (block_bytes_in left b)) (sym also) ∙ has)
-    (subst (λ b. revision_of_block (block_bytes_in left b) < 2 ^ 32) is small)
-    (ap (λ b. revision_of_block (block_bytes_in left b)) (sym also) ∙ next ∙ ap (λ b. (revision_of_block (block_bytes_in left b) + 1) % 2 ^ 32) is)))
+    also ∙ sym (ap (λ s. cond s at.1 at.0) (first_holds-written (block_bytes_by_number left at.0) (block_bytes_by_number left at.1)
+    (ap (λ b. has_commit (block_bytes_by_number left b)) (sym is) ∙ had) (ap (λ b. has_commit (block_bytes_by_number left b)) (sym also) ∙ has)
+    (subst (λ b. revision_of_block (block_bytes_by_number left b) < 2 ^ 32) is small)
+    (ap (λ b. revision_of_block (block_bytes_by_number left b)) (sym also) ∙ next ∙ ap (λ b. (revision_of_block (block_bytes_by_number left b) + 1) % 2 ^ 32) is)))
 
 -- ---- other blocks
 

@@ -8,7 +8,7 @@ use Rattle.lfs_pair.specs.declared.change.Change.{Change}
 use Rattle.lfs_pair.specs.declared.change.Change.TheVariants as changes
 
 -- a change
-abbrev pub change_view : Change → model.ContentChange
+abbrev pub change_view : Change → model.PairContentChange
 change_view (changes.Create id kind name) = model.Create id kind name.now
 change_view (changes.Delete id) = model.Delete id
 change_view (changes.Struct id kind bytes) = model.PutStruct id kind bytes.now
@@ -18,5 +18,5 @@ change_view (changes.Tail hard pair) = model.PutTail hard (option_map pair_addre
 change_view (changes.Move state) = model.PutMove (move_view state)
 
 -- several changes
-abbrev pub changes_view : List Change → List model.ContentChange
+abbrev pub changes_view : List Change → List model.PairContentChange
 changes_view changes = map change_view changes

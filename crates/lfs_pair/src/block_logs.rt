@@ -29,7 +29,7 @@ impl BlockLogEnd {
             has_commit: log.has_commit(),
             revision: log.revision(),
             end: log.end(),
-            last: log.last(),
+            last: log.last_tag_of_log(),
         }
     }
 }

@@ -6,8 +6,8 @@ ghost use Rattle.std.specs.Option.{option_map};
 ghost use Rattle.lfs_model.specs.Slots.{pair_address_of_array};
 ghost use Rattle.lfs_model.specs.Content.{content_after_log_entry, content_after_log_entries};
 ghost use Rattle.lfs_model.specs.EntryTypes.{tail_to_pair_if_any as tail_with_pair};
-ghost use Rattle.lfs_model.specs.WrittenContent.{log_entry_with, tail_pair_or_null};
-ghost use Rattle.lfs_model.specs.Changes.{log_entries_of_change, log_entries_of_changes, is_storable_change, RemoveAttribute};
+ghost use Rattle.lfs_model.specs.WrittenContent.{log_entry_of_type_id_and_bytes, tail_pair_or_null};
+ghost use Rattle.lfs_model.specs.Changes.{log_entries_of_change, log_entries_of_changes, is_storable_pair_content_change, RemoveAttribute};
 ghost use Rattle.lfs_tag.specs.ContentView.{content_view, tail_view};
 ghost use Rattle.lfs_tag.specs.ContentGives.{GivesValueUnlessNoMemory};
 ghost use Rattle.lfs_pair.specs.ChangeView.{change_view, changes_view};
@@ -37,7 +37,7 @@ pub enum Change<'a> {
 }
 
 // Adds an entry with these fields to the content.
-fn put<'a>(
+fn apply_entry_of_type_id_and_bytes<'a>(
     alloc: Global,
     content: &mut Content<'a>,
     kind: u16,
@@ -47,10 +47,10 @@ fn put<'a>(
     requires kind { kind < 2 ^ 11 }
     requires id { id < 2 ^ 10 }
     requires bytes { length bytes.now ≤ 1022 }
-    ensures { GivesValueUnlessNoMemory (λ _. content_view content.new) result (content_after_log_entry (content_view content.old) (log_entry_with kind id bytes.now)) }
+    ensures { GivesValueUnlessNoMemory (λ _. content_view content.new) result (content_after_log_entry (content_view content.old) (log_entry_of_type_id_and_bytes kind id bytes.now)) }
 {
     let tag = Tag::new(kind, id, bytes.len() as u16);
-    content.take(alloc, &Entry { tag, bytes })?;
+    content.apply_one_more_entry(alloc, &Entry { tag, bytes })?;
     Ok(())
 }
 
@@ -65,12 +65,12 @@ fn apply_attribute_removal(
     ensures { GivesValueUnlessNoMemory (λ _. content_view content.new) result (content_after_log_entries (content_view content.old) (log_entries_of_change (RemoveAttribute id attr))) }
 {
     let tag = Tag::new(ATTRIBUTE + u16::from(attr), id, 0x3ff);
-    content.take(alloc, &Entry { tag, bytes: &[] })?;
+    content.apply_one_more_entry(alloc, &Entry { tag, bytes: &[] })?;
     Ok(())
 }
 
 // Returns the tail that a change sets. Two null addresses are no tail.
-fn tail_with(hard: bool, pair: Option<[u32; 2]>) -> Option<Tail>
+fn tail_unless_pair_is_null(hard: bool, pair: Option<[u32; 2]>) -> Option<Tail>
     ensures { option_map tail_view result ≡ tail_with_pair hard (tail_pair_or_null (option_map pair_address_of_array pair)) }
 {
     match pair {
@@ -86,30 +86,36 @@ fn tail_with(hard: bool, pair: Option<[u32; 2]>) -> Option<Tail>
 }
 
 // Applies a change to the content.
-pub(crate) fn apply<'a>(
+pub(crate) fn apply_change_to_content<'a>(
     alloc: Global,
     content: &mut Content<'a>,
     change: &Change<'a>,
 ) -> Result<(), ContentError>
-    requires { is_storable_change (change_view change.now) ≡ true }
+    requires { is_storable_pair_content_change (change_view change.now) ≡ true }
     ensures { GivesValueUnlessNoMemory (λ _. content_view content.new) result (content_after_log_entries (content_view content.old) (log_entries_of_change (change_view change.now))) }
 {
     match *change {
         Change::Create { id, kind, name } => {
-            put(alloc, content, CREATE, id, &[])?;
-            put(alloc, content, kind, id, name)?;
+            apply_entry_of_type_id_and_bytes(alloc, content, CREATE, id, &[])?;
+            apply_entry_of_type_id_and_bytes(alloc, content, kind, id, name)?;
             Ok(())
         }
         Change::Delete { id } => {
-            put(alloc, content, DELETE, id, &[])?;
+            apply_entry_of_type_id_and_bytes(alloc, content, DELETE, id, &[])?;
             Ok(())
         }
         Change::Struct { id, kind, bytes } => {
-            put(alloc, content, kind, id, bytes)?;
+            apply_entry_of_type_id_and_bytes(alloc, content, kind, id, bytes)?;
             Ok(())
         }
         Change::Attr { id, attr, bytes } => {
-            put(alloc, content, ATTRIBUTE + u16::from(attr), id, bytes)?;
+            apply_entry_of_type_id_and_bytes(
+                alloc,
+                content,
+                ATTRIBUTE + u16::from(attr),
+                id,
+                bytes,
+            )?;
             Ok(())
         }
         Change::NoAttr { id, attr } => {
@@ -117,7 +123,7 @@ pub(crate) fn apply<'a>(
             Ok(())
         }
         Change::Tail { hard, pair } => {
-            content.tail = tail_with(hard, pair);
+            content.tail = tail_unless_pair_is_null(hard, pair);
             Ok(())
         }
         Change::Move { state } => {
@@ -140,11 +146,11 @@ pub fn apply_all_changes<'a>(
     content: &mut Content<'a>,
     changes: &[Change<'a>],
 ) -> Result<(), ContentError>
-    requires { list_all is_storable_change (changes_view changes.now) ≡ true }
+    requires { list_all is_storable_pair_content_change (changes_view changes.now) ≡ true }
     ensures { GivesValueUnlessNoMemory (λ _. content_view content.new) result (content_after_log_entries (content_view content.old) (log_entries_of_changes (changes_view changes.now))) }
 {
     for change in changes {
-        match apply(alloc, content, change) {
+        match apply_change_to_content(alloc, content, change) {
             Ok(()) => {}
             Err(error) => return Err(error),
         }

@@ -2,24 +2,24 @@
 
 ghost use Rattle.std.specs.Prelude.{◌≡◌, true, false, IfErr, OnErr, OnOk, Some, length};
 ghost use Rattle.lfs_device.specs.Shown.{disk_of_geometry_and_blocks};
-ghost use Rattle.lfs_model.specs.Blocks.{block_bytes_in};
+ghost use Rattle.lfs_model.specs.Blocks.{block_bytes_by_number};
 ghost use Rattle.lfs_device.specs.Calls.{ReportsFaults};
-ghost use Rattle.lfs_model.specs.History.{IsTrueOfEachCallSince, IsTrueAfterEachStopSince};
-ghost use Rattle.lfs_model.specs.Stops.{LeavesNoNewLogIfErase, IsLeftByStopIn};
+ghost use Rattle.lfs_model.specs.History.{IsTrueOfEachCallSince, IsTrueAfterAnyPowerLossSince};
+ghost use Rattle.lfs_model.specs.Stops.{LeavesNoNewLogIfSuccessfulErase, AreBlocksLeftByPowerLossInCall};
 ghost use Rattle.lfs_model.specs.WrittenContent.{IsRawContentFittingPair};
-ghost use Rattle.lfs_model.specs.LoggedContent.{AreNamedSlots, IsWellFormedRawContent};
+ghost use Rattle.lfs_model.specs.LoggedContent.{AreNamedSlots, IsWellFormedRawPairContent};
 ghost use Rattle.lfs_tag.specs.ContentView.{content_view};
-ghost use Rattle.lfs_pair.specs.Pair.{address_of_header};
+ghost use Rattle.lfs_pair.specs.Pair.{pair_address_in_header};
 ghost use Rattle.lfs_pair.specs.ChangeView.{changes_view};
-ghost use Rattle.lfs_pair.specs.Commit.{pair_content_after_changes, both_blocks_of_pair, AppendsChanges, CanCommit, Commits, CompactsToContent, CommitFails, HasNoRoomToAppend, RefusesCommit, IsPairAddressOnDisk, HeaderSaysActiveBlock, LeavesOldOrChangedContent, LeavesOldOrNewContent};
-ghost use Rattle.lfs_pair.specs.Writing.{ChangesBlocksWithFewReads, WritesOnlyTheseBlocks};
+ghost use Rattle.lfs_pair.specs.Commit.{pair_content_after_changes, both_block_numbers_of_pair, AppendsChanges, CanCommit, CommitsChangesToPair, CompactsToContent, CommitFailsKeepingHeader, CannotAppendAndLeavesDeviceUnchanged, RefusesCommit, IsPairAddressOnDisk, HeaderSaysActiveBlock, PowerLossLeavesOldOrChangedContent, PowerLossLeavesOldOrNewContent};
+ghost use Rattle.lfs_pair.specs.Writing.{ChangesOnlyBlocksWithinReadLimit, WritesOnlyTheseBlocks};
 
 use crate::change::Change;
-use crate::contents::made_in;
+use crate::contents::read_content_and_apply_changes;
 use crate::entries::push_changes;
 use crate::pair::Pair;
-use crate::programs::{program, write_block_anew};
-use crate::size::fits;
+use crate::programs::{program_commit_at, write_block_anew};
+use crate::size::is_content_within_pair_limits;
 use lfs_device::{BlockDevice, Error, read_block};
 use lfs_tag::{CommitBuilder, Content};
 use std::alloc::Global;
@@ -41,7 +41,7 @@ pub enum Outcome {
 /// first commit after a [`fetch`](crate::fetch) takes this way, too, since the bytes after the log
 /// aren't known then. The call takes at most two reads.
 ///
-/// Returns [`Outcome::Full`] exactly where what the changes make doesn't fit a pair ([`fits`]).
+/// Returns [`Outcome::Full`] exactly where what the changes make doesn't fit a pair ([`is_content_within_pair_limits`]).
 /// Then nothing is written, and the pair stays as it was.
 ///
 /// Errors: `NoMemory` where memory for two blocks and the slots isn't granted; nothing is written
@@ -63,16 +63,16 @@ pub fn commit<D: BlockDevice>(
     requires { CanCommit (disk_of_geometry_and_blocks (D.geometry dev.old) (D.blocks dev.old)) (D.history dev.old) pair.old (changes_view changes.now) }
 
     ensures done { result ≡ Ok Outcome.Done
-        → Commits (disk_of_geometry_and_blocks (D.geometry dev.old) (D.blocks dev.old)) (D.history dev.old) (changes_view changes.now) pair.old (disk_of_geometry_and_blocks (D.geometry dev.new) (D.blocks dev.new)) (D.history dev.new) pair.new }
+        → CommitsChangesToPair (disk_of_geometry_and_blocks (D.geometry dev.old) (D.blocks dev.old)) (D.history dev.old) (changes_view changes.now) pair.old (disk_of_geometry_and_blocks (D.geometry dev.new) (D.blocks dev.new)) (D.history dev.new) pair.new }
     ensures full { result ≡ Ok Outcome.Full → RefusesCommit D.BlockDevice (changes_view changes.now) dev.old dev.new pair.old pair.new }
-    ensures error { IfErr result (λ e. CommitFails D.BlockDevice dev.old dev.new pair.old pair.new e) }
-    ensures device { ChangesBlocksWithFewReads D.BlockDevice 2 (both_blocks_of_pair (address_of_header pair.old)) dev.old dev.new }
+    ensures error { IfErr result (λ e. CommitFailsKeepingHeader D.BlockDevice dev.old dev.new pair.old pair.new e) }
+    ensures device { ChangesOnlyBlocksWithinReadLimit D.BlockDevice 2 (both_block_numbers_of_pair (pair_address_in_header pair.old)) dev.old dev.new }
     ensures faults { ReportsFaults D.BlockDevice dev.old dev.new result }
-    ensures stops { IsTrueOfEachCallSince LeavesNoNewLogIfErase (D.history dev.old) (D.history dev.new)
-        → IsTrueAfterEachStopSince IsLeftByStopIn (D.history dev.old) (D.history dev.new) (LeavesOldOrChangedContent (disk_of_geometry_and_blocks (D.geometry dev.old) (D.blocks dev.old)) (address_of_header pair.old) (changes_view changes.now)) }
+    ensures stops { IsTrueOfEachCallSince LeavesNoNewLogIfSuccessfulErase (D.history dev.old) (D.history dev.new)
+        → IsTrueAfterAnyPowerLossSince AreBlocksLeftByPowerLossInCall (D.history dev.old) (D.history dev.new) (PowerLossLeavesOldOrChangedContent (disk_of_geometry_and_blocks (D.geometry dev.old) (D.blocks dev.old)) (pair_address_in_header pair.old) (changes_view changes.now)) }
 {
     let block = read_block(alloc, dev, pair.active)?;
-    let outcome = commit_in(alloc, dev, pair, &block, changes)?;
+    let outcome = commit_with_block_bytes(alloc, dev, pair, &block, changes)?;
     Ok(outcome)
 }
 
@@ -81,7 +81,7 @@ pub fn commit<D: BlockDevice>(
 ///
 /// The caller's conditions are those of [`commit`], and that the active block has the bytes of
 /// `block`. Errors are those of [`commit`], but memory is wanted for one block and the slots.
-pub fn commit_in<'a, 'b: 'a, D: BlockDevice>(
+pub fn commit_with_block_bytes<'a, 'b: 'a, D: BlockDevice>(
     alloc: Global,
     dev: &mut D,
     pair: &mut Pair,
@@ -89,24 +89,24 @@ pub fn commit_in<'a, 'b: 'a, D: BlockDevice>(
     changes: &[Change<'b>],
 ) -> Result<Outcome, Error>
     requires can { CanCommit (disk_of_geometry_and_blocks (D.geometry dev.old) (D.blocks dev.old)) (D.history dev.old) pair.old (changes_view changes.now) }
-    requires block { block.now ≡ block_bytes_in (D.blocks dev.old) pair.old.active }
+    requires block { block.now ≡ block_bytes_by_number (D.blocks dev.old) pair.old.active }
 
     ensures done { result ≡ Ok Outcome.Done
-        → Commits (disk_of_geometry_and_blocks (D.geometry dev.old) (D.blocks dev.old)) (D.history dev.old) (changes_view changes.now) pair.old (disk_of_geometry_and_blocks (D.geometry dev.new) (D.blocks dev.new)) (D.history dev.new) pair.new }
+        → CommitsChangesToPair (disk_of_geometry_and_blocks (D.geometry dev.old) (D.blocks dev.old)) (D.history dev.old) (changes_view changes.now) pair.old (disk_of_geometry_and_blocks (D.geometry dev.new) (D.blocks dev.new)) (D.history dev.new) pair.new }
     ensures full { result ≡ Ok Outcome.Full → RefusesCommit D.BlockDevice (changes_view changes.now) dev.old dev.new pair.old pair.new }
-    ensures error { IfErr result (λ e. CommitFails D.BlockDevice dev.old dev.new pair.old pair.new e) }
-    ensures device { ChangesBlocksWithFewReads D.BlockDevice 1 (both_blocks_of_pair (address_of_header pair.old)) dev.old dev.new }
+    ensures error { IfErr result (λ e. CommitFailsKeepingHeader D.BlockDevice dev.old dev.new pair.old pair.new e) }
+    ensures device { ChangesOnlyBlocksWithinReadLimit D.BlockDevice 1 (both_block_numbers_of_pair (pair_address_in_header pair.old)) dev.old dev.new }
     ensures faults { ReportsFaults D.BlockDevice dev.old dev.new result }
-    ensures stops { IsTrueOfEachCallSince LeavesNoNewLogIfErase (D.history dev.old) (D.history dev.new)
-        → IsTrueAfterEachStopSince IsLeftByStopIn (D.history dev.old) (D.history dev.new) (LeavesOldOrChangedContent (disk_of_geometry_and_blocks (D.geometry dev.old) (D.blocks dev.old)) (address_of_header pair.old) (changes_view changes.now)) }
+    ensures stops { IsTrueOfEachCallSince LeavesNoNewLogIfSuccessfulErase (D.history dev.old) (D.history dev.new)
+        → IsTrueAfterAnyPowerLossSince AreBlocksLeftByPowerLossInCall (D.history dev.old) (D.history dev.new) (PowerLossLeavesOldOrChangedContent (disk_of_geometry_and_blocks (D.geometry dev.old) (D.blocks dev.old)) (pair_address_in_header pair.old) (changes_view changes.now)) }
 {
     let geometry = dev.geometry();
-    let content = made_in(alloc, pair, block, changes)?;
-    if !fits(&content, geometry) {
+    let content = read_content_and_apply_changes(alloc, pair, block, changes)?;
+    if !is_content_within_pair_limits(&content, geometry) {
         return Ok(Outcome::Full);
     }
     let mut buf = Vec::from_elem(alloc, 0u8, geometry.block_size as usize)?;
-    if append(dev, pair, changes, &content, &mut buf)? {
+    if append_changes_to_log(dev, pair, changes, &content, &mut buf)? {
         return Ok(Outcome::Done);
     }
     compact(dev, pair, &content, &mut buf)?;
@@ -115,7 +115,7 @@ pub fn commit_in<'a, 'b: 'a, D: BlockDevice>(
 
 // Appends the changes, which make the content, to the log of the active block, if they fit there.
 // Returns whether they do.
-fn append<D: BlockDevice>(
+fn append_changes_to_log<D: BlockDevice>(
     dev: &mut D,
     pair: &mut Pair,
     changes: &[Change<'_>],
@@ -123,17 +123,17 @@ fn append<D: BlockDevice>(
     buf: &mut [u8],
 ) -> Result<bool, Error>
     requires can { CanCommit (disk_of_geometry_and_blocks (D.geometry dev.old) (D.blocks dev.old)) (D.history dev.old) pair.old (changes_view changes.now) }
-    requires logged { IsWellFormedRawContent (content_view content.now) }
-    requires made { pair_content_after_changes (disk_of_geometry_and_blocks (D.geometry dev.old) (D.blocks dev.old)) (address_of_header pair.old) (changes_view changes.now) ≡ Some (content_view content.now) }
+    requires logged { IsWellFormedRawPairContent (content_view content.now) }
+    requires made { pair_content_after_changes (disk_of_geometry_and_blocks (D.geometry dev.old) (D.blocks dev.old)) (pair_address_in_header pair.old) (changes_view changes.now) ≡ Some (content_view content.now) }
     requires buf { length buf.old ≡ (D.geometry dev.old).block_size }
 
     ensures done { result ≡ Ok true → AppendsChanges (disk_of_geometry_and_blocks (D.geometry dev.old) (D.blocks dev.old)) (D.history dev.old) pair.old (changes_view changes.now) (content_view content.now)
         (disk_of_geometry_and_blocks (D.geometry dev.new) (D.blocks dev.new)) (D.history dev.new) pair.new }
-    ensures no_room { result ≡ Ok false → HasNoRoomToAppend D.BlockDevice (changes_view changes.now) dev.old dev.new pair.old pair.new }
+    ensures no_room { result ≡ Ok false → CannotAppendAndLeavesDeviceUnchanged D.BlockDevice (changes_view changes.now) dev.old dev.new pair.old pair.new }
     ensures buf { length buf.new ≡ length buf.old }
     ensures err_pair { OnErr result (pair.new ≡ pair.old) }
-    ensures writes { WritesOnlyTheseBlocks D.BlockDevice 1 (both_blocks_of_pair (address_of_header pair.old)) dev.old dev.new result }
-    ensures stops { IsTrueAfterEachStopSince IsLeftByStopIn (D.history dev.old) (D.history dev.new) (LeavesOldOrNewContent (disk_of_geometry_and_blocks (D.geometry dev.old) (D.blocks dev.old)) (address_of_header pair.old) (content_view content.now)) }
+    ensures writes { WritesOnlyTheseBlocks D.BlockDevice 1 (both_block_numbers_of_pair (pair_address_in_header pair.old)) dev.old dev.new result }
+    ensures stops { IsTrueAfterAnyPowerLossSince AreBlocksLeftByPowerLossInCall (D.history dev.old) (D.history dev.new) (PowerLossLeavesOldOrNewContent (disk_of_geometry_and_blocks (D.geometry dev.old) (D.blocks dev.old)) (pair_address_in_header pair.old) (content_view content.now)) }
 {
     let geometry = dev.geometry();
     let mut builder = CommitBuilder::new(geometry.page, buf, pair.last, None);
@@ -142,7 +142,7 @@ fn append<D: BlockDevice>(
     if pair.is_fetched || room < builder.end() {
         return Ok(false);
     }
-    let written = program(dev, pair.active, pair.end as u32, builder)?;
+    let written = program_commit_at(dev, pair.active, pair.end as u32, builder)?;
     *pair = Pair::written(pair.blocks, pair.active, pair.revision, written, content);
     Ok(true)
 }
@@ -154,10 +154,10 @@ pub(crate) fn compact<D: BlockDevice>(
     content: &Content<'_>,
     buf: &mut [u8],
 ) -> Result<(), Error>
-    requires address { IsPairAddressOnDisk (disk_of_geometry_and_blocks (D.geometry dev.old) (D.blocks dev.old)) (address_of_header pair.old) }
+    requires address { IsPairAddressOnDisk (disk_of_geometry_and_blocks (D.geometry dev.old) (D.blocks dev.old)) (pair_address_in_header pair.old) }
     requires active { HeaderSaysActiveBlock (disk_of_geometry_and_blocks (D.geometry dev.old) (D.blocks dev.old)) pair.old }
     requires buf { length buf.old ≡ (D.geometry dev.old).block_size }
-    requires logged { IsWellFormedRawContent (content_view content.now) }
+    requires logged { IsWellFormedRawPairContent (content_view content.now) }
     requires names { AreNamedSlots (content_view content.now).slots }
     requires fits { IsRawContentFittingPair (D.geometry dev.old).block_size (D.geometry dev.old).page (content_view content.now) }
 
@@ -165,11 +165,11 @@ pub(crate) fn compact<D: BlockDevice>(
     ensures done { OnOk result (CompactsToContent (disk_of_geometry_and_blocks (D.geometry dev.old) (D.blocks dev.old)) (D.history dev.old) pair.old (content_view content.now)
         (disk_of_geometry_and_blocks (D.geometry dev.new) (D.blocks dev.new)) (D.history dev.new) pair.new) }
     ensures err_pair { OnErr result (pair.new ≡ pair.old) }
-    ensures writes { WritesOnlyTheseBlocks D.BlockDevice 1 (both_blocks_of_pair (address_of_header pair.old)) dev.old dev.new result }
-    ensures stops { IsTrueOfEachCallSince LeavesNoNewLogIfErase (D.history dev.old) (D.history dev.new)
-        → IsTrueAfterEachStopSince IsLeftByStopIn (D.history dev.old) (D.history dev.new) (LeavesOldOrNewContent (disk_of_geometry_and_blocks (D.geometry dev.old) (D.blocks dev.old)) (address_of_header pair.old) (content_view content.now)) }
+    ensures writes { WritesOnlyTheseBlocks D.BlockDevice 1 (both_block_numbers_of_pair (pair_address_in_header pair.old)) dev.old dev.new result }
+    ensures stops { IsTrueOfEachCallSince LeavesNoNewLogIfSuccessfulErase (D.history dev.old) (D.history dev.new)
+        → IsTrueAfterAnyPowerLossSince AreBlocksLeftByPowerLossInCall (D.history dev.old) (D.history dev.new) (PowerLossLeavesOldOrNewContent (disk_of_geometry_and_blocks (D.geometry dev.old) (D.blocks dev.old)) (pair_address_in_header pair.old) (content_view content.now)) }
 {
-    let other = pair.other();
+    let other = pair.inactive_block();
     let revision = pair.revision.wrapping_add(1);
     let written = write_block_anew(dev, other, revision, content, buf)?;
     *pair = Pair::written(pair.blocks, other, revision, written, content);

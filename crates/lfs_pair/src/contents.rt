@@ -1,13 +1,13 @@
 // What changes make of a pair's content.
 
 ghost use Rattle.std.specs.Prelude.{◌≡◌, true, is_some, IfOk, IfErr, Some, length, None};
-ghost use Rattle.lfs_model.specs.Content.{empty_raw_content};
+ghost use Rattle.lfs_model.specs.Content.{empty_raw_pair_content};
 ghost use Rattle.lfs_model.specs.Log.{chain_of};
-ghost use Rattle.lfs_model.specs.LoggedContent.{IsWellFormedRawContent};
+ghost use Rattle.lfs_model.specs.LoggedContent.{IsWellFormedRawPairContent};
 ghost use Rattle.lfs_tag.specs.ContentView.{content_view};
 ghost use Rattle.lfs_pair.specs.ChangeView.{changes_view};
 ghost use Rattle.lfs_pair.specs.Commit.{content_made_by_changes, log_content_after_changes};
-ghost use Rattle.lfs_pair.specs.Pair.{HeaderHasLogEnd};
+ghost use Rattle.lfs_pair.specs.Pair.{HeaderHasLogEndAndLastTag};
 
 use crate::change::{Change, apply_all_changes};
 use crate::pair::Pair;
@@ -16,8 +16,8 @@ use lfs_tag::{Content, ContentError, Log, MoveState};
 use std::alloc::Global;
 
 // Makes the content of an empty log.
-fn empty<'a>(alloc: Global) -> Content<'a>
-    ensures { content_view result ≡ empty_raw_content }
+fn empty_content<'a>(alloc: Global) -> Content<'a>
+    ensures { content_view result ≡ empty_raw_pair_content }
 {
     Content {
         slots: Vec::new(alloc),
@@ -31,12 +31,12 @@ pub(crate) fn content_of_changes_to_empty_log<'a>(
     alloc: Global,
     changes: &[Change<'a>],
 ) -> Result<Content<'a>, Error>
-    requires { is_some (content_made_by_changes (Some empty_raw_content) (changes_view changes.now)) ≡ true }
-    ensures content { IfOk result (λ c. content_made_by_changes (Some empty_raw_content) (changes_view changes.now) ≡ Some (content_view c)) }
-    ensures logged { IfOk result (λ c. IsWellFormedRawContent (content_view c)) }
+    requires { is_some (content_made_by_changes (Some empty_raw_pair_content) (changes_view changes.now)) ≡ true }
+    ensures content { IfOk result (λ c. content_made_by_changes (Some empty_raw_pair_content) (changes_view changes.now) ≡ Some (content_view c)) }
+    ensures logged { IfOk result (λ c. IsWellFormedRawPairContent (content_view c)) }
     ensures errors { IfErr result (λ e. e ≡ Error.NoMemory) }
 {
-    let mut content = empty(alloc);
+    let mut content = empty_content(alloc);
     match apply_all_changes(alloc, &mut content, changes) {
         Ok(()) => Ok(content),
         Err(ContentError::NoMemory) => Err(Error::NoMemory),
@@ -46,19 +46,19 @@ pub(crate) fn content_of_changes_to_empty_log<'a>(
 
 // Makes the content that the changes make of what the pair's active block holds. The block has
 // these bytes; its checksums aren't computed again.
-pub(crate) fn made_in<'a, 'b: 'a>(
+pub(crate) fn read_content_and_apply_changes<'a, 'b: 'a>(
     alloc: Global,
     pair: &Pair,
     block: &'a [u8],
     changes: &[Change<'b>],
 ) -> Result<Content<'a>, Error>
     requires made { is_some (log_content_after_changes block.now (changes_view changes.now)) ≡ true }
-    requires ends { HeaderHasLogEnd (chain_of block.now).end (chain_of block.now).last pair.now }
+    requires ends { HeaderHasLogEndAndLastTag (chain_of block.now).end (chain_of block.now).last pair.now }
     ensures content { IfOk result (λ c. log_content_after_changes block.now (changes_view changes.now) ≡ Some (content_view c)) }
-    ensures logged { IfOk result (λ c. IsWellFormedRawContent (content_view c)) }
+    ensures logged { IfOk result (λ c. IsWellFormedRawPairContent (content_view c)) }
     ensures errors { IfErr result (λ e. e ≡ Error.NoMemory) }
 {
-    let log = Log::known(block, pair.end, pair.last);
+    let log = Log::with_known_end(block, pair.end, pair.last);
     let mut content = match Content::read(alloc, &log) {
         Ok(content) => content,
         Err(ContentError::NoMemory) => return Err(Error::NoMemory),

@@ -2,9 +2,9 @@
 
 ghost use Rattle.std.specs.Prelude.{map};
 ghost use Rattle.lfs_tag.specs.ContentView.{slot_view};
-ghost use Rattle.lfs_pair.specs.Cut.{CanBeCut, IsMiddleCutOfSlots};
+ghost use Rattle.lfs_pair.specs.Cut.{CanSplitSlotsIntoTwoPairs, IsCutIndexNearHalfOfSlotBytes};
 
-use crate::size::{is_within, slot_size, slots_size};
+use crate::size::{are_slot_count_and_size_within_pair_limits, slot_size, slots_size};
 use lfs_device::Geometry;
 use lfs_tag::Slot;
 
@@ -12,16 +12,22 @@ use lfs_tag::Slot;
 // bytes before it. So what is written later finds room in both parts. Where no cut is such, it is
 // the first that is possible.
 pub(crate) fn middle_cut_of_slots(slots: &[Slot<'_>], geometry: Geometry) -> usize
-    requires { CanBeCut geometry.block_size geometry.page (map slot_view slots.now) }
-    ensures { IsMiddleCutOfSlots geometry.block_size geometry.page (map slot_view slots.now) result }
+    requires { CanSplitSlotsIntoTwoPairs geometry.block_size geometry.page (map slot_view slots.now) }
+    ensures { IsCutIndexNearHalfOfSlotBytes geometry.block_size geometry.page (map slot_view slots.now) result }
 {
     let total = slots_size(slots);
     let mut cut = 0;
     let mut front = 0;
     for slot in slots {
         let longer = front + slot_size(slot);
-        let back_fits = is_within(slots.len() - cut, total - front, geometry);
-        if !is_within(cut + 1, longer, geometry) || (back_fits && 2 * longer > total) {
+        let back_fits = are_slot_count_and_size_within_pair_limits(
+            slots.len() - cut,
+            total - front,
+            geometry,
+        );
+        if !are_slot_count_and_size_within_pair_limits(cut + 1, longer, geometry)
+            || (back_fits && 2 * longer > total)
+        {
             return cut;
         }
         cut += 1;

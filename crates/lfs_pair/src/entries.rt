@@ -4,10 +4,10 @@ ghost use Rattle.std.specs.Prelude.{◌≡◌, ◌≢◌, ◌+◌, ◌/◌, ◌<
 ghost use Rattle.std.specs.List.{list_all};
 ghost use Rattle.std.specs.Option.{option_map};
 ghost use Rattle.lfs_model.specs.Slots.{pair_address_of_array};
-ghost use Rattle.lfs_model.specs.LoggedContent.{AreAttributesInTypeOrder, IsWellFormedRawSlot, AreWellFormedRawSlots, IsWellFormedRawContent, IsWellFormedMoveState, IsNameOrStructIfSome};
-ghost use Rattle.lfs_model.specs.WrittenContent.{log_entries_of_name_or_struct, log_entries_of_attributes, log_entries_of_slot, log_entries_of_slots, log_entries_of_tail, tail_log_entry, move_state_log_entry, log_entries_of_move_state, log_entries_of_content, log_entry_with};
-ghost use Rattle.lfs_model.specs.Changes.{log_entries_of_change, log_entries_of_changes, is_storable_change, RemoveAttribute};
-ghost use Rattle.lfs_tag.specs.ContentView.{part_view, attribute_view, slot_view, tail_view, content_view};
+ghost use Rattle.lfs_model.specs.LoggedContent.{AreAttributesInTypeOrder, IsWellFormedRawSlot, AreWellFormedRawSlots, IsWellFormedRawPairContent, AreMoveStateFieldsWithinBitWidths, IsNameOrStructTheFormatAllowsIfSome};
+ghost use Rattle.lfs_model.specs.WrittenContent.{log_entries_of_name_or_struct, log_entries_of_attributes, log_entries_of_slot, log_entries_of_slots, log_entries_of_tail, tail_log_entry, move_state_log_entry, log_entries_of_move_state, log_entries_of_content, log_entry_of_type_id_and_bytes};
+ghost use Rattle.lfs_model.specs.Changes.{log_entries_of_change, log_entries_of_changes, is_storable_pair_content_change, RemoveAttribute};
+ghost use Rattle.lfs_tag.specs.ContentView.{name_or_struct_view, attribute_view, slot_view, tail_view, content_view};
 ghost use Rattle.lfs_tag.specs.FieldsView.{move_view};
 ghost use Rattle.lfs_pair.specs.ChangeView.{change_view, changes_view};
 ghost use Rattle.lfs_pair.specs.Writing.{commit_with_more_entries};
@@ -15,17 +15,17 @@ ghost use Rattle.lfs_pair.specs.Writing.{commit_with_more_entries};
 use crate::change::Change;
 use lfs_tag::kinds::{ATTRIBUTE, CREATE, DELETE, HARD_TAIL, MOVE_STATE, SOFT_TAIL};
 use lfs_tag::{
-    Attribute, CommitBuilder, Content, MoveState, NULL_ADDRESS, Part, Slot, Tag, Tail, move_bytes,
-    pair_bytes,
+    Attribute, CommitBuilder, Content, MoveState, NULL_ADDRESS, NameOrStruct, Slot, Tag, Tail,
+    move_state_bytes, pair_bytes,
 };
 
 // Adds an entry with these fields.
-fn push(builder: &mut CommitBuilder<'_>, kind: u16, id: u16, bytes: &[u8])
+fn push_log_entry(builder: &mut CommitBuilder<'_>, kind: u16, id: u16, bytes: &[u8])
     requires kind { kind < 2 ^ 11 }
     requires other { kind / 2 ^ 8 ≢ 5 }
     requires id { id < 2 ^ 10 }
     requires bytes { length bytes.now ≤ 1022 }
-    ensures { builder.new ≡ commit_with_more_entries (log_entry_with kind id bytes.now ∷ []) builder.old }
+    ensures { builder.new ≡ commit_with_more_entries (log_entry_of_type_id_and_bytes kind id bytes.now ∷ []) builder.old }
 {
     builder.push(Tag::new(kind, id, bytes.len() as u16), bytes);
 }
@@ -44,33 +44,33 @@ fn push_tail(builder: &mut CommitBuilder<'_>, hard: bool, pair: Option<[u32; 2]>
 {
     let kind = if hard { HARD_TAIL } else { SOFT_TAIL };
     let pair = pair.unwrap_or([NULL_ADDRESS, NULL_ADDRESS]);
-    push(builder, kind, Tag::NO_ID, &pair_bytes(pair));
+    push_log_entry(builder, kind, Tag::NO_ID, &pair_bytes(pair));
 }
 
 // Adds a move state.
 fn push_move(builder: &mut CommitBuilder<'_>, state: &MoveState)
-    requires { IsWellFormedMoveState (move_view state.now) }
+    requires { AreMoveStateFieldsWithinBitWidths (move_view state.now) }
     ensures { builder.new ≡ commit_with_more_entries (move_state_log_entry (move_view state.now) ∷ []) builder.old }
 {
-    push(builder, MOVE_STATE, Tag::NO_ID, &move_bytes(state));
+    push_log_entry(builder, MOVE_STATE, Tag::NO_ID, &move_state_bytes(state));
 }
 
 // ---- changes
 
 // Adds the entries of a change.
 fn push_change(builder: &mut CommitBuilder<'_>, change: &Change<'_>)
-    requires { is_storable_change (change_view change.now) ≡ true }
+    requires { is_storable_pair_content_change (change_view change.now) ≡ true }
     ensures { builder.new ≡ commit_with_more_entries (log_entries_of_change (change_view change.now)) builder.old }
 {
     match *change {
         Change::Create { id, kind, name } => {
-            push(builder, CREATE, id, &[]);
-            push(builder, kind, id, name);
+            push_log_entry(builder, CREATE, id, &[]);
+            push_log_entry(builder, kind, id, name);
         }
-        Change::Delete { id } => push(builder, DELETE, id, &[]),
-        Change::Struct { id, kind, bytes } => push(builder, kind, id, bytes),
+        Change::Delete { id } => push_log_entry(builder, DELETE, id, &[]),
+        Change::Struct { id, kind, bytes } => push_log_entry(builder, kind, id, bytes),
         Change::Attr { id, attr, bytes } => {
-            push(builder, ATTRIBUTE + u16::from(attr), id, bytes);
+            push_log_entry(builder, ATTRIBUTE + u16::from(attr), id, bytes);
         }
         Change::NoAttr { id, attr } => push_attribute_removal(builder, id, attr),
         Change::Tail { hard, pair } => push_tail(builder, hard, pair),
@@ -80,7 +80,7 @@ fn push_change(builder: &mut CommitBuilder<'_>, change: &Change<'_>)
 
 // Adds the entries of all changes, in order.
 pub(crate) fn push_changes(builder: &mut CommitBuilder<'_>, changes: &[Change<'_>])
-    requires { list_all is_storable_change (changes_view changes.now) ≡ true }
+    requires { list_all is_storable_pair_content_change (changes_view changes.now) ≡ true }
     ensures { builder.new ≡ commit_with_more_entries (log_entries_of_changes (changes_view changes.now)) builder.old }
 {
     for change in changes {
@@ -94,16 +94,16 @@ pub(crate) fn push_changes(builder: &mut CommitBuilder<'_>, changes: &[Change<'_
 fn push_name_or_struct(
     builder: &mut CommitBuilder<'_>,
     id: u16,
-    part: &Option<Part<'_>>,
+    part: &Option<NameOrStruct<'_>>,
     class: u16,
 )
     requires id { id < 2 ^ 10 }
     requires class { class < 5 }
-    requires part { IsNameOrStructIfSome class (option_map part_view part.now) }
-    ensures { builder.new ≡ commit_with_more_entries (log_entries_of_name_or_struct id (option_map part_view part.now)) builder.old }
+    requires part { IsNameOrStructTheFormatAllowsIfSome class (option_map name_or_struct_view part.now) }
+    ensures { builder.new ≡ commit_with_more_entries (log_entries_of_name_or_struct id (option_map name_or_struct_view part.now)) builder.old }
 {
     if let Some(part) = part {
-        push(builder, part.kind, id, part.bytes);
+        push_log_entry(builder, part.kind, id, part.bytes);
     }
 }
 
@@ -114,7 +114,7 @@ fn push_attributes(builder: &mut CommitBuilder<'_>, id: u16, attributes: &[Attri
     ensures { builder.new ≡ commit_with_more_entries (log_entries_of_attributes id (map attribute_view attributes.now)) builder.old }
 {
     for attribute in attributes {
-        push(
+        push_log_entry(
             builder,
             ATTRIBUTE + u16::from(attribute.kind),
             id,
@@ -158,7 +158,7 @@ fn push_tail_if_some(builder: &mut CommitBuilder<'_>, tail: &Option<Tail>)
 
 // Adds a move state, unless it is zero.
 fn push_move_if_any(builder: &mut CommitBuilder<'_>, state: &MoveState)
-    requires { IsWellFormedMoveState (move_view state.now) }
+    requires { AreMoveStateFieldsWithinBitWidths (move_view state.now) }
     ensures { builder.new ≡ commit_with_more_entries (log_entries_of_move_state (move_view state.now)) builder.old }
 {
     if !state.is_none() {
@@ -169,7 +169,7 @@ fn push_move_if_any(builder: &mut CommitBuilder<'_>, state: &MoveState)
 // Adds the entries that write a content into an empty log: each slot's name, struct and attributes
 // by ascending type, then the tail and the move state where there are such.
 pub(crate) fn push_content(builder: &mut CommitBuilder<'_>, content: &Content<'_>)
-    requires logged { IsWellFormedRawContent (content_view content.now) }
+    requires logged { IsWellFormedRawPairContent (content_view content.now) }
     requires few { length (content_view content.now).slots < 0x3ff }
     ensures { builder.new ≡ commit_with_more_entries (log_entries_of_content (content_view content.now)) builder.old }
 {

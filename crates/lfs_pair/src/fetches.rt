@@ -1,24 +1,24 @@
 // The header of a pair, read from the device.
 
 ghost use Rattle.std.specs.Prelude.{◌≡◌, ◌≢◌, ◌+◌, ◌≤◌, ◌<◌, ◌⊎◌, true, IfOk, IfErr, IsOk, None, OnOk, Some};
-ghost use Rattle.lfs_model.specs.Blocks.{block_bytes_in};
+ghost use Rattle.lfs_model.specs.Blocks.{block_bytes_by_number};
 ghost use Rattle.lfs_device.specs.Shown.{disk_of_geometry_and_blocks};
 ghost use Rattle.lfs_device.specs.Calls.{ReadsOnly, ReportsFaults};
-ghost use Rattle.lfs_model.specs.History.{reads};
+ghost use Rattle.lfs_model.specs.History.{read_count_of_history};
 ghost use Rattle.lfs_model.specs.Slots.{pair_address_of_array};
 ghost use Rattle.lfs_model.specs.Log.{chain_of, log_entries_of_block, revision_of_block};
-ghost use Rattle.lfs_model.specs.Content.{raw_content_of_pair_at, content_after_log_entries, empty_raw_content, RawContent};
-ghost use Rattle.lfs_pair.specs.Pair.{HeaderDescribesLog, FetchFindsPair, fetch_reads, later_block_first};
+ghost use Rattle.lfs_model.specs.Content.{raw_content_of_pair_at, content_after_log_entries, empty_raw_pair_content, RawPairContent};
+ghost use Rattle.lfs_pair.specs.Pair.{HeaderDescribesLog, FetchFindsPair, read_count_of_pair_fetch, pair_blocks_later_revision_first};
 
 use crate::block_logs::BlockLogEnd;
 use crate::pair::Pair;
 use byteorder::{ByteOrder, LittleEndian};
 use lfs_device::{BlockDevice, Error, read_block};
-use lfs_tag::{Log, Summary, is_later};
+use lfs_tag::{Log, Summary, is_revision_later_than};
 use std::alloc::Global;
 
 // Makes the header of a pair whose active block has these bytes and that head.
-fn header_of(
+fn header_of_fetched_pair(
     alloc: Global,
     blocks: [u32; 2],
     active: u32,
@@ -28,14 +28,14 @@ fn header_of(
     requires end { head.end ≡ (chain_of bytes.now).end }
     requires last { head.last ≡ (chain_of bytes.now).last }
     requires revision { head.revision ≡ revision_of_block bytes.now }
-    ensures describes { IfOk result (λ pair. (held : RawContent) × HeaderDescribesLog bytes.now pair held) }
+    ensures describes { IfOk result (λ pair. (held : RawPairContent) × HeaderDescribesLog bytes.now pair held) }
     ensures blocks { IfOk result (λ pair. pair.blocks ≡ blocks) }
     ensures active { IfOk result (λ pair. pair.active ≡ active) }
     ensures fetched { IfOk result (λ pair. pair.is_fetched ≡ true) }
-    ensures corrupt { result ≡ Err Error.Corrupt → content_after_log_entries empty_raw_content (log_entries_of_block bytes.now) ≡ None }
+    ensures corrupt { result ≡ Err Error.Corrupt → content_after_log_entries empty_raw_pair_content (log_entries_of_block bytes.now) ≡ None }
     ensures errors { IfErr result (λ e. (e ≡ Error.Corrupt) ⊎ (e ≡ Error.NoMemory)) }
 {
-    let log = Log::known(bytes, head.end, head.last);
+    let log = Log::with_known_end(bytes, head.end, head.last);
     let summary = Summary::read(alloc, &log)?;
     Ok(Pair {
         blocks,
@@ -54,11 +54,11 @@ fn header_of(
 // Reads the revision of a block.
 fn read_revision<D: BlockDevice>(dev: &mut D, block: u32) -> Result<u32, Error>
     requires { block < (D.geometry dev.old).block_count }
-    ensures revision { IfOk result (λ revision. revision ≡ revision_of_block (block_bytes_in (D.blocks dev.old) block)) }
+    ensures revision { IfOk result (λ revision. revision ≡ revision_of_block (block_bytes_by_number (D.blocks dev.old) block)) }
     ensures errors { IfErr result (λ e. e ≡ Error.Io) }
     ensures faults { ReportsFaults D.BlockDevice dev.old dev.new result }
     ensures device { ReadsOnly D.BlockDevice dev.old dev.new }
-    ensures once { reads (D.history dev.new) ≡ reads (D.history dev.old) + 1 }
+    ensures once { read_count_of_history (D.history dev.new) ≡ read_count_of_history (D.history dev.old) + 1 }
 {
     let mut bytes = [0; 4];
     dev.read(block, 0, &mut bytes)?;
@@ -67,20 +67,23 @@ fn read_revision<D: BlockDevice>(dev: &mut D, block: u32) -> Result<u32, Error>
 
 // Returns a pair's two blocks, the one with the later revision first. Where neither is later they
 // come as they are named.
-fn later_first<D: BlockDevice>(dev: &mut D, blocks: [u32; 2]) -> Result<[u32; 2], Error>
+fn blocks_with_later_revision_first<D: BlockDevice>(
+    dev: &mut D,
+    blocks: [u32; 2],
+) -> Result<[u32; 2], Error>
     requires first { (pair_address_of_array blocks).0 < (D.geometry dev.old).block_count }
     requires second { (pair_address_of_array blocks).1 < (D.geometry dev.old).block_count }
-    ensures later { IfOk result (λ later. pair_address_of_array later ≡ later_block_first (disk_of_geometry_and_blocks (D.geometry dev.old) (D.blocks dev.old)) (pair_address_of_array blocks)) }
+    ensures later { IfOk result (λ later. pair_address_of_array later ≡ pair_blocks_later_revision_first (disk_of_geometry_and_blocks (D.geometry dev.old) (D.blocks dev.old)) (pair_address_of_array blocks)) }
     ensures errors { IfErr result (λ e. e ≡ Error.Io) }
     ensures faults { ReportsFaults D.BlockDevice dev.old dev.new result }
     ensures device { ReadsOnly D.BlockDevice dev.old dev.new }
-    ensures reads { reads (D.history dev.new) ≤ reads (D.history dev.old) + 2 }
-    ensures both { OnOk result (reads (D.history dev.new) ≡ reads (D.history dev.old) + 2) }
+    ensures reads { read_count_of_history (D.history dev.new) ≤ read_count_of_history (D.history dev.old) + 2 }
+    ensures both { OnOk result (read_count_of_history (D.history dev.new) ≡ read_count_of_history (D.history dev.old) + 2) }
 {
     let [first, second] = blocks;
     let first_revision = read_revision(dev, first)?;
     let second_revision = read_revision(dev, second)?;
-    if is_later(first_revision, second_revision) {
+    if is_revision_later_than(first_revision, second_revision) {
         Ok([second, first])
     } else {
         Ok([first, second])
@@ -106,19 +109,19 @@ pub fn fetch<D: BlockDevice>(alloc: Global, dev: &mut D, blocks: [u32; 2]) -> Re
     ensures errors { IfErr result (λ e. (e ≡ Error.Corrupt) ⊎ (e ≡ Error.NoMemory) ⊎ (e ≡ Error.Io)) }
     ensures faults { ReportsFaults D.BlockDevice dev.old dev.new result }
     ensures device { ReadsOnly D.BlockDevice dev.old dev.new }
-    ensures reads { OnOk result (reads (D.history dev.new) ≡ reads (D.history dev.old) + fetch_reads (disk_of_geometry_and_blocks (D.geometry dev.old) (D.blocks dev.old)) (pair_address_of_array blocks)) }
-    ensures few { reads (D.history dev.new) ≤ reads (D.history dev.old) + 4 }
+    ensures reads { OnOk result (read_count_of_history (D.history dev.new) ≡ read_count_of_history (D.history dev.old) + read_count_of_pair_fetch (disk_of_geometry_and_blocks (D.geometry dev.old) (D.blocks dev.old)) (pair_address_of_array blocks)) }
+    ensures few { read_count_of_history (D.history dev.new) ≤ read_count_of_history (D.history dev.old) + 4 }
 {
-    let [later, other] = later_first(dev, blocks)?;
+    let [later, other] = blocks_with_later_revision_first(dev, blocks)?;
     let bytes = read_block(alloc, dev, later)?;
     let head = BlockLogEnd::of(&bytes);
     if head.has_commit {
-        return header_of(alloc, blocks, later, head, &bytes);
+        return header_of_fetched_pair(alloc, blocks, later, head, &bytes);
     }
     let other_bytes = read_block(alloc, dev, other)?;
     let other_head = BlockLogEnd::of(&other_bytes);
     if !other_head.has_commit {
         return Err(Error::Corrupt);
     }
-    header_of(alloc, blocks, other, other_head, &other_bytes)
+    header_of_fetched_pair(alloc, blocks, other, other_head, &other_bytes)
 }

@@ -3,16 +3,16 @@
 ghost use Rattle.std.specs.Prelude.{◌≡◌, ◌<◌, false, length, IfErr, IfOk, OnOk};
 ghost use Rattle.lfs_device.specs.Shown.{disk_of_geometry_and_blocks};
 ghost use Rattle.lfs_device.specs.Calls.{ReportsFaults};
-ghost use Rattle.lfs_model.specs.Blocks.{block_bytes_in};
+ghost use Rattle.lfs_model.specs.Blocks.{block_bytes_by_number};
 ghost use Rattle.lfs_model.specs.Content.{has_commit};
-ghost use Rattle.lfs_model.specs.LoggedContent.{AreNamedSlots, IsWellFormedRawContent};
+ghost use Rattle.lfs_model.specs.LoggedContent.{AreNamedSlots, IsWellFormedRawPairContent};
 ghost use Rattle.lfs_model.specs.Slots.{pair_address_of_array};
 ghost use Rattle.lfs_model.specs.WrittenContent.{IsRawContentFittingPair};
 ghost use Rattle.lfs_tag.specs.ContentView.{content_view};
 ghost use Rattle.lfs_pair.specs.ChangeView.{changes_view};
-ghost use Rattle.lfs_pair.specs.Commit.{IsPairAddressOnDisk, PairHasContent, both_blocks_of_pair};
-ghost use Rattle.lfs_pair.specs.Writing.{ChangesBlocksWithFewReads, WritesOnlyThisBlock, WritesOnlyTheseBlocks};
-ghost use Rattle.lfs_pair.specs.Fresh.{CanWriteFreshPair, WritesBlocksAndClearsOne, FailsUntouchedAtNoMemory, HasContentWithRevisionOne, IsFreshPair};
+ghost use Rattle.lfs_pair.specs.Commit.{IsPairAddressOnDisk, PairHasContent, both_block_numbers_of_pair};
+ghost use Rattle.lfs_pair.specs.Writing.{ChangesOnlyBlocksWithinReadLimit, WritesOnlyThisBlock, WritesOnlyTheseBlocks};
+ghost use Rattle.lfs_pair.specs.Fresh.{CanWriteFreshPair, HasErasedOneMoreBlockThanProgrammed, LeavesDeviceUntouchedAtNoMemory, HasContentWithRevisionOne, IsFreshPair};
 
 use crate::change::Change;
 use crate::contents::content_of_changes_to_empty_log;
@@ -30,12 +30,16 @@ const ZEROS: [u8; 512] = [0; 512];
 
 // Erases a block, and leaves no log in it. An erase may leave any bytes, so an old log may still be
 // there after it. The first page is then programmed with zeros. The buffer is as long as a block.
-fn clear<D: BlockDevice>(dev: &mut D, block: u32, buf: &mut [u8]) -> Result<(), Error>
+fn erase_block_leaving_no_log<D: BlockDevice>(
+    dev: &mut D,
+    block: u32,
+    buf: &mut [u8],
+) -> Result<(), Error>
     requires in_device { block < (D.geometry dev.old).block_count }
     requires buf { length buf.old ≡ (D.geometry dev.old).block_size }
-    ensures cleared { OnOk result (has_commit (block_bytes_in (D.blocks dev.new) block) ≡ false) }
+    ensures cleared { OnOk result (has_commit (block_bytes_by_number (D.blocks dev.new) block) ≡ false) }
     ensures buf { length buf.new ≡ length buf.old }
-    ensures clears { OnOk result (WritesBlocksAndClearsOne 0 (D.history dev.old) (D.history dev.new)) }
+    ensures clears { OnOk result (HasErasedOneMoreBlockThanProgrammed 0 (D.history dev.old) (D.history dev.new)) }
     ensures writes { WritesOnlyThisBlock D.BlockDevice 1 block dev.old dev.new result }
 {
     let page = dev.geometry().page as usize;
@@ -56,18 +60,18 @@ pub(crate) fn write_fresh_pair<D: BlockDevice>(
 ) -> Result<Pair, Error>
     requires address { IsPairAddressOnDisk (disk_of_geometry_and_blocks (D.geometry dev.old) (D.blocks dev.old)) (pair_address_of_array blocks) }
     requires buf { length buf.old ≡ (D.geometry dev.old).block_size }
-    requires logged { IsWellFormedRawContent (content_view content.now) }
+    requires logged { IsWellFormedRawPairContent (content_view content.now) }
     requires names { AreNamedSlots (content_view content.now).slots }
     requires fits { IsRawContentFittingPair (D.geometry dev.old).block_size (D.geometry dev.old).page (content_view content.now) }
 
     ensures holds { IfOk result (λ pair. PairHasContent (disk_of_geometry_and_blocks (D.geometry dev.new) (D.blocks dev.new)) (D.history dev.new) (pair_address_of_array blocks) pair (content_view content.now)) }
     ensures fresh { IfOk result (λ pair. HasContentWithRevisionOne (content_view content.now) (disk_of_geometry_and_blocks (D.geometry dev.new) (D.blocks dev.new)) (pair_address_of_array blocks) pair) }
     ensures buf { length buf.new ≡ length buf.old }
-    ensures clears { OnOk result (WritesBlocksAndClearsOne 1 (D.history dev.old) (D.history dev.new)) }
-    ensures writes { WritesOnlyTheseBlocks D.BlockDevice 2 (both_blocks_of_pair (pair_address_of_array blocks)) dev.old dev.new result }
+    ensures clears { OnOk result (HasErasedOneMoreBlockThanProgrammed 1 (D.history dev.old) (D.history dev.new)) }
+    ensures writes { WritesOnlyTheseBlocks D.BlockDevice 2 (both_block_numbers_of_pair (pair_address_of_array blocks)) dev.old dev.new result }
 {
     let [first, second] = blocks;
-    clear(dev, second, buf)?;
+    erase_block_leaving_no_log(dev, second, buf)?;
     let written = write_block_anew(dev, first, FIRST_REVISION, content, buf)?;
     Ok(Pair::written(blocks, first, FIRST_REVISION, written, content))
 }
@@ -96,8 +100,8 @@ impl Pair {
         requires { CanWriteFreshPair (disk_of_geometry_and_blocks (D.geometry dev.old) (D.blocks dev.old)) (pair_address_of_array blocks) (changes_view changes.now) }
 
         ensures fresh { IfOk result (λ pair. IsFreshPair (D.history dev.old) (changes_view changes.now) (disk_of_geometry_and_blocks (D.geometry dev.new) (D.blocks dev.new)) (D.history dev.new) (pair_address_of_array blocks) pair) }
-        ensures error { IfErr result (λ e. FailsUntouchedAtNoMemory dev.old dev.new e) }
-        ensures device { ChangesBlocksWithFewReads D.BlockDevice 2 (both_blocks_of_pair (pair_address_of_array blocks)) dev.old dev.new }
+        ensures error { IfErr result (λ e. LeavesDeviceUntouchedAtNoMemory dev.old dev.new e) }
+        ensures device { ChangesOnlyBlocksWithinReadLimit D.BlockDevice 2 (both_block_numbers_of_pair (pair_address_of_array blocks)) dev.old dev.new }
         ensures faults { ReportsFaults D.BlockDevice dev.old dev.new result }
     {
         let content = content_of_changes_to_empty_log(alloc, changes)?;

@@ -1,17 +1,17 @@
 // The header that is kept of a metadata pair.
 
 ghost use Rattle.std.specs.Prelude.{◌≡◌, false, is_some, map};
-ghost use Rattle.lfs_model.specs.Content.{slots_if_all_complete};
+ghost use Rattle.lfs_model.specs.Content.{slots_if_names_and_structs_present};
 ghost use Rattle.lfs_model.specs.Slots.{pair_address_of_array, same_pair};
 ghost use Rattle.lfs_tag.specs.ContentView.{content_view, slot_view};
-ghost use Rattle.lfs_pair.specs.Pair.{HeaderHasLogEnd, IsHeaderOfContent, inactive_block_in_header};
+ghost use Rattle.lfs_pair.specs.Pair.{HeaderHasLogEndAndLastTag, IsHeaderOfContent, inactive_block_in_header};
 
-use crate::programs::Written;
+use crate::programs::WrittenCommit;
 use lfs_tag::{Content, MoveState, Slot, Tag, Tail};
 
 // Returns whether each slot has a name and a struct.
 pub(crate) fn are_slots_complete(slots: &[Slot<'_>]) -> bool
-    ensures { result ≡ is_some (slots_if_all_complete (map slot_view slots.now)) }
+    ensures { result ≡ is_some (slots_if_names_and_structs_present (map slot_view slots.now)) }
 {
     for slot in slots {
         if slot.name.is_none() || slot.structure.is_none() {
@@ -59,7 +59,7 @@ pub struct Pair {
 
 impl Pair {
     // Returns the block that isn't active.
-    pub(crate) fn other(&self) -> u32
+    pub(crate) fn inactive_block(&self) -> u32
         ensures { result ≡ inactive_block_in_header self.now }
     {
         if self.active == self.blocks[0] {
@@ -74,13 +74,13 @@ impl Pair {
         blocks: [u32; 2],
         active: u32,
         revision: u32,
-        written: Written,
+        written: WrittenCommit,
         content: &Content<'_>,
     ) -> Pair
         ensures blocks { result.blocks ≡ blocks }
         ensures active { result.active ≡ active }
         ensures revision { result.revision ≡ revision }
-        ensures ends { HeaderHasLogEnd written.end written.last result }
+        ensures ends { HeaderHasLogEndAndLastTag written.end written.last result }
         ensures sums { IsHeaderOfContent (content_view content.now) result }
         ensures fetched { result.is_fetched ≡ false }
     {

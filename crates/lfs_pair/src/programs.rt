@@ -3,15 +3,15 @@
 ghost use Rattle.std.specs.Prelude.{◌≡◌, ◌<◌, ◌≤◌, ◌+◌, ◌%◌, length, IfOk, IfErr, OnOk};
 ghost use Rattle.lfs_device.specs.Shown.{disk_of_geometry_and_blocks};
 ghost use Rattle.lfs_device.specs.Calls.{ReadsOnly, ReportsFaults};
-ghost use Rattle.lfs_model.specs.Blocks.{block_bytes_in};
-ghost use Rattle.lfs_model.specs.History.{AreBytesUnprogrammed, IsTrueOfEachCallSince, IsTrueAfterEachStopSince, erases, program_count_of_history, reads};
-ghost use Rattle.lfs_model.specs.LoggedContent.{AreNamedSlots, IsWellFormedRawContent};
+ghost use Rattle.lfs_model.specs.Blocks.{block_bytes_by_number};
+ghost use Rattle.lfs_model.specs.History.{AreBytesUnprogrammed, IsTrueOfEachCallSince, IsTrueAfterAnyPowerLossSince, erase_count_of_history, program_count_of_history, read_count_of_history};
+ghost use Rattle.lfs_model.specs.LoggedContent.{AreNamedSlots, IsWellFormedRawPairContent};
 ghost use Rattle.lfs_model.specs.Commit.{encoded_size_of_log_entries, four_bytes_from_offset, page_aligned_commit_end};
-ghost use Rattle.lfs_model.specs.Stops.{LeavesNoNewLogIfErase, IsLeftByStopIn};
+ghost use Rattle.lfs_model.specs.Stops.{LeavesNoNewLogIfSuccessfulErase, AreBlocksLeftByPowerLossInCall};
 ghost use Rattle.lfs_model.specs.WrittenContent.{IsRawContentFittingPair, log_entries_of_content};
-ghost use Rattle.lfs_tag.specs.Builder.{CommitIsAt, padded_end};
+ghost use Rattle.lfs_tag.specs.Builder.{IsOffsetForCommitInBlock, padded_commit_end};
 ghost use Rattle.lfs_tag.specs.ContentView.{content_view};
-ghost use Rattle.lfs_pair.specs.Writing.{BlockGetsCommitAtOffset, IsBlockWrittenAnew, LogEndsOnPage, LeavesOldLogOrCommit, LeavesOldLogOrRewritten, DiffersOnlyInBlock, WritesOnlyThisBlock};
+ghost use Rattle.lfs_pair.specs.Writing.{BlockGetsCommitAtOffset, IsBlockWrittenAnew, LogEndsOnPageBoundaryBeforeUnprogrammedBytes, PowerLossLeavesOldLogOrCommit, PowerLossLeavesOldLogOrRewrittenContent, DiffersOnlyInBlockAsPropertyAllows, WritesOnlyThisBlock};
 
 use crate::entries::push_content;
 use lfs_device::{BlockDevice, Error};
@@ -19,7 +19,7 @@ use lfs_tag::{CommitBuilder, Content, Tag};
 
 // What a caller keeps of a commit that was written.
 #[derive(Clone, Copy, Drop)]
-pub(crate) struct Written {
+pub(crate) struct WrittenCommit {
     // Where the commit ends, in bytes from the block's beginning.
     pub end: usize,
     // The commit's last tag. The next tag is stored as its exclusive or with this one.
@@ -27,18 +27,18 @@ pub(crate) struct Written {
 }
 
 // Reads the four bytes of a block at an offset. Returns None where the block has fewer.
-fn read_next_four_bytes<D: BlockDevice>(
+fn read_four_block_bytes_at_offset<D: BlockDevice>(
     dev: &mut D,
     block: u32,
     at: u32,
 ) -> Result<Option<[u8; 4]>, Error>
     requires in_device { block < (D.geometry dev.old).block_count }
     requires in_block { at ≤ (D.geometry dev.old).block_size }
-    ensures bytes { IfOk result (λ next. next ≡ four_bytes_from_offset (block_bytes_in (D.blocks dev.old) block) at) }
+    ensures bytes { IfOk result (λ next. next ≡ four_bytes_from_offset (block_bytes_by_number (D.blocks dev.old) block) at) }
     ensures device { ReadsOnly D.BlockDevice dev.old dev.new }
     ensures errors { IfErr result (λ e. e ≡ Error.Io) }
     ensures faults { ReportsFaults D.BlockDevice dev.old dev.new result }
-    ensures few { reads (D.history dev.new) ≤ reads (D.history dev.old) + 1 }
+    ensures few { read_count_of_history (D.history dev.new) ≤ read_count_of_history (D.history dev.old) + 1 }
 {
     if dev.geometry().block_size - at < 4 {
         return Ok(None);
@@ -49,33 +49,33 @@ fn read_next_four_bytes<D: BlockDevice>(
 }
 
 // Programs a commit into a block at an offset. The block is unprogrammed from there on.
-pub(crate) fn program<D: BlockDevice>(
+pub(crate) fn program_commit_at<D: BlockDevice>(
     dev: &mut D,
     block: u32,
     at: u32,
     builder: CommitBuilder<'_>,
-) -> Result<Written, Error>
+) -> Result<WrittenCommit, Error>
     requires in_device { block < (D.geometry dev.old).block_count }
     requires begins { at % (D.geometry dev.old).page ≡ 0 }
     requires page { builder.page ≡ (D.geometry dev.old).page }
-    requires room { padded_end builder ≤ builder.room }
-    requires ends { at + padded_end builder ≤ (D.geometry dev.old).block_size }
-    requires goes { CommitIsAt builder.revision builder.previous (block_bytes_in (D.blocks dev.old) block) at }
+    requires room { padded_commit_end builder ≤ builder.room }
+    requires ends { at + padded_commit_end builder ≤ (D.geometry dev.old).block_size }
+    requires goes { IsOffsetForCommitInBlock builder.revision builder.previous (block_bytes_by_number (D.blocks dev.old) block) at }
     requires unprogrammed { AreBytesUnprogrammed (D.history dev.old) block at (D.geometry dev.old).block_size }
 
-    ensures adds { IfOk result (λ written. BlockGetsCommitAtOffset builder.entry at written.end (block_bytes_in (D.blocks dev.old) block) (block_bytes_in (D.blocks dev.new) block)) }
-    ensures written { IfOk result (λ written. LogEndsOnPage (disk_of_geometry_and_blocks (D.geometry dev.new) (D.blocks dev.new)) (D.history dev.new) block written.end written.last) }
+    ensures adds { IfOk result (λ written. BlockGetsCommitAtOffset builder.entry at written.end (block_bytes_by_number (D.blocks dev.old) block) (block_bytes_by_number (D.blocks dev.new) block)) }
+    ensures written { IfOk result (λ written. LogEndsOnPageBoundaryBeforeUnprogrammedBytes (disk_of_geometry_and_blocks (D.geometry dev.new) (D.blocks dev.new)) (D.history dev.new) block written.end written.last) }
     ensures writes { WritesOnlyThisBlock D.BlockDevice 1 block dev.old dev.new result }
-    ensures erases { erases (D.history dev.new) ≡ erases (D.history dev.old) }
+    ensures erases { erase_count_of_history (D.history dev.new) ≡ erase_count_of_history (D.history dev.old) }
     ensures programs { OnOk result (program_count_of_history (D.history dev.new) ≡ program_count_of_history (D.history dev.old) + 1) }
-    ensures stops { IsTrueAfterEachStopSince IsLeftByStopIn (D.history dev.old) (D.history dev.new) (DiffersOnlyInBlock block (LeavesOldLogOrCommit builder.entry at) (D.blocks dev.old)) }
+    ensures stops { IsTrueAfterAnyPowerLossSince AreBlocksLeftByPowerLossInCall (D.history dev.old) (D.history dev.new) (DiffersOnlyInBlockAsPropertyAllows block (PowerLossLeavesOldLogOrCommit builder.entry at) (D.blocks dev.old)) }
 {
     let end = at + builder.end();
-    let next = read_next_four_bytes(dev, block, end)?;
-    let last = builder.last(next);
+    let next = read_four_block_bytes_at_offset(dev, block, end)?;
+    let last = builder.last_tag_of_commit(next);
     let pages = builder.finish(next)?;
     dev.prog(block, at, pages)?;
-    Ok(Written {
+    Ok(WrittenCommit {
         end: end as usize,
         last,
     })
@@ -89,25 +89,25 @@ pub(crate) fn write_block_anew<D: BlockDevice>(
     revision: u32,
     content: &Content<'_>,
     buf: &mut [u8],
-) -> Result<Written, Error>
+) -> Result<WrittenCommit, Error>
     requires in_device { block < (D.geometry dev.old).block_count }
     requires buf { length buf.old ≡ (D.geometry dev.old).block_size }
-    requires logged { IsWellFormedRawContent (content_view content.now) }
+    requires logged { IsWellFormedRawPairContent (content_view content.now) }
     requires names { AreNamedSlots (content_view content.now).slots }
     requires fits { IsRawContentFittingPair (D.geometry dev.old).block_size (D.geometry dev.old).page (content_view content.now) }
 
     ensures size { IfOk result (λ written. written.end ≡ page_aligned_commit_end (D.geometry dev.old).page (4 + encoded_size_of_log_entries (log_entries_of_content (content_view content.now)))) }
-    ensures written { IfOk result (λ written. LogEndsOnPage (disk_of_geometry_and_blocks (D.geometry dev.new) (D.blocks dev.new)) (D.history dev.new) block written.end written.last) }
-    ensures anew { OnOk result (IsBlockWrittenAnew revision (content_view content.now) (block_bytes_in (D.blocks dev.new) block) (D.history dev.old) (D.history dev.new)) }
+    ensures written { IfOk result (λ written. LogEndsOnPageBoundaryBeforeUnprogrammedBytes (disk_of_geometry_and_blocks (D.geometry dev.new) (D.blocks dev.new)) (D.history dev.new) block written.end written.last) }
+    ensures anew { OnOk result (IsBlockWrittenAnew revision (content_view content.now) (block_bytes_by_number (D.blocks dev.new) block) (D.history dev.old) (D.history dev.new)) }
     ensures writes { WritesOnlyThisBlock D.BlockDevice 1 block dev.old dev.new result }
-    ensures stops { IsTrueOfEachCallSince LeavesNoNewLogIfErase (D.history dev.old) (D.history dev.new)
-        → IsTrueAfterEachStopSince IsLeftByStopIn (D.history dev.old) (D.history dev.new) (DiffersOnlyInBlock block (LeavesOldLogOrRewritten revision (content_view content.now)) (D.blocks dev.old)) }
+    ensures stops { IsTrueOfEachCallSince LeavesNoNewLogIfSuccessfulErase (D.history dev.old) (D.history dev.new)
+        → IsTrueAfterAnyPowerLossSince AreBlocksLeftByPowerLossInCall (D.history dev.old) (D.history dev.new) (DiffersOnlyInBlockAsPropertyAllows block (PowerLossLeavesOldLogOrRewrittenContent revision (content_view content.now)) (D.blocks dev.old)) }
 {
     let page = dev.geometry().page;
     let before = Tag::from_bits(0xffff_ffff);
     let mut builder = CommitBuilder::new(page, buf, before, Some(revision));
     push_content(&mut builder, content);
     dev.erase(block)?;
-    let written = program(dev, block, 0, builder)?;
+    let written = program_commit_at(dev, block, 0, builder)?;
     Ok(written)
 }

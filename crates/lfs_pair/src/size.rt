@@ -4,16 +4,16 @@ ghost use Rattle.std.specs.Prelude.{◌≡◌, ℕ, ◌+◌, ◌-◌, ◌^◌, �
 ghost use Rattle.std.specs.Option.{option_map};
 ghost use Rattle.lfs_model.specs.Disk.{pair_capacity, slots_per_pair_limit};
 ghost use Rattle.lfs_model.specs.Slots.{attributes_size};
-ghost use Rattle.lfs_model.specs.WrittenContent.{name_or_struct_size, raw_slot_size, raw_content_size, IsRawContentFittingPair};
-ghost use Rattle.lfs_tag.specs.ContentView.{part_view, attribute_view, slot_view, content_view};
+ghost use Rattle.lfs_model.specs.WrittenContent.{name_or_struct_size, raw_slot_size, slots_size_of_raw_pair_content, IsRawContentFittingPair};
+ghost use Rattle.lfs_tag.specs.ContentView.{name_or_struct_view, attribute_view, slot_view, content_view};
 
 use lfs_device::Geometry;
-use lfs_tag::{Attribute, Content, Part, Slot};
+use lfs_tag::{Attribute, Content, NameOrStruct, Slot};
 
 // Returns how many bytes a name or a struct takes with its tag, or the greatest number where there
 // are more. None takes no bytes.
-fn part_size(part: &Option<Part<'_>>) -> u64
-    ensures { result ≡ min (name_or_struct_size (option_map part_view part.now)) (2 ^ 64 - 1) }
+fn size_of_name_or_struct(part: &Option<NameOrStruct<'_>>) -> u64
+    ensures { result ≡ min (name_or_struct_size (option_map name_or_struct_view part.now)) (2 ^ 64 - 1) }
 {
     match part {
         None => 0,
@@ -38,8 +38,8 @@ pub fn attributes_size(attributes: &[Attribute<'_>]) -> u64
 pub(crate) fn slot_size(slot: &Slot<'_>) -> u64
     ensures { result ≡ min (raw_slot_size (slot_view slot.now)) (2 ^ 64 - 1) }
 {
-    part_size(&slot.name)
-        .saturating_add(part_size(&slot.structure))
+    size_of_name_or_struct(&slot.name)
+        .saturating_add(size_of_name_or_struct(&slot.structure))
         .saturating_add(attributes_size(&slot.attributes))
 }
 
@@ -56,7 +56,11 @@ pub(crate) fn slots_size(slots: &[Slot<'_>]) -> u64
 }
 
 // Returns whether a pair may hold `count` slots of `size` bytes.
-pub(crate) fn is_within(count: usize, size: u64, geometry: Geometry) -> bool
+pub(crate) fn are_slot_count_and_size_within_pair_limits(
+    count: usize,
+    size: u64,
+    geometry: Geometry,
+) -> bool
     ensures { IsTrue result ↔ ((count ≤ slots_per_pair_limit) × (size ≤ pair_capacity geometry.block_size geometry.page)) }
 {
     count <= geometry.slot_limit() && size <= u64::from(geometry.pair_capacity())
@@ -64,8 +68,12 @@ pub(crate) fn is_within(count: usize, size: u64, geometry: Geometry) -> bool
 
 /// Returns whether a pair may hold the content: at most [`Geometry::slots_per_pair_limit`] slots, whose bytes
 /// are at most [`Geometry::pair_capacity`].
-pub fn fits(content: &Content<'_>, geometry: Geometry) -> bool
+pub fn is_content_within_pair_limits(content: &Content<'_>, geometry: Geometry) -> bool
     ensures { IsTrue result ↔ IsRawContentFittingPair geometry.block_size geometry.page (content_view content.now) }
 {
-    is_within(content.slots.len(), slots_size(&content.slots), geometry)
+    are_slot_count_and_size_within_pair_limits(
+        content.slots.len(),
+        slots_size(&content.slots),
+        geometry,
+    )
 }

@@ -2,22 +2,22 @@
 
 ghost use Rattle.std.specs.Prelude.{◌≡◌, IfErr, IfOk};
 ghost use Rattle.lfs_device.specs.Shown.{disk_of_geometry_and_blocks};
-ghost use Rattle.lfs_model.specs.Blocks.{block_bytes_in};
+ghost use Rattle.lfs_model.specs.Blocks.{block_bytes_by_number};
 ghost use Rattle.lfs_device.specs.Calls.{ReportsFaults};
-ghost use Rattle.lfs_model.specs.History.{IsTrueOfEachCallSince, IsTrueAfterEachStopSince};
+ghost use Rattle.lfs_model.specs.History.{IsTrueOfEachCallSince, IsTrueAfterAnyPowerLossSince};
 ghost use Rattle.lfs_model.specs.Slots.{pair_address_of_array};
-ghost use Rattle.lfs_model.specs.Stops.{LeavesNoNewLogIfErase, IsLeftByStopIn};
+ghost use Rattle.lfs_model.specs.Stops.{LeavesNoNewLogIfSuccessfulErase, AreBlocksLeftByPowerLossInCall};
 ghost use Rattle.lfs_tag.specs.ContentView.{content_view};
-ghost use Rattle.lfs_pair.specs.Pair.{address_of_header};
-ghost use Rattle.lfs_pair.specs.Commit.{CommitFails};
+ghost use Rattle.lfs_pair.specs.Pair.{pair_address_in_header};
+ghost use Rattle.lfs_pair.specs.Commit.{CommitFailsKeepingHeader};
 ghost use Rattle.lfs_pair.specs.ChangeView.{changes_view};
-ghost use Rattle.lfs_pair.specs.Cut.{CanBeCut};
-ghost use Rattle.lfs_pair.specs.Writing.{ChangesBlocksWithFewReads};
-ghost use Rattle.lfs_pair.specs.Split.{blocks_of_both_pairs, CanSplitPair, Splits, LeavesOldContentOrParts, ArePartsOfContent};
+ghost use Rattle.lfs_pair.specs.Cut.{CanSplitSlotsIntoTwoPairs};
+ghost use Rattle.lfs_pair.specs.Writing.{ChangesOnlyBlocksWithinReadLimit};
+ghost use Rattle.lfs_pair.specs.Split.{blocks_of_both_pairs, CanSplitPair, SplitsPairWithChanges, PowerLossLeavesOldContentOrSplitPairs, IsContentCutIntoFrontAndBack};
 
 use crate::change::Change;
 use crate::commits::compact;
-use crate::contents::made_in;
+use crate::contents::read_content_and_apply_changes;
 use crate::cut::middle_cut_of_slots;
 use crate::fresh::write_fresh_pair;
 use crate::pair::Pair;
@@ -51,16 +51,16 @@ pub fn split<D: BlockDevice>(
 ) -> Result<Pair, Error>
     requires { CanSplitPair (disk_of_geometry_and_blocks (D.geometry dev.old) (D.blocks dev.old)) (D.history dev.old) pair.old (pair_address_of_array fresh) (changes_view changes.now) }
 
-    ensures splits { IfOk result (λ fresh_pair. Splits (disk_of_geometry_and_blocks (D.geometry dev.old) (D.blocks dev.old)) (D.history dev.old) (changes_view changes.now) pair.old (pair_address_of_array fresh)
+    ensures splits { IfOk result (λ fresh_pair. SplitsPairWithChanges (disk_of_geometry_and_blocks (D.geometry dev.old) (D.blocks dev.old)) (D.history dev.old) (changes_view changes.now) pair.old (pair_address_of_array fresh)
         (disk_of_geometry_and_blocks (D.geometry dev.new) (D.blocks dev.new)) (D.history dev.new) pair.new fresh_pair) }
-    ensures error { IfErr result (λ e. CommitFails D.BlockDevice dev.old dev.new pair.old pair.new e) }
-    ensures device { ChangesBlocksWithFewReads D.BlockDevice 4 (blocks_of_both_pairs (address_of_header pair.old) (pair_address_of_array fresh)) dev.old dev.new }
+    ensures error { IfErr result (λ e. CommitFailsKeepingHeader D.BlockDevice dev.old dev.new pair.old pair.new e) }
+    ensures device { ChangesOnlyBlocksWithinReadLimit D.BlockDevice 4 (blocks_of_both_pairs (pair_address_in_header pair.old) (pair_address_of_array fresh)) dev.old dev.new }
     ensures faults { ReportsFaults D.BlockDevice dev.old dev.new result }
-    ensures stops { IsTrueOfEachCallSince LeavesNoNewLogIfErase (D.history dev.old) (D.history dev.new)
-        → IsTrueAfterEachStopSince IsLeftByStopIn (D.history dev.old) (D.history dev.new) (LeavesOldContentOrParts (disk_of_geometry_and_blocks (D.geometry dev.old) (D.blocks dev.old)) (address_of_header pair.old) (pair_address_of_array fresh) (changes_view changes.now)) }
+    ensures stops { IsTrueOfEachCallSince LeavesNoNewLogIfSuccessfulErase (D.history dev.old) (D.history dev.new)
+        → IsTrueAfterAnyPowerLossSince AreBlocksLeftByPowerLossInCall (D.history dev.old) (D.history dev.new) (PowerLossLeavesOldContentOrSplitPairs (disk_of_geometry_and_blocks (D.geometry dev.old) (D.blocks dev.old)) (pair_address_in_header pair.old) (pair_address_of_array fresh) (changes_view changes.now)) }
 {
     let block = read_block(alloc, dev, pair.active)?;
-    let fresh_pair = split_in(alloc, dev, pair, fresh, &block, changes)?;
+    let fresh_pair = split_with_block_bytes(alloc, dev, pair, fresh, &block, changes)?;
     Ok(fresh_pair)
 }
 
@@ -69,7 +69,7 @@ pub fn split<D: BlockDevice>(
 ///
 /// The caller's conditions are those of [`split`], and that the active block has the bytes of
 /// `block`. Errors are those of [`split`], but memory is wanted for one block and the slots.
-pub fn split_in<'a, 'b: 'a, D: BlockDevice>(
+pub fn split_with_block_bytes<'a, 'b: 'a, D: BlockDevice>(
     alloc: Global,
     dev: &mut D,
     pair: &mut Pair,
@@ -78,18 +78,18 @@ pub fn split_in<'a, 'b: 'a, D: BlockDevice>(
     changes: &[Change<'b>],
 ) -> Result<Pair, Error>
     requires can { CanSplitPair (disk_of_geometry_and_blocks (D.geometry dev.old) (D.blocks dev.old)) (D.history dev.old) pair.old (pair_address_of_array fresh) (changes_view changes.now) }
-    requires block { block.now ≡ block_bytes_in (D.blocks dev.old) pair.old.active }
+    requires block { block.now ≡ block_bytes_by_number (D.blocks dev.old) pair.old.active }
 
-    ensures splits { IfOk result (λ fresh_pair. Splits (disk_of_geometry_and_blocks (D.geometry dev.old) (D.blocks dev.old)) (D.history dev.old) (changes_view changes.now) pair.old (pair_address_of_array fresh)
+    ensures splits { IfOk result (λ fresh_pair. SplitsPairWithChanges (disk_of_geometry_and_blocks (D.geometry dev.old) (D.blocks dev.old)) (D.history dev.old) (changes_view changes.now) pair.old (pair_address_of_array fresh)
         (disk_of_geometry_and_blocks (D.geometry dev.new) (D.blocks dev.new)) (D.history dev.new) pair.new fresh_pair) }
-    ensures error { IfErr result (λ e. CommitFails D.BlockDevice dev.old dev.new pair.old pair.new e) }
-    ensures device { ChangesBlocksWithFewReads D.BlockDevice 3 (blocks_of_both_pairs (address_of_header pair.old) (pair_address_of_array fresh)) dev.old dev.new }
+    ensures error { IfErr result (λ e. CommitFailsKeepingHeader D.BlockDevice dev.old dev.new pair.old pair.new e) }
+    ensures device { ChangesOnlyBlocksWithinReadLimit D.BlockDevice 3 (blocks_of_both_pairs (pair_address_in_header pair.old) (pair_address_of_array fresh)) dev.old dev.new }
     ensures faults { ReportsFaults D.BlockDevice dev.old dev.new result }
-    ensures stops { IsTrueOfEachCallSince LeavesNoNewLogIfErase (D.history dev.old) (D.history dev.new)
-        → IsTrueAfterEachStopSince IsLeftByStopIn (D.history dev.old) (D.history dev.new) (LeavesOldContentOrParts (disk_of_geometry_and_blocks (D.geometry dev.old) (D.blocks dev.old)) (address_of_header pair.old) (pair_address_of_array fresh) (changes_view changes.now)) }
+    ensures stops { IsTrueOfEachCallSince LeavesNoNewLogIfSuccessfulErase (D.history dev.old) (D.history dev.new)
+        → IsTrueAfterAnyPowerLossSince AreBlocksLeftByPowerLossInCall (D.history dev.old) (D.history dev.new) (PowerLossLeavesOldContentOrSplitPairs (disk_of_geometry_and_blocks (D.geometry dev.old) (D.blocks dev.old)) (pair_address_in_header pair.old) (pair_address_of_array fresh) (changes_view changes.now)) }
 {
     let geometry = dev.geometry();
-    let mut front = made_in(alloc, pair, block, changes)?;
+    let mut front = read_content_and_apply_changes(alloc, pair, block, changes)?;
     let back = split_off_back_content(&mut front, fresh, geometry)?;
     let mut buf = Vec::from_elem(alloc, 0u8, geometry.block_size as usize)?;
     let fresh_pair = write_fresh_pair(dev, fresh, &back, &mut buf)?;
@@ -104,8 +104,8 @@ fn split_off_back_content<'a>(
     fresh: [u32; 2],
     geometry: Geometry,
 ) -> Result<Content<'a>, Error>
-    requires { CanBeCut geometry.block_size geometry.page (content_view content.old).slots }
-    ensures parts { IfOk result (λ back. ArePartsOfContent geometry.block_size geometry.page (content_view content.old) (pair_address_of_array fresh) (content_view content.new) (content_view back)) }
+    requires { CanSplitSlotsIntoTwoPairs geometry.block_size geometry.page (content_view content.old).slots }
+    ensures parts { IfOk result (λ back. IsContentCutIntoFrontAndBack geometry.block_size geometry.page (content_view content.old) (pair_address_of_array fresh) (content_view content.new) (content_view back)) }
     ensures errors { IfErr result (λ e. e ≡ Error.NoMemory) }
 {
     let cut = middle_cut_of_slots(&content.slots, geometry);

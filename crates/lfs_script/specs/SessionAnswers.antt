@@ -9,7 +9,7 @@ use Rattle.lfs_script_lines.specs.declared.answer.Answer.TheVariants.{Reply, Err
 
 -- The answer is a session step with that reply, which names the refusal that it is. Or the session has failed in the operation by
 -- that error.
-abbrev pub IsSessionAnswer : SystemState → Operation → Answer → SystemState → Type 0
-IsSessionAnswer from op (Reply r) to = AreSessionSteps from (op ∷ []) (reply_view r ∷ []) to × RefusesOnlyWithRefusalError r
-IsSessionAnswer from op (Error e) to = EndsRunByError e from (op ∷ []) to
-IsSessionAnswer from op _ to = ⊥
+abbrev pub IsSessionAnswerToOperation : SystemState → Operation → Answer → SystemState → Type 0
+IsSessionAnswerToOperation from op (Reply r) to = AreSessionSteps from (op ∷ []) (reply_view r ∷ []) to × RefusesOnlyWithRefusalError r
+IsSessionAnswerToOperation from op (Error e) to = EndsRunByError e from (op ∷ []) to
+IsSessionAnswerToOperation from op _ to = ⊥

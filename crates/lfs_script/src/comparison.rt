@@ -2,16 +2,20 @@
 
 ghost use Rattle.std.specs.Prelude.{◌≡◌, ◌<◌, ◌≤◌, ◌++◌, ◌∷◌, length, IfOk};
 
-use crate::hand::{Device, NO_FAULT, with_fault};
+use crate::hand::{Device, NO_FAULT, device_with_planned_fault};
 use lfs_device::{BlockDevice, Error, Geometry, RamDevice};
 use lfs_fs::{Item, Kind, OpenFlags, Reply, Session, mount};
-use lfs_script_lines::{Answer, Difference, Scope};
+use lfs_script_lines::{Answer, ComparisonScope, SessionDifference};
 use std::alloc::{AllocError, Global};
 
 // Begins a session on a device that holds these bytes.
-fn mount_copy(alloc: Global, geometry: Geometry, bytes: Vec<u8>) -> Result<Session<Device>, Error> {
+fn mount_image_bytes_in_memory(
+    alloc: Global,
+    geometry: Geometry,
+    bytes: Vec<u8>,
+) -> Result<Session<Device>, Error> {
     let device = RamDevice::from_bytes(geometry, bytes)?;
-    match mount(alloc, with_fault(device, NO_FAULT)) {
+    match mount(alloc, device_with_planned_fault(device, NO_FAULT)) {
         Ok(session) => Ok(session),
         Err((_, error)) => Err(error),
     }
@@ -19,26 +23,26 @@ fn mount_copy(alloc: Global, geometry: Geometry, bytes: Vec<u8>) -> Result<Sessi
 
 // Returns the first block that one session uses and the other doesn't, or a difference of their
 // counts.
-fn different_block(
+fn first_difference_between_used_block_sets(
     session: &Session<Device>,
     other: &Session<Device>,
     block_count: u32,
-) -> Result<Option<Difference>, Error> {
+) -> Result<Option<SessionDifference>, Error> {
     let mut count = 0u32;
     for block in 0..block_count {
         let is_used = session.is_used(block)?;
         if is_used != other.is_used(block)? {
-            return Ok(Some(Difference::Block(block)));
+            return Ok(Some(SessionDifference::Block(block)));
         }
         count = count.saturating_add(u32::from(is_used));
     }
     if session.used_count()? != count || other.used_count()? != count {
-        return Ok(Some(Difference::UsedCount));
+        return Ok(Some(SessionDifference::UsedCount));
     }
     Ok(None)
 }
 
-fn are_same_items(item: &Item, other: &Item) -> bool {
+fn is_same_listed_item(item: &Item, other: &Item) -> bool {
     item.name.as_slice() == other.name.as_slice()
         && item.kind == other.kind
         && item.size == other.size
@@ -47,7 +51,7 @@ fn are_same_items(item: &Item, other: &Item) -> bool {
 // Returns the first place where two listings differ.
 fn first_different_index(items: &[Item], others: &[Item]) -> Option<usize> {
     for (place, (item, other)) in items.iter().zip(others).enumerate() {
-        if !are_same_items(item, other) {
+        if !is_same_listed_item(item, other) {
             return Some(place);
         }
     }
@@ -59,7 +63,10 @@ fn first_different_index(items: &[Item], others: &[Item]) -> Option<usize> {
 }
 
 // Returns the name of the first entry in which two listings differ.
-fn different_name<'a>(items: &'a [Item], others: &'a [Item]) -> Option<&'a [u8]> {
+fn first_name_differing_between_listings<'a>(
+    items: &'a [Item],
+    others: &'a [Item],
+) -> Option<&'a [u8]> {
     let place = first_different_index(items, others)?;
     match items.get(place) {
         Some(item) => Some(item.name.as_slice()),
@@ -87,7 +94,7 @@ fn path_of_name_in_directory(
 
 // Returns the bytes of a file. Returns None where the file can't be opened beside the files that
 // are open.
-fn bytes_of(
+fn file_bytes_of_path(
     alloc: Global,
     session: &mut Session<Device>,
     path: &[u8],
@@ -104,23 +111,23 @@ fn bytes_of(
 }
 
 // Returns whether a file holds the same bytes in both.
-fn have_same_bytes(
+fn has_file_same_bytes_in_both_sessions(
     alloc: Global,
     session: &mut Session<Device>,
     other: &mut Session<Device>,
     path: &[u8],
 ) -> Result<bool, Error> {
-    let Some(bytes) = bytes_of(alloc, session, path)? else {
+    let Some(bytes) = file_bytes_of_path(alloc, session, path)? else {
         return Ok(true);
     };
-    let Some(others) = bytes_of(alloc, other, path)? else {
+    let Some(others) = file_bytes_of_path(alloc, other, path)? else {
         return Ok(false);
     };
     Ok(bytes.as_slice() == others.as_slice())
 }
 
 // Returns an attribute, if there is one.
-fn attribute_of(
+fn attribute_bytes_if_present(
     alloc: Global,
     session: &mut Session<Device>,
     path: &[u8],
@@ -134,15 +141,18 @@ fn attribute_of(
 }
 
 // Returns whether an attribute is the same in both.
-fn is_same_attribute(
+fn is_attribute_same_in_both_sessions(
     alloc: Global,
     session: &mut Session<Device>,
     other: &mut Session<Device>,
     path: &[u8],
     kind: u8,
 ) -> Result<bool, Error> {
-    let attribute = attribute_of(alloc, session, path, kind)?;
-    match (attribute, attribute_of(alloc, other, path, kind)?) {
+    let attribute = attribute_bytes_if_present(alloc, session, path, kind)?;
+    match (
+        attribute,
+        attribute_bytes_if_present(alloc, other, path, kind)?,
+    ) {
         (None, None) => Ok(true),
         (Some(bytes), Some(others)) => Ok(bytes.as_slice() == others.as_slice()),
         _ => Ok(false),
@@ -150,7 +160,7 @@ fn is_same_attribute(
 }
 
 // Returns the first type, from one to another, of which the attributes differ.
-fn first_different_type(
+fn first_differing_attribute_type(
     alloc: Global,
     session: &mut Session<Device>,
     other: &mut Session<Device>,
@@ -159,7 +169,7 @@ fn first_different_type(
     last: u8,
 ) -> Result<Option<u8>, Error> {
     for kind in first..=last {
-        if !is_same_attribute(alloc, session, other, path, kind)? {
+        if !is_attribute_same_in_both_sessions(alloc, session, other, path, kind)? {
             return Ok(Some(kind));
         }
     }
@@ -167,45 +177,49 @@ fn first_different_type(
 }
 
 // Returns what differs of an entry that both list as of this kind.
-fn difference_of_entry(
+fn entry_difference_between_sessions(
     alloc: Global,
     session: &mut Session<Device>,
     other: &mut Session<Device>,
-    scope: Scope,
+    scope: ComparisonScope,
     path: &[u8],
     kind: Kind,
-) -> Result<Option<Difference>, Error> {
+) -> Result<Option<SessionDifference>, Error> {
     let (first, last) = match scope {
-        Scope::Whole => (0, 255),
-        Scope::Kind(kind) => (kind, kind),
-        Scope::Entries => return Ok(None),
+        ComparisonScope::Whole => (0, 255),
+        ComparisonScope::Kind(kind) => (kind, kind),
+        ComparisonScope::Entries => return Ok(None),
     };
-    if let Some(kind) = first_different_type(alloc, session, other, path, first, last)? {
-        return Ok(Some(Difference::Attribute(Vec::from_slice(alloc, path)?, kind)));
+    if let Some(kind) = first_differing_attribute_type(alloc, session, other, path, first, last)? {
+        return Ok(Some(SessionDifference::Attribute(Vec::from_slice(alloc, path)?, kind)));
     }
-    if kind == Kind::File && !have_same_bytes(alloc, session, other, path)? {
-        return Ok(Some(Difference::Bytes(Vec::from_slice(alloc, path)?)));
+    if kind == Kind::File && !has_file_same_bytes_in_both_sessions(alloc, session, other, path)? {
+        return Ok(Some(SessionDifference::Bytes(Vec::from_slice(alloc, path)?)));
     }
     Ok(None)
 }
 
 // Returns what differs first of a directory's entries. Its directories are compared later.
-fn difference_of_directory(
+fn directory_difference_between_sessions(
     alloc: Global,
     session: &mut Session<Device>,
     other: &mut Session<Device>,
-    scope: Scope,
+    scope: ComparisonScope,
     directory: &[u8],
     waiting: &mut Vec<Vec<u8>>,
-) -> Result<Option<Difference>, Error> {
+) -> Result<Option<SessionDifference>, Error> {
     let items = session.list(alloc, directory)?;
     let others = other.list(alloc, directory)?;
-    if let Some(name) = different_name(&items, &others) {
-        return Ok(Some(Difference::Entry(path_of_name_in_directory(alloc, directory, name)?)));
+    if let Some(name) = first_name_differing_between_listings(&items, &others) {
+        return Ok(Some(SessionDifference::Entry(path_of_name_in_directory(
+            alloc, directory, name,
+        )?)));
     }
     for item in items.iter() {
         let path = path_of_name_in_directory(alloc, directory, item.name.as_slice())?;
-        let difference = difference_of_entry(alloc, session, other, scope, &path, item.kind)?;
+        let difference = entry_difference_between_sessions(
+            alloc, session, other, scope, &path, item.kind,
+        )?;
         if difference.is_some() {
             return Ok(difference);
         }
@@ -217,19 +231,19 @@ fn difference_of_directory(
 }
 
 // Returns what differs first of all entries.
-fn different_entry(
+fn first_difference_of_session_trees(
     alloc: Global,
     session: &mut Session<Device>,
     other: &mut Session<Device>,
-    scope: Scope,
-) -> Result<Option<Difference>, Error> {
+    scope: ComparisonScope,
+) -> Result<Option<SessionDifference>, Error> {
     let mut waiting = Vec::new(alloc);
     waiting.push(Vec::from_slice(alloc, b"/")?)?;
     for _ in 0..u64::MAX {
         let Some(directory) = waiting.pop() else {
             return Ok(None);
         };
-        let difference = difference_of_directory(
+        let difference = directory_difference_between_sessions(
             alloc,
             session,
             other,
@@ -245,36 +259,40 @@ fn different_entry(
 }
 
 // Returns what differs first, where the other session is on these bytes.
-fn difference(
+fn first_difference_from_image(
     alloc: Global,
     session: &mut Session<Device>,
-    scope: Scope,
+    scope: ComparisonScope,
     bytes: Vec<u8>,
-) -> Result<Option<Difference>, Error> {
+) -> Result<Option<SessionDifference>, Error> {
     let gstate = session.gstate()?;
     let geometry = session.device().geometry();
-    let mut other = mount_copy(alloc, geometry, bytes)?;
+    let mut other = mount_image_bytes_in_memory(alloc, geometry, bytes)?;
     if gstate != other.gstate()? {
-        return Ok(Some(Difference::Gstate));
+        return Ok(Some(SessionDifference::Gstate));
     }
-    let difference = different_block(session, &other, geometry.block_count)?;
+    let difference = first_difference_between_used_block_sets(
+        session,
+        &other,
+        geometry.block_count,
+    )?;
     if difference.is_some() {
         return Ok(difference);
     }
-    different_entry(alloc, session, &mut other, scope)
+    first_difference_of_session_trees(alloc, session, &mut other, scope)
 }
 
 /// Compares a session with one on a device with these bytes. The session is only queried.
 ///
 /// The answer is the session's refusal where the session has failed before. It is an error where
 /// the bytes are no device's or don't mount, and where one of the sessions fails.
-pub fn compare_with(
+pub fn compare_session_with_image(
     alloc: Global,
     session: &mut Session<Device>,
-    scope: Scope,
+    scope: ComparisonScope,
     bytes: Vec<u8>,
 ) -> Answer {
-    match difference(alloc, session, scope, bytes) {
+    match first_difference_from_image(alloc, session, scope, bytes) {
         Ok(None) => Answer::Same,
         Ok(Some(difference)) => Answer::Differs(difference),
         Err(Error::Failed) => Answer::Reply(Reply::Refused(Error::Failed)),
@@ -283,9 +301,13 @@ pub fn compare_with(
 }
 
 /// Compares a session with one on a copy of its device.
-pub fn compare(alloc: Global, session: &mut Session<Device>, scope: Scope) -> Answer {
+pub fn compare_session_with_copy(
+    alloc: Global,
+    session: &mut Session<Device>,
+    scope: ComparisonScope,
+) -> Answer {
     match Vec::from_slice(alloc, session.device().inner().inner().bytes()) {
-        Ok(bytes) => compare_with(alloc, session, scope, bytes),
+        Ok(bytes) => compare_session_with_image(alloc, session, scope, bytes),
         Err(_) => Answer::Error(Error::NoMemory),
     }
 }

@@ -1,7 +1,7 @@
 // A device that counts the calls that fail.
 
 ghost use Rattle.std.specs.Prelude.{◌≡◌, ◌-◌, ◌^◌, min};
-ghost use Rattle.lfs_model.specs.History.{faults};
+ghost use Rattle.lfs_model.specs.History.{fault_count_of_history};
 
 use lfs_device::{BlockDevice, Error, Geometry};
 
@@ -10,12 +10,12 @@ use lfs_device::{BlockDevice, Error, Geometry};
 pub struct DeviceWithCountedFaults<D: BlockDevice> {
     inner: D,
     failed: u64,
-    ghost counted: { failed ≡ min (faults (D.history inner)) (2 ^ 64 - 1) },
+    ghost counted: { failed ≡ min (fault_count_of_history (D.history inner)) (2 ^ 64 - 1) },
 }
 
 impl<D: BlockDevice> DeviceWithCountedFaults<D> {
     pub fn new(inner: D) -> DeviceWithCountedFaults<D>
-        requires { faults (D.history inner) ≡ 0 }
+        requires { fault_count_of_history (D.history inner) ≡ 0 }
         ensures { result.inner ≡ inner }
     {
         DeviceWithCountedFaults { inner, failed: 0 }
@@ -36,7 +36,7 @@ impl<D: BlockDevice> DeviceWithCountedFaults<D> {
 
     /// Returns how many of the calls failed.
     pub fn failed_calls(&self) -> u64
-        ensures { result ≡ min (faults (D.history self.now.inner)) (2 ^ 64 - 1) }
+        ensures { result ≡ min (fault_count_of_history (D.history self.now.inner)) (2 ^ 64 - 1) }
     {
         self.failed
     }

@@ -3,7 +3,7 @@
 ghost use Rattle.std.specs.Prelude.{◌≡◌, ◌⊎◌, ◌*◌, [], IfErr, IfOk, OnOk, replicate};
 ghost use Rattle.lfs_model.specs.Disk.{IsImageOfWholeBlocks};
 ghost use Rattle.lfs_model.specs.Geometry.{IsValidGeometry};
-ghost use Rattle.lfs_device.specs.RamDevice.{ram_bytes, geometry_of, history_of};
+ghost use Rattle.lfs_device.specs.RamDevice.{ram_bytes, geometry_of_ram_device, history_of_ram_device};
 
 use lfs_device::{Error, Geometry, RamDevice};
 use std::alloc::Global;
@@ -15,15 +15,15 @@ use std::{fs, io, str};
 /// # Errors
 /// - `Invalid` where there are no devices of such blocks.
 /// - `NoMemory` where its bytes aren't granted.
-pub fn blank(
+pub fn blank_ram_device(
     alloc: Global,
     block_size: u32,
     page: u32,
     block_count: u32,
 ) -> Result<RamDevice, Error>
-    ensures geometry { IfOk result (λ d. ((geometry_of d).block_size ≡ block_size) × ((geometry_of d).page ≡ page) × ((geometry_of d).block_count ≡ block_count)) }
+    ensures geometry { IfOk result (λ d. ((geometry_of_ram_device d).block_size ≡ block_size) × ((geometry_of_ram_device d).page ≡ page) × ((geometry_of_ram_device d).block_count ≡ block_count)) }
     ensures bytes { IfOk result (λ d. ram_bytes d ≡ replicate (block_size * block_count) 255) }
-    ensures no_call { IfOk result (λ d. history_of d ≡ []) }
+    ensures no_call { IfOk result (λ d. history_of_ram_device d ≡ []) }
     ensures errors { IfErr result (λ e. (e ≡ Error.NoMemory) ⊎ ((e ≡ Error.Invalid) × (¬ IsValidGeometry block_size page block_count))) }
 {
     RamDevice::blank(alloc, Geometry::new(block_size, page, block_count)?)
@@ -33,11 +33,11 @@ pub fn blank(
 ///
 /// # Errors
 /// - `Invalid` exactly where they aren't the blocks of a device.
-pub fn device_of(bytes: Vec<u8>, block_size: u32, page: u32) -> Result<RamDevice, Error>
+pub fn ram_device_of_bytes(bytes: Vec<u8>, block_size: u32, page: u32) -> Result<RamDevice, Error>
     ensures image { OnOk result (IsImageOfWholeBlocks block_size page bytes.items) }
-    ensures geometry { IfOk result (λ d. ((geometry_of d).block_size ≡ block_size) × ((geometry_of d).page ≡ page)) }
+    ensures geometry { IfOk result (λ d. ((geometry_of_ram_device d).block_size ≡ block_size) × ((geometry_of_ram_device d).page ≡ page)) }
     ensures bytes { IfOk result (λ d. ram_bytes d ≡ bytes.items) }
-    ensures no_call { IfOk result (λ d. history_of d ≡ []) }
+    ensures no_call { IfOk result (λ d. history_of_ram_device d ≡ []) }
     ensures err { IfErr result (λ e. (e ≡ Error.Invalid) × (¬ IsImageOfWholeBlocks block_size page bytes.items)) }
 {
     if block_size == 0 {

@@ -12,7 +12,7 @@ mod script;
 mod script_run;
 
 use help::HELP;
-use script_run::{ScriptEnd, run};
+use script_run::{ScriptEnd, run_script_lines};
 use std::io::{BufReader, ErrorKind};
 use std::process::ExitCode;
 use std::{env, io};
@@ -41,7 +41,7 @@ enum Request {
 }
 
 // Returns the request of the words of a command line, the program's name first.
-fn request_of(words: &[String]) -> Request {
+fn request_of_command_line(words: &[String]) -> Request {
     match words {
         [] | [_] => Request::Script,
         [_, word] if word.as_str() == "--help" || word.as_str() == "-h" => Request::Help,
@@ -49,7 +49,7 @@ fn request_of(words: &[String]) -> Request {
     }
 }
 
-fn words(rt: &HostRuntime) -> io::Result<Vec<String>> {
+fn command_line_words(rt: &HostRuntime) -> io::Result<Vec<String>> {
     let words = env::args(rt)?.collect(rt.alloc())?;
     Ok(words)
 }
@@ -63,7 +63,7 @@ fn show_help(rt: &HostRuntime) -> ExitCode {
 }
 
 // Says that there are no such words, and returns the status. A failed write is ignored.
-fn say_unknown_words(rt: &HostRuntime) -> ExitCode {
+fn report_unknown_command_line(rt: &HostRuntime) -> ExitCode {
     let _ = eprintln!(rt; "error: a script is read from standard input (--help says more)");
     ExitCode::from(2)
 }
@@ -73,22 +73,22 @@ fn run_script(rt: &HostRuntime) -> ExitCode {
     let Ok(mut input) = BufReader::new(rt.alloc(), rt.stdin()) else {
         return report_script_end(rt, ScriptEnd::NoMemory);
     };
-    let end = run(rt, &mut input, &mut rt.stdout());
+    let end = run_script_lines(rt, &mut input, &mut rt.stdout());
     report_script_end(rt, end)
 }
 
 fn main(rt: HostRuntime) -> ExitCode {
-    let words = match words(&rt) {
+    let words = match command_line_words(&rt) {
         Ok(words) => words,
         Err(error) if error.kind() == ErrorKind::OutOfMemory => return report_script_end(
             &rt,
             ScriptEnd::NoMemory,
         ),
-        Err(_) => return say_unknown_words(&rt),
+        Err(_) => return report_unknown_command_line(&rt),
     };
-    match request_of(&words) {
+    match request_of_command_line(&words) {
         Request::Script => run_script(&rt),
         Request::Help => show_help(&rt),
-        Request::Unknown => say_unknown_words(&rt),
+        Request::Unknown => report_unknown_command_line(&rt),
     }
 }

@@ -1,9 +1,9 @@
 // The answers of a session to a script's operations.
 
 ghost use Rattle.std.specs.Prelude.{◌≡◌};
-ghost use Rattle.lfs_fs.specs.SessionView.{system_state_of};
+ghost use Rattle.lfs_fs.specs.SessionView.{system_state_of_session_view};
 ghost use Rattle.lfs_fs.specs.OpView.{op_view};
-ghost use Rattle.lfs_script.specs.SessionAnswers.{IsSessionAnswer};
+ghost use Rattle.lfs_script.specs.SessionAnswers.{IsSessionAnswerToOperation};
 ghost use Rattle.lfs_script.specs.OperationView.{operation_view};
 
 use lfs_device::BlockDevice;
@@ -12,7 +12,7 @@ use lfs_script_lines::{Answer, Operation};
 use std::alloc::Global;
 
 // Returns the session's operation.
-fn op_of(operation: &Operation) -> Op<'_>
+fn op_of_script_operation(operation: &Operation) -> Op<'_>
     ensures { op_view result ≡ operation_view operation.now }
 {
     match operation {
@@ -41,7 +41,7 @@ fn op_of(operation: &Operation) -> Op<'_>
 
 // Performs an operation of the session.
 fn perform_op<D: BlockDevice>(alloc: Global, session: &mut Session<D>, op: Op<'_>) -> Answer
-    ensures { IsSessionAnswer (system_state_of session.old) (op_view op.entry) result (system_state_of session.new) }
+    ensures { IsSessionAnswerToOperation (system_state_of_session_view session.old) (op_view op.entry) result (system_state_of_session_view session.new) }
 {
     match session.run(alloc, &[op]) {
         Ok(mut replies) => match replies.pop() {
@@ -55,12 +55,12 @@ fn perform_op<D: BlockDevice>(alloc: Global, session: &mut Session<D>, op: Op<'_
 /// Performs an operation.
 ///
 /// The answer is the session's reply, a refusal among them, or the error by which the session failed.
-pub fn perform<D: BlockDevice>(
+pub fn perform_script_operation<D: BlockDevice>(
     alloc: Global,
     session: &mut Session<D>,
     operation: &Operation,
 ) -> Answer
-    ensures { IsSessionAnswer (system_state_of session.old) (operation_view operation.now) result (system_state_of session.new) }
+    ensures { IsSessionAnswerToOperation (system_state_of_session_view session.old) (operation_view operation.now) result (system_state_of_session_view session.new) }
 {
-    perform_op(alloc, session, op_of(operation))
+    perform_op(alloc, session, op_of_script_operation(operation))
 }

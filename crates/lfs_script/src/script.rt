@@ -1,27 +1,34 @@
 // The commands of a script on the device in hand.
 
 ghost use Rattle.std.specs.Prelude.{◌≡◌, IfErr, IfOk};
-ghost use Rattle.lfs_script.specs.Hands.{IsComparisonInHand, IsUnmountInHand, answer_to_calls, history_of_hand};
-ghost use Rattle.lfs_script.specs.PerformedOperations.{IsPerformedInHand};
+ghost use Rattle.lfs_script.specs.Hands.{IsScriptStepOfComparisonStayingInSession, IsScriptStepOfUnmount, answer_with_device_call_counts, device_call_history_of_script};
+ghost use Rattle.lfs_script.specs.PerformedOperations.{IsScriptStepOfOperation};
 
-use crate::comparison::{compare, compare_with};
-use crate::hand::{Device, Hand, NO_FAULT, calls_of, with_fault};
-use crate::images::{blank, device_of, read_file, write_file};
-use crate::operation_calls::perform;
+use crate::comparison::{compare_session_with_copy, compare_session_with_image};
+use crate::hand::{
+    Device, NO_FAULT, ScriptDevice, call_counts_of_device, device_with_planned_fault,
+};
+use crate::images::{blank_ram_device, ram_device_of_bytes, read_file, write_file};
+use crate::operation_calls::perform_script_operation;
 use lfs_device::{Erased, Error, NameOrder, PlannedFault, RamDevice};
 use lfs_fs::{Reply, Session, format_ordered, mount};
-use lfs_script_lines::{Answer, Command, Operation, Scope};
+use lfs_script_lines::{Answer, Command, ComparisonScope, Operation};
 use std::mem;
 use std::rt::Files;
 
 // Compares a session with one on a device that holds the bytes of a file.
-fn compare_with_file<R: Files + AllocGlobal>(
+fn compare_session_with_file_bytes<R: Files + AllocGlobal>(
     rt: &R,
     session: &mut Session<Device>,
     file: &[u8],
 ) -> Answer {
     match read_file(rt, file) {
-        Some(bytes) => compare_with(rt.alloc(), session, Scope::Whole, bytes),
+        Some(bytes) => compare_session_with_image(
+            rt.alloc(),
+            session,
+            ComparisonScope::Whole,
+            bytes,
+        ),
         None => Answer::Input,
     }
 }
@@ -30,7 +37,7 @@ fn compare_with_file<R: Files + AllocGlobal>(
 #[derive(Drop)]
 pub struct Script<'a, R: Files> {
     rt: &'a R,
-    hand: Hand,
+    hand: ScriptDevice,
 }
 
 impl<'a, R: Files + AllocGlobal> Script<'a, R> {
@@ -38,22 +45,25 @@ impl<'a, R: Files + AllocGlobal> Script<'a, R> {
     pub fn new(rt: &'a R) -> Script<'a, R> {
         Script {
             rt,
-            hand: Hand::Nothing,
+            hand: ScriptDevice::Nothing,
         }
     }
 
     // Takes a session in hand, or the device of an error.
-    fn begin(&mut self, begun: Result<Session<Device>, (Device, Error)>) -> Answer
-        ensures session { IfOk begun (λ s. (result ≡ Answer.Reply Reply.Done) × (self.new.hand ≡ Hand.Session s)) }
-        ensures device { IfErr begun (λ back. (result ≡ Answer.Error back.1) × (self.new.hand ≡ Hand.Device back.0)) }
+    fn store_session_or_device_after_mount_attempt(
+        &mut self,
+        begun: Result<Session<Device>, (Device, Error)>,
+    ) -> Answer
+        ensures session { IfOk begun (λ s. (result ≡ Answer.Reply Reply.Done) × (self.new.hand ≡ ScriptDevice.Session s)) }
+        ensures device { IfErr begun (λ back. (result ≡ Answer.Error back.1) × (self.new.hand ≡ ScriptDevice.Device back.0)) }
     {
         match begun {
             Ok(session) => {
-                self.hand = Hand::Session(session);
+                self.hand = ScriptDevice::Session(session);
                 Answer::Reply(Reply::Done)
             }
             Err((device, error)) => {
-                self.hand = Hand::Device(device);
+                self.hand = ScriptDevice::Device(device);
                 Answer::Error(error)
             }
         }
@@ -67,32 +77,42 @@ impl<'a, R: Files + AllocGlobal> Script<'a, R> {
     ) -> Answer {
         match device {
             Ok(device) => {
-                let device = with_fault(device.erased_as(erased), NO_FAULT);
-                self.begin(format_ordered(self.rt.alloc(), device, order))
+                let device = device_with_planned_fault(device.erased_as(erased), NO_FAULT);
+                self.store_session_or_device_after_mount_attempt(format_ordered(
+                    self.rt.alloc(),
+                    device,
+                    order,
+                ))
             }
             Err(error) => Answer::Error(error),
         }
     }
 
-    fn open_image(&mut self, file: &[u8], block_size: u32, page: u32, erased: Erased) -> Answer {
+    fn mount_image_file_as_session(
+        &mut self,
+        file: &[u8],
+        block_size: u32,
+        page: u32,
+        erased: Erased,
+    ) -> Answer {
         let Some(bytes) = read_file(self.rt, file) else {
             return Answer::Input;
         };
-        match device_of(bytes, block_size, page) {
+        match ram_device_of_bytes(bytes, block_size, page) {
             Ok(device) => {
-                let device = with_fault(device.erased_as(erased), NO_FAULT);
-                self.begin(mount(self.rt.alloc(), device))
+                let device = device_with_planned_fault(device.erased_as(erased), NO_FAULT);
+                self.store_session_or_device_after_mount_attempt(mount(self.rt.alloc(), device))
             }
             Err(error) => Answer::Error(error),
         }
     }
 
     fn unmount(&mut self) -> Answer
-        ensures { IsUnmountInHand self.old.hand result self.new.hand }
+        ensures { IsScriptStepOfUnmount self.old.hand result self.new.hand }
     {
-        match mem::replace(&mut self.hand, Hand::Nothing) {
-            Hand::Session(session) => {
-                self.hand = Hand::Device(session.unmount());
+        match mem::replace(&mut self.hand, ScriptDevice::Nothing) {
+            ScriptDevice::Session(session) => {
+                self.hand = ScriptDevice::Device(session.unmount());
                 Answer::Reply(Reply::Done)
             }
             hand => {
@@ -103,10 +123,10 @@ impl<'a, R: Files + AllocGlobal> Script<'a, R> {
     }
 
     fn mount(&mut self, fault: PlannedFault) -> Answer {
-        match mem::replace(&mut self.hand, Hand::Nothing).into_device() {
+        match mem::replace(&mut self.hand, ScriptDevice::Nothing).into_device() {
             Some(device) => {
-                let device = with_fault(device.into_inner().into_inner(), fault);
-                self.begin(mount(self.rt.alloc(), device))
+                let device = device_with_planned_fault(device.into_inner().into_inner(), fault);
+                self.store_session_or_device_after_mount_attempt(mount(self.rt.alloc(), device))
             }
             None => Answer::Nothing,
         }
@@ -125,38 +145,48 @@ impl<'a, R: Files + AllocGlobal> Script<'a, R> {
         }
     }
 
-    fn calls(&self) -> Answer
-        ensures { result ≡ answer_to_calls (history_of_hand self.now.hand) }
+    fn answer_call_counts(&self) -> Answer
+        ensures { result ≡ answer_with_device_call_counts (device_call_history_of_script self.now.hand) }
     {
         match self.hand.device() {
-            Some(device) => Answer::Calls(calls_of(device)),
+            Some(device) => Answer::Calls(call_counts_of_device(device)),
             None => Answer::Nothing,
         }
     }
 
-    fn compare(&mut self, scope: Scope) -> Answer
-        ensures { IsComparisonInHand self.old.hand result self.new.hand }
+    fn compare_session_with_remounted_copy(&mut self, scope: ComparisonScope) -> Answer
+        ensures { IsScriptStepOfComparisonStayingInSession self.old.hand result self.new.hand }
     {
         match &mut self.hand {
-            Hand::Session(session) => compare(self.rt.alloc(), session, scope),
+            ScriptDevice::Session(session) => compare_session_with_copy(
+                self.rt.alloc(),
+                session,
+                scope,
+            ),
             _ => Answer::Nothing,
         }
     }
 
-    fn compare_with(&mut self, file: &[u8]) -> Answer
-        ensures { IsComparisonInHand self.old.hand result self.new.hand }
+    fn compare_session_with_image_file(&mut self, file: &[u8]) -> Answer
+        ensures { IsScriptStepOfComparisonStayingInSession self.old.hand result self.new.hand }
     {
         match &mut self.hand {
-            Hand::Session(session) => compare_with_file(self.rt, session, file),
+            ScriptDevice::Session(session) => compare_session_with_file_bytes(
+                self.rt, session, file,
+            ),
             _ => Answer::Nothing,
         }
     }
 
-    fn perform_in_hand(&mut self, operation: &Operation) -> Answer
-        ensures { IsPerformedInHand self.old.hand operation.now result self.new.hand }
+    fn perform_operation_in_session(&mut self, operation: &Operation) -> Answer
+        ensures { IsScriptStepOfOperation self.old.hand operation.now result self.new.hand }
     {
         match &mut self.hand {
-            Hand::Session(session) => perform(self.rt.alloc(), session, operation),
+            ScriptDevice::Session(session) => perform_script_operation(
+                self.rt.alloc(),
+                session,
+                operation,
+            ),
             _ => Answer::Nothing,
         }
     }
@@ -165,12 +195,12 @@ impl<'a, R: Files + AllocGlobal> Script<'a, R> {
     ///
     /// An operation is one of the session. Without a session the answer to it, and to a comparison,
     /// is `Nothing`. `Calls` and `Save` leave the device and the session.
-    pub fn carry_out(&mut self, command: &Command) -> Answer
-        ensures performed { (op : _) → command.now ≡ Command.Perform op → IsPerformedInHand self.old.hand op result self.new.hand }
-        ensures unmounted { command.now ≡ Command.Unmount → IsUnmountInHand self.old.hand result self.new.hand }
-        ensures calls { command.now ≡ Command.Calls → (result ≡ answer_to_calls (history_of_hand self.old.hand)) × (self.new.hand ≡ self.old.hand) }
-        ensures compared { (scope : _) → command.now ≡ Command.Compare scope → IsComparisonInHand self.old.hand result self.new.hand }
-        ensures compared_with { (file : _) → command.now ≡ Command.CompareWith file → IsComparisonInHand self.old.hand result self.new.hand }
+    pub fn perform_command(&mut self, command: &Command) -> Answer
+        ensures performed { (op : _) → command.now ≡ Command.Perform op → IsScriptStepOfOperation self.old.hand op result self.new.hand }
+        ensures unmounted { command.now ≡ Command.Unmount → IsScriptStepOfUnmount self.old.hand result self.new.hand }
+        ensures calls { command.now ≡ Command.Calls → (result ≡ answer_with_device_call_counts (device_call_history_of_script self.old.hand)) × (self.new.hand ≡ self.old.hand) }
+        ensures compared { (scope : _) → command.now ≡ Command.Compare scope → IsScriptStepOfComparisonStayingInSession self.old.hand result self.new.hand }
+        ensures compared_with { (file : _) → command.now ≡ Command.CompareWith file → IsScriptStepOfComparisonStayingInSession self.old.hand result self.new.hand }
         ensures saved { (file : _) → command.now ≡ Command.Save file → self.new.hand ≡ self.old.hand }
     {
         match command {
@@ -181,7 +211,7 @@ impl<'a, R: Files + AllocGlobal> Script<'a, R> {
                 order,
                 erased,
             } => {
-                let device = blank(self.rt.alloc(), *block_size, *page, *block_count);
+                let device = blank_ram_device(self.rt.alloc(), *block_size, *page, *block_count);
                 self.format(device, *order, *erased)
             }
             Command::Image {
@@ -189,14 +219,14 @@ impl<'a, R: Files + AllocGlobal> Script<'a, R> {
                 page,
                 file,
                 erased,
-            } => self.open_image(file, *block_size, *page, *erased),
+            } => self.mount_image_file_as_session(file, *block_size, *page, *erased),
             Command::Unmount => self.unmount(),
             Command::Mount(fault) => self.mount(*fault),
             Command::Save(file) => self.save(file),
-            Command::Calls => self.calls(),
-            Command::Compare(scope) => self.compare(*scope),
-            Command::CompareWith(file) => self.compare_with(file),
-            Command::Perform(operation) => self.perform_in_hand(operation),
+            Command::Calls => self.answer_call_counts(),
+            Command::Compare(scope) => self.compare_session_with_remounted_copy(*scope),
+            Command::CompareWith(file) => self.compare_session_with_image_file(file),
+            Command::Perform(operation) => self.perform_operation_in_session(operation),
         }
     }
 }

@@ -1,7 +1,7 @@
 -- The ends of lines.
 use Rattle.std.proofs.Common.{◌≡◌, ◌∙◌, ◌++◌, ◌∷◌, ℕ, List, [], ap, arith, cond, false, nat_eq, refl, true}
 use Rattle.std.proofs.lemmas.Bool.Decides.{nat_tests}
-use Rattle.lfs_script_lines.specs.Lines.{prepended_unless_trailing_space, without_byte_at_end, without_leading_spaces, without_trailing_spaces}
+use Rattle.lfs_script_lines.specs.Lines.{byte_prepended_unless_trailing_space, without_byte_at_end, without_leading_spaces, without_trailing_spaces}
 
 same_byte : (b c : ℕ) → b ≡ c → nat_eq b c ≡ true
 same_byte b c is = grind (arith, nat_tests)
@@ -30,12 +30,12 @@ before-other b rest other = ap (λ t. cond t (without_leading_spaces rest) (b �
 
 pub behind-space : (b : ℕ) (rest : List ℕ) → b ≡ 0x20 → without_trailing_spaces (rest ++ b ∷ []) ≡ without_trailing_spaces rest
 behind-space b [] is = ap (λ t. cond t [] (b ∷ [])) (same_byte b 0x20 is)
-behind-space b (c ∷ rest) is = ap (prepended_unless_trailing_space c) (behind-space b rest is)
+behind-space b (c ∷ rest) is = ap (byte_prepended_unless_trailing_space c) (behind-space b rest is)
 
-prepended_unless_trailing_space-last : (c b : ℕ) (rest : List ℕ) → prepended_unless_trailing_space c (rest ++ b ∷ []) ≡ c ∷ rest ++ b ∷ []
-prepended_unless_trailing_space-last c b [] = refl
-prepended_unless_trailing_space-last c b (d ∷ rest) = refl
+byte_prepended_unless_trailing_space-last : (c b : ℕ) (rest : List ℕ) → byte_prepended_unless_trailing_space c (rest ++ b ∷ []) ≡ c ∷ rest ++ b ∷ []
+byte_prepended_unless_trailing_space-last c b [] = refl
+byte_prepended_unless_trailing_space-last c b (d ∷ rest) = refl
 
 pub behind-other : (b : ℕ) (rest : List ℕ) → (b ≡ 0x20 → ⊥) → without_trailing_spaces (rest ++ b ∷ []) ≡ rest ++ b ∷ []
 behind-other b [] other = ap (λ t. cond t [] (b ∷ [])) (other_byte b 0x20 other)
-behind-other b (c ∷ rest) other = ap (prepended_unless_trailing_space c) (behind-other b rest other) ∙ prepended_unless_trailing_space-last c b rest
+behind-other b (c ∷ rest) other = ap (byte_prepended_unless_trailing_space c) (behind-other b rest other) ∙ byte_prepended_unless_trailing_space-last c b rest

@@ -3,7 +3,7 @@ use Rattle.std.proofs.Common.{◌≡◌, ◌+◌, ◌∷◌, ℕ, zero, suc, Lis
 use Rattle.std.specs.Prelude.{slice_get}
 use Rattle.lfs_script_lines.proofs.Texts.{of_word}
 use Rattle.lfs_script_lines.specs.Kinds.{IsWordOfKind, WordKind, objection_to_word_of_kind}
-use Rattle.lfs_script_lines.specs.Lines.{IsWordNotOfItsKind, IsErrorOfWordsByKinds, word_at}
+use Rattle.lfs_script_lines.specs.Lines.{IsWordNotOfItsKind, IsErrorOfWordsNotMatchingKinds, word_at}
 use Rattle.lfs_script_lines.specs.declared.lines.LineError.{LineError}
 use Rattle.lfs_script_lines.specs.declared.lines.LineError.TheVariants.{NoMemory, Refused}
 use Rattle.lfs_script_lines.specs.declared.refusal.LineObjection.{LineObjection}
@@ -21,7 +21,7 @@ moved words from to kinds more reason misfit behind same wanted = record {
 
 -- the word at a place is refused
 pub here : (words : List (List ℕ)) (place : ℕ) (kind : WordKind) (word : List ℕ) → word_at words place ≡ Some word → ¬ IsWordOfKind kind word
-    → IsErrorOfWordsByKinds words place (kind ∷ []) (Refused (objection_to_word_of_kind kind place))
+    → IsErrorOfWordsNotMatchingKinds words place (kind ∷ []) (Refused (objection_to_word_of_kind kind place))
 here words place kind word at unfit = record {
   behind = 0;
   kind = kind;
@@ -32,7 +32,7 @@ here words place kind word at unfit = record {
 
 -- it is refused also where more words are wanted behind it
 pub before : (words : List (List ℕ)) (place : ℕ) (kind : WordKind) (more : List WordKind) (error : LineError)
-    → IsErrorOfWordsByKinds words place (kind ∷ []) error → IsErrorOfWordsByKinds words place (kind ∷ more) error
+    → IsErrorOfWordsNotMatchingKinds words place (kind ∷ []) error → IsErrorOfWordsNotMatchingKinds words place (kind ∷ more) error
 before words place kind more NoMemory fault = tt
 before words place kind more (Refused reason) fault = moved words place place (kind ∷ []) (kind ∷ more) reason fault fault.behind refl (still fault.behind fault.wanted)
   where
@@ -42,6 +42,6 @@ before words place kind more (Refused reason) fault = moved words place place (k
 
 -- a word is refused behind another one
 pub later : (words : List (List ℕ)) (place : ℕ) (kind : WordKind) (kinds : List WordKind) (error : LineError)
-    → IsErrorOfWordsByKinds words (place + 1) kinds error → IsErrorOfWordsByKinds words place (kind ∷ kinds) error
+    → IsErrorOfWordsNotMatchingKinds words (place + 1) kinds error → IsErrorOfWordsNotMatchingKinds words place (kind ∷ kinds) error
 later words place kind kinds NoMemory fault = tt
 later words place kind kinds (Refused reason) fault = moved words (place + 1) place kinds (kind ∷ kinds) reason fault (suc fault.behind) (omega arith) fault.wanted

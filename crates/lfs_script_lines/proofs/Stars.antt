@@ -5,15 +5,15 @@ use Rattle.std.specs.List.{repeat}
 use Rattle.std.specs.Str.{bytes_eq}
 use Rattle.std.proofs.lemmas.Bool.{cases_lt}
 use Rattle.std.proofs.lemmas.Bool.Decides.{nat_tests}
-use Rattle.lfs_script_lines.specs.Words.{AreRepetitionCounts, word_with_repetition_counts, repetition_times}
+use Rattle.lfs_script_lines.specs.Words.{AreRepetitionCounts, word_with_repetition_counts, product_of_repetition_counts}
 
 -- What is left of a word that has counts before it, and how often that is meant.
 abbrev pub IsLineLeft : List ℕ → ℕ → List ℕ → Type 0
 IsLineLeft word count rest = (counts tail : List ℕ) → AreRepetitionCounts counts → get_or tail 0 0 ≢ 0x2a → word ≡ word_with_repetition_counts counts tail
-    → (left : List ℕ) × (AreRepetitionCounts left × (rest ≡ word_with_repetition_counts left tail) × (min (count * repetition_times left) (2 ^ 64 - 1) ≡ min (repetition_times counts) (2 ^ 64 - 1)))
+    → (left : List ℕ) × (AreRepetitionCounts left × (rest ≡ word_with_repetition_counts left tail) × (min (count * product_of_repetition_counts left) (2 ^ 64 - 1) ≡ min (product_of_repetition_counts counts) (2 ^ 64 - 1)))
 
 pub all_left : (word : List ℕ) → IsLineLeft word 1 word
-all_left word counts tail are starless is = (counts, (are, is, ap (λ k. min k (2 ^ 64 - 1)) (let e : 1 * repetition_times counts ≡ repetition_times counts = omega arith in e)))
+all_left word counts tail are starless is = (counts, (are, is, ap (λ k. min k (2 ^ 64 - 1)) (let e : 1 * product_of_repetition_counts counts ≡ product_of_repetition_counts counts = omega arith in e)))
 
 -- ---- a star
 
@@ -43,7 +43,7 @@ pub record IsCounted (behind : List ℕ) (tail : List ℕ) (left : List ℕ) : T
   pub small : n < 2 ^ 32
   pub are : AreRepetitionCounts more
   pub is : behind ≡ decimal n ++ 0x3a ∷ word_with_repetition_counts more tail
-  pub times : repetition_times left ≡ n * repetition_times more
+  pub times : product_of_repetition_counts left ≡ n * product_of_repetition_counts more
 
 pub counted : (left tail rest behind : List ℕ) → AreRepetitionCounts left → get_or tail 0 0 ≢ 0x2a → rest ≡ word_with_repetition_counts left tail → rest ≡ 0x2a ∷ behind → IsCounted behind tail left
 counted [] tail rest behind are starless is count_after_star = absurd (starless (ap (λ (w : List ℕ). get_or w 0 0) (sym is ∙ count_after_star)))
@@ -71,9 +71,9 @@ left_behind word rest behind further count times next inv count_after_star read 
     let left = inv counts tail are starless at in
     let one = counted left.0 tail rest behind left.1.0 starless left.1.1 count_after_star in
     let got = read one.n (word_with_repetition_counts one.more tail) one.small one.is in
-    let product : count * times * repetition_times one.more ≡ count * repetition_times left.0 =
-    mul_assoc count times (repetition_times one.more) ∙ ap (λ n. count * (n * repetition_times one.more)) got.0 ∙ ap (λ n. count * n) (sym one.times) in
-    (one.more, (one.are, got.1, ap (λ n. min (n * repetition_times one.more) (2 ^ 64 - 1)) is ∙ cut_twice (count * times) (repetition_times one.more) (2 ^ 64 - 1) ∙ ap (λ n. min n (2 ^ 64 - 1)) product ∙ left.1.2))
+    let product : count * times * product_of_repetition_counts one.more ≡ count * product_of_repetition_counts left.0 =
+    mul_assoc count times (product_of_repetition_counts one.more) ∙ ap (λ n. count * (n * product_of_repetition_counts one.more)) got.0 ∙ ap (λ n. count * n) (sym one.times) in
+    (one.more, (one.are, got.1, ap (λ n. min (n * product_of_repetition_counts one.more) (2 ^ 64 - 1)) is ∙ cut_twice (count * times) (product_of_repetition_counts one.more) (2 ^ 64 - 1) ∙ ap (λ n. min n (2 ^ 64 - 1)) product ∙ left.1.2))
 
 -- the next count is one that can be read
 pub none_unread : (word rest behind : List ℕ) (count : ℕ) → IsLineLeft word count rest → rest ≡ 0x2a ∷ behind → ((n : ℕ) (more : List ℕ) → n < 2 ^ 32 → behind ≡ decimal n ++ 0x3a ∷ more → ⊥)
@@ -83,16 +83,16 @@ none_unread word rest behind count inv count_after_star unread counts tail are s
     let one = counted left.0 tail rest behind left.1.0 starless left.1.1 count_after_star in
     unread one.n (word_with_repetition_counts one.more tail) one.small one.is
 
-no_count : (left tail rest : List ℕ) (count all : ℕ) → get_or rest 0 0 ≢ 0x2a → count < 2 ^ 64 → rest ≡ word_with_repetition_counts left tail → min (count * repetition_times left) (2 ^ 64 - 1) ≡ all → (count ≡ all) × (rest ≡ tail)
+no_count : (left tail rest : List ℕ) (count all : ℕ) → get_or rest 0 0 ≢ 0x2a → count < 2 ^ 64 → rest ≡ word_with_repetition_counts left tail → min (count * product_of_repetition_counts left) (2 ^ 64 - 1) ≡ all → (count ≡ all) × (rest ≡ tail)
 no_count [] tail rest count all starless small is times = (omega arith, is)
 no_count (n ∷ left) tail rest count all starless small is times = absurd (starless (ap (λ (w : List ℕ). get_or w 0 0) is))
 
 -- all counts were read
 pub none_left : (word rest : List ℕ) (count : ℕ) → IsLineLeft word count rest → get_or rest 0 0 ≢ 0x2a → count < 2 ^ 64 → (counts tail : List ℕ) → AreRepetitionCounts counts → get_or tail 0 0 ≢ 0x2a → word ≡ word_with_repetition_counts counts tail
-    → (count ≡ min (repetition_times counts) (2 ^ 64 - 1)) × (rest ≡ tail)
+    → (count ≡ min (product_of_repetition_counts counts) (2 ^ 64 - 1)) × (rest ≡ tail)
 none_left word rest count inv starless small counts tail are tailless at =
     let left = inv counts tail are tailless at in
-    no_count left.0 tail rest count (min (repetition_times counts) (2 ^ 64 - 1)) starless small left.1.1 left.1.2
+    no_count left.0 tail rest count (min (product_of_repetition_counts counts) (2 ^ 64 - 1)) starless small left.1.1 left.1.2
 
 -- ---- bytes so many times
 

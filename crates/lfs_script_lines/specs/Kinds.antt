@@ -1,7 +1,7 @@
 -- Which kinds of words each command wants behind its name.
 use Rattle.std.specs.Prelude.{ℕ, ◌^◌, ◌||◌, if◌then◌else◌, List, [], ◌∷◌, codes}
 use Rattle.std.specs.Str.{bytes_eq}
-use Rattle.lfs_script_lines.specs.Words.{IsNumberWordBelow, IsWordOfBytes}
+use Rattle.lfs_script_lines.specs.Words.{IsNumberWordInBaseBelow, IsWordOfBytes}
 use Rattle.lfs_script_lines.specs.declared.names.CommandName.{CommandName}
 use Rattle.lfs_script_lines.specs.declared.names.CommandName.TheVariants as command
 use Rattle.lfs_script_lines.specs.declared.names.OperationName.{OperationName}
@@ -21,9 +21,9 @@ pub data WordKind : Type 0 where
 -- the word is as wanted
 abbrev pub IsWordOfKind : WordKind → List ℕ → Type 0
 IsWordOfKind Keyword word = Unit {0}
-IsWordOfKind Number word = IsNumberWordBelow 10 (2 ^ 32) word
-IsWordOfKind Flags word = IsNumberWordBelow 16 (2 ^ 32) word
-IsWordOfKind Byte word = IsNumberWordBelow 16 (2 ^ 8) word
+IsWordOfKind Number word = IsNumberWordInBaseBelow 10 (2 ^ 32) word
+IsWordOfKind Flags word = IsNumberWordInBaseBelow 16 (2 ^ 32) word
+IsWordOfKind Byte word = IsNumberWordInBaseBelow 16 (2 ^ 8) word
 IsWordOfKind Bytes word = IsWordOfBytes word
 IsWordOfKind NoOption word = ⊥
 
@@ -39,19 +39,19 @@ objection_to_word_of_kind NoOption place = refusal.Options place
 -- ---- options
 
 -- the word, and kinds for those behind it; no option has the word, where it is another one
-abbrev pub kinds_behind_keyword : List ℕ → List ℕ → List WordKind → List WordKind
-kinds_behind_keyword keyword word kinds = if bytes_eq word keyword then Keyword ∷ kinds else NoOption ∷ []
+abbrev pub word_kinds_of_keyword_and_following_words : List ℕ → List ℕ → List WordKind → List WordKind
+word_kinds_of_keyword_and_following_words keyword word kinds = if bytes_eq word keyword then Keyword ∷ kinds else NoOption ∷ []
 
 -- one keyword alone, or another one with a word behind it, or nothing
-abbrev pub word_kinds_of_choice : List ℕ → List ℕ → WordKind → List (List ℕ) → List WordKind
-word_kinds_of_choice alone leading kind [] = []
-word_kinds_of_choice alone leading kind (word ∷ []) = kinds_behind_keyword alone word []
-word_kinds_of_choice alone leading kind (word ∷ _ ∷ []) = kinds_behind_keyword leading word (kind ∷ [])
-word_kinds_of_choice alone leading kind (_ ∷ _ ∷ _ ∷ _) = NoOption ∷ []
+abbrev pub word_kinds_of_keyword_or_keyword_with_word : List ℕ → List ℕ → WordKind → List (List ℕ) → List WordKind
+word_kinds_of_keyword_or_keyword_with_word alone leading kind [] = []
+word_kinds_of_keyword_or_keyword_with_word alone leading kind (word ∷ []) = word_kinds_of_keyword_and_following_words alone word []
+word_kinds_of_keyword_or_keyword_with_word alone leading kind (word ∷ _ ∷ []) = word_kinds_of_keyword_and_following_words leading word (kind ∷ [])
+word_kinds_of_keyword_or_keyword_with_word alone leading kind (_ ∷ _ ∷ _ ∷ _) = NoOption ∷ []
 
 -- `keep`, `fill BYTE` or nothing: what erases leave
 abbrev pub word_kinds_of_erased_option : List (List ℕ) → List WordKind
-word_kinds_of_erased_option words = word_kinds_of_choice (codes "keep") (codes "fill") Byte words
+word_kinds_of_erased_option words = word_kinds_of_keyword_or_keyword_with_word (codes "keep") (codes "fill") Byte words
 
 -- `longer-first`, `shorter-first` or nothing, and behind it what erases leave
 abbrev pub word_kinds_of_order_option : List (List ℕ) → List WordKind
@@ -60,24 +60,24 @@ word_kinds_of_order_option (word ∷ words) =
     if bytes_eq word (codes "longer-first") || bytes_eq word (codes "shorter-first") then Keyword ∷ word_kinds_of_erased_option words else word_kinds_of_erased_option (word ∷ words)
 
 -- `whole`, `torn NUMBER` or nothing: what a failing call leaves
-abbrev pub word_kinds_of_extent_option : List (List ℕ) → List WordKind
-word_kinds_of_extent_option words = word_kinds_of_choice (codes "whole") (codes "torn") Number words
+abbrev pub word_kinds_of_fault_extent_option : List (List ℕ) → List WordKind
+word_kinds_of_fault_extent_option words = word_kinds_of_keyword_or_keyword_with_word (codes "whole") (codes "torn") Number words
 
 -- `stop` or nothing, and behind it what a failing call leaves
 abbrev pub word_kinds_of_stop_option : List (List ℕ) → List WordKind
 word_kinds_of_stop_option [] = []
-word_kinds_of_stop_option (word ∷ words) = if bytes_eq word (codes "stop") then Keyword ∷ word_kinds_of_extent_option words else word_kinds_of_extent_option (word ∷ words)
+word_kinds_of_stop_option (word ∷ words) = if bytes_eq word (codes "stop") then Keyword ∷ word_kinds_of_fault_extent_option words else word_kinds_of_fault_extent_option (word ∷ words)
 
 -- the calls of which one fails
-abbrev pub kind_of_call_word : List ℕ → WordKind
-kind_of_call_word word =
+abbrev pub word_kind_for_failing_call_name : List ℕ → WordKind
+word_kind_for_failing_call_name word =
     if bytes_eq word (codes "any") || bytes_eq word (codes "read") || bytes_eq word (codes "program") || bytes_eq word (codes "erase") then Keyword else NoOption
 
 -- nothing, or which call fails, and behind it how
 abbrev pub word_kinds_of_fault_option : List (List ℕ) → List WordKind
 word_kinds_of_fault_option [] = []
 word_kinds_of_fault_option (_ ∷ []) = NoOption ∷ []
-word_kinds_of_fault_option (which ∷ _ ∷ words) = kind_of_call_word which ∷ Number ∷ word_kinds_of_stop_option words
+word_kinds_of_fault_option (which ∷ _ ∷ words) = word_kind_for_failing_call_name which ∷ Number ∷ word_kinds_of_stop_option words
 
 -- `entries`, the type of an attribute or nothing: how much is compared
 abbrev pub word_kinds_of_scope_option : List (List ℕ) → List WordKind

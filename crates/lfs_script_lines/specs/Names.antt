@@ -9,86 +9,86 @@ use Rattle.lfs_script_lines.specs.declared.names.CommandName.TheVariants as comm
 use Rattle.lfs_script_lines.specs.declared.names.OperationName.{OperationName}
 use Rattle.lfs_script_lines.specs.declared.names.OperationName.TheVariants as operation
 
-abbrev pub operation_text : OperationName → List ℕ
-operation_text operation.Open = codes "open"
-operation_text operation.Read = codes "read"
-operation_text operation.Write = codes "write"
-operation_text operation.Seek = codes "seek"
-operation_text operation.Truncate = codes "truncate"
-operation_text operation.Sync = codes "sync"
-operation_text operation.Close = codes "close"
-operation_text operation.Mkdir = codes "mkdir"
-operation_text operation.Remove = codes "remove"
-operation_text operation.Rename = codes "rename"
-operation_text operation.List = codes "list"
-operation_text operation.Stat = codes "stat"
-operation_text operation.GetAttr = codes "get-attr"
-operation_text operation.SetAttr = codes "set-attr"
-operation_text operation.RemoveAttr = codes "remove-attr"
-operation_text operation.Gstate = codes "gstate"
-operation_text operation.IsUsed = codes "is-used"
-operation_text operation.UsedCount = codes "used-count"
-operation_text operation.Recover = codes "recover"
-operation_text operation.Remount = codes "remount"
+abbrev pub operation_name_text : OperationName → List ℕ
+operation_name_text operation.Open = codes "open"
+operation_name_text operation.Read = codes "read"
+operation_name_text operation.Write = codes "write"
+operation_name_text operation.Seek = codes "seek"
+operation_name_text operation.Truncate = codes "truncate"
+operation_name_text operation.Sync = codes "sync"
+operation_name_text operation.Close = codes "close"
+operation_name_text operation.Mkdir = codes "mkdir"
+operation_name_text operation.Remove = codes "remove"
+operation_name_text operation.Rename = codes "rename"
+operation_name_text operation.List = codes "list"
+operation_name_text operation.Stat = codes "stat"
+operation_name_text operation.GetAttr = codes "get-attr"
+operation_name_text operation.SetAttr = codes "set-attr"
+operation_name_text operation.RemoveAttr = codes "remove-attr"
+operation_name_text operation.Gstate = codes "gstate"
+operation_name_text operation.IsUsed = codes "is-used"
+operation_name_text operation.UsedCount = codes "used-count"
+operation_name_text operation.Recover = codes "recover"
+operation_name_text operation.Remount = codes "remount"
 
 -- the first word of a command's line
-abbrev pub command_text : CommandName → List ℕ
-command_text command.Fresh = codes "fresh"
-command_text command.Image = codes "image"
-command_text command.Unmount = codes "unmount"
-command_text command.Mount = codes "mount"
-command_text command.Save = codes "save"
-command_text command.Calls = codes "calls"
-command_text command.Compare = codes "compare"
-command_text command.CompareWith = codes "compare-with"
-command_text (command.Perform name) = operation_text name
+abbrev pub command_name_text : CommandName → List ℕ
+command_name_text command.Fresh = codes "fresh"
+command_name_text command.Image = codes "image"
+command_name_text command.Unmount = codes "unmount"
+command_name_text command.Mount = codes "mount"
+command_name_text command.Save = codes "save"
+command_name_text command.Calls = codes "calls"
+command_name_text command.Compare = codes "compare"
+command_name_text command.CompareWith = codes "compare-with"
+command_name_text (command.Perform name) = operation_name_text name
 
 -- how many words an operation takes behind its name
-abbrev pub operation_word_count : OperationName → ℕ
-operation_word_count operation.Open = 2
-operation_word_count operation.Read = 2
-operation_word_count operation.Write = 2
-operation_word_count operation.Seek = 2
-operation_word_count operation.Truncate = 2
-operation_word_count operation.Sync = 1
-operation_word_count operation.Close = 1
-operation_word_count operation.Mkdir = 1
-operation_word_count operation.Remove = 1
-operation_word_count operation.Rename = 2
-operation_word_count operation.List = 1
-operation_word_count operation.Stat = 1
-operation_word_count operation.GetAttr = 2
-operation_word_count operation.SetAttr = 3
-operation_word_count operation.RemoveAttr = 2
-operation_word_count operation.Gstate = 0
-operation_word_count operation.IsUsed = 1
-operation_word_count operation.UsedCount = 0
-operation_word_count operation.Recover = 0
-operation_word_count operation.Remount = 0
+abbrev pub operation_argument_word_count : OperationName → ℕ
+operation_argument_word_count operation.Open = 2
+operation_argument_word_count operation.Read = 2
+operation_argument_word_count operation.Write = 2
+operation_argument_word_count operation.Seek = 2
+operation_argument_word_count operation.Truncate = 2
+operation_argument_word_count operation.Sync = 1
+operation_argument_word_count operation.Close = 1
+operation_argument_word_count operation.Mkdir = 1
+operation_argument_word_count operation.Remove = 1
+operation_argument_word_count operation.Rename = 2
+operation_argument_word_count operation.List = 1
+operation_argument_word_count operation.Stat = 1
+operation_argument_word_count operation.GetAttr = 2
+operation_argument_word_count operation.SetAttr = 3
+operation_argument_word_count operation.RemoveAttr = 2
+operation_argument_word_count operation.Gstate = 0
+operation_argument_word_count operation.IsUsed = 1
+operation_argument_word_count operation.UsedCount = 0
+operation_argument_word_count operation.Recover = 0
+operation_argument_word_count operation.Remount = 0
 
 -- the fewest words behind a command's name
-abbrev pub least_word_count : CommandName → ℕ
-least_word_count command.Fresh = 3
-least_word_count command.Image = 3
-least_word_count command.Unmount = 0
-least_word_count command.Mount = 0
-least_word_count command.Save = 1
-least_word_count command.Calls = 0
-least_word_count command.Compare = 0
-least_word_count command.CompareWith = 1
-least_word_count (command.Perform name) = operation_word_count name
+abbrev pub least_argument_word_count : CommandName → ℕ
+least_argument_word_count command.Fresh = 3
+least_argument_word_count command.Image = 3
+least_argument_word_count command.Unmount = 0
+least_argument_word_count command.Mount = 0
+least_argument_word_count command.Save = 1
+least_argument_word_count command.Calls = 0
+least_argument_word_count command.Compare = 0
+least_argument_word_count command.CompareWith = 1
+least_argument_word_count (command.Perform name) = operation_argument_word_count name
 
 -- the most words behind a command's name
-abbrev pub most_word_count : CommandName → ℕ
-most_word_count command.Fresh = 6
-most_word_count command.Image = 5
-most_word_count command.Unmount = 0
-most_word_count command.Mount = 5
-most_word_count command.Save = 1
-most_word_count command.Calls = 0
-most_word_count command.Compare = 1
-most_word_count command.CompareWith = 1
-most_word_count (command.Perform name) = operation_word_count name
+abbrev pub most_argument_word_count : CommandName → ℕ
+most_argument_word_count command.Fresh = 6
+most_argument_word_count command.Image = 5
+most_argument_word_count command.Unmount = 0
+most_argument_word_count command.Mount = 5
+most_argument_word_count command.Save = 1
+most_argument_word_count command.Calls = 0
+most_argument_word_count command.Compare = 1
+most_argument_word_count command.CompareWith = 1
+most_argument_word_count (command.Perform name) = operation_argument_word_count name
 
 -- the name of an operation
 abbrev pub name_of_operation : Operation → OperationName
@@ -126,7 +126,7 @@ name_of_command (made.CompareWith path) = command.CompareWith
 name_of_command (made.Perform op) = command.Perform (name_of_operation op)
 
 -- a command that another test finds by its name: `compare-with`, or an operation
-abbrev pub IsCompareWithOrOperation : CommandName → Type 0
-IsCompareWithOrOperation command.CompareWith = Unit {0}
-IsCompareWithOrOperation (command.Perform name) = Unit {0}
-IsCompareWithOrOperation _ = ⊥
+abbrev pub IsCompareWithOrOperationCommand : CommandName → Type 0
+IsCompareWithOrOperationCommand command.CompareWith = Unit {0}
+IsCompareWithOrOperationCommand (command.Perform name) = Unit {0}
+IsCompareWithOrOperationCommand _ = ⊥

@@ -20,13 +20,13 @@ is_byte_unescaped_in_word b = nat_le 0x21 b && (nat_le b 0x7e && not (b == 0x5c)
 -- ---- written
 
 -- a byte as it is written: itself, or `\x` and two digits; a star always so
-abbrev pub escaped_byte : ℕ → List ℕ
-escaped_byte b = if is_byte_unescaped_in_word b && not (b == 0x2a) then b ∷ [] else 0x5c ∷ 0x78 ∷ hex_digit (b / 16) ∷ hex_digit (b % 16) ∷ []
+abbrev pub byte_escaped_if_needed : ℕ → List ℕ
+byte_escaped_if_needed b = if is_byte_unescaped_in_word b && not (b == 0x2a) then b ∷ [] else 0x5c ∷ 0x78 ∷ hex_digit (b / 16) ∷ hex_digit (b % 16) ∷ []
 
 -- the word for bytes; for no bytes it is `\e`
 abbrev pub word_of_bytes : List ℕ → List ℕ
 word_of_bytes [] = 0x5c ∷ 0x65 ∷ []
-word_of_bytes (b ∷ bytes) = flat_map escaped_byte (b ∷ bytes)
+word_of_bytes (b ∷ bytes) = flat_map byte_escaped_if_needed (b ∷ bytes)
 
 -- ---- read
 
@@ -39,35 +39,35 @@ hex_value c =
     else None
 
 -- the byte of two digits
-abbrev pub outcome_of_two_digits : Option ℕ → Option ℕ → EscapeOutcome
-outcome_of_two_digits (Some high) (Some low) = Byte (high * 16 + low)
-outcome_of_two_digits _ _ = Never
+abbrev pub escape_outcome_of_two_hex_digits : Option ℕ → Option ℕ → EscapeOutcome
+escape_outcome_of_two_hex_digits (Some high) (Some low) = Byte (high * 16 + low)
+escape_outcome_of_two_hex_digits _ _ = Never
 
 -- the result of a byte after such a part of a word
-abbrev pub outcome_after_byte : EscapePart → ℕ → EscapeOutcome
-outcome_after_byte Text b = if b == 0x5c then To Backslash else if is_byte_unescaped_in_word b then Byte b else Never
-outcome_after_byte Backslash b = if b == 0x78 then To Mark else Never
-outcome_after_byte Mark b = To (Digit b)
-outcome_after_byte (Digit first) b = outcome_of_two_digits (hex_value first) (hex_value b)
+abbrev pub escape_outcome_of_part_and_next_byte : EscapePart → ℕ → EscapeOutcome
+escape_outcome_of_part_and_next_byte Text b = if b == 0x5c then To Backslash else if is_byte_unescaped_in_word b then Byte b else Never
+escape_outcome_of_part_and_next_byte Backslash b = if b == 0x78 then To Mark else Never
+escape_outcome_of_part_and_next_byte Mark b = To (Digit b)
+escape_outcome_of_part_and_next_byte (Digit first) b = escape_outcome_of_two_hex_digits (hex_value first) (hex_value b)
 
 -- the result of a part, or after a byte
-abbrev pub bytes_after_outcome : EscapeOutcome → (EscapePart → Option (List ℕ)) → Option (List ℕ)
-bytes_after_outcome (To part) rest = rest part
-bytes_after_outcome (Byte b) rest = option_map (λ bytes. b ∷ bytes) (rest Text)
-bytes_after_outcome Never rest = None
+abbrev pub unescaped_bytes_by_escape_outcome : EscapeOutcome → (EscapePart → Option (List ℕ)) → Option (List ℕ)
+unescaped_bytes_by_escape_outcome (To part) rest = rest part
+unescaped_bytes_by_escape_outcome (Byte b) rest = option_map (λ bytes. b ∷ bytes) (rest Text)
+unescaped_bytes_by_escape_outcome Never rest = None
 
 -- the bytes of a text, where a part of it was before
-abbrev pub bytes_of_spelling_after_part : EscapePart → List ℕ → Option (List ℕ)
-bytes_of_spelling_after_part Text [] = Some []
-bytes_of_spelling_after_part _ [] = None
-bytes_of_spelling_after_part part (b ∷ word) = bytes_after_outcome (outcome_after_byte part b) (λ p. bytes_of_spelling_after_part p word)
+abbrev pub unescaped_bytes_of_text_after_escape_part : EscapePart → List ℕ → Option (List ℕ)
+unescaped_bytes_of_text_after_escape_part Text [] = Some []
+unescaped_bytes_of_text_after_escape_part _ [] = None
+unescaped_bytes_of_text_after_escape_part part (b ∷ word) = unescaped_bytes_by_escape_outcome (escape_outcome_of_part_and_next_byte part b) (λ p. unescaped_bytes_of_text_after_escape_part p word)
 
 abbrev pub bytes_of_escaped_text : List ℕ → Option (List ℕ)
-bytes_of_escaped_text word = bytes_of_spelling_after_part Text word
+bytes_of_escaped_text word = unescaped_bytes_of_text_after_escape_part Text word
 
 -- the bytes of a word without a repetition
-abbrev pub bytes_of_word_without_counts : List ℕ → Option (List ℕ)
-bytes_of_word_without_counts word = if bytes_eq word (0x5c ∷ 0x65 ∷ []) then Some [] else bytes_of_escaped_text word
+abbrev pub bytes_of_word_without_repetition_counts : List ℕ → Option (List ℕ)
+bytes_of_word_without_repetition_counts word = if bytes_eq word (0x5c ∷ 0x65 ∷ []) then Some [] else bytes_of_escaped_text word
 
 -- ---- repeated
 
@@ -80,19 +80,19 @@ abbrev pub AreRepetitionCounts : List ℕ → Type 0
 AreRepetitionCounts counts = AllByRecursion (λ n. n < 2 ^ 32) counts
 
 -- how many times the word is meant
-abbrev pub repetition_times : List ℕ → ℕ
-repetition_times [] = 1
-repetition_times (n ∷ counts) = n * repetition_times counts
+abbrev pub product_of_repetition_counts : List ℕ → ℕ
+product_of_repetition_counts [] = 1
+product_of_repetition_counts (n ∷ counts) = n * product_of_repetition_counts counts
 
 -- a word that stands for bytes: counts, if any, and behind them a spelling of bytes
 abbrev pub IsWordOfBytes : List ℕ → Type 0
-IsWordOfBytes word = (counts : List ℕ) × (rest : List ℕ) × AreRepetitionCounts counts × (slice_index rest 0 ≢ 0x2a) × (word ≡ word_with_repetition_counts counts rest) × IsSome (bytes_of_word_without_counts rest)
+IsWordOfBytes word = (counts : List ℕ) × (rest : List ℕ) × AreRepetitionCounts counts × (slice_index rest 0 ≢ 0x2a) × (word ≡ word_with_repetition_counts counts rest) × IsSome (bytes_of_word_without_repetition_counts rest)
 
 -- ---- numbers
 
 -- a word of digits in a base, without a sign, whose number is below a limit
-abbrev pub IsNumberWordBelow : ℕ → ℕ → List ℕ → Type 0
-IsNumberWordBelow base limit word = IsNumeral base word × (digits_value base word < limit)
+abbrev pub IsNumberWordInBaseBelow : ℕ → ℕ → List ℕ → Type 0
+IsNumberWordInBaseBelow base limit word = IsNumeral base word × (digits_value base word < limit)
 
 -- ---- lines
 

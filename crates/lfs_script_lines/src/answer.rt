@@ -5,7 +5,7 @@ use lfs_fs::Reply;
 
 /// How many calls a device had, with those that failed.
 #[derive(Clone, Copy, Debug, PartialEq, Eq)]
-pub struct Calls {
+pub struct DeviceCallCounts {
     pub reads: u64,
     pub programs: u64,
     pub erases: u64,
@@ -15,7 +15,7 @@ pub struct Calls {
 
 /// A difference of two sessions. Paths are bytes.
 #[derive(Drop)]
-pub enum Difference {
+pub enum SessionDifference {
     /// The entry at a path: nothing, a file of a size, or a directory.
     Entry(Vec<u8>),
     /// The bytes of the file at a path.
@@ -43,9 +43,9 @@ pub enum Answer {
     Input,
     /// A file could not be written.
     Output,
-    Calls(Calls),
+    Calls(DeviceCallCounts),
     /// Nothing differs.
     Same,
     /// What differs first.
-    Differs(Difference),
+    Differs(SessionDifference),
 }

@@ -1,9 +1,9 @@
 // The lines that scripts print.
 
 ghost use Rattle.std.specs.Prelude.{◌≡◌, ◌++◌, OnOk};
-ghost use Rattle.lfs_script_lines.specs.Answers.{answer_text, differing_block_text, calls_text, difference_text, error_text, kind_and_size_text, gstate_text, item_text, items_text, attribute_type_text, moved_slot_text, number_text, reply_text, stat_text};
+ghost use Rattle.lfs_script_lines.specs.Answers.{answer_text, differing_block_text, device_call_counts_text, session_difference_text, error_text, kind_and_size_text, gstate_text, listed_item_text, listed_items_text, attribute_type_text, moved_slot_text, number_text, reply_text, stat_text};
 
-use crate::answer::{Answer, Calls, Difference};
+use crate::answer::{Answer, DeviceCallCounts, SessionDifference};
 use crate::word_text::{hex_digit, push_word};
 use lfs_device::Error;
 use lfs_fs::{Gstate, Item, Kind, Reply};
@@ -44,20 +44,20 @@ fn push_kind_and_size(text: &mut Vec<u8>, kind: Kind, size: u32) -> Result<(), A
     Ok(())
 }
 
-fn push_item(text: &mut Vec<u8>, item: &Item) -> Result<(), AllocError>
-    ensures { OnOk result (text.new.items ≡ text.old.items ++ item_text item.now) }
+fn push_listed_item(text: &mut Vec<u8>, item: &Item) -> Result<(), AllocError>
+    ensures { OnOk result (text.new.items ≡ text.old.items ++ listed_item_text item.now) }
 {
     push_kind_and_size(text, item.kind, item.size)?;
     push_word(text, item.name.as_slice())
 }
 
-fn push_items(text: &mut Vec<u8>, items: &[Item]) -> Result<(), AllocError>
-    ensures { OnOk result (text.new.items ≡ text.old.items ++ items_text items.now) }
+fn push_listed_items(text: &mut Vec<u8>, items: &[Item]) -> Result<(), AllocError>
+    ensures { OnOk result (text.new.items ≡ text.old.items ++ listed_items_text items.now) }
 {
     text.extend_from_slice(b"items")?;
     push_number(text, items.len() as u64)?;
     for item in items {
-        push_item(text, item)?;
+        push_listed_item(text, item)?;
     }
     Ok(())
 }
@@ -120,7 +120,7 @@ fn push_reply(text: &mut Vec<u8>, reply: &Reply) -> Result<(), AllocError>
             text.extend_from_slice(b"count")?;
             push_number(text, u64::from(*count))?;
         }
-        Reply::Items(items) => push_items(text, items)?,
+        Reply::Items(items) => push_listed_items(text, items)?,
         Reply::Stat(stat) => push_stat(text, stat.kind, stat.size)?,
         Reply::Gstate(gstate) => push_gstate(text, gstate)?,
         Reply::Yes(true) => text.extend_from_slice(b"yes")?,
@@ -133,8 +133,8 @@ fn push_reply(text: &mut Vec<u8>, reply: &Reply) -> Result<(), AllocError>
     Ok(())
 }
 
-fn push_calls(text: &mut Vec<u8>, calls: Calls) -> Result<(), AllocError>
-    ensures { OnOk result (text.new.items ≡ text.old.items ++ calls_text calls) }
+fn push_device_call_counts(text: &mut Vec<u8>, calls: DeviceCallCounts) -> Result<(), AllocError>
+    ensures { OnOk result (text.new.items ≡ text.old.items ++ device_call_counts_text calls) }
 {
     text.extend_from_slice(b"calls")?;
     push_number(text, calls.reads)?;
@@ -151,33 +151,36 @@ fn push_attribute_type(text: &mut Vec<u8>, kind: u8) -> Result<(), AllocError>
     text.extend_from_slice(&word)
 }
 
-fn push_block(text: &mut Vec<u8>, block: u32) -> Result<(), AllocError>
+fn push_differing_block(text: &mut Vec<u8>, block: u32) -> Result<(), AllocError>
     ensures { OnOk result (text.new.items ≡ text.old.items ++ differing_block_text block) }
 {
     text.extend_from_slice(b"differs block")?;
     push_number(text, u64::from(block))
 }
 
-fn push_difference(text: &mut Vec<u8>, difference: &Difference) -> Result<(), AllocError>
-    ensures { OnOk result (text.new.items ≡ text.old.items ++ difference_text difference.now) }
+fn push_session_difference(
+    text: &mut Vec<u8>,
+    difference: &SessionDifference,
+) -> Result<(), AllocError>
+    ensures { OnOk result (text.new.items ≡ text.old.items ++ session_difference_text difference.now) }
 {
     match difference {
-        Difference::Entry(path) => {
+        SessionDifference::Entry(path) => {
             text.extend_from_slice(b"differs entry ")?;
             push_word(text, path)?;
         }
-        Difference::Bytes(path) => {
+        SessionDifference::Bytes(path) => {
             text.extend_from_slice(b"differs bytes ")?;
             push_word(text, path)?;
         }
-        Difference::Attribute(path, kind) => {
+        SessionDifference::Attribute(path, kind) => {
             text.extend_from_slice(b"differs attribute ")?;
             push_word(text, path)?;
             push_attribute_type(text, *kind)?;
         }
-        Difference::Gstate => text.extend_from_slice(b"differs gstate")?,
-        Difference::Block(block) => push_block(text, *block)?,
-        Difference::UsedCount => text.extend_from_slice(b"differs used-count")?,
+        SessionDifference::Gstate => text.extend_from_slice(b"differs gstate")?,
+        SessionDifference::Block(block) => push_differing_block(text, *block)?,
+        SessionDifference::UsedCount => text.extend_from_slice(b"differs used-count")?,
     }
     Ok(())
 }
@@ -195,9 +198,9 @@ pub fn push_answer(text: &mut Vec<u8>, answer: &Answer) -> Result<(), AllocError
         Answer::Nothing => text.extend_from_slice(b"error none")?,
         Answer::Input => text.extend_from_slice(b"error input")?,
         Answer::Output => text.extend_from_slice(b"error output")?,
-        Answer::Calls(calls) => push_calls(text, *calls)?,
+        Answer::Calls(calls) => push_device_call_counts(text, *calls)?,
         Answer::Same => text.extend_from_slice(b"same")?,
-        Answer::Differs(difference) => push_difference(text, difference)?,
+        Answer::Differs(difference) => push_session_difference(text, difference)?,
     }
     Ok(())
 }

@@ -5,7 +5,7 @@ use lfs_fs::OpenFlags;
 
 /// How much of two sessions is compared.
 #[derive(Clone, Copy)]
-pub enum Scope {
+pub enum ComparisonScope {
     /// All that they reply.
     Whole,
     /// All but the attributes of other types than this one.
@@ -46,7 +46,7 @@ pub enum Command {
     /// How many calls the device had.
     Calls,
     /// The first difference between the session and one on a copy of its device.
-    Compare(Scope),
+    Compare(ComparisonScope),
     /// The first difference between the session and one on a device with the bytes of a file.
     CompareWith(Vec<u8>),
     /// An operation of the session.

@@ -15,9 +15,9 @@ mod refusal;
 mod word_text;
 mod words;
 
-pub use answer::{Answer, Calls, Difference};
+pub use answer::{Answer, DeviceCallCounts, SessionDifference};
 pub use answer_text::push_answer;
-pub use command::{Command, Operation, Scope};
+pub use command::{Command, ComparisonScope, Operation};
 pub use lines::{LineError, read_line};
 pub use names::{CommandName, OperationName};
 pub use refusal::LineObjection;

@@ -2,17 +2,19 @@
 
 ghost use Rattle.std.specs.Prelude.{◌≡◌, ◌+◌, ◌<◌, ◌≤◌, IfErr, IfOk, IfSome, MatchOption, OnOk, drop, is_none, length, true};
 ghost use Rattle.lfs_script_lines.specs.Kinds.{word_kinds_of_command};
-ghost use Rattle.lfs_script_lines.specs.Lines.{IsCommandLine, IsNamedByFirstWord, IsErrorOfLineWords, IsErrorOfWordsByKinds, trimmed_line, texts, words_between_spaces};
-ghost use Rattle.lfs_script_lines.specs.Names.{least_word_count, most_word_count, name_of_command};
+ghost use Rattle.lfs_script_lines.specs.Lines.{HasCommandNameAndRightWordCount, IsCommandNamedByFirstWord, IsErrorOfLineWords, IsErrorOfWordsNotMatchingKinds, trimmed_line, texts_of_borrowed_words, words_between_spaces};
+ghost use Rattle.lfs_script_lines.specs.Names.{least_argument_word_count, most_argument_word_count, name_of_command};
 ghost use Rattle.lfs_script_lines.specs.declared.names.CommandName.{CommandName};
 ghost use Rattle.lfs_script_lines.specs.Words.{is_line_without_command};
 
-use crate::arguments::{bytes, number, word_at};
+use crate::arguments::{bytes_of_word_at, decimal_number_of_word_at, word_at};
 use crate::command::Command;
-use crate::line_text::{content_of, has_gap, words_of};
-use crate::names::{CommandName, command_of_word, least_count, most_count};
-use crate::operations::operation_of;
-use crate::options::{erased, fault, order_and_erased, scope};
+use crate::line_text::{is_any_word_empty, trimmed_text_of_line, words_of_text};
+use crate::names::{CommandName, command_of_word, least_argument_count, most_argument_count};
+use crate::operations::operation_of_line_words;
+use crate::options::{
+    comparison_scope_of_words, erased, name_order_and_erased_option, planned_fault_or_none,
+};
 use crate::refusal::LineObjection;
 use std::alloc::{AllocError, AllocFailed, Global};
 
@@ -48,15 +50,15 @@ impl<T: Drop> From<AllocFailed<T>> for LineError {
 }
 
 // Returns a blank device.
-fn fresh(words: &[&[u8]]) -> Result<Command, LineError>
+fn fresh_device_command(words: &[&[u8]]) -> Result<Command, LineError>
     requires { 3 < length words.now }
     ensures name { IfOk result (λ command. name_of_command command ≡ CommandName.Fresh) }
-    ensures err { IfErr result (IsErrorOfWordsByKinds (texts words.now) 1 (word_kinds_of_command CommandName.Fresh (drop 1 (texts words.now)))) }
+    ensures err { IfErr result (IsErrorOfWordsNotMatchingKinds (texts_of_borrowed_words words.now) 1 (word_kinds_of_command CommandName.Fresh (drop 1 (texts_of_borrowed_words words.now)))) }
 {
-    let block_size = number(words, 1)?;
-    let page = number(words, 2)?;
-    let block_count = number(words, 3)?;
-    let (order, erased) = order_and_erased(words)?;
+    let block_size = decimal_number_of_word_at(words, 1)?;
+    let page = decimal_number_of_word_at(words, 2)?;
+    let block_count = decimal_number_of_word_at(words, 3)?;
+    let (order, erased) = name_order_and_erased_option(words)?;
     Ok(Command::Fresh {
         block_size,
         page,
@@ -67,14 +69,14 @@ fn fresh(words: &[&[u8]]) -> Result<Command, LineError>
 }
 
 // Returns a device with the bytes of a file.
-fn image(alloc: Global, words: &[&[u8]]) -> Result<Command, LineError>
+fn open_image_command(alloc: Global, words: &[&[u8]]) -> Result<Command, LineError>
     requires { 3 < length words.now }
     ensures name { IfOk result (λ command. name_of_command command ≡ CommandName.Image) }
-    ensures err { IfErr result (IsErrorOfWordsByKinds (texts words.now) 1 (word_kinds_of_command CommandName.Image (drop 1 (texts words.now)))) }
+    ensures err { IfErr result (IsErrorOfWordsNotMatchingKinds (texts_of_borrowed_words words.now) 1 (word_kinds_of_command CommandName.Image (drop 1 (texts_of_borrowed_words words.now)))) }
 {
-    let block_size = number(words, 1)?;
-    let page = number(words, 2)?;
-    let file = bytes(alloc, words, 3)?;
+    let block_size = decimal_number_of_word_at(words, 1)?;
+    let page = decimal_number_of_word_at(words, 2)?;
+    let file = bytes_of_word_at(alloc, words, 3)?;
     let erased = erased(words, 4)?;
     Ok(Command::Image {
         block_size,
@@ -85,21 +87,27 @@ fn image(alloc: Global, words: &[&[u8]]) -> Result<Command, LineError>
 }
 
 // Returns the command of that name. The line has as many words as the command takes.
-fn command_named(alloc: Global, name: CommandName, words: &[&[u8]]) -> Result<Command, LineError>
-    requires { least_word_count name < length words.now }
-    ensures err { IfErr result (IsErrorOfWordsByKinds (texts words.now) 1 (word_kinds_of_command name (drop 1 (texts words.now)))) }
+fn command_of_name_and_words(
+    alloc: Global,
+    name: CommandName,
+    words: &[&[u8]],
+) -> Result<Command, LineError>
+    requires { least_argument_word_count name < length words.now }
+    ensures err { IfErr result (IsErrorOfWordsNotMatchingKinds (texts_of_borrowed_words words.now) 1 (word_kinds_of_command name (drop 1 (texts_of_borrowed_words words.now)))) }
     ensures name { IfOk result (λ command. name_of_command command ≡ name) }
 {
     let command = match name {
-        CommandName::Fresh => fresh(words)?,
-        CommandName::Image => image(alloc, words)?,
+        CommandName::Fresh => fresh_device_command(words)?,
+        CommandName::Image => open_image_command(alloc, words)?,
         CommandName::Unmount => Command::Unmount,
-        CommandName::Mount => Command::Mount(fault(words)?),
-        CommandName::Save => Command::Save(bytes(alloc, words, 1)?),
+        CommandName::Mount => Command::Mount(planned_fault_or_none(words)?),
+        CommandName::Save => Command::Save(bytes_of_word_at(alloc, words, 1)?),
         CommandName::Calls => Command::Calls,
-        CommandName::Compare => Command::Compare(scope(words)?),
-        CommandName::CompareWith => Command::CompareWith(bytes(alloc, words, 1)?),
-        CommandName::Perform(operation) => Command::Perform(operation_of(alloc, operation, words)?),
+        CommandName::Compare => Command::Compare(comparison_scope_of_words(words)?),
+        CommandName::CompareWith => Command::CompareWith(bytes_of_word_at(alloc, words, 1)?),
+        CommandName::Perform(operation) => Command::Perform(operation_of_line_words(
+            alloc, operation, words,
+        )?),
     };
     Ok(command)
 }
@@ -107,7 +115,7 @@ fn command_named(alloc: Global, name: CommandName, words: &[&[u8]]) -> Result<Co
 // Returns the command that the first word names.
 fn command_name_in_first_word(words: &[&[u8]]) -> Option<CommandName>
     requires { 0 < length words.now }
-    ensures { MatchOption result ((name : CommandName) → ¬ IsNamedByFirstWord (texts words.now) name) (IsNamedByFirstWord (texts words.now)) }
+    ensures { MatchOption result ((name : CommandName) → ¬ IsCommandNamedByFirstWord (texts_of_borrowed_words words.now) name) (IsCommandNamedByFirstWord (texts_of_borrowed_words words.now)) }
 {
     let word = word_at(words, 0);
     command_of_word(word)
@@ -115,16 +123,16 @@ fn command_name_in_first_word(words: &[&[u8]]) -> Option<CommandName>
 
 // Refuses a line with too few or too many words behind its name.
 fn check_word_count(words: &[&[u8]], name: CommandName) -> Result<(), LineError>
-    requires { IsNamedByFirstWord (texts words.now) name }
-    ensures err { IfErr result (IsErrorOfLineWords (texts words.now)) }
-    ensures ok { OnOk result ((least_word_count name < length words.now) × (length words.now ≤ most_word_count name + 1)) }
+    requires { IsCommandNamedByFirstWord (texts_of_borrowed_words words.now) name }
+    ensures err { IfErr result (IsErrorOfLineWords (texts_of_borrowed_words words.now)) }
+    ensures ok { OnOk result ((least_argument_word_count name < length words.now) × (length words.now ≤ most_argument_word_count name + 1)) }
 {
     let count = words.len();
-    let least = least_count(name);
+    let least = least_argument_count(name);
     if count <= least {
         return Err(LineError::Refused(LineObjection::TooFew(name)));
     }
-    let most = most_count(name);
+    let most = most_argument_count(name);
     let behind = count - 1;
     if behind > most {
         return Err(LineError::Refused(LineObjection::TooMany(name)));
@@ -133,12 +141,12 @@ fn check_word_count(words: &[&[u8]], name: CommandName) -> Result<(), LineError>
 }
 
 // Returns the name of a line's command, where it has as many words as the command takes.
-fn name_of(words: &[&[u8]]) -> Result<CommandName, LineError>
+fn command_name_of_words(words: &[&[u8]]) -> Result<CommandName, LineError>
     requires { 0 < length words.now }
-    ensures err { IfErr result (IsErrorOfLineWords (texts words.now)) }
-    ensures ok { IfOk result (IsCommandLine (texts words.now)) }
+    ensures err { IfErr result (IsErrorOfLineWords (texts_of_borrowed_words words.now)) }
+    ensures ok { IfOk result (HasCommandNameAndRightWordCount (texts_of_borrowed_words words.now)) }
 {
-    if has_gap(words) {
+    if is_any_word_empty(words) {
         return Err(LineError::Refused(LineObjection::Spaces));
     }
     let Some(name) = command_name_in_first_word(words) else {
@@ -151,16 +159,16 @@ fn name_of(words: &[&[u8]]) -> Result<CommandName, LineError>
 // Returns the command of a line's words.
 fn command_of_words(alloc: Global, words: &[&[u8]]) -> Result<Command, LineError>
     requires { 0 < length words.now }
-    ensures err { IfErr result (IsErrorOfLineWords (texts words.now)) }
-    ensures ok { IfOk result (λ command. IsCommandLine (texts words.now) (name_of_command command)) }
+    ensures err { IfErr result (IsErrorOfLineWords (texts_of_borrowed_words words.now)) }
+    ensures ok { IfOk result (λ command. HasCommandNameAndRightWordCount (texts_of_borrowed_words words.now) (name_of_command command)) }
 {
-    let name = name_of(words)?;
-    let command = command_named(alloc, name, words)?;
+    let name = command_name_of_words(words)?;
+    let command = command_of_name_and_words(alloc, name, words)?;
     Ok(command)
 }
 
 // Returns whether a text is empty or a comment.
-fn is_silent(text: &[u8]) -> bool
+fn is_empty_or_comment(text: &[u8]) -> bool
     ensures { result ≡ is_line_without_command text.now }
 {
     text.is_empty() || text[0] == b'#'
@@ -179,15 +187,15 @@ pub fn read_line(alloc: Global, line: &[u8]) -> Result<Option<Command>, LineErro
     ensures silent { is_line_without_command (trimmed_line line.now) ≡ true → result ≡ Ok None }
 
     // A command has one space between its words, its name first, and as many words as it takes.
-    ensures command { IfOk result (λ found. IfSome found (λ command. IsCommandLine (words_between_spaces (trimmed_line line.now)) (name_of_command command))) }
+    ensures command { IfOk result (λ found. IfSome found (λ command. HasCommandNameAndRightWordCount (words_between_spaces (trimmed_line line.now)) (name_of_command command))) }
     // The reason says what the line lacks.
     ensures refused { IfErr result (IsErrorOfLineWords (words_between_spaces (trimmed_line line.now))) }
 {
-    let content = content_of(line);
-    if is_silent(content) {
+    let content = trimmed_text_of_line(line);
+    if is_empty_or_comment(content) {
         return Ok(None);
     }
-    let words = words_of(alloc, content)?;
+    let words = words_of_text(alloc, content)?;
     let command = command_of_words(alloc, &words)?;
     Ok(Some(command))
 }

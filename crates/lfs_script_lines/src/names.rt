@@ -1,7 +1,7 @@
 // The names of commands.
 
 ghost use Rattle.std.specs.Prelude.{◌≡◌, ◌≢◌, MatchOption};
-ghost use Rattle.lfs_script_lines.specs.Names.{IsCompareWithOrOperation, command_text, least_word_count, most_word_count, operation_word_count, operation_text};
+ghost use Rattle.lfs_script_lines.specs.Names.{IsCompareWithOrOperationCommand, command_name_text, least_argument_word_count, most_argument_word_count, operation_argument_word_count, operation_name_text};
 ghost use Rattle.lfs_script_lines.specs.declared.names.CommandName.{CommandName};
 ghost use Rattle.lfs_script_lines.specs.declared.names.OperationName.{OperationName};
 
@@ -47,7 +47,7 @@ pub enum CommandName {
 
 // Returns the operation that a word names.
 fn operation_of_word(word: &[u8]) -> Option<OperationName>
-    ensures { MatchOption result ((name : OperationName) → word.now ≢ operation_text name) (λ name. word.now ≡ operation_text name) }
+    ensures { MatchOption result ((name : OperationName) → word.now ≢ operation_name_text name) (λ name. word.now ≡ operation_name_text name) }
 {
     match word {
         b"open" => Some(OperationName::Open),
@@ -75,8 +75,8 @@ fn operation_of_word(word: &[u8]) -> Option<OperationName>
 }
 
 // Returns the command that a word names, unless that is `compare-with` or an operation.
-fn device_command_of_word(word: &[u8]) -> Option<CommandName>
-    ensures { MatchOption result ((name : CommandName) → word.now ≡ command_text name → IsCompareWithOrOperation name) (λ name. word.now ≡ command_text name) }
+fn command_of_word_unless_compare_with_or_operation(word: &[u8]) -> Option<CommandName>
+    ensures { MatchOption result ((name : CommandName) → word.now ≡ command_name_text name → IsCompareWithOrOperationCommand name) (λ name. word.now ≡ command_name_text name) }
 {
     match word {
         b"fresh" => Some(CommandName::Fresh),
@@ -92,12 +92,12 @@ fn device_command_of_word(word: &[u8]) -> Option<CommandName>
 
 // Returns the command that a word names.
 pub(crate) fn command_of_word(word: &[u8]) -> Option<CommandName>
-    ensures { MatchOption result ((name : CommandName) → word.now ≢ command_text name) (λ name. word.now ≡ command_text name) }
+    ensures { MatchOption result ((name : CommandName) → word.now ≢ command_name_text name) (λ name. word.now ≡ command_name_text name) }
 {
     if word == b"compare-with".as_slice() {
         return Some(CommandName::CompareWith);
     }
-    if let Some(name) = device_command_of_word(word) {
+    if let Some(name) = command_of_word_unless_compare_with_or_operation(word) {
         return Some(name);
     }
     match operation_of_word(word) {
@@ -107,8 +107,8 @@ pub(crate) fn command_of_word(word: &[u8]) -> Option<CommandName>
 }
 
 // Returns how many words an operation takes behind its name.
-fn operation_count(name: OperationName) -> usize
-    ensures { result ≡ operation_word_count name }
+fn operation_argument_count(name: OperationName) -> usize
+    ensures { result ≡ operation_argument_word_count name }
 {
     match name {
         OperationName::Gstate
@@ -128,26 +128,26 @@ fn operation_count(name: OperationName) -> usize
 }
 
 // Returns the fewest words that a command takes behind its name.
-pub(crate) fn least_count(name: CommandName) -> usize
-    ensures { result ≡ least_word_count name }
+pub(crate) fn least_argument_count(name: CommandName) -> usize
+    ensures { result ≡ least_argument_word_count name }
 {
     match name {
         CommandName::Fresh | CommandName::Image => 3,
         CommandName::Save | CommandName::CompareWith => 1,
-        CommandName::Perform(operation) => operation_count(operation),
+        CommandName::Perform(operation) => operation_argument_count(operation),
         _ => 0,
     }
 }
 
 // Returns the most words that a command takes behind its name.
-pub(crate) fn most_count(name: CommandName) -> usize
-    ensures { result ≡ most_word_count name }
+pub(crate) fn most_argument_count(name: CommandName) -> usize
+    ensures { result ≡ most_argument_word_count name }
 {
     match name {
         CommandName::Fresh => 6,
         CommandName::Image | CommandName::Mount => 5,
         CommandName::Compare => 1,
-        _ => least_count(name),
+        _ => least_argument_count(name),
     }
 }
 

@@ -1,25 +1,27 @@
 // The options behind commands' names.
 
 ghost use Rattle.std.specs.Prelude.{◌≡◌, ◌+◌, ◌<◌, ◌≤◌, ◌∷◌, [], IfErr, IfNone, IsTrue, Ok, OnSome, drop, length};
-ghost use Rattle.lfs_script_lines.specs.Kinds.{Keyword, WordKind, NoOption, word_kinds_of_choice, word_kinds_of_erased_option, word_kinds_of_extent_option, word_kinds_of_fault_option, word_kinds_of_order_option, word_kinds_of_scope_option, word_kinds_of_stop_option, kind_of_call_word};
-ghost use Rattle.lfs_script_lines.specs.Lines.{IsErrorOfWordsByKinds, texts};
+ghost use Rattle.lfs_script_lines.specs.Kinds.{Keyword, WordKind, NoOption, word_kinds_of_keyword_or_keyword_with_word, word_kinds_of_erased_option, word_kinds_of_fault_extent_option, word_kinds_of_fault_option, word_kinds_of_order_option, word_kinds_of_scope_option, word_kinds_of_stop_option, word_kind_for_failing_call_name};
+ghost use Rattle.lfs_script_lines.specs.Lines.{IsErrorOfWordsNotMatchingKinds, texts_of_borrowed_words};
 
-use crate::arguments::{byte, is_keyword, number, objection_to_option_word, word_at};
-use crate::command::Scope;
+use crate::arguments::{
+    decimal_number_of_word_at, hex_byte_of_word_at, is_keyword, objection_to_option_word, word_at,
+};
+use crate::command::ComparisonScope;
 use crate::lines::LineError;
-use lfs_device::{Erased, Extent, NameOrder, PlannedFault, Which};
+use lfs_device::{CountedCalls, Erased, FaultExtent, NameOrder, PlannedFault};
 
 // Returns how much of two sessions is compared.
-pub(crate) fn scope(words: &[&[u8]]) -> Result<Scope, LineError>
-    ensures { IfErr result (IsErrorOfWordsByKinds (texts words.now) 1 (word_kinds_of_scope_option (drop 1 (texts words.now)))) }
+pub(crate) fn comparison_scope_of_words(words: &[&[u8]]) -> Result<ComparisonScope, LineError>
+    ensures { IfErr result (IsErrorOfWordsNotMatchingKinds (texts_of_borrowed_words words.now) 1 (word_kinds_of_scope_option (drop 1 (texts_of_borrowed_words words.now)))) }
 {
     if words.len() < 2 {
-        return Ok(Scope::Whole);
+        return Ok(ComparisonScope::Whole);
     }
     if is_keyword(word_at(words, 1), b"entries") {
-        Ok(Scope::Entries)
+        Ok(ComparisonScope::Entries)
     } else {
-        Ok(Scope::Kind(byte(words, 1)?))
+        Ok(ComparisonScope::Kind(hex_byte_of_word_at(words, 1)?))
     }
 }
 
@@ -35,16 +37,16 @@ enum ChosenOption {
 
 // Returns which of two options the words from a place on are. One is a keyword alone, the other a
 // keyword with a word behind it.
-fn choice_of_two_options(
+fn choose_keyword_or_keyword_with_word(
     words: &[&[u8]],
     place: usize,
     alone: &[u8],
     leading: &[u8],
 ) -> Result<ChosenOption, LineError>
     requires { place ≤ length words.now }
-    ensures err { (kind : WordKind) → IfErr result (IsErrorOfWordsByKinds (texts words.now) place (word_kinds_of_choice alone.now leading.now kind (drop place (texts words.now)))) }
+    ensures err { (kind : WordKind) → IfErr result (IsErrorOfWordsNotMatchingKinds (texts_of_borrowed_words words.now) place (word_kinds_of_keyword_or_keyword_with_word alone.now leading.now kind (drop place (texts_of_borrowed_words words.now)))) }
     ensures leading { result ≡ Ok ChosenOption.Leading → (length words.now ≡ place + 2)
-        × ((kind : WordKind) → word_kinds_of_choice alone.now leading.now kind (drop place (texts words.now)) ≡ Keyword ∷ kind ∷ []) }
+        × ((kind : WordKind) → word_kinds_of_keyword_or_keyword_with_word alone.now leading.now kind (drop place (texts_of_borrowed_words words.now)) ≡ Keyword ∷ kind ∷ []) }
 {
     let behind = words.len() - place;
     if behind == 0 {
@@ -61,54 +63,57 @@ fn choice_of_two_options(
 }
 
 // Returns the kind of calls that a word names, if it names one.
-fn which_of_word(word: &[u8]) -> Option<Which>
-    ensures { IfNone result (kind_of_call_word word.now ≡ NoOption) }
+fn call_kind_of_word(word: &[u8]) -> Option<CountedCalls>
+    ensures { IfNone result (word_kind_for_failing_call_name word.now ≡ NoOption) }
 {
     if is_keyword(word, b"any") {
-        Some(Which::Any)
+        Some(CountedCalls::Any)
     } else if is_keyword(word, b"read") {
-        Some(Which::Read)
+        Some(CountedCalls::Read)
     } else if is_keyword(word, b"program") {
-        Some(Which::Program)
+        Some(CountedCalls::Program)
     } else if is_keyword(word, b"erase") {
-        Some(Which::Erase)
+        Some(CountedCalls::Erase)
     } else {
         None
     }
 }
 
 // Returns what a failing call leaves, by the words from a place on.
-fn extent(words: &[&[u8]], place: usize) -> Result<Extent, LineError>
+fn extent(words: &[&[u8]], place: usize) -> Result<FaultExtent, LineError>
     requires { place ≤ length words.now }
-    ensures { IfErr result (IsErrorOfWordsByKinds (texts words.now) place (word_kinds_of_extent_option (drop place (texts words.now)))) }
+    ensures { IfErr result (IsErrorOfWordsNotMatchingKinds (texts_of_borrowed_words words.now) place (word_kinds_of_fault_extent_option (drop place (texts_of_borrowed_words words.now)))) }
 {
-    match choice_of_two_options(words, place, b"whole", b"torn")? {
-        ChosenOption::Nothing => Ok(Extent::Nothing),
-        ChosenOption::Alone => Ok(Extent::Whole),
-        ChosenOption::Leading => Ok(Extent::FirstBytes(number(words, place + 1)?)),
+    match choose_keyword_or_keyword_with_word(words, place, b"whole", b"torn")? {
+        ChosenOption::Nothing => Ok(FaultExtent::Nothing),
+        ChosenOption::Alone => Ok(FaultExtent::Whole),
+        ChosenOption::Leading => Ok(FaultExtent::FirstBytes(decimal_number_of_word_at(
+            words,
+            place + 1,
+        )?)),
     }
 }
 
 // A device none of whose calls fails.
 const NO_FAULT: PlannedFault = PlannedFault {
-    which: Which::Any,
+    which: CountedCalls::Any,
     nth: 0,
     stops: false,
-    extent: Extent::Nothing,
+    extent: FaultExtent::Nothing,
 };
 
 // Returns whether a failing call stops the device, by the word at place 3.
 fn stops(words: &[&[u8]]) -> bool
-    ensures stops { IsTrue result → (3 < length words.now) × (word_kinds_of_stop_option (drop 3 (texts words.now)) ≡ Keyword ∷ word_kinds_of_extent_option (drop 4 (texts words.now))) }
-    ensures goes_on { ¬ IsTrue result → word_kinds_of_stop_option (drop 3 (texts words.now)) ≡ word_kinds_of_extent_option (drop 3 (texts words.now)) }
+    ensures stops { IsTrue result → (3 < length words.now) × (word_kinds_of_stop_option (drop 3 (texts_of_borrowed_words words.now)) ≡ Keyword ∷ word_kinds_of_fault_extent_option (drop 4 (texts_of_borrowed_words words.now))) }
+    ensures goes_on { ¬ IsTrue result → word_kinds_of_stop_option (drop 3 (texts_of_borrowed_words words.now)) ≡ word_kinds_of_fault_extent_option (drop 3 (texts_of_borrowed_words words.now)) }
 {
     words.len() > 3 && is_keyword(word_at(words, 3), b"stop")
 }
 
 // Returns whether a failing call stops the device, and what it leaves, by the words from place 3 on.
-fn failing(words: &[&[u8]]) -> Result<(bool, Extent), LineError>
+fn stop_and_extent_of_words(words: &[&[u8]]) -> Result<(bool, FaultExtent), LineError>
     requires { 2 < length words.now }
-    ensures { IfErr result (IsErrorOfWordsByKinds (texts words.now) 3 (word_kinds_of_stop_option (drop 3 (texts words.now)))) }
+    ensures { IfErr result (IsErrorOfWordsNotMatchingKinds (texts_of_borrowed_words words.now) 3 (word_kinds_of_stop_option (drop 3 (texts_of_borrowed_words words.now)))) }
 {
     if stops(words) {
         let extent = extent(words, 4)?;
@@ -120,15 +125,15 @@ fn failing(words: &[&[u8]]) -> Result<(bool, Extent), LineError>
 }
 
 // Returns at which call a device fails, by at least two words behind the command's name.
-fn fault_of_words(words: &[&[u8]]) -> Result<PlannedFault, LineError>
+fn planned_fault_of_given_words(words: &[&[u8]]) -> Result<PlannedFault, LineError>
     requires { 2 < length words.now }
-    ensures { IfErr result (IsErrorOfWordsByKinds (texts words.now) 1 (word_kinds_of_fault_option (drop 1 (texts words.now)))) }
+    ensures { IfErr result (IsErrorOfWordsNotMatchingKinds (texts_of_borrowed_words words.now) 1 (word_kinds_of_fault_option (drop 1 (texts_of_borrowed_words words.now)))) }
 {
-    let Some(which) = which_of_word(word_at(words, 1)) else {
+    let Some(which) = call_kind_of_word(word_at(words, 1)) else {
         return Err(objection_to_option_word(words, 1));
     };
-    let nth = number(words, 2)?;
-    let (stops, extent) = failing(words)?;
+    let nth = decimal_number_of_word_at(words, 2)?;
+    let (stops, extent) = stop_and_extent_of_words(words)?;
     Ok(PlannedFault {
         which,
         nth: u64::from(nth),
@@ -138,8 +143,8 @@ fn fault_of_words(words: &[&[u8]]) -> Result<PlannedFault, LineError>
 }
 
 // Returns at which call a device fails.
-pub(crate) fn fault(words: &[&[u8]]) -> Result<PlannedFault, LineError>
-    ensures { IfErr result (IsErrorOfWordsByKinds (texts words.now) 1 (word_kinds_of_fault_option (drop 1 (texts words.now)))) }
+pub(crate) fn planned_fault_or_none(words: &[&[u8]]) -> Result<PlannedFault, LineError>
+    ensures { IfErr result (IsErrorOfWordsNotMatchingKinds (texts_of_borrowed_words words.now) 1 (word_kinds_of_fault_option (drop 1 (texts_of_borrowed_words words.now)))) }
 {
     if words.len() < 2 {
         return Ok(NO_FAULT);
@@ -147,25 +152,25 @@ pub(crate) fn fault(words: &[&[u8]]) -> Result<PlannedFault, LineError>
     if words.len() < 3 {
         return Err(objection_to_option_word(words, 1));
     }
-    fault_of_words(words)
+    planned_fault_of_given_words(words)
 }
 
 // Returns what a device's erases leave, by the words from a place on.
 pub(crate) fn erased(words: &[&[u8]], place: usize) -> Result<Erased, LineError>
     requires { place ≤ length words.now }
-    ensures { IfErr result (IsErrorOfWordsByKinds (texts words.now) place (word_kinds_of_erased_option (drop place (texts words.now)))) }
+    ensures { IfErr result (IsErrorOfWordsNotMatchingKinds (texts_of_borrowed_words words.now) place (word_kinds_of_erased_option (drop place (texts_of_borrowed_words words.now)))) }
 {
-    match choice_of_two_options(words, place, b"keep", b"fill")? {
+    match choose_keyword_or_keyword_with_word(words, place, b"keep", b"fill")? {
         ChosenOption::Nothing => Ok(Erased::Fill(0xff)),
         ChosenOption::Alone => Ok(Erased::Keep),
-        ChosenOption::Leading => Ok(Erased::Fill(byte(words, place + 1)?)),
+        ChosenOption::Leading => Ok(Erased::Fill(hex_byte_of_word_at(words, place + 1)?)),
     }
 }
 
 // Returns the order of names that the word at place 4 gives, if it gives one.
-fn order(words: &[&[u8]]) -> Option<NameOrder>
-    ensures given { OnSome result ((4 < length words.now) × (word_kinds_of_order_option (drop 4 (texts words.now)) ≡ Keyword ∷ word_kinds_of_erased_option (drop 5 (texts words.now)))) }
-    ensures missing { IfNone result (word_kinds_of_order_option (drop 4 (texts words.now)) ≡ word_kinds_of_erased_option (drop 4 (texts words.now))) }
+fn name_order_of_words(words: &[&[u8]]) -> Option<NameOrder>
+    ensures given { OnSome result ((4 < length words.now) × (word_kinds_of_order_option (drop 4 (texts_of_borrowed_words words.now)) ≡ Keyword ∷ word_kinds_of_erased_option (drop 5 (texts_of_borrowed_words words.now)))) }
+    ensures missing { IfNone result (word_kinds_of_order_option (drop 4 (texts_of_borrowed_words words.now)) ≡ word_kinds_of_erased_option (drop 4 (texts_of_borrowed_words words.now))) }
 {
     if words.len() <= 4 {
         return None;
@@ -182,11 +187,13 @@ fn order(words: &[&[u8]]) -> Option<NameOrder>
 
 // Returns the order of names and what a device's erases leave, by the words from place 4 on. Without
 // a word for the order the longer names come first.
-pub(crate) fn order_and_erased(words: &[&[u8]]) -> Result<(NameOrder, Erased), LineError>
+pub(crate) fn name_order_and_erased_option(
+    words: &[&[u8]],
+) -> Result<(NameOrder, Erased), LineError>
     requires { 3 < length words.now }
-    ensures { IfErr result (IsErrorOfWordsByKinds (texts words.now) 4 (word_kinds_of_order_option (drop 4 (texts words.now)))) }
+    ensures { IfErr result (IsErrorOfWordsNotMatchingKinds (texts_of_borrowed_words words.now) 4 (word_kinds_of_order_option (drop 4 (texts_of_borrowed_words words.now)))) }
 {
-    match order(words) {
+    match name_order_of_words(words) {
         Some(order) => {
             let erased = erased(words, 5)?;
             Ok((order, erased))

@@ -27,17 +27,17 @@ pub enum LineObjection {
 }
 
 // Returns the number of the word at a place, from 1 on.
-fn number(place: usize) -> usize {
+fn word_number_from_one(place: usize) -> usize {
     place.saturating_add(1)
 }
 
 // Writes what the word at a place is instead of what is wanted.
-fn write_misfit_word<W: fmt::Write>(
+fn write_word_number_and_fault<W: fmt::Write>(
     f: &mut fmt::Formatter<W>,
     place: usize,
     fault: &str,
 ) -> fmt::Result {
-    write!(f, "word {} is {}", number(place), fault)
+    write!(f, "word {} is {}", word_number_from_one(place), fault)
 }
 
 impl fmt::Display for LineObjection {
@@ -48,24 +48,24 @@ impl fmt::Display for LineObjection {
             LineObjection::TooFew(name) => write!(f, "too few words: {}", name.usage()),
             LineObjection::TooMany(name) => write!(f, "too many words: {}", name.usage()),
             LineObjection::Number(place) => {
-                write_misfit_word(f, *place, "no decimal number up to 4294967295")
+                write_word_number_and_fault(f, *place, "no decimal number up to 4294967295")
             }
             LineObjection::Flags(place) => {
-                write_misfit_word(f, *place, "no hexadecimal number up to ffffffff")
+                write_word_number_and_fault(f, *place, "no hexadecimal number up to ffffffff")
             }
-            LineObjection::Byte(place) => write_misfit_word(
+            LineObjection::Byte(place) => write_word_number_and_fault(
                 f,
                 *place,
                 "no hexadecimal number up to ff",
             ),
             LineObjection::Spelling(place) => {
-                write_misfit_word(f, *place, "not spelled as bytes are (--help says how)")
+                write_word_number_and_fault(f, *place, "not spelled as bytes are (--help says how)")
             }
             LineObjection::Options(place) => {
                 write!(
                     f,
                     "from word {} on there are no options of the command",
-                    number(*place)
+                    word_number_from_one(*place)
                 )
             }
         }

@@ -2,9 +2,9 @@
 
 ghost use Rattle.std.specs.Prelude.{◌≡◌, ◌++◌, ◌<◌, OnOk};
 ghost use Rattle.lfs_model.specs.Listing.{hex_digit};
-ghost use Rattle.lfs_script_lines.specs.Words.{escaped_byte, word_of_bytes};
+ghost use Rattle.lfs_script_lines.specs.Words.{byte_escaped_if_needed, word_of_bytes};
 
-use crate::words::is_plain;
+use crate::words::is_unescaped_byte;
 use std::alloc::AllocError;
 
 pub(crate) fn hex_digit(value: u8) -> u8
@@ -18,10 +18,10 @@ pub(crate) fn hex_digit(value: u8) -> u8
     }
 }
 
-fn push_byte(text: &mut Vec<u8>, byte: u8) -> Result<(), AllocError>
-    ensures { OnOk result (text.new.items ≡ text.old.items ++ escaped_byte byte) }
+fn push_byte_escaped_if_needed(text: &mut Vec<u8>, byte: u8) -> Result<(), AllocError>
+    ensures { OnOk result (text.new.items ≡ text.old.items ++ byte_escaped_if_needed byte) }
 {
-    if is_plain(byte) && byte != b'*' {
+    if is_unescaped_byte(byte) && byte != b'*' {
         text.push(byte)?;
     } else {
         let escaped = [b'\\', b'x', hex_digit(byte / 16), hex_digit(byte % 16)];
@@ -39,7 +39,7 @@ pub fn push_word(text: &mut Vec<u8>, bytes: &[u8]) -> Result<(), AllocError>
         return Ok(());
     }
     for byte in bytes {
-        push_byte(text, *byte)?;
+        push_byte_escaped_if_needed(text, *byte)?;
     }
     Ok(())
 }

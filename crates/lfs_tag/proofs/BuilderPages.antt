@@ -6,13 +6,13 @@ use Rattle.std.proofs.Math.Seq.{drop-append_seam}
 use Rattle.byteorder.specs.Endian.{big_bytes, little_number, little_bytes}
 use Rattle.byteorder.specs.Numbers.{little_from-take, little_from-append, little_number-reads_back}
 use Rattle.lfs_model.specs.Crc.{crc_of}
-use Rattle.lfs_model.specs.Tag.{carried, len_of}
+use Rattle.lfs_model.specs.Tag.{tag_for_decoding_next_tag, length_of_tag}
 use Rattle.lfs_model.specs.Log.{LogEntry, commit_sequence_with_commit_first, IsCommit, commit_at, chain_of, revision_of_block, log_entries_of_block}
 use Rattle.lfs_model.specs.Geometry.{is_valid_page_size}
 use Rattle.lfs_model.specs.Blocks.{bytes_after_overwrite_at}
-use Rattle.lfs_model.specs.Commit.{encoded_bytes_of_log_entries, encoded_size_of_log_entries, four_bytes_from_offset, checksum_type_before_bytes}
-use Rattle.lfs_tag.specs.Builder.{CommitBeingBuilt, entries_start, checksum_start, padded_end, checksum_tag, checksum_entry, CommitIsAt, commits_before, ArePagesOfCommit}
-use Rattle.lfs_tag.specs.BuilderKeeps.{last_tag, revision_bytes, bytes_before_checksum, AreStorableEntries}
+use Rattle.lfs_model.specs.Commit.{encoded_bytes_of_log_entries, encoded_size_of_log_entries, four_bytes_from_offset, checksum_tag_type_for_following_bytes}
+use Rattle.lfs_tag.specs.Builder.{CommitBeingBuilt, entries_start_in_commit_after_optional_revision, checksum_start, padded_commit_end, checksum_tag, checksum_entry, IsOffsetForCommitInBlock, earlier_commits_of_block, ArePagesOfCommit}
+use Rattle.lfs_tag.specs.BuilderKeeps.{last_tag_after_entries, revision_bytes, bytes_before_checksum, AreStorableEntries}
 use Rattle.lfs_model.proofs.Chains.{commit_none, commit_complete, chain_on, chain_none}
 use Rattle.lfs_tag.proofs.Local.{appended, next_start}
 use Rattle.lfs_tag.proofs.Runs.{all_run, run_space}
@@ -24,16 +24,16 @@ use Rattle.lfs_tag.proofs.BuilderChecksums.{AreBytes, padded, kind_cases, kind_i
 -- what the pages of a commit are
 pub record ArePages (b : CommitBeingBuilt) (next : Option (List ℕ)) (pages : List ℕ) (last sum : ℕ) : Type 0 where
   pub power : is_valid_page_size b.page ≡ true
-  pub last_is : last ≡ last_tag b.previous b.entries
+  pub last_is : last ≡ last_tag_after_entries b.previous b.entries
   pub revision : IfSome b.revision (λ r. r < 2 ^ 32)
   pub entries : AreStorableEntries b.previous b.entries
   pub bytes : IfSome next AreBytes
   pub fits : bit_xor (checksum_tag b next) last < 2 ^ 32
   pub small : sum < 2 ^ 32
   pub sum_is : sum ≡ crc_of 0xffffffff (bytes_before_checksum b ++ big_bytes 4 (bit_xor (checksum_tag b next) last))
-  pub pages_are : pages ≡ bytes_before_checksum b ++ (big_bytes 4 (bit_xor (checksum_tag b next) last) ++ (little_bytes 4 sum ++ replicate (padded_end b - (checksum_start b + 8)) 255))
+  pub pages_are : pages ≡ bytes_before_checksum b ++ (big_bytes 4 (bit_xor (checksum_tag b next) last) ++ (little_bytes 4 sum ++ replicate (padded_commit_end b - (checksum_start b + 8)) 255))
 
-length-revision : (r : Option ℕ) → length (revision_bytes r) ≡ entries_start r
+length-revision : (r : Option ℕ) → length (revision_bytes r) ≡ entries_start_in_commit_after_optional_revision r
 length-revision None = refl
 length-revision (Some r) = refl
 
@@ -42,13 +42,13 @@ module _ (b : CommitBeingBuilt) (next : Option (List ℕ)) (pages : List ℕ) (l
   tag = checksum_tag b next
 
   abbrev size : ℕ
-  size = padded_end b - checksum_start b - 4
+  size = padded_commit_end b - checksum_start b - 4
 
   abbrev tag_bytes : List ℕ
   tag_bytes = big_bytes 4 (bit_xor (checksum_tag b next) last)
 
   abbrev pad : List ℕ
-  pad = replicate (padded_end b - (checksum_start b + 8)) 255
+  pad = replicate (padded_commit_end b - (checksum_start b + 8)) 255
 
   abbrev ck : LogEntry
   ck = record { tag = checksum_tag b next; bytes = little_bytes 4 sum ++ pad }
@@ -56,13 +56,13 @@ module _ (b : CommitBeingBuilt) (next : Option (List ℕ)) (pages : List ℕ) (l
   size_small : size < 2 ^ 10
   size_small = let p = padded b h.power in omega (arith, p.low, p.high)
 
-  tag_len : len_of tag ≡ size
-  tag_len = len_is (checksum_type_before_bytes next) size size_small
+  tag_len : length_of_tag tag ≡ size
+  tag_len = len_is (checksum_tag_type_for_following_bytes next) size size_small
 
-  pad_len : length pad ≡ padded_end b - (checksum_start b + 8)
-  pad_len = let filler : ℕ = 255 in length-replicate (padded_end b - (checksum_start b + 8)) filler
+  pad_len : length pad ≡ padded_commit_end b - (checksum_start b + 8)
+  pad_len = let filler : ℕ = 255 in length-replicate (padded_commit_end b - (checksum_start b + 8)) filler
 
-  length-pages : length pages ≡ padded_end b
+  length-pages : length pages ≡ padded_commit_end b
   length-pages =
       let p = padded b h.power in
       let eight : length (tag_bytes ++ (little_bytes 4 sum ++ pad)) ≡ 8 + length pad = omega arith in
@@ -86,29 +86,29 @@ module _ (b : CommitBeingBuilt) (next : Option (List ℕ)) (pages : List ℕ) (l
       let at : checksum_start b + 8 ≡ length front = omega (arith, length-bytes_before_checksum b, length-append (bytes_before_checksum b) (tag_bytes ++ little_bytes 4 sum)) in
       ap (drop (checksum_start b + 8)) joined ∙ ap (λ (n : ℕ). drop n (front ++ pad)) at ∙ drop-append_seam front pad
 
-  commit_here : (new rest : List ℕ) (start : ℕ) → drop start new ≡ pages ++ rest → IsCommit new start (start + entries_start b.revision) b.previous (b.entries ++ ck ∷ []) (start + length pages) (carried tag)
+  commit_here : (new rest : List ℕ) (start : ℕ) → drop start new ≡ pages ++ rest → IsCommit new start (start + entries_start_in_commit_after_optional_revision b.revision) b.previous (b.entries ++ ck ∷ []) (start + length pages) (tag_for_decoding_next_tag tag)
   commit_here new rest start here =
       let head = revision_bytes b.revision in
       let es = encoded_bytes_of_log_entries b.previous b.entries in
       let filled = little_bytes 4 sum ++ pad in
       let p = padded b h.power in
-      let first = start + entries_start b.revision in
+      let first = start + entries_start_in_commit_after_optional_revision b.revision in
       let at = first + encoded_size_of_log_entries b.entries in
       let whole : drop start new ≡ bytes_before_checksum b ++ (tag_bytes ++ (filled ++ rest)) =
       here ∙ ap (λ (l : List ℕ). l ++ rest) h.pages_are ∙ append_assoc (bytes_before_checksum b) (tag_bytes ++ filled) rest ∙ ap (λ (l : List ℕ). bytes_before_checksum b ++ l) (append_assoc tag_bytes filled rest) in
       let behind : drop first new ≡ es ++ (tag_bytes ++ (filled ++ rest)) =
       ap (λ (n : ℕ). drop (start + n) new) (sym (length-revision b.revision)) ∙ sym (drop-drop (length head) start new)
       ∙ ap (drop (length head)) (whole ∙ append_assoc head es (tag_bytes ++ (filled ++ rest))) ∙ drop-append_seam head (es ++ (tag_bytes ++ (filled ++ rest))) in
-      let kind = kind_of_cases (checksum_type_before_bytes next) tag (kind_cases next) (kind_is (checksum_type_before_bytes next) size (kind_cases next) size_small) in
-      let closed = closing new (bytes_before_checksum b) rest pad start at tag last sum kind (valid_is (checksum_type_before_bytes next) size (kind_cases next) size_small) h.fits h.small
+      let kind = kind_of_cases (checksum_tag_type_for_following_bytes next) tag (kind_cases next) (kind_is (checksum_tag_type_for_following_bytes next) size (kind_cases next) size_small) in
+      let closed = closing new (bytes_before_checksum b) rest pad start at tag last sum kind (valid_is (checksum_tag_type_for_following_bytes next) size (kind_cases next) size_small) h.fits h.small
       (omega (arith, tag_len, pad_len, p.low)) (omega (arith, tag_len, p.low, p.high)) (omega (arith, length-bytes_before_checksum b)) h.sum_is whole in
-      let end : at + 4 + len_of tag ≡ start + length pages = omega (arith, tag_len, p.low, length-pages) in
-      let base : IsCommit new start at (last_tag b.previous b.entries) (ck ∷ []) (start + length pages) (carried tag) =
-      subst (λ (n : ℕ). IsCommit new start at n (ck ∷ []) (start + length pages) (carried tag)) h.last_is (subst (λ (n : ℕ). IsCommit new start at last (ck ∷ []) n (carried tag)) end closed) in
-      entries_read new (tag_bytes ++ (filled ++ rest)) start first b.previous b.entries ck (start + length pages) (carried tag) h.entries behind base
+      let end : at + 4 + length_of_tag tag ≡ start + length pages = omega (arith, tag_len, p.low, length-pages) in
+      let base : IsCommit new start at (last_tag_after_entries b.previous b.entries) (ck ∷ []) (start + length pages) (tag_for_decoding_next_tag tag) =
+      subst (λ (n : ℕ). IsCommit new start at n (ck ∷ []) (start + length pages) (tag_for_decoding_next_tag tag)) h.last_is (subst (λ (n : ℕ). IsCommit new start at last (ck ∷ []) n (tag_for_decoding_next_tag tag)) end closed) in
+      entries_read new (tag_bytes ++ (filled ++ rest)) start first b.previous b.entries ck (start + length pages) (tag_for_decoding_next_tag tag) h.entries behind base
 
-  none_here : (new : List ℕ) (end : ℕ) → four_bytes_from_offset new end ≡ next → commit_at new end end (carried tag) ≡ None
-  none_here new end is = commit_none new end end (carried tag) (nothing_follows new end size next h.bytes size_small is)
+  none_here : (new : List ℕ) (end : ℕ) → four_bytes_from_offset new end ≡ next → commit_at new end end (tag_for_decoding_next_tag tag) ≡ None
+  none_here new end is = commit_none new end end (tag_for_decoding_next_tag tag) (nothing_follows new end size next h.bytes size_small is)
 
 -- ---- in a block
 
@@ -162,27 +162,27 @@ module _ (b : CommitBeingBuilt) (next : Option (List ℕ)) (pages : List ℕ) (l
       let behind : drop (at + length pages) new ≡ rest = drop-overwritten at (at + length pages) 0 block pages (omega arith) (omega arith) in
       rw (same_len, behind) refl
 
-  log_of : (r : Option ℕ) → entries_start b.revision ≡ entries_start r → CommitIsAt r b.previous block at → four_bytes_from_offset block (at + length pages) ≡ next
-      → chain_of new ≡ record { commits = commits_before r block ++ (b.entries ++ ck b next pages last sum h ∷ []) ∷ []; end = at + length pages; last = carried (checksum_tag b next) }
+  log_of : (r : Option ℕ) → entries_start_in_commit_after_optional_revision b.revision ≡ entries_start_in_commit_after_optional_revision r → IsOffsetForCommitInBlock r b.previous block at → four_bytes_from_offset block (at + length pages) ≡ next
+      → chain_of new ≡ record { commits = earlier_commits_of_block r block ++ (b.entries ++ ck b next pages last sum h ∷ []) ∷ []; end = at + length pages; last = tag_for_decoding_next_tag (checksum_tag b next) }
   log_of None starts goes nexts =
       let es = b.entries ++ ck b next pages last sum h ∷ [] in
-      let commit : IsCommit new at at b.previous es (at + length pages) (carried (checksum_tag b next)) =
-      subst (λ (n : ℕ). IsCommit new at n b.previous es (at + length pages) (carried (checksum_tag b next)))
-      (let place : at + entries_start b.revision ≡ at = omega (arith, starts) in place) (commit_here b next pages last sum h new rest at here) in
+      let commit : IsCommit new at at b.previous es (at + length pages) (tag_for_decoding_next_tag (checksum_tag b next)) =
+      subst (λ (n : ℕ). IsCommit new at n b.previous es (at + length pages) (tag_for_decoding_next_tag (checksum_tag b next)))
+      (let place : at + entries_start_in_commit_after_optional_revision b.revision ≡ at = omega (arith, starts) in place) (commit_here b next pages last sum h new rest at here) in
       let none = none_here b next pages last sum h new (at + length pages) (same_next ∙ nexts) in
-      let r = behind_chain block pages rest at b.previous es (at + length pages) (carried (checksum_tag b next)) (omega arith) goes.0 goes.1 goes.2 (rw joined at commit) (rw joined at none) in
+      let r = behind_chain block pages rest at b.previous es (at + length pages) (tag_for_decoding_next_tag (checksum_tag b next)) (omega arith) goes.0 goes.1 goes.2 (rw joined at commit) (rw joined at none) in
       ap chain_of joined ∙ r
   log_of (Some revision) starts goes nexts =
       let es = b.entries ++ ck b next pages last sum h ∷ [] in
-      let commit : IsCommit new 0 4 0xffffffff es (at + length pages) (carried (checksum_tag b next)) =
-      subst (λ (n : ℕ). IsCommit new n 4 0xffffffff es (at + length pages) (carried (checksum_tag b next))) goes.0
-      (subst (λ (n : ℕ). IsCommit new at 4 n es (at + length pages) (carried (checksum_tag b next))) goes.1
-      (subst (λ (n : ℕ). IsCommit new at n b.previous es (at + length pages) (carried (checksum_tag b next)))
-      (let place : at + entries_start b.revision ≡ 4 = omega (arith, starts, goes.0) in place) (commit_here b next pages last sum h new rest at here))) in
+      let commit : IsCommit new 0 4 0xffffffff es (at + length pages) (tag_for_decoding_next_tag (checksum_tag b next)) =
+      subst (λ (n : ℕ). IsCommit new n 4 0xffffffff es (at + length pages) (tag_for_decoding_next_tag (checksum_tag b next))) goes.0
+      (subst (λ (n : ℕ). IsCommit new at 4 n es (at + length pages) (tag_for_decoding_next_tag (checksum_tag b next))) goes.1
+      (subst (λ (n : ℕ). IsCommit new at n b.previous es (at + length pages) (tag_for_decoding_next_tag (checksum_tag b next)))
+      (let place : at + entries_start_in_commit_after_optional_revision b.revision ≡ 4 = omega (arith, starts, goes.0) in place) (commit_here b next pages last sum h new rest at here))) in
       let none = none_here b next pages last sum h new (at + length pages) (same_next ∙ nexts) in
-      at_beginning new es (at + length pages) (carried (checksum_tag b next)) commit none
+      at_beginning new es (at + length pages) (tag_for_decoding_next_tag (checksum_tag b next)) commit none
 
-  revision_is : (r : Option ℕ) → b.revision ≡ r → CommitIsAt r b.previous block at → revision_of_block new ≡ unwrap_or r (revision_of_block block)
+  revision_is : (r : Option ℕ) → b.revision ≡ r → IsOffsetForCommitInBlock r b.previous block at → revision_of_block new ≡ unwrap_or r (revision_of_block block)
   revision_is None is goes =
       let low : 4 ≤ at = omega (arith, goes.1, run_space block 4 0xffffffff (log_entries_of_block block) (chain_of block).end (chain_of block).last (all_run block)) in
       let front : little_number 4 (take at block) ≡ little_number 4 block = little_from-take 0 4 at block (omega arith) in
@@ -204,11 +204,11 @@ module _ (b : CommitBeingBuilt) (next : Option (List ℕ)) (pages : List ℕ) (l
 
 pub committed : (b : CommitBeingBuilt) (next : Option (List ℕ)) (pages : List ℕ) (last sum : ℕ) → ArePages b next pages last sum → ArePagesOfCommit b next pages
 committed b next pages last sum h =
-    let size = padded_end b - checksum_start b - 4 in
-    let kind = checksum_type_before_bytes next in
+    let size = padded_commit_end b - checksum_start b - 4 in
+    let kind = checksum_tag_type_for_following_bytes next in
     record {
       log = λ block at goes within nexts.
-          subst (λ (e : LogEntry). chain_of (bytes_after_overwrite_at block at pages) ≡ record { commits = commits_before b.revision block ++ (b.entries ++ e ∷ []) ∷ []; end = at + length pages; last = carried (checksum_tag b next) })
+          subst (λ (e : LogEntry). chain_of (bytes_after_overwrite_at block at pages) ≡ record { commits = earlier_commits_of_block b.revision block ++ (b.entries ++ e ∷ []) ∷ []; end = at + length pages; last = tag_for_decoding_next_tag (checksum_tag b next) })
           (named b next pages last sum h) (log_of b next pages last sum h block at within b.revision refl goes nexts);
       revision = λ block at goes within. revision_is b next pages last sum h block at within b.revision refl goes;
       class = class_of_kind (checksum_tag b next) (kind_of_cases kind (checksum_tag b next) (kind_cases next) (kind_is kind size (kind_cases next) (size_small b next pages last sum h)));

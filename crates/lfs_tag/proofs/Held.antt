@@ -5,7 +5,7 @@ use Rattle.std.proofs.lemmas.Bool.{cases_lt, cases_order}
 use Rattle.std.proofs.lemmas.Bool.Decides.{nat_tests}
 use Rattle.std.proofs.lemmas.List.{get_or_append_left, get_or-append_right, get_or_past, length-append, length-replicate}
 use Rattle.lfs_model.specs.Slots.{Attributes}
-use Rattle.lfs_model.specs.Content.{RawSlot, empty_slot, slot_of_id, raw_slots_after_slot_change, slots_padded_to_id, attributes_with_attribute, attributes_without_attribute, attribute_bytes_of_type}
+use Rattle.lfs_model.specs.Content.{RawSlot, empty_slot, slot_of_id, raw_slots_with_function_applied_at_id, slots_padded_to_id, attributes_with_attribute, attributes_without_attribute, attribute_bytes_of_type}
 
 -- ---- attributes
 
@@ -88,8 +88,8 @@ slot-up_to slots j i =
 pub length-up_to : (slots : List RawSlot) (j : ℕ) → length (slots_padded_to_id slots j) ≡ length slots + (j + 1 - length slots)
 length-up_to slots j = length-append slots (replicate (j + 1 - length slots) empty_slot) ∙ ap (λ (n : ℕ). length slots + n) (length-replicate (j + 1 - length slots) empty_slot)
 
-pub slot-changed_same : (f : RawSlot → RawSlot) (slots : List RawSlot) (j : ℕ) → j < length slots → slot_of_id (raw_slots_after_slot_change f slots j) j ≡ f (slot_of_id slots j)
+pub slot-changed_same : (f : RawSlot → RawSlot) (slots : List RawSlot) (j : ℕ) → j < length slots → slot_of_id (raw_slots_with_function_applied_at_id f slots j) j ≡ f (slot_of_id slots j)
 slot-changed_same f slots j lt = get_or-set_same slots j (f (slot_of_id slots j)) empty_slot lt
 
-pub slot-changed_other : (f : RawSlot → RawSlot) (slots : List RawSlot) (j i : ℕ) → i ≢ j → slot_of_id (raw_slots_after_slot_change f slots j) i ≡ slot_of_id slots i
+pub slot-changed_other : (f : RawSlot → RawSlot) (slots : List RawSlot) (j i : ℕ) → i ≢ j → slot_of_id (raw_slots_with_function_applied_at_id f slots j) i ≡ slot_of_id slots i
 slot-changed_other f slots j i ne = get_or-set_other slots j i (f (slot_of_id slots j)) empty_slot ne

@@ -5,7 +5,7 @@ use Rattle.std.proofs.lemmas.Bool.{cases_order}
 use Rattle.std.proofs.lemmas.Bool.Decides.{nat_tests}
 use Rattle.std.proofs.lemmas.List.{map-append, map-set, get_or-map, replicate-append-replicate}
 use Rattle.lfs_model.specs.Slots.{Attributes}
-use Rattle.lfs_model.specs.Content.{RawSlot, empty_slot, attributes_with_attribute, attributes_without_attribute, raw_slots_after_slot_change}
+use Rattle.lfs_model.specs.Content.{RawSlot, empty_slot, attributes_with_attribute, attributes_without_attribute, raw_slots_with_function_applied_at_id}
 use Rattle.lfs_tag.specs.declared.content.Slot.{Slot}
 use Rattle.lfs_tag.specs.declared.content.Attribute.{Attribute}
 use Rattle.lfs_tag.specs.ContentView.{slot_view, attribute_view, index_for_attribute}
@@ -82,6 +82,6 @@ one_more xs ys n e = rw (e, append_assoc xs (replicate n empty_slot) (empty_slot
 
 -- a slot that is changed in the code is changed as it is seen
 pub changed_is : (f : RawSlot → RawSlot) (xs : List Slot) (i : ℕ) (x y : Slot) → i < length xs → x ≡ get_or xs i x → slot_view y ≡ f (slot_view x)
-    → map slot_view (set xs i y) ≡ raw_slots_after_slot_change f (map slot_view xs) i
+    → map slot_view (set xs i y) ≡ raw_slots_with_function_applied_at_id f (map slot_view xs) i
 changed_is f xs i x y lt is new =
     map-set slot_view xs i y ∙ ap (set (map slot_view xs) i) (new ∙ ap f (ap slot_view is ∙ sym (get_or-map slot_view xs i x empty_slot lt)))

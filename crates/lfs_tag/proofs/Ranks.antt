@@ -9,13 +9,13 @@ use Rattle.std.proofs.lemmas.Option.{option_and_then_some, same_Some}
 use Rattle.std.proofs.lemmas.List.{map-append, map-set, length-map, get_or_past}
 use Rattle.lfs_model.proofs.Orders.{same_by}
 use Rattle.lfs_model.specs.declared.order.NameOrder.{NameOrder}
-use Rattle.lfs_model.specs.Tag.{kind_of, id_of, class_of}
+use Rattle.lfs_model.specs.Tag.{type_of_tag, id_of_tag, abstract_type_of_tag}
 use Rattle.lfs_model.specs.Log.{LogEntry, log_entries_of_block, chain_of}
-use Rattle.lfs_model.specs.Names.{Name, name_cmp, same_name, is_same, is_less_ordering}
-use Rattle.lfs_model.specs.Content.{RawSlot, RawContent, empty_slot, slot_of_id, raw_slots_after_slot_change, slots_padded_to_id, type_and_bytes_of_entry, attributes_after_entry, content_after_log_entry, content_after_log_entries, empty_raw_content}
-use Rattle.lfs_model.specs.EntryTypes.{create_type, superblock_name_type}
-use Rattle.lfs_model.specs.Lookup.{name_of_slot_unless_superblock, has_passing_name, is_name_after, IsLeastIdOfName, IsIdForNewName}
-use Rattle.lfs_tag.specs.Find.{name_ordering_of_slot, name_ordering_of_entry, name_orderings_up_to_id, name_orderings_after_entry, name_orderings_after_entries, is_wanted_ordering, is_skipped_id, is_wanted_slot, first_wanted_slot_from}
+use Rattle.lfs_model.specs.Names.{Name, name_cmp, same_name, is_equal_ordering, is_less_ordering}
+use Rattle.lfs_model.specs.Content.{RawSlot, RawPairContent, empty_slot, slot_of_id, raw_slots_with_function_applied_at_id, slots_padded_to_id, type_and_bytes_of_entry, attributes_after_entry, content_after_log_entry, content_after_log_entries, empty_raw_pair_content}
+use Rattle.lfs_model.specs.EntryTypes.{create_tag_type, superblock_name_type}
+use Rattle.lfs_model.specs.Lookup.{name_of_slot_unless_superblock, is_name_at_id_passing_test_unless_skipped, is_name_after, IsLeastIdOfName, IsIdForNewName}
+use Rattle.lfs_tag.specs.Find.{comparison_of_sought_name_with_slot, comparison_of_sought_name_with_entry, sought_name_comparisons_padded_to_id, sought_name_comparisons_after_entry, sought_name_comparisons_after_entries, is_comparison_same_or_greater_as_wanted, is_skipped_id, is_unskipped_slot_comparing_as_wanted, first_unskipped_slot_comparing_as_wanted}
 use Rattle.lfs_tag.proofs.Effects.{Effect, rests, names, creates, deletes, structures, attributes, effect}
 use Rattle.lfs_tag.proofs.Places.{map-insert, map-remove}
 use Rattle.lfs_tag.proofs.Runs.{all_run, run_count, back}
@@ -25,72 +25,72 @@ Rank = Option Ordering
 
 -- ---- one entry
 
-empty_ranks : (order : NameOrder) (name : Name) (n : ℕ) → map (name_ordering_of_slot order name) (replicate n empty_slot) ≡ replicate n None
+empty_ranks : (order : NameOrder) (name : Name) (n : ℕ) → map (comparison_of_sought_name_with_slot order name) (replicate n empty_slot) ≡ replicate n None
 empty_ranks order name zero = refl
 empty_ranks order name (suc n) = ap (λ rs. None ∷ rs) (empty_ranks order name n)
 
-up_to_ranks : (order : NameOrder) (name : Name) (slots : List RawSlot) (i : ℕ) → map (name_ordering_of_slot order name) (slots_padded_to_id slots i) ≡ name_orderings_up_to_id (map (name_ordering_of_slot order name) slots) i
+up_to_ranks : (order : NameOrder) (name : Name) (slots : List RawSlot) (i : ℕ) → map (comparison_of_sought_name_with_slot order name) (slots_padded_to_id slots i) ≡ sought_name_comparisons_padded_to_id (map (comparison_of_sought_name_with_slot order name) slots) i
 up_to_ranks order name slots i =
-    map-append (name_ordering_of_slot order name) slots (replicate (i + 1 - length slots) empty_slot)
-    ∙ ap (λ rs. map (name_ordering_of_slot order name) slots ++ rs) (empty_ranks order name (i + 1 - length slots) ∙ ap (λ n. replicate (i + 1 - n) None) (sym (length-map slots (name_ordering_of_slot order name))))
+    map-append (comparison_of_sought_name_with_slot order name) slots (replicate (i + 1 - length slots) empty_slot)
+    ∙ ap (λ rs. map (comparison_of_sought_name_with_slot order name) slots ++ rs) (empty_ranks order name (i + 1 - length slots) ∙ ap (λ n. replicate (i + 1 - n) None) (sym (length-map slots (comparison_of_sought_name_with_slot order name))))
 
 -- a change that leaves a slot's name leaves its rank
-same_ranks : (order : NameOrder) (name : Name) (f : RawSlot → RawSlot) → ((r : RawSlot) → (f r).name ≡ r.name) → (slots : List RawSlot) (i : ℕ) → map (name_ordering_of_slot order name) (raw_slots_after_slot_change f slots i) ≡ map (name_ordering_of_slot order name) slots
+same_ranks : (order : NameOrder) (name : Name) (f : RawSlot → RawSlot) → ((r : RawSlot) → (f r).name ≡ r.name) → (slots : List RawSlot) (i : ℕ) → map (comparison_of_sought_name_with_slot order name) (raw_slots_with_function_applied_at_id f slots i) ≡ map (comparison_of_sought_name_with_slot order name) slots
 same_ranks order name f same [] i = refl
-same_ranks order name f same (s ∷ slots) zero = ap (λ r. r ∷ map (name_ordering_of_slot order name) slots) (ap (λ n. option_map (name_cmp order name) (option_and_then (λ (p : ℕ × List ℕ). cond (eqb p.0 superblock_name_type) None (Some p.1)) n)) (same s))
-same_ranks order name f same (s ∷ slots) (suc i) = ap (λ rs. name_ordering_of_slot order name s ∷ rs) (same_ranks order name f same slots i)
+same_ranks order name f same (s ∷ slots) zero = ap (λ r. r ∷ map (comparison_of_sought_name_with_slot order name) slots) (ap (λ n. option_map (name_cmp order name) (option_and_then (λ (p : ℕ × List ℕ). cond (eqb p.0 superblock_name_type) None (Some p.1)) n)) (same s))
+same_ranks order name f same (s ∷ slots) (suc i) = ap (λ rs. comparison_of_sought_name_with_slot order name s ∷ rs) (same_ranks order name f same slots i)
 
-named_rank : (order : NameOrder) (name : Name) (e : LogEntry) (r : RawSlot) → name_ordering_of_slot order name (record r { name = type_and_bytes_of_entry e }) ≡ name_ordering_of_entry order name e
-named_rank order name e r = by_test (eqb (kind_of e.tag) superblock_name_type)
+named_rank : (order : NameOrder) (name : Name) (e : LogEntry) (r : RawSlot) → comparison_of_sought_name_with_slot order name (record r { name = type_and_bytes_of_entry e }) ≡ comparison_of_sought_name_with_entry order name e
+named_rank order name e r = by_test (eqb (type_of_tag e.tag) superblock_name_type)
   where
     by_test : (b : Bool) → option_map (name_cmp order name) (cond b None (Some e.bytes)) ≡ cond b None (Some (name_cmp order name e.bytes))
     by_test true = refl
     by_test false = refl
 
-rank_step : (order : NameOrder) (name : Name) (s t : List RawSlot) (e : LogEntry) → Effect s t e → name_orderings_after_entry order name (map (name_ordering_of_slot order name) s) e ≡ map (name_ordering_of_slot order name) t
+rank_step : (order : NameOrder) (name : Name) (s t : List RawSlot) (e : LogEntry) → Effect s t e → sought_name_comparisons_after_entry order name (map (comparison_of_sought_name_with_slot order name) s) e ≡ map (comparison_of_sought_name_with_slot order name) t
 rank_step order name s t e (rests high same) =
-    let a : eqb (class_of e.tag) 0 ≡ false = grind (arith, nat_tests) in
-    let b : eqb (class_of e.tag) 4 ≡ false = grind (arith, nat_tests) in
-    rw (a, b) (ap (map (name_ordering_of_slot order name)) (sym same))
+    let a : eqb (abstract_type_of_tag e.tag) 0 ≡ false = grind (arith, nat_tests) in
+    let b : eqb (abstract_type_of_tag e.tag) 4 ≡ false = grind (arith, nat_tests) in
+    rw (a, b) (ap (map (comparison_of_sought_name_with_slot order name)) (sym same))
 rank_step order name s t e (names class keeps is) =
-    let a : eqb (class_of e.tag) 0 ≡ true = grind (arith, nat_tests) in
-    let i = id_of e.tag in
+    let a : eqb (abstract_type_of_tag e.tag) 0 ≡ true = grind (arith, nat_tests) in
+    let i = id_of_tag e.tag in
     let all = slots_padded_to_id s i in
     let r = slot_of_id all i in
-    rw (a, is) (ap (λ rs. set rs i (name_ordering_of_entry order name e)) (sym (up_to_ranks order name s i)) ∙ ap (set (map (name_ordering_of_slot order name) all) i) (sym (named_rank order name e r)) ∙ sym (map-set (name_ordering_of_slot order name) all i (record r { name = type_and_bytes_of_entry e })))
+    rw (a, is) (ap (λ rs. set rs i (comparison_of_sought_name_with_entry order name e)) (sym (up_to_ranks order name s i)) ∙ ap (set (map (comparison_of_sought_name_with_slot order name) all) i) (sym (named_rank order name e r)) ∙ sym (map-set (comparison_of_sought_name_with_slot order name) all i (record r { name = type_and_bytes_of_entry e })))
 rank_step order name s t e (creates class create le is) =
-    let a : eqb (class_of e.tag) 0 ≡ false = grind (arith, nat_tests) in
-    let b : eqb (class_of e.tag) 4 ≡ true = grind (arith, nat_tests) in
-    let c : eqb (kind_of e.tag) create_type ≡ true = grind (arith, nat_tests) in
-    let len = length-map s (name_ordering_of_slot order name) in
-    let d : leb (id_of e.tag) (length (map (name_ordering_of_slot order name) s)) ≡ true = rw len (grind (arith, nat_tests)) in
-    rw (a, b, c, d, is) (sym (map-insert (name_ordering_of_slot order name) s (id_of e.tag) empty_slot))
+    let a : eqb (abstract_type_of_tag e.tag) 0 ≡ false = grind (arith, nat_tests) in
+    let b : eqb (abstract_type_of_tag e.tag) 4 ≡ true = grind (arith, nat_tests) in
+    let c : eqb (type_of_tag e.tag) create_tag_type ≡ true = grind (arith, nat_tests) in
+    let len = length-map s (comparison_of_sought_name_with_slot order name) in
+    let d : leb (id_of_tag e.tag) (length (map (comparison_of_sought_name_with_slot order name) s)) ≡ true = rw len (grind (arith, nat_tests)) in
+    rw (a, b, c, d, is) (sym (map-insert (comparison_of_sought_name_with_slot order name) s (id_of_tag e.tag) empty_slot))
 rank_step order name s t e (deletes class delete lt is) =
-    let a : eqb (class_of e.tag) 0 ≡ false = grind (arith, nat_tests) in
-    let b : eqb (class_of e.tag) 4 ≡ true = grind (arith, nat_tests) in
-    let c : eqb (kind_of e.tag) create_type ≡ false = grind (arith, nat_tests) in
-    let len = length-map s (name_ordering_of_slot order name) in
-    let d : ltb (id_of e.tag) (length (map (name_ordering_of_slot order name) s)) ≡ true = rw len (grind (arith, nat_tests)) in
-    rw (a, b, c, d, is) (sym (map-remove (name_ordering_of_slot order name) s (id_of e.tag)))
+    let a : eqb (abstract_type_of_tag e.tag) 0 ≡ false = grind (arith, nat_tests) in
+    let b : eqb (abstract_type_of_tag e.tag) 4 ≡ true = grind (arith, nat_tests) in
+    let c : eqb (type_of_tag e.tag) create_tag_type ≡ false = grind (arith, nat_tests) in
+    let len = length-map s (comparison_of_sought_name_with_slot order name) in
+    let d : ltb (id_of_tag e.tag) (length (map (comparison_of_sought_name_with_slot order name) s)) ≡ true = rw len (grind (arith, nat_tests)) in
+    rw (a, b, c, d, is) (sym (map-remove (comparison_of_sought_name_with_slot order name) s (id_of_tag e.tag)))
 rank_step order name s t e (structures class keeps lt is) =
-    let a : eqb (class_of e.tag) 0 ≡ false = grind (arith, nat_tests) in
-    let b : eqb (class_of e.tag) 4 ≡ false = grind (arith, nat_tests) in
-    rw (a, b, is) (sym (same_ranks order name (λ r. record r { struct = type_and_bytes_of_entry e }) (λ r. refl) s (id_of e.tag)))
+    let a : eqb (abstract_type_of_tag e.tag) 0 ≡ false = grind (arith, nat_tests) in
+    let b : eqb (abstract_type_of_tag e.tag) 4 ≡ false = grind (arith, nat_tests) in
+    rw (a, b, is) (sym (same_ranks order name (λ r. record r { struct = type_and_bytes_of_entry e }) (λ r. refl) s (id_of_tag e.tag)))
 rank_step order name s t e (attributes class lt is) =
-    let a : eqb (class_of e.tag) 0 ≡ false = grind (arith, nat_tests) in
-    let b : eqb (class_of e.tag) 4 ≡ false = grind (arith, nat_tests) in
-    rw (a, b, is) (sym (same_ranks order name (λ r. record r { attributes = attributes_after_entry e r.attributes }) (λ r. refl) s (id_of e.tag)))
+    let a : eqb (abstract_type_of_tag e.tag) 0 ≡ false = grind (arith, nat_tests) in
+    let b : eqb (abstract_type_of_tag e.tag) 4 ≡ false = grind (arith, nat_tests) in
+    rw (a, b, is) (sym (same_ranks order name (λ r. record r { attributes = attributes_after_entry e r.attributes }) (λ r. refl) s (id_of_tag e.tag)))
 
 -- ---- all entries
 
-ranks_after_content : (order : NameOrder) (name : Name) (es : List LogEntry) (s t : RawContent) → content_after_log_entries s es ≡ Some t → name_orderings_after_entries order name (map (name_ordering_of_slot order name) s.slots) es ≡ map (name_ordering_of_slot order name) t.slots
-ranks_after_content order name [] s t h = ap (λ (x : RawContent). map (name_ordering_of_slot order name) x.slots) (same_Some _ _ h)
+ranks_after_content : (order : NameOrder) (name : Name) (es : List LogEntry) (s t : RawPairContent) → content_after_log_entries s es ≡ Some t → sought_name_comparisons_after_entries order name (map (comparison_of_sought_name_with_slot order name) s.slots) es ≡ map (comparison_of_sought_name_with_slot order name) t.slots
+ranks_after_content order name [] s t h = ap (λ (x : RawPairContent). map (comparison_of_sought_name_with_slot order name) x.slots) (same_Some _ _ h)
 ranks_after_content order name (e ∷ es) s t h =
     option_and_then_some (λ u. content_after_log_entries u es) (content_after_log_entry s e) t h (λ u is rest.
-    ap (λ rs. name_orderings_after_entries order name rs es) (rank_step order name s.slots u.slots e (effect s u e is)) ∙ ranks_after_content order name es u t rest)
+    ap (λ rs. sought_name_comparisons_after_entries order name rs es) (rank_step order name s.slots u.slots e (effect s u e is)) ∙ ranks_after_content order name es u t rest)
 
-pub ranked : (order : NameOrder) (name : Name) (es : List LogEntry) (t : RawContent) → content_after_log_entries empty_raw_content es ≡ Some t → name_orderings_after_entries order name [] es ≡ map (name_ordering_of_slot order name) t.slots
-ranked order name es t h = ranks_after_content order name es empty_raw_content t h
+pub ranked : (order : NameOrder) (name : Name) (es : List LogEntry) (t : RawPairContent) → content_after_log_entries empty_raw_pair_content es ≡ Some t → sought_name_comparisons_after_entries order name [] es ≡ map (comparison_of_sought_name_with_slot order name) t.slots
+ranked order name es t h = ranks_after_content order name es empty_raw_pair_content t h
 
 -- a block of that size has few entries
 pub few_entries : (block : List ℕ) → length block ≤ 2 ^ 16 → length (log_entries_of_block block) < 2 ^ 14
@@ -109,23 +109,23 @@ few_entries block small =
 record FirstFrom (same : Bool) (skip : Option ℕ) (at : ℕ) (ranks : List Rank) (id : ℕ) : Type 0 where
   above : at ≤ id
   within : id ≤ at + length ranks
-  here : (k : ℕ) → id ≡ at + k → k < length ranks → is_wanted_slot same skip (at + k) (get_or ranks k None) ≡ true
-  before : (k : ℕ) → at + k < id → is_wanted_slot same skip (at + k) (get_or ranks k None) ≡ false
+  here : (k : ℕ) → id ≡ at + k → k < length ranks → is_unskipped_slot_comparing_as_wanted same skip (at + k) (get_or ranks k None) ≡ true
+  before : (k : ℕ) → at + k < id → is_unskipped_slot_comparing_as_wanted same skip (at + k) (get_or ranks k None) ≡ false
 
-first_at : (same : Bool) (skip : Option ℕ) (at : ℕ) (ranks : List Rank) → FirstFrom same skip at ranks (first_wanted_slot_from same skip at ranks)
+first_at : (same : Bool) (skip : Option ℕ) (at : ℕ) (ranks : List Rank) → FirstFrom same skip at ranks (first_unskipped_slot_comparing_as_wanted same skip at ranks)
 first_at same skip at [] = record {
   above = omega arith;
   within = omega arith;
   here = λ k is lt. absurd (omega arith);
   before = λ k lt. absurd (omega arith);
 }
-first_at same skip at (r ∷ ranks) = by_test (is_wanted_slot same skip at r) refl (first_at same skip (at + 1) ranks)
+first_at same skip at (r ∷ ranks) = by_test (is_unskipped_slot_comparing_as_wanted same skip at r) refl (first_at same skip (at + 1) ranks)
   where
-    by_test : (b : Bool) → is_wanted_slot same skip at r ≡ b → FirstFrom same skip (at + 1) ranks (first_wanted_slot_from same skip (at + 1) ranks) → FirstFrom same skip at (r ∷ ranks) (cond b at (first_wanted_slot_from same skip (at + 1) ranks))
+    by_test : (b : Bool) → is_unskipped_slot_comparing_as_wanted same skip at r ≡ b → FirstFrom same skip (at + 1) ranks (first_unskipped_slot_comparing_as_wanted same skip (at + 1) ranks) → FirstFrom same skip at (r ∷ ranks) (cond b at (first_unskipped_slot_comparing_as_wanted same skip (at + 1) ranks))
     by_test true is rest = record {
       above = omega arith;
       within = omega arith;
-      here = λ k h lt. let z : k ≡ 0 = omega arith in rw z (subst (λ n. is_wanted_slot same skip n r ≡ true) (omega arith) is);
+      here = λ k h lt. let z : k ≡ 0 = omega arith in rw z (subst (λ n. is_unskipped_slot_comparing_as_wanted same skip n r ≡ true) (omega arith) is);
       before = λ k lt. absurd (omega arith);
     }
     by_test false is rest = record {
@@ -135,72 +135,72 @@ first_at same skip at (r ∷ ranks) = by_test (is_wanted_slot same skip at r) re
       before = earlier;
     }
       where
-        shifted : (k : ℕ) (b : Bool) → is_wanted_slot same skip (at + 1 + k) (get_or ranks k None) ≡ b → is_wanted_slot same skip (at + suc k) (get_or ranks k None) ≡ b
-        shifted k b h = subst (λ n. is_wanted_slot same skip n (get_or ranks k None) ≡ b) (omega arith) h
+        shifted : (k : ℕ) (b : Bool) → is_unskipped_slot_comparing_as_wanted same skip (at + 1 + k) (get_or ranks k None) ≡ b → is_unskipped_slot_comparing_as_wanted same skip (at + suc k) (get_or ranks k None) ≡ b
+        shifted k b h = subst (λ n. is_unskipped_slot_comparing_as_wanted same skip n (get_or ranks k None) ≡ b) (omega arith) h
 
-        there : (k : ℕ) → first_wanted_slot_from same skip (at + 1) ranks ≡ at + k → k < length (r ∷ ranks) → is_wanted_slot same skip (at + k) (get_or (r ∷ ranks) k None) ≡ true
+        there : (k : ℕ) → first_unskipped_slot_comparing_as_wanted same skip (at + 1) ranks ≡ at + k → k < length (r ∷ ranks) → is_unskipped_slot_comparing_as_wanted same skip (at + k) (get_or (r ∷ ranks) k None) ≡ true
         there zero h lt = absurd (omega (arith, rest.above))
         there (suc k) h lt = shifted k true (rest.here k (omega arith) (omega arith))
 
-        earlier : (k : ℕ) → at + k < first_wanted_slot_from same skip (at + 1) ranks → is_wanted_slot same skip (at + k) (get_or (r ∷ ranks) k None) ≡ false
-        earlier zero lt = subst (λ n. is_wanted_slot same skip n r ≡ false) (omega arith) is
+        earlier : (k : ℕ) → at + k < first_unskipped_slot_comparing_as_wanted same skip (at + 1) ranks → is_unskipped_slot_comparing_as_wanted same skip (at + k) (get_or (r ∷ ranks) k None) ≡ false
+        earlier zero lt = subst (λ n. is_unskipped_slot_comparing_as_wanted same skip n r ≡ false) (omega arith) is
         earlier (suc k) lt = shifted k false (rest.before k (omega arith))
 
 -- the same of a whole list
-from_zero : (same : Bool) (skip : Option ℕ) (ranks : List Rank) (k : ℕ) (b : Bool) → is_wanted_slot same skip (0 + k) (get_or ranks k None) ≡ b → is_wanted_slot same skip k (get_or ranks k None) ≡ b
-from_zero same skip ranks k b h = subst (λ n. is_wanted_slot same skip n (get_or ranks k None) ≡ b) (omega arith) h
+from_zero : (same : Bool) (skip : Option ℕ) (ranks : List Rank) (k : ℕ) (b : Bool) → is_unskipped_slot_comparing_as_wanted same skip (0 + k) (get_or ranks k None) ≡ b → is_unskipped_slot_comparing_as_wanted same skip k (get_or ranks k None) ≡ b
+from_zero same skip ranks k b h = subst (λ n. is_unskipped_slot_comparing_as_wanted same skip n (get_or ranks k None) ≡ b) (omega arith) h
 
 -- ---- the answer
 
-rank_at : (order : NameOrder) (name : Name) (slots : List RawSlot) (k : ℕ) → get_or (map (name_ordering_of_slot order name) slots) k None ≡ name_ordering_of_slot order name (slot_of_id slots k)
+rank_at : (order : NameOrder) (name : Name) (slots : List RawSlot) (k : ℕ) → get_or (map (comparison_of_sought_name_with_slot order name) slots) k None ≡ comparison_of_sought_name_with_slot order name (slot_of_id slots k)
 rank_at order name [] k = refl
 rank_at order name (s ∷ slots) zero = refl
 rank_at order name (s ∷ slots) (suc k) = rank_at order name slots k
 
-same_wanted : (order : NameOrder) (name : Name) (o : Option Name) → option_map_or (is_wanted_ordering true) (option_map (name_cmp order name) o) false ≡ option_map_or (same_name name) o false
+same_wanted : (order : NameOrder) (name : Name) (o : Option Name) → option_map_or (is_comparison_same_or_greater_as_wanted true) (option_map (name_cmp order name) o) false ≡ option_map_or (same_name name) o false
 same_wanted order name None = refl
 same_wanted order name (Some other) = by_order (name_cmp order name other) ∙ same_by order name other
   where
-    by_order : (o : Ordering) → is_wanted_ordering true o ≡ is_same o
+    by_order : (o : Ordering) → is_comparison_same_or_greater_as_wanted true o ≡ is_equal_ordering o
     by_order Less = refl
     by_order Equal = refl
     by_order Greater = refl
 
-behind_wanted : (order : NameOrder) (name : Name) (o : Option Name) → option_map_or (is_wanted_ordering false) (option_map (name_cmp order name) o) false ≡ option_map_or (is_name_after order name) o false
+behind_wanted : (order : NameOrder) (name : Name) (o : Option Name) → option_map_or (is_comparison_same_or_greater_as_wanted false) (option_map (name_cmp order name) o) false ≡ option_map_or (is_name_after order name) o false
 behind_wanted order name None = refl
 behind_wanted order name (Some other) = by_order (name_cmp order name other)
   where
-    by_order : (o : Ordering) → is_wanted_ordering false o ≡ is_less_ordering o
+    by_order : (o : Ordering) → is_comparison_same_or_greater_as_wanted false o ≡ is_less_ordering o
     by_order Less = refl
     by_order Equal = refl
     by_order Greater = refl
 
-same_named : (order : NameOrder) (name : Name) (skip : Option ℕ) (slots : List RawSlot) (k : ℕ) → has_passing_name (same_name name) skip slots k ≡ is_wanted_slot true skip k (get_or (map (name_ordering_of_slot order name) slots) k None)
-same_named order name skip slots k = ap (λ b. b && not (is_skipped_id skip k)) (sym (ap (λ r. option_map_or (is_wanted_ordering true) r false) (rank_at order name slots k) ∙ same_wanted order name (name_of_slot_unless_superblock (slot_of_id slots k))))
+same_named : (order : NameOrder) (name : Name) (skip : Option ℕ) (slots : List RawSlot) (k : ℕ) → is_name_at_id_passing_test_unless_skipped (same_name name) skip slots k ≡ is_unskipped_slot_comparing_as_wanted true skip k (get_or (map (comparison_of_sought_name_with_slot order name) slots) k None)
+same_named order name skip slots k = ap (λ b. b && not (is_skipped_id skip k)) (sym (ap (λ r. option_map_or (is_comparison_same_or_greater_as_wanted true) r false) (rank_at order name slots k) ∙ same_wanted order name (name_of_slot_unless_superblock (slot_of_id slots k))))
 
-behind_named : (order : NameOrder) (name : Name) (skip : Option ℕ) (slots : List RawSlot) (k : ℕ) → has_passing_name (is_name_after order name) skip slots k ≡ is_wanted_slot false skip k (get_or (map (name_ordering_of_slot order name) slots) k None)
-behind_named order name skip slots k = ap (λ b. b && not (is_skipped_id skip k)) (sym (ap (λ r. option_map_or (is_wanted_ordering false) r false) (rank_at order name slots k) ∙ behind_wanted order name (name_of_slot_unless_superblock (slot_of_id slots k))))
+behind_named : (order : NameOrder) (name : Name) (skip : Option ℕ) (slots : List RawSlot) (k : ℕ) → is_name_at_id_passing_test_unless_skipped (is_name_after order name) skip slots k ≡ is_unskipped_slot_comparing_as_wanted false skip k (get_or (map (comparison_of_sought_name_with_slot order name) slots) k None)
+behind_named order name skip slots k = ap (λ b. b && not (is_skipped_id skip k)) (sym (ap (λ r. option_map_or (is_comparison_same_or_greater_as_wanted false) r false) (rank_at order name slots k) ∙ behind_wanted order name (name_of_slot_unless_superblock (slot_of_id slots k))))
 
-pub found_is : (order : NameOrder) (name : Name) (skip : Option ℕ) (slots : List RawSlot) (id : ℕ) → id ≡ first_wanted_slot_from true skip 0 (map (name_ordering_of_slot order name) slots) → id < length slots → IsLeastIdOfName name skip slots id
+pub found_is : (order : NameOrder) (name : Name) (skip : Option ℕ) (slots : List RawSlot) (id : ℕ) → id ≡ first_unskipped_slot_comparing_as_wanted true skip 0 (map (comparison_of_sought_name_with_slot order name) slots) → id < length slots → IsLeastIdOfName name skip slots id
 found_is order name skip slots id is lt =
-    let first = subst (FirstFrom true skip 0 (map (name_ordering_of_slot order name) slots)) (sym is) (first_at true skip 0 (map (name_ordering_of_slot order name) slots)) in
-    let len = length-map slots (name_ordering_of_slot order name) in
+    let first = subst (FirstFrom true skip 0 (map (comparison_of_sought_name_with_slot order name) slots)) (sym is) (first_at true skip 0 (map (comparison_of_sought_name_with_slot order name) slots)) in
+    let len = length-map slots (comparison_of_sought_name_with_slot order name) in
     record {
-      named = same_named order name skip slots id ∙ from_zero true skip (map (name_ordering_of_slot order name) slots) id true (first.here id (omega arith) (omega (arith, len)));
-      least = λ k below. same_named order name skip slots k ∙ from_zero true skip (map (name_ordering_of_slot order name) slots) k false (first.before k (omega arith));
+      named = same_named order name skip slots id ∙ from_zero true skip (map (comparison_of_sought_name_with_slot order name) slots) id true (first.here id (omega arith) (omega (arith, len)));
+      least = λ k below. same_named order name skip slots k ∙ from_zero true skip (map (comparison_of_sought_name_with_slot order name) slots) k false (first.before k (omega arith));
     }
 
-pub place_is : (order : NameOrder) (name : Name) (skip : Option ℕ) (slots : List RawSlot) (id : ℕ) → length slots ≤ first_wanted_slot_from true skip 0 (map (name_ordering_of_slot order name) slots) → id ≡ first_wanted_slot_from false skip 0 (map (name_ordering_of_slot order name) slots) → IsIdForNewName order name skip slots id
+pub place_is : (order : NameOrder) (name : Name) (skip : Option ℕ) (slots : List RawSlot) (id : ℕ) → length slots ≤ first_unskipped_slot_comparing_as_wanted true skip 0 (map (comparison_of_sought_name_with_slot order name) slots) → id ≡ first_unskipped_slot_comparing_as_wanted false skip 0 (map (comparison_of_sought_name_with_slot order name) slots) → IsIdForNewName order name skip slots id
 place_is order name skip slots id past is =
-    let none = first_at true skip 0 (map (name_ordering_of_slot order name) slots) in
-    let first = subst (FirstFrom false skip 0 (map (name_ordering_of_slot order name) slots)) (sym is) (first_at false skip 0 (map (name_ordering_of_slot order name) slots)) in
-    let len = length-map slots (name_ordering_of_slot order name) in
+    let none = first_at true skip 0 (map (comparison_of_sought_name_with_slot order name) slots) in
+    let first = subst (FirstFrom false skip 0 (map (comparison_of_sought_name_with_slot order name) slots)) (sym is) (first_at false skip 0 (map (comparison_of_sought_name_with_slot order name) slots)) in
+    let len = length-map slots (comparison_of_sought_name_with_slot order name) in
     record {
       absent = λ k. elim (cases_lt k (length slots)) [
-        | inl lt ↦ same_named order name skip slots k ∙ from_zero true skip (map (name_ordering_of_slot order name) slots) k false (none.before k (omega arith))
+        | inl lt ↦ same_named order name skip slots k ∙ from_zero true skip (map (comparison_of_sought_name_with_slot order name) slots) k false (none.before k (omega arith))
         | inr le ↦ ap (λ (s : RawSlot). option_map_or (same_name name) (name_of_slot_unless_superblock s) false && not (is_skipped_id skip k)) (get_or_past slots k empty_slot le)
       ];
-      least = λ k below. behind_named order name skip slots k ∙ from_zero false skip (map (name_ordering_of_slot order name) slots) k false (first.before k (omega arith));
-      greater = λ lt. behind_named order name skip slots id ∙ from_zero false skip (map (name_ordering_of_slot order name) slots) id true (first.here id (omega arith) (omega (arith, len)));
+      least = λ k below. behind_named order name skip slots k ∙ from_zero false skip (map (comparison_of_sought_name_with_slot order name) slots) k false (first.before k (omega arith));
+      greater = λ lt. behind_named order name skip slots id ∙ from_zero false skip (map (comparison_of_sought_name_with_slot order name) slots) id true (first.here id (omega arith) (omega (arith, len)));
       within = omega (arith, first.within, len);
     }

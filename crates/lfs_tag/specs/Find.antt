@@ -5,56 +5,56 @@ use Rattle.std.specs.List.{insert, remove}
 use Rattle.std.specs.declared.cmp.Ordering.{Ordering}
 use Rattle.std.specs.declared.cmp.Ordering.TheVariants.{Less, Equal, Greater}
 use Rattle.lfs_model.specs.declared.order.NameOrder.{NameOrder}
-use Rattle.lfs_model.specs.Tag.{kind_of, id_of, class_of}
+use Rattle.lfs_model.specs.Tag.{type_of_tag, id_of_tag, abstract_type_of_tag}
 use Rattle.lfs_model.specs.Log.{LogEntry}
 use Rattle.lfs_model.specs.Names.{Name, name_cmp}
 use Rattle.lfs_model.specs.Content.{RawSlot}
-use Rattle.lfs_model.specs.EntryTypes.{create_type, superblock_name_type}
+use Rattle.lfs_model.specs.EntryTypes.{create_tag_type, superblock_name_type}
 use Rattle.lfs_model.specs.Lookup.{name_of_slot_unless_superblock}
 
 -- the order of a wanted name and a slot's; none where the slot has no name that is looked up
-abbrev pub name_ordering_of_slot : NameOrder → Name → RawSlot → Option Ordering
-name_ordering_of_slot order name s = option_map (name_cmp order name) (name_of_slot_unless_superblock s)
+abbrev pub comparison_of_sought_name_with_slot : NameOrder → Name → RawSlot → Option Ordering
+comparison_of_sought_name_with_slot order name s = option_map (name_cmp order name) (name_of_slot_unless_superblock s)
 
 -- the order of the wanted name and the name that an entry gives a slot
-abbrev pub name_ordering_of_entry : NameOrder → Name → LogEntry → Option Ordering
-name_ordering_of_entry order name e = if kind_of e.tag == superblock_name_type then None else Some (name_cmp order name e.bytes)
+abbrev pub comparison_of_sought_name_with_entry : NameOrder → Name → LogEntry → Option Ordering
+comparison_of_sought_name_with_entry order name e = if type_of_tag e.tag == superblock_name_type then None else Some (name_cmp order name e.bytes)
 
-abbrev pub name_orderings_up_to_id : List (Option Ordering) → ℕ → List (Option Ordering)
-name_orderings_up_to_id ranks id = ranks ++ replicate (id + 1 - length ranks) None
+abbrev pub sought_name_comparisons_padded_to_id : List (Option Ordering) → ℕ → List (Option Ordering)
+sought_name_comparisons_padded_to_id ranks id = ranks ++ replicate (id + 1 - length ranks) None
 
 -- the ranks after a create or a delete
-abbrev pub name_orderings_after_splice : List (Option Ordering) → LogEntry → List (Option Ordering)
-name_orderings_after_splice ranks e =
-    if kind_of e.tag == create_type
-    then (if nat_le (id_of e.tag) (length ranks) then insert ranks (id_of e.tag) None else ranks)
-    else (if nat_lt (id_of e.tag) (length ranks) then remove ranks (id_of e.tag) else ranks)
+abbrev pub sought_name_comparisons_after_splice : List (Option Ordering) → LogEntry → List (Option Ordering)
+sought_name_comparisons_after_splice ranks e =
+    if type_of_tag e.tag == create_tag_type
+    then (if nat_le (id_of_tag e.tag) (length ranks) then insert ranks (id_of_tag e.tag) None else ranks)
+    else (if nat_lt (id_of_tag e.tag) (length ranks) then remove ranks (id_of_tag e.tag) else ranks)
 
 -- the ranks after an entry, and after all of these
-abbrev pub name_orderings_after_entry : NameOrder → Name → List (Option Ordering) → LogEntry → List (Option Ordering)
-name_orderings_after_entry order name ranks e =
-    if class_of e.tag == 0 then slice_set (name_orderings_up_to_id ranks (id_of e.tag)) (id_of e.tag) (name_ordering_of_entry order name e)
-    else (if class_of e.tag == 4 then name_orderings_after_splice ranks e else ranks)
+abbrev pub sought_name_comparisons_after_entry : NameOrder → Name → List (Option Ordering) → LogEntry → List (Option Ordering)
+sought_name_comparisons_after_entry order name ranks e =
+    if abstract_type_of_tag e.tag == 0 then slice_set (sought_name_comparisons_padded_to_id ranks (id_of_tag e.tag)) (id_of_tag e.tag) (comparison_of_sought_name_with_entry order name e)
+    else (if abstract_type_of_tag e.tag == 4 then sought_name_comparisons_after_splice ranks e else ranks)
 
-abbrev pub name_orderings_after_entries : NameOrder → Name → List (Option Ordering) → List LogEntry → List (Option Ordering)
-name_orderings_after_entries order name ranks [] = ranks
-name_orderings_after_entries order name ranks (e ∷ es) = name_orderings_after_entries order name (name_orderings_after_entry order name ranks e) es
+abbrev pub sought_name_comparisons_after_entries : NameOrder → Name → List (Option Ordering) → List LogEntry → List (Option Ordering)
+sought_name_comparisons_after_entries order name ranks [] = ranks
+sought_name_comparisons_after_entries order name ranks (e ∷ es) = sought_name_comparisons_after_entries order name (sought_name_comparisons_after_entry order name ranks e) es
 
 -- ---- the first slot
 
 -- the wanted rank: of the name itself, or of a greater one
-abbrev pub is_wanted_ordering : Bool → Ordering → Bool
-is_wanted_ordering same Less = not same
-is_wanted_ordering same Equal = same
-is_wanted_ordering same Greater = false
+abbrev pub is_comparison_same_or_greater_as_wanted : Bool → Ordering → Bool
+is_comparison_same_or_greater_as_wanted same Less = not same
+is_comparison_same_or_greater_as_wanted same Equal = same
+is_comparison_same_or_greater_as_wanted same Greater = false
 
 abbrev pub is_skipped_id : Option ℕ → ℕ → Bool
 is_skipped_id skip id = option_map_or (λ k. k == id) skip false
 
-abbrev pub is_wanted_slot : Bool → Option ℕ → ℕ → Option Ordering → Bool
-is_wanted_slot same skip id rank = option_map_or (is_wanted_ordering same) rank false && not (is_skipped_id skip id)
+abbrev pub is_unskipped_slot_comparing_as_wanted : Bool → Option ℕ → ℕ → Option Ordering → Bool
+is_unskipped_slot_comparing_as_wanted same skip id rank = option_map_or (is_comparison_same_or_greater_as_wanted same) rank false && not (is_skipped_id skip id)
 
 -- the first wanted one of the slots from an id on, or the number of slots
-abbrev pub first_wanted_slot_from : Bool → Option ℕ → ℕ → List (Option Ordering) → ℕ
-first_wanted_slot_from same skip id [] = id
-first_wanted_slot_from same skip id (rank ∷ ranks) = if is_wanted_slot same skip id rank then id else first_wanted_slot_from same skip (id + 1) ranks
+abbrev pub first_unskipped_slot_comparing_as_wanted : Bool → Option ℕ → ℕ → List (Option Ordering) → ℕ
+first_unskipped_slot_comparing_as_wanted same skip id [] = id
+first_unskipped_slot_comparing_as_wanted same skip id (rank ∷ ranks) = if is_unskipped_slot_comparing_as_wanted same skip id rank then id else first_unskipped_slot_comparing_as_wanted same skip (id + 1) ranks

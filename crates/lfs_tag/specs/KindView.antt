@@ -6,10 +6,10 @@ use Rattle.lfs_model.specs.Slots as slots
 use Rattle.lfs_tag.specs.declared.slot_kind.SlotNameKind.{SlotNameKind}
 use Rattle.lfs_tag.specs.declared.slot_kind.SlotNameKind.TheVariants as variant
 
-abbrev pub kind_view : SlotNameKind → slots.KindOfSlot
-kind_view variant.File = slots.File
-kind_view variant.Directory = slots.Directory
-kind_view variant.Superblock = slots.Superblock
+abbrev pub slot_name_kind_view : SlotNameKind → slots.KindOfSlot
+slot_name_kind_view variant.File = slots.File
+slot_name_kind_view variant.Directory = slots.Directory
+slot_name_kind_view variant.Superblock = slots.Superblock
 
 -- whether a name is a superblock's
 abbrev pub is_superblock_name : Option (ℕ × List ℕ) → Bool

@@ -13,9 +13,9 @@ struct_view (variant.Ctz head size) = slots.Ctz head size
 struct_view (variant.Branch to) = slots.Branch (pair_address_of_array to)
 
 -- whether a type and bytes are a struct's: bytes of a file, or 8 bytes that name a list or a pair
-abbrev pub is_struct : ℕ × List ℕ → Bool
-is_struct part = part.0 == inline_struct_type || ((part.0 == ctz_struct_type || part.0 == directory_struct_type) && length part.1 == 8)
+abbrev pub are_type_and_bytes_of_any_struct : ℕ × List ℕ → Bool
+are_type_and_bytes_of_any_struct part = part.0 == inline_struct_type || ((part.0 == ctz_struct_type || part.0 == directory_struct_type) && length part.1 == 8)
 
 -- what they say, where they are
-abbrev pub struct_in : ℕ × List ℕ → Option slots.Struct
-struct_in part = if is_struct part then Some (struct_of_type_and_bytes part.0 part.1) else None
+abbrev pub struct_if_type_and_size_match : ℕ × List ℕ → Option slots.Struct
+struct_if_type_and_size_match part = if are_type_and_bytes_of_any_struct part then Some (struct_of_type_and_bytes part.0 part.1) else None

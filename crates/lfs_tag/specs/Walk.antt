@@ -6,5 +6,5 @@ use Rattle.lfs_model.specs.Log.{LogEntry, AreLogEntriesBetweenOffsets, log_entri
 abbrev pub entries_left_to_walk : Inside → List LogEntry
 entries_left_to_walk s = log_entries_between_offsets s.block.now s.at s.before s.end
 
-pub record HasEntriesLeftToWalk (s : Inside) : Type 0 where
+pub record AreLogEntriesBetweenIteratorEnds (s : Inside) : Type 0 where
   pub run : AreLogEntriesBetweenOffsets s.block.now s.at s.before (entries_left_to_walk s) s.end s.last

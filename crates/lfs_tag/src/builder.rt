@@ -4,16 +4,16 @@ ghost use Rattle.std.specs.Prelude.{◌≡◌, ℕ, IfSome, slice_index, ◌≢�
 ghost use Rattle.byteorder.specs.Endian.{big_bytes, little_bytes};
 ghost use Rattle.lfs_model.specs.Crc.{crc_of};
 ghost use Rattle.lfs_model.specs.Log.{LogEntry};
-ghost use Rattle.lfs_model.specs.Tag.{IsValidTag, class_of, tag_data_size, tag_of_type_id_and_length, carried};
+ghost use Rattle.lfs_model.specs.Tag.{IsValidTag, abstract_type_of_tag, tag_data_size, tag_of_type_id_and_length, tag_for_decoding_next_tag};
 ghost use Rattle.lfs_model.specs.Geometry.{is_valid_page_size};
 ghost use Rattle.lfs_model.specs.EntryTypes.{no_id};
 ghost use Rattle.lfs_model.specs.Blocks.{bytes_after_overwrite_at};
-ghost use Rattle.lfs_model.specs.Commit.{checksum_type_before_bytes};
-ghost use Rattle.lfs_tag.specs.Builder.{commit_with_one_more_entry, padded_end, checksum_tag as checksum_entry_tag, ArePagesOfCommit};
+ghost use Rattle.lfs_model.specs.Commit.{checksum_tag_type_for_following_bytes};
+ghost use Rattle.lfs_tag.specs.Builder.{commit_with_one_more_entry, padded_commit_end, checksum_tag as checksum_entry_tag, ArePagesOfCommit};
 
 use crate::crc;
 use crate::kinds::{CHECKSUM, TURNED_CHECKSUM};
-use crate::pushed_commit::Pushed;
+use crate::pushed_commit::PushedCommitProof;
 use crate::tag::Tag;
 use byteorder::{BigEndian, ByteOrder, LittleEndian};
 use lfs_device::Error;
@@ -31,7 +31,7 @@ pub struct CommitBuilder<'a> {
     // How many bytes there are so far, also where they don't fit the buffer.
     len: usize,
     last: Tag,
-    pushed: Pushed,
+    pushed: PushedCommitProof,
 }
 
 impl<'a> Model for CommitBuilder<'a> {
@@ -69,7 +69,7 @@ fn put_entry(buf: &mut [u8], at: usize, stored: u32, bytes: &[u8])
 }
 
 // Writes a stored tag and its bytes where there is room. Returns where they end, or would end.
-fn write_entry(buf: &mut [u8], at: usize, stored: u32, bytes: &[u8]) -> usize
+fn write_entry_to_buffer_if_room(buf: &mut [u8], at: usize, stored: u32, bytes: &[u8]) -> usize
     ensures end { result ≡ min (at + 4 + length bytes.now) (2 ^ 64 - 1) }
     ensures exact { result ≤ length buf.old → result ≡ at + 4 + length bytes.now }
     ensures len { length buf.new ≡ length buf.old }
@@ -101,7 +101,7 @@ fn write_checksum_and_padding(buf: &mut [u8], at: usize, stored: u32, end: usize
 // Returns the checksum's tag for so many bytes.
 fn checksum_tag(next: Option<[u8; 4]>, size: usize) -> Tag
     requires { size < 2 ^ 10 }
-    ensures tag { result ≡ tag_of_type_id_and_length (checksum_type_before_bytes next) no_id size }
+    ensures tag { result ≡ tag_of_type_id_and_length (checksum_tag_type_for_following_bytes next) no_id size }
     ensures bytes { IfSome next (λ next. (i : ℕ) → slice_index next i < 256) }
 {
     let turns = match next {
@@ -139,7 +139,10 @@ impl<'a> CommitBuilder<'a> {
         };
         CommitBuilder {
             page: page as usize,
-            pushed: Pushed::from_proof(&(page, buf.len(), previous, revision), &()),
+            pushed: PushedCommitProof::with_commit_chosen_by_proof(
+                &(page, buf.len(), previous, revision),
+                &(),
+            ),
             buf,
             len,
             last: previous,
@@ -151,22 +154,22 @@ impl<'a> CommitBuilder<'a> {
     /// [`finish`](CommitBuilder::finish) fails.
     pub fn push(&mut self, tag: Tag, bytes: &[u8])
         requires valid { IsValidTag tag }
-        requires other { class_of tag ≢ 5 }
+        requires other { abstract_type_of_tag tag ≢ 5 }
         requires bytes { length bytes.now ≡ tag_data_size tag }
         ensures { let entry : LogEntry = record { tag = tag; bytes = bytes.now } in
             self.new ≡ commit_with_one_more_entry entry self.old }
     {
         let stored = tag.encode(self.last);
         let buf = &mut *self.buf;
-        let end = write_entry(buf, self.len, stored, bytes);
-        self.pushed = Pushed::from_proof(&self.pushed, &(tag, bytes));
+        let end = write_entry_to_buffer_if_room(buf, self.len, stored, bytes);
+        self.pushed = PushedCommitProof::with_commit_chosen_by_proof(&self.pushed, &(tag, bytes));
         self.len = end;
         self.last = tag;
     }
 
     // Returns where the padded commit ends, or the greatest number where the end is past that.
     fn padded_end(&self) -> usize
-        ensures { result ≡ min (padded_end self.now) (2 ^ 64 - 1) }
+        ensures { result ≡ min (padded_commit_end self.now) (2 ^ 64 - 1) }
     {
         self.len
             .saturating_add(8)
@@ -177,7 +180,7 @@ impl<'a> CommitBuilder<'a> {
     /// Returns where the padded commit will end, in bytes from the buffer's start. The end may be
     /// past the buffer's. Returns `u32::MAX` where the end is past that.
     pub fn end(&self) -> u32
-        ensures { result ≡ min (padded_end self.now) (2 ^ 32 - 1) }
+        ensures { result ≡ min (padded_commit_end self.now) (2 ^ 32 - 1) }
     {
         u32::try_from(self.padded_end()).unwrap_or(u32::MAX)
     }
@@ -185,12 +188,12 @@ impl<'a> CommitBuilder<'a> {
     /// Returns the commit's last tag, as the next tag in the block is stored with it. `next` is the
     /// argument that [`finish`](CommitBuilder::finish) will get. The caller's condition is that the
     /// commit fits the buffer.
-    pub fn last(&self, next: Option<[u8; 4]>) -> Tag
-        requires { padded_end self.now ≤ self.now.room }
-        ensures { result ≡ carried (checksum_entry_tag self.now next) }
+    pub fn last_tag_of_commit(&self, next: Option<[u8; 4]>) -> Tag
+        requires { padded_commit_end self.now ≤ self.now.room }
+        ensures { result ≡ tag_for_decoding_next_tag (checksum_entry_tag self.now next) }
     {
         let size = self.padded_end() - (self.len + 4);
-        checksum_tag(next, size).carried()
+        checksum_tag(next, size).as_previous_of_next_tag()
     }
 
     /// Returns the commit's pages, which the caller programs into the block. `next` is the four
@@ -200,9 +203,9 @@ impl<'a> CommitBuilder<'a> {
     ///
     /// Errors: `TooBig` exactly where the padded commit doesn't fit the buffer.
     pub fn finish(self, next: Option<[u8; 4]>) -> Result<&'a [u8], Error>
-        ensures fits { IsOk result ↔ (padded_end self.entry ≤ self.entry.room) }
+        ensures fits { IsOk result ↔ (padded_commit_end self.entry ≤ self.entry.room) }
         ensures error { IfErr result (λ e. e ≡ Error.TooBig) }
-        ensures size { IfOk result (λ pages. length pages.now ≡ padded_end self.entry) }
+        ensures size { IfOk result (λ pages. length pages.now ≡ padded_commit_end self.entry) }
         ensures commit { IfOk result (λ pages. ArePagesOfCommit self.entry next pages.now) }
     {
         let end = self.padded_end();

@@ -1,7 +1,7 @@
 // The checksum of bytes.
 
 ghost use Rattle.std.specs.Prelude.{◌≡◌, ℕ, ◌^◌, ◌<◌};
-ghost use Rattle.lfs_model.specs.Crc.{crc_of, IsCrcOfBytes};
+ghost use Rattle.lfs_model.specs.Crc.{crc_of, IsCrcOfBytesFromStartValue};
 
 use crate::crc_table::{crc_after_eight_bits, crc_after_eight_bytes};
 
@@ -12,9 +12,9 @@ pub fn crc(start: u32, bytes: &[u8]) -> u32
     // The result is the computed form, for the checksum of parts.
     ensures value { result ≡ crc_of start bytes.now }
     // The result is the remainder of the polynomials.
-    ensures remainder { IsCrcOfBytes start bytes.now result }
+    ensures remainder { IsCrcOfBytesFromStartValue start bytes.now result }
     // No other number is.
-    ensures only { (other : ℕ) → other < 2 ^ 32 → IsCrcOfBytes start bytes.now other → other ≡ result }
+    ensures only { (other : ℕ) → other < 2 ^ 32 → IsCrcOfBytesFromStartValue start bytes.now other → other ≡ result }
 {
     let mut sum = start;
     let mut rest = bytes;

@@ -2,18 +2,18 @@
 
 ghost use Rattle.std.specs.Prelude.{◌≡◌, ℕ, ◌+◌, ◌≤◌, ◌<◌, ◌++◌, List, [], ◌∷◌, length, map, OnOk, IfOk, IsTrue, replicate, remove, insert, slice_set, vec_len, is_some, filter, not, ◌==◌, Some, None};
 ghost use Rattle.std.specs.Option.{option_map};
-ghost use Rattle.lfs_model.specs.Tag.{kind_of, tag_data_size};
+ghost use Rattle.lfs_model.specs.Tag.{type_of_tag, tag_data_size};
 ghost use Rattle.lfs_model.specs.Log.{LogEntry, log_entries_of_block};
-ghost use Rattle.lfs_model.specs.EntryTypes.{is_known_type_and_length, has_id_if_needed, tail_of};
-ghost use Rattle.lfs_model.specs.Content.{attributes_with_attribute, attributes_without_attribute, attributes_after_entry, empty_slot, slot_of_id, raw_slots_after_slot_change, slots_padded_to_id, type_and_bytes_of_entry, slots_after_log_entry, content_after_log_entry, content_after_log_entries, empty_raw_content};
+ghost use Rattle.lfs_model.specs.EntryTypes.{is_tag_of_known_type_and_length, has_tag_id_if_needed, tail_of_log_entry};
+ghost use Rattle.lfs_model.specs.Content.{attributes_with_attribute, attributes_without_attribute, attributes_after_entry, empty_slot, slot_of_id, raw_slots_with_function_applied_at_id, slots_padded_to_id, type_and_bytes_of_entry, slots_after_log_entry, content_after_log_entry, content_after_log_entries, empty_raw_pair_content};
 ghost use Rattle.lfs_model.specs.Thread.{is_hard_tail};
 ghost use Rattle.lfs_tag.specs.LogEntryView.{log_entry_view};
 ghost use Rattle.lfs_tag.specs.FieldsView.{move_view};
-ghost use Rattle.lfs_tag.specs.ContentView.{part_view, attribute_view, slot_view, tail_view, content_view, index_for_attribute};
+ghost use Rattle.lfs_tag.specs.ContentView.{name_or_struct_view, attribute_view, slot_view, tail_view, content_view, index_for_attribute};
 ghost use Rattle.lfs_tag.specs.ContentGives.{GivesValueUnlessNoMemory};
 
 use crate::entry::Entry;
-use crate::fields::{MoveState, NULL_ADDRESS, move_at, pair_at};
+use crate::fields::{MoveState, NULL_ADDRESS, move_state_from_bytes, pair_address_from_bytes};
 use crate::kinds::{
     ATTRIBUTE_CLASS, CHECKSUM_CLASS, CREATE, CTZ_STRUCT, DELETE, DIRECTORY_NAME, DIRECTORY_STRUCT,
     FILE_NAME, HARD_TAIL, INLINE_STRUCT, MOVE_CLASS, MOVE_STATE, NAME_CLASS, SOFT_TAIL,
@@ -26,7 +26,7 @@ use std::alloc::{AllocError, Global};
 
 /// A name or a struct: its type, and its bytes in the block.
 #[derive(Clone, Copy, Drop)]
-pub struct Part<'a> {
+pub struct NameOrStruct<'a> {
     pub kind: u16,
     pub bytes: &'a [u8],
 }
@@ -41,8 +41,8 @@ pub struct Attribute<'a> {
 /// A slot: what a log has for one id. In a foreign image a slot may lack its name or its struct.
 #[derive(Drop)]
 pub struct Slot<'a> {
-    pub name: Option<Part<'a>>,
-    pub structure: Option<Part<'a>>,
+    pub name: Option<NameOrStruct<'a>>,
+    pub structure: Option<NameOrStruct<'a>>,
     /// The attributes by ascending type, each type once.
     pub attributes: Vec<Attribute<'a>>,
 }
@@ -56,7 +56,7 @@ pub struct Tail {
 }
 
 /// Returns whether the directory continues after this pair: there is a tail, and it is hard.
-pub fn is_hard(tail: Option<Tail>) -> bool
+pub fn has_hard_tail(tail: Option<Tail>) -> bool
     ensures { result ≡ is_hard_tail (option_map tail_view tail) }
 {
     match tail {
@@ -109,13 +109,13 @@ impl From<ContentError> for Error {
 }
 
 // Returns whether the format has a tag's type, with its length.
-pub(crate) fn is_in_table(tag: Tag) -> bool
-    ensures { result ≡ is_known_type_and_length tag }
+pub(crate) fn is_known_kind_and_length(tag: Tag) -> bool
+    ensures { result ≡ is_tag_of_known_type_and_length tag }
 {
     let kind = tag.kind();
     let len = tag.len();
     let is_attribute = tag.class() == ATTRIBUTE_CLASS;
-    if tag.removes() {
+    if tag.has_attribute_removal_length() {
         return is_attribute;
     }
     match kind {
@@ -128,8 +128,8 @@ pub(crate) fn is_in_table(tag: Tag) -> bool
 }
 
 // Returns whether a tag that needs an id has one.
-pub(crate) fn has_its_id(tag: Tag) -> bool
-    ensures { result ≡ has_id_if_needed tag }
+pub(crate) fn has_id_where_needed(tag: Tag) -> bool
+    ensures { result ≡ has_tag_id_if_needed tag }
 {
     CHECKSUM_CLASS <= tag.class() || tag.id() != Tag::NO_ID
 }
@@ -145,7 +145,7 @@ fn empty_slot<'a>(alloc: Global) -> Slot<'a>
 }
 
 // Returns the place of the first attribute of a type or a greater one, or the length.
-fn index_of_attribute(attributes: &[Attribute<'_>], kind: u8) -> usize
+fn index_of_attribute_or_where_it_belongs(attributes: &[Attribute<'_>], kind: u8) -> usize
     ensures { result ≡ index_for_attribute kind (map attribute_view attributes.now) }
 {
     for (i, attribute) in attributes.iter().enumerate() {
@@ -163,7 +163,7 @@ fn set_attribute<'a>(
 ) -> Result<(), AllocError>
     ensures { OnOk result (map attribute_view attributes.new.items ≡ attributes_with_attribute attribute.entry.kind attribute.entry.bytes.now (map attribute_view attributes.old.items)) }
 {
-    let place = index_of_attribute(attributes, attribute.kind);
+    let place = index_of_attribute_or_where_it_belongs(attributes, attribute.kind);
     if place < attributes.len() && attributes[place].kind == attribute.kind {
         attributes[place] = attribute;
     } else {
@@ -180,7 +180,7 @@ fn remove_attribute(attributes: &mut Vec<Attribute<'_>>, kind: u8)
 }
 
 // Adds empty slots up to an id.
-fn fill_up(alloc: Global, slots: &mut Vec<Slot<'_>>, id: usize) -> Result<(), AllocError>
+fn pad_slots_to_id(alloc: Global, slots: &mut Vec<Slot<'_>>, id: usize) -> Result<(), AllocError>
     requires { id < 1024 }
     ensures filled { OnOk result (map slot_view slots.new.items ≡ slots_padded_to_id (map slot_view slots.old.items) id) }
     ensures long { OnOk result (id < vec_len slots.new) }
@@ -192,25 +192,25 @@ fn fill_up(alloc: Global, slots: &mut Vec<Slot<'_>>, id: usize) -> Result<(), Al
 }
 
 // Names a slot, which may be past the end.
-fn put_name<'a>(
+fn set_slot_name<'a>(
     alloc: Global,
     slots: &mut Vec<Slot<'a>>,
     id: usize,
-    part: Part<'a>,
+    part: NameOrStruct<'a>,
 ) -> Result<(), AllocError>
     requires { id < 1024 }
-    ensures { OnOk result (map slot_view slots.new.items ≡ raw_slots_after_slot_change (λ s. record s { name = Some (part_view part.entry) }) (slots_padded_to_id (map slot_view slots.old.items) id) id) }
+    ensures { OnOk result (map slot_view slots.new.items ≡ raw_slots_with_function_applied_at_id (λ s. record s { name = Some (name_or_struct_view part.entry) }) (slots_padded_to_id (map slot_view slots.old.items) id) id) }
 {
-    fill_up(alloc, slots, id)?;
+    pad_slots_to_id(alloc, slots, id)?;
     let slot = &mut slots[id];
     slot.name = Some(part);
     Ok(())
 }
 
 // Gives a slot its struct.
-fn put_struct<'a>(slots: &mut Vec<Slot<'a>>, id: usize, part: Part<'a>)
+fn set_slot_struct<'a>(slots: &mut Vec<Slot<'a>>, id: usize, part: NameOrStruct<'a>)
     requires { id < vec_len slots.old }
-    ensures { map slot_view slots.new.items ≡ raw_slots_after_slot_change (λ s. record s { struct = Some (part_view part.entry) }) (map slot_view slots.old.items) id }
+    ensures { map slot_view slots.new.items ≡ raw_slots_with_function_applied_at_id (λ s. record s { struct = Some (name_or_struct_view part.entry) }) (map slot_view slots.old.items) id }
 {
     let slot = &mut slots[id];
     slot.structure = Some(part);
@@ -223,11 +223,11 @@ fn change_attribute<'a>(
     entry: &Entry<'a>,
 ) -> Result<(), AllocError>
     requires { id < vec_len slots.old }
-    ensures { OnOk result (map slot_view slots.new.items ≡ raw_slots_after_slot_change (λ s. record s { attributes = attributes_after_entry (log_entry_view entry.now) s.attributes }) (map slot_view slots.old.items) id) }
+    ensures { OnOk result (map slot_view slots.new.items ≡ raw_slots_with_function_applied_at_id (λ s. record s { attributes = attributes_after_entry (log_entry_view entry.now) s.attributes }) (map slot_view slots.old.items) id) }
 {
     let slot = &mut slots[id];
     let kind = entry.tag.chunk();
-    if entry.tag.removes() {
+    if entry.tag.has_attribute_removal_length() {
         remove_attribute(&mut slot.attributes, kind);
     } else {
         let bytes = entry.bytes;
@@ -237,7 +237,7 @@ fn change_attribute<'a>(
 }
 
 // Whether a slot is there and has a name.
-fn is_named(slots: &[Slot<'_>], id: usize) -> bool
+fn is_slot_named(slots: &[Slot<'_>], id: usize) -> bool
     ensures value { result ≡ is_some (slot_of_id (map slot_view slots.now) id).name }
     ensures there { IsTrue result → id < length slots.now }
 {
@@ -266,7 +266,7 @@ fn remove_slot(slots: &mut Vec<Slot<'_>>, id: usize)
 }
 
 // Applies to the slots an entry that is no checksum, tail or move state.
-fn apply_to_slots<'a>(
+fn apply_entry_to_slots<'a>(
     alloc: Global,
     slots: &mut Vec<Slot<'a>>,
     entry: &Entry<'a>,
@@ -277,9 +277,9 @@ fn apply_to_slots<'a>(
     let class = entry.tag.class();
     let id = usize::from(entry.tag.id());
     let bytes = entry.bytes;
-    let is_named = is_named(slots, id);
+    let is_named = is_slot_named(slots, id);
     if class == NAME_CLASS {
-        put_name(alloc, slots, id, Part { kind, bytes })?;
+        set_slot_name(alloc, slots, id, NameOrStruct { kind, bytes })?;
         Ok(())
     } else if kind == CREATE {
         if id <= slots.len() {
@@ -298,7 +298,7 @@ fn apply_to_slots<'a>(
     } else if !is_named {
         Err(ContentError::Malformed)
     } else if class == STRUCT_CLASS {
-        put_struct(slots, id, Part { kind, bytes });
+        set_slot_struct(slots, id, NameOrStruct { kind, bytes });
         Ok(())
     } else {
         change_attribute(slots, id, entry)?;
@@ -307,11 +307,11 @@ fn apply_to_slots<'a>(
 }
 
 // Returns the tail that an entry sets.
-pub(crate) fn tail_of(entry: &Entry<'_>) -> Option<Tail>
+pub(crate) fn tail_set_by_entry(entry: &Entry<'_>) -> Option<Tail>
     requires { 8 ≤ length entry.now.bytes.now }
-    ensures { option_map tail_view result ≡ tail_of (log_entry_view entry.now) }
+    ensures { option_map tail_view result ≡ tail_of_log_entry (log_entry_view entry.now) }
 {
-    let pair = pair_at(entry.bytes);
+    let pair = pair_address_from_bytes(entry.bytes);
     if pair[0] == NULL_ADDRESS && pair[1] == NULL_ADDRESS {
         None
     } else {
@@ -323,7 +323,7 @@ pub(crate) fn tail_of(entry: &Entry<'_>) -> Option<Tail>
 }
 
 // Applies an entry to the content.
-fn apply_entry<'a>(
+fn apply_entry_to_content<'a>(
     alloc: Global,
     content: &mut Content<'a>,
     entry: &Entry<'a>,
@@ -335,17 +335,17 @@ fn apply_entry<'a>(
     if class == CHECKSUM_CLASS {
         return Ok(());
     }
-    if !is_in_table(tag) || !has_its_id(tag) {
+    if !is_known_kind_and_length(tag) || !has_id_where_needed(tag) {
         return Err(ContentError::Malformed);
     }
     if class == TAIL_CLASS {
-        content.tail = tail_of(entry);
+        content.tail = tail_set_by_entry(entry);
         Ok(())
     } else if class == MOVE_CLASS {
-        content.move_state = move_at(entry.bytes);
+        content.move_state = move_state_from_bytes(entry.bytes);
         Ok(())
     } else {
-        apply_to_slots(alloc, &mut content.slots, entry)?;
+        apply_entry_to_slots(alloc, &mut content.slots, entry)?;
         Ok(())
     }
 }
@@ -357,8 +357,8 @@ impl<'a> Content<'a> {
     /// Errors: `Malformed` exactly where the log is malformed. `NoMemory` where memory for slots
     /// and attributes isn't granted.
     pub fn read(alloc: Global, log: &Log<'a>) -> Result<Content<'a>, ContentError>
-        ensures content { IfOk result (λ c. content_after_log_entries empty_raw_content (log_entries_of_block log.now) ≡ Some (content_view c)) }
-        ensures malformed { result ≡ Err ContentError.Malformed → content_after_log_entries empty_raw_content (log_entries_of_block log.now) ≡ None }
+        ensures content { IfOk result (λ c. content_after_log_entries empty_raw_pair_content (log_entries_of_block log.now) ≡ Some (content_view c)) }
+        ensures malformed { result ≡ Err ContentError.Malformed → content_after_log_entries empty_raw_pair_content (log_entries_of_block log.now) ≡ None }
     {
         let mut content = Content {
             slots: Vec::new(alloc),
@@ -366,7 +366,7 @@ impl<'a> Content<'a> {
             move_state: MoveState::none(),
         };
         for entry in log.entries() {
-            if let Err(error) = apply_entry(alloc, &mut content, &entry) {
+            if let Err(error) = apply_entry_to_content(alloc, &mut content, &entry) {
                 return Err(error);
             }
         }
@@ -376,10 +376,14 @@ impl<'a> Content<'a> {
     /// Applies one more entry, as if the log had it at its end.
     ///
     /// Errors are those of [`read`](Content::read). After an error nothing is known of the content.
-    pub fn take(&mut self, alloc: Global, entry: &Entry<'a>) -> Result<(), ContentError>
+    pub fn apply_one_more_entry(
+        &mut self,
+        alloc: Global,
+        entry: &Entry<'a>,
+    ) -> Result<(), ContentError>
         ensures { GivesValueUnlessNoMemory (λ _. content_view self.new) result (content_after_log_entry (content_view self.old) (log_entry_view entry.now)) }
     {
-        apply_entry(alloc, self, entry)?;
+        apply_entry_to_content(alloc, self, entry)?;
         Ok(())
     }
 }

@@ -29,11 +29,11 @@ impl<'a> Model for Entries<'a> {
 
     ghost Value = { List LogEntry };
 
-    ghost use Rattle.lfs_tag.specs.Walk.{entries_left_to_walk, HasEntriesLeftToWalk};
+    ghost use Rattle.lfs_tag.specs.Walk.{entries_left_to_walk, AreLogEntriesBetweenIteratorEnds};
 
     ghost view = { entries_left_to_walk };
 
-    ghost invariant = { HasEntriesLeftToWalk };
+    ghost invariant = { AreLogEntriesBetweenIteratorEnds };
 }
 
 impl<'a> Entries<'a> {
@@ -56,7 +56,7 @@ impl<'a> Entries<'a> {
 
 impl<'a> Entries<'a> {
     // Returns the same entries once more.
-    pub(crate) fn rest(&self) -> Entries<'a>
+    pub(crate) fn copy_of_iterator_over_remaining_entries(&self) -> Entries<'a>
         ensures { result ≡ self.now }
     {
         Entries {
@@ -84,7 +84,7 @@ impl<'a> Iterator for Entries<'a> {
             return None;
         };
         self.at = self.at + 4 + entry.bytes.len();
-        self.before = entry.tag.carried();
+        self.before = entry.tag.as_previous_of_next_tag();
         Some(entry)
     }
 }
@@ -99,7 +99,7 @@ fn entry_before(block: &[u8], end: usize, last: Tag) -> (usize, Tag, Entry<'_>)
     ensures tag { result.2.tag ≡ last % 2 ^ 31 }
     ensures bytes { result.2.bytes.now ≡ slice_range block.now (result.0 + 4) end }
 {
-    let tag = last.plain();
+    let tag = last.without_top_bit();
     let start = end - 4 - tag.size();
     let before = Tag::decode(BigEndian::read_u32(&block[start..]), tag);
     let bytes = &block[start + 4..end];

@@ -4,7 +4,7 @@ ghost use Rattle.std.specs.Prelude.{◌≡◌, ◌^◌, ◌<◌, slice_index};
 ghost use Rattle.std.specs.List.{flat_map};
 ghost use Rattle.byteorder.specs.Endian.{little_bytes};
 ghost use Rattle.lfs_model.specs.Slots.{Ctz, pair_address_of_array};
-ghost use Rattle.lfs_model.specs.EntryTypes.{pair_address_of_bytes, gstate_of_bytes, superblock_fields_at, ctz_struct_type};
+ghost use Rattle.lfs_model.specs.EntryTypes.{pair_address_of_bytes, gstate_of_bytes, superblock_fields_of_struct_bytes, ctz_struct_type};
 ghost use Rattle.lfs_model.specs.Content.{struct_of_type_and_bytes};
 ghost use Rattle.lfs_model.specs.WrittenContent.{bytes_of_pair_address, bytes_of_move_state, superblock_fields_bytes};
 ghost use Rattle.lfs_tag.specs.FieldsView.{superblock_view, move_view};
@@ -34,7 +34,7 @@ pub fn ctz_bytes(head: u32, size: u32) -> [u8; 8]
 /// Returns the bytes of a superblock's struct (SPEC.md of littlefs, "0x0ff LFS_TYPE_SUPERBLOCK").
 pub fn superblock_bytes(superblock: &Superblock) -> [u8; 24]
     ensures bytes { result ≡ superblock_fields_bytes (superblock_view superblock.now) }
-    ensures read { superblock_fields_at result ≡ superblock_view superblock.now }
+    ensures read { superblock_fields_of_struct_bytes result ≡ superblock_view superblock.now }
 {
     bytes_of_six_words([
         superblock.version,
@@ -49,7 +49,7 @@ pub fn superblock_bytes(superblock: &Superblock) -> [u8; 24]
 // Returns the bytes of a superblock's six numbers, in their order.
 fn bytes_of_six_words(words: [u32; 6]) -> [u8; 24]
     ensures bytes { result ≡ flat_map (little_bytes 4) words }
-    ensures read { superblock_fields_at result ≡ record {
+    ensures read { superblock_fields_of_struct_bytes result ≡ record {
       version = slice_index words 0;
       block_size = slice_index words 1;
       block_count = slice_index words 2;
@@ -65,7 +65,7 @@ fn bytes_of_six_words(words: [u32; 6]) -> [u8; 24]
 
 /// Returns the bytes of a move state. The lowest ten bits of the first word have no meaning, and
 /// are 0.
-pub fn move_bytes(state: &MoveState) -> [u8; 12]
+pub fn move_state_bytes(state: &MoveState) -> [u8; 12]
     requires kind { state.now.kind < 2 ^ 11 }
     requires id { state.now.id < 2 ^ 10 }
     ensures bytes { result ≡ bytes_of_move_state (move_view state.now) }

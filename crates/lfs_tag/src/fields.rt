@@ -5,7 +5,7 @@ ghost use Rattle.byteorder.specs.Endian.{little_number};
 ghost use Rattle.lfs_model.specs.Disk.{file_size_limit};
 ghost use Rattle.lfs_model.specs.Fresh.{superblock_struct_bytes};
 ghost use Rattle.lfs_model.specs.Slots.{Ctz, pair_address_of_array, zero_gstate};
-ghost use Rattle.lfs_model.specs.EntryTypes.{pair_address_of_bytes, gstate_of_bytes, superblock_fields_at, ctz_struct_type};
+ghost use Rattle.lfs_model.specs.EntryTypes.{pair_address_of_bytes, gstate_of_bytes, superblock_fields_of_struct_bytes, ctz_struct_type};
 ghost use Rattle.lfs_model.specs.Content.{struct_of_type_and_bytes};
 ghost use Rattle.lfs_model.specs.WrittenContent.{superblock_fields_bytes, is_zero_gstate};
 ghost use Rattle.lfs_tag.specs.FieldsView.{superblock_view, move_view};
@@ -64,7 +64,7 @@ impl Superblock {
 
     /// Returns the superblock's fields for a fresh image: the on-disk version, the device's
     /// geometry and the limits that are written.
-    pub fn of(geometry: &Geometry) -> Superblock
+    pub fn for_fresh_image(geometry: &Geometry) -> Superblock
         ensures fields { superblock_view result ≡ record {
           version = 0x00020000;
           block_size = geometry.now.block_size;
@@ -108,7 +108,7 @@ impl MoveState {
 }
 
 // Returns the two addresses with which these bytes begin.
-pub(crate) fn pair_at(bytes: &[u8]) -> [u32; 2]
+pub(crate) fn pair_address_from_bytes(bytes: &[u8]) -> [u32; 2]
     requires { 8 ≤ length bytes.now }
     ensures { pair_address_of_array result ≡ pair_address_of_bytes bytes.now }
 {
@@ -118,7 +118,7 @@ pub(crate) fn pair_at(bytes: &[u8]) -> [u32; 2]
 }
 
 // Returns the move state with which these bytes begin.
-pub(crate) fn move_at(bytes: &[u8]) -> MoveState
+pub(crate) fn move_state_from_bytes(bytes: &[u8]) -> MoveState
     requires { 12 ≤ length bytes.now }
     ensures { move_view result ≡ gstate_of_bytes bytes.now }
 {
@@ -127,7 +127,7 @@ pub(crate) fn move_at(bytes: &[u8]) -> MoveState
         sync: word >> 31 == 1,
         kind: (word >> 20 & 0x7ff) as u16,
         id: (word >> 10 & 0x3ff) as u16,
-        pair: pair_at(&bytes[4..]),
+        pair: pair_address_from_bytes(&bytes[4..]),
     }
 }
 
@@ -135,7 +135,7 @@ pub(crate) fn move_at(bytes: &[u8]) -> MoveState
 pub fn pair_of(bytes: &[u8; 8]) -> [u32; 2]
     ensures { pair_address_of_array result ≡ pair_address_of_bytes bytes.now }
 {
-    pair_at(bytes)
+    pair_address_from_bytes(bytes)
 }
 
 /// Returns the head and the size of a skip list, from a file's struct. The head is the address of
@@ -143,13 +143,13 @@ pub fn pair_of(bytes: &[u8; 8]) -> [u32; 2]
 pub fn ctz_of(bytes: &[u8; 8]) -> (u32, u32)
     ensures { struct_of_type_and_bytes ctz_struct_type bytes.now ≡ Ctz result.0 result.1 }
 {
-    let words = pair_at(bytes);
+    let words = pair_address_from_bytes(bytes);
     (words[0], words[1])
 }
 
 /// Returns the fields of a superblock's struct.
 pub fn superblock_of(bytes: &[u8; 24]) -> Superblock
-    ensures { superblock_view result ≡ superblock_fields_at bytes.now }
+    ensures { superblock_view result ≡ superblock_fields_of_struct_bytes bytes.now }
 {
     Superblock {
         version: LittleEndian::read_u32(bytes),
@@ -166,5 +166,5 @@ pub fn superblock_of(bytes: &[u8; 24]) -> Superblock
 pub fn move_of(bytes: &[u8; 12]) -> MoveState
     ensures { move_view result ≡ gstate_of_bytes bytes.now }
 {
-    move_at(bytes)
+    move_state_from_bytes(bytes)
 }

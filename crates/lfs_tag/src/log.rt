@@ -3,7 +3,7 @@
 ghost use Rattle.std.specs.Prelude.{◌≡◌, ℕ, ◌+◌, ◌≤◌, ◌<◌, ◌^◌, ◌↔◌, List, length, IsTrue, IfSome};
 ghost use Rattle.std.specs.Option.{option_map};
 ghost use Rattle.lfs_model.specs.Tag.{tag_data_size};
-ghost use Rattle.lfs_model.specs.Log.{entry_at, closes, commit_at, chain_of, revision_of_block, log_entries_of_block, end_of_entry, IsCommitSequenceOfBlock, LogEntry};
+ghost use Rattle.lfs_model.specs.Log.{entry_at, closes, commit_at, chain_of, revision_of_block, log_entries_of_block, end_offset_of_log_entry, AreAdjacentCommitsFromBlockStart, LogEntry};
 ghost use Rattle.lfs_model.specs.Content.{has_commit};
 ghost use Rattle.lfs_tag.specs.LogEntryView.{log_entry_view};
 
@@ -37,7 +37,7 @@ pub(crate) fn entry_at(block: &[u8], at: usize, before: Tag) -> Option<Entry<'_>
 
 // Returns whether the checksum entry at an offset ends the commit that begins at `start`.
 #[tactic(auto, unfolding(lfs_model::specs::Log::closes))]
-fn closes(block: &[u8], start: usize, at: usize, entry: &Entry<'_>) -> bool
+fn is_valid_commit_checksum(block: &[u8], start: usize, at: usize, entry: &Entry<'_>) -> bool
     requires start { start ≤ at }
     requires within { at + 4 + length entry.now.bytes.now ≤ length block.now }
     ensures { result ≡ closes block.now start at (log_entry_view entry.now) }
@@ -61,8 +61,8 @@ fn commit_end(block: &[u8], start: usize, mut at: usize, mut before: Tag) -> Opt
     while let Some(entry) = entry_at(block, at, before) {
         let end = at + 4 + entry.bytes.len();
         if entry.tag.ends_commit() {
-            return if closes(block, start, at, &entry) {
-                Some((end, entry.tag.carried()))
+            return if is_valid_commit_checksum(block, start, at, &entry) {
+                Some((end, entry.tag.as_previous_of_next_tag()))
             } else {
                 None
             };
@@ -99,11 +99,11 @@ impl<'a> Model for Log<'a> {
 
     ghost Value = { List ℕ };
 
-    ghost use Rattle.lfs_tag.specs.Read.{IsLogOfItsBlock};
+    ghost use Rattle.lfs_tag.specs.Read.{AreLogFieldsThoseOfBlock};
 
     ghost view = { λ l. l.block.now };
 
-    ghost invariant = { IsLogOfItsBlock };
+    ghost invariant = { AreLogFieldsThoseOfBlock };
 }
 
 impl<'a> Log<'a> {
@@ -123,13 +123,13 @@ impl<'a> Log<'a> {
             end = commit.0;
             last = commit.1;
         }
-        Log::known(block, end, last)
+        Log::with_known_end(block, end, last)
     }
 
     /// Makes the log of a block whose chain is known to end at `end` with the tag `last`. The block
-    /// isn't read again. The caller's condition is that [`end`](Log::end) and [`last`](Log::last)
+    /// isn't read again. The caller's condition is that [`end`](Log::end) and [`last_tag_of_log`](Log::last_tag_of_log)
     /// would return these for the bytes.
-    pub fn known(block: &'a [u8], end: usize, last: Tag) -> Log<'a>
+    pub fn with_known_end(block: &'a [u8], end: usize, last: Tag) -> Log<'a>
         requires end { end ≡ (chain_of block.now).end }
         requires last { last ≡ (chain_of block.now).last }
         ensures { result ≡ block.now }
@@ -159,7 +159,7 @@ impl<'a> Log<'a> {
 
     /// Returns what the tag after the last commit is decoded with. Returns all bits set where there
     /// is no commit.
-    pub fn last(&self) -> Tag
+    pub fn last_tag_of_log(&self) -> Tag
         ensures { result ≡ (chain_of self.now).last }
     {
         self.last

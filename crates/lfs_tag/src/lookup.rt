@@ -3,8 +3,8 @@
 ghost use Rattle.std.specs.Prelude.{◌≡◌, ℕ, ◌+◌, ◌≤◌, ◌<◌, ◌^◌, [], length, max, slice_set, vec_len, IfOk, OnOk, Some, None};
 ghost use Rattle.std.specs.List.{insert, remove};
 ghost use Rattle.lfs_model.specs.Log.{log_entries_of_block};
-ghost use Rattle.lfs_model.specs.Content.{RawContent, content_after_log_entries, empty_raw_content};
-ghost use Rattle.lfs_tag.specs.Find.{name_ordering_of_entry, name_orderings_up_to_id, name_orderings_after_splice, name_orderings_after_entry, name_orderings_after_entries, is_wanted_ordering, is_skipped_id, is_wanted_slot, first_wanted_slot_from};
+ghost use Rattle.lfs_model.specs.Content.{RawPairContent, content_after_log_entries, empty_raw_pair_content};
+ghost use Rattle.lfs_tag.specs.Find.{comparison_of_sought_name_with_entry, sought_name_comparisons_padded_to_id, sought_name_comparisons_after_splice, sought_name_comparisons_after_entry, sought_name_comparisons_after_entries, is_comparison_same_or_greater_as_wanted, is_skipped_id, is_unskipped_slot_comparing_as_wanted, first_unskipped_slot_comparing_as_wanted};
 ghost use Rattle.lfs_tag.specs.FindView.{IsLookupOfName};
 ghost use Rattle.lfs_tag.specs.LogEntryView.{log_entry_view};
 
@@ -47,24 +47,24 @@ pub fn find(
     name: &[u8],
     skip: Option<u16>,
 ) -> Result<Lookup, AllocError>
-    ensures { (c : RawContent) → content_after_log_entries empty_raw_content (log_entries_of_block log.now) ≡ Some c → length log.now ≤ 2 ^ 16 → IfOk result (IsLookupOfName order name.now skip c.slots) }
+    ensures { (c : RawPairContent) → content_after_log_entries empty_raw_pair_content (log_entries_of_block log.now) ≡ Some c → length log.now ≤ 2 ^ 16 → IfOk result (IsLookupOfName order name.now skip c.slots) }
 {
     if BLOCK_MAX < log.block().len() {
         return Ok(Lookup::Place(0));
     }
     let mut ranks = Vec::new(alloc);
-    name_orderings_of_slots(&mut ranks, log, order, name)?;
-    let found = first(&ranks, true, skip);
+    sought_name_comparisons_of_slots(&mut ranks, log, order, name)?;
+    let found = first_slot_whose_name_compares_as_wanted(&ranks, true, skip);
     if found < ranks.len() {
         Ok(Lookup::Found(found as u16))
     } else {
-        Ok(Lookup::Place(first(&ranks, false, skip) as u16))
+        Ok(Lookup::Place(first_slot_whose_name_compares_as_wanted(&ranks, false, skip) as u16))
     }
 }
 
 // Returns the ranks of a log's slots.
 #[tactic(auto, using(crate::proofs::Ranks::few_entries))]
-fn name_orderings_of_slots(
+fn sought_name_comparisons_of_slots(
     ranks: &mut Ranks,
     log: &Log<'_>,
     order: NameOrder,
@@ -72,38 +72,42 @@ fn name_orderings_of_slots(
 ) -> Result<(), AllocError>
     requires none { ranks.old.items ≡ [] }
     requires small { length log.now ≤ 2 ^ 16 }
-    ensures ranks { OnOk result (ranks.new.items ≡ name_orderings_after_entries order name.now [] (log_entries_of_block log.now)) }
+    ensures ranks { OnOk result (ranks.new.items ≡ sought_name_comparisons_after_entries order name.now [] (log_entries_of_block log.now)) }
     ensures few { OnOk result (vec_len ranks.new < 17408) }
 {
     for entry in log.entries() {
-        take(ranks, order, name, &entry)?;
+        apply_entry_to_sought_name_comparisons(ranks, order, name, &entry)?;
     }
     Ok(())
 }
 
 // Applies an entry to the ranks.
-fn take(
+fn apply_entry_to_sought_name_comparisons(
     ranks: &mut Ranks,
     order: NameOrder,
     name: &[u8],
     entry: &Entry<'_>,
 ) -> Result<(), AllocError>
-    ensures ranks { OnOk result (ranks.new.items ≡ name_orderings_after_entry order name.now ranks.old.items (log_entry_view entry.now)) }
+    ensures ranks { OnOk result (ranks.new.items ≡ sought_name_comparisons_after_entry order name.now ranks.old.items (log_entry_view entry.now)) }
     ensures room { OnOk result (vec_len ranks.new ≤ max (vec_len ranks.old) 1024 + 1) }
 {
     let class = entry.tag.class();
     if class == NAME_CLASS {
-        let rank = entry_rank(order, name, entry);
-        put_name_ordering(ranks, usize::from(entry.tag.id()), rank)?;
+        let rank = compare_sought_name_with_entry(order, name, entry);
+        put_sought_name_comparison(ranks, usize::from(entry.tag.id()), rank)?;
     } else if class == SPLICE_CLASS {
-        splice(ranks, entry)?;
+        apply_splice_to_sought_name_comparisons(ranks, entry)?;
     }
     Ok(())
 }
 
 // Returns the order of the wanted name and the name that an entry gives a slot.
-fn entry_rank(order: NameOrder, name: &[u8], entry: &Entry<'_>) -> Option<Ordering>
-    ensures { result ≡ name_ordering_of_entry order name.now (log_entry_view entry.now) }
+fn compare_sought_name_with_entry(
+    order: NameOrder,
+    name: &[u8],
+    entry: &Entry<'_>,
+) -> Option<Ordering>
+    ensures { result ≡ comparison_of_sought_name_with_entry order name.now (log_entry_view entry.now) }
 {
     if entry.tag.kind() == SUPERBLOCK_NAME {
         None
@@ -113,20 +117,24 @@ fn entry_rank(order: NameOrder, name: &[u8], entry: &Entry<'_>) -> Option<Orderi
 }
 
 // Ranks a slot, which may be past the end.
-fn put_name_ordering(ranks: &mut Ranks, id: usize, rank: Option<Ordering>) -> Result<(), AllocError>
+fn put_sought_name_comparison(
+    ranks: &mut Ranks,
+    id: usize,
+    rank: Option<Ordering>,
+) -> Result<(), AllocError>
     requires { id < 1024 }
-    ensures ranks { OnOk result (ranks.new.items ≡ slice_set (name_orderings_up_to_id ranks.old.items id) id rank) }
+    ensures ranks { OnOk result (ranks.new.items ≡ slice_set (sought_name_comparisons_padded_to_id ranks.old.items id) id rank) }
     ensures room { OnOk result (vec_len ranks.new ≤ max (vec_len ranks.old) 1024) }
 {
-    fill_up(ranks, id)?;
+    pad_sought_name_comparisons_to_id(ranks, id)?;
     ranks[id] = rank;
     Ok(())
 }
 
 // Adds slots without a name up to an id.
-fn fill_up(ranks: &mut Ranks, id: usize) -> Result<(), AllocError>
+fn pad_sought_name_comparisons_to_id(ranks: &mut Ranks, id: usize) -> Result<(), AllocError>
     requires { id < 1024 }
-    ensures ranks { OnOk result (ranks.new.items ≡ name_orderings_up_to_id ranks.old.items id) }
+    ensures ranks { OnOk result (ranks.new.items ≡ sought_name_comparisons_padded_to_id ranks.old.items id) }
     ensures long { OnOk result (id < vec_len ranks.new) }
     ensures room { OnOk result (vec_len ranks.new ≤ max (vec_len ranks.old) 1024) }
 {
@@ -137,8 +145,11 @@ fn fill_up(ranks: &mut Ranks, id: usize) -> Result<(), AllocError>
 }
 
 // Applies a create or a delete.
-fn splice(ranks: &mut Ranks, entry: &Entry<'_>) -> Result<(), AllocError>
-    ensures ranks { OnOk result (ranks.new.items ≡ name_orderings_after_splice ranks.old.items (log_entry_view entry.now)) }
+fn apply_splice_to_sought_name_comparisons(
+    ranks: &mut Ranks,
+    entry: &Entry<'_>,
+) -> Result<(), AllocError>
+    ensures ranks { OnOk result (ranks.new.items ≡ sought_name_comparisons_after_splice ranks.old.items (log_entry_view entry.now)) }
     ensures room { OnOk result (vec_len ranks.new ≤ vec_len ranks.old + 1) }
 {
     let id = usize::from(entry.tag.id());
@@ -154,29 +165,38 @@ fn splice(ranks: &mut Ranks, entry: &Entry<'_>) -> Result<(), AllocError>
 
 // Returns the first slot whose name is the wanted one, or a greater one. Returns the number of
 // slots where there is none.
-fn first(ranks: &[Option<Ordering>], same: bool, skip: Option<u16>) -> usize
-    ensures first { result ≡ first_wanted_slot_from same skip 0 ranks.now }
+fn first_slot_whose_name_compares_as_wanted(
+    ranks: &[Option<Ordering>],
+    same: bool,
+    skip: Option<u16>,
+) -> usize
+    ensures first { result ≡ first_unskipped_slot_comparing_as_wanted same skip 0 ranks.now }
     ensures within { result ≤ length ranks.now }
 {
     for (id, rank) in ranks.iter().enumerate() {
-        if is_first(same, skip, id, *rank) {
+        if is_unskipped_slot_named_as_wanted(same, skip, id, *rank) {
             return id;
         }
     }
     ranks.len()
 }
 
-fn is_first(same: bool, skip: Option<u16>, id: usize, rank: Option<Ordering>) -> bool
-    ensures { result ≡ is_wanted_slot same skip id rank }
+fn is_unskipped_slot_named_as_wanted(
+    same: bool,
+    skip: Option<u16>,
+    id: usize,
+    rank: Option<Ordering>,
+) -> bool
+    ensures { result ≡ is_unskipped_slot_comparing_as_wanted same skip id rank }
 {
     match rank {
-        Some(rank) => is_name_rank_wanted(same, rank) && !is_skipped(skip, id),
+        Some(rank) => is_sought_name_comparison_as_wanted(same, rank) && !is_id_to_skip(skip, id),
         None => false,
     }
 }
 
-fn is_name_rank_wanted(same: bool, rank: Ordering) -> bool
-    ensures { result ≡ is_wanted_ordering same rank }
+fn is_sought_name_comparison_as_wanted(same: bool, rank: Ordering) -> bool
+    ensures { result ≡ is_comparison_same_or_greater_as_wanted same rank }
 {
     match rank {
         Ordering::Less => !same,
@@ -185,7 +205,7 @@ fn is_name_rank_wanted(same: bool, rank: Ordering) -> bool
     }
 }
 
-fn is_skipped(skip: Option<u16>, id: usize) -> bool
+fn is_id_to_skip(skip: Option<u16>, id: usize) -> bool
     ensures { result ≡ is_skipped_id skip id }
 {
     match skip {

@@ -8,20 +8,20 @@ use std::marker::Model;
 
 // It takes no memory, and its function does nothing at run time.
 #[derive(Drop)]
-pub(crate) struct Pushed {
+pub(crate) struct PushedCommitProof {
     pub(crate) ghost so_far: { CommitBeingBuilt },
 }
 
-impl Model for Pushed {
+impl Model for PushedCommitProof {
     ghost also_owns = { λ _. ftrue };
 }
 
-impl Pushed {
+impl PushedCommitProof {
     // Makes any commit. The caller's proof picks the commit from what the references point to.
-    pub(crate) fn from_proof<S, T>(_before: &S, _pushed: &T) -> Pushed
+    pub(crate) fn with_commit_chosen_by_proof<S, T>(_before: &S, _pushed: &T) -> PushedCommitProof
         ghost so_far: { CommitBeingBuilt }
         ensures { result.so_far ≡ so_far }
     {
-        Pushed {}
+        PushedCommitProof {}
     }
 }

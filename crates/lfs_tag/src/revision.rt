@@ -5,7 +5,7 @@ ghost use Rattle.lfs_model.specs.Content.{is_later_revision};
 
 /// Returns whether the revision `b` is later than `a`, by the sign of their difference. So 0
 /// follows the greatest revision (SPEC.md of littlefs, "Metadata pairs").
-pub fn is_later(a: u32, b: u32) -> bool
+pub fn is_revision_later_than(a: u32, b: u32) -> bool
     ensures { result ≡ is_later_revision a b }
 {
     let ahead = b.wrapping_sub(a);

@@ -1,12 +1,12 @@
 // What a slot is, by the type of its name.
 
 ghost use Rattle.std.specs.Prelude.{◌≡◌, Some};
-ghost use Rattle.lfs_model.specs.Content.{complete, kind_of_name_type};
+ghost use Rattle.lfs_model.specs.Content.{slot_if_name_and_struct_present, kind_of_name_type};
 ghost use Rattle.lfs_model.specs.Slots.{Slot as ModelSlot, is_superblock, is_superblock_kind};
 ghost use Rattle.lfs_tag.specs.ContentView.{slot_view};
-ghost use Rattle.lfs_tag.specs.KindView.{kind_view, is_superblock_name};
+ghost use Rattle.lfs_tag.specs.KindView.{slot_name_kind_view, is_superblock_name};
 
-use crate::content::{Part, Slot};
+use crate::content::{NameOrStruct, Slot};
 use crate::kinds::{DIRECTORY_NAME, FILE_NAME};
 
 /// What a slot is, by the type of its name (SPEC.md of littlefs, "0x0xx LFS_TYPE_NAME").
@@ -20,8 +20,8 @@ pub enum SlotNameKind {
 
 impl SlotNameKind {
     /// The kind of the slots that have a name of this type.
-    pub fn of(name: &Part<'_>) -> SlotNameKind
-        ensures { kind_view result ≡ kind_of_name_type name.now.kind }
+    pub fn of(name: &NameOrStruct<'_>) -> SlotNameKind
+        ensures { slot_name_kind_view result ≡ kind_of_name_type name.now.kind }
     {
         match name.kind {
             FILE_NAME => SlotNameKind::File,
@@ -32,7 +32,7 @@ impl SlotNameKind {
 
     /// Whether it is a superblock's.
     pub fn is_superblock(self) -> bool
-        ensures { result ≡ is_superblock_kind (kind_view self) }
+        ensures { result ≡ is_superblock_kind (slot_name_kind_view self) }
     {
         match self {
             SlotNameKind::Superblock => true,
@@ -46,7 +46,7 @@ impl Slot<'_> {
     /// Whether it is a superblock's: it has a name, which is neither a file's nor a directory's.
     pub fn is_superblock(&self) -> bool
         ensures named { result ≡ is_superblock_name (slot_view self.now).name }
-        ensures complete { (s : ModelSlot) → complete (slot_view self.now) ≡ Some s → result ≡ is_superblock s }
+        ensures complete { (s : ModelSlot) → slot_if_name_and_struct_present (slot_view self.now) ≡ Some s → result ≡ is_superblock s }
     {
         match self.name {
             Some(name) => SlotNameKind::of(&name).is_superblock(),

@@ -3,14 +3,16 @@
 ghost use Rattle.std.specs.Prelude.{◌≡◌, ℕ, ◌<◌, ◌≤◌, OnOk, IfOk, IsTrue, length, true, vec_len, Some, None};
 ghost use Rattle.std.specs.List.{insert, remove, list_all};
 ghost use Rattle.lfs_model.specs.Log.{LogEntry, log_entries_of_block};
-ghost use Rattle.lfs_model.specs.Content.{RawContent, content_after_log_entries, empty_raw_content};
+ghost use Rattle.lfs_model.specs.Content.{RawPairContent, content_after_log_entries, empty_raw_pair_content};
 ghost use Rattle.lfs_tag.specs.LogEntryView.{log_entry_view};
 ghost use Rattle.lfs_tag.specs.ContentGives.{GivesValueUnlessNoMemory};
-ghost use Rattle.lfs_tag.specs.Summary.{IsSummaryOfLogContent, mark_of_empty_slot, mark_of_id, slot_marks_with_one_changed, slot_marks_up_to_id, has_name_and_struct, slot_marks_after_entry, outline_view, outline_after_entry, outline_after_entries, outline_of_empty_log};
+ghost use Rattle.lfs_tag.specs.Summary.{IsSummaryOfLogContent, empty_name_and_struct_mark, name_and_struct_mark_at_id, slot_marks_with_one_changed, slot_marks_padded_to_id, has_name_and_struct, slot_marks_after_entry, outline_view, outline_after_entry, outline_after_entries, outline_of_empty_log};
 
-use crate::content::{ContentError, Tail, has_its_id, is_in_table, tail_of};
+use crate::content::{
+    ContentError, Tail, has_id_where_needed, is_known_kind_and_length, tail_set_by_entry,
+};
 use crate::entry::Entry;
-use crate::fields::{MoveState, move_at};
+use crate::fields::{MoveState, move_state_from_bytes};
 use crate::kinds::{
     CHECKSUM_CLASS, CREATE, DELETE, MOVE_CLASS, NAME_CLASS, STRUCT_CLASS, TAIL_CLASS,
 };
@@ -30,15 +32,15 @@ pub struct Summary {
 
 // What a summary notes of a slot.
 #[derive(Clone, Copy, Drop)]
-struct Mark {
+struct SlotSummary {
     has_name: bool,
     has_struct: bool,
 }
 
 // The summary of the entries so far.
 #[derive(Drop)]
-struct Outline {
-    marks: Vec<Mark>,
+struct PartialSummary {
+    marks: Vec<SlotSummary>,
     tail: Option<Tail>,
     move_state: MoveState,
 }
@@ -51,10 +53,10 @@ impl Summary {
     /// granted.
     #[tactic(auto, using(crate::proofs::Summaries::no_content_where_none))]
     pub fn read(alloc: Global, log: &Log<'_>) -> Result<Summary, ContentError>
-        ensures summary { IfOk result (λ s. (c : RawContent) × IsSummaryOfLogContent log.now c s) }
-        ensures malformed { result ≡ Err ContentError.Malformed → content_after_log_entries empty_raw_content (log_entries_of_block log.now) ≡ None }
+        ensures summary { IfOk result (λ s. (c : RawPairContent) × IsSummaryOfLogContent log.now c s) }
+        ensures malformed { result ≡ Err ContentError.Malformed → content_after_log_entries empty_raw_pair_content (log_entries_of_block log.now) ≡ None }
     {
-        let outline = match outline_of(alloc, log) {
+        let outline = match read_outline_of_log(alloc, log) {
             Ok(outline) => outline,
             Err(error) => return Err(error),
         };
@@ -62,36 +64,39 @@ impl Summary {
             slot_count: outline.marks.len(),
             tail: outline.tail,
             move_state: outline.move_state,
-            is_complete: are_whole(&outline.marks),
+            is_complete: are_all_slots_complete(&outline.marks),
         })
     }
 }
 
-fn outline_of(alloc: Global, log: &Log<'_>) -> Result<Outline, ContentError>
+fn read_outline_of_log(alloc: Global, log: &Log<'_>) -> Result<PartialSummary, ContentError>
     ensures outline { IfOk result (λ o. outline_after_entries outline_of_empty_log (log_entries_of_block log.now) ≡ Some (outline_view o)) }
     ensures malformed { result ≡ Err ContentError.Malformed → outline_after_entries outline_of_empty_log (log_entries_of_block log.now) ≡ None }
 {
-    let mut outline = Outline {
+    let mut outline = PartialSummary {
         marks: Vec::new(alloc),
         tail: None,
         move_state: MoveState::none(),
     };
     for entry in log.entries() {
-        if let Err(error) = take(&mut outline, &entry) {
+        if let Err(error) = apply_entry_to_outline(&mut outline, &entry) {
             return Err(error);
         }
     }
     Ok(outline)
 }
 
-fn are_whole(marks: &[Mark]) -> bool
+fn are_all_slots_complete(marks: &[SlotSummary]) -> bool
     ensures { result ≡ list_all has_name_and_struct marks.now }
 {
     marks.iter().all(|mark| mark.has_name && mark.has_struct)
 }
 
 // Applies an entry to the outline.
-fn take(outline: &mut Outline, entry: &Entry<'_>) -> Result<(), ContentError>
+fn apply_entry_to_outline(
+    outline: &mut PartialSummary,
+    entry: &Entry<'_>,
+) -> Result<(), ContentError>
     ensures { GivesValueUnlessNoMemory (λ _. outline_view outline.new) result (outline_after_entry (outline_view outline.old) (log_entry_view entry.now)) }
 {
     let tag = entry.tag;
@@ -99,35 +104,38 @@ fn take(outline: &mut Outline, entry: &Entry<'_>) -> Result<(), ContentError>
     if class == CHECKSUM_CLASS {
         return Ok(());
     }
-    if !is_in_table(tag) || !has_its_id(tag) {
+    if !is_known_kind_and_length(tag) || !has_id_where_needed(tag) {
         return Err(ContentError::Malformed);
     }
     if class == TAIL_CLASS {
-        outline.tail = tail_of(entry);
+        outline.tail = tail_set_by_entry(entry);
         Ok(())
     } else if class == MOVE_CLASS {
-        outline.move_state = move_at(entry.bytes);
+        outline.move_state = move_state_from_bytes(entry.bytes);
         Ok(())
     } else {
-        apply_entry_to_marks(&mut outline.marks, entry)?;
+        apply_entry_to_slot_marks(&mut outline.marks, entry)?;
         Ok(())
     }
 }
 
 // Applies to the slots' marks an entry that is no checksum, tail or move state.
-fn apply_entry_to_marks(marks: &mut Vec<Mark>, entry: &Entry<'_>) -> Result<(), ContentError>
+fn apply_entry_to_slot_marks(
+    marks: &mut Vec<SlotSummary>,
+    entry: &Entry<'_>,
+) -> Result<(), ContentError>
     ensures { GivesValueUnlessNoMemory (λ _. marks.new.items) result (slot_marks_after_entry marks.old.items (log_entry_view entry.now)) }
 {
     let kind = entry.tag.kind();
     let class = entry.tag.class();
     let id = usize::from(entry.tag.id());
-    let is_named = is_named(marks, id);
+    let is_named = is_marked_as_named(marks, id);
     if class == NAME_CLASS {
-        mark_name(marks, id)?;
+        mark_slot_as_named(marks, id)?;
         Ok(())
     } else if kind == CREATE {
         if id <= marks.len() {
-            insert_mark(marks, id)?;
+            insert_empty_slot_mark(marks, id)?;
             Ok(())
         } else {
             Err(ContentError::Malformed)
@@ -142,7 +150,7 @@ fn apply_entry_to_marks(marks: &mut Vec<Mark>, entry: &Entry<'_>) -> Result<(), 
     } else if !is_named {
         Err(ContentError::Malformed)
     } else if class == STRUCT_CLASS {
-        mark_struct(marks, id);
+        mark_slot_as_having_struct(marks, id);
         Ok(())
     } else {
         Ok(())
@@ -150,8 +158,8 @@ fn apply_entry_to_marks(marks: &mut Vec<Mark>, entry: &Entry<'_>) -> Result<(), 
 }
 
 // Returns whether a slot is there and has a name.
-fn is_named(marks: &[Mark], id: usize) -> bool
-    ensures value { result ≡ (mark_of_id marks.now id).has_name }
+fn is_marked_as_named(marks: &[SlotSummary], id: usize) -> bool
+    ensures value { result ≡ (name_and_struct_mark_at_id marks.now id).has_name }
     ensures there { IsTrue result → id < length marks.now }
 {
     if id < marks.len() {
@@ -162,19 +170,19 @@ fn is_named(marks: &[Mark], id: usize) -> bool
 }
 
 // Marks the name of a slot, which may be past the end.
-fn mark_name(marks: &mut Vec<Mark>, id: usize) -> Result<(), AllocError>
+fn mark_slot_as_named(marks: &mut Vec<SlotSummary>, id: usize) -> Result<(), AllocError>
     requires { id < 1024 }
-    ensures { OnOk result (marks.new.items ≡ slot_marks_with_one_changed (λ m. record m { has_name = true }) (slot_marks_up_to_id marks.old.items id) id) }
+    ensures { OnOk result (marks.new.items ≡ slot_marks_with_one_changed (λ m. record m { has_name = true }) (slot_marks_padded_to_id marks.old.items id) id) }
 {
-    fill_up(marks, id)?;
+    pad_slot_marks_to_id(marks, id)?;
     marks[id].has_name = true;
     Ok(())
 }
 
 // Adds marks of empty slots up to an id.
-fn fill_up(marks: &mut Vec<Mark>, id: usize) -> Result<(), AllocError>
+fn pad_slot_marks_to_id(marks: &mut Vec<SlotSummary>, id: usize) -> Result<(), AllocError>
     requires { id < 1024 }
-    ensures filled { OnOk result (marks.new.items ≡ slot_marks_up_to_id marks.old.items id) }
+    ensures filled { OnOk result (marks.new.items ≡ slot_marks_padded_to_id marks.old.items id) }
     ensures long { OnOk result (id < vec_len marks.new) }
 {
     if marks.len() <= id {
@@ -183,21 +191,21 @@ fn fill_up(marks: &mut Vec<Mark>, id: usize) -> Result<(), AllocError>
     Ok(())
 }
 
-const NO_MARK: Mark = Mark {
+const NO_MARK: SlotSummary = SlotSummary {
     has_name: false,
     has_struct: false,
 };
 
-fn mark_struct(marks: &mut Vec<Mark>, id: usize)
+fn mark_slot_as_having_struct(marks: &mut Vec<SlotSummary>, id: usize)
     requires { id < vec_len marks.old }
     ensures { marks.new.items ≡ slot_marks_with_one_changed (λ m. record m { has_struct = true }) marks.old.items id }
 {
     marks[id].has_struct = true;
 }
 
-fn insert_mark(marks: &mut Vec<Mark>, id: usize) -> Result<(), AllocError>
+fn insert_empty_slot_mark(marks: &mut Vec<SlotSummary>, id: usize) -> Result<(), AllocError>
     requires { id ≤ vec_len marks.old }
-    ensures { OnOk result (marks.new.items ≡ insert marks.old.items id mark_of_empty_slot) }
+    ensures { OnOk result (marks.new.items ≡ insert marks.old.items id empty_name_and_struct_mark) }
 {
     marks.insert(id, NO_MARK)?;
     Ok(())

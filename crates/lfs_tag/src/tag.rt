@@ -1,7 +1,7 @@
 // Tags.
 
 ghost use Rattle.std.specs.Prelude.{◌≡◌, ◌<◌, ◌^◌, ◌%◌, ◌↔◌, IsTrue, bit_xor};
-ghost use Rattle.lfs_model.specs.Tag.{IsValidTag, kind_of, id_of, len_of, class_of, chunk_of, tag_data_size, ends_commit, tag_of_type_id_and_length, carried};
+ghost use Rattle.lfs_model.specs.Tag.{IsValidTag, type_of_tag, id_of_tag, length_of_tag, abstract_type_of_tag, chunk_of_tag, tag_data_size, is_tag_ending_or_spoiling_commit, tag_of_type_id_and_length, tag_for_decoding_next_tag};
 ghost use Rattle.lfs_model.specs.EntryTypes.{is_attribute_removal};
 
 use crate::kinds::{CHECKSUM_CLASS, FORWARD_CHECKSUM};
@@ -51,9 +51,9 @@ impl Tag {
         requires id { id < 2 ^ 10 }
         requires len { len < 2 ^ 10 }
         ensures bits { result ≡ tag_of_type_id_and_length kind id len }
-        ensures kind { kind_of result ≡ kind }
-        ensures id { id_of result ≡ id }
-        ensures len { len_of result ≡ len }
+        ensures kind { type_of_tag result ≡ kind }
+        ensures id { id_of_tag result ≡ id }
+        ensures len { length_of_tag result ≡ len }
         ensures valid { IsValidTag result }
     {
         Tag {
@@ -89,28 +89,28 @@ impl Tag {
     /// Returns the type, below 2,048: one of [`crate::kinds`], or that of a user attribute, 0x300
     /// and its own type.
     pub fn kind(self) -> u16
-        ensures { result ≡ kind_of self }
+        ensures { result ≡ type_of_tag self }
     {
         (self.bits >> 20 & 0x7ff) as u16
     }
 
     /// Returns the id of the slot, below 1,024.
     pub fn id(self) -> u16
-        ensures { result ≡ id_of self }
+        ensures { result ≡ id_of_tag self }
     {
         (self.bits >> 10 & 0x3ff) as u16
     }
 
     /// Returns the length, below 1,024.
     pub fn len(self) -> u16
-        ensures { result ≡ len_of self }
+        ensures { result ≡ length_of_tag self }
     {
         (self.bits & 0x3ff) as u16
     }
 
     /// Returns the class: the upper three bits of the type.
     pub fn class(self) -> u16
-        ensures { result ≡ class_of self }
+        ensures { result ≡ abstract_type_of_tag self }
     {
         self.kind() >> 8
     }
@@ -118,13 +118,13 @@ impl Tag {
     /// Returns the chunk: the lower eight bits of the type. In an attribute's tag these are the
     /// attribute's own type.
     pub fn chunk(self) -> u8
-        ensures { result ≡ chunk_of self }
+        ensures { result ≡ chunk_of_tag self }
     {
         (self.kind() & 0xff) as u8
     }
 
     /// Returns whether the length is the one that removes an attribute.
-    pub fn removes(self) -> bool
+    pub fn has_attribute_removal_length(self) -> bool
         ensures { result ≡ is_attribute_removal self }
     {
         self.len() == Tag::REMOVED
@@ -134,7 +134,7 @@ impl Tag {
     pub fn size(self) -> usize
         ensures { result ≡ tag_data_size self }
     {
-        if self.removes() {
+        if self.has_attribute_removal_length() {
             0
         } else {
             usize::from(self.len())
@@ -144,15 +144,15 @@ impl Tag {
     // Returns whether the tag ends a commit, or spoils it. These are all tags of class 5 but a
     // forward checksum's, which littlefs writes from version 2.1 on and which has no meaning here.
     pub(crate) fn ends_commit(self) -> bool
-        ensures { result ≡ ends_commit self }
+        ensures { result ≡ is_tag_ending_or_spoiling_commit self }
     {
         self.class() == CHECKSUM_CLASS && !(self.kind() == FORWARD_CHECKSUM && self.len() <= 1022)
     }
 
     // Returns the tag as the next one is decoded with it. A checksum's lowest chunk bit is added to
     // the top bit. So the bytes after a commit can be made to decode as no tag.
-    pub(crate) fn carried(self) -> Tag
-        ensures { result ≡ carried self }
+    pub(crate) fn as_previous_of_next_tag(self) -> Tag
+        ensures { result ≡ tag_for_decoding_next_tag self }
     {
         if self.ends_commit() {
             Tag {
@@ -164,7 +164,7 @@ impl Tag {
     }
 
     // Returns the valid tag that is carried as this one.
-    pub(crate) fn plain(self) -> Tag
+    pub(crate) fn without_top_bit(self) -> Tag
         ensures { result ≡ self % 2 ^ 31 }
     {
         Tag {

@@ -9,31 +9,31 @@ use Rattle.std.proofs.lemmas.List.Elements.{recursion_from_All}
 use Rattle.lfs_device.specs.declared.device.BlockDevice.{Ghosts}
 use Rattle.lfs_device.specs.Calls.{ReadsOnly}
 use Rattle.lfs_model.specs.Blocks.{Blocks}
-use Rattle.lfs_model.specs.BlockSets.{Free, InFlight, Used, AreExactlyTheInFlightBlocks, BlockStateList, IsFree, IsInFlight, IsUsed}
+use Rattle.lfs_model.specs.BlockSets.{Free, InFlight, Used, AreExactlyTheInFlightBlocks, BlockStateList, IsBlockFree, IsBlockInFlight, IsBlockUsed}
 use Rattle.lfs_model.specs.Disk.{Disk, block_count}
-use Rattle.lfs_model.specs.History.{CallEvent, AreCallsSinceOnlyReads}
-use Rattle.lfs_model.specs.Slots.{Content}
-use Rattle.lfs_model.specs.Content.{content_if_slots_are_complete, content_of_pair_at, raw_content_of_pair_at}
-use Rattle.lfs_model.specs.Thread.{Pair, anchor_pair_address, AreLinkedByTails, pair_named_by_tail, blocks_of_pairs, IsThread}
-use Rattle.lfs_model.proofs.BlockSets.{slice_get-set_same, slice_get-set_other, Contains-count, count-Contains, used_count-AreExactlyTheUsedBlocks, counts_le}
+use Rattle.lfs_model.specs.History.{DeviceCallEvent, AreCallsSinceOnlyReads}
+use Rattle.lfs_model.specs.Slots.{PairContent}
+use Rattle.lfs_model.specs.Content.{pair_content_if_slots_complete, content_of_pair_at, raw_content_of_pair_at}
+use Rattle.lfs_model.specs.Thread.{Pair, anchor_pair_address, AreLinkedByTails, pair_address_named_by_tail, blocks_of_pairs, IsThreadOfMetadataPairs}
+use Rattle.lfs_model.proofs.BlockSets.{slice_get-set_same, slice_get-set_other, Contains-occurrence_count_of_number, occurrence_count_of_number-Contains, used_count-AreExactlyTheUsedBlocks, counts_le}
 use Rattle.lfs_model.proofs.Completed.{completed_parts}
 use Rattle.lfs_model.proofs.Histories.{goes_on_by}
-use Rattle.lfs_model.proofs.Counts.{Each, each_right, count, count_here, each_counted, once_from_distinct, distinct_from_once}
+use Rattle.lfs_model.proofs.Counts.{Each, each_right, occurrence_count_of_number, count_here, each_counted, once_from_distinct, distinct_from_once}
 use Rattle.lfs_tag.specs.ContentView.{tail_view}
 use Rattle.lfs_pair.specs.Commit.{IsPairAddressOnDisk}
-use Rattle.lfs_pair.specs.Pair.{FetchFindsPair, address_of_header}
-use Rattle.lfs_thread.specs.Kept.{PairHeader, pair_on, pairs_of_headers, IsPairHeaderOnDisk, AreAllBlocksUsed, IsKeptThreadOnDisk}
-use Rattle.lfs_thread.specs.Begun.{IsPairOnFreeBlocks, IsBeginningOfThread}
+use Rattle.lfs_pair.specs.Pair.{FetchFindsPair, pair_address_in_header}
+use Rattle.lfs_thread.specs.Kept.{PairHeader, pair_on_disk_at, pairs_of_headers, IsPairHeaderOnDisk, AreAllBlocksUsed, IsKeptThreadOnDisk}
+use Rattle.lfs_thread.specs.Begun.{IsPairWithContentOnFreeBlocks, IsBeginningOfThread}
 use Rattle.lfs_thread.proofs.Keeping.{headers_append, header_content, pair_on_content, blocks_append}
 use Rattle.lfs_thread.proofs.Changing.{headers_read}
 use Rattle.lfs_thread.proofs.Coming.{two_unused, free_unused}
 
 -- ---- a pair that was fetched
 
-pub fetched_header : (disk : Disk) (history : List CallEvent) (at : ℕ × ℕ) (pair : PairHeader) → IsPairAddressOnDisk disk at → FetchFindsPair disk history at pair → pair.is_complete ≡ true → IsPairHeaderOnDisk disk history pair
-fetched_header disk history at pair on f full = go (content_if_slots_are_complete f.held) refl (sym f.is_pair.describes.sums.complete ∙ full)
+pub fetched_header : (disk : Disk) (history : List DeviceCallEvent) (at : ℕ × ℕ) (pair : PairHeader) → IsPairAddressOnDisk disk at → FetchFindsPair disk history at pair → pair.is_complete ≡ true → IsPairHeaderOnDisk disk history pair
+fetched_header disk history at pair on f full = go (pair_content_if_slots_complete f.held) refl (sym f.is_pair.describes.sums.complete ∙ full)
   where
-    go : (o : Option Content) → content_if_slots_are_complete f.held ≡ o → is_some {T = Content} o ≡ true → IsPairHeaderOnDisk disk history pair
+    go : (o : Option PairContent) → pair_content_if_slots_complete f.held ≡ o → is_some {T = PairContent} o ≡ true → IsPairHeaderOnDisk disk history pair
     go None e k = absurd (cc)
     go (Some c) e k = record {
       address = subst (IsPairAddressOnDisk disk) (sym f.at) on;
@@ -44,8 +44,8 @@ fetched_header disk history at pair on f full = go (content_if_slots_are_complet
       complete = e;
     }
 
-pub fetched_stands : (disk : Disk) (history : List CallEvent) (at : ℕ × ℕ) (pair : PairHeader) (sets : BlockStateList) → IsPairAddressOnDisk disk at → FetchFindsPair disk history at pair → pair.is_complete ≡ true
-    → IsFree sets at.0 → IsFree (set sets at.0 Used) at.1 → IsPairOnFreeBlocks disk sets at
+pub fetched_stands : (disk : Disk) (history : List DeviceCallEvent) (at : ℕ × ℕ) (pair : PairHeader) (sets : BlockStateList) → IsPairAddressOnDisk disk at → FetchFindsPair disk history at pair → pair.is_complete ≡ true
+    → IsBlockFree sets at.0 → IsBlockFree (set sets at.0 Used) at.1 → IsPairWithContentOnFreeBlocks disk sets at
 fetched_stands disk history at pair sets on f full first second =
     let h = fetched_header disk history at pair on f full in
     record {
@@ -58,60 +58,60 @@ fetched_stands disk history at pair sets on f full first second =
 
 -- ---- nothing is read yet
 
-none_used : (n b : ℕ) → IsUsed (replicate n Free) b → ⊥
+none_used : (n b : ℕ) → IsBlockUsed (replicate n Free) b → ⊥
 none_used zero b u = absurd (cc)
 none_used (suc n) zero u = absurd (cc)
 none_used (suc n) (suc b) u = none_used n b u
 
-all_free : (n b : ℕ) → b < n → IsFree (replicate n Free) b
+all_free : (n b : ℕ) → b < n → IsBlockFree (replicate n Free) b
 all_free zero b l = absurd (omega arith)
 all_free (suc n) zero l = refl
 all_free (suc n) (suc b) l = all_free n b (omega arith)
 
-pub begun_none : (disk : Disk) (history : List CallEvent) (n : ℕ) → n ≡ block_count disk → IsBeginningOfThread disk history [] (replicate n Free) (Some anchor_pair_address)
+pub begun_none : (disk : Disk) (history : List DeviceCallEvent) (n : ℕ) → n ≡ block_count disk → IsBeginningOfThread disk history [] (replicate n Free) (Some anchor_pair_address)
 begun_none disk history n e = record {
   each = tt;
   links = λ rest l. l;
   only = λ ps t. (ps, (refl, t.links));
   distinct = distinct_from_once [] (λ b. omega arith);
   size = length-replicate n Free ∙ e;
-  marked = λ b. ((λ u. absurd (none_used n b u)), (λ h. absurd (omega (arith, count-Contains [] b h))));
+  marked = λ b. ((λ u. absurd (none_used n b u)), (λ h. absurd (omega (arith, occurrence_count_of_number-Contains [] b h))));
   others = λ b l. inr (all_free n b (let k = length-replicate n Free in omega arith));
 }
 
 -- ---- one more
 
-all_used : (sets : BlockStateList) (bs : List ℕ) → ((b : ℕ) → Contains bs b → IsUsed sets b) → AreAllBlocksUsed sets bs
+all_used : (sets : BlockStateList) (bs : List ℕ) → ((b : ℕ) → Contains bs b → IsBlockUsed sets b) → AreAllBlocksUsed sets bs
 all_used sets [] f = tt
-all_used sets (b ∷ bs) f = (f b (Contains-count (b ∷ bs) b (let k = count_here b bs in omega arith)), all_used sets bs (λ c h. f c (Contains-count (b ∷ bs) c (let k = count-Contains bs c h in let l = more c b bs in omega arith))))
+all_used sets (b ∷ bs) f = (f b (Contains-occurrence_count_of_number (b ∷ bs) b (let k = count_here b bs in omega arith)), all_used sets bs (λ c h. f c (Contains-occurrence_count_of_number (b ∷ bs) c (let k = occurrence_count_of_number-Contains bs c h in let l = more c b bs in omega arith))))
   where
-    more : (x b : ℕ) (bs : List ℕ) → count x bs ≤ count x (b ∷ bs)
+    more : (x b : ℕ) (bs : List ℕ) → occurrence_count_of_number x bs ≤ occurrence_count_of_number x (b ∷ bs)
     more x b bs = omega arith
 
-used_now : (disk : Disk) (history : List CallEvent) (hs : List PairHeader) (sets : BlockStateList) (next : Option (ℕ × ℕ)) → IsBeginningOfThread disk history hs sets next → AreAllBlocksUsed sets (blocks_of_pairs (pairs_of_headers disk hs))
+used_now : (disk : Disk) (history : List DeviceCallEvent) (hs : List PairHeader) (sets : BlockStateList) (next : Option (ℕ × ℕ)) → IsBeginningOfThread disk history hs sets next → AreAllBlocksUsed sets (blocks_of_pairs (pairs_of_headers disk hs))
 used_now disk history hs sets next begun = all_used sets (blocks_of_pairs (pairs_of_headers disk hs)) (λ b h. (begun.marked b).1 h)
 
-module _ (disk : Disk) (blocks : Blocks) (before after : List CallEvent) (hs : List PairHeader) (sets : BlockStateList) (at : ℕ × ℕ) (h : PairHeader)
-    (reads : AreCallsSinceOnlyReads blocks before after) (begun : IsBeginningOfThread disk before hs sets (Some at)) (is : IsPairHeaderOnDisk disk after h) (same : address_of_header h ≡ at) (stands : IsPairOnFreeBlocks disk sets at) where
+module _ (disk : Disk) (blocks : Blocks) (before after : List DeviceCallEvent) (hs : List PairHeader) (sets : BlockStateList) (at : ℕ × ℕ) (h : PairHeader)
+    (reads : AreCallsSinceOnlyReads blocks before after) (begun : IsBeginningOfThread disk before hs sets (Some at)) (is : IsPairHeaderOnDisk disk after h) (same : pair_address_in_header h ≡ at) (stands : IsPairWithContentOnFreeBlocks disk sets at) where
   abbrev p : Pair
-  p = pair_on disk (address_of_header h)
+  p = pair_on_disk_at disk (pair_address_in_header h)
 
   abbrev now : BlockStateList
   now = set (set sets at.0 Used) at.1 Used
 
   tail_is : p.content.tail ≡ option_map tail_view h.tail
-  tail_is = ap (λ (q : Pair). q.content.tail) (pair_on_content disk (address_of_header h) is.content (header_content disk after h is))
+  tail_is = ap (λ (q : Pair). q.content.tail) (pair_on_content disk (pair_address_in_header h) is.content (header_content disk after h is))
       ∙ (completed_parts is.held is.content is.complete).tail ∙ sym is.is_pair.describes.sums.tail
 
   pairs_now : pairs_of_headers disk (hs ++ h ∷ []) ≡ pairs_of_headers disk hs ++ p ∷ []
-  pairs_now = map-append (λ x. pair_on disk (address_of_header x)) hs (h ∷ [])
+  pairs_now = map-append (λ x. pair_on_disk_at disk (pair_address_in_header x)) hs (h ∷ [])
 
   behind : (rest : List Pair) → pairs_of_headers disk hs ++ p ∷ rest ≡ pairs_of_headers disk (hs ++ h ∷ []) ++ rest
   behind rest = sym (append_assoc (pairs_of_headers disk hs) (p ∷ []) rest) ∙ ap (λ z. z ++ rest) (sym pairs_now)
 
-  counts : (b : ℕ) → count b (blocks_of_pairs (pairs_of_headers disk (hs ++ h ∷ []))) ≡ count b (blocks_of_pairs (pairs_of_headers disk hs)) + count b (at.0 ∷ at.1 ∷ [])
-  counts b = ap (λ z. count b (blocks_of_pairs z)) pairs_now ∙ blocks_append (pairs_of_headers disk hs) (p ∷ []) b
-      ∙ ap (λ (x : ℕ × ℕ). count b (blocks_of_pairs (pairs_of_headers disk hs)) + count b (x.0 ∷ x.1 ∷ [])) same
+  counts : (b : ℕ) → occurrence_count_of_number b (blocks_of_pairs (pairs_of_headers disk (hs ++ h ∷ []))) ≡ occurrence_count_of_number b (blocks_of_pairs (pairs_of_headers disk hs)) + occurrence_count_of_number b (at.0 ∷ at.1 ∷ [])
+  counts b = ap (λ z. occurrence_count_of_number b (blocks_of_pairs z)) pairs_now ∙ blocks_append (pairs_of_headers disk hs) (p ∷ []) b
+      ∙ ap (λ (x : ℕ × ℕ). occurrence_count_of_number b (blocks_of_pairs (pairs_of_headers disk hs)) + occurrence_count_of_number b (x.0 ∷ x.1 ∷ [])) same
 
   first_within : at.0 < length sets
   first_within = slice_get_within sets at.0 Free stands.first_free
@@ -119,10 +119,10 @@ module _ (disk : Disk) (blocks : Blocks) (before after : List CallEvent) (hs : L
   second_within : at.1 < length (set sets at.0 Used)
   second_within = let l = slice_get_within sets at.1 Free stands.second_free in let e = length-set sets at.0 Used in omega arith
 
-  first_used : IsUsed now at.0
+  first_used : IsBlockUsed now at.0
   first_used = slice_get-set_other (set sets at.0 Used) at.1 at.0 Used stands.apart ∙ slice_get-set_same sets at.0 Used first_within
 
-  second_used : IsUsed now at.1
+  second_used : IsBlockUsed now at.1
   second_used = slice_get-set_same (set sets at.0 Used) at.1 Used second_within
 
   other_same : (b : ℕ) → b ≢ at.0 → b ≢ at.1 → slice_get now b ≡ slice_get sets b
@@ -138,71 +138,71 @@ module _ (disk : Disk) (blocks : Blocks) (before after : List CallEvent) (hs : L
       go (inr k) (inl l) = inl (inr l.1)
       go (inr k) (inr l) = inr (k.1, l.1)
 
-  one_of : (b : ℕ) → (b ≡ at.0) ⊎ (b ≡ at.1) → (IsUsed now b) × (1 ≤ count b (at.0 ∷ at.1 ∷ []))
-  one_of b (inl e) = (subst (IsUsed now) (sym e) first_used, (let k = ap (λ x. count x (at.0 ∷ at.1 ∷ [])) e in let l = count_here at.0 (at.1 ∷ []) in omega arith))
-  one_of b (inr e) = (subst (IsUsed now) (sym e) second_used, (let k = ap (λ x. count x (at.0 ∷ at.1 ∷ [])) e in let l = count_here at.1 [] in let m = more at.1 at.0 (at.1 ∷ []) in omega arith))
+  one_of : (b : ℕ) → (b ≡ at.0) ⊎ (b ≡ at.1) → (IsBlockUsed now b) × (1 ≤ occurrence_count_of_number b (at.0 ∷ at.1 ∷ []))
+  one_of b (inl e) = (subst (IsBlockUsed now) (sym e) first_used, (let k = ap (λ x. occurrence_count_of_number x (at.0 ∷ at.1 ∷ [])) e in let l = count_here at.0 (at.1 ∷ []) in omega arith))
+  one_of b (inr e) = (subst (IsBlockUsed now) (sym e) second_used, (let k = ap (λ x. occurrence_count_of_number x (at.0 ∷ at.1 ∷ [])) e in let l = count_here at.1 [] in let m = more at.1 at.0 (at.1 ∷ []) in omega arith))
     where
-      more : (x b : ℕ) (bs : List ℕ) → count x bs ≤ count x (b ∷ bs)
+      more : (x b : ℕ) (bs : List ℕ) → occurrence_count_of_number x bs ≤ occurrence_count_of_number x (b ∷ bs)
       more x b bs = omega arith
 
-  no_other : (b : ℕ) → b ≢ at.0 → b ≢ at.1 → count b (at.0 ∷ at.1 ∷ []) ≡ 0
+  no_other : (b : ℕ) → b ≢ at.0 → b ≢ at.1 → occurrence_count_of_number b (at.0 ∷ at.1 ∷ []) ≡ 0
   no_other b f g = go (eqb_tells b at.0) (eqb_tells b at.1)
     where
       go : ((nat_eq b at.0 ≡ true) × (b ≡ at.0)) ⊎ ((nat_eq b at.0 ≡ false) × (b ≢ at.0)) → ((nat_eq b at.1 ≡ true) × (b ≡ at.1)) ⊎ ((nat_eq b at.1 ≡ false) × (b ≢ at.1))
-          → count b (at.0 ∷ at.1 ∷ []) ≡ 0
+          → occurrence_count_of_number b (at.0 ∷ at.1 ∷ []) ≡ 0
       go (inl k) l = absurd (f k.1)
       go (inr k) (inl l) = absurd (g l.1)
       go (inr k) (inr l) = rw (k.0, l.0) refl
 
-  marked_now : (b : ℕ) → IsUsed now b ↔ Contains (blocks_of_pairs (pairs_of_headers disk (hs ++ h ∷ []))) b
+  marked_now : (b : ℕ) → IsBlockUsed now b ↔ Contains (blocks_of_pairs (pairs_of_headers disk (hs ++ h ∷ []))) b
   marked_now b = (to, from)
     where
-      to : IsUsed now b → Contains (blocks_of_pairs (pairs_of_headers disk (hs ++ h ∷ []))) b
+      to : IsBlockUsed now b → Contains (blocks_of_pairs (pairs_of_headers disk (hs ++ h ∷ []))) b
       to u = go (which b)
         where
           go : ((b ≡ at.0) ⊎ (b ≡ at.1)) ⊎ ((b ≢ at.0) × (b ≢ at.1)) → Contains (blocks_of_pairs (pairs_of_headers disk (hs ++ h ∷ []))) b
-          go (inl k) = Contains-count (blocks_of_pairs (pairs_of_headers disk (hs ++ h ∷ []))) b (let e = counts b in let l = (one_of b k).1 in omega arith)
-          go (inr k) = Contains-count (blocks_of_pairs (pairs_of_headers disk (hs ++ h ∷ []))) b
-              (let e = counts b in let l = count-Contains (blocks_of_pairs (pairs_of_headers disk hs)) b ((begun.marked b).0 (sym (other_same b k.0 k.1) ∙ u)) in omega arith)
+          go (inl k) = Contains-occurrence_count_of_number (blocks_of_pairs (pairs_of_headers disk (hs ++ h ∷ []))) b (let e = counts b in let l = (one_of b k).1 in omega arith)
+          go (inr k) = Contains-occurrence_count_of_number (blocks_of_pairs (pairs_of_headers disk (hs ++ h ∷ []))) b
+              (let e = counts b in let l = occurrence_count_of_number-Contains (blocks_of_pairs (pairs_of_headers disk hs)) b ((begun.marked b).0 (sym (other_same b k.0 k.1) ∙ u)) in omega arith)
 
-      from : Contains (blocks_of_pairs (pairs_of_headers disk (hs ++ h ∷ []))) b → IsUsed now b
+      from : Contains (blocks_of_pairs (pairs_of_headers disk (hs ++ h ∷ []))) b → IsBlockUsed now b
       from c = go (which b)
         where
-          go : ((b ≡ at.0) ⊎ (b ≡ at.1)) ⊎ ((b ≢ at.0) × (b ≢ at.1)) → IsUsed now b
+          go : ((b ≡ at.0) ⊎ (b ≡ at.1)) ⊎ ((b ≢ at.0) × (b ≢ at.1)) → IsBlockUsed now b
           go (inl k) = (one_of b k).0
-          go (inr k) = other_same b k.0 k.1 ∙ (begun.marked b).1 (Contains-count (blocks_of_pairs (pairs_of_headers disk hs)) b
-              (let e = counts b in let l = count-Contains (blocks_of_pairs (pairs_of_headers disk (hs ++ h ∷ []))) b c in let m = no_other b k.0 k.1 in omega arith))
+          go (inr k) = other_same b k.0 k.1 ∙ (begun.marked b).1 (Contains-occurrence_count_of_number (blocks_of_pairs (pairs_of_headers disk hs)) b
+              (let e = counts b in let l = occurrence_count_of_number-Contains (blocks_of_pairs (pairs_of_headers disk (hs ++ h ∷ []))) b c in let m = no_other b k.0 k.1 in omega arith))
 
-  others_now : (b : ℕ) → b < length now → IsUsed now b ⊎ IsFree now b
+  others_now : (b : ℕ) → b < length now → IsBlockUsed now b ⊎ IsBlockFree now b
   others_now b l = go (which b)
     where
       was : b < length sets
       was = let e = length-set (set sets at.0 Used) at.1 Used in let f = length-set sets at.0 Used in omega arith
 
-      go : ((b ≡ at.0) ⊎ (b ≡ at.1)) ⊎ ((b ≢ at.0) × (b ≢ at.1)) → IsUsed now b ⊎ IsFree now b
+      go : ((b ≡ at.0) ⊎ (b ≡ at.1)) ⊎ ((b ≢ at.0) × (b ≢ at.1)) → IsBlockUsed now b ⊎ IsBlockFree now b
       go (inl k) = inl (one_of b k).0
       go (inr k) = side (begun.others b was)
         where
-          side : IsUsed sets b ⊎ IsFree sets b → IsUsed now b ⊎ IsFree now b
+          side : IsBlockUsed sets b ⊎ IsBlockFree sets b → IsBlockUsed now b ⊎ IsBlockFree now b
           side (inl u) = inl (other_same b k.0 k.1 ∙ u)
           side (inr f) = inr (other_same b k.0 k.1 ∙ f)
 
-  only_now : (ps : List Pair) → IsThread (content_of_pair_at disk) (block_count disk) ps → (rest : List Pair) × ((ps ≡ pairs_of_headers disk (hs ++ h ∷ []) ++ rest) × AreLinkedByTails (pair_named_by_tail (option_map tail_view h.tail)) rest)
+  only_now : (ps : List Pair) → IsThreadOfMetadataPairs (content_of_pair_at disk) (block_count disk) ps → (rest : List Pair) × ((ps ≡ pairs_of_headers disk (hs ++ h ∷ []) ++ rest) × AreLinkedByTails (pair_address_named_by_tail (option_map tail_view h.tail)) rest)
   only_now ps t = go (begun.only ps t).0 (begun.only ps t).1.0 (begun.only ps t).1.1
     where
-      go : (rest : List Pair) → ps ≡ pairs_of_headers disk hs ++ rest → AreLinkedByTails (Some at) rest → (rest : List Pair) × ((ps ≡ pairs_of_headers disk (hs ++ h ∷ []) ++ rest) × AreLinkedByTails (pair_named_by_tail (option_map tail_view h.tail)) rest)
+      go : (rest : List Pair) → ps ≡ pairs_of_headers disk hs ++ rest → AreLinkedByTails (Some at) rest → (rest : List Pair) × ((ps ≡ pairs_of_headers disk (hs ++ h ∷ []) ++ rest) × AreLinkedByTails (pair_address_named_by_tail (option_map tail_view h.tail)) rest)
       go [] e l = absurd (cc)
       go (q ∷ rest) e l =
-          let here : q.at ≡ address_of_header h = same_Some q.at (address_of_header h) (sym l.0 ∙ ap Some (sym same)) in
+          let here : q.at ≡ pair_address_in_header h = same_Some q.at (pair_address_in_header h) (sym l.0 ∙ ap Some (sym same)) in
           let has : content_of_pair_at disk q.at ≡ Some q.content = (each_right (λ (x : Pair). content_of_pair_at disk x.at ≡ Some x.content) (pairs_of_headers disk hs) (q ∷ rest)
           (subst (Each (λ (x : Pair). content_of_pair_at disk x.at ≡ Some x.content)) e (recursion_from_All (λ (x : Pair). content_of_pair_at disk x.at ≡ Some x.content) ps t.contents))).0 in
-          let is_q : q ≡ p = sym (pair_on_content disk q.at q.content has) ∙ ap (pair_on disk) here in
-          (rest, (e ∙ ap (λ z. pairs_of_headers disk hs ++ z ∷ rest) is_q ∙ behind rest, subst (λ z. AreLinkedByTails (pair_named_by_tail z) rest) (ap (λ (z : Pair). z.content.tail) is_q ∙ tail_is) l.1))
+          let is_q : q ≡ p = sym (pair_on_content disk q.at q.content has) ∙ ap (pair_on_disk_at disk) here in
+          (rest, (e ∙ ap (λ z. pairs_of_headers disk hs ++ z ∷ rest) is_q ∙ behind rest, subst (λ z. AreLinkedByTails (pair_address_named_by_tail z) rest) (ap (λ (z : Pair). z.content.tail) is_q ∙ tail_is) l.1))
 
-  pub begun_more : IsBeginningOfThread disk after (hs ++ h ∷ []) now (pair_named_by_tail (option_map tail_view h.tail))
+  pub begun_more : IsBeginningOfThread disk after (hs ++ h ∷ []) now (pair_address_named_by_tail (option_map tail_view h.tail))
   begun_more = record {
     each = headers_append disk after hs (h ∷ []) (headers_read disk blocks before after hs reads begun.each) (is, tt);
-    links = λ rest l. subst (AreLinkedByTails (Some anchor_pair_address)) (behind rest) (begun.links (p ∷ rest) (ap Some (sym same), subst (λ t. AreLinkedByTails (pair_named_by_tail t) rest) (sym tail_is) l));
+    links = λ rest l. subst (AreLinkedByTails (Some anchor_pair_address)) (behind rest) (begun.links (p ∷ rest) (ap Some (sym same), subst (λ t. AreLinkedByTails (pair_address_named_by_tail t) rest) (sym tail_is) l));
     only = only_now;
     distinct = distinct_from_once (blocks_of_pairs (pairs_of_headers disk (hs ++ h ∷ []))) (λ b.
         let e = counts b in
@@ -215,7 +215,7 @@ module _ (disk : Disk) (blocks : Blocks) (before after : List CallEvent) (hs : L
 
 -- ---- at the end
 
-pub begun_kept : (disk : Disk) (history : List CallEvent) (hs : List PairHeader) (sets : BlockStateList) → IsBeginningOfThread disk history hs sets None → IsKeptThreadOnDisk disk history hs sets
+pub begun_kept : (disk : Disk) (history : List DeviceCallEvent) (hs : List PairHeader) (sets : BlockStateList) → IsBeginningOfThread disk history hs sets None → IsKeptThreadOnDisk disk history hs sets
 begun_kept disk history hs sets begun = record {
   each = begun.each;
   links = subst (AreLinkedByTails (Some anchor_pair_address)) (append-nil (pairs_of_headers disk hs)) (begun.links [] refl);
@@ -224,27 +224,27 @@ begun_kept disk history hs sets begun = record {
   used = used_now disk history hs sets None begun;
 }
 
-pub begun_none_in_flight : (disk : Disk) (history : List CallEvent) (hs : List PairHeader) (sets : BlockStateList) (next : Option (ℕ × ℕ)) → IsBeginningOfThread disk history hs sets next → AreExactlyTheInFlightBlocks sets []
+pub begun_none_in_flight : (disk : Disk) (history : List DeviceCallEvent) (hs : List PairHeader) (sets : BlockStateList) (next : Option (ℕ × ℕ)) → IsBeginningOfThread disk history hs sets next → AreExactlyTheInFlightBlocks sets []
 begun_none_in_flight disk history hs sets next begun b = (
   λ flies. absurd (go flies (begun.others b (slice_get_within sets b InFlight flies))),
   λ (none : Contains [] b). absurd (let below : none.0 < 0 = none.1 in omega arith),
 )
   where
-    go : IsInFlight sets b → IsUsed sets b ⊎ IsFree sets b → ⊥
+    go : IsBlockInFlight sets b → IsBlockUsed sets b ⊎ IsBlockFree sets b → ⊥
     go flies (inl used) = absurd (let e : Some InFlight ≡ Some Used = sym flies ∙ used in cc)
     go flies (inr free) = absurd (let e : Some InFlight ≡ Some Free = sym flies ∙ free in cc)
 
 -- there is no thread, where no pair can stand at the next address
-pub begun_ends : (disk : Disk) (history : List CallEvent) (hs : List PairHeader) (sets : BlockStateList) (at : ℕ × ℕ) → IsBeginningOfThread disk history hs sets (Some at) → ¬ IsPairOnFreeBlocks disk sets at
-    → (ps : List Pair) → ¬ IsThread (content_of_pair_at disk) (block_count disk) ps
+pub begun_ends : (disk : Disk) (history : List DeviceCallEvent) (hs : List PairHeader) (sets : BlockStateList) (at : ℕ × ℕ) → IsBeginningOfThread disk history hs sets (Some at) → ¬ IsPairWithContentOnFreeBlocks disk sets at
+    → (ps : List Pair) → ¬ IsThreadOfMetadataPairs (content_of_pair_at disk) (block_count disk) ps
 begun_ends disk history hs sets at begun cannot ps t = go (begun.only ps t).0 (begun.only ps t).1.0 (begun.only ps t).1.1
   where
     go : (rest : List Pair) → ps ≡ pairs_of_headers disk hs ++ rest → AreLinkedByTails (Some at) rest → ⊥
     go [] e l = absurd (cc)
     go (q ∷ rest) e l = cannot (record {
       apart = λ i. let k = once at.0 in let m = twice i in omega arith;
-      first_free = free at.0 (within at.0 first_in) (λ u. let k = once at.0 in let m = count-Contains (blocks_of_pairs (pairs_of_headers disk hs)) at.0 ((begun.marked at.0).0 u) in let f = first_in in omega arith);
-      second_free = free at.1 (within at.1 second_in) (λ u. let k = once at.1 in let m = count-Contains (blocks_of_pairs (pairs_of_headers disk hs)) at.1 ((begun.marked at.1).0 u) in let f = second_in in omega arith);
+      first_free = free at.0 (within at.0 first_in) (λ u. let k = once at.0 in let m = occurrence_count_of_number-Contains (blocks_of_pairs (pairs_of_headers disk hs)) at.0 ((begun.marked at.0).0 u) in let f = first_in in omega arith);
+      second_free = free at.1 (within at.1 second_in) (λ u. let k = once at.1 in let m = occurrence_count_of_number-Contains (blocks_of_pairs (pairs_of_headers disk hs)) at.1 ((begun.marked at.1).0 u) in let f = second_in in omega arith);
       content = q.content;
       holds = ap (content_of_pair_at disk) here ∙ (each_right (λ (x : Pair). content_of_pair_at disk x.at ≡ Some x.content) (pairs_of_headers disk hs) (q ∷ rest)
           (subst (Each (λ (x : Pair). content_of_pair_at disk x.at ≡ Some x.content)) e (recursion_from_All (λ (x : Pair). content_of_pair_at disk x.at ≡ Some x.content) ps t.contents))).0;
@@ -253,42 +253,42 @@ begun_ends disk history hs sets at begun cannot ps t = go (begun.only ps t).0 (b
         here : at ≡ q.at
         here = same_Some at q.at l.0
 
-        parts : (b : ℕ) → count b (blocks_of_pairs ps) ≡ count b (blocks_of_pairs (pairs_of_headers disk hs)) + count b (blocks_of_pairs (q ∷ rest))
-        parts b = ap (λ z. count b (blocks_of_pairs z)) e ∙ blocks_append (pairs_of_headers disk hs) (q ∷ rest) b
+        parts : (b : ℕ) → occurrence_count_of_number b (blocks_of_pairs ps) ≡ occurrence_count_of_number b (blocks_of_pairs (pairs_of_headers disk hs)) + occurrence_count_of_number b (blocks_of_pairs (q ∷ rest))
+        parts b = ap (λ z. occurrence_count_of_number b (blocks_of_pairs z)) e ∙ blocks_append (pairs_of_headers disk hs) (q ∷ rest) b
 
-        once : (b : ℕ) → count b (blocks_of_pairs (pairs_of_headers disk hs)) + count b (blocks_of_pairs (q ∷ rest)) ≤ 1
+        once : (b : ℕ) → occurrence_count_of_number b (blocks_of_pairs (pairs_of_headers disk hs)) + occurrence_count_of_number b (blocks_of_pairs (q ∷ rest)) ≤ 1
         once b = let k = once_from_distinct (blocks_of_pairs ps) t.distinct b in let m = parts b in omega arith
 
-        blocks_here : (b : ℕ) → count b (blocks_of_pairs (q ∷ rest)) ≡ count b (at.0 ∷ at.1 ∷ blocks_of_pairs rest)
-        blocks_here b = ap (λ (x : ℕ × ℕ). count b (x.0 ∷ x.1 ∷ blocks_of_pairs rest)) (sym here)
+        blocks_here : (b : ℕ) → occurrence_count_of_number b (blocks_of_pairs (q ∷ rest)) ≡ occurrence_count_of_number b (at.0 ∷ at.1 ∷ blocks_of_pairs rest)
+        blocks_here b = ap (λ (x : ℕ × ℕ). occurrence_count_of_number b (x.0 ∷ x.1 ∷ blocks_of_pairs rest)) (sym here)
 
-        more : (x b : ℕ) (bs : List ℕ) → count x bs ≤ count x (b ∷ bs)
+        more : (x b : ℕ) (bs : List ℕ) → occurrence_count_of_number x bs ≤ occurrence_count_of_number x (b ∷ bs)
         more x b bs = omega arith
 
-        first_in : 1 ≤ count at.0 (blocks_of_pairs (q ∷ rest))
+        first_in : 1 ≤ occurrence_count_of_number at.0 (blocks_of_pairs (q ∷ rest))
         first_in = let k = blocks_here at.0 in let m = count_here at.0 (at.1 ∷ blocks_of_pairs rest) in omega arith
 
-        second_in : 1 ≤ count at.1 (blocks_of_pairs (q ∷ rest))
+        second_in : 1 ≤ occurrence_count_of_number at.1 (blocks_of_pairs (q ∷ rest))
         second_in = let k = blocks_here at.1 in let m = count_here at.1 (blocks_of_pairs rest) in let n = more at.1 at.0 (at.1 ∷ blocks_of_pairs rest) in omega arith
 
-        twice : at.0 ≡ at.1 → 2 ≤ count at.0 (blocks_of_pairs (q ∷ rest))
+        twice : at.0 ≡ at.1 → 2 ≤ occurrence_count_of_number at.0 (blocks_of_pairs (q ∷ rest))
         twice i = let k = blocks_here at.0 in let m = count_here at.0 (at.1 ∷ blocks_of_pairs rest) in
-            let n = ap (λ x. count at.0 (x ∷ blocks_of_pairs rest)) (sym i) ∙ count_here at.0 (blocks_of_pairs rest) in omega arith
+            let n = ap (λ x. occurrence_count_of_number at.0 (x ∷ blocks_of_pairs rest)) (sym i) ∙ count_here at.0 (blocks_of_pairs rest) in omega arith
 
-        within : (b : ℕ) → 1 ≤ count b (blocks_of_pairs (q ∷ rest)) → b < length sets
+        within : (b : ℕ) → 1 ≤ occurrence_count_of_number b (blocks_of_pairs (q ∷ rest)) → b < length sets
         within b k =
             let l = each_counted (λ x. x < block_count disk) (blocks_of_pairs ps) (recursion_from_All (λ (x : ℕ). x < block_count disk) (blocks_of_pairs ps) t.in_range) b (let m = parts b in omega arith) in
             let s = begun.size in omega arith
 
-        free : (b : ℕ) → b < length sets → ¬ IsUsed sets b → IsFree sets b
+        free : (b : ℕ) → b < length sets → ¬ IsBlockUsed sets b → IsBlockFree sets b
         free b l unused = side (begun.others b l)
           where
-            side : IsUsed sets b ⊎ IsFree sets b → IsFree sets b
+            side : IsBlockUsed sets b ⊎ IsBlockFree sets b → IsBlockFree sets b
             side (inl u) = absurd (unused u)
             side (inr f) = f
 
 -- there are at least two blocks for each pair
-pub begun_few : (disk : Disk) (history : List CallEvent) (hs : List PairHeader) (sets : BlockStateList) (next : Option (ℕ × ℕ)) → IsBeginningOfThread disk history hs sets next → length hs + length hs ≤ block_count disk
+pub begun_few : (disk : Disk) (history : List DeviceCallEvent) (hs : List PairHeader) (sets : BlockStateList) (next : Option (ℕ × ℕ)) → IsBeginningOfThread disk history hs sets next → length hs + length hs ≤ block_count disk
 begun_few disk history hs sets next begun =
     let u = used_count-AreExactlyTheUsedBlocks sets (blocks_of_pairs (pairs_of_headers disk hs)) begun.distinct begun.marked in
     let c = counts_le sets in
@@ -302,7 +302,7 @@ begun_few disk history hs sets next begun =
 
 -- ---- in the code's words
 
-pub then_reads : {blocks mid_blocks : Blocks} {old mid new : List CallEvent} → AreCallsSinceOnlyReads blocks old mid → mid_blocks ≡ blocks → AreCallsSinceOnlyReads mid_blocks mid new → AreCallsSinceOnlyReads blocks old new
+pub then_reads : {blocks mid_blocks : Blocks} {old mid new : List DeviceCallEvent} → AreCallsSinceOnlyReads blocks old mid → mid_blocks ≡ blocks → AreCallsSinceOnlyReads mid_blocks mid new → AreCallsSinceOnlyReads blocks old new
 then_reads {mid = mid} {new = new} first same second = goes_on_by first (subst (λ b. AreCallsSinceOnlyReads b mid new) same second)
 
 pub read_on : {D : Type 0} {g : Ghosts D} {old mid new : D} → ReadsOnly g old mid → ReadsOnly g mid new → ReadsOnly g old new
@@ -312,13 +312,13 @@ read_on first second = record {
   reads = then_reads first.reads first.same second.reads;
 }
 
-pub begun_first : (disk : Disk) (history : List CallEvent) (hs : List PairHeader) (sets : BlockStateList) (n : ℕ) → n ≡ block_count disk → hs ≡ [] → sets ≡ replicate n Free → IsBeginningOfThread disk history hs sets (Some anchor_pair_address)
+pub begun_first : (disk : Disk) (history : List DeviceCallEvent) (hs : List PairHeader) (sets : BlockStateList) (n : ℕ) → n ≡ block_count disk → hs ≡ [] → sets ≡ replicate n Free → IsBeginningOfThread disk history hs sets (Some anchor_pair_address)
 begun_first disk history hs sets n e f g =
     subst (λ z. IsBeginningOfThread disk history z sets (Some anchor_pair_address)) (sym f) (subst (λ s. IsBeginningOfThread disk history [] s (Some anchor_pair_address)) (sym g) (begun_none disk history n e))
 
-pub begun_next : (disk now : Disk) (blocks : Blocks) (before after : List CallEvent) (hs items : List PairHeader) (sets marked : BlockStateList) (next : Option (ℕ × ℕ)) (at : ℕ × ℕ) (h : PairHeader) (behind : Option (ℕ × ℕ))
-    → now ≡ disk → AreCallsSinceOnlyReads blocks before after → next ≡ Some at → IsBeginningOfThread disk before hs sets next → IsPairHeaderOnDisk disk after h → address_of_header h ≡ at → IsPairOnFreeBlocks disk sets at
-    → items ≡ hs ++ h ∷ [] → marked ≡ set (set sets at.0 Used) at.1 Used → behind ≡ pair_named_by_tail (option_map tail_view h.tail) → IsBeginningOfThread now after items marked behind
+pub begun_next : (disk now : Disk) (blocks : Blocks) (before after : List DeviceCallEvent) (hs items : List PairHeader) (sets marked : BlockStateList) (next : Option (ℕ × ℕ)) (at : ℕ × ℕ) (h : PairHeader) (behind : Option (ℕ × ℕ))
+    → now ≡ disk → AreCallsSinceOnlyReads blocks before after → next ≡ Some at → IsBeginningOfThread disk before hs sets next → IsPairHeaderOnDisk disk after h → pair_address_in_header h ≡ at → IsPairWithContentOnFreeBlocks disk sets at
+    → items ≡ hs ++ h ∷ [] → marked ≡ set (set sets at.0 Used) at.1 Used → behind ≡ pair_address_named_by_tail (option_map tail_view h.tail) → IsBeginningOfThread now after items marked behind
 begun_next disk now blocks before after hs items sets marked next at h behind e reads is begun header same stands items_are marked_is behind_is =
     subst (λ d. IsBeginningOfThread d after items marked behind) (sym e)
     (subst (λ z. IsBeginningOfThread disk after z marked behind) (sym items_are)
@@ -326,11 +326,11 @@ begun_next disk now blocks before after hs items sets marked next at h behind e 
     (subst (λ n. IsBeginningOfThread disk after (hs ++ h ∷ []) (set (set sets at.0 Used) at.1 Used) n) (sym behind_is)
     (begun_more disk blocks before after hs sets at h reads (subst (IsBeginningOfThread disk before hs sets) is begun) header same stands))))
 
-pub no_thread : (disk old : Disk) (n : ℕ) (history : List CallEvent) (hs : List PairHeader) (sets : BlockStateList) (next : Option (ℕ × ℕ)) (at : ℕ × ℕ) → disk ≡ old → block_count old ≡ n → next ≡ Some at
-    → IsBeginningOfThread disk history hs sets next → ¬ IsPairOnFreeBlocks disk sets at → (ps : List Pair) → ¬ IsThread (content_of_pair_at old) n ps
-no_thread disk old n history hs sets next at e count is begun cannot ps t =
+pub no_thread : (disk old : Disk) (n : ℕ) (history : List DeviceCallEvent) (hs : List PairHeader) (sets : BlockStateList) (next : Option (ℕ × ℕ)) (at : ℕ × ℕ) → disk ≡ old → block_count old ≡ n → next ≡ Some at
+    → IsBeginningOfThread disk history hs sets next → ¬ IsPairWithContentOnFreeBlocks disk sets at → (ps : List Pair) → ¬ IsThreadOfMetadataPairs (content_of_pair_at old) n ps
+no_thread disk old n history hs sets next at e occurrence_count_of_number is begun cannot ps t =
     begun_ends disk history hs sets at (subst (IsBeginningOfThread disk history hs sets) is begun) cannot ps
-    (subst (λ (d : Disk). IsThread (content_of_pair_at d) (block_count d) ps) (sym e) (subst (λ k. IsThread (content_of_pair_at old) k ps) (sym count) t))
+    (subst (λ (d : Disk). IsThreadOfMetadataPairs (content_of_pair_at d) (block_count d) ps) (sym e) (subst (λ k. IsThreadOfMetadataPairs (content_of_pair_at old) k ps) (sym occurrence_count_of_number) t))
 
 pub same_error : {T E : Type 0} {r : Result T E} {y f e : E} → r ≡ Err y → y ≡ f → r ≡ Err e → f ≡ e
 same_error was is gives = cc

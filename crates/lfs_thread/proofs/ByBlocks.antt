@@ -11,8 +11,8 @@ use Rattle.std.proofs.lemmas.Map.Steps.{length-le_from_distinct_below}
 use Rattle.std.proofs.lemmas.Map.Views.{Contains-from_any}
 use Rattle.std.proofs.lemmas.Option.{same_Some, get_or_from_slice_get, slice_get_within}
 use Rattle.lfs_model.specs.Slots.{same_pair}
-use Rattle.lfs_model.proofs.Counts.{Each, count, count_here, once_from_distinct, distinct_from_once}
-use Rattle.lfs_thread.specs.Places.{IsIndexByLesserBlock, IsSamePairAtPlace, blocks_of_addresses, greater_block_of, lesser_block_of, place_of_pair_address}
+use Rattle.lfs_model.proofs.Counts.{Each, occurrence_count_of_number, count_here, once_from_distinct, distinct_from_once}
+use Rattle.lfs_thread.specs.Places.{FindsPairAddressesByLesserBlock, IsSamePairAddressAtIndex, blocks_of_pair_addresses, greater_block_of, lesser_block_of, index_of_pair_address}
 
 -- ---- lists
 
@@ -61,20 +61,20 @@ same_from_sorted a b l g = ⊎_elim
     (cases_same a b l g)
 
 -- the address at a place
-pub place_some : (addresses : List (ℕ × ℕ)) (at : ℕ × ℕ) (i : ℕ) → place_of_pair_address addresses at ≡ Some i → IsSamePairAtPlace addresses at i
+pub place_some : (addresses : List (ℕ × ℕ)) (at : ℕ × ℕ) (i : ℕ) → index_of_pair_address addresses at ≡ Some i → IsSamePairAddressAtIndex addresses at i
 place_some [] at i e = absurd (cc)
 place_some (a ∷ addresses) at i e = go (same_pair a at) refl e (place_some addresses at)
   where
-    go : (b : Bool) → same_pair a at ≡ b → cond b (Some 0) (option_map (λ k. suc k) (place_of_pair_address addresses at)) ≡ Some i
-        → ((k : ℕ) → place_of_pair_address addresses at ≡ Some k → IsSamePairAtPlace addresses at k) → IsSamePairAtPlace (a ∷ addresses) at i
+    go : (b : Bool) → same_pair a at ≡ b → cond b (Some 0) (option_map (λ k. suc k) (index_of_pair_address addresses at)) ≡ Some i
+        → ((k : ℕ) → index_of_pair_address addresses at ≡ Some k → IsSamePairAddressAtIndex addresses at k) → IsSamePairAddressAtIndex (a ∷ addresses) at i
     go true s f next = record { address = a; there = ap (slice_get (a ∷ addresses)) (sym (same_Some 0 i f)); same = s }
     go false s f next =
-        let m = mapped (λ (k : ℕ). suc k) (place_of_pair_address addresses at) i f in
+        let m = mapped (λ (k : ℕ). suc k) (index_of_pair_address addresses at) i f in
         let p = next m.0 m.1 in
         record { address = p.address; there = ap (slice_get (a ∷ addresses)) (sym m.2) ∙ p.there; same = p.same }
 
 -- an address without a place is none of them
-pub place_none : (addresses : List (ℕ × ℕ)) (at : ℕ × ℕ) → place_of_pair_address addresses at ≡ None → AllByRecursion (λ a. same_pair a at ≡ false) addresses
+pub place_none : (addresses : List (ℕ × ℕ)) (at : ℕ × ℕ) → index_of_pair_address addresses at ≡ None → AllByRecursion (λ a. same_pair a at ≡ false) addresses
 place_none [] at e = tt
 place_none (a ∷ addresses) at e = go (same_pair a at) refl e (place_none addresses at)
   where
@@ -82,33 +82,33 @@ place_none (a ∷ addresses) at e = go (same_pair a at) refl e (place_none addre
     unmapped None h = refl
     unmapped (Some k) h = absurd (cc)
 
-    go : (t : Bool) → same_pair a at ≡ t → cond t (Some 0) (option_map (λ k. suc k) (place_of_pair_address addresses at)) ≡ None → (place_of_pair_address addresses at ≡ None → AllByRecursion (λ b. same_pair b at ≡ false) addresses)
+    go : (t : Bool) → same_pair a at ≡ t → cond t (Some 0) (option_map (λ k. suc k) (index_of_pair_address addresses at)) ≡ None → (index_of_pair_address addresses at ≡ None → AllByRecursion (λ b. same_pair b at ≡ false) addresses)
         → (same_pair a at ≡ false) × AllByRecursion (λ b. same_pair b at ≡ false) addresses
     go true h g next = absurd (cc)
-    go false h g next = (h, next (unmapped (place_of_pair_address addresses at) g))
+    go false h g next = (h, next (unmapped (index_of_pair_address addresses at) g))
 
 none_stands : (addresses : List (ℕ × ℕ)) (at : ℕ × ℕ) (i : ℕ) (a : ℕ × ℕ) → AllByRecursion (λ b. same_pair b at ≡ false) addresses → slice_get addresses i ≡ Some a → same_pair a at ≡ true → ⊥
 none_stands [] at i a all f s = absurd (cc)
 none_stands (b ∷ addresses) at zero a all f s = true≢false (sym s ∙ ap (λ (c : ℕ × ℕ). same_pair c at) (sym (same_Some b a f)) ∙ all.0)
 none_stands (b ∷ addresses) at (suc i) a all f s = none_stands addresses at i a all.1 f s
 
-module _ (addresses : List (ℕ × ℕ)) (place : ℕ → Option ℕ) (by : IsIndexByLesserBlock addresses place) (at : ℕ × ℕ) where
-  pub found_place : (i : ℕ) (a : ℕ × ℕ) → place (lesser_block_of at) ≡ Some i → slice_get addresses i ≡ Some a → greater_block_of a ≡ greater_block_of at → place_of_pair_address addresses at ≡ Some i
-  found_place i a e f g = go (place_of_pair_address addresses at) refl
+module _ (addresses : List (ℕ × ℕ)) (place : ℕ → Option ℕ) (by : FindsPairAddressesByLesserBlock addresses place) (at : ℕ × ℕ) where
+  pub found_place : (i : ℕ) (a : ℕ × ℕ) → place (lesser_block_of at) ≡ Some i → slice_get addresses i ≡ Some a → greater_block_of a ≡ greater_block_of at → index_of_pair_address addresses at ≡ Some i
+  found_place i a e f g = go (index_of_pair_address addresses at) refl
     where
       same : same_pair a at ≡ true
       same = same_from_sorted a at (same_Some (lesser_block_of a) (lesser_block_of at) (ap (option_map lesser_block_of) (sym f) ∙ by.only (lesser_block_of at) i e)) g
 
-      go : (o : Option ℕ) → place_of_pair_address addresses at ≡ o → o ≡ Some i
+      go : (o : Option ℕ) → index_of_pair_address addresses at ≡ o → o ≡ Some i
       go None h = absurd (none_stands addresses at i a (place_none addresses at h) f same)
       go (Some j) h =
           let c = place_some addresses at j h in
           sym (by.each j c.address c.there) ∙ ap place (sorted_from_same c.address at c.same).0 ∙ e
 
-  pub other_place : (i : ℕ) (a : ℕ × ℕ) → place (lesser_block_of at) ≡ Some i → slice_get addresses i ≡ Some a → (greater_block_of a ≡ greater_block_of at → ⊥) → place_of_pair_address addresses at ≡ None
-  other_place i a e f ne = go (place_of_pair_address addresses at) refl
+  pub other_place : (i : ℕ) (a : ℕ × ℕ) → place (lesser_block_of at) ≡ Some i → slice_get addresses i ≡ Some a → (greater_block_of a ≡ greater_block_of at → ⊥) → index_of_pair_address addresses at ≡ None
+  other_place i a e f ne = go (index_of_pair_address addresses at) refl
     where
-      go : (o : Option ℕ) → place_of_pair_address addresses at ≡ o → o ≡ None
+      go : (o : Option ℕ) → index_of_pair_address addresses at ≡ o → o ≡ None
       go None h = refl
       go (Some j) h =
           let c = place_some addresses at j h in
@@ -117,10 +117,10 @@ module _ (addresses : List (ℕ × ℕ)) (place : ℕ → Option ℕ) (by : IsIn
           let ca : c.address ≡ a = same_Some c.address a (sym c.there ∙ ap (slice_get addresses) ji ∙ f) in
           absurd (ne (ap greater_block_of (sym ca) ∙ s.1))
 
-  pub no_place : place (lesser_block_of at) ≡ None → place_of_pair_address addresses at ≡ None
-  no_place e = go (place_of_pair_address addresses at) refl
+  pub no_place : place (lesser_block_of at) ≡ None → index_of_pair_address addresses at ≡ None
+  no_place e = go (index_of_pair_address addresses at) refl
     where
-      go : (o : Option ℕ) → place_of_pair_address addresses at ≡ o → o ≡ None
+      go : (o : Option ℕ) → index_of_pair_address addresses at ≡ o → o ≡ None
       go None h = refl
       go (Some j) h =
           let c = place_some addresses at j h in
@@ -148,19 +148,19 @@ one_of_two b x y = ⊎_elim
     (λ (l : y ≤ x). let e : min x y ≡ y = omega arith in subst (λ (n : ℕ). cond (nat_eq b n) 1 0 ≤ cond (nat_eq b x) 1 0 + cond (nat_eq b y) 1 0) (sym e) (omega arith))
     (cases_lt x y)
 
-lesser_count : (b : ℕ) (addresses : List (ℕ × ℕ)) → count b (map lesser_block_of addresses) ≤ count b (blocks_of_addresses addresses)
+lesser_count : (b : ℕ) (addresses : List (ℕ × ℕ)) → occurrence_count_of_number b (map lesser_block_of addresses) ≤ occurrence_count_of_number b (blocks_of_pair_addresses addresses)
 lesser_count b [] = omega arith
 lesser_count b (a ∷ addresses) = let n = lesser_count b addresses in let o = one_of_two b a.0 a.1 in omega arith
 
 -- pairs that have no block in common have lesser blocks of their own
-lesser_once : (addresses : List (ℕ × ℕ)) → IsDistinct nat_eq (blocks_of_addresses addresses) → (b : ℕ) → count b (map lesser_block_of addresses) ≤ 1
-lesser_once addresses distinct b = let n = lesser_count b addresses in let o = once_from_distinct (blocks_of_addresses addresses) distinct b in omega arith
+lesser_once : (addresses : List (ℕ × ℕ)) → IsDistinct nat_eq (blocks_of_pair_addresses addresses) → (b : ℕ) → occurrence_count_of_number b (map lesser_block_of addresses) ≤ 1
+lesser_once addresses distinct b = let n = lesser_count b addresses in let o = once_from_distinct (blocks_of_pair_addresses addresses) distinct b in omega arith
 
-apart_from : (n : ℕ) (xs : List (ℕ × ℕ)) (at : ℕ × ℕ) → count n (map lesser_block_of (xs ++ at ∷ [])) ≡ 0 → n ≢ lesser_block_of at
-apart_from n [] at e = λ is. let h = count_here n [] in let k = subst (λ (m : ℕ). count n (m ∷ []) ≡ 0) (sym is) e in absurd (omega arith)
+apart_from : (n : ℕ) (xs : List (ℕ × ℕ)) (at : ℕ × ℕ) → occurrence_count_of_number n (map lesser_block_of (xs ++ at ∷ [])) ≡ 0 → n ≢ lesser_block_of at
+apart_from n [] at e = λ is. let h = count_here n [] in let k = subst (λ (m : ℕ). occurrence_count_of_number n (m ∷ []) ≡ 0) (sym is) e in absurd (omega arith)
 apart_from n (x ∷ xs) at e = apart_from n xs at (omega arith)
 
-apart_each : (xs : List (ℕ × ℕ)) (at : ℕ × ℕ) → ((b : ℕ) → count b (map lesser_block_of (xs ++ at ∷ [])) ≤ 1) → Each (λ x. lesser_block_of x ≢ lesser_block_of at) xs
+apart_each : (xs : List (ℕ × ℕ)) (at : ℕ × ℕ) → ((b : ℕ) → occurrence_count_of_number b (map lesser_block_of (xs ++ at ∷ [])) ≤ 1) → Each (λ x. lesser_block_of x ≢ lesser_block_of at) xs
 apart_each [] at once = tt
 apart_each (x ∷ xs) at once = (
   apart_from (lesser_block_of x) xs at (let o = once (lesser_block_of x) in let h = count_here (lesser_block_of x) (map lesser_block_of (xs ++ at ∷ [])) in omega arith),
@@ -168,7 +168,7 @@ apart_each (x ∷ xs) at once = (
 )
 
 -- so their number has 32 bits
-pub few_places : (addresses : List (ℕ × ℕ)) (at : ℕ × ℕ) → IsDistinct nat_eq (blocks_of_addresses (addresses ++ at ∷ [])) → All (λ a. lesser_block_of a < 2 ^ 32) addresses → lesser_block_of at < 2 ^ 32 → length addresses < 2 ^ 32
+pub few_places : (addresses : List (ℕ × ℕ)) (at : ℕ × ℕ) → IsDistinct nat_eq (blocks_of_pair_addresses (addresses ++ at ∷ [])) → All (λ a. lesser_block_of a < 2 ^ 32) addresses → lesser_block_of at < 2 ^ 32 → length addresses < 2 ^ 32
 few_places addresses at distinct small here =
     let all : List (ℕ × ℕ) = addresses ++ at ∷ [] in
     let each : All (λ b. b < 2 ^ 32) (map lesser_block_of all) = All-map (λ b. b < 2 ^ 32) lesser_block_of all (All-push (λ a. lesser_block_of a < 2 ^ 32) addresses at small here) in
@@ -178,7 +178,7 @@ few_places addresses at distinct small here =
     let more = length-append addresses (at ∷ []) in
     omega arith
 
-module _ (addresses : List (ℕ × ℕ)) (place new : ℕ → Option ℕ) (by : IsIndexByLesserBlock addresses place) (at : ℕ × ℕ) (distinct : IsDistinct nat_eq (blocks_of_addresses (addresses ++ at ∷ []))) (here : lesser_block_of at < 2 ^ 32)
+module _ (addresses : List (ℕ × ℕ)) (place new : ℕ → Option ℕ) (by : FindsPairAddressesByLesserBlock addresses place) (at : ℕ × ℕ) (distinct : IsDistinct nat_eq (blocks_of_pair_addresses (addresses ++ at ∷ []))) (here : lesser_block_of at < 2 ^ 32)
     (put : (q : ℕ) → new q ≡ put_at place (lesser_block_of at) (length addresses) q) where
   apart : All (λ a. lesser_block_of a ≢ lesser_block_of at) addresses
   apart = All-from_recursion (λ a. lesser_block_of a ≢ lesser_block_of at) addresses (apart_each addresses at (lesser_once (addresses ++ at ∷ []) distinct))
@@ -204,7 +204,7 @@ module _ (addresses : List (ℕ × ℕ)) (place new : ℕ → Option ℕ) (by : 
       let m = mapped lesser_block_of (slice_get addresses i) b (by.only b i (sym (put_other b ne) ∙ e)) in
       ap (option_map lesser_block_of) (still_there addresses (at ∷ []) i m.0 m.1) ∙ ap Some m.2
 
-  pub one_more_place : IsIndexByLesserBlock (addresses ++ at ∷ []) new
+  pub one_more_place : FindsPairAddressesByLesserBlock (addresses ++ at ∷ []) new
   one_more_place = record {
     each = λ i a e. each i a (was_or_last addresses at i a e);
     only = λ b i e. only b i e (cases_eq (lesser_block_of at) b);

@@ -10,20 +10,20 @@ use Rattle.lfs_device.specs.Calls.{ChangesOnlyTheseBlocks, ReadsOnly}
 use Rattle.lfs_device.specs.Shown.{disk_of_geometry_and_blocks}
 use Rattle.lfs_model.specs.Blocks.{Blocks, AreBlocksEqualExceptThese}
 use Rattle.lfs_model.specs.BlockSets.{BlockStateList}
-use Rattle.lfs_model.proofs.Histories.{IsTrueAfterEachStopSince-weaker, AreBytesStillUnprogrammed-trans, AreBytesStillUnprogrammed-wider, goes_on_by}
+use Rattle.lfs_model.proofs.Histories.{IsTrueAfterAnyPowerLossSince-weaker, AreBytesStillUnprogrammed-trans, AreBytesStillUnprogrammed-wider, goes_on_by}
 use Rattle.lfs_model.proofs.Overwrites.{AreBlocksEqualExceptThese-trans, AreBlocksEqualExceptThese-wider}
 use Rattle.lfs_pair.specs.declared.pair.Pair.{Pair}
-use Rattle.lfs_pair.specs.Commit.{CommitFails}
-use Rattle.lfs_pair.specs.Writing.{ChangesBlocksWithFewReads}
-use Rattle.lfs_thread.specs.Device.{ReportsIoOrUnwrittenNoMemory, ReportsIoOrNoMemoryBesideBlocks, blocks_of_two_addresses, blocks_of_address}
+use Rattle.lfs_pair.specs.Commit.{CommitFailsKeepingHeader}
+use Rattle.lfs_pair.specs.Writing.{ChangesOnlyBlocksWithinReadLimit}
+use Rattle.lfs_thread.specs.Device.{IoMeansFaultNoMemoryWritesNothing, IoMeansFaultNoMemoryKeepsOtherBlocks, blocks_of_two_pair_addresses, blocks_of_pair_address}
 use Rattle.lfs_thread.specs.Kept.{PairHeader, kept_thread_of_device}
-use Rattle.lfs_thread.specs.Steps.{HasReportedIoOrUnwrittenNoMemory, HasReportedIoOrNoMemoryBesideBlocks, IsDeviceOnlyRead, ThreadChangesOnlyTheseBlocks, ThreadChangesWithFewReads}
+use Rattle.lfs_thread.specs.Steps.{IoMeantFaultNoMemoryWroteNothing, IoMeantFaultNoMemoryKeptOtherBlocks, IsDeviceOnlyRead, ThreadChangesOnlyTheseBlocks, ThreadChangesOnlyBlocksWithinReadLimit}
 
 module _ {D : Type 0} (g : Ghosts D) (old new : D) (hs now_hs : List PairHeader) (sets now_sets : BlockStateList) where
   pub unwritten_from : ReadsOnly g old new → IsDeviceOnlyRead (kept_thread_of_device g old hs sets) (kept_thread_of_device g new now_hs now_sets)
   unwritten_from r = record { disk = ap₂ disk_of_geometry_and_blocks r.geometry r.same; reads = r.reads }
 
-  pub reported_from : {X : Type 0} (result : Result X Error) → ReportsIoOrUnwrittenNoMemory g old new result → HasReportedIoOrUnwrittenNoMemory (kept_thread_of_device g old hs sets) (kept_thread_of_device g new now_hs now_sets) result
+  pub reported_from : {X : Type 0} (result : Result X Error) → IoMeansFaultNoMemoryWritesNothing g old new result → IoMeantFaultNoMemoryWroteNothing (kept_thread_of_device g old hs sets) (kept_thread_of_device g new now_hs now_sets) result
   reported_from result t = record {
     errors = t.errors;
     fault = t.faults.fault;
@@ -31,7 +31,7 @@ module _ {D : Type 0} (g : Ghosts D) (old new : D) (hs now_hs : List PairHeader)
     unwritten = λ (e : result ≡ Err NoMemory). unwritten_from (t.unwritten e);
   }
 
-  pub reported_beside_from : {X : Type 0} (bs : List ℕ) (result : Result X Error) → ReportsIoOrNoMemoryBesideBlocks g bs old new result → HasReportedIoOrNoMemoryBesideBlocks bs (kept_thread_of_device g old hs sets) (kept_thread_of_device g new now_hs now_sets) result
+  pub reported_beside_from : {X : Type 0} (bs : List ℕ) (result : Result X Error) → IoMeansFaultNoMemoryKeepsOtherBlocks g bs old new result → IoMeantFaultNoMemoryKeptOtherBlocks bs (kept_thread_of_device g old hs sets) (kept_thread_of_device g new now_hs now_sets) result
   reported_beside_from bs result t = record { errors = t.errors; fault = t.faults.fault; no_fault = t.faults.no_fault; beside = t.beside }
 
   pub writes_from : (bs : List ℕ) → ChangesOnlyTheseBlocks g bs old new → ThreadChangesOnlyTheseBlocks bs (kept_thread_of_device g old hs sets) (kept_thread_of_device g new now_hs now_sets)
@@ -48,40 +48,40 @@ module _ {D : Type 0} (g : Ghosts D) (old new : D) (hs now_hs : List PairHeader)
   }
 
 module _ {D : Type 0} (g : Ghosts D) (old new : D) (hs now_hs : List PairHeader) (sets now_sets : BlockStateList) where
-  pub reading_from : {most : ℕ} (bs : List ℕ) → ChangesBlocksWithFewReads g most bs old new → ThreadChangesWithFewReads most bs (kept_thread_of_device g old hs sets) (kept_thread_of_device g new now_hs now_sets)
+  pub reading_from : {most : ℕ} (bs : List ℕ) → ChangesOnlyBlocksWithinReadLimit g most bs old new → ThreadChangesOnlyBlocksWithinReadLimit most bs (kept_thread_of_device g old hs sets) (kept_thread_of_device g new now_hs now_sets)
   reading_from bs w = record { only = writes_from g old new hs now_hs sets now_sets bs w.only; few = w.few }
 
 -- ---- two calls, of which the first writes a fresh pair
 
 -- a block that is none of four is none of the first two, and none of the others
-among_first : (at fresh : ℕ × ℕ) (other : ℕ) → All (λ c. c ≢ other) (blocks_of_two_addresses at fresh) → All (λ c. c ≢ other) (blocks_of_address at)
-among_first at fresh other apart = All-take (λ c. c ≢ other) 2 (blocks_of_two_addresses at fresh) apart
+among_first : (at fresh : ℕ × ℕ) (other : ℕ) → All (λ c. c ≢ other) (blocks_of_two_pair_addresses at fresh) → All (λ c. c ≢ other) (blocks_of_pair_address at)
+among_first at fresh other apart = All-take (λ c. c ≢ other) 2 (blocks_of_two_pair_addresses at fresh) apart
 
-among_second : (at fresh : ℕ × ℕ) (other : ℕ) → All (λ c. c ≢ other) (blocks_of_two_addresses at fresh) → All (λ c. c ≢ other) (blocks_of_address fresh)
-among_second at fresh other apart = All-drop (λ c. c ≢ other) 2 (blocks_of_two_addresses at fresh) apart
+among_second : (at fresh : ℕ × ℕ) (other : ℕ) → All (λ c. c ≢ other) (blocks_of_two_pair_addresses at fresh) → All (λ c. c ≢ other) (blocks_of_pair_address fresh)
+among_second at fresh other apart = All-drop (λ c. c ≢ other) 2 (blocks_of_two_pair_addresses at fresh) apart
 
-pub keeps_by_fresh : (at fresh : ℕ × ℕ) {old new : Blocks} → AreBlocksEqualExceptThese (blocks_of_address fresh) old new → AreBlocksEqualExceptThese (blocks_of_two_addresses at fresh) old new
-keeps_by_fresh at fresh same = AreBlocksEqualExceptThese-wider (blocks_of_two_addresses at fresh) (among_second at fresh) same
+pub keeps_by_fresh : (at fresh : ℕ × ℕ) {old new : Blocks} → AreBlocksEqualExceptThese (blocks_of_pair_address fresh) old new → AreBlocksEqualExceptThese (blocks_of_two_pair_addresses at fresh) old new
+keeps_by_fresh at fresh same = AreBlocksEqualExceptThese-wider (blocks_of_two_pair_addresses at fresh) (among_second at fresh) same
 
-pub keeps_by_both : (at fresh : ℕ × ℕ) {old mid new : Blocks} → AreBlocksEqualExceptThese (blocks_of_address fresh) old mid → AreBlocksEqualExceptThese (blocks_of_address at) mid new → AreBlocksEqualExceptThese (blocks_of_two_addresses at fresh) old new
-keeps_by_both at fresh first second = AreBlocksEqualExceptThese-trans (keeps_by_fresh at fresh first) (AreBlocksEqualExceptThese-wider (blocks_of_two_addresses at fresh) (among_first at fresh) second)
+pub keeps_by_both : (at fresh : ℕ × ℕ) {old mid new : Blocks} → AreBlocksEqualExceptThese (blocks_of_pair_address fresh) old mid → AreBlocksEqualExceptThese (blocks_of_pair_address at) mid new → AreBlocksEqualExceptThese (blocks_of_two_pair_addresses at fresh) old new
+keeps_by_both at fresh first second = AreBlocksEqualExceptThese-trans (keeps_by_fresh at fresh first) (AreBlocksEqualExceptThese-wider (blocks_of_two_pair_addresses at fresh) (among_first at fresh) second)
 
 module _ {D : Type 0} (g : Ghosts D) (at fresh : ℕ × ℕ) where
-  pub changes_by_fresh : {old new : D} → ChangesOnlyTheseBlocks g (blocks_of_address fresh) old new → ChangesOnlyTheseBlocks g (blocks_of_two_addresses at fresh) old new
+  pub changes_by_fresh : {old new : D} → ChangesOnlyTheseBlocks g (blocks_of_pair_address fresh) old new → ChangesOnlyTheseBlocks g (blocks_of_two_pair_addresses at fresh) old new
   changes_by_fresh w = record {
     others = keeps_by_fresh at fresh w.others;
-    elsewhere = AreBytesStillUnprogrammed-wider (blocks_of_two_addresses at fresh) (among_second at fresh) w.elsewhere;
+    elsewhere = AreBytesStillUnprogrammed-wider (blocks_of_two_pair_addresses at fresh) (among_second at fresh) w.elsewhere;
     geometry = w.geometry;
-    at_worst = IsTrueAfterEachStopSince-weaker (λ disk left. keeps_by_fresh at fresh left) w.at_worst;
+    at_worst = IsTrueAfterAnyPowerLossSince-weaker (λ disk left. keeps_by_fresh at fresh left) w.at_worst;
   }
 
-  pub changes_by_both : {old mid new : D} → ChangesOnlyTheseBlocks g (blocks_of_address fresh) old mid → ChangesOnlyTheseBlocks g (blocks_of_address at) mid new → ChangesOnlyTheseBlocks g (blocks_of_two_addresses at fresh) old new
+  pub changes_by_both : {old mid new : D} → ChangesOnlyTheseBlocks g (blocks_of_pair_address fresh) old mid → ChangesOnlyTheseBlocks g (blocks_of_pair_address at) mid new → ChangesOnlyTheseBlocks g (blocks_of_two_pair_addresses at fresh) old new
   changes_by_both w v = record {
     others = keeps_by_both at fresh w.others v.others;
-    elsewhere = AreBytesStillUnprogrammed-trans (AreBytesStillUnprogrammed-wider (blocks_of_two_addresses at fresh) (among_second at fresh) w.elsewhere) (AreBytesStillUnprogrammed-wider (blocks_of_two_addresses at fresh) (among_first at fresh) v.elsewhere);
+    elsewhere = AreBytesStillUnprogrammed-trans (AreBytesStillUnprogrammed-wider (blocks_of_two_pair_addresses at fresh) (among_second at fresh) w.elsewhere) (AreBytesStillUnprogrammed-wider (blocks_of_two_pair_addresses at fresh) (among_first at fresh) v.elsewhere);
     geometry = v.geometry ∙ w.geometry;
-    at_worst = goes_on_by (IsTrueAfterEachStopSince-weaker (λ disk left. keeps_by_fresh at fresh left) w.at_worst)
-        (IsTrueAfterEachStopSince-weaker (λ disk left. keeps_by_both at fresh w.others left) v.at_worst);
+    at_worst = goes_on_by (IsTrueAfterAnyPowerLossSince-weaker (λ disk left. keeps_by_fresh at fresh left) w.at_worst)
+        (IsTrueAfterAnyPowerLossSince-weaker (λ disk left. keeps_by_both at fresh w.others left) v.at_worst);
   }
 
 -- ---- what a call of lfs_pair says of its error
@@ -93,12 +93,12 @@ pub record HasErrors {D X : Type 0} (g : Ghosts D) (old new : D) (result : Resul
 same_error : (X : Type 0) (e f : Error) → (let r : Result X Error = Err e in r) ≡ Err f → e ≡ f
 same_error X e f h = cc
 
-pub errors_of : {D X : Type 0} {g : Ghosts D} {old new : D} (was now : Pair) {result : Result X Error} → IfErr result (λ e. CommitFails g old new was now e) → HasErrors g old new result
+pub errors_of : {D X : Type 0} {g : Ghosts D} {old new : D} (was now : Pair) {result : Result X Error} → IfErr result (λ e. CommitFailsKeepingHeader g old new was now e) → HasErrors g old new result
 errors_of was now {result = Ok x} h = record { errors = tt; unwritten = λ e. absurd (cc) }
 errors_of {X = X} was now {result = Err e} h = record { errors = h.errors; unwritten = λ same. h.no_memory (same_error X e NoMemory same) }
 
 -- an error that is passed on
-pub errors_again : {D X Y : Type 0} {g : Ghosts D} {old new : D} (e : Error) (first : Result X Error) (second : Result Y Error) → first ≡ Err e → second ≡ Err e → ReportsIoOrUnwrittenNoMemory g old new first → ReportsIoOrUnwrittenNoMemory g old new second
+pub errors_again : {D X Y : Type 0} {g : Ghosts D} {old new : D} (e : Error) (first : Result X Error) (second : Result Y Error) → first ≡ Err e → second ≡ Err e → IoMeansFaultNoMemoryWritesNothing g old new first → IoMeansFaultNoMemoryWritesNothing g old new second
 errors_again {X = X} {Y = Y} e first second is now t = record {
   errors = subst (λ (r : Result Y Error). IfErr r (λ e. (e ≡ Io) ⊎ (e ≡ NoMemory))) (sym now) (subst (λ (r : Result X Error). IfErr r (λ e. (e ≡ Io) ⊎ (e ≡ NoMemory))) is t.errors);
   faults = record {

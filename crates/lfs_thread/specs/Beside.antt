@@ -4,12 +4,12 @@ use Rattle.std.specs.Fn.{Once}
 use Rattle.std.specs.Borrow.{MutBor}
 use Rattle.lfs_device.specs.declared.device.BlockDevice.{Ghosts}
 use Rattle.lfs_device.specs.declared.geometry.Geometry.{Geometry}
-use Rattle.lfs_model.specs.Blocks.{block_bytes_in}
-use Rattle.lfs_model.specs.BlockSets.{BlockStateList, IsUsed}
+use Rattle.lfs_model.specs.Blocks.{block_bytes_by_number}
+use Rattle.lfs_model.specs.BlockSets.{BlockStateList, IsBlockUsed}
 use Rattle.lfs_model.specs.Disk.{Disk, block_count}
-use Rattle.lfs_model.specs.History.{unprogrammed}
+use Rattle.lfs_model.specs.History.{is_byte_unprogrammed}
 use Rattle.lfs_model.specs.Thread.{blocks_of_pairs}
-use Rattle.lfs_thread.specs.Kept.{Kept, disk_of_device}
+use Rattle.lfs_thread.specs.Kept.{KeptThread, disk_of_device}
 
 -- the disk has this geometry
 pub record DiskHasGeometry (geometry : Geometry) (disk : Disk) : Type 0 where
@@ -19,21 +19,21 @@ pub record DiskHasGeometry (geometry : Geometry) (disk : Disk) : Type 0 where
   pub count : geometry.block_count ≡ block_count disk
 
 -- work that is called with a device and a map, and returns an X
-abbrev pub WorkOnDevice : Type 0 → Type 0 → Type 0 → Type 1
-WorkOnDevice F D X = Once F (MutBor D × (MutBor BlockStateList × Unit {0})) (X × (MutBor D × (MutBor BlockStateList × Unit {0})))
+abbrev pub ClosureOnDeviceAndMap : Type 0 → Type 0 → Type 0 → Type 1
+ClosureOnDeviceAndMap F D X = Once F (MutBor D × (MutBor BlockStateList × Unit {0})) (X × (MutBor D × (MutBor BlockStateList × Unit {0})))
 
 -- the device and the map are the thread's
-pub record HasDeviceAndMap {D : Type 0} (g : Ghosts D) (t : Kept) (device : D) (sets : BlockStateList) : Type 0 where
+pub record AreDeviceAndMapOfThread {D : Type 0} (g : Ghosts D) (t : KeptThread) (device : D) (sets : BlockStateList) : Type 0 where
   pub disk : disk_of_device g device ≡ t.disk
   pub history : g.history device ≡ t.history
   pub map : sets ≡ t.map
 
 -- the work may be called with this device and this map
-pub record CanRunWork {F D X : Type 0} (call : WorkOnDevice F D X) (work : F) (device : D) (map : BlockStateList) : Type 0 where
+pub record CanCallClosureOnDeviceAndMap {F D X : Type 0} (call : ClosureOnDeviceAndMap F D X) (work : F) (device : D) (map : BlockStateList) : Type 0 where
   pub can : (p : MutBor D) (q : MutBor BlockStateList) → p.now ≡ device → q.now ≡ map → call.pre work (p, (q, tt))
 
 -- a call of the work with this device and this map may return x, and leave `later` and `later_map`
-pub record WorkMayReturn {F D X : Type 0} (call : WorkOnDevice F D X) (work : F) (device : D) (map : BlockStateList) (x : X) (later : D) (later_map : BlockStateList) : Type 0 where
+pub record MayClosureOnDeviceAndMapReturn {F D X : Type 0} (call : ClosureOnDeviceAndMap F D X) (work : F) (device : D) (map : BlockStateList) (x : X) (later : D) (later_map : BlockStateList) : Type 0 where
   pub shown : MutBor D
   pub shows : shown.now ≡ device
   pub shown_map : MutBor BlockStateList
@@ -45,20 +45,20 @@ pub record WorkMayReturn {F D X : Type 0} (call : WorkOnDevice F D X) (work : F)
   pub leaves_map : left_map.now ≡ later_map
 
 -- No used block of the thread's pairs changes, its unprogrammed bytes stay so, and it stays used.
-pub record KeepsUsedBlocksOfPairs {D : Type 0} (g : Ghosts D) (t : Kept) (device : D) (map : BlockStateList) (later : D) (later_map : BlockStateList) : Type 0 where
+pub record LeavesUsedBlocksOfPairsUnchangedAndUsed {D : Type 0} (g : Ghosts D) (t : KeptThread) (device : D) (map : BlockStateList) (later : D) (later_map : BlockStateList) : Type 0 where
   pub geometry : g.geometry later ≡ g.geometry device
   pub count : length (g.blocks later) ≡ length (g.blocks device)
-  pub same : (b : ℕ) → Contains (blocks_of_pairs t.pairs) b → IsUsed map b → block_bytes_in (g.blocks later) b ≡ block_bytes_in (g.blocks device) b
-  pub stays : (b k : ℕ) → Contains (blocks_of_pairs t.pairs) b → IsUsed map b → unprogrammed (g.history device) b k ≡ true → unprogrammed (g.history later) b k ≡ true
+  pub same : (b : ℕ) → Contains (blocks_of_pairs t.pairs) b → IsBlockUsed map b → block_bytes_by_number (g.blocks later) b ≡ block_bytes_by_number (g.blocks device) b
+  pub stays : (b k : ℕ) → Contains (blocks_of_pairs t.pairs) b → IsBlockUsed map b → is_byte_unprogrammed (g.history device) b k ≡ true → is_byte_unprogrammed (g.history later) b k ≡ true
   pub size : length later_map ≡ length map
-  pub used : (b : ℕ) → Contains (blocks_of_pairs t.pairs) b → IsUsed map b → IsUsed later_map b
+  pub used : (b : ℕ) → Contains (blocks_of_pairs t.pairs) b → IsBlockUsed map b → IsBlockUsed later_map b
 
 -- The work was called with the thread's device and map, and returned x. The thread has the device and the map that it left.
-pub record HasRunWorkOnDeviceAndMap {F D X : Type 0} (g : Ghosts D) (call : WorkOnDevice F D X) (work : F) (old : Kept) (x : X) (new : Kept) : Type 0 where
+pub record HasRunWorkOnDeviceAndMap {F D X : Type 0} (g : Ghosts D) (call : ClosureOnDeviceAndMap F D X) (work : F) (old : KeptThread) (x : X) (new : KeptThread) : Type 0 where
   pub device : D
   pub map : BlockStateList
   pub later : D
   pub later_map : BlockStateList
-  pub before : HasDeviceAndMap g old device map
-  pub after : HasDeviceAndMap g new later later_map
-  pub run : WorkMayReturn call work device map x later later_map
+  pub before : AreDeviceAndMapOfThread g old device map
+  pub after : AreDeviceAndMapOfThread g new later later_map
+  pub run : MayClosureOnDeviceAndMapReturn call work device map x later later_map

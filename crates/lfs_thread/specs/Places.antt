@@ -5,16 +5,16 @@ use Rattle.std.specs.Option.{option_map}
 use Rattle.lfs_model.specs.Slots.{same_pair}
 
 -- the blocks of the pairs at these addresses
-abbrev pub blocks_of_addresses : List (ℕ × ℕ) → List ℕ
-blocks_of_addresses addresses = flat_map (λ at. at.0 ∷ at.1 ∷ []) addresses
+abbrev pub blocks_of_pair_addresses : List (ℕ × ℕ) → List ℕ
+blocks_of_pair_addresses addresses = flat_map (λ at. at.0 ∷ at.1 ∷ []) addresses
 
 -- the place of the first address with the same two blocks
-abbrev pub place_of_pair_address : List (ℕ × ℕ) → ℕ × ℕ → Option ℕ
-place_of_pair_address [] at = None
-place_of_pair_address (a ∷ addresses) at = if same_pair a at then Some 0 else option_map (λ i. suc i) (place_of_pair_address addresses at)
+abbrev pub index_of_pair_address : List (ℕ × ℕ) → ℕ × ℕ → Option ℕ
+index_of_pair_address [] at = None
+index_of_pair_address (a ∷ addresses) at = if same_pair a at then Some 0 else option_map (λ i. suc i) (index_of_pair_address addresses at)
 
 -- the address at that place has the same two blocks
-pub record IsSamePairAtPlace (addresses : List (ℕ × ℕ)) (at : ℕ × ℕ) (place : ℕ) : Type 0 where
+pub record IsSamePairAddressAtIndex (addresses : List (ℕ × ℕ)) (at : ℕ × ℕ) (place : ℕ) : Type 0 where
   pub address : ℕ × ℕ
   pub there : slice_get addresses place ≡ Some address
   pub same : same_pair address at ≡ true
@@ -28,7 +28,7 @@ abbrev pub greater_block_of : ℕ × ℕ → ℕ
 greater_block_of at = max at.0 at.1
 
 -- Each address is found by its lesser block, a number of 32 bits. No other block finds one.
-pub record IsIndexByLesserBlock (addresses : List (ℕ × ℕ)) (place : ℕ → Option ℕ) : Type 0 where
+pub record FindsPairAddressesByLesserBlock (addresses : List (ℕ × ℕ)) (place : ℕ → Option ℕ) : Type 0 where
   pub each : (i : ℕ) (at : ℕ × ℕ) → slice_get addresses i ≡ Some at → place (lesser_block_of at) ≡ Some i
   pub only : (b i : ℕ) → place b ≡ Some i → option_map lesser_block_of (slice_get addresses i) ≡ Some b
   pub small : All (λ at. lesser_block_of at < 2 ^ 32) addresses

@@ -7,10 +7,10 @@ use Rattle.lfs_device.specs.Calls.{ReadsOnly, ReportsFaults}
 use Rattle.lfs_model.specs.BlockSets.{AreExactlyTheInFlightBlocks, AreExactlyTheUsedBlocks, BlockStateList, Used}
 use Rattle.lfs_model.specs.Content.{content_of_pair_at}
 use Rattle.lfs_model.specs.Disk.{Disk}
-use Rattle.lfs_model.specs.History.{CallEvent, AreCallsSinceOnlyReads, faults, reads}
-use Rattle.lfs_model.specs.Thread.{IsThread, Pair, blocks_of_pairs}
-use Rattle.lfs_pair.specs.Pair.{address_of_header, fetch_reads}
-use Rattle.lfs_thread.specs.Begun.{IsPairOnFreeBlocks}
+use Rattle.lfs_model.specs.History.{DeviceCallEvent, AreCallsSinceOnlyReads, fault_count_of_history, read_count_of_history}
+use Rattle.lfs_model.specs.Thread.{IsThreadOfMetadataPairs, Pair, blocks_of_pairs}
+use Rattle.lfs_pair.specs.Pair.{pair_address_in_header, read_count_of_pair_fetch}
+use Rattle.lfs_thread.specs.Begun.{IsPairWithContentOnFreeBlocks}
 use Rattle.lfs_thread.specs.Kept.{PairHeader, IsPairHeaderOnDisk, ThreadView, disk_of_device}
 
 -- The device was only read. `Io` comes with a fault of the device, and any other result without one.
@@ -20,24 +20,24 @@ pub record OnlyReadsAndReportsErrors {D X : Type 0} (g : Ghosts D) (old new : D)
   pub faults : ReportsFaults g old new result
 
 -- The header is that of the pair at an address. The pair can stand there, and its blocks are marked now.
-pub record IsHeaderReadAt (disk : Disk) (history : List CallEvent) (at : ℕ × ℕ) (old new : BlockStateList) (h : PairHeader) : Type 0 where
+pub record IsPairHeaderReadAndBlocksMarkedUsed (disk : Disk) (history : List DeviceCallEvent) (at : ℕ × ℕ) (old new : BlockStateList) (h : PairHeader) : Type 0 where
   pub header : IsPairHeaderOnDisk disk history h
-  pub address : address_of_header h ≡ at
-  pub stands : IsPairOnFreeBlocks disk old at
+  pub address : pair_address_in_header h ≡ at
+  pub stands : IsPairWithContentOnFreeBlocks disk old at
   pub marked : new ≡ slice_set (slice_set old at.0 Used) at.1 Used
 
 -- the reads of the headers of a thread's pairs
-abbrev pub header_reads : Disk → List Pair → ℕ
-header_reads disk ps = sum_by (λ p. fetch_reads disk p.at) ps
+abbrev pub read_count_of_thread_headers : Disk → List Pair → ℕ
+read_count_of_thread_headers disk ps = sum_by (λ p. read_count_of_pair_fetch disk p.at) ps
 
 -- The thread was read from a device that was only read, by one fetch for each pair and none with a fault. It works. The blocks
 -- of its pairs are used and no others, and none is in flight.
-pub record IsThreadReadFrom {D : Type 0} (g : Ghosts D) (device : D) (t : ThreadView) : Type 0 where
+pub record IsThreadReadFromDevice {D : Type 0} (g : Ghosts D) (device : D) (t : ThreadView) : Type 0 where
   pub works : t.failed ≡ false
-  pub thread : IsThread (content_of_pair_at (disk_of_device g device)) (g.geometry device).block_count t.kept.pairs
+  pub thread : IsThreadOfMetadataPairs (content_of_pair_at (disk_of_device g device)) (g.geometry device).block_count t.kept.pairs
   pub used : AreExactlyTheUsedBlocks t.kept.map (blocks_of_pairs t.kept.pairs)
   pub none_in_flight : AreExactlyTheInFlightBlocks t.kept.map []
   pub disk : t.kept.disk ≡ disk_of_device g device
   pub only : AreCallsSinceOnlyReads (g.blocks device) (g.history device) t.kept.history
-  pub no_fault : faults t.kept.history ≡ faults (g.history device)
-  pub few : reads t.kept.history ≡ reads (g.history device) + header_reads (disk_of_device g device) t.kept.pairs
+  pub no_fault : fault_count_of_history t.kept.history ≡ fault_count_of_history (g.history device)
+  pub few : read_count_of_history t.kept.history ≡ read_count_of_history (g.history device) + read_count_of_thread_headers (disk_of_device g device) t.kept.pairs

@@ -4,17 +4,19 @@ ghost use Rattle.std.specs.Prelude.{◌≡◌, ◌+◌, IfOk, OnOk, option_map};
 ghost use Rattle.lfs_model.specs.Cache.{cached_bytes_of_block, cache_without_block};
 ghost use Rattle.lfs_model.specs.Slots.{pair_address_of_array};
 ghost use Rattle.lfs_pair.specs.ChangeView.{changes_view};
-ghost use Rattle.lfs_pair.specs.Commit.{CanCommit, Commits, RefusesCommit, LeavesOldOrChangedContent};
-ghost use Rattle.lfs_pair.specs.Pair.{address_of_header};
-ghost use Rattle.lfs_pair.specs.Split.{CanSplitPair, LeavesOldContentOrParts, Splits};
-ghost use Rattle.lfs_pair.specs.Writing.{ChangesBlocksWithFewReads};
+ghost use Rattle.lfs_pair.specs.Commit.{CanCommit, CommitsChangesToPair, RefusesCommit, PowerLossLeavesOldOrChangedContent};
+ghost use Rattle.lfs_pair.specs.Pair.{pair_address_in_header};
+ghost use Rattle.lfs_pair.specs.Split.{CanSplitPair, PowerLossLeavesOldContentOrSplitPairs, SplitsPairWithChanges};
+ghost use Rattle.lfs_pair.specs.Writing.{ChangesOnlyBlocksWithinReadLimit};
 ghost use Rattle.lfs_thread.specs.Kept.{IsCacheCurrent, disk_of_device};
 ghost use Rattle.lfs_thread.specs.CachedLog.{read_count_unless_cached};
-ghost use Rattle.lfs_thread.specs.Device.{StopsAfterCleanErasesLeave, ReportsIoOrUnwrittenNoMemory, blocks_of_two_addresses, blocks_of_address};
+ghost use Rattle.lfs_thread.specs.Device.{PowerLossLeavesSuchBlocksAfterCleanErases, IoMeansFaultNoMemoryWritesNothing, blocks_of_two_pair_addresses, blocks_of_pair_address};
 
 use lfs_cache::Cache;
 use lfs_device::{BlockDevice, Error};
-use lfs_pair::{Change, Outcome, Pair, commit, commit_in, split, split_in};
+use lfs_pair::{
+    Change, Outcome, Pair, commit, commit_with_block_bytes, split, split_with_block_bytes,
+};
 use std::alloc::Global;
 
 // Commits changes to a pair. The active block isn't read where it is cached. Afterwards neither
@@ -29,16 +31,16 @@ pub(crate) fn commit_with_cache<D: BlockDevice>(
     requires can { CanCommit (disk_of_device D.BlockDevice device.old) (D.history device.old) pair.old (changes_view changes.now) }
     requires current { IsCacheCurrent (D.blocks device.old) cache.old }
     ensures done { result ≡ Ok Outcome.Done
-        → Commits (disk_of_device D.BlockDevice device.old) (D.history device.old) (changes_view changes.now) pair.old (disk_of_device D.BlockDevice device.new) (D.history device.new) pair.new }
+        → CommitsChangesToPair (disk_of_device D.BlockDevice device.old) (D.history device.old) (changes_view changes.now) pair.old (disk_of_device D.BlockDevice device.new) (D.history device.new) pair.new }
     ensures full { result ≡ Ok Outcome.Full → RefusesCommit D.BlockDevice (changes_view changes.now) device.old device.new pair.old pair.new }
     ensures current { IsCacheCurrent (D.blocks device.new) cache.new }
-    ensures device { ChangesBlocksWithFewReads D.BlockDevice (1 + read_count_unless_cached (cached_bytes_of_block cache.old pair.old.active)) (blocks_of_address (address_of_header pair.old)) device.old device.new }
-    ensures errors { ReportsIoOrUnwrittenNoMemory D.BlockDevice device.old device.new result }
-    ensures stops { StopsAfterCleanErasesLeave (D.history device.old) (D.history device.new)
-        (LeavesOldOrChangedContent (disk_of_device D.BlockDevice device.old) (address_of_header pair.old) (changes_view changes.now)) }
+    ensures device { ChangesOnlyBlocksWithinReadLimit D.BlockDevice (1 + read_count_unless_cached (cached_bytes_of_block cache.old pair.old.active)) (blocks_of_pair_address (pair_address_in_header pair.old)) device.old device.new }
+    ensures errors { IoMeansFaultNoMemoryWritesNothing D.BlockDevice device.old device.new result }
+    ensures stops { PowerLossLeavesSuchBlocksAfterCleanErases (D.history device.old) (D.history device.new)
+        (PowerLossLeavesOldOrChangedContent (disk_of_device D.BlockDevice device.old) (pair_address_in_header pair.old) (changes_view changes.now)) }
 {
     match take_pair_blocks_from_cache(cache, pair.blocks, pair.active) {
-        Some(block) => commit_in(alloc, device, pair, &block, changes),
+        Some(block) => commit_with_block_bytes(alloc, device, pair, &block, changes),
         None => commit(alloc, device, pair, changes),
     }
 }
@@ -55,18 +57,18 @@ pub(crate) fn split_with_cache<D: BlockDevice>(
 ) -> Result<Pair, Error>
     requires can { CanSplitPair (disk_of_device D.BlockDevice device.old) (D.history device.old) pair.old (pair_address_of_array fresh) (changes_view changes.now) }
     requires current { IsCacheCurrent (D.blocks device.old) cache.old }
-    ensures splits { IfOk result (λ fresh_pair. Splits (disk_of_device D.BlockDevice device.old) (D.history device.old) (changes_view changes.now) pair.old (pair_address_of_array fresh)
+    ensures splits { IfOk result (λ fresh_pair. SplitsPairWithChanges (disk_of_device D.BlockDevice device.old) (D.history device.old) (changes_view changes.now) pair.old (pair_address_of_array fresh)
         (disk_of_device D.BlockDevice device.new) (D.history device.new) pair.new fresh_pair) }
     ensures current { IsCacheCurrent (D.blocks device.new) cache.new }
-    ensures device { ChangesBlocksWithFewReads D.BlockDevice (3 + read_count_unless_cached (cached_bytes_of_block cache.old pair.old.active)) (blocks_of_two_addresses (address_of_header pair.old) (pair_address_of_array fresh)) device.old device.new }
-    ensures errors { ReportsIoOrUnwrittenNoMemory D.BlockDevice device.old device.new result }
-    ensures stops { StopsAfterCleanErasesLeave (D.history device.old) (D.history device.new)
-        (LeavesOldContentOrParts (disk_of_device D.BlockDevice device.old) (address_of_header pair.old) (pair_address_of_array fresh) (changes_view changes.now)) }
+    ensures device { ChangesOnlyBlocksWithinReadLimit D.BlockDevice (3 + read_count_unless_cached (cached_bytes_of_block cache.old pair.old.active)) (blocks_of_two_pair_addresses (pair_address_in_header pair.old) (pair_address_of_array fresh)) device.old device.new }
+    ensures errors { IoMeansFaultNoMemoryWritesNothing D.BlockDevice device.old device.new result }
+    ensures stops { PowerLossLeavesSuchBlocksAfterCleanErases (D.history device.old) (D.history device.new)
+        (PowerLossLeavesOldContentOrSplitPairs (disk_of_device D.BlockDevice device.old) (pair_address_in_header pair.old) (pair_address_of_array fresh) (changes_view changes.now)) }
 {
     let held = take_pair_blocks_from_cache(cache, pair.blocks, pair.active);
     forget_cached_pair(cache, fresh);
     match held {
-        Some(block) => split_in(alloc, device, pair, fresh, &block, changes),
+        Some(block) => split_with_block_bytes(alloc, device, pair, fresh, &block, changes),
         None => split(alloc, device, pair, fresh, changes),
     }
 }

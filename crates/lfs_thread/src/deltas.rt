@@ -15,14 +15,14 @@ pub(crate) fn global_state_of_pairs(pairs: &[Pair]) -> MoveState
 {
     let mut state = MoveState::none();
     for pair in pairs {
-        state = with_delta(&state, &pair.move_state);
+        state = gstate_xor_delta(&state, &pair.move_state);
     }
     state
 }
 
 /// Returns the exclusive or of a state and a delta. `state` is a delta, too, or the global state.
 /// What changes a pair's delta by this operation changes the global state in the same way.
-pub fn with_delta(state: &MoveState, delta: &MoveState) -> MoveState
+pub fn gstate_xor_delta(state: &MoveState, delta: &MoveState) -> MoveState
     ensures { move_view result ≡ gstate_xor (move_view state.now) (move_view delta.now) }
 {
     MoveState {

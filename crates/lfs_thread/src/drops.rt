@@ -1,12 +1,12 @@
 // Pairs that are dropped from the thread.
 
 ghost use Rattle.std.specs.Prelude.{◌≡◌, ◌+◌, OnOk};
-ghost use Rattle.lfs_pair.specs.Writing.{ChangesBlocksWithFewReads};
+ghost use Rattle.lfs_pair.specs.Writing.{ChangesOnlyBlocksWithinReadLimit};
 ghost use Rattle.lfs_pair.specs.ChangeView.{changes_view};
-ghost use Rattle.lfs_thread.specs.Device.{StopsAfterCleanErasesLeave, ReportsIoOrUnwrittenNoMemory, blocks_of_address};
+ghost use Rattle.lfs_thread.specs.Device.{PowerLossLeavesSuchBlocksAfterCleanErases, IoMeansFaultNoMemoryWritesNothing, blocks_of_pair_address};
 ghost use Rattle.lfs_thread.specs.Kept.{IsCacheCurrent, IsKeptThreadOnDevice, kept_thread_of_device};
 ghost use Rattle.lfs_thread.specs.CachedLog.{log_among_cached_blocks, read_count_unless_cached};
-ghost use Rattle.lfs_thread.specs.Steps.{CanDropNextPair, IsPairAfterIndexDropped, LeavesPairOldOrChanged, IsCommitRefused, kept_pair_at_index};
+ghost use Rattle.lfs_thread.specs.Steps.{CanDropNextPair, IsPairAfterIndexDropped, PowerLossLeavesPairOldOrChanged, IsCommitRefused, thread_pair_at_index};
 
 use crate::commits::commit_with_cache;
 use lfs_alloc::BlockMap;
@@ -36,10 +36,10 @@ pub(crate) fn drop_next_pair<D: BlockDevice>(
         (kept_thread_of_device D.BlockDevice device.new pairs.new.items map.new) }
     ensures full { result ≡ Ok Outcome.Full → IsCommitRefused (kept_thread_of_device D.BlockDevice device.old pairs.old.items map.old) index (changes_view changes.now)
         (kept_thread_of_device D.BlockDevice device.new pairs.new.items map.new) }
-    ensures device { ChangesBlocksWithFewReads D.BlockDevice (1 + read_count_unless_cached (log_among_cached_blocks (kept_thread_of_device D.BlockDevice device.old pairs.old.items map.old) cache.old index)) (blocks_of_address (kept_pair_at_index (kept_thread_of_device D.BlockDevice device.old pairs.old.items map.old) index).at) device.old device.new }
-    ensures errors { ReportsIoOrUnwrittenNoMemory D.BlockDevice device.old device.new result }
-    ensures stops { StopsAfterCleanErasesLeave (D.history device.old) (D.history device.new)
-        (LeavesPairOldOrChanged (kept_thread_of_device D.BlockDevice device.old pairs.old.items map.old) index (changes_view changes.now)) }
+    ensures device { ChangesOnlyBlocksWithinReadLimit D.BlockDevice (1 + read_count_unless_cached (log_among_cached_blocks (kept_thread_of_device D.BlockDevice device.old pairs.old.items map.old) cache.old index)) (blocks_of_pair_address (thread_pair_at_index (kept_thread_of_device D.BlockDevice device.old pairs.old.items map.old) index).at) device.old device.new }
+    ensures errors { IoMeansFaultNoMemoryWritesNothing D.BlockDevice device.old device.new result }
+    ensures stops { PowerLossLeavesSuchBlocksAfterCleanErases (D.history device.old) (D.history device.new)
+        (PowerLossLeavesPairOldOrChanged (kept_thread_of_device D.BlockDevice device.old pairs.old.items map.old) index (changes_view changes.now)) }
 {
     let outcome = commit_with_cache(alloc, device, cache, &mut pairs[index], changes)?;
     if let Outcome::Full = outcome {

@@ -4,12 +4,12 @@ ghost use Rattle.std.specs.Prelude.{◌≡◌, ◌+◌, OnOk};
 ghost use Rattle.std.specs.Option.{option_map};
 ghost use Rattle.lfs_model.specs.Slots.{pair_address_of_array};
 ghost use Rattle.lfs_tag.specs.ContentView.{tail_view};
-ghost use Rattle.lfs_pair.specs.Writing.{ChangesBlocksWithFewReads};
+ghost use Rattle.lfs_pair.specs.Writing.{ChangesOnlyBlocksWithinReadLimit};
 ghost use Rattle.lfs_pair.specs.ChangeView.{change_view, changes_view};
-ghost use Rattle.lfs_thread.specs.Device.{StopsAfterCleanErasesLeave, ReportsIoOrNoMemoryBesideBlocks, blocks_of_two_addresses, blocks_of_address};
+ghost use Rattle.lfs_thread.specs.Device.{PowerLossLeavesSuchBlocksAfterCleanErases, IoMeansFaultNoMemoryKeepsOtherBlocks, blocks_of_two_pair_addresses, blocks_of_pair_address};
 ghost use Rattle.lfs_thread.specs.Kept.{IsCacheCurrent, IsKeptThreadOnDevice, kept_thread_of_device};
 ghost use Rattle.lfs_thread.specs.CachedLog.{log_among_cached_blocks, read_count_unless_cached};
-ghost use Rattle.lfs_thread.specs.Steps.{CanThreadInFreshPair, IsThreadingInRefused, IsFreshPairThreadedIn, LeavesPairOldOrThreadedIn, change_that_sets_tail, kept_pair_at_index};
+ghost use Rattle.lfs_thread.specs.Steps.{CanThreadInFreshPair, IsThreadingInRefused, IsFreshPairThreadedIn, PowerLossLeavesPairOldOrThreadedIn, change_that_sets_tail, thread_pair_at_index};
 
 use crate::commits::{commit_with_cache, forget_cached_pair};
 use lfs_alloc::BlockMap;
@@ -42,10 +42,10 @@ pub(crate) fn thread_in_fresh_pair<D: BlockDevice>(
         (kept_thread_of_device D.BlockDevice device.new pairs.new.items map.new) }
     ensures full { result ≡ Ok Outcome.Full → IsThreadingInRefused (kept_thread_of_device D.BlockDevice device.old pairs.old.items map.old) index (pair_address_of_array fresh) (changes_view changes.now)
         (kept_thread_of_device D.BlockDevice device.new pairs.new.items map.new) }
-    ensures device { ChangesBlocksWithFewReads D.BlockDevice (3 + read_count_unless_cached (log_among_cached_blocks (kept_thread_of_device D.BlockDevice device.old pairs.old.items map.old) cache.old index)) (blocks_of_two_addresses (kept_pair_at_index (kept_thread_of_device D.BlockDevice device.old pairs.old.items map.old) index).at (pair_address_of_array fresh)) device.old device.new }
-    ensures errors { ReportsIoOrNoMemoryBesideBlocks D.BlockDevice (blocks_of_address (pair_address_of_array fresh)) device.old device.new result }
-    ensures stops { StopsAfterCleanErasesLeave (D.history device.old) (D.history device.new)
-        (LeavesPairOldOrThreadedIn (kept_thread_of_device D.BlockDevice device.old pairs.old.items map.old) index (pair_address_of_array fresh) (changes_view changes.now)) }
+    ensures device { ChangesOnlyBlocksWithinReadLimit D.BlockDevice (3 + read_count_unless_cached (log_among_cached_blocks (kept_thread_of_device D.BlockDevice device.old pairs.old.items map.old) cache.old index)) (blocks_of_two_pair_addresses (thread_pair_at_index (kept_thread_of_device D.BlockDevice device.old pairs.old.items map.old) index).at (pair_address_of_array fresh)) device.old device.new }
+    ensures errors { IoMeansFaultNoMemoryKeepsOtherBlocks D.BlockDevice (blocks_of_pair_address (pair_address_of_array fresh)) device.old device.new result }
+    ensures stops { PowerLossLeavesSuchBlocksAfterCleanErases (D.history device.old) (D.history device.new)
+        (PowerLossLeavesPairOldOrThreadedIn (kept_thread_of_device D.BlockDevice device.old pairs.old.items map.old) index (pair_address_of_array fresh) (changes_view changes.now)) }
 {
     let mut pair = pairs[index];
     // This takes the memory for the fresh pair's header, before anything is written.

@@ -13,8 +13,8 @@ mod places;
 mod splits;
 mod thread;
 
-pub use deltas::with_delta;
-pub use pair_numbers::number_of;
-pub use parts::Parts;
+pub use deltas::gstate_xor_delta;
+pub use pair_numbers::pair_number_at_address;
+pub use parts::ThreadParts;
 pub use places::PairAddressList;
 pub use thread::Thread;

@@ -12,12 +12,12 @@ use lfs_pair::is_same_pair;
 /// Returns the number of the pair at an address, from 0 on in the thread's order. The address may
 /// have its two blocks in either order. Returns None where no pair of the thread has these two
 /// blocks.
-pub fn number_of<D: BlockDevice>(thread: &Thread<D>, at: [u32; 2]) -> Option<usize>
+pub fn pair_number_at_address<D: BlockDevice>(thread: &Thread<D>, at: [u32; 2]) -> Option<usize>
     ensures there { IfSome result (IsPairAtAddress thread.now.kept.pairs (pair_address_of_array at)) }
     ensures nowhere { IfNone result (AllByRecursion (λ p. same_pair p.at (pair_address_of_array at) ≡ false) thread.now.kept.pairs) }
 {
     for index in 0..thread.len() {
-        if is_same_pair(thread.address(index), at) {
+        if is_same_pair(thread.blocks_of_pair(index), at) {
             return Some(index);
         }
     }

@@ -7,7 +7,7 @@ use lfs_pair::Pair;
 
 /// The parts of a [`Thread`](crate::Thread).
 #[derive(Drop)]
-pub struct Parts<D: BlockDevice> {
+pub struct ThreadParts<D: BlockDevice> {
     pub device: D,
     /// The cache of the blocks that were read last.
     pub cache: Cache,

@@ -3,14 +3,14 @@
 ghost use Rattle.std.specs.Prelude.{IfSome, IfNone, ◌≡◌, ◌++◌, ◌∷◌, [], ◌<◌, false, nat_eq, OnOk, OnErr, IfErr, length};
 ghost use Rattle.std.specs.List.{AllByRecursion, IsDistinct};
 ghost use Rattle.lfs_model.specs.Slots.{pair_address_of_array, same_pair};
-ghost use Rattle.lfs_thread.specs.Places.{IsSamePairAtPlace, blocks_of_addresses, greater_block_of, lesser_block_of, place_of_pair_address};
+ghost use Rattle.lfs_thread.specs.Places.{IsSamePairAddressAtIndex, blocks_of_pair_addresses, greater_block_of, lesser_block_of, index_of_pair_address};
 
 use lfs_device::Error;
 use std::alloc::Global;
 use std::collections::BTreeMap;
 use std::marker::Model;
 
-fn lesser(pair: [u32; 2]) -> u32
+fn lesser_block(pair: [u32; 2]) -> u32
     ensures { result ≡ lesser_block_of (pair_address_of_array pair) }
 {
     pair[0].min(pair[1])
@@ -36,13 +36,13 @@ impl Model for PairAddressList {
     ghost use Rattle.std.specs.Ordering.{nat_cmp};
     ghost use Rattle.std.specs.BTreeMap.{get};
     ghost use Rattle.lfs_model.specs.Slots.{pair_address_of_array};
-    ghost use Rattle.lfs_thread.specs.Places.{IsIndexByLesserBlock};
+    ghost use Rattle.lfs_thread.specs.Places.{FindsPairAddressesByLesserBlock};
 
     ghost Value = { List (ℕ × ℕ) };
 
     ghost view = { λ p. map pair_address_of_array p.addresses.items };
 
-    ghost invariant = { λ p. IsIndexByLesserBlock (map pair_address_of_array p.addresses.items) (get nat_cmp p.by_block) };
+    ghost invariant = { λ p. FindsPairAddressesByLesserBlock (map pair_address_of_array p.addresses.items) (get nat_cmp p.by_block) };
 }
 
 impl PairAddressList {
@@ -60,12 +60,12 @@ impl PairAddressList {
     ///
     /// Errors: `NoMemory` where memory isn't granted; nothing has changed then.
     pub fn add(&mut self, pair: [u32; 2]) -> Result<(), Error>
-        requires { IsDistinct nat_eq (blocks_of_addresses (self.old ++ pair_address_of_array pair ∷ [])) }
+        requires { IsDistinct nat_eq (blocks_of_pair_addresses (self.old ++ pair_address_of_array pair ∷ [])) }
         ensures added { OnOk result (self.new ≡ self.old ++ pair_address_of_array pair ∷ []) }
         ensures same { OnErr result (self.new ≡ self.old) }
         ensures error { IfErr result (λ e. e ≡ Error.NoMemory) }
     {
-        let block = lesser(pair);
+        let block = lesser_block(pair);
         let place = self.addresses.len() as u32;
         self.addresses.push(pair)?;
         if self.by_block.insert(block, place).is_err() {
@@ -78,12 +78,12 @@ impl PairAddressList {
     /// Returns the place of the pair that has these two blocks, in either order. Returns None where
     /// no pair of the list has them.
     pub fn find(&self, pair: [u32; 2]) -> Option<u32>
-        ensures value { result ≡ place_of_pair_address self.now (pair_address_of_array pair) }
+        ensures value { result ≡ index_of_pair_address self.now (pair_address_of_array pair) }
         ensures within { IfSome result (λ place. place < length self.now) }
-        ensures there { IfSome result (IsSamePairAtPlace self.now (pair_address_of_array pair)) }
+        ensures there { IfSome result (IsSamePairAddressAtIndex self.now (pair_address_of_array pair)) }
         ensures nowhere { IfNone result (AllByRecursion (λ a. same_pair a (pair_address_of_array pair) ≡ false) self.now) }
     {
-        let Some(place) = self.by_block.get(&lesser(pair)) else {
+        let Some(place) = self.by_block.get(&lesser_block(pair)) else {
             return None;
         };
         let place = *place;

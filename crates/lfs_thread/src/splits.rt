@@ -2,12 +2,12 @@
 
 ghost use Rattle.std.specs.Prelude.{◌≡◌, ◌+◌, OnOk};
 ghost use Rattle.lfs_model.specs.Slots.{pair_address_of_array};
-ghost use Rattle.lfs_pair.specs.Writing.{ChangesBlocksWithFewReads};
+ghost use Rattle.lfs_pair.specs.Writing.{ChangesOnlyBlocksWithinReadLimit};
 ghost use Rattle.lfs_pair.specs.ChangeView.{changes_view};
-ghost use Rattle.lfs_thread.specs.Device.{StopsAfterCleanErasesLeave, ReportsIoOrUnwrittenNoMemory, blocks_of_two_addresses};
+ghost use Rattle.lfs_thread.specs.Device.{PowerLossLeavesSuchBlocksAfterCleanErases, IoMeansFaultNoMemoryWritesNothing, blocks_of_two_pair_addresses};
 ghost use Rattle.lfs_thread.specs.Kept.{IsCacheCurrent, IsKeptThreadOnDevice, kept_thread_of_device};
 ghost use Rattle.lfs_thread.specs.CachedLog.{log_among_cached_blocks, read_count_unless_cached};
-ghost use Rattle.lfs_thread.specs.Steps.{CanSplitPairAtIndex, LeavesPairOldOrSplit, IsSplitInTwo, kept_pair_at_index};
+ghost use Rattle.lfs_thread.specs.Steps.{CanSplitPairAtIndex, PowerLossLeavesPairOldOrSplit, IsPairSplitInTwo, thread_pair_at_index};
 
 use crate::commits::split_with_cache;
 use lfs_alloc::BlockMap;
@@ -33,12 +33,12 @@ pub(crate) fn split_pair<D: BlockDevice>(
     requires can { CanSplitPairAtIndex (kept_thread_of_device D.BlockDevice device.old pairs.old.items map.old) index (pair_address_of_array fresh) (changes_view changes.now) }
     ensures kept { OnOk result (IsKeptThreadOnDevice D.BlockDevice device.new pairs.new.items map.new) }
     ensures current { IsCacheCurrent (D.blocks device.new) cache.new }
-    ensures is_split { OnOk result (IsSplitInTwo (kept_thread_of_device D.BlockDevice device.old pairs.old.items map.old) index (pair_address_of_array fresh) (changes_view changes.now)
+    ensures is_split { OnOk result (IsPairSplitInTwo (kept_thread_of_device D.BlockDevice device.old pairs.old.items map.old) index (pair_address_of_array fresh) (changes_view changes.now)
         (kept_thread_of_device D.BlockDevice device.new pairs.new.items map.new)) }
-    ensures device { ChangesBlocksWithFewReads D.BlockDevice (3 + read_count_unless_cached (log_among_cached_blocks (kept_thread_of_device D.BlockDevice device.old pairs.old.items map.old) cache.old index)) (blocks_of_two_addresses (kept_pair_at_index (kept_thread_of_device D.BlockDevice device.old pairs.old.items map.old) index).at (pair_address_of_array fresh)) device.old device.new }
-    ensures errors { ReportsIoOrUnwrittenNoMemory D.BlockDevice device.old device.new result }
-    ensures stops { StopsAfterCleanErasesLeave (D.history device.old) (D.history device.new)
-        (LeavesPairOldOrSplit (kept_thread_of_device D.BlockDevice device.old pairs.old.items map.old) index (pair_address_of_array fresh) (changes_view changes.now)) }
+    ensures device { ChangesOnlyBlocksWithinReadLimit D.BlockDevice (3 + read_count_unless_cached (log_among_cached_blocks (kept_thread_of_device D.BlockDevice device.old pairs.old.items map.old) cache.old index)) (blocks_of_two_pair_addresses (thread_pair_at_index (kept_thread_of_device D.BlockDevice device.old pairs.old.items map.old) index).at (pair_address_of_array fresh)) device.old device.new }
+    ensures errors { IoMeansFaultNoMemoryWritesNothing D.BlockDevice device.old device.new result }
+    ensures stops { PowerLossLeavesSuchBlocksAfterCleanErases (D.history device.old) (D.history device.new)
+        (PowerLossLeavesPairOldOrSplit (kept_thread_of_device D.BlockDevice device.old pairs.old.items map.old) index (pair_address_of_array fresh) (changes_view changes.now)) }
 {
     let mut pair = pairs[index];
     // This takes the memory for the fresh pair's header, before anything is written.

@@ -1,35 +1,35 @@
 ghost use Rattle.std.specs.Prelude.{ℕ, ◌+◌, ◌*◌, ◌≤◌, if◌then◌else◌, None, Some, List, Contains, ◌↔◌, IfOk, ◌≡◌, IsTrue, true, OnErr, ◌⊎◌, ◌<◌, length, false, is_err, [], replicate, slice_set, IfErr, IfNone, IfSome, IsSome, OnOk, option_copied, ◌-◌, min, take, drop, slice_range};
 ghost use Rattle.std.specs.Option.{option_map};
 ghost use Rattle.lfs_model.specs.Content.{content_of_pair_at, current_block_of_pair_at};
-ghost use Rattle.lfs_model.specs.BlockSets.{AreExactlyTheInFlightBlocks, AreExactlyTheUsedBlocks, IsFree, IsInFlight, IsUsed, used_count};
+ghost use Rattle.lfs_model.specs.BlockSets.{AreExactlyTheInFlightBlocks, AreExactlyTheUsedBlocks, IsBlockFree, IsBlockInFlight, IsBlockUsed, used_count};
 ghost use Rattle.lfs_model.specs.BlockSets.BlockState.{Free, InFlight};
-ghost use Rattle.lfs_model.specs.SkipLists.{IsSkipList, bytes_of};
-ghost use Rattle.lfs_model.specs.History.{AreCallsSinceOnlyReads, faults, reads};
+ghost use Rattle.lfs_model.specs.SkipLists.{IsSkipList, bytes_of_skip_list};
+ghost use Rattle.lfs_model.specs.History.{AreCallsSinceOnlyReads, fault_count_of_history, read_count_of_history};
 ghost use Rattle.lfs_model.specs.Slots.{pair_address_of_array};
-ghost use Rattle.lfs_model.specs.Thread.{IsThread, Pair as ThreadPair, blocks_of_pairs, gstate_of, is_hard_tail};
+ghost use Rattle.lfs_model.specs.Thread.{IsThreadOfMetadataPairs, Pair as ThreadPair, blocks_of_pairs, gstate_of_pairs, is_hard_tail};
 ghost use Rattle.lfs_tag.specs.ContentView.{tail_view};
 ghost use Rattle.lfs_tag.specs.FieldsView.{move_view};
 ghost use Rattle.lfs_pair.specs.ChangeView.{changes_view};
-ghost use Rattle.lfs_thread.specs.Beside.{CanRunWork, HasRunWorkOnDeviceAndMap, DiskHasGeometry, KeepsUsedBlocksOfPairs, WorkMayReturn, HasDeviceAndMap};
-ghost use Rattle.lfs_thread.specs.Device.{GivesDeviceBackWithError, StopsAfterCleanErasesLeave, blocks_of_two_addresses, blocks_of_address};
+ghost use Rattle.lfs_thread.specs.Beside.{CanCallClosureOnDeviceAndMap, HasRunWorkOnDeviceAndMap, DiskHasGeometry, LeavesUsedBlocksOfPairsUnchangedAndUsed, MayClosureOnDeviceAndMapReturn, AreDeviceAndMapOfThread};
+ghost use Rattle.lfs_thread.specs.Device.{GivesDeviceBackOnlyReadWithError, PowerLossLeavesSuchBlocksAfterCleanErases, blocks_of_two_pair_addresses, blocks_of_pair_address};
 ghost use Rattle.lfs_thread.specs.Kept.{IsCacheCurrent, IsKeptThreadOnDevice, WasKeptThreadOnDevice, disk_of_device, kept_thread_of_device};
 ghost use Rattle.lfs_thread.specs.CachedLog.{IsLogBlockOfContent, cached_log, cache_after_load, read_count_unless_cached};
-ghost use Rattle.lfs_thread.specs.Reading.{IsThreadReadFrom};
-ghost use Rattle.lfs_thread.specs.Steps.{CanSplitPairAtIndex, CanChangePair, CanDropNextPair, CanThreadInFreshPair, HasReportedIoOrUnwrittenNoMemory, HasReportedIoOrNoMemoryBesideBlocks, IsThreadingInRefused, IsFreshPairThreadedIn, LeavesPairOldOrThreadedIn, IsPairChanged, IsPairAfterIndexDropped, LeavesPairOldOrChanged, LeavesPairOldOrSplit, IsThreadOnlyRead, IsCommitRefused, IsSplitInTwo, ThreadChangesWithFewReads, kept_pair_at_index};
+ghost use Rattle.lfs_thread.specs.Reading.{IsThreadReadFromDevice};
+ghost use Rattle.lfs_thread.specs.Steps.{CanSplitPairAtIndex, CanChangePair, CanDropNextPair, CanThreadInFreshPair, IoMeantFaultNoMemoryWroteNothing, IoMeantFaultNoMemoryKeptOtherBlocks, IsThreadingInRefused, IsFreshPairThreadedIn, PowerLossLeavesPairOldOrThreadedIn, IsPairChanged, IsPairAfterIndexDropped, PowerLossLeavesPairOldOrChanged, PowerLossLeavesPairOldOrSplit, IsThreadOnlyRead, IsCommitRefused, IsPairSplitInTwo, ThreadChangesOnlyBlocksWithinReadLimit, thread_pair_at_index};
 
 use crate::commits::commit_with_cache;
 use crate::deltas::global_state_of_pairs;
 use crate::drops::drop_next_pair;
 use crate::headers::read_thread_headers;
 use crate::joins::thread_in_fresh_pair;
-use crate::parts::Parts;
+use crate::parts::ThreadParts;
 use crate::splits::split_pair;
 use lfs_alloc::BlockMap;
 use lfs_cache::Cache;
 use lfs_ctz::read_at;
 use lfs_device::{BlockDevice, Error, Geometry};
 use lfs_pair::{Change, Outcome, Pair};
-use lfs_tag::{Log, MoveState, Tail, is_hard};
+use lfs_tag::{Log, MoveState, Tail, has_hard_tail};
 use std::alloc::Global;
 use std::marker::Model;
 
@@ -75,10 +75,10 @@ impl<D: BlockDevice> Thread<D> {
     /// `Io` where a read failed. `NoMemory` where memory for the headers, the map or a block and
     /// its slots isn't granted. The device comes back with an error.
     pub fn read(alloc: Global, mut device: D) -> Result<Thread<D>, (D, Error)>
-        ensures read { IfOk result (IsThreadReadFrom D.BlockDevice device) }
-        ensures corrupt { IfErr result (λ e. e.1 ≡ Error.Corrupt → (ps : List ThreadPair) → ¬ IsThread (content_of_pair_at (disk_of_device D.BlockDevice device)) (D.geometry device).block_count ps) }
+        ensures read { IfOk result (IsThreadReadFromDevice D.BlockDevice device) }
+        ensures corrupt { IfErr result (λ e. e.1 ≡ Error.Corrupt → (ps : List ThreadPair) → ¬ IsThreadOfMetadataPairs (content_of_pair_at (disk_of_device D.BlockDevice device)) (D.geometry device).block_count ps) }
         ensures errors { IfErr result (λ e. (e.1 ≡ Error.Corrupt) ⊎ ((e.1 ≡ Error.Io) ⊎ (e.1 ≡ Error.NoMemory))) }
-        ensures back { IfErr result (λ e. GivesDeviceBackWithError D.BlockDevice device e.0 e.1) }
+        ensures back { IfErr result (λ e. GivesDeviceBackOnlyReadWithError D.BlockDevice device e.0 e.1) }
     {
         let block_count = device.geometry().block_count;
         let mut pairs = Vec::new(alloc);
@@ -100,14 +100,14 @@ impl<D: BlockDevice> Thread<D> {
 
     /// Takes the thread apart, for work on all of its parts at once. [`Thread::from_parts`] makes
     /// them a thread again.
-    pub fn into_parts(self) -> Parts<D>
+    pub fn into_parts(self) -> ThreadParts<D>
         requires works { self.failed ≡ false }
         ensures kept { IsKeptThreadOnDevice D.BlockDevice result.device result.pairs.items result.map }
         ensures same { kept_thread_of_device D.BlockDevice result.device result.pairs.items result.map ≡ self.kept }
         ensures current { IsCacheCurrent (D.blocks result.device) result.cache }
         ensures cache { result.cache ≡ self.cache }
     {
-        Parts {
+        ThreadParts {
             device: self.device,
             cache: self.cache,
             pairs: self.pairs,
@@ -118,7 +118,7 @@ impl<D: BlockDevice> Thread<D> {
     /// Makes a thread of its parts. The headers are those of the device's thread, as they were read
     /// at some time, and the device was only read since then. The map has the blocks of the pairs
     /// as used. Each block of the cache has the bytes that the device has.
-    pub fn from_parts(parts: Parts<D>) -> Thread<D>
+    pub fn from_parts(parts: ThreadParts<D>) -> Thread<D>
         requires kept { WasKeptThreadOnDevice D.BlockDevice parts.device parts.pairs.items parts.map }
         requires current { IsCacheCurrent (D.blocks parts.device) parts.cache }
         ensures works { result.failed ≡ false }
@@ -155,7 +155,7 @@ impl<D: BlockDevice> Thread<D> {
     /// move problem").
     pub fn state(&self) -> MoveState
         requires works { self.now.failed ≡ false }
-        ensures { move_view result ≡ gstate_of self.now.kept.pairs }
+        ensures { move_view result ≡ gstate_of_pairs self.now.kept.pairs }
     {
         global_state_of_pairs(&self.pairs)
     }
@@ -169,9 +169,9 @@ impl<D: BlockDevice> Thread<D> {
 
     /// Returns the two blocks of a pair, in the order in which the thread names them. `index` is
     /// the pair's number in the thread, from 0 on.
-    pub fn address(&self, index: usize) -> [u32; 2]
+    pub fn blocks_of_pair(&self, index: usize) -> [u32; 2]
         requires { index < length self.now.kept.pairs }
-        ensures { pair_address_of_array result ≡ (kept_pair_at_index self.now.kept index).at }
+        ensures { pair_address_of_array result ≡ (thread_pair_at_index self.now.kept index).at }
     {
         self.pairs[index].blocks
     }
@@ -180,7 +180,7 @@ impl<D: BlockDevice> Thread<D> {
     pub fn slot_count(&self, index: usize) -> usize
         requires works { self.now.failed ≡ false }
         requires below { index < length self.now.kept.pairs }
-        ensures { result ≡ length (kept_pair_at_index self.now.kept index).content.slots }
+        ensures { result ≡ length (thread_pair_at_index self.now.kept index).content.slots }
     {
         self.pairs[index].slot_count
     }
@@ -191,10 +191,10 @@ impl<D: BlockDevice> Thread<D> {
     pub fn next(&self, index: usize) -> Option<usize>
         requires works { self.now.failed ≡ false }
         requires below { index < length self.now.kept.pairs }
-        ensures next { result ≡ (if is_hard_tail (kept_pair_at_index self.now.kept index).content.tail then Some (index + 1) else None) }
+        ensures next { result ≡ (if is_hard_tail (thread_pair_at_index self.now.kept index).content.tail then Some (index + 1) else None) }
         ensures below { IfSome result (λ next. next < length self.now.kept.pairs) }
     {
-        if is_hard(self.pairs[index].tail) {
+        if has_hard_tail(self.pairs[index].tail) {
             Some(index + 1)
         } else {
             None
@@ -203,10 +203,10 @@ impl<D: BlockDevice> Thread<D> {
 
     /// Returns the tail of a pair: which pair is the next one of the thread, and whether it
     /// continues the same directory. Returns None at the thread's end.
-    pub fn tail(&self, index: usize) -> Option<Tail>
+    pub fn tail_of_pair(&self, index: usize) -> Option<Tail>
         requires works { self.now.failed ≡ false }
         requires below { index < length self.now.kept.pairs }
-        ensures { option_map tail_view result ≡ (kept_pair_at_index self.now.kept index).content.tail }
+        ensures { option_map tail_view result ≡ (thread_pair_at_index self.now.kept index).content.tail }
     {
         self.pairs[index].tail
     }
@@ -215,7 +215,7 @@ impl<D: BlockDevice> Thread<D> {
     pub fn delta(&self, index: usize) -> MoveState
         requires works { self.now.failed ≡ false }
         requires below { index < length self.now.kept.pairs }
-        ensures { move_view result ≡ (kept_pair_at_index self.now.kept index).content.move }
+        ensures { move_view result ≡ (thread_pair_at_index self.now.kept index).content.move }
     {
         self.pairs[index].move_state
     }
@@ -231,9 +231,9 @@ impl<D: BlockDevice> Thread<D> {
         ensures cached_log { OnOk result (IsSome (cached_log self.new index)) }
         ensures no_call { IsSome (cached_log self.old index) → self.new.kept ≡ self.old.kept }
         ensures only { IsThreadOnlyRead self.old.kept self.new.kept }
-        ensures few { reads self.new.kept.history ≤ reads self.old.kept.history + 1 }
+        ensures few { read_count_of_history self.new.kept.history ≤ read_count_of_history self.old.kept.history + 1 }
         ensures works { self.new.failed ≡ false }
-        ensures errors { HasReportedIoOrUnwrittenNoMemory self.old.kept self.new.kept result }
+        ensures errors { IoMeantFaultNoMemoryWroteNothing self.old.kept self.new.kept result }
         // The eight blocks that were loaded last stay cached.
         ensures recent { OnOk result (self.new.cache ≡ cache_after_load self.old index) }
     {
@@ -247,12 +247,12 @@ impl<D: BlockDevice> Thread<D> {
         requires works { self.now.failed ≡ false }
         requires below { index < length self.now.kept.pairs }
         ensures lent { result ≡ cached_log self.now index }
-        ensures holds { IfSome result (λ log. IsLogBlockOfContent log (kept_pair_at_index self.now.kept index).content) }
-        ensures holder { IfSome result (λ log. current_block_of_pair_at self.now.kept.disk (kept_pair_at_index self.now.kept index).at ≡ Some log) }
+        ensures holds { IfSome result (λ log. IsLogBlockOfContent log (thread_pair_at_index self.now.kept index).content) }
+        ensures holder { IfSome result (λ log. current_block_of_pair_at self.now.kept.disk (thread_pair_at_index self.now.kept index).at ≡ Some log) }
     {
         let pair = &self.pairs[index];
         match self.cache.lend(pair.active) {
-            Some(block) => Some(Log::known(block, pair.end, pair.last)),
+            Some(block) => Some(Log::with_known_end(block, pair.end, pair.last)),
             None => None,
         }
     }
@@ -273,10 +273,10 @@ impl<D: BlockDevice> Thread<D> {
         requires works { self.old.failed ≡ false }
         requires list { IsSkipList self.old.kept.disk.blocks self.old.kept.disk.block_size head size }
         ensures count { IfOk result (λ n. (n ≡ min (length buf.old) (size - pos)) × (drop n buf.new ≡ drop n buf.old)) }
-        ensures bytes { IfOk result (λ n. take n buf.new ≡ slice_range (bytes_of self.old.kept.disk.blocks self.old.kept.disk.block_size head size) pos (pos + n)) }
+        ensures bytes { IfOk result (λ n. take n buf.new ≡ slice_range (bytes_of_skip_list self.old.kept.disk.blocks self.old.kept.disk.block_size head size) pos (pos + n)) }
         ensures only { IsThreadOnlyRead self.old.kept self.new.kept }
         ensures same { (self.new.failed ≡ false) × (self.new.cache ≡ self.old.cache) }
-        ensures errors { HasReportedIoOrUnwrittenNoMemory self.old.kept self.new.kept result }
+        ensures errors { IoMeantFaultNoMemoryWroteNothing self.old.kept self.new.kept result }
     {
         read_at(&mut self.device, head, size, pos, buf)
     }
@@ -284,9 +284,9 @@ impl<D: BlockDevice> Thread<D> {
     /// Takes a free block, which is in flight then, and returns its number. Returns None exactly
     /// where no block is free.
     pub fn take(&mut self) -> Option<u32>
-        ensures was_free { IfSome result (IsFree self.old.kept.map) }
+        ensures was_free { IfSome result (IsBlockFree self.old.kept.map) }
         ensures taken { IfSome result (λ block. self.new ≡ record self.old { kept = record self.old.kept { map = slice_set self.old.kept.map block InFlight } }) }
-        ensures none { IfNone result ((block : ℕ) → ¬ IsFree self.old.kept.map block) }
+        ensures none { IfNone result ((block : ℕ) → ¬ IsBlockFree self.old.kept.map block) }
         ensures same { IfNone result (self.new ≡ self.old) }
     {
         match self.map.take() {
@@ -297,7 +297,7 @@ impl<D: BlockDevice> Thread<D> {
 
     /// Makes a block in flight free again, which no commit names.
     pub fn release(&mut self, block: u32)
-        requires { IsInFlight self.old.kept.map block }
+        requires { IsBlockInFlight self.old.kept.map block }
         ensures { self.new ≡ record self.old { kept = record self.old.kept { map = slice_set self.old.kept.map block Free } } }
     {
         self.map.release(block);
@@ -312,7 +312,7 @@ impl<D: BlockDevice> Thread<D> {
     /// Errors: `Io` where a call of the device failed. `NoMemory` where memory for the slots and
     /// for two blocks isn't granted, of which one may be cached; nothing is written then. After
     /// either the thread has failed.
-    pub fn change(
+    pub fn commit_pair_changes(
         &mut self,
         alloc: Global,
         index: usize,
@@ -323,9 +323,9 @@ impl<D: BlockDevice> Thread<D> {
         ensures done { result ≡ Ok Outcome.Done → IsPairChanged self.old.kept index (changes_view changes.now) self.new.kept }
         ensures full { result ≡ Ok Outcome.Full → IsCommitRefused self.old.kept index (changes_view changes.now) self.new.kept }
         ensures failed { self.new.failed ≡ is_err result }
-        ensures errors { HasReportedIoOrUnwrittenNoMemory self.old.kept self.new.kept result }
-        ensures device { ThreadChangesWithFewReads (1 + read_count_unless_cached (cached_log self.old index)) (blocks_of_address (kept_pair_at_index self.old.kept index).at) self.old.kept self.new.kept }
-        ensures stops { StopsAfterCleanErasesLeave self.old.kept.history self.new.kept.history (LeavesPairOldOrChanged self.old.kept index (changes_view changes.now)) }
+        ensures errors { IoMeantFaultNoMemoryWroteNothing self.old.kept self.new.kept result }
+        ensures device { ThreadChangesOnlyBlocksWithinReadLimit (1 + read_count_unless_cached (cached_log self.old index)) (blocks_of_pair_address (thread_pair_at_index self.old.kept index).at) self.old.kept self.new.kept }
+        ensures stops { PowerLossLeavesSuchBlocksAfterCleanErases self.old.kept.history self.new.kept.history (PowerLossLeavesPairOldOrChanged self.old.kept index (changes_view changes.now)) }
     {
         let outcome = commit_with_cache(
             alloc,
@@ -343,7 +343,7 @@ impl<D: BlockDevice> Thread<D> {
     /// the thread. It gets the other slots and the tail, which still names the same pair. The two
     /// blocks are in flight before, and used afterwards.
     ///
-    /// Errors are those of [`change`](Thread::change).
+    /// Errors are those of [`commit_pair_changes`](Thread::commit_pair_changes).
     pub fn split(
         &mut self,
         alloc: Global,
@@ -353,11 +353,11 @@ impl<D: BlockDevice> Thread<D> {
     ) -> Result<(), Error>
         requires works { self.old.failed ≡ false }
         requires can { CanSplitPairAtIndex self.old.kept index (pair_address_of_array fresh) (changes_view changes.now) }
-        ensures done { OnOk result (IsSplitInTwo self.old.kept index (pair_address_of_array fresh) (changes_view changes.now) self.new.kept) }
+        ensures done { OnOk result (IsPairSplitInTwo self.old.kept index (pair_address_of_array fresh) (changes_view changes.now) self.new.kept) }
         ensures failed { self.new.failed ≡ is_err result }
-        ensures errors { HasReportedIoOrUnwrittenNoMemory self.old.kept self.new.kept result }
-        ensures device { ThreadChangesWithFewReads (3 + read_count_unless_cached (cached_log self.old index)) (blocks_of_two_addresses (kept_pair_at_index self.old.kept index).at (pair_address_of_array fresh)) self.old.kept self.new.kept }
-        ensures stops { StopsAfterCleanErasesLeave self.old.kept.history self.new.kept.history (LeavesPairOldOrSplit self.old.kept index (pair_address_of_array fresh) (changes_view changes.now)) }
+        ensures errors { IoMeantFaultNoMemoryWroteNothing self.old.kept self.new.kept result }
+        ensures device { ThreadChangesOnlyBlocksWithinReadLimit (3 + read_count_unless_cached (cached_log self.old index)) (blocks_of_two_pair_addresses (thread_pair_at_index self.old.kept index).at (pair_address_of_array fresh)) self.old.kept self.new.kept }
+        ensures stops { PowerLossLeavesSuchBlocksAfterCleanErases self.old.kept.history self.new.kept.history (PowerLossLeavesPairOldOrSplit self.old.kept index (pair_address_of_array fresh) (changes_view changes.now)) }
     {
         let result = split_pair(
             alloc,
@@ -380,7 +380,7 @@ impl<D: BlockDevice> Thread<D> {
     /// Returns `Full` where what the changes make doesn't fit that pair. Then no tail names the
     /// fresh pair, and its blocks stay in flight.
     ///
-    /// Errors are those of [`change`](Thread::change), except that at `NoMemory` the two blocks may
+    /// Errors are those of [`commit_pair_changes`](Thread::commit_pair_changes), except that at `NoMemory` the two blocks may
     /// have been written.
     pub fn thread_in(
         &mut self,
@@ -394,9 +394,9 @@ impl<D: BlockDevice> Thread<D> {
         ensures done { result ≡ Ok Outcome.Done → IsFreshPairThreadedIn self.old.kept index (pair_address_of_array fresh) (changes_view changes.now) self.new.kept }
         ensures full { result ≡ Ok Outcome.Full → IsThreadingInRefused self.old.kept index (pair_address_of_array fresh) (changes_view changes.now) self.new.kept }
         ensures failed { self.new.failed ≡ is_err result }
-        ensures errors { HasReportedIoOrNoMemoryBesideBlocks (blocks_of_address (pair_address_of_array fresh)) self.old.kept self.new.kept result }
-        ensures device { ThreadChangesWithFewReads (3 + read_count_unless_cached (cached_log self.old index)) (blocks_of_two_addresses (kept_pair_at_index self.old.kept index).at (pair_address_of_array fresh)) self.old.kept self.new.kept }
-        ensures stops { StopsAfterCleanErasesLeave self.old.kept.history self.new.kept.history (LeavesPairOldOrThreadedIn self.old.kept index (pair_address_of_array fresh) (changes_view changes.now)) }
+        ensures errors { IoMeantFaultNoMemoryKeptOtherBlocks (blocks_of_pair_address (pair_address_of_array fresh)) self.old.kept self.new.kept result }
+        ensures device { ThreadChangesOnlyBlocksWithinReadLimit (3 + read_count_unless_cached (cached_log self.old index)) (blocks_of_two_pair_addresses (thread_pair_at_index self.old.kept index).at (pair_address_of_array fresh)) self.old.kept self.new.kept }
+        ensures stops { PowerLossLeavesSuchBlocksAfterCleanErases self.old.kept.history self.new.kept.history (PowerLossLeavesPairOldOrThreadedIn self.old.kept index (pair_address_of_array fresh) (changes_view changes.now)) }
     {
         let outcome = thread_in_fresh_pair(
             alloc,
@@ -416,7 +416,7 @@ impl<D: BlockDevice> Thread<D> {
     /// `index`, and give it a tail that names what the dropped pair's tail names. The dropped
     /// pair's blocks are free afterwards.
     ///
-    /// Returns `Full`, and ends in errors, as [`change`](Thread::change) does.
+    /// Returns `Full`, and ends in errors, as [`commit_pair_changes`](Thread::commit_pair_changes) does.
     pub fn drop_next(
         &mut self,
         alloc: Global,
@@ -428,9 +428,9 @@ impl<D: BlockDevice> Thread<D> {
         ensures done { result ≡ Ok Outcome.Done → IsPairAfterIndexDropped self.old.kept index (changes_view changes.now) self.new.kept }
         ensures full { result ≡ Ok Outcome.Full → IsCommitRefused self.old.kept index (changes_view changes.now) self.new.kept }
         ensures failed { self.new.failed ≡ is_err result }
-        ensures errors { HasReportedIoOrUnwrittenNoMemory self.old.kept self.new.kept result }
-        ensures device { ThreadChangesWithFewReads (1 + read_count_unless_cached (cached_log self.old index)) (blocks_of_address (kept_pair_at_index self.old.kept index).at) self.old.kept self.new.kept }
-        ensures stops { StopsAfterCleanErasesLeave self.old.kept.history self.new.kept.history (LeavesPairOldOrChanged self.old.kept index (changes_view changes.now)) }
+        ensures errors { IoMeantFaultNoMemoryWroteNothing self.old.kept self.new.kept result }
+        ensures device { ThreadChangesOnlyBlocksWithinReadLimit (1 + read_count_unless_cached (cached_log self.old index)) (blocks_of_pair_address (thread_pair_at_index self.old.kept index).at) self.old.kept self.new.kept }
+        ensures stops { PowerLossLeavesSuchBlocksAfterCleanErases self.old.kept.history self.new.kept.history (PowerLossLeavesPairOldOrChanged self.old.kept index (changes_view changes.now)) }
     {
         let outcome = drop_next_pair(
             alloc,
@@ -448,11 +448,14 @@ impl<D: BlockDevice> Thread<D> {
     /// Lends the device and the map to `work`, which leaves the blocks of the pairs as they are,
     /// and used. Such work writes a file's list into free blocks or blocks in flight, or settles it
     /// in the map. The cache is empty afterwards.
-    pub fn beside<X, F: FnOnce(&mut D, &mut BlockMap) -> X>(&mut self, work: F) -> X
+    pub fn run_work_on_device_and_map<X, F: FnOnce(&mut D, &mut BlockMap) -> X>(
+        &mut self,
+        work: F,
+    ) -> X
         requires works { self.old.failed ≡ false }
-        requires can { (device : D) (map : BlockMap) → HasDeviceAndMap D.BlockDevice self.old.kept device map → CanRunWork F.FnOnce work device map }
-        requires leaves { (device : D) (map : BlockMap) (x : X) (later : D) (later_map : BlockMap) → HasDeviceAndMap D.BlockDevice self.old.kept device map
-            → WorkMayReturn F.FnOnce work device map x later later_map → KeepsUsedBlocksOfPairs D.BlockDevice self.old.kept device map later later_map }
+        requires can { (device : D) (map : BlockMap) → AreDeviceAndMapOfThread D.BlockDevice self.old.kept device map → CanCallClosureOnDeviceAndMap F.FnOnce work device map }
+        requires leaves { (device : D) (map : BlockMap) (x : X) (later : D) (later_map : BlockMap) → AreDeviceAndMapOfThread D.BlockDevice self.old.kept device map
+            → MayClosureOnDeviceAndMapReturn F.FnOnce work device map x later later_map → LeavesUsedBlocksOfPairsUnchangedAndUsed D.BlockDevice self.old.kept device map later later_map }
         ensures ran { HasRunWorkOnDeviceAndMap D.BlockDevice F.FnOnce work self.old.kept result self.new.kept }
         ensures pairs { self.new.kept.pairs ≡ self.old.kept.pairs }
         ensures works { self.new.failed ≡ false }
@@ -477,7 +480,7 @@ impl<D: BlockDevice> Thread<D> {
     }
 
     /// Makes a failed thread of its parts. Nothing is known of what its device holds.
-    pub fn unread(parts: Parts<D>) -> Thread<D>
+    pub fn failed_thread_of_parts(parts: ThreadParts<D>) -> Thread<D>
         ensures failed { result.failed ≡ true }
         ensures kept { result.kept ≡ kept_thread_of_device D.BlockDevice parts.device parts.pairs.items parts.map }
     {
@@ -507,7 +510,7 @@ impl<D: BlockDevice> Thread<D> {
     /// Returns whether a block is used. A block in flight isn't.
     pub fn is_used(&self, block: u32) -> bool
         requires { block < length self.now.kept.map }
-        ensures { IsTrue result ↔ IsUsed self.now.kept.map block }
+        ensures { IsTrue result ↔ IsBlockUsed self.now.kept.map block }
     {
         self.map.is_used(block)
     }

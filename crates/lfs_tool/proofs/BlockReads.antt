@@ -8,11 +8,11 @@ use Rattle.std.proofs.lemmas.Bool.{cases_lt}
 use Rattle.std.proofs.lemmas.List.{append-nil, drop-append-le, length-take-le, take-append-le, take_all}
 use Rattle.std.proofs.lemmas.List.Elements.{All-push}
 use Rattle.lfs_tool.specs.declared.block_excerpt.BlockExcerpt.{BlockExcerpt}
-use Rattle.lfs_tool.specs.ExcerptBlocks.{AreExcerptsOfBlockSize, block_of_excerpt, blocks_of_excerpts}
-use Rattle.lfs_tool.specs.Excerpt.{AreExcerptsOfBlocks, IsBlockExcerpt}
+use Rattle.lfs_tool.specs.ExcerptBlocks.{AreExcerptsOfBlocksWithSize, block_of_excerpt, blocks_of_excerpts}
+use Rattle.lfs_tool.specs.Excerpt.{AreSameSizedExcerptsOfBlocks, IsSameSizedExcerptOfBlock}
 use Rattle.lfs_model.specs.Blocks.{Blocks, cut}
 use Rattle.lfs_model.specs.Disk.{IsImageOfWholeBlocks}
-use Rattle.lfs_tool.specs.Blocks.{AreExcerptsOfBytes, FillsBufferWithNextBytes, IsExcerptPushed}
+use Rattle.lfs_tool.specs.Blocks.{AreExcerptsOfAllBlocksOfImageBytes, FillsBufferWithNextBytes, IsExcerptPushed}
 use Rattle.lfs_tool.specs.Reports.{IsReadToEndOrPastImageLimit}
 use Rattle.lfs_tool.proofs.Images.{image_fits}
 use Rattle.lfs_tool.proofs.KnownBytes.{ended_behind, past_the_most, reads_on}
@@ -45,7 +45,7 @@ cut_more size (suc k) items block len one =
     ∙ ap₂ (λ a b. a ∷ cut size (k + 1) b) (take-append-le size items block room) (drop-append-le size items block room)
     ∙ ap (λ l. take size items ∷ l) (cut_more size k (drop size items) block rest one)
 
-excerpts_more : (blocks excerpts : Blocks) (block excerpt : List ℕ) → AreExcerptsOfBlocks blocks excerpts → IsBlockExcerpt block excerpt → AreExcerptsOfBlocks (blocks ++ block ∷ []) (excerpts ++ excerpt ∷ [])
+excerpts_more : (blocks excerpts : Blocks) (block excerpt : List ℕ) → AreSameSizedExcerptsOfBlocks blocks excerpts → IsSameSizedExcerptOfBlock block excerpt → AreSameSizedExcerptsOfBlocks (blocks ++ block ∷ []) (excerpts ++ excerpt ∷ [])
 excerpts_more [] [] block excerpt are is = (is, tt)
 excerpts_more [] (e ∷ es) block excerpt are is = absurd are
 excerpts_more (b ∷ bs) [] block excerpt are is = absurd are
@@ -55,13 +55,13 @@ shown_more : (blocks : List BlockExcerpt) (kept : BlockExcerpt) → blocks_of_ex
 shown_more [] kept = refl
 shown_more (b ∷ blocks) kept = ap (λ l. block_of_excerpt b ∷ l) (shown_more blocks kept)
 
-pub sizes_more : (size : ℕ) (block : List ℕ) (old new : List BlockExcerpt) → AreExcerptsOfBlockSize size old → length block ≡ size → IsExcerptPushed block old new → AreExcerptsOfBlockSize size new
-sizes_more size block old new have one pushed = subst (AreExcerptsOfBlockSize size) (sym pushed.is) (All-push (λ b. b.size ≡ size) old pushed.kept have (pushed.size ∙ one))
+pub sizes_more : (size : ℕ) (block : List ℕ) (old new : List BlockExcerpt) → AreExcerptsOfBlocksWithSize size old → length block ≡ size → IsExcerptPushed block old new → AreExcerptsOfBlocksWithSize size new
+sizes_more size block old new have one pushed = subst (AreExcerptsOfBlocksWithSize size) (sym pushed.is) (All-push (λ b. b.size ≡ size) old pushed.kept have (pushed.size ∙ one))
 
 pub pushed_count : (block : List ℕ) (old new : List BlockExcerpt) → IsExcerptPushed block old new → length new ≡ length old + 1
 pushed_count block old new pushed = ap length pushed.is ∙ length-append old (pushed.kept ∷ [])
 
-pub read_more : (size : ℕ) (items block : List ℕ) (old new : List BlockExcerpt) → AreExcerptsOfBytes size items old → length block ≡ size → IsExcerptPushed block old new → AreExcerptsOfBytes size (items ++ block) new
+pub read_more : (size : ℕ) (items block : List ℕ) (old new : List BlockExcerpt) → AreExcerptsOfAllBlocksOfImageBytes size items old → length block ≡ size → IsExcerptPushed block old new → AreExcerptsOfAllBlocksOfImageBytes size (items ++ block) new
 read_more size items block old new are one pushed =
     let count = pushed_count block old new pushed in
     record {
@@ -87,12 +87,12 @@ comes_closer size len old new large few is more =
 
 -- ---- all that was read so far
 
-none_read : (size : ℕ) → AreExcerptsOfBytes size [] []
+none_read : (size : ℕ) → AreExcerptsOfAllBlocksOfImageBytes size [] []
 none_read size = record { whole = omega arith; excerpts = tt }
 
 -- whole blocks have been read
 abbrev pub HasRead : ℕ → Option (List ℕ) → Option (List ℕ) → List BlockExcerpt → Type 0
-HasRead size old new blocks = (items : List ℕ) × (Consumes old new items × AreExcerptsOfBytes size items blocks)
+HasRead size old new blocks = (items : List ℕ) × (Consumes old new items × AreExcerptsOfAllBlocksOfImageBytes size items blocks)
 
 pub has_read_none : (size : ℕ) (known : Option (List ℕ)) → HasRead size known known []
 has_read_none size None = ([], (tt, none_read size))
@@ -115,9 +115,9 @@ if_same None f h = tt
 if_same (Some bytes) f h = f bytes h
 
 pub read_to_end : (size : ℕ) (first old new : Option (List ℕ)) (buffer : List ℕ) (blocks : List BlockExcerpt) → HasRead size first old blocks → FillsBufferWithNextBytes old new 0 buffer → 0 < length buffer
-    → IfSome first (λ bytes. AreExcerptsOfBytes size bytes blocks)
+    → IfSome first (λ bytes. AreExcerptsOfAllBlocksOfImageBytes size bytes blocks)
 read_to_end size first old new buffer blocks (items, (read, are)) fills some =
-    if_same first (λ bytes is. subst (λ b. AreExcerptsOfBytes size b blocks) (sym (is ∙ append-nil items)) are) (all_bytes first old new items [] read fills.read (fills.last some))
+    if_same first (λ bytes is. subst (λ b. AreExcerptsOfAllBlocksOfImageBytes size b blocks) (sym (is ∙ append-nil items)) are) (all_bytes first old new items [] read fills.read (fills.last some))
 
 -- a part of a block is left over
 not_whole : (size k n len q : ℕ) → 0 < n → n < size → len ≡ size * k + n → len ≡ size * q → ⊥

@@ -3,11 +3,11 @@ use Rattle.std.proofs.Common.{◌≡◌, ◌∙◌, ◌++◌, ◌<◌, ◌≤◌
 use Rattle.std.specs.Prelude.{IfSome}
 use Rattle.std.proofs.lemmas.List.{length-take, take_all}
 use Rattle.lfs_model.specs.Disk.{IsImageOfWholeBlocks}
-use Rattle.lfs_tool.specs.CheckResults.{IsCheckResultOfBytes, AreSizesGivenToCheck}
-use Rattle.lfs_tool.specs.declared.check_result.Checked.{Checked}
-use Rattle.lfs_tool.specs.declared.check_result.Checked.TheVariants as checked
-use Rattle.lfs_tool.specs.declared.check_result.Given.{Given}
-use Rattle.lfs_tool.specs.declared.check_result.Reason.TheVariants as reason
+use Rattle.lfs_tool.specs.CheckResults.{IsCheckResultOfBytes, AreReportedSizesThoseGivenToCheck}
+use Rattle.lfs_tool.specs.declared.check_result.CheckResult.{CheckResult}
+use Rattle.lfs_tool.specs.declared.check_result.CheckResult.TheVariants as checked
+use Rattle.lfs_tool.specs.declared.check_result.GivenSizes.{GivenSizes}
+use Rattle.lfs_tool.specs.declared.check_result.RefusalReason.TheVariants as reason
 use Rattle.lfs_tool.proofs.Images.{image_fits, most}
 
 -- one text behind another
@@ -17,7 +17,7 @@ onto before between after a b first second = second ∙ ap (λ (x : List ℕ). x
 all_there : (bytes items : List ℕ) → items ≡ take most bytes → length items ≤ 268435456 → items ≡ bytes
 all_there bytes items read short = read ∙ take_all most bytes (omega (arith, ap length read, length-take most bytes))
 
-pub checked_read : (known : Option (List ℕ)) (block_size page : ℕ) (items : List ℕ) (c : Checked) → IfSome known (λ bytes. items ≡ take most bytes) → length items ≤ 268435456
+pub checked_read : (known : Option (List ℕ)) (block_size page : ℕ) (items : List ℕ) (c : CheckResult) → IfSome known (λ bytes. items ≡ take most bytes) → length items ≤ 268435456
     → IsCheckResultOfBytes block_size page items c → IfSome known (λ bytes. IsCheckResultOfBytes block_size page bytes c)
 checked_read None block_size page items c read short h = tt
 checked_read (Some bytes) block_size page items c read short h = subst (λ (i : List ℕ). IsCheckResultOfBytes block_size page i c) (all_there bytes items read short) h
@@ -29,9 +29,9 @@ no_image : (block_size page : ℕ) (bytes : List ℕ) → 268435456 < length byt
 no_image block_size page bytes long is = let short = image_fits block_size page bytes is in omega arith
 
 -- where there are more bytes than an image may have
-pub refused_read : (known : Option (List ℕ)) (block_size page : ℕ) (items : List ℕ) (given : Given) (c : Checked) → IfSome known (λ bytes. items ≡ take most bytes) → 268435456 < length items
-    → AreSizesGivenToCheck block_size page items given
-    → ((bytes : List ℕ) → 268435456 < length bytes → (IsImageOfWholeBlocks block_size page bytes → ⊥) → AreSizesGivenToCheck block_size page bytes given → IsCheckResultOfBytes block_size page bytes c)
+pub refused_read : (known : Option (List ℕ)) (block_size page : ℕ) (items : List ℕ) (given : GivenSizes) (c : CheckResult) → IfSome known (λ bytes. items ≡ take most bytes) → 268435456 < length items
+    → AreReportedSizesThoseGivenToCheck block_size page items given
+    → ((bytes : List ℕ) → 268435456 < length bytes → (IsImageOfWholeBlocks block_size page bytes → ⊥) → AreReportedSizesThoseGivenToCheck block_size page bytes given → IsCheckResultOfBytes block_size page bytes c)
     → IfSome known (λ bytes. IsCheckResultOfBytes block_size page bytes c)
 refused_read None block_size page items given c read long is refused = tt
 refused_read (Some bytes) block_size page items given c read long is refused =

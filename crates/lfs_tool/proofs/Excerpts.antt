@@ -3,13 +3,13 @@ use Rattle.std.proofs.Common.{inl, inr, ◌≡◌, ◌∙◌, ◌/◌, ◌%◌, 
 use Rattle.std.proofs.Math.Nat.{mul-div_cancel_left, mul-mod_right}
 use Rattle.lfs_device.specs.declared.error.Error.{Error}
 use Rattle.lfs_device.specs.declared.error.Error.TheVariants.{Corrupt, NoMemory}
-use Rattle.lfs_device.specs.Shown.{disk_of_geometry_and_blocks as shown, ordered}
+use Rattle.lfs_device.specs.Shown.{disk_of_geometry_and_blocks as shown, disk_with_name_order}
 use Rattle.lfs_tool.specs.declared.block_excerpt.BlockExcerpt.{BlockExcerpt}
 use Rattle.lfs_tool.specs.declared.excerpt.Excerpt.{Excerpt}
-use Rattle.lfs_tool.specs.ExcerptBlocks.{AreExcerptsOfBlockSize, blocks_of_excerpts}
-use Rattle.lfs_tool.specs.ExcerptView.{excerpt_blocks, geometry_of}
-use Rattle.lfs_tool.specs.Excerpt.{AreExcerptsOfBlocks, IsExcerptOfDisk}
-use Rattle.lfs_tool.specs.ExcerptShape.{excerpts_show_blocks_of_size}
+use Rattle.lfs_tool.specs.ExcerptBlocks.{AreExcerptsOfBlocksWithSize, blocks_of_excerpts}
+use Rattle.lfs_tool.specs.ExcerptView.{excerpt_blocks, geometry_of_excerpt_device}
+use Rattle.lfs_tool.specs.Excerpt.{AreSameSizedExcerptsOfBlocks, IsDiskOfSameSizedBlockExcerpts}
+use Rattle.lfs_tool.specs.ExcerptShape.{blocks_of_excerpts_have_size}
 use Rattle.lfs_model.specs.Blocks.{cut}
 use Rattle.lfs_model.specs.Disk.{Disk, IsImageOfWholeBlocks, disk_of_image}
 use Rattle.lfs_model.specs.Geometry.{IsValidGeometry}
@@ -17,56 +17,56 @@ use Rattle.lfs_model.specs.Listing.{IsListingOfTree}
 use Rattle.lfs_model.specs.Thread.{Pair}
 use Rattle.lfs_model.specs.View.{HasDiskView, IsAcceptedImage, DiskView}
 use Rattle.lfs_model.specs.declared.order.NameOrder.{NameOrder}
-use Rattle.lfs_tool.specs.Blocks.{AreExcerptsOfBytes, ExcerptShowsBlocks}
+use Rattle.lfs_tool.specs.Blocks.{AreExcerptsOfAllBlocksOfImageBytes, DeviceOfExcerptHasTheseBlocksAndSizes}
 use Rattle.lfs_tool.specs.KnownBytes.{IsListingRefusal}
-use Rattle.lfs_tool.specs.Listings.{HasListingLines, IsMountErrorOfDisk, ListsImage, RefusesToList}
+use Rattle.lfs_tool.specs.Listings.{IsListingTextOfDisk, IsMountErrorOfDisk, IsListingTextOfImage, RefusesToList}
 use Rattle.lfs_tool.proofs.Walked.{HasSizes, listed_from}
 
 -- the disk of these blocks
 abbrev pub disk_with : ℕ → ℕ → NameOrder → List BlockExcerpt → Disk
 disk_with block_size page order blocks = record { block_size = block_size; page = page; order = order; blocks = blocks_of_excerpts blocks }
 
-sizes_of : (block_size page : ℕ) (order : NameOrder) (blocks : List BlockExcerpt) → 1024 ≤ block_size → AreExcerptsOfBlockSize block_size blocks → HasSizes (disk_with block_size page order blocks)
-sizes_of block_size page order blocks enough have = record { enough = enough; count = length blocks; divided = excerpts_show_blocks_of_size block_size (length blocks) blocks refl have }
+sizes_of : (block_size page : ℕ) (order : NameOrder) (blocks : List BlockExcerpt) → 1024 ≤ block_size → AreExcerptsOfBlocksWithSize block_size blocks → HasSizes (disk_with block_size page order blocks)
+sizes_of block_size page order blocks enough have = record { enough = enough; count = length blocks; divided = blocks_of_excerpts_have_size block_size (length blocks) blocks refl have }
 
-blocks_read : (block_size : ℕ) (bytes : List ℕ) (blocks : List BlockExcerpt) → 1024 ≤ block_size → AreExcerptsOfBytes block_size bytes blocks → length bytes / block_size ≡ length blocks
+blocks_read : (block_size : ℕ) (bytes : List ℕ) (blocks : List BlockExcerpt) → 1024 ≤ block_size → AreExcerptsOfAllBlocksOfImageBytes block_size bytes blocks → length bytes / block_size ≡ length blocks
 blocks_read block_size bytes blocks enough are = ap (λ n. n / block_size) are.whole ∙ mul-div_cancel_left (length blocks) (omega arith)
 
-pub image_of_blocks : (block_size page : ℕ) (bytes : List ℕ) (blocks : List BlockExcerpt) → AreExcerptsOfBytes block_size bytes blocks → IsValidGeometry block_size page (length blocks) → IsImageOfWholeBlocks block_size page bytes
+pub image_of_blocks : (block_size page : ℕ) (bytes : List ℕ) (blocks : List BlockExcerpt) → AreExcerptsOfAllBlocksOfImageBytes block_size bytes blocks → IsValidGeometry block_size page (length blocks) → IsImageOfWholeBlocks block_size page bytes
 image_of_blocks block_size page bytes blocks are geometry = record {
   geometry = subst (IsValidGeometry block_size page) (sym (blocks_read block_size bytes blocks geometry.no_smaller are)) geometry;
   whole = ap (λ n. n % block_size) are.whole ∙ mul-mod_right block_size (length blocks);
 }
 
-pub no_image_of_blocks : (block_size page : ℕ) (bytes : List ℕ) (blocks : List BlockExcerpt) → AreExcerptsOfBytes block_size bytes blocks → (IsValidGeometry block_size page (length blocks) → ⊥) → IsImageOfWholeBlocks block_size page bytes → ⊥
+pub no_image_of_blocks : (block_size page : ℕ) (bytes : List ℕ) (blocks : List BlockExcerpt) → AreExcerptsOfAllBlocksOfImageBytes block_size bytes blocks → (IsValidGeometry block_size page (length blocks) → ⊥) → IsImageOfWholeBlocks block_size page bytes → ⊥
 no_image_of_blocks block_size page bytes blocks are none is = none (subst (IsValidGeometry block_size page) (blocks_read block_size bytes blocks is.geometry.no_smaller are) is.geometry)
 
-pub excerpt_of_blocks : (block_size page : ℕ) (order : NameOrder) (bytes : List ℕ) (blocks : List BlockExcerpt) → 1024 ≤ block_size → AreExcerptsOfBytes block_size bytes blocks
-    → IsExcerptOfDisk (disk_of_image block_size page order bytes) (disk_with block_size page order blocks)
+pub excerpt_of_blocks : (block_size page : ℕ) (order : NameOrder) (bytes : List ℕ) (blocks : List BlockExcerpt) → 1024 ≤ block_size → AreExcerptsOfAllBlocksOfImageBytes block_size bytes blocks
+    → IsDiskOfSameSizedBlockExcerpts (disk_of_image block_size page order bytes) (disk_with block_size page order blocks)
 excerpt_of_blocks block_size page order bytes blocks enough are = record {
   block_size = refl;
   order = refl;
-  blocks = subst (λ n. AreExcerptsOfBlocks (cut block_size n bytes) (blocks_of_excerpts blocks)) (sym (blocks_read block_size bytes blocks enough are)) are.excerpts;
+  blocks = subst (λ n. AreSameSizedExcerptsOfBlocks (cut block_size n bytes) (blocks_of_excerpts blocks)) (sym (blocks_read block_size bytes blocks enough are)) are.excerpts;
 }
 
 -- ---- what was found of the excerpt is so of the image
 
 abbrev pub AreListedAlike : Type 0
-AreListedAlike = (disk excerpt : Disk) (view : DiskView) → IsExcerptOfDisk disk excerpt → HasDiskView excerpt view → (whole : DiskView) × (HasDiskView disk whole × ((text : List ℕ) → IsListingOfTree view.tree text → IsListingOfTree whole.tree text))
+AreListedAlike = (disk excerpt : Disk) (view : DiskView) → IsDiskOfSameSizedBlockExcerpts disk excerpt → HasDiskView excerpt view → (whole : DiskView) × (HasDiskView disk whole × ((text : List ℕ) → IsListingOfTree view.tree text → IsListingOfTree whole.tree text))
 
-pub lists_by_excerpt : AreListedAlike → (block_size page : ℕ) (bytes text : List ℕ) (blocks : List BlockExcerpt) (e : Excerpt) → AreExcerptsOfBytes block_size bytes blocks → IsValidGeometry block_size page (length blocks)
-    → AreExcerptsOfBlockSize block_size blocks → ExcerptShowsBlocks block_size page blocks e → (order : NameOrder) → HasListingLines (ordered order (shown (geometry_of e) (excerpt_blocks e))) text → ListsImage block_size page bytes text
+pub lists_by_excerpt : AreListedAlike → (block_size page : ℕ) (bytes text : List ℕ) (blocks : List BlockExcerpt) (e : Excerpt) → AreExcerptsOfAllBlocksOfImageBytes block_size bytes blocks → IsValidGeometry block_size page (length blocks)
+    → AreExcerptsOfBlocksWithSize block_size blocks → DeviceOfExcerptHasTheseBlocksAndSizes block_size page blocks e → (order : NameOrder) → IsListingTextOfDisk (disk_with_name_order order (shown (geometry_of_excerpt_device e) (excerpt_blocks e))) text → IsListingTextOfImage block_size page bytes text
 lists_by_excerpt alike block_size page bytes text blocks e are geometry have is order lines =
-    let found = listed_from (disk_with block_size page order blocks) text (sizes_of block_size page order blocks geometry.no_smaller have) (subst (λ d. HasListingLines d text) (is.disk order) lines) in
+    let found = listed_from (disk_with block_size page order blocks) text (sizes_of block_size page order blocks geometry.no_smaller have) (subst (λ d. IsListingTextOfDisk d text) (is.disk order) lines) in
     let (view, (shows, listing)) = found in
     let whole = alike (disk_of_image block_size page order bytes) (disk_with block_size page order blocks) view (excerpt_of_blocks block_size page order bytes blocks geometry.no_smaller are) shows in
     (image_of_blocks block_size page bytes blocks are geometry, (whole.0, ((order, whole.1.0), whole.1.1 text listing)))
 
 abbrev pub AreRefusedAlike : Type 0
-AreRefusedAlike = (disk excerpt : Disk) (ps : List Pair) → IsExcerptOfDisk disk excerpt → IsAcceptedImage disk ps → IsAcceptedImage excerpt ps
+AreRefusedAlike = (disk excerpt : Disk) (ps : List Pair) → IsDiskOfSameSizedBlockExcerpts disk excerpt → IsAcceptedImage disk ps → IsAcceptedImage excerpt ps
 
-pub refuses_by_excerpt : AreRefusedAlike → (block_size page : ℕ) (bytes : List ℕ) (blocks : List BlockExcerpt) (e : Excerpt) (error : Error) → AreExcerptsOfBytes block_size bytes blocks → IsValidGeometry block_size page (length blocks)
-    → ExcerptShowsBlocks block_size page blocks e → IsMountErrorOfDisk (shown (geometry_of e) (excerpt_blocks e)) error → RefusesToList block_size page bytes error
+pub refuses_by_excerpt : AreRefusedAlike → (block_size page : ℕ) (bytes : List ℕ) (blocks : List BlockExcerpt) (e : Excerpt) (error : Error) → AreExcerptsOfAllBlocksOfImageBytes block_size bytes blocks → IsValidGeometry block_size page (length blocks)
+    → DeviceOfExcerptHasTheseBlocksAndSizes block_size page blocks e → IsMountErrorOfDisk (shown (geometry_of_excerpt_device e) (excerpt_blocks e)) error → RefusesToList block_size page bytes error
 refuses_by_excerpt alike block_size page bytes blocks e Corrupt are geometry is none = (
   image_of_blocks block_size page bytes blocks are geometry,
   λ view (order, (ps, (accepted, same))).

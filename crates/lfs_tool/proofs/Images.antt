@@ -5,7 +5,7 @@ use Rattle.std.proofs.lemmas.List.{length-take, take_all}
 use Rattle.lfs_model.specs.Disk.{IsImageOfWholeBlocks}
 use Rattle.lfs_device.specs.declared.error.Error.{Error}
 use Rattle.lfs_device.specs.declared.error.Error.TheVariants.{Corrupt, Invalid, NoMemory}
-use Rattle.lfs_tool.specs.Listings.{IsImageAcceptedInNoOrder, ListsImage, RefusesToList}
+use Rattle.lfs_tool.specs.Listings.{IsImageAcceptedInNeitherNameOrder, IsListingTextOfImage, RefusesToList}
 
 abbrev pub most : ℕ
 most = 268435457
@@ -31,7 +31,7 @@ image_read block_size page bytes items read is =
 refuses_bytes : (block_size page : ℕ) (bytes items : List ℕ) (e : Error) → items ≡ take most bytes → RefusesToList block_size page items e → RefusesToList block_size page bytes e
 refuses_bytes block_size page bytes items Invalid read h = λ is. h (image_read block_size page bytes items read is)
 refuses_bytes block_size page bytes items NoMemory read h = tt
-refuses_bytes block_size page bytes items Corrupt read h = subst (λ (i : List ℕ). IsImageAcceptedInNoOrder block_size page i) (all_read block_size page bytes items read h.0) h
+refuses_bytes block_size page bytes items Corrupt read h = subst (λ (i : List ℕ). IsImageAcceptedInNeitherNameOrder block_size page i) (all_read block_size page bytes items read h.0) h
 refuses_bytes block_size page bytes items e read h = absurd h
 
 pub refuses_read : (known : Option (List ℕ)) (block_size page : ℕ) (items : List ℕ) (e : Error) → IfSome known (λ bytes. items ≡ take most bytes) → RefusesToList block_size page items e
@@ -40,7 +40,7 @@ refuses_read None block_size page items e read h = tt
 refuses_read (Some bytes) block_size page items e read h = refuses_bytes block_size page bytes items e read h
 
 -- what was written of the lines
-pub with_lines : (known : Option (List ℕ)) (block_size page : ℕ) (text : List ℕ) (P : List ℕ → Type 0) → IfSome known (λ bytes. ListsImage block_size page bytes text) → P text
-    → IfSome known (λ bytes. (t : List ℕ) × (ListsImage block_size page bytes t × P t))
+pub with_lines : (known : Option (List ℕ)) (block_size page : ℕ) (text : List ℕ) (P : List ℕ → Type 0) → IfSome known (λ bytes. IsListingTextOfImage block_size page bytes text) → P text
+    → IfSome known (λ bytes. (t : List ℕ) × (IsListingTextOfImage block_size page bytes t × P t))
 with_lines None block_size page text P lists written = tt
 with_lines (Some bytes) block_size page text P lists written = (text, (lists, written))

@@ -4,7 +4,7 @@ use Rattle.std.specs.Prelude.{Err, IfErr, IfSome, IsErrAnd, Ok, Result, ◌≢�
 use Rattle.lfs_device.specs.declared.error.Error.{Error}
 use Rattle.lfs_device.specs.declared.error.Error.TheVariants.{NoMemory}
 use Rattle.std.proofs.lemmas.Nat.{div-mul-add, mod-mul-add}
-use Rattle.lfs_device.specs.RamDevice.{ram_blocks, ram_bytes, geometry_of}
+use Rattle.lfs_device.specs.RamDevice.{ram_blocks, ram_bytes, geometry_of_ram_device}
 use Rattle.lfs_device.specs.Shown as device
 use Rattle.lfs_device.specs.declared.geometry.Geometry.{Geometry}
 use Rattle.lfs_device.specs.declared.ram.RamDevice.{RamDevice}
@@ -13,36 +13,36 @@ use Rattle.lfs_model.specs.Content.{content_of_pair_at}
 use Rattle.lfs_model.specs.Disk.{Disk, SameGeometry, block_count, disk_of_image}
 use Rattle.lfs_model.specs.Fresh.{IsFreshDisk, empty_tree}
 use Rattle.lfs_model.specs.Geometry.{IsValidGeometry}
-use Rattle.lfs_model.specs.Headline.{IsWritableAndRecovered, IsHealthyWithDiskTree, session_after_operations}
+use Rattle.lfs_model.specs.Headline.{IsDiskWritableAndRecovered, IsSessionHealthyWithDiskTree, session_after_operations}
 use Rattle.lfs_model.specs.Operations.{Operation, Reply}
 use Rattle.lfs_model.specs.Run.{AreSessionSteps, SystemState}
 use Rattle.lfs_model.specs.Session.{Session}
-use Rattle.lfs_model.specs.Source.{IsTreeOfSource, Source}
-use Rattle.lfs_model.specs.State.{HasFailed, Healthy, SessionHealth, mounted}
+use Rattle.lfs_model.specs.Source.{IsTreeMadeFromSource, TreeSource}
+use Rattle.lfs_model.specs.State.{HasFailed, Healthy, SessionHealth, session_after_mount}
 use Rattle.lfs_model.specs.View.{IsAcceptedImage}
-use Rattle.lfs_model.specs.Profile.{IsWritable}
+use Rattle.lfs_model.specs.Profile.{IsWritableImage}
 use Rattle.lfs_model.specs.Shown.{tree_on_disk}
 use Rattle.lfs_model.proofs.Cuts.{length-cut}
 use Rattle.lfs_model.proofs.Kept.{fresh_defined, fresh_settled, fresh_true}
 use Rattle.lfs_model.proofs.Uniqueness.{one_thread}
-use Rattle.lfs_fs.specs.SessionView.{SessionView, system_state_of}
+use Rattle.lfs_fs.specs.SessionView.{SessionView, system_state_of_session_view}
 use Rattle.lfs_tool_folders.specs.Entries.{AreAllEntriesOfSource}
 use Rattle.lfs_tool_folders.specs.declared.entries.SourceEntry.{SourceEntry}
 use Rattle.lfs_tool.specs.AppliedOperations.{AreOperationsApplied, IsFirstRefusalAmongOperations, copying_operations_of_entry, copying_operations_of_entries}
-use Rattle.lfs_tool.specs.MadeImages.{AreImageBytesOfEntries, BeginsOnFreshDisk, IsImageOfSource, RefusesCopyOfEntries}
+use Rattle.lfs_tool.specs.MadeImages.{AreImageBytesOfEntries, SessionBeginsOnFreshDisk, IsImageOfSource, RefusesCopyOfEntries}
 use Rattle.lfs_tool.proofs.Growing.{carried_tree, tree_after}
 use Rattle.lfs_tool.proofs.Refusing.{IsFromFresh, anywhere, comes, has_carried}
 
 -- ---- the geometry
 
-pub begins : (g : Geometry) (d : RamDevice) (h : SessionView) → geometry_of d ≡ g → IsFreshDisk h.tree.disk → (system_state_of h).state ≡ Healthy (mounted empty_tree) → SameGeometry (device.ordered g.order (device.disk_of_geometry_and_blocks (geometry_of d) (ram_blocks d))) h.tree.disk
-    → BeginsOnFreshDisk g (system_state_of h)
+pub begins : (g : Geometry) (d : RamDevice) (h : SessionView) → geometry_of_ram_device d ≡ g → IsFreshDisk h.tree.disk → (system_state_of_session_view h).state ≡ Healthy (session_after_mount empty_tree) → SameGeometry (device.disk_with_name_order g.order (device.disk_of_geometry_and_blocks (geometry_of_ram_device d) (ram_blocks d))) h.tree.disk
+    → SessionBeginsOnFreshDisk g (system_state_of_session_view h)
 begins g d h is fresh state same = record {
   fresh = fresh;
   block_size = same.block_size ∙ ap (λ (x : Geometry). x.block_size) is;
   page = same.page ∙ ap (λ (x : Geometry). x.page) is;
   order = same.order;
-  count = same.count ∙ length-cut (geometry_of d).block_size (geometry_of d).block_count (ram_bytes d) ∙ ap (λ (x : Geometry). x.block_count) is;
+  count = same.count ∙ length-cut (geometry_of_ram_device d).block_size (geometry_of_ram_device d).block_count (ram_bytes d) ∙ ap (λ (x : Geometry). x.block_count) is;
   mounts = state;
 }
 
@@ -69,24 +69,24 @@ some_bytes : (g : Geometry) → 1 ≤ g.block_size
 some_bytes g = let least : 1024 ≤ g.block_size = g.valid.no_smaller in omega (arith, least)
 
 -- what the run left in the device
-pub left : (g : Geometry) (from to : SystemState) (es : List SourceEntry) (d : RamDevice) (bytes : List ℕ) → BeginsOnFreshDisk g from → AreOperationsApplied from (copying_operations_of_entries es) to
-    → device.ordered to.disk.order (device.disk_of_geometry_and_blocks (geometry_of d) (ram_blocks d)) ≡ to.disk
+pub left : (g : Geometry) (from to : SystemState) (es : List SourceEntry) (d : RamDevice) (bytes : List ℕ) → SessionBeginsOnFreshDisk g from → AreOperationsApplied from (copying_operations_of_entries es) to
+    → device.disk_with_name_order to.disk.order (device.disk_of_geometry_and_blocks (geometry_of_ram_device d) (ram_blocks d)) ≡ to.disk
     → bytes ≡ ram_bytes d → AreImageBytesOfEntries g es bytes
 left g from to es d bytes b c shown is =
     let same = session_steps_geometry (copying_operations_of_entries es) c.replies from to c.session_steps in
-    let size : (geometry_of d).block_size ≡ g.block_size = ap (λ (k : Disk). k.block_size) shown ∙ same.block_size ∙ b.block_size in
-    let page : (geometry_of d).page ≡ g.page = ap (λ (k : Disk). k.page) shown ∙ same.page ∙ b.page in
+    let size : (geometry_of_ram_device d).block_size ≡ g.block_size = ap (λ (k : Disk). k.block_size) shown ∙ same.block_size ∙ b.block_size in
+    let page : (geometry_of_ram_device d).page ≡ g.page = ap (λ (k : Disk). k.page) shown ∙ same.page ∙ b.page in
     let order : to.disk.order ≡ g.order = same.order ∙ b.order in
-    let count : (geometry_of d).block_count ≡ g.block_count = sym (length-cut (geometry_of d).block_size (geometry_of d).block_count (ram_bytes d)) ∙ ap block_count shown ∙ same.count ∙ b.count in
+    let count : (geometry_of_ram_device d).block_count ≡ g.block_count = sym (length-cut (geometry_of_ram_device d).block_size (geometry_of_ram_device d).block_count (ram_bytes d)) ∙ ap block_count shown ∙ same.count ∙ b.count in
     let len : length bytes ≡ g.block_size * g.block_count = ap length is ∙ d.size ∙ ap₂ (λ x y. x * y) size count in
-    let blocks : (geometry_of d).block_count ≡ length bytes / g.block_size = count ∙ sym (count_of g.block_size g.block_count bytes (some_bytes g) len) in
+    let blocks : (geometry_of_ram_device d).block_count ≡ length bytes / g.block_size = count ∙ sym (count_of g.block_size g.block_count bytes (some_bytes g) len) in
     record {
       from = from;
       begins = b;
       to = to;
       carried = c;
       len = len;
-      disk = sym shown ∙ (λ j. record { block_size = size j; page = page j; order = order j; blocks = cut (size j) (geometry_of d).block_count (ram_bytes d) })
+      disk = sym shown ∙ (λ j. record { block_size = size j; page = page j; order = order j; blocks = cut (size j) (geometry_of_ram_device d).block_count (ram_bytes d) })
           ∙ ap₂ (λ n xs. record { block_size = g.block_size; page = g.page; order = g.order; blocks = cut g.block_size n xs }) blocks (sym is);
     }
 
@@ -99,7 +99,7 @@ same_session s t e = ap or_else e
     or_else HasFailed = s
     or_else (Healthy z) = z
 
-pub made : (g : Geometry) (known : Option Source) (es : List SourceEntry) (bytes : List ℕ) → AreAllEntriesOfSource known es → AreImageBytesOfEntries g es bytes → IsImageOfSource g known bytes
+pub made : (g : Geometry) (known : Option TreeSource) (es : List SourceEntry) (bytes : List ℕ) → AreAllEntriesOfSource known es → AreImageBytesOfEntries g es bytes → IsImageOfSource g known bytes
 made g known es bytes all l = record {
   len = l.len;
   image = record {
@@ -108,7 +108,7 @@ made g known es bytes all l = record {
   };
   pairs = s.pairs;
   accepted = subst (λ k. IsAcceptedImage k s.pairs) l.disk s.accepted;
-  writable = subst (λ k. IsWritable k s.pairs) l.disk s.writable;
+  writable = subst (λ k. IsWritableImage k s.pairs) l.disk s.writable;
   gstate = s.recovered.gstate;
   tree = shows known all;
 }
@@ -116,28 +116,28 @@ made g known es bytes all l = record {
     f : IsFromFresh l.from
     f = record { fresh = l.begins.fresh; mounts = l.begins.mounts }
 
-    s : IsWritableAndRecovered l.to.disk
+    s : IsDiskWritableAndRecovered l.to.disk
     s = fresh_settled (copying_operations_of_entries es) l.carried.replies l.to (comes l.from l.to (copying_operations_of_entries es) (record { fresh = l.begins.fresh; mounts = l.begins.mounts }) l.carried)
 
-    t : IsHealthyWithDiskTree l.to
+    t : IsSessionHealthyWithDiskTree l.to
     t = fresh_true (copying_operations_of_entries es) l.carried.replies l.to (comes l.from l.to (copying_operations_of_entries es) (record { fresh = l.begins.fresh; mounts = l.begins.mounts }) l.carried)
 
-    after : t.session ≡ session_after_operations anywhere (mounted empty_tree) (flat_map copying_operations_of_entry es) l.carried.replies
-    after = same_session t.session (session_after_operations anywhere (mounted empty_tree) (flat_map copying_operations_of_entry es) l.carried.replies)
+    after : t.session ≡ session_after_operations anywhere (session_after_mount empty_tree) (flat_map copying_operations_of_entry es) l.carried.replies
+    after = same_session t.session (session_after_operations anywhere (session_after_mount empty_tree) (flat_map copying_operations_of_entry es) l.carried.replies)
         (sym t.healthy ∙ fresh_defined (copying_operations_of_entries es) l.carried.replies l.to anywhere (comes l.from l.to (copying_operations_of_entries es) (record { fresh = l.begins.fresh; mounts = l.begins.mounts }) l.carried))
 
-    shows : (k : Option Source) → AreAllEntriesOfSource k es → IfSome k (λ src. IsTreeOfSource src (tree_on_disk (disk_of_image g.block_size g.page g.order bytes) s.pairs))
+    shows : (k : Option TreeSource) → AreAllEntriesOfSource k es → IfSome k (λ src. IsTreeMadeFromSource src (tree_on_disk (disk_of_image g.block_size g.page g.order bytes) s.pairs))
     shows None a = tt
     shows (Some src) a =
         let whole = carried_tree src es a in
         let one = one_thread (content_of_pair_at l.to.disk) (block_count l.to.disk) s.pairs t.shows.0 s.accepted.thread t.shows.1.0.thread in
         let tree : tree_on_disk l.to.disk s.pairs ≡ tree_after es empty_tree =
         ap (tree_on_disk l.to.disk) one ∙ sym t.shows.1.1 ∙ ap (λ (x : Session). x.tree) after ∙ (has_carried l.from l.to es (record { fresh = l.begins.fresh; mounts = l.begins.mounts }) l.carried).tree whole.new in
-        subst (IsTreeOfSource src) (sym tree ∙ ap (λ k. tree_on_disk k s.pairs) l.disk) whole.tree
+        subst (IsTreeMadeFromSource src) (sym tree ∙ ap (λ k. tree_on_disk k s.pairs) l.disk) whole.tree
 
 -- ---- what is passed on
 
-pub refused : {X : Type 0} (r : Result X Error) (e : Error) (g : Geometry) (from : SystemState) (es : List SourceEntry) → IsErrAnd r (λ f. f ≡ e) → BeginsOnFreshDisk g from → (e ≢ NoMemory → IsFirstRefusalAmongOperations from (copying_operations_of_entries es) e)
+pub refused : {X : Type 0} (r : Result X Error) (e : Error) (g : Geometry) (from : SystemState) (es : List SourceEntry) → IsErrAnd r (λ f. f ≡ e) → SessionBeginsOnFreshDisk g from → (e ≢ NoMemory → IsFirstRefusalAmongOperations from (copying_operations_of_entries es) e)
     → IfErr r (λ f. f ≢ NoMemory → RefusesCopyOfEntries g es f)
 refused (Ok x) e g from es is b h = tt
 refused (Err f) e g from es is b h = λ other. record { from = from; begins = b; first = subst (IsFirstRefusalAmongOperations from (copying_operations_of_entries es)) (sym is) (h (λ x. other (is ∙ x))) }

@@ -5,14 +5,14 @@ use Rattle.lfs_device.specs.declared.device.BlockDevice.{Ghosts}
 use Rattle.lfs_device.specs.declared.error.Error.{Error}
 use Rattle.lfs_device.specs.declared.error.Error.TheVariants.{Io, NoMemory}
 use Rattle.lfs_device.specs.Calls.{ReadsOnly, ReportsFaults}
-use Rattle.lfs_model.specs.History.{faults}
+use Rattle.lfs_model.specs.History.{fault_count_of_history}
 use Rattle.lfs_model.proofs.Histories.{AreCallsSinceOnlyReads-trans, began}
 use Rattle.lfs_tool.specs.Device.{OnlyReadsDevice}
 
 -- looks that answered
 pub record HasLooked {D : Type 0} (g : Ghosts D) (old new : D) : Type 0 where
   pub device : ReadsOnly g old new
-  pub no_fault : faults (g.history new) ≡ faults (g.history old)
+  pub no_fault : fault_count_of_history (g.history new) ≡ fault_count_of_history (g.history old)
 
 pub not_yet : {D : Type 0} (g : Ghosts D) (d : D) → HasLooked g d d
 not_yet g d = record { device = record { same = refl; geometry = refl; reads = began }; no_fault = refl }

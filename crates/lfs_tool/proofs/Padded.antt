@@ -5,7 +5,7 @@ use Rattle.std.proofs.lemmas.List.{take-replicate, take_all, take-append-le, tak
 use Rattle.std.proofs.Math.Seq.{drop-append_seam}
 use Rattle.std.proofs.lemmas.Bool.{cases_lt, or_parts}
 use Rattle.lfs_model.specs.Content.{has_commit}
-use Rattle.lfs_tool.specs.Excerpt.{IsBlockExcerpt, is_block_kept_whole, kept_byte_count, padded}
+use Rattle.lfs_tool.specs.Excerpt.{IsSameSizedExcerptOfBlock, is_whole_block_kept_in_excerpt, byte_count_kept_in_excerpt, bytes_padded_to_size}
 use Rattle.lfs_tool.specs.ExcerptShape.{length-padded}
 
 -- ---- a part
@@ -48,60 +48,60 @@ kept_part off n start end xs end_is start_is = elim (cases_lt off (length xs)) [
 ]
 
 pub read_padded : (size off n start end : ℕ) (xs : List ℕ) → length xs ≤ size → off + n ≤ size → end ≡ min (off + n) (length xs) → start ≡ min off end
-    → slice_range xs start end ++ replicate (n - (end - start)) 255 ≡ slice_range (padded size xs) off (off + n)
+    → slice_range xs start end ++ replicate (n - (end - start)) 255 ≡ slice_range (bytes_padded_to_size size xs) off (off + n)
 read_padded size off n start end xs fits within end_is start_is =
     let count : off + n - off ≡ n = omega arith in
     let others : n - (end - start) ≡ n - length (drop off xs) = omega (arith, end_is, start_is, length-drop off xs) in
     let room : n ≤ length (drop off xs) + (size - length xs - (off - length xs)) = omega (arith, length-drop off xs) in
-    sym (ap (λ k. take k (drop off (padded size xs))) count
+    sym (ap (λ k. take k (drop off (bytes_padded_to_size size xs))) count
     ∙ ap (take n) (drop_padded off xs (size - length xs))
     ∙ take_padded n (drop off xs) (size - length xs - (off - length xs)) room
     ∙ ap₂ (λ l k. l ++ replicate k 255) (sym (kept_part off n start end xs end_is start_is)) (sym others))
 
 -- ---- excerpts
 
-none_behind : (block : List ℕ) → padded (length block) block ≡ block
+none_behind : (block : List ℕ) → bytes_padded_to_size (length block) block ≡ block
 none_behind block = ap (λ k. block ++ replicate k 255) (let e : length block - length block ≡ 0 = omega arith in e) ∙ append-nil block
 
-pub whole_excerpt : (block items : List ℕ) → items ≡ block → IsBlockExcerpt block (padded (length block) items)
+pub whole_excerpt : (block items : List ℕ) → items ≡ block → IsSameSizedExcerptOfBlock block (bytes_padded_to_size (length block) items)
 whole_excerpt block items is = rw (is) (record {
   size = ap length (none_behind block);
   pointers = ap (take 132) (none_behind block);
   log = inl (none_behind block);
 })
 
-pub cut_excerpt : (block items : List ℕ) → items ≡ take 132 block → 132 ≤ length block → is_block_kept_whole block ≡ false → IsBlockExcerpt block (padded (length block) items)
+pub cut_excerpt : (block items : List ℕ) → items ≡ take 132 block → 132 ≤ length block → is_whole_block_kept_in_excerpt block ≡ false → IsSameSizedExcerptOfBlock block (bytes_padded_to_size (length block) items)
 cut_excerpt block items is room none =
     let len = length-take-le 132 block room in
     rw (is) (record {
       size = length-padded (length block) (take 132 block) (omega (arith, len));
       pointers = take-append-le 132 (take 132 block) (replicate (length block - length (take 132 block)) 255) (omega (arith, len)) ∙ take-take 132 132 block (omega arith);
-      log = inr (or_parts (has_commit block) (has_commit (padded (length block) (take 132 block))) none);
+      log = inr (or_parts (has_commit block) (has_commit (bytes_padded_to_size (length block) (take 132 block))) none);
     })
 
 -- how much that is
-pub kept_whole : (block items : List ℕ) → items ≡ block → is_block_kept_whole block ≡ true → length items ≡ kept_byte_count block
+pub kept_whole : (block items : List ℕ) → items ≡ block → is_whole_block_kept_in_excerpt block ≡ true → length items ≡ byte_count_kept_in_excerpt block
 kept_whole block items is whole = ap length is ∙ sym (ap (λ (b : Bool). if b then length block else 132) whole)
 
-pub kept_cut : (block items : List ℕ) → items ≡ take 132 block → 132 ≤ length block → is_block_kept_whole block ≡ false → length items ≡ kept_byte_count block
+pub kept_cut : (block items : List ℕ) → items ≡ take 132 block → 132 ≤ length block → is_whole_block_kept_in_excerpt block ≡ false → length items ≡ byte_count_kept_in_excerpt block
 kept_cut block items is room none = ap length is ∙ length-take-le 132 block room ∙ sym (ap (λ (b : Bool). if b then length block else 132) none)
 
 -- ---- a block's beginning in front of erased bytes
 
 pub put_in_front : (block old new : List ℕ) → 132 ≤ length block → length block ≡ length old → drop 132 old ≡ replicate (length old - 132) 255
-    → new ≡ take 132 block ++ drop (length (take 132 block)) old → new ≡ padded (length block) (take 132 block)
+    → new ≡ take 132 block ++ drop (length (take 132 block)) old → new ≡ bytes_padded_to_size (length block) (take 132 block)
 put_in_front block old new room same erased is =
     let len = length-take-le 132 block room in
     is ∙ ap (λ l. take 132 block ++ l) (ap (λ k. drop k old) len ∙ erased ∙ ap (λ k. replicate k 255) (let e : length old - 132 ≡ length block - length (take 132 block) = omega (arith, same, len) in e))
 
-pub size_in_front : (block new : List ℕ) → 132 ≤ length block → new ≡ padded (length block) (take 132 block) → length new ≡ length block
+pub size_in_front : (block new : List ℕ) → 132 ≤ length block → new ≡ bytes_padded_to_size (length block) (take 132 block) → length new ≡ length block
 size_in_front block new room is = ap length is ∙ length-padded (length block) (take 132 block) (let len = length-take-le 132 block room in omega (arith, len))
 
-pub erased_in_front : (block new : List ℕ) → 132 ≤ length block → new ≡ padded (length block) (take 132 block) → drop 132 new ≡ replicate (length new - 132) 255
+pub erased_in_front : (block new : List ℕ) → 132 ≤ length block → new ≡ bytes_padded_to_size (length block) (take 132 block) → drop 132 new ≡ replicate (length new - 132) 255
 erased_in_front block new room is =
     let len = length-take-le 132 block room in
     let size = size_in_front block new room is in
     ap (drop 132) is
-    ∙ ap (λ k. drop k (padded (length block) (take 132 block))) (sym len)
+    ∙ ap (λ k. drop k (bytes_padded_to_size (length block) (take 132 block))) (sym len)
     ∙ drop-append_seam (take 132 block) (replicate (length block - length (take 132 block)) 255)
     ∙ ap (λ k. replicate k 255) (let e : length block - length (take 132 block) ≡ length new - 132 = omega (arith, len, size) in e)

@@ -4,20 +4,20 @@ use Rattle.std.specs.Prelude.{unwrap_or}
 use Rattle.std.specs.List.{list_all}
 use Rattle.std.proofs.lemmas.Bool.{and_from}
 use Rattle.std.proofs.lemmas.Grind.{flat_map-append}
-use Rattle.lfs_model.specs.Names.{Name, is_path_component, slash}
+use Rattle.lfs_model.specs.Names.{Name, is_path_component, slash_byte}
 use Rattle.lfs_model.specs.Tree.{Path, Node, Tree}
 use Rattle.lfs_model.specs.TreeEdits.{tree_after_creation, last_name_of_path, parent_path_of, same_path, names_with_added_name, node_after_change_of_names}
 use Rattle.lfs_model.specs.Operations.{path_bytes}
-use Rattle.lfs_model.specs.Source.{source_path_in}
-use Rattle.lfs_model.specs.Refusals.{path_or_root}
+use Rattle.lfs_model.specs.Source.{source_path_in_folder}
+use Rattle.lfs_model.specs.Refusals.{path_of_bytes_or_root}
 use Rattle.lfs_model.proofs.Counts.{Each}
 use Rattle.lfs_model.proofs.Paths.{Paths, path_alike, path_unlike, paths, path_itself, not_longer, parent_is, last_is}
 use Rattle.lfs_model.proofs.Spelled.{spelled}
 
 -- ---- bytes
 
-pub path_more : (f : Path) (n : Name) → path_bytes (f ++ n ∷ []) ≡ source_path_in (path_bytes f) n
-path_more f n = flat_map-append (λ (name : Name). slash ∷ name) f (n ∷ []) ∙ ap (λ xs. path_bytes f ++ slash ∷ xs) (append-nil n)
+pub path_more : (f : Path) (n : Name) → path_bytes (f ++ n ∷ []) ≡ source_path_in_folder (path_bytes f) n
+path_more f n = flat_map-append (λ (name : Name). slash_byte ∷ name) f (n ∷ []) ∙ ap (λ xs. path_bytes f ++ slash_byte ∷ xs) (append-nil n)
 
 abbrev pub AreComponents : Path → Type 0
 AreComponents p = Each (λ n. is_path_component n ≡ true) p
@@ -26,7 +26,7 @@ all_components : (p : Path) → AreComponents p → list_all is_path_component p
 all_components [] h = refl
 all_components (n ∷ p) h = and_from (is_path_component n) (list_all is_path_component p) h.0 (all_components p h.1)
 
-pub read_back : (f : Path) (n : Name) → AreComponents (f ++ n ∷ []) → path_or_root (path_bytes (f ++ n ∷ [])) ≡ f ++ n ∷ []
+pub read_back : (f : Path) (n : Name) → AreComponents (f ++ n ∷ []) → path_of_bytes_or_root (path_bytes (f ++ n ∷ [])) ≡ f ++ n ∷ []
 read_back [] n h = ap (λ o. unwrap_or o []) (spelled n [] (all_components (n ∷ []) h))
 read_back (a ∷ f) n h = ap (λ o. unwrap_or o []) (spelled a (f ++ n ∷ []) (all_components (a ∷ (f ++ n ∷ [])) h))
 

@@ -2,10 +2,10 @@
 use Rattle.std.proofs.Common.{◌≡◌, ◌≢◌, ◌⊎◌, ℕ, List, Option, inl, inr, Result, Ok, Err}
 use Rattle.std.specs.Prelude.{OnOk}
 use Rattle.lfs_device.specs.declared.error.Error.TheVariants as fs
-use Rattle.lfs_model.specs.Source.{Source}
+use Rattle.lfs_model.specs.Source.{TreeSource}
 use Rattle.lfs_tool_line.specs.declared.line.Line.{Line}
 use Rattle.lfs_tool.specs.Explained.{FailsToCountNeededBlocks, FailsToReadImage}
-use Rattle.lfs_tool.specs.KnownBytes.{IsErrorOfFailedRead}
+use Rattle.lfs_tool.specs.KnownBytes.{IsErrorOfReaderFaultOrNoMemory}
 use Rattle.lfs_tool.specs.MadeImages.{ReportsSourceFaults}
 use Rattle.lfs_tool.specs.Reports.{ReportsWriterFaults}
 use Rattle.lfs_tool.specs.declared.errors.ToolError.{ToolError}
@@ -23,13 +23,13 @@ or_so f (inr q) = inr (f q)
 
 -- the image at the line's path fails, or memory isn't granted
 pub image_fails : {I : Type 0} (path_of : I → List ℕ) (faults : I → ℕ) (line : Line) (old new : I) (error : ToolError) → path_of old ≡ line.image.now
-    → IsErrorOfFailedRead error (faults old) (faults new) → FailsToReadImage path_of faults line error
+    → IsErrorOfReaderFaultOrNoMemory error (faults old) (faults new) → FailsToReadImage path_of faults line error
 image_fails path_of faults line old new Input at fails = (old, (at, (new, fails)))
 image_fails path_of faults line old new Output at fails = absurd fails
 image_fails path_of faults line old new (Fs e) at fails = fails.0
 
 -- the folder at a path fails, or memory isn't granted
-pub folder_fails : {F : Type 0} (X : Type 0) (folder_of : F → List ℕ) (faults : F → ℕ) (shown : F → Option Source) (line : Line) (folder : List ℕ) (old new : F) (error : ToolError)
+pub folder_fails : {F : Type 0} (X : Type 0) (folder_of : F → List ℕ) (faults : F → ℕ) (shown : F → Option TreeSource) (line : Line) (folder : List ℕ) (old new : F) (error : ToolError)
     → folder_of old ≡ folder → ReportsSourceFaults {X = X} (faults old) (faults new) (shown old) (Err error) → (error ≢ Input → error ≡ Fs fs.NoMemory)
     → FailsToCountNeededBlocks folder_of faults shown line folder error
 folder_fails X folder_of faults shown line folder old new Input at reports other = (old, (at, (new, reports)))

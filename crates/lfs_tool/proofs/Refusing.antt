@@ -6,21 +6,21 @@ use Rattle.std.proofs.lemmas.List.Elements.{recursion_from_All}
 use Rattle.lfs_device.specs.declared.error.Error.{Error}
 use Rattle.lfs_device.specs.declared.error.Error.TheVariants.{Io, NoMemory, Corrupt}
 use Rattle.lfs_model.specs.Fresh.{IsFreshDisk, empty_tree}
-use Rattle.lfs_model.specs.Headline.{ComesFromFreshDisk, session_after_operations}
-use Rattle.lfs_model.specs.History.{faults}
+use Rattle.lfs_model.specs.Headline.{IsStateReachedFromFreshDisk, session_after_operations}
+use Rattle.lfs_model.specs.History.{fault_count_of_history}
 use Rattle.lfs_model.specs.Listing.{copy_operations_of_node}
 use Rattle.lfs_model.specs.Operations.{Operation}
-use Rattle.lfs_model.specs.Run.{SystemState, ShowsTree, is_refusal}
+use Rattle.lfs_model.specs.Run.{SystemState, IsTreeOfDiskOrNone, is_refusal}
 use Rattle.lfs_model.specs.Session.{DiskSummary}
 use Rattle.lfs_model.specs.Slots.{zero_gstate}
-use Rattle.lfs_model.specs.State.{Healthy, is_remount_operation, mounted}
+use Rattle.lfs_model.specs.State.{Healthy, is_remount_operation, session_after_mount}
 use Rattle.lfs_model.proofs.Counts.{Each, each_right}
 use Rattle.lfs_model.proofs.Kept.{fresh_defined}
-use Rattle.lfs_fs.specs.SessionView.{FailsByError}
+use Rattle.lfs_fs.specs.SessionView.{SessionFailsByError}
 use Rattle.lfs_lookup.specs.Refusals as refusals
 use Rattle.lfs_tool_folders.specs.MemorySources.{optional_bytes_view}
 use Rattle.lfs_tool_folders.specs.declared.entries.SourceEntry.{SourceEntry}
-use Rattle.lfs_tool.specs.AppliedOperations.{AreOperationsApplied, IsRunOfOperationsEndedByError, EndsOperationWithError, IsHealthyWithoutOpenFile, IsFirstRefusalAmongOperations, node_of_optional_bytes, copying_operations_of_entry}
+use Rattle.lfs_tool.specs.AppliedOperations.{AreOperationsApplied, IsRunOfOperationsEndedByError, EndsOperationWithError, IsHealthyWithoutOpenFile, IsFirstRefusalAmongOperations, file_or_directory_node_of_optional_bytes, copying_operations_of_entry}
 use Rattle.lfs_tool.proofs.Runs.{ended_before, ended_on}
 use Rattle.lfs_tool.proofs.Stepping.{HasCarried, carried_from}
 
@@ -28,9 +28,9 @@ use Rattle.lfs_tool.proofs.Stepping.{HasCarried, carried_from}
 
 pub record IsFromFresh (from : SystemState) : Type 0 where
   pub fresh : IsFreshDisk from.disk
-  pub mounts : from.state ≡ Healthy (mounted empty_tree)
+  pub mounts : from.state ≡ Healthy (session_after_mount empty_tree)
 
-pub comes : (from to : SystemState) (operations : List Operation) (f : IsFromFresh from) (c : AreOperationsApplied from operations to) → ComesFromFreshDisk operations c.replies to
+pub comes : (from to : SystemState) (operations : List Operation) (f : IsFromFresh from) (c : AreOperationsApplied from operations to) → IsStateReachedFromFreshDisk operations c.replies to
 comes from to operations f c = record { from = from; fresh = f.fresh; mounts = f.mounts; session_steps = c.session_steps }
 
 -- any surroundings: what accepted operations leave doesn't depend on them
@@ -38,12 +38,12 @@ abbrev pub anywhere : DiskSummary
 anywhere = record { writable = true; block_size = 0; page = 0; block_count = 0; used = []; gstate = zero_gstate }
 
 pub has_carried : (from to : SystemState) (es : List SourceEntry) (f : IsFromFresh from) (c : AreOperationsApplied from (flat_map copying_operations_of_entry es) to) →
-    HasCarried (session_after_operations anywhere (mounted empty_tree) (flat_map copying_operations_of_entry es) c.replies) es empty_tree
+    HasCarried (session_after_operations anywhere (session_after_mount empty_tree) (flat_map copying_operations_of_entry es) c.replies) es empty_tree
 has_carried from to es f c = carried_from anywhere es empty_tree [] c.replies from to tt (recursion_from_All (λ r. is_refusal r ≡ false) c.replies c.accepted) c.session_steps
 
 pub no_file : (from to : SystemState) (es : List SourceEntry) → IsFromFresh from → AreOperationsApplied from (flat_map copying_operations_of_entry es) to → IsHealthyWithoutOpenFile to
 no_file from to es f c = record {
-  session = session_after_operations anywhere (mounted empty_tree) (flat_map copying_operations_of_entry es) c.replies;
+  session = session_after_operations anywhere (session_after_mount empty_tree) (flat_map copying_operations_of_entry es) c.replies;
   healthy = fresh_defined (flat_map copying_operations_of_entry es) c.replies to anywhere (comes from to (flat_map copying_operations_of_entry es) f c);
   closed = (has_carried from to es f c).closed;
 }
@@ -53,15 +53,15 @@ no_file from to es f c = record {
 no_remount : (e : SourceEntry) → Each (λ op. is_remount_operation op ≡ false) (copying_operations_of_entry e)
 no_remount e = go (optional_bytes_view e.bytes)
   where
-    go : (o : Option (List ℕ)) → Each (λ op. is_remount_operation op ≡ false) (copy_operations_of_node e.path.items (node_of_optional_bytes o))
+    go : (o : Option (List ℕ)) → Each (λ op. is_remount_operation op ≡ false) (copy_operations_of_node e.path.items (file_or_directory_node_of_optional_bytes o))
     go None = (refl, tt)
     go (Some bytes) = (refl, (refl, (refl, tt)))
 
 -- no call of the device has failed
-only_memory : (e : Error) (at to : SystemState) (op : Operation) → FailsByError e at op to → is_remount_operation op ≡ false → faults to.calls ≡ 0 → e ≡ NoMemory
+only_memory : (e : Error) (at to : SystemState) (op : Operation) → SessionFailsByError e at op to → is_remount_operation op ≡ false → fault_count_of_history to.calls ≡ 0 → e ≡ NoMemory
 only_memory e at to op h other none = go h.errors
   where
-    go : (e ≡ Io) ⊎ ((e ≡ NoMemory) ⊎ ((e ≡ Corrupt) × (is_remount_operation op ≡ true) × ShowsTree at.disk None)) → e ≡ NoMemory
+    go : (e ≡ Io) ⊎ ((e ≡ NoMemory) ⊎ ((e ≡ Corrupt) × (is_remount_operation op ≡ true) × IsTreeOfDiskOrNone at.disk None)) → e ≡ NoMemory
     go (inl io) = absurd (let l = h.fault io in omega (arith, l, none))
     go (inr (inl memory)) = memory
     go (inr (inr corrupt)) = absurd (let k = sym other ∙ corrupt.1 in cc)
@@ -87,7 +87,7 @@ parts es i d lt =
     ∙ sym (append_assoc (flat_map copying_operations_of_entry (take i es)) (copying_operations_of_entry (get_or es i d)) (flat_map copying_operations_of_entry (drop (i + 1) es)))
 
 pub first_refused : (e : Error) (es : List SourceEntry) (i : ℕ) (d : SourceEntry) (from at to : SystemState) → i < length es → IsFromFresh from → AreOperationsApplied from (flat_map copying_operations_of_entry (take i es)) at
-    → IsRunOfOperationsEndedByError e at (copying_operations_of_entry (get_or es i d)) to → faults to.calls ≡ 0 → e ≢ NoMemory → IsFirstRefusalAmongOperations from (flat_map copying_operations_of_entry es) e
+    → IsRunOfOperationsEndedByError e at (copying_operations_of_entry (get_or es i d)) to → fault_count_of_history to.calls ≡ 0 → e ≢ NoMemory → IsFirstRefusalAmongOperations from (flat_map copying_operations_of_entry es) e
 first_refused e es i d from at to lt f c k none not_memory = go (refusals.is_refusal e) refl
   where
     whole : IsRunOfOperationsEndedByError e from (flat_map copying_operations_of_entry es) to

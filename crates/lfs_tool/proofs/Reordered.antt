@@ -1,30 +1,30 @@
 -- A finding says the same of a disk with its names in another order.
 use Rattle.std.proofs.Common.{ℕ, ◌⊎◌, inl, inr, List, Option, Some, None, ap, subst, ◌≡◌}
 use Rattle.std.specs.Prelude.{IfSome}
-use Rattle.lfs_device.specs.Shown.{ordered}
+use Rattle.lfs_device.specs.Shown.{disk_with_name_order}
 use Rattle.lfs_model.specs.Disk.{Disk}
 use Rattle.lfs_model.specs.Thread.{Pair}
 use Rattle.lfs_model.specs.declared.order.NameOrder.{NameOrder}
 use Rattle.lfs_tool.specs.BrokenRules.{BreaksRuleOfFinding}
 use Rattle.lfs_tool.specs.OwnedSlots.{pairs_without_attributes}
-use Rattle.lfs_tool.specs.Findings.{IsFindingOfDisk, IsBlockInTwoPairs, IsThreadFinding, IsSlotWithoutName, IsNamedSlotWithoutStruct}
-use Rattle.lfs_tool.specs.ThreadBeginnings.{IsThreadBeginningUpTo, IsNamedByThread}
+use Rattle.lfs_tool.specs.Findings.{IsTrueFindingOfDisk, IsBlockInTwoPairs, IsTrueFindingOfThread, IsSlotWithoutName, IsNamedSlotWithoutStruct}
+use Rattle.lfs_tool.specs.ThreadBeginnings.{AreFirstThreadPairsUpToAddress, IsAddressNamedByThread}
 use Rattle.lfs_tool.specs.declared.findings.Finding.{Finding}
 use Rattle.lfs_tool.specs.declared.findings.Finding.TheVariants as finding
 
-begins : (d : Disk) (o : NameOrder) (ps : List Pair) (next : Option (ℕ × ℕ)) → IsThreadBeginningUpTo d ps next → IsThreadBeginningUpTo (ordered o d) ps next
+begins : (d : Disk) (o : NameOrder) (ps : List Pair) (next : Option (ℕ × ℕ)) → AreFirstThreadPairsUpToAddress d ps next → AreFirstThreadPairsUpToAddress (disk_with_name_order o d) ps next
 begins d o ps next h = record { links = h.links; contents = h.contents }
 
-named : (d : Disk) (o : NameOrder) (at : ℕ × ℕ) → IsNamedByThread d at → IsNamedByThread (ordered o d) at
+named : (d : Disk) (o : NameOrder) (at : ℕ × ℕ) → IsAddressNamedByThread d at → IsAddressNamedByThread (disk_with_name_order o d) at
 named d o at (ps, h) = (ps, begins d o ps (Some at) h)
 
-lacks_name : (d : Disk) (o : NameOrder) (at : ℕ × ℕ) (id : ℕ) → IsSlotWithoutName d at id → IsSlotWithoutName (ordered o d) at id
+lacks_name : (d : Disk) (o : NameOrder) (at : ℕ × ℕ) (id : ℕ) → IsSlotWithoutName d at id → IsSlotWithoutName (disk_with_name_order o d) at id
 lacks_name d o at id h = record { content = h.content; holds = h.holds; below = h.below; name = h.name }
 
-lacks_struct : (d : Disk) (o : NameOrder) (at : ℕ × ℕ) (id : ℕ) (name : List ℕ) → IsNamedSlotWithoutStruct d at id name → IsNamedSlotWithoutStruct (ordered o d) at id name
+lacks_struct : (d : Disk) (o : NameOrder) (at : ℕ × ℕ) (id : ℕ) (name : List ℕ) → IsNamedSlotWithoutStruct d at id name → IsNamedSlotWithoutStruct (disk_with_name_order o d) at id name
 lacks_struct d o at id name h = record { content = h.content; holds = h.holds; below = h.below; named = h.named; struct = h.struct }
 
-in_two : (d : Disk) (o : NameOrder) (block : ℕ) (at other : ℕ × ℕ) → IsBlockInTwoPairs d block at other → IsBlockInTwoPairs (ordered o d) block at other
+in_two : (d : Disk) (o : NameOrder) (block : ℕ) (at other : ℕ × ℕ) → IsBlockInTwoPairs d block at other → IsBlockInTwoPairs (disk_with_name_order o d) block at other
 in_two d o block at other h = record {
   pairs = h.pairs;
   begins = begins d o h.pairs (Some at) h.begins;
@@ -36,7 +36,7 @@ in_two d o block at other h = record {
   in_pair = h.in_pair;
 }
 
-unread : (d : Disk) (o : NameOrder) (f : Finding) → IsThreadFinding d f → IsThreadFinding (ordered o d) f
+unread : (d : Disk) (o : NameOrder) (f : Finding) → IsTrueFindingOfThread d f → IsTrueFindingOfThread (disk_with_name_order o d) f
 unread d o (finding.OutOfRange pair block) h = (named d o _ h.0, h.1, h.2)
 unread d o (finding.OneBlock pair) h = (named d o _ h.0, h.1)
 unread d o (finding.InTwoPairs block pair other) h = in_two d o _ _ _ h
@@ -47,14 +47,14 @@ unread d o (finding.NoStruct place) h = (named d o _ h.0, lacks_struct d o _ _ _
 unread d o _ h = absurd h
 
 -- with its names in any order
-found : (d : Disk) (o : NameOrder) (f : Finding) → IsFindingOfDisk d f → IsFindingOfDisk (ordered o d) f
+found : (d : Disk) (o : NameOrder) (f : Finding) → IsTrueFindingOfDisk d f → IsTrueFindingOfDisk (disk_with_name_order o d) f
 found d o f (inl h) = inl (unread d o f h)
 found d o f (inr (ps, (h, broken))) =
-    let same : BreaksRuleOfFinding (ordered o d) (pairs_without_attributes ps) f = broken in
+    let same : BreaksRuleOfFinding (disk_with_name_order o d) (pairs_without_attributes ps) f = broken in
     inr (ps, (begins d o ps None h, same))
 
-pub found_alike : (d e : Disk) (o : NameOrder) (some : Option Finding) → ordered o d ≡ ordered o e → IfSome some (IsFindingOfDisk d) → IfSome some (IsFindingOfDisk e)
+pub found_alike : (d e : Disk) (o : NameOrder) (some : Option Finding) → disk_with_name_order o d ≡ disk_with_name_order o e → IfSome some (IsTrueFindingOfDisk d) → IfSome some (IsTrueFindingOfDisk e)
 found_alike d e o None is h = tt
 found_alike d e o (Some f) is h =
-    let there = subst (λ x. IsFindingOfDisk x f) is (found d o f h) in
-    found (ordered o e) e.order f there
+    let there = subst (λ x. IsTrueFindingOfDisk x f) is (found d o f h) in
+    found (disk_with_name_order o e) e.order f there

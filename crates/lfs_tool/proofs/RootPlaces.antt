@@ -1,6 +1,6 @@
 -- How many pairs stand in front of the root, pair by pair from the last one back.
 use Rattle.std.proofs.Common.{ℕ, zero, suc, ◌≡◌, ◌+◌, ◌-◌, ◌<◌, ◌≤◌, ◌&&◌, ◌∙◌, Bool, true, false, cond, List, [], ◌∷◌, drop, get_or, length, refl, sym, ap, subst, arith, length-drop}
-use Rattle.lfs_model.specs.Thread.{pairs_of_all_directories, has_superblock_as_first_slot, pair_count_before_root}
+use Rattle.lfs_model.specs.Thread.{pairs_from_root_directory_on, has_superblock_in_first_nonempty_pair, pair_count_before_root}
 use Rattle.lfs_model.specs.View.{first_pair_slots}
 use Rattle.lfs_tool.specs.OwnedSlotView.{owned_pair_view, owned_pairs_view}
 use Rattle.lfs_tool.specs.declared.owned_parts.OwnedPair.{OwnedPair}
@@ -17,7 +17,7 @@ one_more true r = omega arith
 one_more false r = omega arith
 
 -- the root stays among the pairs
-pub stays_inside : (pairs : List OwnedPair) (index root : ℕ) (m b : Bool) → m ≡ has_superblock_as_first_slot (owned_pairs_view (drop index pairs)) → index ≤ length pairs → (index < length pairs → index + root < length pairs) → 0 < index
+pub stays_inside : (pairs : List OwnedPair) (index root : ℕ) (m b : Bool) → m ≡ has_superblock_in_first_nonempty_pair (owned_pairs_view (drop index pairs)) → index ≤ length pairs → (index < length pairs → index + root < length pairs) → 0 < index
     → (index - 1) + cond (m && b) (1 + root) 0 < length pairs
 stays_inside pairs index root false b e l h some = omega arith
 stays_inside pairs index root true false e l h some = omega arith
@@ -25,7 +25,7 @@ stays_inside pairs index root true true e l h some = go (drop index pairs) refl
   where
     go : (rest : List OwnedPair) → drop index pairs ≡ rest → (index - 1) + (1 + root) < length pairs
     go [] is =
-        let bad : true ≡ false = e ∙ ap (λ r. has_superblock_as_first_slot (owned_pairs_view r)) is in
+        let bad : true ≡ false = e ∙ ap (λ r. has_superblock_in_first_nonempty_pair (owned_pairs_view r)) is in
         cc
     go (x ∷ rest) is =
         let n : length (drop index pairs) ≡ suc (length rest) = ap length is in
@@ -41,5 +41,5 @@ first_from (x ∷ pairs) (suc i) h l at = first_from pairs i h (omega arith) at
 
 -- the slots of the root directory's first pair
 pub first_of_root : (pairs : List OwnedPair) (root : ℕ) (h : OwnedPair) → root ≡ pair_count_before_root (owned_pairs_view pairs) → root < length pairs → h ≡ get_or pairs root h
-    → first_pair_slots (pairs_of_all_directories (owned_pairs_view pairs)) ≡ (owned_pair_view h).content.slots
+    → first_pair_slots (pairs_from_root_directory_on (owned_pairs_view pairs)) ≡ (owned_pair_view h).content.slots
 first_of_root pairs root h e l at = ap (λ r. first_pair_slots (drop r (owned_pairs_view pairs))) (sym e) ∙ first_from pairs root h l at

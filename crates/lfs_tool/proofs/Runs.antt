@@ -7,12 +7,12 @@ use Rattle.std.proofs.lemmas.List.Elements.{All-from_recursion, recursion_from_A
 use Rattle.lfs_device.specs.declared.error.Error.{Error}
 use Rattle.lfs_model.specs.Operations as ops
 use Rattle.lfs_model.specs.Listing.{new_file_flags, copy_operations_of_node}
-use Rattle.lfs_model.specs.Operations.{Flags, Operation, Reply}
+use Rattle.lfs_model.specs.Operations.{FlagsOfOpen, Operation, Reply}
 use Rattle.lfs_model.specs.Tree.{FileNode}
 use Rattle.lfs_model.specs.Run.{IsSessionStep, SystemState, is_refusal}
 use Rattle.lfs_model.proofs.Counts.{each_append}
 use Rattle.lfs_model.proofs.SessionSteps.{session_steps_joined}
-use Rattle.lfs_fs.specs.SessionView.{IsSessionStepOrFailure, SessionView, system_state_of}
+use Rattle.lfs_fs.specs.SessionView.{IsSessionStepOrFailure, SessionView, system_state_of_session_view}
 use Rattle.lfs_fs.specs.Replies.{reply_from_result}
 use Rattle.lfs_lookup.specs.Refusals as refusals
 use Rattle.lfs_lookup.specs.Refusals.{refusal_of_error}
@@ -31,10 +31,10 @@ one_carried a b op reply turn accepted = record { replies = reply ∷ []; sessio
 pub none_carried : (a : SystemState) → AreOperationsApplied a [] a
 none_carried a = record { replies = []; session_steps = refl; accepted = All-from_recursion IsAccepted [] tt }
 
-pub one_ends : {X : Type 0} (old new : SessionView) (op : Operation) (reply : X → Reply) (e : Error) → IsSessionStepOrFailure old op (reply_from_result reply (Err e)) new → EndsOperationWithError (refusals.is_refusal e) e (system_state_of old) op (system_state_of new)
+pub one_ends : {X : Type 0} (old new : SessionView) (op : Operation) (reply : X → Reply) (e : Error) → IsSessionStepOrFailure old op (reply_from_result reply (Err e)) new → EndsOperationWithError (refusals.is_refusal e) e (system_state_of_session_view old) op (system_state_of_session_view new)
 one_ends old new op reply e = go (refusals.is_refusal e)
   where
-    go : (b : Bool) → IsSessionStepOrFailure old op (cond b (Ok (ops.Refused (refusal_of_error e))) (Err e)) new → EndsOperationWithError b e (system_state_of old) op (system_state_of new)
+    go : (b : Bool) → IsSessionStepOrFailure old op (cond b (Ok (ops.Refused (refusal_of_error e))) (Err e)) new → EndsOperationWithError b e (system_state_of_session_view old) op (system_state_of_session_view new)
     go true h = h
     go false h = h
 
@@ -76,9 +76,9 @@ ended_before e xs ys a c k = record {
 -- ---- results
 
 -- a call of one operation
-pub carries_one : {X : Type 0} (old new : SessionView) (op : Operation) (reply : Reply) (r : Result X Error) → is_refusal reply ≡ false → IsSessionStepOrFailure old op (reply_from_result (λ x. reply) r) new → AppliesOperationsUntilError (system_state_of old) (op ∷ []) r (system_state_of new)
-carries_one {X} old new op reply (Ok x) accepted h = one_carried (system_state_of old) (system_state_of new) op reply h accepted
-carries_one {X} old new op reply (Err e) accepted h = ended_at e [] op [] (system_state_of old) (system_state_of old) (system_state_of new) (none_carried (system_state_of old)) (one_ends {X = X} old new op (λ x. reply) e h)
+pub carries_one : {X : Type 0} (old new : SessionView) (op : Operation) (reply : Reply) (r : Result X Error) → is_refusal reply ≡ false → IsSessionStepOrFailure old op (reply_from_result (λ x. reply) r) new → AppliesOperationsUntilError (system_state_of_session_view old) (op ∷ []) r (system_state_of_session_view new)
+carries_one {X} old new op reply (Ok x) accepted h = one_carried (system_state_of_session_view old) (system_state_of_session_view new) op reply h accepted
+carries_one {X} old new op reply (Err e) accepted h = ended_at e [] op [] (system_state_of_session_view old) (system_state_of_session_view old) (system_state_of_session_view new) (none_carried (system_state_of_session_view old)) (one_ends {X = X} old new op (λ x. reply) e h)
 
 pub carries_on : {X : Type 0} (xs ys : List Operation) (a b c : SystemState) (r : Result X Error) → AreOperationsApplied a xs b → AppliesOperationsUntilError b ys r c → AppliesOperationsUntilError a (xs ++ ys) r c
 carries_on xs ys a b c (Ok x) h k = carried_on xs ys a b c h k
@@ -94,36 +94,36 @@ passed_on (Err f) e a operations c is h = subst (λ g. IsRunOfOperationsEndedByE
 -- the file is open under the first number
 pub record IsOpened (old : SessionView) (path : List ℕ) (fd : ℕ) (new : SessionView) : Type 0 where
   pub number : fd ≡ 0
-  pub carried : AreOperationsApplied (system_state_of old) (ops.Open path new_file_flags ∷ []) (system_state_of new)
+  pub carried : AreOperationsApplied (system_state_of_session_view old) (ops.Open path new_file_flags ∷ []) (system_state_of_session_view new)
 
-pub opens : (old new : SessionView) (path : List ℕ) (flags : Flags) (fd : ℕ) → flags ≡ new_file_flags → IsHealthyWithoutOpenFile (system_state_of old) → IsSessionStep (system_state_of old) (ops.Open path flags) (ops.Opened fd) (system_state_of new) → IsOpened old path fd new
+pub opens : (old new : SessionView) (path : List ℕ) (flags : FlagsOfOpen) (fd : ℕ) → flags ≡ new_file_flags → IsHealthyWithoutOpenFile (system_state_of_session_view old) → IsSessionStep (system_state_of_session_view old) (ops.Open path flags) (ops.Opened fd) (system_state_of_session_view new) → IsOpened old path fd new
 opens old new path flags fd is none turn =
-    let opened : IsSessionStep (system_state_of old) (ops.Open path new_file_flags) (ops.Opened fd) (system_state_of new) = subst (λ f. IsSessionStep (system_state_of old) (ops.Open path f) (ops.Opened fd) (system_state_of new)) is turn in
+    let opened : IsSessionStep (system_state_of_session_view old) (ops.Open path new_file_flags) (ops.Opened fd) (system_state_of_session_view new) = subst (λ f. IsSessionStep (system_state_of_session_view old) (ops.Open path f) (ops.Opened fd) (system_state_of_session_view new)) is turn in
     record {
-      number = opened_first (system_state_of old) (system_state_of new) none.session path fd none.healthy none.closed opened;
-      carried = one_carried (system_state_of old) (system_state_of new) (ops.Open path new_file_flags) (ops.Opened fd) opened refl;
+      number = opened_first (system_state_of_session_view old) (system_state_of_session_view new) none.session path fd none.healthy none.closed opened;
+      carried = one_carried (system_state_of_session_view old) (system_state_of_session_view new) (ops.Open path new_file_flags) (ops.Opened fd) opened refl;
     }
 
-pub fails_to_open : (old new : SessionView) (path : List ℕ) (flags : Flags) (more : List Operation) (e : Error) → flags ≡ new_file_flags → IsSessionStepOrFailure old (ops.Open path flags) (reply_from_result ops.Opened (Err e)) new
-    → IsRunOfOperationsEndedByError e (system_state_of old) (ops.Open path new_file_flags ∷ more) (system_state_of new)
+pub fails_to_open : (old new : SessionView) (path : List ℕ) (flags : FlagsOfOpen) (more : List Operation) (e : Error) → flags ≡ new_file_flags → IsSessionStepOrFailure old (ops.Open path flags) (reply_from_result ops.Opened (Err e)) new
+    → IsRunOfOperationsEndedByError e (system_state_of_session_view old) (ops.Open path new_file_flags ∷ more) (system_state_of_session_view new)
 fails_to_open old new path flags more e is h =
-    ended_at e [] (ops.Open path new_file_flags) more (system_state_of old) (system_state_of old) (system_state_of new) (none_carried (system_state_of old))
+    ended_at e [] (ops.Open path new_file_flags) more (system_state_of_session_view old) (system_state_of_session_view old) (system_state_of_session_view new) (none_carried (system_state_of_session_view old))
     (one_ends old new (ops.Open path new_file_flags) ops.Opened e (subst (λ f. IsSessionStepOrFailure old (ops.Open path f) (reply_from_result ops.Opened (Err e)) new) is h))
 
 pub fails_to_write : (old between new : SessionView) (path bytes : List ℕ) (fd : ℕ) (e : Error) → IsOpened old path fd between → IsSessionStepOrFailure between (ops.Write fd bytes) (reply_from_result ops.Count (Err e)) new
-    → IsRunOfOperationsEndedByError e (system_state_of old) (copy_operations_of_node path (FileNode [] bytes)) (system_state_of new)
+    → IsRunOfOperationsEndedByError e (system_state_of_session_view old) (copy_operations_of_node path (FileNode [] bytes)) (system_state_of_session_view new)
 fails_to_write old between new path bytes fd e o h =
-    ended_on e (ops.Open path new_file_flags ∷ []) (ops.Write 0 bytes ∷ ops.Close 0 ∷ []) (system_state_of old) (system_state_of between) (system_state_of new) o.carried
-    (ended_at e [] (ops.Write 0 bytes) (ops.Close 0 ∷ []) (system_state_of between) (system_state_of between) (system_state_of new) (none_carried (system_state_of between))
+    ended_on e (ops.Open path new_file_flags ∷ []) (ops.Write 0 bytes ∷ ops.Close 0 ∷ []) (system_state_of_session_view old) (system_state_of_session_view between) (system_state_of_session_view new) o.carried
+    (ended_at e [] (ops.Write 0 bytes) (ops.Close 0 ∷ []) (system_state_of_session_view between) (system_state_of_session_view between) (system_state_of_session_view new) (none_carried (system_state_of_session_view between))
     (one_ends between new (ops.Write 0 bytes) ops.Count e (subst (λ n. IsSessionStepOrFailure between (ops.Write n bytes) (reply_from_result ops.Count (Err e)) new) o.number h)))
 
-pub closes : {X : Type 0} (old between written new : SessionView) (path bytes : List ℕ) (fd count : ℕ) (r : Result X Error) → IsOpened old path fd between → IsSessionStep (system_state_of between) (ops.Write fd bytes) (ops.Count count) (system_state_of written)
-    → IsSessionStepOrFailure written (ops.Close fd) (reply_from_result (λ x. ops.Done) r) new → AppliesOperationsUntilError (system_state_of old) (copy_operations_of_node path (FileNode [] bytes)) r (system_state_of new)
+pub closes : {X : Type 0} (old between written new : SessionView) (path bytes : List ℕ) (fd count : ℕ) (r : Result X Error) → IsOpened old path fd between → IsSessionStep (system_state_of_session_view between) (ops.Write fd bytes) (ops.Count count) (system_state_of_session_view written)
+    → IsSessionStepOrFailure written (ops.Close fd) (reply_from_result (λ x. ops.Done) r) new → AppliesOperationsUntilError (system_state_of_session_view old) (copy_operations_of_node path (FileNode [] bytes)) r (system_state_of_session_view new)
 closes old between written new path bytes fd count r o turn h =
-    let write : AreOperationsApplied (system_state_of between) (ops.Write 0 bytes ∷ []) (system_state_of written) =
-    one_carried (system_state_of between) (system_state_of written) (ops.Write 0 bytes) (ops.Count count) (subst (λ n. IsSessionStep (system_state_of between) (ops.Write n bytes) (ops.Count count) (system_state_of written)) o.number turn) refl in
-    let both = carried_on (ops.Open path new_file_flags ∷ []) (ops.Write 0 bytes ∷ []) (system_state_of old) (system_state_of between) (system_state_of written) o.carried write in
-    carries_on (ops.Open path new_file_flags ∷ ops.Write 0 bytes ∷ []) (ops.Close 0 ∷ []) (system_state_of old) (system_state_of written) (system_state_of new) r both
+    let write : AreOperationsApplied (system_state_of_session_view between) (ops.Write 0 bytes ∷ []) (system_state_of_session_view written) =
+    one_carried (system_state_of_session_view between) (system_state_of_session_view written) (ops.Write 0 bytes) (ops.Count count) (subst (λ n. IsSessionStep (system_state_of_session_view between) (ops.Write n bytes) (ops.Count count) (system_state_of_session_view written)) o.number turn) refl in
+    let both = carried_on (ops.Open path new_file_flags ∷ []) (ops.Write 0 bytes ∷ []) (system_state_of_session_view old) (system_state_of_session_view between) (system_state_of_session_view written) o.carried write in
+    carries_on (ops.Open path new_file_flags ∷ ops.Write 0 bytes ∷ []) (ops.Close 0 ∷ []) (system_state_of_session_view old) (system_state_of_session_view written) (system_state_of_session_view new) r both
     (carries_one written new (ops.Close 0) ops.Done r refl (subst (λ n. IsSessionStepOrFailure written (ops.Close n) (reply_from_result (λ x. ops.Done) r) new) o.number h))
 
 -- ---- entries in turn

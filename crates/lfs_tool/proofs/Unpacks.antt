@@ -6,26 +6,26 @@ use Rattle.lfs_model.specs.Listing.{UnpackingAction, PathAndNode, unpacking_acti
 use Rattle.lfs_model.specs.Slots.{Branch, Ctz, Inline, Struct}
 use Rattle.lfs_model.specs.Thread.{Pair}
 use Rattle.lfs_model.specs.Tree.{Node}
-use Rattle.lfs_model.specs.View.{HasDiskView, IsAcceptedImage, IsListIfCtz, view_of_disk}
+use Rattle.lfs_model.specs.View.{HasDiskView, IsAcceptedImage, IsSkipListIfCtzStruct, view_of_disk}
 use Rattle.lfs_model.specs.declared.order.NameOrder.{NameOrder}
 use Rattle.lfs_device.specs.declared.error.Error.TheVariants.{Corrupt, Invalid, NoMemory}
 use Rattle.lfs_device.specs.declared.error.Error.{Error}
-use Rattle.lfs_device.specs.Shown.{ordered}
-use Rattle.lfs_lookup.specs.Walk.{AreWalkedEntriesOf, ArePathsAndStructsOfWalk, PathAndStruct, IsWalkedEntryOf, IsNodeOfStruct}
+use Rattle.lfs_device.specs.Shown.{disk_with_name_order}
+use Rattle.lfs_lookup.specs.Walk.{ArePathsAndStructsOfTreeEntries, ArePathsAndStructsOfWalk, PathAndStruct, IsPathAndStructOfTreeEntry, IsNodeOfStruct}
 use Rattle.lfs_tool.specs.declared.errors.ToolError.{ToolError}
 use Rattle.lfs_tool.specs.declared.errors.ToolError.TheVariants.{Fs, Output}
 use Rattle.lfs_tool.specs.Listings.{RefusesToList}
-use Rattle.lfs_tool.specs.Unpackings.{HaveWellFormedSkipLists, FailsToUnpackDisk, FailsToUnpackImage, HasDoneBeginningOfActions, HasDoneMoreActions, HasBegunUnpackingDisk, HasBegunUnpackingImage, HasUnpackedDisk, HasUnpackedImage, AreActionsUnpackingDisk, ReportsTargetFaults, AreActionsUnpackingImage, action_for_place, action_for_struct, actions_for_places}
+use Rattle.lfs_tool.specs.Unpackings.{HaveWellFormedSkipLists, FailsToUnpackDisk, FailsToUnpackImage, HasDoneBeginningOfUnpackingActions, HasDoneTheseFurtherUnpackingActions, HasBegunUnpackingDisk, HasBegunUnpackingImage, HasUnpackedDisk, HasUnpackedImage, AreActionsUnpackingDisk, ReportsUnpackTargetFaults, AreActionsUnpackingImage, unpacking_action_for_tree_entry, unpacking_action_for_struct, unpacking_actions_for_tree_entries}
 use Rattle.lfs_tool.proofs.Images.{all_read, most}
 
 -- ---- what was found of a tree unpacks it
 
-list_node : (disk : Disk) (struct : Struct) (node : Node) → IsNodeOfStruct disk struct node → IsListIfCtz disk struct
+list_node : (disk : Disk) (struct : Struct) (node : Node) → IsNodeOfStruct disk struct node → IsSkipListIfCtzStruct disk struct
 list_node disk (Inline bytes) node h = tt
 list_node disk (Ctz head size) node (attributes, (is, list)) = list
 list_node disk (Branch to) node h = tt
 
-lists_shown : (disk : Disk) (ps : List PathAndStruct) (es : List PathAndNode) → AreWalkedEntriesOf disk ps es → HaveWellFormedSkipLists disk ps
+lists_shown : (disk : Disk) (ps : List PathAndStruct) (es : List PathAndNode) → ArePathsAndStructsOfTreeEntries disk ps es → HaveWellFormedSkipLists disk ps
 lists_shown disk [] es s = tt
 lists_shown disk (p ∷ ps) [] s = absurd s
 lists_shown disk (p ∷ ps) (e ∷ es) s = (list_node disk p.struct e.node s.0.node, lists_shown disk ps es s.1)
@@ -33,34 +33,34 @@ lists_shown disk (p ∷ ps) (e ∷ es) s = (list_node disk p.struct e.node s.0.n
 pub lists_walked : (disk now : Disk) (ps : List Pair) (places : List PathAndStruct) → now ≡ disk → ArePathsAndStructsOfWalk disk ps places → HaveWellFormedSkipLists now places
 lists_walked disk now ps places same (entries, (walk, shows)) = subst (λ d. HaveWellFormedSkipLists d places) (sym same) (lists_shown disk places entries shows)
 
-action_node : (disk : Disk) (path : List ℕ) (struct : Struct) (node : Node) → IsNodeOfStruct disk struct node → action_for_struct disk path struct ≡ unpacking_action_of_node path node
+action_node : (disk : Disk) (path : List ℕ) (struct : Struct) (node : Node) → IsNodeOfStruct disk struct node → unpacking_action_for_struct disk path struct ≡ unpacking_action_of_node path node
 action_node disk path (Inline bytes) node (attributes, is) = ap (unpacking_action_of_node path) (sym is)
 action_node disk path (Ctz head size) node (attributes, (is, list)) = ap (unpacking_action_of_node path) (sym is)
 action_node disk path (Branch to) node (attributes, (names, is)) = ap (unpacking_action_of_node path) (sym is)
 
-action_shown : (disk : Disk) (p : PathAndStruct) (e : PathAndNode) → IsWalkedEntryOf disk p e → action_for_place disk p ≡ unpacking_action_of_entry e
+action_shown : (disk : Disk) (p : PathAndStruct) (e : PathAndNode) → IsPathAndStructOfTreeEntry disk p e → unpacking_action_for_tree_entry disk p ≡ unpacking_action_of_entry e
 action_shown disk p e s = action_node disk p.path p.struct e.node s.node ∙ ap (λ path. unpacking_action_of_node path e.node) s.path
 
-actions_shown : (disk : Disk) (ps : List PathAndStruct) (es : List PathAndNode) → AreWalkedEntriesOf disk ps es → actions_for_places disk ps ≡ map unpacking_action_of_entry es
+actions_shown : (disk : Disk) (ps : List PathAndStruct) (es : List PathAndNode) → ArePathsAndStructsOfTreeEntries disk ps es → unpacking_actions_for_tree_entries disk ps ≡ map unpacking_action_of_entry es
 actions_shown disk [] [] s = refl
 actions_shown disk [] (e ∷ es) s = absurd s
 actions_shown disk (p ∷ ps) [] s = absurd s
 actions_shown disk (p ∷ ps) (e ∷ es) s = ap₂ (λ a more. a ∷ more) (action_shown disk p e s.0) (actions_shown disk ps es s.1)
 
-module _ (disk now : Disk) (order : NameOrder) (ps : List Pair) (places : List PathAndStruct) (same : now ≡ ordered order disk) (accepted : IsAcceptedImage (ordered order disk) ps) (walked : ArePathsAndStructsOfWalk (ordered order disk) ps places) where
-  unpacks : AreActionsUnpackingDisk disk (actions_for_places (ordered order disk) places)
+module _ (disk now : Disk) (order : NameOrder) (ps : List Pair) (places : List PathAndStruct) (same : now ≡ disk_with_name_order order disk) (accepted : IsAcceptedImage (disk_with_name_order order disk) ps) (walked : ArePathsAndStructsOfWalk (disk_with_name_order order disk) ps places) where
+  unpacks : AreActionsUnpackingDisk disk (unpacking_actions_for_tree_entries (disk_with_name_order order disk) places)
   unpacks =
       let (entries, (walk, shows)) = walked in
-      (view_of_disk (ordered order disk) ps, ((order, (ps, (accepted, refl))), (entries, (walk, actions_shown (ordered order disk) places entries shows))))
+      (view_of_disk (disk_with_name_order order disk) ps, ((order, (ps, (accepted, refl))), (entries, (walk, actions_shown (disk_with_name_order order disk) places entries shows))))
 
-  pub done_of : (old new : Option (List UnpackingAction)) → HasDoneMoreActions old new (actions_for_places now places) → HasUnpackedDisk disk old new
-  done_of old new h = (actions_for_places (ordered order disk) places, (unpacks, subst (λ d. HasDoneMoreActions old new (actions_for_places d places)) same h))
+  pub done_of : (old new : Option (List UnpackingAction)) → HasDoneTheseFurtherUnpackingActions old new (unpacking_actions_for_tree_entries now places) → HasUnpackedDisk disk old new
+  done_of old new h = (unpacking_actions_for_tree_entries (disk_with_name_order order disk) places, (unpacks, subst (λ d. HasDoneTheseFurtherUnpackingActions old new (unpacking_actions_for_tree_entries d places)) same h))
 
-  pub begun_of : (old new : Option (List UnpackingAction)) → HasDoneBeginningOfActions old new (actions_for_places now places) → HasBegunUnpackingDisk disk old new
-  begun_of old new h = (actions_for_places (ordered order disk) places, (unpacks, subst (λ d. HasDoneBeginningOfActions old new (actions_for_places d places)) same h))
+  pub begun_of : (old new : Option (List UnpackingAction)) → HasDoneBeginningOfUnpackingActions old new (unpacking_actions_for_tree_entries now places) → HasBegunUnpackingDisk disk old new
+  begun_of old new h = (unpacking_actions_for_tree_entries (disk_with_name_order order disk) places, (unpacks, subst (λ d. HasDoneBeginningOfUnpackingActions old new (unpacking_actions_for_tree_entries d places)) same h))
 
 pub fails_begun : {X : Type 0} (disk : Disk) (old new : Option (List UnpackingAction)) (was now : ℕ) (r : Result X ToolError) (begun : Type 0) → OnErr r begun → (begun → HasBegunUnpackingDisk disk old new)
-    → ReportsTargetFaults was now r → IfErr r (FailsToUnpackDisk disk old new)
+    → ReportsUnpackTargetFaults was now r → IfErr r (FailsToUnpackDisk disk old new)
 fails_begun disk old new was now (Ok x) begun h to reports = tt
 fails_begun disk old new was now (Err Output) begun h to reports = to h
 fails_begun disk old new was now (Err (Fs NoMemory)) begun h to reports = inr (to h)
@@ -70,7 +70,7 @@ fails_begun disk old new was now (Err e) begun h to reports = absurd reports
 
 -- the disk is that of the bytes, in each order of names
 abbrev IsDiskOf : ℕ → ℕ → List ℕ → Disk → Type 0
-IsDiskOf block_size page image disk = (order : NameOrder) → ordered order disk ≡ disk_of_image block_size page order image
+IsDiskOf block_size page image disk = (order : NameOrder) → disk_with_name_order order disk ≡ disk_of_image block_size page order image
 
 unpacks_image : (block_size page : ℕ) (image : List ℕ) (disk : Disk) (actions : List UnpackingAction) → IsImageOfWholeBlocks block_size page image → IsDiskOf block_size page image disk → AreActionsUnpackingDisk disk actions → AreActionsUnpackingImage block_size page image actions
 unpacks_image block_size page image disk actions is same (view, ((order, shows), unpacking)) = (is, (view, ((order, subst (λ d. HasDiskView d view) (same order) shows), unpacking)))

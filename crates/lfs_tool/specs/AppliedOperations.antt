@@ -7,10 +7,10 @@ use Rattle.lfs_model.specs.Operations as ops
 use Rattle.lfs_model.specs.Operations.{Operation, Reply}
 use Rattle.lfs_model.specs.Run.{AreSessionSteps, IsSessionStep, SystemState}
 use Rattle.lfs_model.specs.Run as run
-use Rattle.lfs_model.specs.Session.{Files, Session}
+use Rattle.lfs_model.specs.Session.{OpenFilesByNumber, Session}
 use Rattle.lfs_model.specs.State.{Healthy}
 use Rattle.lfs_model.specs.Tree.{Node, FileNode, DirectoryNode}
-use Rattle.lfs_fs.specs.SessionView.{FailsByError}
+use Rattle.lfs_fs.specs.SessionView.{SessionFailsByError}
 use Rattle.lfs_lookup.specs.Refusals.{is_refusal, refusal_of_error}
 use Rattle.lfs_tool_folders.specs.MemorySources.{optional_bytes_view}
 use Rattle.lfs_tool_folders.specs.declared.entries.SourceEntry.{SourceEntry}
@@ -18,13 +18,13 @@ use Rattle.lfs_tool_folders.specs.declared.entries.SourceEntry.{SourceEntry}
 -- ---- the operations
 
 -- a folder is made before its entries
-abbrev pub node_of_optional_bytes : Option (List ℕ) → Node
-node_of_optional_bytes None = DirectoryNode [] []
-node_of_optional_bytes (Some bytes) = FileNode [] bytes
+abbrev pub file_or_directory_node_of_optional_bytes : Option (List ℕ) → Node
+file_or_directory_node_of_optional_bytes None = DirectoryNode [] []
+file_or_directory_node_of_optional_bytes (Some bytes) = FileNode [] bytes
 
 -- the operations that copy an entry
 abbrev pub copying_operations_of_entry : SourceEntry → List Operation
-copying_operations_of_entry e = copy_operations_of_node e.path.items (node_of_optional_bytes (optional_bytes_view e.bytes))
+copying_operations_of_entry e = copy_operations_of_node e.path.items (file_or_directory_node_of_optional_bytes (optional_bytes_view e.bytes))
 
 abbrev pub copying_operations_of_entries : List SourceEntry → List Operation
 copying_operations_of_entries entries = flat_map copying_operations_of_entry entries
@@ -32,7 +32,7 @@ copying_operations_of_entries entries = flat_map copying_operations_of_entry ent
 -- ---- a session that takes them
 
 -- no file is open, and the first number is free
-abbrev pub AreAllFilesClosed : Files → Type 0
+abbrev pub AreAllFilesClosed : OpenFilesByNumber → Type 0
 AreAllFilesClosed [] = Unit {0}
 AreAllFilesClosed (None ∷ []) = Unit {0}
 AreAllFilesClosed (None ∷ f ∷ fs) = ⊥
@@ -54,7 +54,7 @@ pub record AreOperationsApplied (from : SystemState) (operations : List Operatio
 -- an operation that ends in an error: a refusal, or the session failed by it
 abbrev pub EndsOperationWithError : Bool → Error → SystemState → Operation → SystemState → Type 0
 EndsOperationWithError true e from op to = IsSessionStep from op (ops.Refused (refusal_of_error e)) to
-EndsOperationWithError false e from op to = FailsByError e from op to
+EndsOperationWithError false e from op to = SessionFailsByError e from op to
 
 -- Some of the operations are applied, and the next one ends in that error.
 pub record IsRunOfOperationsEndedByError (e : Error) (from : SystemState) (operations : List Operation) (to : SystemState) : Type 0 where

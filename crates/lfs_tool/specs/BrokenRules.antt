@@ -1,10 +1,10 @@
 -- Which rules are broken by the pairs of a thread, without the attributes of their slots.
 use Rattle.std.specs.Prelude.{ℕ, ◌≡◌, ◌⊎◌, ◌<◌, ◌≤◌, true, false, List, length, slice_get, Some}
 use Rattle.lfs_model.specs.Disk.{Disk, block_count}
-use Rattle.lfs_model.specs.EntryTypes.{SuperblockFields, superblock_fields_at}
-use Rattle.lfs_model.specs.Names.{is_name}
+use Rattle.lfs_model.specs.EntryTypes.{SuperblockFields, superblock_fields_of_struct_bytes}
+use Rattle.lfs_model.specs.Names.{is_valid_name}
 use Rattle.lfs_model.specs.Slots.{Branch, Ctz, Inline, Slot, Struct, pair_address_of_array, is_superblock}
-use Rattle.lfs_model.specs.Thread.{Pair, pairs_of_all_directories, starts_with_superblock, pair_count_before_root}
+use Rattle.lfs_model.specs.Thread.{Pair, pairs_from_root_directory_on, starts_with_superblock, pair_count_before_root}
 use Rattle.lfs_model.specs.View.{IsStructOfKind, first_pair_slots}
 use Rattle.lfs_tool.specs.declared.findings.Finding.{Finding}
 use Rattle.lfs_tool.specs.declared.findings.Finding.TheVariants as finding
@@ -15,17 +15,17 @@ use Rattle.lfs_tool.specs.declared.findings.WrongNumber.{WrongNumber}
 -- ---- superblocks
 
 -- a number of a superblock's struct is wrong
-abbrev pub IsWrongFieldForDisk : Disk → SuperblockFields → WrongNumber → Type 0
-IsWrongFieldForDisk disk fields stated = IsWrongSuperblockField disk.block_size (block_count disk) fields stated
+abbrev pub IsWrongSuperblockFieldForDisk : Disk → SuperblockFields → WrongNumber → Type 0
+IsWrongSuperblockFieldForDisk disk fields stated = IsWrongSuperblockField disk.block_size (block_count disk) fields stated
 
 -- a superblock's struct: 24 bytes in the slot
 abbrev pub HasSuperblockFields : Struct → SuperblockFields → Type 0
-HasSuperblockFields (Inline bytes) fields = (length bytes ≡ 24) × (superblock_fields_at bytes ≡ fields)
+HasSuperblockFields (Inline bytes) fields = (length bytes ≡ 24) × (superblock_fields_of_struct_bytes bytes ≡ fields)
 HasSuperblockFields (Ctz head size) fields = ⊥
 HasSuperblockFields (Branch to) fields = ⊥
 
 -- a pair of the superblock's chain, with that struct in slot 0
-pub record IsInSuperblockChain (ps : List Pair) (at : ℕ × ℕ) (s : Struct) : Type 0 where
+pub record IsFirstStructOfSuperblockChainPair (ps : List Pair) (at : ℕ × ℕ) (s : Struct) : Type 0 where
   pub index : ℕ
   pub pair : Pair
   pub there : slice_get ps index ≡ Some pair
@@ -47,18 +47,18 @@ pub record IsSlotRequiredToBeEntry (ps : List Pair) (at : ℕ × ℕ) (id : ℕ)
   pub behind : (pair_count_before_root ps < index) ⊎ (0 < id)
 
 -- the slot at a place, with its name, has to be an entry, and P holds of it
-abbrev pub IsTrueOfEntryAtPlace : (Slot → Type 0) → List Pair → NamedSlot → Type 0
-IsTrueOfEntryAtPlace P ps place = (s : Slot) × (IsSlotRequiredToBeEntry ps (pair_address_of_array place.pair) place.slot s × ((place.name.items ≡ s.name) × P s))
+abbrev pub IsTrueOfNamedEntrySlot : (Slot → Type 0) → List Pair → NamedSlot → Type 0
+IsTrueOfNamedEntrySlot P ps place = (s : Slot) × (IsSlotRequiredToBeEntry ps (pair_address_of_array place.pair) place.slot s × ((place.name.items ≡ s.name) × P s))
 
 -- ---- all of them
 
 -- that rule is broken by these pairs, there
 abbrev pub BreaksRuleOfFinding : Disk → List Pair → Finding → Type 0
-BreaksRuleOfFinding disk ps finding.NoSuperblock = starts_with_superblock (first_pair_slots (pairs_of_all_directories ps)) ≡ false
-BreaksRuleOfFinding disk ps (finding.NoFields pair) = (s : Struct) × (IsInSuperblockChain ps (pair_address_of_array pair) s × ((fields : SuperblockFields) → ¬ HasSuperblockFields s fields))
+BreaksRuleOfFinding disk ps finding.NoSuperblock = starts_with_superblock (first_pair_slots (pairs_from_root_directory_on ps)) ≡ false
+BreaksRuleOfFinding disk ps (finding.NoFields pair) = (s : Struct) × (IsFirstStructOfSuperblockChainPair ps (pair_address_of_array pair) s × ((fields : SuperblockFields) → ¬ HasSuperblockFields s fields))
 BreaksRuleOfFinding disk ps (finding.OtherFields pair stated) =
-    (s : Struct) × (IsInSuperblockChain ps (pair_address_of_array pair) s × ((fields : SuperblockFields) × (HasSuperblockFields s fields × IsWrongFieldForDisk disk fields stated)))
-BreaksRuleOfFinding disk ps (finding.SecondSuperblock place) = IsTrueOfEntryAtPlace (λ s. is_superblock s ≡ true) ps place
-BreaksRuleOfFinding disk ps (finding.OtherStruct place) = IsTrueOfEntryAtPlace (λ s. ¬ IsStructOfKind s.kind s.struct) ps place
-BreaksRuleOfFinding disk ps (finding.BadName place) = IsTrueOfEntryAtPlace (λ s. is_name s.name ≡ false) ps place
+    (s : Struct) × (IsFirstStructOfSuperblockChainPair ps (pair_address_of_array pair) s × ((fields : SuperblockFields) × (HasSuperblockFields s fields × IsWrongSuperblockFieldForDisk disk fields stated)))
+BreaksRuleOfFinding disk ps (finding.SecondSuperblock place) = IsTrueOfNamedEntrySlot (λ s. is_superblock s ≡ true) ps place
+BreaksRuleOfFinding disk ps (finding.OtherStruct place) = IsTrueOfNamedEntrySlot (λ s. ¬ IsStructOfKind s.kind s.struct) ps place
+BreaksRuleOfFinding disk ps (finding.BadName place) = IsTrueOfNamedEntrySlot (λ s. is_valid_name s.name ≡ false) ps place
 BreaksRuleOfFinding disk ps _ = ⊥

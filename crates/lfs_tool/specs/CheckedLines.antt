@@ -8,14 +8,14 @@ use Rattle.lfs_tool.specs.declared.findings.WrongNumber.{WrongNumber}
 use Rattle.lfs_tool.specs.declared.findings.WrongNumber.TheVariants as stated
 use Rattle.lfs_model.specs.Listing.{escaped_text, newline}
 use Rattle.lfs_model.specs.Slots.{pair_address_of_array}
-use Rattle.lfs_tool.specs.declared.check_result.Given.{Given}
+use Rattle.lfs_tool.specs.declared.check_result.GivenSizes.{GivenSizes}
 use Rattle.lfs_tool.specs.declared.verdict.AcceptedOrders.{AcceptedOrders}
 use Rattle.lfs_tool.specs.declared.verdict.AcceptedOrders.TheVariants as orders
-use Rattle.lfs_tool.specs.declared.check_result.Reason.{Reason}
-use Rattle.lfs_tool.specs.declared.check_result.Reason.TheVariants as reason
+use Rattle.lfs_tool.specs.declared.check_result.RefusalReason.{RefusalReason}
+use Rattle.lfs_tool.specs.declared.check_result.RefusalReason.TheVariants as reason
 use Rattle.lfs_tool.specs.declared.verdict.ImageSummary.{ImageSummary}
-use Rattle.lfs_tool.specs.declared.check_result.Checked.{Checked}
-use Rattle.lfs_tool.specs.declared.check_result.Checked.TheVariants as checked
+use Rattle.lfs_tool.specs.declared.check_result.CheckResult.{CheckResult}
+use Rattle.lfs_tool.specs.declared.check_result.CheckResult.TheVariants as checked
 
 -- ---- an accepted image
 
@@ -26,10 +26,10 @@ labelled_number_line label n = label ++ decimal n ++ newline
 abbrev pub used_blocks_line : ℕ → ℕ → List ℕ
 used_blocks_line used blocks = (codes "used " ++ decimal used ++ codes " of " ++ decimal blocks) ++ (codes " blocks" ++ newline)
 
-abbrev pub accepted_orders_line : AcceptedOrders → List ℕ
-accepted_orders_line orders.LongerFirst = codes "order longer-first" ++ newline
-accepted_orders_line orders.ShorterFirst = codes "order shorter-first" ++ newline
-accepted_orders_line orders.Either = codes "order either" ++ newline
+abbrev pub accepted_name_orders_line : AcceptedOrders → List ℕ
+accepted_name_orders_line orders.LongerFirst = codes "order longer-first" ++ newline
+accepted_name_orders_line orders.ShorterFirst = codes "order shorter-first" ++ newline
+accepted_name_orders_line orders.Either = codes "order either" ++ newline
 
 abbrev pub needs_recovery_line : Bool → List ℕ
 needs_recovery_line true = codes "recover yes" ++ newline
@@ -45,14 +45,14 @@ used_and_free_blocks_text s = used_blocks_line s.used s.blocks ++ labelled_numbe
 abbrev pub summary_text : ImageSummary → AcceptedOrders → List ℕ
 summary_text s orders =
     (codes "ok" ++ newline) ++ labelled_number_line (codes "files ") s.files ++ labelled_number_line (codes "directories ") s.directories
-    ++ used_and_free_blocks_text s ++ accepted_orders_line orders ++ needs_recovery_line s.recover ++ writable_line s.writable
+    ++ used_and_free_blocks_text s ++ accepted_name_orders_line orders ++ needs_recovery_line s.recover ++ writable_line s.writable
 
 -- ---- why one isn't accepted
 
-abbrev pub wrong_number_text : Given → WrongNumber → List ℕ
-wrong_number_text given (stated.BlockSize n) = codes "superblock: block size " ++ decimal n ++ codes ", given " ++ decimal given.block_size
-wrong_number_text given (stated.BlockCount n) = codes "superblock: block count " ++ decimal n ++ codes ", given " ++ decimal given.blocks
-wrong_number_text given (stated.Version n) = codes "superblock: version " ++ decimal (n / 65536) ++ codes "." ++ decimal (n % 65536)
+abbrev pub wrong_superblock_number_text : GivenSizes → WrongNumber → List ℕ
+wrong_superblock_number_text given (stated.BlockSize n) = codes "superblock: block size " ++ decimal n ++ codes ", given " ++ decimal given.block_size
+wrong_superblock_number_text given (stated.BlockCount n) = codes "superblock: block count " ++ decimal n ++ codes ", given " ++ decimal given.blocks
+wrong_superblock_number_text given (stated.Version n) = codes "superblock: version " ++ decimal (n / 65536) ++ codes "." ++ decimal (n % 65536)
 
 -- `pair A B`
 abbrev pub pair_text : ℕ × ℕ → List ℕ
@@ -70,14 +70,14 @@ named_slot_text p = slot_text (pair_address_of_array p.pair) p.slot ++ codes ": 
 abbrev pub block_out_of_range_text : ℕ × ℕ → ℕ → List ℕ
 block_out_of_range_text at block = pair_text at ++ (codes ": block " ++ decimal block) ++ codes " isn't in the image"
 
-abbrev pub pair_addresses_text : ℕ × ℕ → List ℕ
-pair_addresses_text at = codes "" ++ decimal at.0 ++ codes " " ++ decimal at.1
+abbrev pub block_numbers_of_pair_text : ℕ × ℕ → List ℕ
+block_numbers_of_pair_text at = codes "" ++ decimal at.0 ++ codes " " ++ decimal at.1
 
 -- `block N: in two pairs, A B and C D`
 abbrev pub block_in_two_pairs_text : ℕ → ℕ × ℕ → ℕ × ℕ → List ℕ
-block_in_two_pairs_text block other at = (codes "block " ++ decimal block) ++ codes ": in two pairs, " ++ pair_addresses_text other ++ codes " and " ++ pair_addresses_text at
+block_in_two_pairs_text block other at = (codes "block " ++ decimal block) ++ codes ": in two pairs, " ++ block_numbers_of_pair_text other ++ codes " and " ++ block_numbers_of_pair_text at
 
-abbrev pub finding_text : Given → Finding → List ℕ
+abbrev pub finding_text : GivenSizes → Finding → List ℕ
 finding_text given (finding.OutOfRange pair block) = block_out_of_range_text (pair_address_of_array pair) block
 finding_text given (finding.OneBlock pair) = pair_text (pair_address_of_array pair) ++ codes ": one block twice"
 finding_text given (finding.InTwoPairs block pair other) = block_in_two_pairs_text block (pair_address_of_array other) (pair_address_of_array pair)
@@ -87,20 +87,20 @@ finding_text given (finding.NoName pair slot) = slot_text (pair_address_of_array
 finding_text given (finding.NoStruct place) = named_slot_text place ++ codes " has no struct"
 finding_text given finding.NoSuperblock = codes "superblock: the root directory doesn't begin with one"
 finding_text given (finding.NoFields pair) = slot_text (pair_address_of_array pair) 0 ++ codes ": no superblock's struct"
-finding_text given (finding.OtherFields pair stated) = pair_text (pair_address_of_array pair) ++ codes ", " ++ wrong_number_text given stated
+finding_text given (finding.OtherFields pair stated) = pair_text (pair_address_of_array pair) ++ codes ", " ++ wrong_superblock_number_text given stated
 finding_text given (finding.SecondSuperblock place) = named_slot_text place ++ codes " is a second superblock"
 finding_text given (finding.OtherStruct place) = named_slot_text place ++ codes " has another kind's struct"
 finding_text given (finding.BadName place) = named_slot_text place ++ codes " is no name"
 
-abbrev pub no_image_text : Given → List ℕ
+abbrev pub no_image_text : GivenSizes → List ℕ
 no_image_text given = codes "no image of blocks of " ++ decimal given.block_size ++ codes " bytes and pages of " ++ decimal given.page
 
-abbrev pub unaccepted_reason_text : Given → Reason → List ℕ
-unaccepted_reason_text given (reason.WrongNumber stated) = wrong_number_text given stated
+abbrev pub unaccepted_reason_text : GivenSizes → RefusalReason → List ℕ
+unaccepted_reason_text given (reason.WrongNumber stated) = wrong_superblock_number_text given stated
 unaccepted_reason_text given reason.NoImage = no_image_text given
 unaccepted_reason_text given (reason.Broken finding) = finding_text given finding
 unaccepted_reason_text given reason.Other = codes "no single rule was found"
 
-abbrev pub check_result_text : Checked → List ℕ
+abbrev pub check_result_text : CheckResult → List ℕ
 check_result_text (checked.Accepted summary orders) = summary_text summary orders
 check_result_text (checked.Refused reason given) = (codes "corrupt" ++ newline) ++ unaccepted_reason_text given reason ++ newline

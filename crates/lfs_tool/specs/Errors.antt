@@ -2,14 +2,14 @@
 use Rattle.std.specs.Prelude.{◌++◌, ℕ, List, codes}
 use Rattle.std.specs.Fmt.{decimal}
 use Rattle.lfs_model.specs.Listing.{newline}
-use Rattle.lfs_device.specs.Error.{name_of, number_of}
+use Rattle.lfs_device.specs.Error.{name_of_error, number_of_error}
 use Rattle.lfs_device.specs.declared.error.Error.{Error}
 use Rattle.lfs_tool.specs.declared.errors.ToolError.{ToolError}
 use Rattle.lfs_tool.specs.declared.errors.ToolError.TheVariants.{Fs, Input, Output}
 
 -- `error: <name> (<number>)`
 abbrev pub error_line : Error → List ℕ
-error_line e = codes "error: " ++ name_of e ++ codes " (" ++ decimal (number_of e) ++ codes ")" ++ newline
+error_line e = codes "error: " ++ name_of_error e ++ codes " (" ++ decimal (number_of_error e) ++ codes ")" ++ newline
 
 abbrev pub tool_error_line : ToolError → List ℕ
 tool_error_line (Fs e) = error_line e

@@ -3,13 +3,13 @@ use Rattle.std.proofs.Common.{ℕ, zero, suc, ◌≡◌, ◌-◌, ◌<◌, ◌�
 use Rattle.std.specs.Prelude.{slice_index}
 use Rattle.std.proofs.lemmas.List.{length-replicate}
 use Rattle.std.proofs.lemmas.List.Elements.{All-head, All-tail}
-use Rattle.lfs_device.specs.Bytes.{AreBytes, HasBytes}
-use Rattle.lfs_model.specs.Blocks.{HasBlocksOfCountAndSize, block_bytes_in}
+use Rattle.lfs_device.specs.Bytes.{AreAllNumbersBytes, AreAllBlockElementsBelow256}
+use Rattle.lfs_model.specs.Blocks.{HasBlocksOfCountAndSize, block_bytes_by_number}
 use Rattle.lfs_tool.specs.declared.block_excerpt.BlockExcerpt.{BlockExcerpt}
-use Rattle.lfs_tool.specs.ExcerptBlocks.{AreExcerptsOfBlockSize, blocks_of_excerpts}
-use Rattle.lfs_tool.specs.Excerpt.{padded}
+use Rattle.lfs_tool.specs.ExcerptBlocks.{AreExcerptsOfBlocksWithSize, blocks_of_excerpts}
+use Rattle.lfs_tool.specs.Excerpt.{bytes_padded_to_size}
 
-pub length-padded : (size : ℕ) (bytes : List ℕ) → length bytes ≤ size → length (padded size bytes) ≡ size
+pub length-padded : (size : ℕ) (bytes : List ℕ) → length bytes ≤ size → length (bytes_padded_to_size size bytes) ≡ size
 length-padded size bytes fits = length-append bytes (replicate (size - length bytes) 255) ∙ omega (arith, length-replicate {A = ℕ} (size - length bytes) 255)
 
 -- ---- the shape
@@ -18,13 +18,13 @@ count_shown : (blocks : List BlockExcerpt) → length (blocks_of_excerpts blocks
 count_shown [] = refl
 count_shown (b ∷ blocks) = ap suc (count_shown blocks)
 
-size_shown : (size : ℕ) (blocks : List BlockExcerpt) → AreExcerptsOfBlockSize size blocks → (b : ℕ) → b < length blocks → length (block_bytes_in (blocks_of_excerpts blocks) b) ≡ size
+size_shown : (size : ℕ) (blocks : List BlockExcerpt) → AreExcerptsOfBlocksWithSize size blocks → (b : ℕ) → b < length blocks → length (block_bytes_by_number (blocks_of_excerpts blocks) b) ≡ size
 size_shown size [] have b below = absurd (omega arith)
 size_shown size (e ∷ blocks) have zero below = length-padded e.size e.bytes.items e.fits ∙ All-head (λ b. b.size ≡ size) e blocks have
 size_shown size (e ∷ blocks) have (suc b) below = size_shown size blocks (All-tail (λ b. b.size ≡ size) e blocks have) b (omega arith)
 
-pub excerpts_show_blocks_of_size : (size count : ℕ) (blocks : List BlockExcerpt) → length blocks ≡ count → AreExcerptsOfBlockSize size blocks → HasBlocksOfCountAndSize size count (blocks_of_excerpts blocks)
-excerpts_show_blocks_of_size size count blocks is have = record {
+pub blocks_of_excerpts_have_size : (size count : ℕ) (blocks : List BlockExcerpt) → length blocks ≡ count → AreExcerptsOfBlocksWithSize size blocks → HasBlocksOfCountAndSize size count (blocks_of_excerpts blocks)
+blocks_of_excerpts_have_size size count blocks is have = record {
   count = count_shown blocks ∙ is;
   sizes = λ b below. size_shown size blocks have b (omega (arith, is));
 }
@@ -36,12 +36,12 @@ erased zero i = omega arith
 erased (suc n) zero = omega arith
 erased (suc n) (suc i) = erased n i
 
-bytes_before : (xs : List ℕ) (n : ℕ) → AreBytes xs → AreBytes (xs ++ replicate n 255)
+bytes_before : (xs : List ℕ) (n : ℕ) → AreAllNumbersBytes xs → AreAllNumbersBytes (xs ++ replicate n 255)
 bytes_before [] n are i = erased n i
 bytes_before (x ∷ xs) n are zero = are 0
 bytes_before (x ∷ xs) n are (suc i) = bytes_before xs n (λ j. are (suc j)) i
 
-pub bytes_shown : (blocks : List BlockExcerpt) → HasBytes (blocks_of_excerpts blocks)
-bytes_shown [] b i = omega arith
-bytes_shown (e ∷ blocks) zero i = bytes_before e.bytes.items (e.size - length e.bytes.items) e.are_bytes i
-bytes_shown (e ∷ blocks) (suc b) i = bytes_shown blocks b i
+pub values_in_excerpt_blocks_are_bytes : (blocks : List BlockExcerpt) → AreAllBlockElementsBelow256 (blocks_of_excerpts blocks)
+values_in_excerpt_blocks_are_bytes [] b i = omega arith
+values_in_excerpt_blocks_are_bytes (e ∷ blocks) zero i = bytes_before e.bytes.items (e.size - length e.bytes.items) e.are_bytes i
+values_in_excerpt_blocks_are_bytes (e ∷ blocks) (suc b) i = values_in_excerpt_blocks_are_bytes blocks b i

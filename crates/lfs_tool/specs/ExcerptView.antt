@@ -2,20 +2,20 @@
 use Rattle.std.specs.Prelude.{ℕ, List, length}
 use Rattle.lfs_device.specs.declared.geometry.Geometry.{Geometry}
 use Rattle.lfs_model.specs.Blocks.{Blocks}
-use Rattle.lfs_model.specs.History.{CallEvent}
-use Rattle.lfs_tool.specs.declared.cutter.Cutter.{Cutter}
+use Rattle.lfs_model.specs.History.{DeviceCallEvent}
+use Rattle.lfs_tool.specs.declared.cutter.ExcerptMaker.{ExcerptMaker}
 use Rattle.lfs_tool.specs.declared.excerpt.Excerpt.{Excerpt}
 use Rattle.lfs_tool.specs.ExcerptBlocks.{blocks_of_excerpts}
 
 -- the size of the blocks that it cuts
-abbrev pub cutter_block_size : Cutter → ℕ
-cutter_block_size c = length c.padded.items
+abbrev pub excerpt_maker_block_size : ExcerptMaker → ℕ
+excerpt_maker_block_size c = length c.padded.items
 
-abbrev pub geometry_of : Excerpt → Geometry
-geometry_of e = e.geometry
+abbrev pub geometry_of_excerpt_device : Excerpt → Geometry
+geometry_of_excerpt_device e = e.geometry
 
 abbrev pub excerpt_blocks : Excerpt → Blocks
 excerpt_blocks e = blocks_of_excerpts e.blocks.items
 
-abbrev pub history_of : Excerpt → List CallEvent
-history_of e = e.trace.events
+abbrev pub call_history_of_excerpt_device : Excerpt → List DeviceCallEvent
+call_history_of_excerpt_device e = e.trace.events

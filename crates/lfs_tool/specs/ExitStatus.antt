@@ -11,18 +11,18 @@ use Rattle.lfs_tool.specs.declared.errors.Fault.{Fault}
 use Rattle.lfs_tool.specs.declared.errors.Fault.TheVariants.{Line, Tool}
 
 -- which writer gets the parser's text
-pub data Shown : Type 0 where
-  memory : Shown
-  help : Shown
-  mistake : Shown
+pub data ParserErrorOutcome : Type 0 where
+  memory : ParserErrorOutcome
+  help : ParserErrorOutcome
+  mistake : ParserErrorOutcome
 
-abbrev pub outcome_of_parser_error : ErrorKind → Shown
+abbrev pub outcome_of_parser_error : ErrorKind → ParserErrorOutcome
 outcome_of_parser_error kind.OutOfMemory = memory
 outcome_of_parser_error kind.DisplayHelp = help
 outcome_of_parser_error kind.DisplayVersion = help
 outcome_of_parser_error _ = mistake
 
-abbrev pub status_of_parser_outcome : Shown → ℕ
+abbrev pub status_of_parser_outcome : ParserErrorOutcome → ℕ
 status_of_parser_outcome memory = 1
 status_of_parser_outcome help = 0
 status_of_parser_outcome mistake = 2
@@ -34,7 +34,7 @@ exit_status_of_failure (Line NotUtf8) = 2
 exit_status_of_failure (Line (Parser e)) = status_of_parser_outcome (outcome_of_parser_error (kind_of e))
 exit_status_of_failure (Tool e) = tool_error_status e
 
-abbrev pub error_line_of_parser_outcome : Shown → Option (List ℕ)
+abbrev pub error_line_of_parser_outcome : ParserErrorOutcome → Option (List ℕ)
 error_line_of_parser_outcome memory = Some (error_line NoMemory)
 error_line_of_parser_outcome help = None
 error_line_of_parser_outcome mistake = None
@@ -47,11 +47,11 @@ standard_error_line_of_failure (Line NotUtf8) = Some (codes "error: the command 
 standard_error_line_of_failure (Line (Parser e)) = error_line_of_parser_outcome (outcome_of_parser_error (kind_of e))
 standard_error_line_of_failure (Tool e) = Some (tool_error_line e)
 
-abbrev pub is_help_outcome : Shown → Bool
+abbrev pub is_help_outcome : ParserErrorOutcome → Bool
 is_help_outcome help = true
 is_help_outcome _ = false
 
 -- the fault is a request for help, which is no mistake
-abbrev pub is_failure_for_help : Fault → Bool
-is_failure_for_help (Line (Parser e)) = is_help_outcome (outcome_of_parser_error (kind_of e))
-is_failure_for_help _ = false
+abbrev pub is_failure_a_help_request : Fault → Bool
+is_failure_a_help_request (Line (Parser e)) = is_help_outcome (outcome_of_parser_error (kind_of e))
+is_failure_a_help_request _ = false

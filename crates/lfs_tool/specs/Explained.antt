@@ -3,11 +3,11 @@ use Rattle.std.specs.Prelude.{◌≡◌, ◌++◌, ◌⊎◌, ◌/◌, ℕ, [], 
 use Rattle.std.specs.Fmt.{decimal}
 use Rattle.lfs_model.specs.Listing.{escaped_text, newline}
 use Rattle.lfs_device.specs.declared.error.Error.TheVariants as fs
-use Rattle.lfs_model.specs.Source.{Source}
+use Rattle.lfs_model.specs.Source.{TreeSource}
 use Rattle.lfs_tool_folders.specs.Entries.{AreAllEntriesOfSource}
 use Rattle.lfs_tool_folders.specs.declared.entries.SourceEntry.{SourceEntry}
 use Rattle.lfs_tool_folders.specs.declared.fault_log.PathFault.{PathFault}
-use Rattle.lfs_tool_line.specs.Sizes.{Fits, IsFirstBrokenSizeRule, broken_size_rule_line}
+use Rattle.lfs_tool_line.specs.Sizes.{AreSizesOfSomeImage, IsFirstBrokenSizeRule, broken_size_rule_line}
 use Rattle.lfs_tool_line.specs.declared.line.Line.{Line}
 use Rattle.lfs_tool_line.specs.declared.line.Mode.{Mode}
 use Rattle.lfs_tool_line.specs.declared.line.Mode.TheVariants as mode
@@ -19,7 +19,7 @@ use Rattle.lfs_tool.specs.Errors.{tool_error_line}
 use Rattle.lfs_tool.specs.Needed.{IsJustEnoughBlocksForEntries}
 use Rattle.lfs_tool.specs.Reports.{WritesTextOrFails}
 use Rattle.lfs_tool.specs.RequestedSizes.{IsErrorWhereNoGeometryHasSizes}
-use Rattle.lfs_tool.specs.RunsAtPaths.{HasFaultAtPath, FailsToReadFolder, IsTrueAtPath, IsTrueForMode}
+use Rattle.lfs_tool.specs.RunsAtPaths.{HasFaultAtPath, FailsToReadFolder, IsTrueOfSomethingAtPath, IsTrueForMode}
 use Rattle.lfs_tool.specs.declared.needed_blocks.NeededBlocks.{NeededBlocks}
 use Rattle.lfs_tool.specs.declared.errors.ToolError.{ToolError}
 use Rattle.lfs_tool.specs.declared.errors.ToolError.TheVariants.{Fs, Input, Output}
@@ -56,54 +56,54 @@ explanation_text explanation.Nothing = []
 
 -- The size of the image that is to be made, or of the one at the line's path. Of that at most one byte more than an image may
 -- have is read.
-abbrev pub IsTrueOfMadeOrReadImage : Mode → Type 0 → Type 0 → Type 0
-IsTrueOfMadeOrReadImage (mode.Create folder) made read = made
-IsTrueOfMadeOrReadImage (mode.Unpack folder) made read = read
-IsTrueOfMadeOrReadImage mode.List made read = read
-IsTrueOfMadeOrReadImage mode.Check made read = read
+abbrev pub IsTrueForMakingOrReadingMode : Mode → Type 0 → Type 0 → Type 0
+IsTrueForMakingOrReadingMode (mode.Create folder) made read = made
+IsTrueForMakingOrReadingMode (mode.Unpack folder) made read = read
+IsTrueForMakingOrReadingMode mode.List made read = read
+IsTrueForMakingOrReadingMode mode.Check made read = read
 
-abbrev pub IsImageSizeOfLine : {I : Type 0} → (I → List ℕ) → (I → Option (List ℕ)) → Line → ℕ → Type 0
-IsImageSizeOfLine path_of bytes line size =
-    IsTrueOfMadeOrReadImage line.mode (size ≡ line.size) (IsTrueAtPath path_of line.image.now (λ i. IfSome (bytes i) (λ image. size ≡ length (take 268435457 image))))
+abbrev pub IsSizeOfMadeOrReadImage : {I : Type 0} → (I → List ℕ) → (I → Option (List ℕ)) → Line → ℕ → Type 0
+IsSizeOfMadeOrReadImage path_of bytes line size =
+    IsTrueForMakingOrReadingMode line.mode (size ≡ line.size) (IsTrueOfSomethingAtPath path_of line.image.now (λ i. IfSome (bytes i) (λ image. size ≡ length (take 268435457 image))))
 
 -- The sizes are the line's, and the rule is the first that they break. With no rule there are images of these sizes.
 abbrev pub ExplainsBrokenSizeRule : {I : Type 0} → (I → List ℕ) → (I → Option (List ℕ)) → Line → Explanation → Type 0
 ExplainsBrokenSizeRule path_of bytes line (explanation.Sizes sizes rule) =
-    IsImageSizeOfLine path_of bytes line sizes.size × (sizes.block_size ≡ line.block_size) × (sizes.page ≡ line.page) × (IfSome rule (IsFirstBrokenSizeRule sizes) × (rule ≡ None → Fits sizes))
+    IsSizeOfMadeOrReadImage path_of bytes line sizes.size × (sizes.block_size ≡ line.block_size) × (sizes.page ≡ line.page) × (IfSome rule (IsFirstBrokenSizeRule sizes) × (rule ≡ None → AreSizesOfSomeImage sizes))
 ExplainsBrokenSizeRule path_of bytes line other = ⊥
 
-abbrev pub ExplainsByCheck : {I : Type 0} → (I → List ℕ) → (I → Option (List ℕ)) → Line → Explanation → Type 0
-ExplainsByCheck path_of bytes line (explanation.Checked checked) =
-    IsTrueAtPath path_of line.image.now (λ i. IfSome (bytes i) (λ image. IsCheckResultOfBytes line.block_size line.page image checked))
-ExplainsByCheck path_of bytes line other = ⊥
+abbrev pub ExplainsErrorByImageCheck : {I : Type 0} → (I → List ℕ) → (I → Option (List ℕ)) → Line → Explanation → Type 0
+ExplainsErrorByImageCheck path_of bytes line (explanation.Checked checked) =
+    IsTrueOfSomethingAtPath path_of line.image.now (λ i. IfSome (bytes i) (λ image. IsCheckResultOfBytes line.block_size line.page image checked))
+ExplainsErrorByImageCheck path_of bytes line other = ⊥
 
 -- a file or a folder met a fault, or none is known
-abbrev pub IsPathFaultOrNothing : Explanation → Type 0
-IsPathFaultOrNothing (explanation.Place f) = Unit {0}
-IsPathFaultOrNothing explanation.Nothing = Unit {0}
-IsPathFaultOrNothing other = ⊥
+abbrev pub IsExplanationPathFaultOrNothing : Explanation → Type 0
+IsExplanationPathFaultOrNothing (explanation.Place f) = Unit {0}
+IsExplanationPathFaultOrNothing explanation.Nothing = Unit {0}
+IsExplanationPathFaultOrNothing other = ⊥
 
 -- An image of the line's folder has too few of these blocks. Where a number is said, an image of so many holds what the folder
 -- has, and one of one block less doesn't. Files are read up to the most that an image may have.
-abbrev pub ExplainsNeededBlocksOfFolder : {F : Type 0} → (F → List ℕ) → (F → ℕ) → (F → Option Source) → Line → List ℕ → Explanation → Type 0
+abbrev pub ExplainsNeededBlocksOfFolder : {F : Type 0} → (F → List ℕ) → (F → ℕ) → (F → Option TreeSource) → Line → List ℕ → Explanation → Type 0
 ExplainsNeededBlocksOfFolder folder_of limit_of shown line folder (explanation.Blocks needed) =
     (needed.blocks ≡ line.size / line.block_size)
-    × IsTrueAtPath folder_of folder (λ f. (limit_of f ≡ 268435456)
+    × IsTrueOfSomethingAtPath folder_of folder (λ f. (limit_of f ≡ 268435456)
     × ((entries : List SourceEntry) × (AreAllEntriesOfSource (shown f) entries × IfSome needed.enough (IsJustEnoughBlocksForEntries line entries))))
 ExplainsNeededBlocksOfFolder folder_of limit_of shown line folder other = ⊥
 
-abbrev pub ExplainsTooFewBlocks : {F : Type 0} → (F → List ℕ) → (F → ℕ) → (F → Option Source) → Line → Explanation → Type 0
+abbrev pub ExplainsTooFewBlocks : {F : Type 0} → (F → List ℕ) → (F → ℕ) → (F → Option TreeSource) → Line → Explanation → Type 0
 ExplainsTooFewBlocks folder_of limit_of shown line e =
     IsTrueForMode line.mode (e ≡ explanation.Nothing) (e ≡ explanation.Nothing) (λ folder. ExplainsNeededBlocksOfFolder folder_of limit_of shown line folder e) (λ _. e ≡ explanation.Nothing)
 
 -- this explains the error: of sizes the rule that is broken, of an image what a check says, of too few blocks how many it takes
-abbrev pub ExplainsError : {I F : Type 0} → (I → List ℕ) → (I → Option (List ℕ)) → (F → List ℕ) → (F → ℕ) → (F → Option Source) → Line → ToolError → Explanation → Type 0
+abbrev pub ExplainsError : {I F : Type 0} → (I → List ℕ) → (I → Option (List ℕ)) → (F → List ℕ) → (F → ℕ) → (F → Option TreeSource) → Line → ToolError → Explanation → Type 0
 ExplainsError path_of bytes folder_of limit_of shown line (Fs fs.Invalid) e = ExplainsBrokenSizeRule path_of bytes line e
-ExplainsError path_of bytes folder_of limit_of shown line (Fs fs.Corrupt) e = ExplainsByCheck path_of bytes line e
+ExplainsError path_of bytes folder_of limit_of shown line (Fs fs.Corrupt) e = ExplainsErrorByImageCheck path_of bytes line e
 ExplainsError path_of bytes folder_of limit_of shown line (Fs fs.NoSpace) e = ExplainsTooFewBlocks folder_of limit_of shown line e
 ExplainsError path_of bytes folder_of limit_of shown line (Fs other) e = e ≡ explanation.Nothing
-ExplainsError path_of bytes folder_of limit_of shown line Input e = IsPathFaultOrNothing e
-ExplainsError path_of bytes folder_of limit_of shown line Output e = IsPathFaultOrNothing e
+ExplainsError path_of bytes folder_of limit_of shown line Input e = IsExplanationPathFaultOrNothing e
+ExplainsError path_of bytes folder_of limit_of shown line Output e = IsExplanationPathFaultOrNothing e
 
 -- ---- why none is found out
 
@@ -114,14 +114,14 @@ FailsToReadImage path_of faults line (Fs e) = e ≡ fs.NoMemory
 FailsToReadImage path_of faults line Output = ⊥
 
 -- memory isn't granted, no image has the line's sizes, or the folder fails where it is read again
-abbrev pub FailsToCountNeededBlocks : {F : Type 0} → (F → List ℕ) → (F → ℕ) → (F → Option Source) → Line → List ℕ → ToolError → Type 0
+abbrev pub FailsToCountNeededBlocks : {F : Type 0} → (F → List ℕ) → (F → ℕ) → (F → Option TreeSource) → Line → List ℕ → ToolError → Type 0
 FailsToCountNeededBlocks folder_of faults shown line folder Input = FailsToReadFolder folder_of faults shown folder
 FailsToCountNeededBlocks folder_of faults shown line folder (Fs e) = (e ≡ fs.NoMemory) ⊎ IsErrorWhereNoGeometryHasSizes line e
 FailsToCountNeededBlocks folder_of faults shown line folder Output = ⊥
 
 -- The second error comes in place of an explanation of the first. Only what is read again can fail: an image that is there, or the
 -- folder of one whose blocks were too few.
-abbrev pub IsErrorInsteadOfExplanation : {I F : Type 0} → (I → List ℕ) → (I → ℕ) → (F → List ℕ) → (F → ℕ) → (F → Option Source) → Line → ToolError → ToolError → Type 0
+abbrev pub IsErrorInsteadOfExplanation : {I F : Type 0} → (I → List ℕ) → (I → ℕ) → (F → List ℕ) → (F → ℕ) → (F → Option TreeSource) → Line → ToolError → ToolError → Type 0
 IsErrorInsteadOfExplanation path_of faults folder_of folder_faults shown line (Fs fs.Invalid) e =
     IsTrueForMode line.mode (FailsToReadImage path_of faults line e) (FailsToReadImage path_of faults line e) (λ _. ⊥) (λ _. FailsToReadImage path_of faults line e)
 IsErrorInsteadOfExplanation path_of faults folder_of folder_faults shown line (Fs fs.Corrupt) e = FailsToReadImage path_of faults line e
@@ -132,31 +132,31 @@ IsErrorInsteadOfExplanation path_of faults folder_of folder_faults shown line In
 IsErrorInsteadOfExplanation path_of faults folder_of folder_faults shown line Output e = ⊥
 
 -- the same, or memory isn't granted for the lines of the explanation
-abbrev pub IsErrorInsteadOfLines : {I F : Type 0} → (I → List ℕ) → (I → ℕ) → (F → List ℕ) → (F → ℕ) → (F → Option Source) → Line → ToolError → ToolError → Type 0
-IsErrorInsteadOfLines path_of faults folder_of folder_faults shown line error e =
+abbrev pub IsErrorInsteadOfExplanationOrItsLines : {I F : Type 0} → (I → List ℕ) → (I → ℕ) → (F → List ℕ) → (F → ℕ) → (F → Option TreeSource) → Line → ToolError → ToolError → Type 0
+IsErrorInsteadOfExplanationOrItsLines path_of faults folder_of folder_faults shown line error e =
     (e ≡ Fs fs.NoMemory) ⊎ IsErrorInsteadOfExplanation path_of faults folder_of folder_faults shown line error e
 
-abbrev pub unexplained_text : ToolError → List ℕ
-unexplained_text e = codes "not explained: " ++ tool_error_line e
+abbrev pub not_explained_text : ToolError → List ℕ
+not_explained_text e = codes "not explained: " ++ tool_error_line e
 
 -- ---- what is said
 
 -- what explains the line's error is said
-abbrev pub WritesExplanation : {I F W : Type 0} → (I → List ℕ) → (I → Option (List ℕ)) → (F → List ℕ) → (F → ℕ) → (F → Option Source) → Ghosts W → Line → ToolError → W → W → Type 0
+abbrev pub WritesExplanation : {I F W : Type 0} → (I → List ℕ) → (I → Option (List ℕ)) → (F → List ℕ) → (F → ℕ) → (F → Option TreeSource) → Ghosts W → Line → ToolError → W → W → Type 0
 WritesExplanation path_of bytes folder_of limit_of shown g line error old new =
     (e : Explanation) × (ExplainsError path_of bytes folder_of limit_of shown line error e × WritesTextOrFails g (explanation_text e) old new)
 
 -- which error comes in place of an explanation is said
-abbrev pub WritesErrorInstead : {I F W : Type 0} → (I → List ℕ) → (I → ℕ) → (F → List ℕ) → (F → ℕ) → (F → Option Source) → Ghosts W → Line → ToolError → W → W → Type 0
-WritesErrorInstead path_of faults folder_of folder_faults shown g line error old new =
-    (e : ToolError) × (IsErrorInsteadOfLines path_of faults folder_of folder_faults shown line error e × WritesTextOrFails g (unexplained_text e) old new)
+abbrev pub WritesErrorInPlaceOfExplanation : {I F W : Type 0} → (I → List ℕ) → (I → ℕ) → (F → List ℕ) → (F → ℕ) → (F → Option TreeSource) → Ghosts W → Line → ToolError → W → W → Type 0
+WritesErrorInPlaceOfExplanation path_of faults folder_of folder_faults shown g line error old new =
+    (e : ToolError) × (IsErrorInsteadOfExplanationOrItsLines path_of faults folder_of folder_faults shown line error e × WritesTextOrFails g (not_explained_text e) old new)
 
 -- what explains the line's error is said, or which error comes in its place
-abbrev pub WritesWhy : {I F W : Type 0} → (I → List ℕ) → (I → Option (List ℕ)) → (I → ℕ) → (F → List ℕ) → (F → ℕ) → (F → ℕ) → (F → Option Source) → Ghosts W → Line → ToolError → W → W → Type 0
-WritesWhy path_of bytes faults folder_of limit_of folder_faults shown g line error old new =
-    WritesExplanation path_of bytes folder_of limit_of shown g line error old new ⊎ WritesErrorInstead path_of faults folder_of folder_faults shown g line error old new
+abbrev pub WritesExplanationOrErrorInstead : {I F W : Type 0} → (I → List ℕ) → (I → Option (List ℕ)) → (I → ℕ) → (F → List ℕ) → (F → ℕ) → (F → ℕ) → (F → Option TreeSource) → Ghosts W → Line → ToolError → W → W → Type 0
+WritesExplanationOrErrorInstead path_of bytes faults folder_of limit_of folder_faults shown g line error old new =
+    WritesExplanation path_of bytes folder_of limit_of shown g line error old new ⊎ WritesErrorInPlaceOfExplanation path_of faults folder_of folder_faults shown g line error old new
 
 -- after the line of an error why it came is said where the command line requests it, and else nothing follows
-abbrev pub IsErrorFollowed : {I F W : Type 0} → (I → List ℕ) → (I → Option (List ℕ)) → (I → ℕ) → (F → List ℕ) → (F → ℕ) → (F → ℕ) → (F → Option Source) → Ghosts W → Line → ToolError → W → W → Type 0
-IsErrorFollowed path_of bytes faults folder_of limit_of folder_faults shown g line error old new =
-    MatchBool line.explain (WritesWhy path_of bytes faults folder_of limit_of folder_faults shown g line error old new) (new ≡ old)
+abbrev pub IsErrorFollowedByExplanationIfRequested : {I F W : Type 0} → (I → List ℕ) → (I → Option (List ℕ)) → (I → ℕ) → (F → List ℕ) → (F → ℕ) → (F → ℕ) → (F → Option TreeSource) → Ghosts W → Line → ToolError → W → W → Type 0
+IsErrorFollowedByExplanationIfRequested path_of bytes faults folder_of limit_of folder_faults shown g line error old new =
+    MatchBool line.explain (WritesExplanationOrErrorInstead path_of bytes faults folder_of limit_of folder_faults shown g line error old new) (new ≡ old)

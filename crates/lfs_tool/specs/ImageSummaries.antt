@@ -1,17 +1,17 @@
 -- What an accepted image has.
 use Rattle.std.specs.Prelude.{ℕ, ◌≡◌, ◌+◌, ◌↔◌, ◌==◌, ◌||◌, not, Bool, true, false, IsTrue, List, length, count_by}
-use Rattle.lfs_device.specs.Shown.{ordered}
+use Rattle.lfs_device.specs.Shown.{disk_with_name_order}
 use Rattle.lfs_model.specs.Disk.{Disk, block_count}
 use Rattle.lfs_model.specs.Listing.{PathAndNode, IsWalkOfTree}
-use Rattle.lfs_model.specs.Profile.{IsWritable}
+use Rattle.lfs_model.specs.Profile.{IsWritableImage}
 use Rattle.lfs_model.specs.Shown.{tree_on_disk, used_blocks}
-use Rattle.lfs_model.specs.Slots.{Gstate, Struct, Inline, Ctz, Branch, no_move_kind}
-use Rattle.lfs_model.specs.Thread.{Pair, gstate_of}
+use Rattle.lfs_model.specs.Slots.{Gstate, Struct, Inline, Ctz, Branch, gstate_kind_of_no_move}
+use Rattle.lfs_model.specs.Thread.{Pair, gstate_of_pairs}
 use Rattle.lfs_model.specs.Tree.{Node, FileNode, DirectoryNode}
 use Rattle.lfs_model.specs.View.{IsAcceptedImage}
 use Rattle.lfs_model.specs.declared.order.NameOrder.{NameOrder}
 use Rattle.lfs_model.specs.declared.order.NameOrder.TheVariants as order
-use Rattle.lfs_lookup.specs.Items.{structure_view}
+use Rattle.lfs_lookup.specs.Items.{owned_struct_view}
 use Rattle.lfs_lookup.specs.declared.walks.TreeItem.{TreeItem}
 use Rattle.lfs_tool.specs.declared.verdict.ImageSummary.{ImageSummary}
 use Rattle.lfs_tool.specs.declared.verdict.AcceptedOrders.{AcceptedOrders}
@@ -32,13 +32,13 @@ is_file_struct (Ctz head size) = true
 is_file_struct (Branch to) = false
 
 abbrev pub is_file_item : TreeItem → Bool
-is_file_item i = is_file_struct (structure_view i.structure)
+is_file_item i = is_file_struct (owned_struct_view i.structure)
 
 -- ---- an accepted image
 
 -- the global state has an operation to end
 abbrev pub has_half_done_operation : Gstate → Bool
-has_half_done_operation g = g.sync || not (g.kind == no_move_kind)
+has_half_done_operation g = g.sync || not (g.kind == gstate_kind_of_no_move)
 
 -- what the image of these pairs has: all entries beneath its root are files or directories
 pub record HasImageSummary (disk : Disk) (ps : List Pair) (c : ImageSummary) : Type 0 where
@@ -48,13 +48,13 @@ pub record HasImageSummary (disk : Disk) (ps : List Pair) (c : ImageSummary) : T
   pub all : c.files + c.directories ≡ length entries
   pub used : c.used ≡ length (used_blocks disk ps)
   pub blocks : c.blocks ≡ block_count disk
-  pub recover : c.recover ≡ has_half_done_operation (gstate_of ps)
-  pub writable : IsTrue c.writable ↔ IsWritable disk ps
+  pub recover : c.recover ≡ has_half_done_operation (gstate_of_pairs ps)
+  pub writable : IsTrue c.writable ↔ IsWritableImage disk ps
 
 -- ---- orders of names
 
 abbrev pub IsAcceptedInNameOrder : NameOrder → Disk → Type 0
-IsAcceptedInNameOrder o disk = (ps : List Pair) × IsAcceptedImage (ordered o disk) ps
+IsAcceptedInNameOrder o disk = (ps : List Pair) × IsAcceptedImage (disk_with_name_order o disk) ps
 
 -- the image is accepted in these orders of names, and in no other
 abbrev pub HasAcceptedNameOrders : Disk → AcceptedOrders → Type 0

@@ -11,17 +11,17 @@ abbrev pub AppendsBeginningOfBytes : Option (List ℕ) → Option (List ℕ) →
 AppendsBeginningOfBytes old new bytes = (n : ℕ) × (n ≤ length bytes) × Appends old new (take n bytes)
 
 -- either the reader failed, or a growth was refused and the reader did not fail
-abbrev pub IsErrorOfFailedRead : ToolError → ℕ → ℕ → Type 0
-IsErrorOfFailedRead Input old new = new ≡ suc old
-IsErrorOfFailedRead Output old new = ⊥
-IsErrorOfFailedRead (Fs e) old new = (e ≡ NoMemory) × (new ≡ old)
+abbrev pub IsErrorOfReaderFaultOrNoMemory : ToolError → ℕ → ℕ → Type 0
+IsErrorOfReaderFaultOrNoMemory Input old new = new ≡ suc old
+IsErrorOfReaderFaultOrNoMemory Output old new = ⊥
+IsErrorOfReaderFaultOrNoMemory (Fs e) old new = (e ≡ NoMemory) × (new ≡ old)
 
 -- why an image isn't listed
 abbrev pub IsListingRefusal : Error → Type 0
 IsListingRefusal e = (e ≡ NoMemory) ⊎ (e ≡ Invalid) ⊎ (e ≡ Corrupt)
 
 -- either the reader failed, or it did not and an image is refused
-abbrev pub IsErrorOfFailedListing : ToolError → ℕ → ℕ → Type 0
-IsErrorOfFailedListing Input old new = new ≡ suc old
-IsErrorOfFailedListing Output old new = ⊥
-IsErrorOfFailedListing (Fs e) old new = IsListingRefusal e × (new ≡ old)
+abbrev pub IsErrorOfReaderFaultOrListingRefusal : ToolError → ℕ → ℕ → Type 0
+IsErrorOfReaderFaultOrListingRefusal Input old new = new ≡ suc old
+IsErrorOfReaderFaultOrListingRefusal Output old new = ⊥
+IsErrorOfReaderFaultOrListingRefusal (Fs e) old new = IsListingRefusal e × (new ≡ old)

@@ -2,7 +2,7 @@
 use Rattle.std.specs.Prelude.{ℕ, ◌≡◌, false, List, ◌++◌, Option, Some, None, codes, length}
 use Rattle.std.specs.List.{flat_map}
 use Rattle.std.specs.Fmt.{decimal}
-use Rattle.lfs_device.specs.Shown.{ordered}
+use Rattle.lfs_device.specs.Shown.{disk_with_name_order}
 use Rattle.lfs_model.specs.Disk.{Disk, IsImageOfWholeBlocks}
 use Rattle.lfs_model.specs.Thread.{Pair}
 use Rattle.lfs_model.specs.View.{IsAcceptedImage, DiskView}
@@ -13,21 +13,21 @@ use Rattle.lfs_thread.specs.Kept.{ThreadView}
 use Rattle.lfs_lookup.specs.Walk.{ArePathsAndStructsOfWalk, PathAndStruct}
 use Rattle.lfs_device.specs.declared.error.Error.{Error}
 use Rattle.lfs_device.specs.declared.error.Error.TheVariants.{Invalid, Corrupt, NoMemory}
-use Rattle.lfs_tool.specs.EitherOrder.{IsViewOfImageInSomeOrder}
+use Rattle.lfs_tool.specs.EitherOrder.{IsViewOfImageInSomeNameOrder}
 
 -- the bytes are an image that this text lists
-abbrev pub ListsImage : ℕ → ℕ → List ℕ → List ℕ → Type 0
-ListsImage block_size page image text = IsImageOfWholeBlocks block_size page image × ((view : DiskView) × (IsViewOfImageInSomeOrder block_size page image view × IsListingOfTree view.tree text))
+abbrev pub IsListingTextOfImage : ℕ → ℕ → List ℕ → List ℕ → Type 0
+IsListingTextOfImage block_size page image text = IsImageOfWholeBlocks block_size page image × ((view : DiskView) × (IsViewOfImageInSomeNameOrder block_size page image view × IsListingOfTree view.tree text))
 
 -- the bytes are an image that isn't accepted, in either order of names
-abbrev pub IsImageAcceptedInNoOrder : ℕ → ℕ → List ℕ → Type 0
-IsImageAcceptedInNoOrder block_size page image = IsImageOfWholeBlocks block_size page image × ((view : DiskView) → ¬ IsViewOfImageInSomeOrder block_size page image view)
+abbrev pub IsImageAcceptedInNeitherNameOrder : ℕ → ℕ → List ℕ → Type 0
+IsImageAcceptedInNeitherNameOrder block_size page image = IsImageOfWholeBlocks block_size page image × ((view : DiskView) → ¬ IsViewOfImageInSomeNameOrder block_size page image view)
 
 -- why bytes aren't listed; memory may run out at any
 abbrev pub RefusesToList : ℕ → ℕ → List ℕ → Error → Type 0
 RefusesToList block_size page image Invalid = ¬ IsImageOfWholeBlocks block_size page image
 RefusesToList block_size page image NoMemory = Unit {0}
-RefusesToList block_size page image Corrupt = IsImageAcceptedInNoOrder block_size page image
+RefusesToList block_size page image Corrupt = IsImageAcceptedInNeitherNameOrder block_size page image
 RefusesToList block_size page image other = ⊥
 
 -- the line of a file of that size, or of a directory, at a path
@@ -41,27 +41,27 @@ file_size_of_struct (Inline bytes) = Some (length bytes)
 file_size_of_struct (Ctz head size) = Some size
 file_size_of_struct (Branch to) = None
 
-abbrev pub listing_line_of_place : PathAndStruct → List ℕ
-listing_line_of_place p = listing_line_of_path (file_size_of_struct p.struct) p.path
+abbrev pub listing_line_of_tree_entry : PathAndStruct → List ℕ
+listing_line_of_tree_entry p = listing_line_of_path (file_size_of_struct p.struct) p.path
 
-abbrev pub listing_lines_of_places : List PathAndStruct → List ℕ
-listing_lines_of_places places = flat_map listing_line_of_place places
+abbrev pub listing_lines_of_tree_entries : List PathAndStruct → List ℕ
+listing_lines_of_tree_entries places = flat_map listing_line_of_tree_entry places
 
 -- ---- an image that is mounted
 
 -- the disk is accepted, and the text has a line for each place of its tree's walk
-abbrev pub HasListingLines : Disk → List ℕ → Type 0
-HasListingLines disk text = (ps : List Pair) × (IsAcceptedImage disk ps × ((places : List PathAndStruct) × (ArePathsAndStructsOfWalk disk ps places × (text ≡ listing_lines_of_places places))))
+abbrev pub IsListingTextOfDisk : Disk → List ℕ → Type 0
+IsListingTextOfDisk disk text = (ps : List Pair) × (IsAcceptedImage disk ps × ((places : List PathAndStruct) × (ArePathsAndStructsOfWalk disk ps places × (text ≡ listing_lines_of_tree_entries places))))
 
 -- the thread is that of the disk, accepted in the thread's order of names, and these are the places of its tree's walk
-pub record IsThreadWithWalkedPlaces (disk : Disk) (t : ThreadView) (places : List PathAndStruct) : Type 0 where
+pub record IsThreadWithEntriesOfTreeWalk (disk : Disk) (t : ThreadView) (places : List PathAndStruct) : Type 0 where
   pub works : t.failed ≡ false
-  pub disk_is : t.kept.disk ≡ ordered t.kept.disk.order disk
-  pub accepted : IsAcceptedImage (ordered t.kept.disk.order disk) t.kept.pairs
-  pub walked : ArePathsAndStructsOfWalk (ordered t.kept.disk.order disk) t.kept.pairs places
+  pub disk_is : t.kept.disk ≡ disk_with_name_order t.kept.disk.order disk
+  pub accepted : IsAcceptedImage (disk_with_name_order t.kept.disk.order disk) t.kept.pairs
+  pub walked : ArePathsAndStructsOfWalk (disk_with_name_order t.kept.disk.order disk) t.kept.pairs places
 
 -- why a disk in memory isn't mounted or walked: it isn't accepted in either order of names, or memory ran out
 abbrev pub IsMountErrorOfDisk : Disk → Error → Type 0
-IsMountErrorOfDisk disk Corrupt = (order : NameOrder) (ps : List Pair) → ¬ IsAcceptedImage (ordered order disk) ps
+IsMountErrorOfDisk disk Corrupt = (order : NameOrder) (ps : List Pair) → ¬ IsAcceptedImage (disk_with_name_order order disk) ps
 IsMountErrorOfDisk disk NoMemory = Unit {0}
 IsMountErrorOfDisk disk other = ⊥

@@ -7,12 +7,12 @@ use Rattle.lfs_model.specs.Listing.{AreOperationsCopyingTree}
 use Rattle.lfs_model.specs.Operations.{Operation}
 use Rattle.lfs_model.specs.Run.{SystemState}
 use Rattle.lfs_model.specs.Slots.{zero_gstate}
-use Rattle.lfs_model.specs.Source.{Source, IsTreeOfSource}
-use Rattle.lfs_model.specs.State.{Healthy, mounted}
-use Rattle.lfs_model.specs.Thread.{Pair, gstate_of}
+use Rattle.lfs_model.specs.Source.{TreeSource, IsTreeMadeFromSource}
+use Rattle.lfs_model.specs.State.{Healthy, session_after_mount}
+use Rattle.lfs_model.specs.Thread.{Pair, gstate_of_pairs}
 use Rattle.lfs_model.specs.Tree.{Tree}
 use Rattle.lfs_model.specs.View.{IsAcceptedImage}
-use Rattle.lfs_model.specs.Profile.{IsWritable}
+use Rattle.lfs_model.specs.Profile.{IsWritableImage}
 use Rattle.lfs_model.specs.Shown.{tree_on_disk}
 use Rattle.lfs_device.specs.declared.error.Error.{Error}
 use Rattle.lfs_device.specs.declared.geometry.Geometry.{Geometry}
@@ -20,24 +20,24 @@ use Rattle.lfs_tool.specs.declared.errors.ToolError.{ToolError}
 use Rattle.lfs_tool.specs.declared.errors.ToolError.TheVariants.{Input}
 use Rattle.lfs_tool.specs.KnownBytes.{AppendsBeginningOfBytes}
 use Rattle.lfs_tool.specs.AppliedOperations.{AreOperationsApplied, IsFirstRefusalAmongOperations, copying_operations_of_entries}
-use Rattle.lfs_tool_folders.specs.Entries.{AreAllEntriesOfSource, HasOneFaultMoreOr, HasFolderWithBadNames}
+use Rattle.lfs_tool_folders.specs.Entries.{AreAllEntriesOfSource, HasOneMoreFaultOrPropertyHolds, HasFolderWithBadNames}
 use Rattle.lfs_tool_folders.specs.declared.entries.SourceEntry.{SourceEntry}
 
 -- ---- a run
 
 -- A session begins on a fresh disk of the geometry.
-pub record BeginsOnFreshDisk (geometry : Geometry) (from : SystemState) : Type 0 where
+pub record SessionBeginsOnFreshDisk (geometry : Geometry) (from : SystemState) : Type 0 where
   pub fresh : IsFreshDisk from.disk
   pub block_size : from.disk.block_size ≡ geometry.block_size
   pub page : from.disk.page ≡ geometry.page
   pub order : from.disk.order ≡ geometry.order
   pub count : block_count from.disk ≡ geometry.block_count
-  pub mounts : from.state ≡ Healthy (mounted empty_tree)
+  pub mounts : from.state ≡ Healthy (session_after_mount empty_tree)
 
 -- These are the bytes of the disk that the operations of the entries leave, none of them refused.
 pub record AreImageBytesOfEntries (geometry : Geometry) (entries : List SourceEntry) (bytes : List ℕ) : Type 0 where
   pub from : SystemState
-  pub begins : BeginsOnFreshDisk geometry from
+  pub begins : SessionBeginsOnFreshDisk geometry from
   pub to : SystemState
   pub carried : AreOperationsApplied from (copying_operations_of_entries entries) to
   pub len : length bytes ≡ geometry.block_size * geometry.block_count
@@ -46,41 +46,41 @@ pub record AreImageBytesOfEntries (geometry : Geometry) (entries : List SourceEn
 -- An operation of the entries is refused, and this is the first refusal.
 pub record RefusesCopyOfEntries (geometry : Geometry) (entries : List SourceEntry) (e : Error) : Type 0 where
   pub from : SystemState
-  pub begins : BeginsOnFreshDisk geometry from
+  pub begins : SessionBeginsOnFreshDisk geometry from
   pub first : IsFirstRefusalAmongOperations from (copying_operations_of_entries entries) e
 
 -- These operations copy the source's tree, where it is known what the source shows.
-abbrev pub AreOperationsCopyingSource : Option Source → List Operation → Type 0
-AreOperationsCopyingSource known operations = IfSome known (λ s. (tree : Tree) × (IsTreeOfSource s tree × AreOperationsCopyingTree tree operations))
+abbrev pub AreOperationsCopyingSource : Option TreeSource → List Operation → Type 0
+AreOperationsCopyingSource known operations = IfSome known (λ s. (tree : Tree) × (IsTreeMadeFromSource s tree × AreOperationsCopyingTree tree operations))
 
 -- ---- an image
 
 -- An image of the geometry that is accepted, in the writing profile, without a delta of the global state, and shows the
 -- source's tree.
-pub record IsImageOfSource (geometry : Geometry) (known : Option Source) (bytes : List ℕ) : Type 0 where
+pub record IsImageOfSource (geometry : Geometry) (known : Option TreeSource) (bytes : List ℕ) : Type 0 where
   pub len : length bytes ≡ geometry.block_size * geometry.block_count
   pub image : IsImageOfWholeBlocks geometry.block_size geometry.page bytes
   pub pairs : List Pair
   pub accepted : IsAcceptedImage (disk_of_image geometry.block_size geometry.page geometry.order bytes) pairs
-  pub writable : IsWritable (disk_of_image geometry.block_size geometry.page geometry.order bytes) pairs
-  pub gstate : gstate_of pairs ≡ zero_gstate
-  pub tree : IfSome known (λ s. IsTreeOfSource s (tree_on_disk (disk_of_image geometry.block_size geometry.page geometry.order bytes) pairs))
+  pub writable : IsWritableImage (disk_of_image geometry.block_size geometry.page geometry.order bytes) pairs
+  pub gstate : gstate_of_pairs pairs ≡ zero_gstate
+  pub tree : IfSome known (λ s. IsTreeMadeFromSource s (tree_on_disk (disk_of_image geometry.block_size geometry.page geometry.order bytes) pairs))
 
 -- all that the source has is copied, and what is known to be written grew by one image of it
-abbrev pub HasWrittenImageOfSource : Geometry → Option Source → Option (List ℕ) → Option (List ℕ) → Type 0
+abbrev pub HasWrittenImageOfSource : Geometry → Option TreeSource → Option (List ℕ) → Option (List ℕ) → Type 0
 HasWrittenImageOfSource geometry known old new = (entries : List SourceEntry) × (AreAllEntriesOfSource known entries
     × (AreOperationsCopyingSource known (copying_operations_of_entries entries) × ((image : List ℕ) × (AreImageBytesOfEntries geometry entries image × (IsImageOfSource geometry known image × Appends old new image)))))
 
 -- what is known to be written grew by a beginning of an image of the source
-abbrev pub HasWrittenBeginningOfImage : Geometry → Option Source → Option (List ℕ) → Option (List ℕ) → Type 0
+abbrev pub HasWrittenBeginningOfImage : Geometry → Option TreeSource → Option (List ℕ) → Option (List ℕ) → Type 0
 HasWrittenBeginningOfImage geometry known old new = (image : List ℕ) × (IsImageOfSource geometry known image × AppendsBeginningOfBytes old new image)
 
 -- an operation that copies what the source has is refused, and this is the first refusal
-abbrev pub RefusesCopyOfSource : Geometry → Option Source → Error → Type 0
+abbrev pub RefusesCopyOfSource : Geometry → Option TreeSource → Error → Type 0
 RefusesCopyOfSource geometry known e = (entries : List SourceEntry) × (AreAllEntriesOfSource known entries × (AreOperationsCopyingSource known (copying_operations_of_entries entries) × RefusesCopyOfEntries geometry entries e))
 
 -- `Input` comes where the source fails, which it does once, or where it doesn't and a folder in it has bad names. After any other
 -- result it has failed as often as before.
-abbrev pub ReportsSourceFaults : {X : Type 0} → ℕ → ℕ → Option Source → Result X ToolError → Type 0
-ReportsSourceFaults old new known (Err Input) = HasOneFaultMoreOr old new (IfSome known HasFolderWithBadNames)
+abbrev pub ReportsSourceFaults : {X : Type 0} → ℕ → ℕ → Option TreeSource → Result X ToolError → Type 0
+ReportsSourceFaults old new known (Err Input) = HasOneMoreFaultOrPropertyHolds old new (IfSome known HasFolderWithBadNames)
 ReportsSourceFaults old new known other = new ≡ old

@@ -5,13 +5,13 @@ use Rattle.lfs_model.specs.Slots.{Slot, pair_address_of_array}
 use Rattle.lfs_model.specs.Thread.{Pair}
 use Rattle.lfs_tag.specs.ContentView.{tail_view}
 use Rattle.lfs_tag.specs.FieldsView.{move_view}
-use Rattle.lfs_tag.specs.KindView.{kind_view}
-use Rattle.lfs_lookup.specs.Items.{structure_view}
+use Rattle.lfs_tag.specs.KindView.{slot_name_kind_view}
+use Rattle.lfs_lookup.specs.Items.{owned_struct_view}
 use Rattle.lfs_tool.specs.declared.owned_parts.OwnedSlot.{OwnedSlot}
 use Rattle.lfs_tool.specs.declared.owned_parts.OwnedPair.{OwnedPair}
 
 abbrev pub owned_slot_view : OwnedSlot → Slot
-owned_slot_view s = record { kind = kind_view s.kind; name = s.name.items; struct = structure_view s.structure; attributes = [] }
+owned_slot_view s = record { kind = slot_name_kind_view s.kind; name = s.name.items; struct = owned_struct_view s.structure; attributes = [] }
 
 abbrev pub owned_pair_view : OwnedPair → Pair
 owned_pair_view p = record {

@@ -2,41 +2,41 @@
 use Rattle.std.specs.Prelude.{ℕ, ◌≡◌, List, Option, Some, None}
 use Rattle.lfs_model.specs.Content.{content_of_pair_at}
 use Rattle.lfs_model.specs.Disk.{Disk}
-use Rattle.lfs_model.specs.Slots.{Content}
+use Rattle.lfs_model.specs.Slots.{PairContent}
 use Rattle.lfs_model.specs.Thread.{Pair}
-use Rattle.lfs_tool.specs.Findings.{IsThreadFinding}
+use Rattle.lfs_tool.specs.Findings.{IsTrueFindingOfThread}
 use Rattle.lfs_tool.specs.OwnedSlots.{pair_without_attributes, pairs_without_attributes}
 use Rattle.lfs_tool.specs.OwnedSlotView.{owned_pair_view, owned_pairs_view}
-use Rattle.lfs_tool.specs.ThreadBeginnings.{IsThreadBeginningUpTo, IsNamedByThread}
+use Rattle.lfs_tool.specs.ThreadBeginnings.{AreFirstThreadPairsUpToAddress, IsAddressNamedByThread}
 use Rattle.lfs_tool.specs.declared.owned_parts.OwnedPair.{OwnedPair}
 use Rattle.lfs_tool.specs.declared.thread_walk.FollowedThread.{FollowedThread}
 use Rattle.lfs_tool.specs.declared.thread_walk.FollowedThread.TheVariants as followed
-use Rattle.lfs_tool.specs.declared.pairs.Read.{Read}
-use Rattle.lfs_tool.specs.declared.pairs.Read.TheVariants as read
+use Rattle.lfs_tool.specs.declared.pairs.ReadPair.{ReadPair}
+use Rattle.lfs_tool.specs.declared.pairs.ReadPair.TheVariants as read
 
 -- the pair at an address, with what it holds
 pub record IsOwnedPairAtAddress (disk : Disk) (at : ℕ × ℕ) (held : OwnedPair) : Type 0 where
-  pub content : Content
+  pub content : PairContent
   pub holds : content_of_pair_at disk at ≡ Some content
   pub is : owned_pair_view held ≡ pair_without_attributes (record { at = at; content = content })
 
 -- the pair at an address, or what is wrong with it where the thread names it
-abbrev pub IsPairOrFindingAtAddress : Disk → ℕ × ℕ → Read → Type 0
+abbrev pub IsPairOrFindingAtAddress : Disk → ℕ × ℕ → ReadPair → Type 0
 IsPairOrFindingAtAddress disk at (read.Pair held) = IsOwnedPairAtAddress disk at held
-IsPairOrFindingAtAddress disk at (read.Broken finding) = IsNamedByThread disk at → IsThreadFinding disk finding
+IsPairOrFindingAtAddress disk at (read.Broken finding) = IsAddressNamedByThread disk at → IsTrueFindingOfThread disk finding
 
 -- the pair that the thread names next, or what is wrong with it
-abbrev pub IsNextPairOrFinding : Disk → ℕ × ℕ → Read → Type 0
+abbrev pub IsNextPairOrFinding : Disk → ℕ × ℕ → ReadPair → Type 0
 IsNextPairOrFinding disk at (read.Pair held) = IsOwnedPairAtAddress disk at held
-IsNextPairOrFinding disk at (read.Broken finding) = IsThreadFinding disk finding
+IsNextPairOrFinding disk at (read.Broken finding) = IsTrueFindingOfThread disk finding
 
 -- these are held of the thread's first pairs
 pub record AreOwnedFirstPairsOfThread (disk : Disk) (next : Option (ℕ × ℕ)) (held : List OwnedPair) : Type 0 where
   pub pairs : List Pair
-  pub begins : IsThreadBeginningUpTo disk pairs next
+  pub begins : AreFirstThreadPairsUpToAddress disk pairs next
   pub are : owned_pairs_view held ≡ pairs_without_attributes pairs
 
 -- all pairs of the thread, or what is wrong with it
-abbrev pub IsFollowed : Disk → FollowedThread → Type 0
-IsFollowed disk (followed.Whole held) = AreOwnedFirstPairsOfThread disk None held.items
-IsFollowed disk (followed.Broken finding) = IsThreadFinding disk finding
+abbrev pub AreAllThreadPairsOrFinding : Disk → FollowedThread → Type 0
+AreAllThreadPairsOrFinding disk (followed.Whole held) = AreOwnedFirstPairsOfThread disk None held.items
+AreAllThreadPairsOrFinding disk (followed.Broken finding) = IsTrueFindingOfThread disk finding

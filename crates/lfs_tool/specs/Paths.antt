@@ -4,23 +4,23 @@ use Rattle.std.specs.Global.{Global}
 use Rattle.std.specs.String.{string_bytes}
 use Rattle.std.specs.Io.Buffered.{reader_inner}
 use Rattle.std.specs.declared.io.buffered.BufReader.{BufReader}
-use Rattle.lfs_tool.specs.StandardStreams.{path_of_file_or_standard}
+use Rattle.lfs_tool.specs.StandardStreams.{path_or_dash_of_file_or_standard}
 use Rattle.lfs_tool.specs.WatchedStreams.{watched_inner_stream}
 use Rattle.lfs_tool.specs.declared.file_or_standard.FileOrStandard.{FileOrStandard}
-use Rattle.lfs_tool.specs.declared.watched_stream.Watched.{Watched}
-use Rattle.lfs_tool.specs.declared.noted_files.Noted.{Noted}
+use Rattle.lfs_tool.specs.declared.watched_stream.WatchedStream.{WatchedStream}
+use Rattle.lfs_tool.specs.declared.noted_files.NotedStream.{NotedStream}
 use Rattle.lfs_tool.specs.declared.old_image.OldImage.{OldImage}
 use Rattle.lfs_tool_folders.specs.Paths.{image_path}
 use Rattle.lfs_tool_folders.specs.declared.new_image.NewImage.{NewImage}
 
 -- that of a file that is read
-abbrev pub old_path : {R F D : Type 0} → OldImage R F D → List ℕ
-old_path i = string_bytes i.path
+abbrev pub path_of_old_image_file : {R F D : Type 0} → OldImage R F D → List ℕ
+path_of_old_image_file i = string_bytes i.path
 
 -- that of an image that is read
-abbrev pub path_of_old_image : {R F D I : Type 0} → Watched (BufReader (Noted (FileOrStandard (OldImage R F D) I)) Global) → List ℕ
-path_of_old_image w = path_of_file_or_standard old_path (reader_inner (watched_inner_stream w)).inner
+abbrev pub path_of_old_image : {R F D I : Type 0} → WatchedStream (BufReader (NotedStream (FileOrStandard (OldImage R F D) I)) Global) → List ℕ
+path_of_old_image w = path_or_dash_of_file_or_standard path_of_old_image_file (reader_inner (watched_inner_stream w)).inner
 
 -- that of one that is made
-abbrev pub path_of_new_image : {R F D O : Type 0} → Watched (Noted (FileOrStandard (NewImage R F D) O)) → List ℕ
-path_of_new_image w = path_of_file_or_standard image_path (watched_inner_stream w).inner
+abbrev pub path_of_new_image : {R F D O : Type 0} → WatchedStream (NotedStream (FileOrStandard (NewImage R F D) O)) → List ℕ
+path_of_new_image w = path_or_dash_of_file_or_standard image_path (watched_inner_stream w).inner

@@ -1,13 +1,13 @@
 -- The line that says how far a work is.
 use Rattle.std.specs.Prelude.{◌+◌, ◌-◌, ◌^◌, ◌++◌, ◌∷◌, ℕ, List, codes, min}
 use Rattle.std.specs.Fmt.{decimal}
-use Rattle.lfs_tool.specs.declared.progress.Amount.{Amount}
+use Rattle.lfs_tool.specs.declared.progress.FilesAndBytes.{FilesAndBytes}
 
-abbrev pub no_amount : Amount
+abbrev pub no_amount : FilesAndBytes
 no_amount = record { files = 0; bytes = 0 }
 
 -- both together, up to the greatest number of 64 bits
-abbrev pub sum_of_amounts : Amount → Amount → Amount
+abbrev pub sum_of_amounts : FilesAndBytes → FilesAndBytes → FilesAndBytes
 sum_of_amounts a b = record { files = min (a.files + b.files) (2 ^ 64 - 1); bytes = min (a.bytes + b.bytes) (2 ^ 64 - 1) }
 
 -- what takes the line away: a return to its beginning, and an erasure to its end
@@ -19,5 +19,5 @@ abbrev pub part_of_whole : ℕ → ℕ → List ℕ → List ℕ
 part_of_whole done whole unit = decimal done ++ codes " of " ++ decimal whole ++ unit
 
 -- the line in the place of the one before
-abbrev pub progress_line : Amount → Amount → List ℕ
+abbrev pub progress_line : FilesAndBytes → FilesAndBytes → List ℕ
 progress_line done whole = line_erasure ++ part_of_whole done.files whole.files (codes " files, ") ++ part_of_whole done.bytes whole.bytes (codes " bytes")

@@ -7,8 +7,8 @@ use Rattle.lfs_tool.specs.declared.errors.ToolError.TheVariants.{Output}
 use Rattle.lfs_tool.specs.declared.writer.ToolOutput.{Ghosts}
 
 -- this error comes exactly where a call failed, and then only one did
-abbrev pub IsErrorExactlyWithOneFault : {X : Type 0} → ToolError → ℕ → ℕ → Result X ToolError → Type 0
-IsErrorExactlyWithOneFault e old new r = (IsErrOf r e → new ≡ suc old) × (¬ IsErrOf r e → new ≡ old)
+abbrev pub IsThisErrorExactlyIfOneCallFailed : {X : Type 0} → ToolError → ℕ → ℕ → Result X ToolError → Type 0
+IsThisErrorExactlyIfOneCallFailed e old new r = (IsErrOf r e → new ≡ suc old) × (¬ IsErrOf r e → new ≡ old)
 
 -- `Output` comes exactly where the writer fails, which it does once. After any other error the writer is as it was, and else its
 -- bytes were flushed.
@@ -18,8 +18,8 @@ ReportsWriterFaults g old new (Err Output) = g.faults new ≡ suc (g.faults old)
 ReportsWriterFaults g old new (Err e) = new ≡ old
 
 -- unless it failed, it has shown one value more, which was flushed
-abbrev pub HasShownOneValue : {W : Type 0} → Ghosts W → W → W → Type 0
-HasShownOneValue g old new = g.faults new ≡ g.faults old → (g.shown new ≡ suc (g.shown old)) × (g.pending new ≡ 0)
+abbrev pub HasWrittenOneValueUnlessFailed : {W : Type 0} → Ghosts W → W → W → Type 0
+HasWrittenOneValueUnlessFailed g old new = g.faults new ≡ g.faults old → (g.shown new ≡ suc (g.shown old)) × (g.pending new ≡ 0)
 
 -- a text is written and flushed, or the writer fails and a beginning of it is written
 pub record WritesTextOrFails {W : Type 0} (g : Ghosts W) (text : List ℕ) (old new : W) : Type 0 where

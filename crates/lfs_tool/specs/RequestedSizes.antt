@@ -7,7 +7,7 @@ use Rattle.lfs_device.specs.declared.geometry.Geometry.{Geometry}
 use Rattle.lfs_tool_line.specs.declared.line.Line.{Line}
 
 -- the geometry has the sizes and the order of the line
-pub record HasSizesOfLine (line : Line) (g : Geometry) : Type 0 where
+pub record HasSizesOfCommandLine (line : Line) (g : Geometry) : Type 0 where
   pub block_size : g.block_size ≡ line.block_size
   pub page : g.page ≡ line.page
   pub order : g.order ≡ line.order

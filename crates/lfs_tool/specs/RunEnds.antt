@@ -1,42 +1,42 @@
 -- How a run of the program ends, and what it shows then.
 use Rattle.std.specs.Prelude.{ℕ, ◌≡◌, ◌⊎◌, Bool, true, false, List, None, IfSome}
 use Rattle.std.specs.Io.KnownBytes.{Appends}
-use Rattle.lfs_tool_line.specs.Matches.{HasOneMode, HasValidNameOrder, IsLineErrorOfWords, IsLineGivenByRows, ParserTakesWords, rows}
+use Rattle.lfs_tool_line.specs.Matches.{HasOneMode, HasValidNameOrder, IsLineErrorOfWords, IsCommandLineOfParsedArguments, ParserAcceptsWords, rows}
 use Rattle.lfs_tool_line.specs.declared.line.Line.{Line}
 use Rattle.lfs_tool_line.specs.declared.line.LineError.{LineError}
-use Rattle.lfs_tool.specs.ExitStatus.{standard_error_line_of_failure, is_failure_for_help, exit_status_of_failure}
+use Rattle.lfs_tool.specs.ExitStatus.{standard_error_line_of_failure, is_failure_a_help_request, exit_status_of_failure}
 use Rattle.lfs_tool.specs.declared.errors.Fault.{Fault}
 use Rattle.lfs_tool.specs.declared.errors.Fault.TheVariants as fault
 use Rattle.lfs_tool.specs.declared.errors.ToolError.{ToolError}
-use Rattle.lfs_tool.specs.Reports.{HasShownOneValue}
+use Rattle.lfs_tool.specs.Reports.{HasWrittenOneValueUnlessFailed}
 use Rattle.lfs_tool.specs.declared.writer.ToolOutput.{Ghosts}
 
 -- the words are a command line
 abbrev pub AreWordsOfValidCommandLine : List (List ℕ) → Type 0
-AreWordsOfValidCommandLine words = ParserTakesWords words × HasOneMode (rows words) × HasValidNameOrder (rows words)
+AreWordsOfValidCommandLine words = ParserAcceptsWords words × HasOneMode (rows words) × HasValidNameOrder (rows words)
 
 -- The fault is shown: the run has its status. Unless the writer failed, the fault's own line or the parser's text was written and
 -- flushed. Help is no fault.
-pub record IsFailureShown {W : Type 0} (g : Ghosts W) (f : Fault) (code : ℕ) (old new : W) : Type 0 where
+pub record IsFailureReportedWithStatus {W : Type 0} (g : Ghosts W) (f : Fault) (code : ℕ) (old new : W) : Type 0 where
   pub status : code ≡ exit_status_of_failure f
   pub line : g.faults new ≡ g.faults old → IfSome (standard_error_line_of_failure f) (λ line. Appends (g.contents old) (g.contents new) line × (g.pending new ≡ 0))
-  pub text : standard_error_line_of_failure f ≡ None → is_failure_for_help f ≡ false → HasShownOneValue g old new
-  pub help : is_failure_for_help f ≡ true → new ≡ old
+  pub text : standard_error_line_of_failure f ≡ None → is_failure_a_help_request f ≡ false → HasWrittenOneValueUnlessFailed g old new
+  pub help : is_failure_a_help_request f ≡ true → new ≡ old
 
 -- the status of a run that met no fault: 1 where an image was checked that isn't accepted
-abbrev pub status_without_failure : Bool → ℕ
-status_without_failure true = 0
-status_without_failure false = 1
+abbrev pub exit_status_by_image_acceptance : Bool → ℕ
+exit_status_by_image_acceptance true = 0
+exit_status_by_image_acceptance false = 1
 
 -- the request of a line is done, as it ends then, and no error is written; or an error is shown, and `follows` says what comes
 -- after it
-abbrev pub IsLineAnswered : {W : Type 0} → Ghosts W → (Bool → Type 0) → (ToolError → W → W → Type 0) → ℕ → W → W → Type 0
-IsLineAnswered g ends follows code old new =
-    (((accepted : Bool) × ((code ≡ status_without_failure accepted) × ends accepted)) × (new ≡ old))
-    ⊎ ((e : ToolError) × (shown : _) × (IsFailureShown g (fault.Tool e) code old shown × follows e shown new))
+abbrev pub IsCommandLineDoneOrErrorReported : {W : Type 0} → Ghosts W → (Bool → Type 0) → (ToolError → W → W → Type 0) → ℕ → W → W → Type 0
+IsCommandLineDoneOrErrorReported g ends follows code old new =
+    (((accepted : Bool) × ((code ≡ exit_status_by_image_acceptance accepted) × ends accepted)) × (new ≡ old))
+    ⊎ ((e : ToolError) × (shown : _) × (IsFailureReportedWithStatus g (fault.Tool e) code old shown × follows e shown new))
 
 -- the words are a command line, and that is answered; or they are none, and why is shown
-abbrev pub IsRequestAnswered : {W : Type 0} → Ghosts W → List (List ℕ) → (Line → Bool → Type 0) → (Line → ToolError → W → W → Type 0) → ℕ → W → W → Type 0
-IsRequestAnswered g words ends follows code old new =
-    ((line : Line) × (ParserTakesWords words × IsLineGivenByRows (rows words) line × IsLineAnswered g (ends line) (follows line) code old new))
-    ⊎ ((e : LineError) × (IsLineErrorOfWords words e × IsFailureShown g (fault.Line e) code old new))
+abbrev pub IsRequestDoneOrFailureReported : {W : Type 0} → Ghosts W → List (List ℕ) → (Line → Bool → Type 0) → (Line → ToolError → W → W → Type 0) → ℕ → W → W → Type 0
+IsRequestDoneOrFailureReported g words ends follows code old new =
+    ((line : Line) × (ParserAcceptsWords words × IsCommandLineOfParsedArguments (rows words) line × IsCommandLineDoneOrErrorReported g (ends line) (follows line) code old new))
+    ⊎ ((e : LineError) × (IsLineErrorOfWords words e × IsFailureReportedWithStatus g (fault.Line e) code old new))

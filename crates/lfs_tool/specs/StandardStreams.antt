@@ -13,9 +13,9 @@ is_standard_stream (File f) = false
 is_standard_stream (Standard s) = true
 
 -- the path of the file, or `-`
-abbrev pub path_of_file_or_standard : {F S : Type 0} → (F → List ℕ) → FileOrStandard F S → List ℕ
-path_of_file_or_standard of_file (File f) = of_file f
-path_of_file_or_standard of_file (Standard s) = codes "-"
+abbrev pub path_or_dash_of_file_or_standard : {F S : Type 0} → (F → List ℕ) → FileOrStandard F S → List ℕ
+path_or_dash_of_file_or_standard of_file (File f) = of_file f
+path_or_dash_of_file_or_standard of_file (Standard s) = codes "-"
 
 -- the bytes of the file or the stream, where they are known
 abbrev pub bytes_of_file_or_standard : {F S : Type 0} → (F → Option (List ℕ)) → (S → Option (List ℕ)) → FileOrStandard F S → Option (List ℕ)

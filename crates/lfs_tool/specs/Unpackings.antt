@@ -2,72 +2,72 @@
 use Rattle.std.specs.Prelude.{ℕ, ◌≡◌, ◌⊎◌, ◌++◌, suc, List, Option, Some, None, Result, Ok, Err, map, take}
 use Rattle.std.specs.List.{AllByRecursion}
 use Rattle.lfs_model.specs.Disk.{Disk, IsImageOfWholeBlocks}
-use Rattle.lfs_model.specs.View.{IsListIfCtz, DiskView}
+use Rattle.lfs_model.specs.View.{IsSkipListIfCtzStruct, DiskView}
 use Rattle.lfs_model.specs.Slots.{Struct, Inline, Ctz, Branch}
 use Rattle.lfs_model.specs.Listing.{UnpackingAction, AreActionsUnpackingTree, MakeDirectory, PutFile}
 use Rattle.lfs_device.specs.declared.error.Error.TheVariants.{Corrupt, Invalid, NoMemory}
 use Rattle.lfs_tool.specs.declared.errors.ToolError.{ToolError}
 use Rattle.lfs_tool.specs.declared.errors.ToolError.TheVariants.{Fs, Output}
-use Rattle.lfs_tool.specs.Listings.{IsImageAcceptedInNoOrder, IsMountErrorOfDisk}
-use Rattle.lfs_tool.specs.EitherOrder.{IsViewOfImageInSomeOrder, IsViewOfDiskInSomeOrder}
+use Rattle.lfs_tool.specs.Listings.{IsImageAcceptedInNeitherNameOrder, IsMountErrorOfDisk}
+use Rattle.lfs_tool.specs.EitherOrder.{IsViewOfImageInSomeNameOrder, IsViewOfDiskInSomeNameOrder}
 use Rattle.lfs_lookup.specs.FileBytes.{file_bytes_of_struct}
 use Rattle.lfs_lookup.specs.Walk.{PathAndStruct}
 
 -- the disk is accepted, and these actions unpack what it shows
 abbrev pub AreActionsUnpackingDisk : Disk → List UnpackingAction → Type 0
-AreActionsUnpackingDisk disk actions = (view : DiskView) × (IsViewOfDiskInSomeOrder disk view × AreActionsUnpackingTree view.tree actions)
+AreActionsUnpackingDisk disk actions = (view : DiskView) × (IsViewOfDiskInSomeNameOrder disk view × AreActionsUnpackingTree view.tree actions)
 
 -- the bytes are an image that these actions unpack
 abbrev pub AreActionsUnpackingImage : ℕ → ℕ → List ℕ → List UnpackingAction → Type 0
-AreActionsUnpackingImage block_size page image actions = IsImageOfWholeBlocks block_size page image × ((view : DiskView) × (IsViewOfImageInSomeOrder block_size page image view × AreActionsUnpackingTree view.tree actions))
+AreActionsUnpackingImage block_size page image actions = IsImageOfWholeBlocks block_size page image × ((view : DiskView) × (IsViewOfImageInSomeNameOrder block_size page image view × AreActionsUnpackingTree view.tree actions))
 
 -- these actions more were done, where what was done is known
-abbrev pub HasDoneMoreActions : Option (List UnpackingAction) → Option (List UnpackingAction) → List UnpackingAction → Type 0
-HasDoneMoreActions None new actions = Unit {0}
-HasDoneMoreActions (Some old) None actions = ⊥
-HasDoneMoreActions (Some old) (Some new) actions = new ≡ old ++ actions
+abbrev pub HasDoneTheseFurtherUnpackingActions : Option (List UnpackingAction) → Option (List UnpackingAction) → List UnpackingAction → Type 0
+HasDoneTheseFurtherUnpackingActions None new actions = Unit {0}
+HasDoneTheseFurtherUnpackingActions (Some old) None actions = ⊥
+HasDoneTheseFurtherUnpackingActions (Some old) (Some new) actions = new ≡ old ++ actions
 
 -- a beginning of them was done
-abbrev pub HasDoneBeginningOfActions : Option (List UnpackingAction) → Option (List UnpackingAction) → List UnpackingAction → Type 0
-HasDoneBeginningOfActions old new actions = (n : ℕ) × HasDoneMoreActions old new (take n actions)
+abbrev pub HasDoneBeginningOfUnpackingActions : Option (List UnpackingAction) → Option (List UnpackingAction) → List UnpackingAction → Type 0
+HasDoneBeginningOfUnpackingActions old new actions = (n : ℕ) × HasDoneTheseFurtherUnpackingActions old new (take n actions)
 
 -- ---- the actions of what was found
 
-abbrev pub action_for_struct : Disk → List ℕ → Struct → UnpackingAction
-action_for_struct disk path (Inline bytes) = PutFile path (file_bytes_of_struct disk (Inline bytes))
-action_for_struct disk path (Ctz head size) = PutFile path (file_bytes_of_struct disk (Ctz head size))
-action_for_struct disk path (Branch to) = MakeDirectory path
+abbrev pub unpacking_action_for_struct : Disk → List ℕ → Struct → UnpackingAction
+unpacking_action_for_struct disk path (Inline bytes) = PutFile path (file_bytes_of_struct disk (Inline bytes))
+unpacking_action_for_struct disk path (Ctz head size) = PutFile path (file_bytes_of_struct disk (Ctz head size))
+unpacking_action_for_struct disk path (Branch to) = MakeDirectory path
 
-abbrev pub action_for_place : Disk → PathAndStruct → UnpackingAction
-action_for_place disk p = action_for_struct disk p.path p.struct
+abbrev pub unpacking_action_for_tree_entry : Disk → PathAndStruct → UnpackingAction
+unpacking_action_for_tree_entry disk p = unpacking_action_for_struct disk p.path p.struct
 
-abbrev pub actions_for_places : Disk → List PathAndStruct → List UnpackingAction
-actions_for_places disk places = map (action_for_place disk) places
+abbrev pub unpacking_actions_for_tree_entries : Disk → List PathAndStruct → List UnpackingAction
+unpacking_actions_for_tree_entries disk places = map (unpacking_action_for_tree_entry disk) places
 
 -- the lists among them are well formed
 abbrev pub HaveWellFormedSkipLists : Disk → List PathAndStruct → Type 0
-HaveWellFormedSkipLists disk places = AllByRecursion (λ p. IsListIfCtz disk p.struct) places
+HaveWellFormedSkipLists disk places = AllByRecursion (λ p. IsSkipListIfCtzStruct disk p.struct) places
 
 -- `Output` comes where the target has failed, and any other result where it hasn't: then memory ran out, if the result is an
 -- error
-abbrev pub IsErrorByTargetFaults : ℕ → ℕ → ToolError → Type 0
-IsErrorByTargetFaults old new Output = new ≡ suc old
-IsErrorByTargetFaults old new (Fs NoMemory) = new ≡ old
-IsErrorByTargetFaults old new other = ⊥
+abbrev pub IsErrorOfTargetFaultOrNoMemory : ℕ → ℕ → ToolError → Type 0
+IsErrorOfTargetFaultOrNoMemory old new Output = new ≡ suc old
+IsErrorOfTargetFaultOrNoMemory old new (Fs NoMemory) = new ≡ old
+IsErrorOfTargetFaultOrNoMemory old new other = ⊥
 
-abbrev pub ReportsTargetFaults : {X : Type 0} → ℕ → ℕ → Result X ToolError → Type 0
-ReportsTargetFaults old new (Ok x) = new ≡ old
-ReportsTargetFaults old new (Err e) = IsErrorByTargetFaults old new e
+abbrev pub ReportsUnpackTargetFaults : {X : Type 0} → ℕ → ℕ → Result X ToolError → Type 0
+ReportsUnpackTargetFaults old new (Ok x) = new ≡ old
+ReportsUnpackTargetFaults old new (Err e) = IsErrorOfTargetFaultOrNoMemory old new e
 
 -- ---- a device in memory, and an image
 
 -- the disk is accepted, and all that it shows was done
 abbrev pub HasUnpackedDisk : Disk → Option (List UnpackingAction) → Option (List UnpackingAction) → Type 0
-HasUnpackedDisk disk old new = (actions : List UnpackingAction) × (AreActionsUnpackingDisk disk actions × HasDoneMoreActions old new actions)
+HasUnpackedDisk disk old new = (actions : List UnpackingAction) × (AreActionsUnpackingDisk disk actions × HasDoneTheseFurtherUnpackingActions old new actions)
 
 -- the same of a beginning of it
 abbrev pub HasBegunUnpackingDisk : Disk → Option (List UnpackingAction) → Option (List UnpackingAction) → Type 0
-HasBegunUnpackingDisk disk old new = (actions : List UnpackingAction) × (AreActionsUnpackingDisk disk actions × HasDoneBeginningOfActions old new actions)
+HasBegunUnpackingDisk disk old new = (actions : List UnpackingAction) × (AreActionsUnpackingDisk disk actions × HasDoneBeginningOfUnpackingActions old new actions)
 
 -- why a disk in memory isn't unpacked, and what was done then
 abbrev pub FailsToUnpackDisk : Disk → Option (List UnpackingAction) → Option (List UnpackingAction) → ToolError → Type 0
@@ -77,14 +77,14 @@ FailsToUnpackDisk disk old new Output = HasBegunUnpackingDisk disk old new
 FailsToUnpackDisk disk old new other = ⊥
 
 abbrev pub HasUnpackedImage : ℕ → ℕ → List ℕ → Option (List UnpackingAction) → Option (List UnpackingAction) → Type 0
-HasUnpackedImage block_size page image old new = (actions : List UnpackingAction) × (AreActionsUnpackingImage block_size page image actions × HasDoneMoreActions old new actions)
+HasUnpackedImage block_size page image old new = (actions : List UnpackingAction) × (AreActionsUnpackingImage block_size page image actions × HasDoneTheseFurtherUnpackingActions old new actions)
 
 abbrev pub HasBegunUnpackingImage : ℕ → ℕ → List ℕ → Option (List UnpackingAction) → Option (List UnpackingAction) → Type 0
-HasBegunUnpackingImage block_size page image old new = (actions : List UnpackingAction) × (AreActionsUnpackingImage block_size page image actions × HasDoneBeginningOfActions old new actions)
+HasBegunUnpackingImage block_size page image old new = (actions : List UnpackingAction) × (AreActionsUnpackingImage block_size page image actions × HasDoneBeginningOfUnpackingActions old new actions)
 
 -- the same of an image
 abbrev pub FailsToUnpackImage : ℕ → ℕ → List ℕ → Option (List UnpackingAction) → Option (List UnpackingAction) → ToolError → Type 0
-FailsToUnpackImage block_size page image old new (Fs Corrupt) = IsImageAcceptedInNoOrder block_size page image × (new ≡ old)
+FailsToUnpackImage block_size page image old new (Fs Corrupt) = IsImageAcceptedInNeitherNameOrder block_size page image × (new ≡ old)
 FailsToUnpackImage block_size page image old new (Fs Invalid) = (¬ IsImageOfWholeBlocks block_size page image) × (new ≡ old)
 FailsToUnpackImage block_size page image old new (Fs NoMemory) = (new ≡ old) ⊎ HasBegunUnpackingImage block_size page image old new
 FailsToUnpackImage block_size page image old new Output = HasBegunUnpackingImage block_size page image old new

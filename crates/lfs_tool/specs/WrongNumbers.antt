@@ -1,6 +1,6 @@
 -- The numbers of a superblock by its place in an image's bytes, whatever the image's blocks hold.
 use Rattle.std.specs.Prelude.{ℕ, ◌≡◌, ◌≢◌, ◌⊎◌, ◌+◌, ◌/◌, ◌≤◌, List, length, slice_range, codes}
-use Rattle.lfs_model.specs.EntryTypes.{SuperblockFields, superblock_fields_at}
+use Rattle.lfs_model.specs.EntryTypes.{SuperblockFields, superblock_fields_of_struct_bytes}
 use Rattle.lfs_tool.specs.declared.findings.WrongNumber.{WrongNumber}
 use Rattle.lfs_tool.specs.declared.findings.WrongNumber.TheVariants as stated
 
@@ -14,7 +14,7 @@ IsWrongSuperblockField block_size count fields (stated.Version n) = (fields.vers
 pub record IsSuperblockAtOffset (bytes : List ℕ) (from : ℕ) (fields : SuperblockFields) : Type 0 where
   pub inside : from + 44 ≤ length bytes
   pub name : slice_range bytes (from + 8) (from + 16) ≡ codes "littlefs"
-  pub struct : superblock_fields_at (slice_range bytes (from + 20) (from + 44)) ≡ fields
+  pub struct : superblock_fields_of_struct_bytes (slice_range bytes (from + 20) (from + 44)) ≡ fields
 
 -- a number in the superblock of block 0 or 1 is wrong for these bytes
 pub record IsWrongNumberInImageBytes (bytes : List ℕ) (block_size : ℕ) (stated : WrongNumber) : Type 0 where

@@ -3,8 +3,8 @@
 ghost use Rattle.std.specs.Prelude.{◌≡◌, ◌↔◌, ◌<◌, IfNone, IfSome, IsTrue, Some};
 ghost use Rattle.lfs_model.specs.Disk.{Disk, block_count};
 ghost use Rattle.lfs_model.specs.Slots.{pair_address_of_array};
-ghost use Rattle.lfs_tool.specs.Findings.{HasAddressOfBlock, IsThreadFinding};
-ghost use Rattle.lfs_tool.specs.ThreadBeginnings.{IsNamedByThread};
+ghost use Rattle.lfs_tool.specs.Findings.{PairAddressHasBlock, IsTrueFindingOfThread};
+ghost use Rattle.lfs_tool.specs.ThreadBeginnings.{IsAddressNamedByThread};
 ghost use Rattle.lfs_tool.specs.PairReads.{AreOwnedFirstPairsOfThread};
 
 use crate::findings::Finding;
@@ -12,7 +12,7 @@ use crate::owned_parts::OwnedPair;
 
 // Returns what is wrong with the two addresses of a pair by themselves.
 pub(crate) fn finding_on_pair_addresses(count: u32, pair: [u32; 2]) -> Option<Finding>
-    ensures fault { IfSome result (λ f. (disk : Disk) → block_count disk ≡ count → IsNamedByThread disk (pair_address_of_array pair) → IsThreadFinding disk f) }
+    ensures fault { IfSome result (λ f. (disk : Disk) → block_count disk ≡ count → IsAddressNamedByThread disk (pair_address_of_array pair) → IsTrueFindingOfThread disk f) }
     ensures first { IfNone result ((pair_address_of_array pair).0 < count) }
     ensures second { IfNone result ((pair_address_of_array pair).1 < count) }
 {
@@ -33,19 +33,19 @@ pub(crate) fn finding_on_pair_addresses(count: u32, pair: [u32; 2]) -> Option<Fi
 }
 
 // Returns whether one of the two addresses is that block's.
-fn has(pair: [u32; 2], block: u32) -> bool
-    ensures { IsTrue result ↔ HasAddressOfBlock (pair_address_of_array pair) block }
+fn pair_has_block(pair: [u32; 2], block: u32) -> bool
+    ensures { IsTrue result ↔ PairAddressHasBlock (pair_address_of_array pair) block }
 {
     pair[0] == block || pair[1] == block
 }
 
 // Returns the block, if it is in one of these pairs, which come before the pair.
 fn finding_on_block_in_pairs(pairs: &[OwnedPair], pair: [u32; 2], block: u32) -> Option<Finding>
-    requires { HasAddressOfBlock (pair_address_of_array pair) block }
-    ensures { IfSome result (λ f. (disk : Disk) → AreOwnedFirstPairsOfThread disk (Some (pair_address_of_array pair)) pairs.now → IsThreadFinding disk f) }
+    requires { PairAddressHasBlock (pair_address_of_array pair) block }
+    ensures { IfSome result (λ f. (disk : Disk) → AreOwnedFirstPairsOfThread disk (Some (pair_address_of_array pair)) pairs.now → IsTrueFindingOfThread disk f) }
 {
     for held in pairs {
-        if has(held.at, block) {
+        if pair_has_block(held.at, block) {
             return Some(Finding::InTwoPairs {
                 block,
                 pair,
@@ -63,7 +63,7 @@ pub(crate) fn finding_on_repeated_blocks(
     pairs: &[OwnedPair],
     pair: [u32; 2],
 ) -> Option<Finding>
-    ensures { IfSome result (λ f. (disk : Disk) → AreOwnedFirstPairsOfThread disk (Some (pair_address_of_array pair)) pairs.now → IsThreadFinding disk f) }
+    ensures { IfSome result (λ f. (disk : Disk) → AreOwnedFirstPairsOfThread disk (Some (pair_address_of_array pair)) pairs.now → IsTrueFindingOfThread disk f) }
 {
     for block in pair {
         let place = block as usize;

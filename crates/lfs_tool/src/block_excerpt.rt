@@ -1,5 +1,5 @@
 ghost use Rattle.std.specs.Prelude.{◌≤◌, length};
-ghost use Rattle.lfs_device.specs.Bytes.{AreBytes};
+ghost use Rattle.lfs_device.specs.Bytes.{AreAllNumbersBytes};
 
 /// A block of which the first bytes are kept, or all. Other bytes read as 0xff.
 #[derive(Drop)]
@@ -7,7 +7,7 @@ pub struct BlockExcerpt {
     size: usize,
     bytes: Vec<u8>,
     ghost fits: { length bytes.items ≤ size },
-    ghost are_bytes: { AreBytes bytes.items },
+    ghost are_bytes: { AreAllNumbersBytes bytes.items },
 }
 
 impl BlockExcerpt {

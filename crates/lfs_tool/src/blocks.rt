@@ -1,20 +1,23 @@
 // Images that are read block by block. What a listing needs is kept.
 
 ghost use Rattle.std.specs.Prelude.{◌≡◌, ◌≤◌, ◌*◌, IfErr, IfOk, IfSome, OnOk, None, length, suc};
-ghost use Rattle.lfs_tool.specs.ExcerptBlocks.{AreExcerptsOfBlockSize};
+ghost use Rattle.lfs_tool.specs.ExcerptBlocks.{AreExcerptsOfBlocksWithSize};
 ghost use Rattle.lfs_model.specs.Disk.{IsImageOfWholeBlocks};
-ghost use Rattle.lfs_tool.specs.ExcerptView.{cutter_block_size};
-ghost use Rattle.lfs_tool.specs.Blocks.{AreExcerptsOfBytes, FillsBufferWithNextBytes, IsExcerptPushed};
-ghost use Rattle.lfs_tool.specs.KnownBytes.{IsErrorOfFailedRead};
+ghost use Rattle.lfs_tool.specs.ExcerptView.{excerpt_maker_block_size};
+ghost use Rattle.lfs_tool.specs.Blocks.{AreExcerptsOfAllBlocksOfImageBytes, FillsBufferWithNextBytes, IsExcerptPushed};
+ghost use Rattle.lfs_tool.specs.KnownBytes.{IsErrorOfReaderFaultOrNoMemory};
 ghost use Rattle.lfs_tool.specs.Reports.{IsReadToEndOrPastImageLimit};
 
 use crate::input::IMAGE_MAX;
-use crate::{BlockExcerpt, Cutter, ImageInput, ToolError};
+use crate::{BlockExcerpt, ExcerptMaker, ImageInput, ToolError};
 use lfs_device::Error;
 use std::alloc::Global;
 
 // Fills the buffer, or its beginning where the image ends in it. Returns how many bytes were read.
-fn fill<R: ImageInput>(image: &mut R, buffer: &mut [u8]) -> Result<usize, ToolError>
+fn fill_buffer_from_image<R: ImageInput>(
+    image: &mut R,
+    buffer: &mut [u8],
+) -> Result<usize, ToolError>
     ensures bytes { IfOk result (λ n. FillsBufferWithNextBytes (R.remaining image.old) (R.remaining image.new) n buffer.new) }
     ensures len { length buffer.new ≡ length buffer.old }
     ensures kept { OnOk result (R.faults image.new ≡ R.faults image.old) }
@@ -39,18 +42,18 @@ pub(crate) fn read_block_excerpts<R: ImageInput>(
     block_size: u32,
 ) -> Result<Option<Vec<BlockExcerpt>>, ToolError>
     requires { 1024 ≤ block_size }
-    ensures blocks { IfOk result (λ found. IfSome found (λ blocks. IfSome (R.remaining image.old) (λ bytes. AreExcerptsOfBytes block_size bytes blocks.items))) }
-    ensures sizes { IfOk result (λ found. IfSome found (λ blocks. AreExcerptsOfBlockSize block_size blocks.items × (block_size * length blocks.items ≤ IMAGE_MAX))) }
+    ensures blocks { IfOk result (λ found. IfSome found (λ blocks. IfSome (R.remaining image.old) (λ bytes. AreExcerptsOfAllBlocksOfImageBytes block_size bytes blocks.items))) }
+    ensures sizes { IfOk result (λ found. IfSome found (λ blocks. AreExcerptsOfBlocksWithSize block_size blocks.items × (block_size * length blocks.items ≤ IMAGE_MAX))) }
     ensures none { IfOk result (λ found. found ≡ None → IfSome (R.remaining image.old) (λ bytes. (page : _) → ¬ IsImageOfWholeBlocks block_size page bytes)) }
     ensures read { OnOk result (IsReadToEndOrPastImageLimit (R.remaining image.old) (R.remaining image.new)) }
     ensures kept { OnOk result (R.faults image.new ≡ R.faults image.old) }
-    ensures err { IfErr result (λ e. IsErrorOfFailedRead e (R.faults image.old) (R.faults image.new)) }
+    ensures err { IfErr result (λ e. IsErrorOfReaderFaultOrNoMemory e (R.faults image.old) (R.faults image.new)) }
 {
     let size = block_size as usize;
-    let (mut cutter, mut block) = room_for(alloc, size)?;
+    let (mut cutter, mut block) = new_excerpt_maker_and_block_buffer(alloc, size)?;
     let mut blocks = Vec::new(alloc);
     while size * blocks.len() <= IMAGE_MAX {
-        let n = fill(image, &mut block)?;
+        let n = fill_buffer_from_image(image, &mut block)?;
         if n == 0 {
             return Ok(Some(blocks));
         }
@@ -63,12 +66,15 @@ pub(crate) fn read_block_excerpts<R: ImageInput>(
 }
 
 // Makes the cutter of blocks of so many bytes, and the buffer for one block.
-fn room_for(alloc: Global, size: usize) -> Result<(Cutter, Vec<u8>), Error>
+fn new_excerpt_maker_and_block_buffer(
+    alloc: Global,
+    size: usize,
+) -> Result<(ExcerptMaker, Vec<u8>), Error>
     requires { 1024 ≤ size }
-    ensures sizes { IfOk result (λ room. (cutter_block_size room.0 ≡ size) × (length room.1.items ≡ size)) }
+    ensures sizes { IfOk result (λ room. (excerpt_maker_block_size room.0 ≡ size) × (length room.1.items ≡ size)) }
     ensures err { IfErr result (λ e. e ≡ Error.NoMemory) }
 {
-    let cutter = Cutter::new(alloc, size)?;
+    let cutter = ExcerptMaker::new(alloc, size)?;
     let block = Vec::from_elem(alloc, 0u8, size)?;
     Ok((cutter, block))
 }
@@ -76,16 +82,16 @@ fn room_for(alloc: Global, size: usize) -> Result<(Cutter, Vec<u8>), Error>
 // Keeps an excerpt of one more block.
 fn push_block_excerpt(
     alloc: Global,
-    cutter: &mut Cutter,
+    cutter: &mut ExcerptMaker,
     block: &[u8],
     blocks: &mut Vec<BlockExcerpt>,
 ) -> Result<(), Error>
-    requires { length block.now ≡ cutter_block_size cutter.old }
+    requires { length block.now ≡ excerpt_maker_block_size cutter.old }
     ensures pushed { OnOk result (IsExcerptPushed block.now blocks.old.items blocks.new.items) }
-    ensures same { cutter_block_size cutter.new ≡ cutter_block_size cutter.old }
+    ensures same { excerpt_maker_block_size cutter.new ≡ excerpt_maker_block_size cutter.old }
     ensures err { IfErr result (λ e. e ≡ Error.NoMemory) }
 {
-    let kept = cutter.cut(alloc, block)?;
+    let kept = cutter.cut_block_to_excerpt(alloc, block)?;
     blocks.push(kept)?;
     Ok(())
 }

@@ -6,7 +6,7 @@ use crate::verdict::{AcceptedOrders, ImageSummary};
 /// The sizes with which an image is checked: of a block and a page in bytes, and the number of
 /// whole blocks.
 #[derive(Clone, Copy, Debug, PartialEq, Eq, Drop)]
-pub struct Given {
+pub struct GivenSizes {
     pub block_size: u32,
     pub page: u32,
     pub blocks: usize,
@@ -14,7 +14,7 @@ pub struct Given {
 
 /// The cause for which an image isn't accepted.
 #[derive(Drop)]
-pub enum Reason {
+pub enum RefusalReason {
     /// The superblock in block 0 or 1 gives another size, number of blocks or version.
     WrongNumber(WrongNumber),
     /// No image of blocks and pages of these sizes has so many bytes.
@@ -27,13 +27,13 @@ pub enum Reason {
 
 /// Whether an image is accepted, and with what, or why not.
 #[derive(Drop)]
-pub enum Checked {
+pub enum CheckResult {
     Accepted {
         summary: ImageSummary,
         orders: AcceptedOrders,
     },
     Refused {
-        reason: Reason,
-        given: Given,
+        reason: RefusalReason,
+        given: GivenSizes,
     },
 }

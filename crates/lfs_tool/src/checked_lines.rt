@@ -4,9 +4,9 @@ ghost use Rattle.std.specs.Prelude.{◌≡◌, ◌++◌, IfOk, OnOk, codes};
 ghost use Rattle.lfs_model.specs.Listing.{newline};
 ghost use Rattle.lfs_model.specs.Slots.{pair_address_of_array};
 ghost use Rattle.std.specs.Fmt.{decimal};
-ghost use Rattle.lfs_tool.specs.CheckedLines.{pair_addresses_text, used_and_free_blocks_text, labelled_number_line, finding_text, no_image_text, accepted_orders_line, pair_text, named_slot_text, block_out_of_range_text, unaccepted_reason_text, needs_recovery_line, slot_text, wrong_number_text, summary_text, block_in_two_pairs_text, used_blocks_line, check_result_text, writable_line};
+ghost use Rattle.lfs_tool.specs.CheckedLines.{block_numbers_of_pair_text, used_and_free_blocks_text, labelled_number_line, finding_text, no_image_text, accepted_name_orders_line, pair_text, named_slot_text, block_out_of_range_text, unaccepted_reason_text, needs_recovery_line, slot_text, wrong_superblock_number_text, summary_text, block_in_two_pairs_text, used_blocks_line, check_result_text, writable_line};
 
-use crate::check_result::{Checked, Given, Reason};
+use crate::check_result::{CheckResult, GivenSizes, RefusalReason};
 use crate::escape::push_escaped_path;
 use crate::findings::{Finding, NamedSlot, WrongNumber};
 use crate::verdict::{AcceptedOrders, ImageSummary};
@@ -33,7 +33,11 @@ fn push_line(text: &mut Vec<u8>, line: &str) -> Result<(), AllocError>
 }
 
 // Adds a text and a number after it.
-pub(crate) fn push_number(text: &mut Vec<u8>, before: &str, number: usize) -> Result<(), AllocError>
+pub(crate) fn push_labelled_number(
+    text: &mut Vec<u8>,
+    before: &str,
+    number: usize,
+) -> Result<(), AllocError>
     ensures { OnOk result (text.new.items ≡ text.old.items ++ (before.now ++ decimal number)) }
 {
     text.extend_from_slice(before.as_bytes())?;
@@ -47,7 +51,7 @@ pub(crate) fn push_number(text: &mut Vec<u8>, before: &str, number: usize) -> Re
 fn push_number_line(text: &mut Vec<u8>, label: &str, count: usize) -> Result<(), AllocError>
     ensures { OnOk result (text.new.items ≡ text.old.items ++ labelled_number_line label.now count) }
 {
-    push_number(text, label, count)?;
+    push_labelled_number(text, label, count)?;
     text.push(b'\n')?;
     Ok(())
 }
@@ -57,7 +61,7 @@ fn push_number_line(text: &mut Vec<u8>, label: &str, count: usize) -> Result<(),
 fn push_used_blocks_line(text: &mut Vec<u8>, used: u32, blocks: u32) -> Result<(), AllocError>
     ensures { OnOk result (text.new.items ≡ text.old.items ++ used_blocks_line used blocks) }
 {
-    push_two(text, "used ", used as usize, " of ", blocks as usize)?;
+    push_two_labelled_numbers(text, "used ", used as usize, " of ", blocks as usize)?;
     push_line(text, " blocks")?;
     Ok(())
 }
@@ -71,8 +75,11 @@ fn push_used_and_free_blocks(text: &mut Vec<u8>, summary: &ImageSummary) -> Resu
     Ok(())
 }
 
-fn push_accepted_orders(text: &mut Vec<u8>, orders: AcceptedOrders) -> Result<(), AllocError>
-    ensures { OnOk result (text.new.items ≡ text.old.items ++ accepted_orders_line orders) }
+fn push_accepted_name_orders_line(
+    text: &mut Vec<u8>,
+    orders: AcceptedOrders,
+) -> Result<(), AllocError>
+    ensures { OnOk result (text.new.items ≡ text.old.items ++ accepted_name_orders_line orders) }
 {
     match orders {
         AcceptedOrders::LongerFirst => push_line(text, "order longer-first"),
@@ -81,7 +88,7 @@ fn push_accepted_orders(text: &mut Vec<u8>, orders: AcceptedOrders) -> Result<()
     }
 }
 
-fn push_needs_recovery(text: &mut Vec<u8>, recover: bool) -> Result<(), AllocError>
+fn push_needs_recovery_line(text: &mut Vec<u8>, recover: bool) -> Result<(), AllocError>
     ensures { OnOk result (text.new.items ≡ text.old.items ++ needs_recovery_line recover) }
 {
     if recover {
@@ -91,7 +98,7 @@ fn push_needs_recovery(text: &mut Vec<u8>, recover: bool) -> Result<(), AllocErr
     }
 }
 
-fn push_writable(text: &mut Vec<u8>, writable: bool) -> Result<(), AllocError>
+fn push_writable_line(text: &mut Vec<u8>, writable: bool) -> Result<(), AllocError>
     ensures { OnOk result (text.new.items ≡ text.old.items ++ writable_line writable) }
 {
     if writable {
@@ -113,16 +120,16 @@ fn push_summary(
     push_number_line(text, "files ", summary.files)?;
     push_number_line(text, "directories ", summary.directories)?;
     push_used_and_free_blocks(text, summary)?;
-    push_accepted_orders(text, orders)?;
-    push_needs_recovery(text, summary.recover)?;
-    push_writable(text, summary.writable)?;
+    push_accepted_name_orders_line(text, orders)?;
+    push_needs_recovery_line(text, summary.recover)?;
+    push_writable_line(text, summary.writable)?;
     Ok(())
 }
 
 // ---- why one isn't accepted
 
 // Adds two numbers, each with a text before it.
-fn push_two(
+fn push_two_labelled_numbers(
     text: &mut Vec<u8>,
     before: &str,
     first: usize,
@@ -131,52 +138,52 @@ fn push_two(
 ) -> Result<(), AllocError>
     ensures { OnOk result (text.new.items ≡ text.old.items ++ (before.now ++ decimal first ++ between.now ++ decimal second)) }
 {
-    push_number(text, before, first)?;
-    push_number(text, between, second)?;
+    push_labelled_number(text, before, first)?;
+    push_labelled_number(text, between, second)?;
     Ok(())
 }
 
-fn push_wrong_number(
+fn push_wrong_superblock_number_text(
     text: &mut Vec<u8>,
-    given: &Given,
+    given: &GivenSizes,
     stated: WrongNumber,
 ) -> Result<(), AllocError>
-    ensures { OnOk result (text.new.items ≡ text.old.items ++ wrong_number_text given.now stated) }
+    ensures { OnOk result (text.new.items ≡ text.old.items ++ wrong_superblock_number_text given.now stated) }
 {
     match stated {
         WrongNumber::BlockSize(size) => {
             let (size, given) = (size as usize, given.block_size as usize);
-            push_two(text, "superblock: block size ", size, ", given ", given)
+            push_two_labelled_numbers(text, "superblock: block size ", size, ", given ", given)
         }
         WrongNumber::BlockCount(count) => {
             let (count, given) = (count as usize, given.blocks);
-            push_two(text, "superblock: block count ", count, ", given ", given)
+            push_two_labelled_numbers(text, "superblock: block count ", count, ", given ", given)
         }
         WrongNumber::Version(version) => {
             let (major, minor) = (version as usize / 65536, version as usize % 65536);
-            push_two(text, "superblock: version ", major, ".", minor)
+            push_two_labelled_numbers(text, "superblock: version ", major, ".", minor)
         }
     }
 }
 
-fn push_pair(text: &mut Vec<u8>, pair: [u32; 2]) -> Result<(), AllocError>
+fn push_pair_text(text: &mut Vec<u8>, pair: [u32; 2]) -> Result<(), AllocError>
     ensures { OnOk result (text.new.items ≡ text.old.items ++ pair_text (pair_address_of_array pair)) }
 {
-    push_two(text, "pair ", pair[0] as usize, " ", pair[1] as usize)
+    push_two_labelled_numbers(text, "pair ", pair[0] as usize, " ", pair[1] as usize)
 }
 
-fn push_slot(text: &mut Vec<u8>, pair: [u32; 2], slot: usize) -> Result<(), AllocError>
+fn push_slot_text(text: &mut Vec<u8>, pair: [u32; 2], slot: usize) -> Result<(), AllocError>
     ensures { OnOk result (text.new.items ≡ text.old.items ++ slot_text (pair_address_of_array pair) slot) }
 {
-    push_pair(text, pair)?;
-    push_number(text, ", slot ", slot)?;
+    push_pair_text(text, pair)?;
+    push_labelled_number(text, ", slot ", slot)?;
     Ok(())
 }
 
-fn push_named_slot(text: &mut Vec<u8>, place: &NamedSlot) -> Result<(), AllocError>
+fn push_named_slot_text(text: &mut Vec<u8>, place: &NamedSlot) -> Result<(), AllocError>
     ensures { OnOk result (text.new.items ≡ text.old.items ++ named_slot_text place.now) }
 {
-    push_slot(text, place.pair, place.slot)?;
+    push_slot_text(text, place.pair, place.slot)?;
     push_text(text, ": \"")?;
     push_escaped_path(text, &place.name)?;
     text.push(b'"')?;
@@ -187,7 +194,7 @@ fn push_named_slot(text: &mut Vec<u8>, place: &NamedSlot) -> Result<(), AllocErr
 fn push_pair_message(text: &mut Vec<u8>, pair: [u32; 2], says: &str) -> Result<(), AllocError>
     ensures { OnOk result (text.new.items ≡ text.old.items ++ (pair_text (pair_address_of_array pair) ++ says.now)) }
 {
-    push_pair(text, pair)?;
+    push_pair_text(text, pair)?;
     push_text(text, says)?;
     Ok(())
 }
@@ -201,7 +208,7 @@ fn push_slot_message(
 ) -> Result<(), AllocError>
     ensures { OnOk result (text.new.items ≡ text.old.items ++ (slot_text (pair_address_of_array pair) slot ++ says.now)) }
 {
-    push_slot(text, pair, slot)?;
+    push_slot_text(text, pair, slot)?;
     push_text(text, says)?;
     Ok(())
 }
@@ -214,7 +221,7 @@ fn push_named_slot_message(
 ) -> Result<(), AllocError>
     ensures { OnOk result (text.new.items ≡ text.old.items ++ (named_slot_text place.now ++ says.now)) }
 {
-    push_named_slot(text, place)?;
+    push_named_slot_text(text, place)?;
     push_text(text, says)?;
     Ok(())
 }
@@ -222,8 +229,8 @@ fn push_named_slot_message(
 fn push_block_out_of_range(text: &mut Vec<u8>, pair: [u32; 2], block: u32) -> Result<(), AllocError>
     ensures { OnOk result (text.new.items ≡ text.old.items ++ block_out_of_range_text (pair_address_of_array pair) block) }
 {
-    push_pair(text, pair)?;
-    push_number(text, ": block ", block as usize)?;
+    push_pair_text(text, pair)?;
+    push_labelled_number(text, ": block ", block as usize)?;
     push_text(text, " isn't in the image")?;
     Ok(())
 }
@@ -236,34 +243,38 @@ fn push_block_in_two_pairs(
 ) -> Result<(), AllocError>
     ensures { OnOk result (text.new.items ≡ text.old.items ++ block_in_two_pairs_text block (pair_address_of_array other) (pair_address_of_array pair)) }
 {
-    push_number(text, "block ", block as usize)?;
+    push_labelled_number(text, "block ", block as usize)?;
     push_text(text, ": in two pairs, ")?;
-    push_pair_addresses(text, other)?;
+    push_two_addresses_of_pair(text, other)?;
     push_text(text, " and ")?;
-    push_pair_addresses(text, pair)?;
+    push_two_addresses_of_pair(text, pair)?;
     Ok(())
 }
 
-fn push_pair_addresses(text: &mut Vec<u8>, pair: [u32; 2]) -> Result<(), AllocError>
-    ensures { OnOk result (text.new.items ≡ text.old.items ++ pair_addresses_text (pair_address_of_array pair)) }
+fn push_two_addresses_of_pair(text: &mut Vec<u8>, pair: [u32; 2]) -> Result<(), AllocError>
+    ensures { OnOk result (text.new.items ≡ text.old.items ++ block_numbers_of_pair_text (pair_address_of_array pair)) }
 {
-    push_two(text, "", pair[0] as usize, " ", pair[1] as usize)
+    push_two_labelled_numbers(text, "", pair[0] as usize, " ", pair[1] as usize)
 }
 
 fn push_pair_with_wrong_number(
     text: &mut Vec<u8>,
-    given: &Given,
+    given: &GivenSizes,
     pair: [u32; 2],
     stated: WrongNumber,
 ) -> Result<(), AllocError>
-    ensures { OnOk result (text.new.items ≡ text.old.items ++ (pair_text (pair_address_of_array pair) ++ codes ", " ++ wrong_number_text given.now stated)) }
+    ensures { OnOk result (text.new.items ≡ text.old.items ++ (pair_text (pair_address_of_array pair) ++ codes ", " ++ wrong_superblock_number_text given.now stated)) }
 {
     push_pair_message(text, pair, ", ")?;
-    push_wrong_number(text, given, stated)?;
+    push_wrong_superblock_number_text(text, given, stated)?;
     Ok(())
 }
 
-fn push_finding(text: &mut Vec<u8>, given: &Given, finding: &Finding) -> Result<(), AllocError>
+fn push_finding_text(
+    text: &mut Vec<u8>,
+    given: &GivenSizes,
+    finding: &Finding,
+) -> Result<(), AllocError>
     ensures { OnOk result (text.new.items ≡ text.old.items ++ finding_text given.now finding.now) }
 {
     match finding {
@@ -304,11 +315,14 @@ fn push_finding(text: &mut Vec<u8>, given: &Given, finding: &Finding) -> Result<
     }
 }
 
-fn push_no_image(text: &mut Vec<u8>, given: &Given) -> Result<(), AllocError>
+fn push_no_image_of_given_sizes_text(
+    text: &mut Vec<u8>,
+    given: &GivenSizes,
+) -> Result<(), AllocError>
     ensures { OnOk result (text.new.items ≡ text.old.items ++ no_image_text given.now) }
 {
     let (block_size, page) = (given.block_size as usize, given.page as usize);
-    push_two(
+    push_two_labelled_numbers(
         text,
         "no image of blocks of ",
         block_size,
@@ -319,24 +333,26 @@ fn push_no_image(text: &mut Vec<u8>, given: &Given) -> Result<(), AllocError>
 
 fn push_unaccepted_reason(
     text: &mut Vec<u8>,
-    given: &Given,
-    reason: &Reason,
+    given: &GivenSizes,
+    reason: &RefusalReason,
 ) -> Result<(), AllocError>
     ensures { OnOk result (text.new.items ≡ text.old.items ++ unaccepted_reason_text given.now reason.now) }
 {
     match reason {
-        Reason::WrongNumber(stated) => push_wrong_number(text, given, *stated),
-        Reason::NoImage => push_no_image(text, given),
-        Reason::Broken(finding) => push_finding(text, given, finding),
-        Reason::Other => push_text(text, "no single rule was found"),
+        RefusalReason::WrongNumber(stated) => push_wrong_superblock_number_text(
+            text, given, *stated,
+        ),
+        RefusalReason::NoImage => push_no_image_of_given_sizes_text(text, given),
+        RefusalReason::Broken(finding) => push_finding_text(text, given, finding),
+        RefusalReason::Other => push_text(text, "no single rule was found"),
     }
 }
 
 // Adds the lines of an image that isn't accepted.
 fn push_unaccepted_lines(
     text: &mut Vec<u8>,
-    given: &Given,
-    reason: &Reason,
+    given: &GivenSizes,
+    reason: &RefusalReason,
 ) -> Result<(), AllocError>
     ensures { OnOk result (text.new.items ≡ text.old.items ++ ((codes "corrupt" ++ newline) ++ unaccepted_reason_text given.now reason.now ++ newline)) }
 {
@@ -347,13 +363,16 @@ fn push_unaccepted_lines(
 }
 
 // Adds the lines of a check's result.
-pub(crate) fn checked_lines(alloc: Global, checked: &Checked) -> Result<Vec<u8>, AllocError>
+pub(crate) fn lines_of_check_result(
+    alloc: Global,
+    checked: &CheckResult,
+) -> Result<Vec<u8>, AllocError>
     ensures { IfOk result (λ text. text.items ≡ check_result_text checked.now) }
 {
     let mut text = Vec::new(alloc);
     match checked {
-        Checked::Accepted { summary, orders } => push_summary(&mut text, summary, *orders)?,
-        Checked::Refused { reason, given } => push_unaccepted_lines(&mut text, given, reason)?,
+        CheckResult::Accepted { summary, orders } => push_summary(&mut text, summary, *orders)?,
+        CheckResult::Refused { reason, given } => push_unaccepted_lines(&mut text, given, reason)?,
     }
     Ok(text)
 }

@@ -1,10 +1,10 @@
 ghost use Rattle.std.specs.Prelude.{◌≡◌, ◌≢◌, IfErr, IfOk, IsErrOf, OnOk};
-ghost use Rattle.lfs_fs.specs.SessionView.{system_state_of};
+ghost use Rattle.lfs_fs.specs.SessionView.{system_state_of_session_view};
 ghost use Rattle.lfs_tool.specs.Reports.{ReportsWriterFaults};
-ghost use Rattle.lfs_tool.specs.MadeImages.{AreImageBytesOfEntries, BeginsOnFreshDisk, RefusesCopyOfSource, HasWrittenBeginningOfImage, HasWrittenImageOfSource, RefusesCopyOfEntries, ReportsSourceFaults};
+ghost use Rattle.lfs_tool.specs.MadeImages.{AreImageBytesOfEntries, SessionBeginsOnFreshDisk, RefusesCopyOfSource, HasWrittenBeginningOfImage, HasWrittenImageOfSource, RefusesCopyOfEntries, ReportsSourceFaults};
 ghost use Rattle.lfs_tool_folders.specs.Entries.{AreAllEntriesOfSource};
 
-use crate::source_entries::carry_over;
+use crate::source_entries::copy_entries_into_session;
 use crate::{FollowsProgress, ToolError, ToolOutput, write_bytes_and_flush};
 use lfs_device::{Error, Geometry, RamDevice};
 use lfs_fs::{Session, format_ordered};
@@ -28,8 +28,11 @@ pub(crate) fn read_source_entries<S: Source>(
 }
 
 // Begins a session over an empty image in memory.
-fn begin(alloc: Global, geometry: Geometry) -> Result<Session<RamDevice>, Error>
-    ensures begins { IfOk result (λ s. BeginsOnFreshDisk geometry (system_state_of s)) }
+fn begin_session_on_fresh_disk(
+    alloc: Global,
+    geometry: Geometry,
+) -> Result<Session<RamDevice>, Error>
+    ensures begins { IfOk result (λ s. SessionBeginsOnFreshDisk geometry (system_state_of_session_view s)) }
     ensures err { IfErr result (λ e. e ≡ Error.NoMemory) }
 {
     let device = RamDevice::blank(alloc, geometry)?;
@@ -50,8 +53,8 @@ pub(crate) fn image_bytes_of_entries<F: FollowsProgress>(
     ensures ok { IfOk result (λ v. AreImageBytesOfEntries geometry entries.now v.items) }
     ensures err { IfErr result (λ e. e ≢ Error.NoMemory → RefusesCopyOfEntries geometry entries.now e) }
 {
-    let mut session = begin(alloc, geometry)?;
-    carry_over(alloc, &mut session, entries, progress)?;
+    let mut session = begin_session_on_fresh_disk(alloc, geometry)?;
+    copy_entries_into_session(alloc, &mut session, entries, progress)?;
     Ok(session.unmount().to_bytes())
 }
 

@@ -1,7 +1,7 @@
 ghost use Rattle.std.specs.Prelude.{◌≡◌, ◌≢◌, ◌⊎◌, IsErrOf, OnOk};
 ghost use Rattle.lfs_tool.specs.Reports.{ReportsWriterFaults};
 ghost use Rattle.lfs_tool.specs.MadeImages.{RefusesCopyOfSource, HasWrittenBeginningOfImage, HasWrittenImageOfSource, ReportsSourceFaults};
-ghost use Rattle.lfs_tool.specs.RequestedSizes.{IsErrorWhereNoGeometryHasSizes, HasSizesOfLine};
+ghost use Rattle.lfs_tool.specs.RequestedSizes.{IsErrorWhereNoGeometryHasSizes, HasSizesOfCommandLine};
 
 use crate::{FollowsProgress, Line, ToolError, ToolOutput, create, geometry_of_image_sizes};
 use lfs_device::Error;
@@ -21,21 +21,27 @@ pub fn create_for_command_line<S: Source, W: ToolOutput, F: FollowsProgress>(
     out: &mut W,
     progress: &mut F,
 ) -> Result<(), ToolError>
-    ensures ok { OnOk result ((g : _) × (HasSizesOfLine line.now g × HasWrittenImageOfSource g (S.shown source.old) (W.contents out.old) (W.contents out.new))) }
+    ensures ok { OnOk result ((g : _) × (HasSizesOfCommandLine line.now g × HasWrittenImageOfSource g (S.shown source.old) (W.contents out.old) (W.contents out.new))) }
 
     // The writer isn't called, unless it fails: then a beginning of the image may be written.
     ensures writer { ReportsWriterFaults W.ToolOutput out.old out.new result }
     ensures beginning { IsErrOf result ToolError.Output
-        → (g : _) × (HasSizesOfLine line.now g × HasWrittenBeginningOfImage g (S.shown source.old) (W.contents out.old) (W.contents out.new)) }
+        → (g : _) × (HasSizesOfCommandLine line.now g × HasWrittenBeginningOfImage g (S.shown source.old) (W.contents out.old) (W.contents out.new)) }
 
     // When each other error comes. The source has a fault at `Input` alone.
     ensures refused { (e : _) → IsErrOf result (ToolError.Fs e) → e ≢ Error.NoMemory
-        → IsErrorWhereNoGeometryHasSizes line.now e ⊎ ((g : _) × (HasSizesOfLine line.now g × RefusesCopyOfSource g (S.shown source.old) e)) }
+        → IsErrorWhereNoGeometryHasSizes line.now e ⊎ ((g : _) × (HasSizesOfCommandLine line.now g × RefusesCopyOfSource g (S.shown source.old) e)) }
     ensures source { ReportsSourceFaults (S.faults source.old) (S.faults source.new) (S.shown source.old) result }
     ensures unread { IsErrorWhereNoGeometryHasSizes line.now Error.Invalid → (source.new ≡ source.old) × IsErrOf result (ToolError.Fs Error.Invalid) }
 {
     match geometry_of_image_sizes(line.size, line.block_size, line.page) {
-        Ok(geometry) => create(alloc, source, geometry.ordered(line.order), out, progress),
+        Ok(geometry) => create(
+            alloc,
+            source,
+            geometry.with_name_order(line.order),
+            out,
+            progress,
+        ),
         Err(error) => Err(ToolError::Fs(error)),
     }
 }

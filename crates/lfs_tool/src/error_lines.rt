@@ -1,9 +1,9 @@
 ghost use Rattle.std.specs.Prelude.{◌≡◌, IfSome, None, false, true};
 ghost use Rattle.std.specs.Io.KnownBytes.{Appends};
 ghost use Rattle.lfs_tool.specs.KnownBytes.{AppendsBeginningOfBytes};
-ghost use Rattle.lfs_tool.specs.ExitStatus.{standard_error_line_of_failure, is_failure_for_help, exit_status_of_failure};
+ghost use Rattle.lfs_tool.specs.ExitStatus.{standard_error_line_of_failure, is_failure_a_help_request, exit_status_of_failure};
 ghost use Rattle.lfs_tool.specs.Errors.{tool_error_line, tool_error_status};
-ghost use Rattle.lfs_tool.specs.Reports.{HasShownOneValue};
+ghost use Rattle.lfs_tool.specs.Reports.{HasWrittenOneValueUnlessFailed};
 
 use crate::output::write_bytes_and_flush;
 use crate::{Fault, ToolError, ToolOutput};
@@ -12,7 +12,7 @@ use lfs_device::Error;
 use lfs_tool_line::LineError;
 
 // Writes a line of the tool's own. A failed write is ignored.
-fn say<E: ToolOutput>(err: &mut E, line: &str, status: u8) -> u8
+fn write_line_and_return_status<E: ToolOutput>(err: &mut E, line: &str, status: u8) -> u8
     ensures status { result ≡ status }
     ensures beginning { AppendsBeginningOfBytes (E.contents err.old) (E.contents err.new) line.now }
     ensures line { E.faults err.new ≡ E.faults err.old → Appends (E.contents err.old) (E.contents err.new) line.now × (E.pending err.new ≡ 0) }
@@ -22,13 +22,13 @@ fn say<E: ToolOutput>(err: &mut E, line: &str, status: u8) -> u8
 }
 
 // Writes the line of an error. A failed write is ignored.
-fn write_error_line<E: ToolOutput>(err: &mut E, error: ToolError) -> u8
+fn write_error_line_and_return_status<E: ToolOutput>(err: &mut E, error: ToolError) -> u8
     ensures status { result ≡ tool_error_status error }
     ensures beginning { AppendsBeginningOfBytes (E.contents err.old) (E.contents err.new) (tool_error_line error) }
     ensures line { E.faults err.new ≡ E.faults err.old → Appends (E.contents err.old) (E.contents err.new) (tool_error_line error) × (E.pending err.new ≡ 0) }
 {
-    let line = error.line();
-    say(err, line.as_str(), error.status())
+    let line = error.error_line_text();
+    write_line_and_return_status(err, line.as_str(), error.exit_status())
 }
 
 /// Shows the error of a run, and returns the status with which the program ends.
@@ -45,23 +45,38 @@ fn write_error_line<E: ToolOutput>(err: &mut E, error: ToolError) -> u8
 /// No promise is made of the parser's text.
 pub fn report<O: ToolOutput, E: ToolOutput>(fault: &Fault, out: &mut O, err: &mut E) -> u8
     ensures status { result ≡ exit_status_of_failure fault.now }
-    ensures out { is_failure_for_help fault.now ≡ false → out.new ≡ out.old }
-    ensures err { is_failure_for_help fault.now ≡ true → err.new ≡ err.old }
+    ensures out { is_failure_a_help_request fault.now ≡ false → out.new ≡ out.old }
+    ensures err { is_failure_a_help_request fault.now ≡ true → err.new ≡ err.old }
     ensures beginning { IfSome (standard_error_line_of_failure fault.now) (AppendsBeginningOfBytes (E.contents err.old) (E.contents err.new)) }
     ensures line { E.faults err.new ≡ E.faults err.old → IfSome (standard_error_line_of_failure fault.now) (λ line. Appends (E.contents err.old) (E.contents err.new) line × (E.pending err.new ≡ 0)) }
 
     // The parser's text is shown, and flushed.
-    ensures help { is_failure_for_help fault.now ≡ true → HasShownOneValue O.ToolOutput out.old out.new }
-    ensures text { standard_error_line_of_failure fault.now ≡ None → is_failure_for_help fault.now ≡ false → HasShownOneValue E.ToolOutput err.old err.new }
+    ensures help { is_failure_a_help_request fault.now ≡ true → HasWrittenOneValueUnlessFailed O.ToolOutput out.old out.new }
+    ensures text { standard_error_line_of_failure fault.now ≡ None → is_failure_a_help_request fault.now ≡ false → HasWrittenOneValueUnlessFailed E.ToolOutput err.old err.new }
 {
     match fault {
-        Fault::Line(LineError::Modes) => say(err, "error: give exactly one of -c, -u, -l\n", 2),
+        Fault::Line(LineError::Modes) => write_line_and_return_status(
+            err,
+            "error: give exactly one of -c, -u, -l\n",
+            2,
+        ),
         Fault::Line(LineError::Order) => {
-            say(err, "error: --order is longer-first or shorter-first\n", 2)
+            write_line_and_return_status(
+                err,
+                "error: --order is longer-first or shorter-first\n",
+                2,
+            )
         }
-        Fault::Line(LineError::NotUtf8) => say(err, "error: the command line is not UTF-8\n", 2),
+        Fault::Line(LineError::NotUtf8) => write_line_and_return_status(
+            err,
+            "error: the command line is not UTF-8\n",
+            2,
+        ),
         Fault::Line(LineError::Parser(error)) => match error.kind() {
-            ErrorKind::OutOfMemory => write_error_line(err, ToolError::Fs(Error::NoMemory)),
+            ErrorKind::OutOfMemory => write_error_line_and_return_status(
+                err,
+                ToolError::Fs(Error::NoMemory),
+            ),
             ErrorKind::DisplayHelp | ErrorKind::DisplayVersion => {
                 let _ = out.show(error);
                 0
@@ -71,6 +86,6 @@ pub fn report<O: ToolOutput, E: ToolOutput>(fault: &Fault, out: &mut O, err: &mu
                 2
             }
         },
-        Fault::Tool(error) => write_error_line(err, *error),
+        Fault::Tool(error) => write_error_line_and_return_status(err, *error),
     }
 }

@@ -1,7 +1,7 @@
 ghost use Rattle.std.specs.Prelude.{◌≡◌};
 ghost use Rattle.lfs_tool.specs.Errors.{tool_error_line, tool_error_status};
 
-use crate::line_text::{LineText, error_text, line_text_of_str};
+use crate::line_text::{LineText, line_text_of_library_error, line_text_of_str};
 use lfs_device::Error;
 use lfs_tool_line::LineError;
 
@@ -43,18 +43,18 @@ impl From<Error> for ToolError {
 
 impl ToolError {
     // Returns the line for the error.
-    pub(crate) fn line(self) -> LineText
+    pub(crate) fn error_line_text(self) -> LineText
         ensures { result.bytes ≡ tool_error_line self }
     {
         match self {
-            ToolError::Fs(error) => error_text(error),
+            ToolError::Fs(error) => line_text_of_library_error(error),
             ToolError::Input => line_text_of_str("error: input\n"),
             ToolError::Output => line_text_of_str("error: output\n"),
         }
     }
 
     // Returns the status with which the program ends.
-    pub(crate) fn status(self) -> u8
+    pub(crate) fn exit_status(self) -> u8
         ensures { result ≡ tool_error_status self }
     {
         match self {

@@ -2,17 +2,17 @@
 
 ghost use Rattle.std.specs.Prelude.{◌≡◌, ◌<◌, ◌≤◌, ◌^◌, List, ℕ, IfErr, IfOk, IfSome, IsErrOf, OnOk, length};
 ghost use Rattle.lfs_tool.specs.WrongNumbers.{IsWrongNumberInImageBytes};
-ghost use Rattle.lfs_tool.specs.CheckResults.{AreBytesNoAcceptedImage, IsCheckResultOfBytes, AreSizesGivenToCheck, IsVerdictOnBytes, IsReasonForRefusedBytes};
-ghost use Rattle.lfs_tool.specs.KnownBytes.{IsErrorOfFailedRead};
+ghost use Rattle.lfs_tool.specs.CheckResults.{AreBytesNoAcceptedImage, IsCheckResultOfBytes, AreReportedSizesThoseGivenToCheck, IsVerdictOnBytes, IsReasonForRefusedBytes};
+ghost use Rattle.lfs_tool.specs.KnownBytes.{IsErrorOfReaderFaultOrNoMemory};
 ghost use Rattle.lfs_tool.specs.Reports.{IsReadToEndOrPastImageLimit};
 
-use crate::check_result::{Checked, Given, Reason};
+use crate::check_result::{CheckResult, GivenSizes, RefusalReason};
 use crate::findings::WrongNumber;
 use crate::image_devices::ram_device_of_image;
 use crate::input::{IMAGE_MAX, read_image};
-use crate::judgement::judge;
+use crate::judgement::judge_image_on_device;
 use crate::superblocks::wrong_superblock_number_in_image;
-use crate::verdict::Verdict;
+use crate::verdict::ImageVerdict;
 use crate::{ImageInput, ToolError};
 use lfs_device::Error;
 use std::alloc::Global;
@@ -23,14 +23,14 @@ fn judge_image(
     image: Vec<u8>,
     block_size: u32,
     page: u32,
-) -> Result<Option<Verdict>, Error>
+) -> Result<Option<ImageVerdict>, Error>
     requires { length image.items < 2 ^ 32 }
     ensures judged { IfOk result (IsVerdictOnBytes block_size page image.items) }
     ensures err { IfErr result (λ e. e ≡ Error.NoMemory) }
 {
     match ram_device_of_image(image, block_size, page) {
         Ok(device) => {
-            let verdict = judge(alloc, device)?;
+            let verdict = judge_image_on_device(alloc, device)?;
             Ok(Some(verdict))
         }
         Err(_) => Ok(None),
@@ -38,15 +38,15 @@ fn judge_image(
 }
 
 // Returns the sizes with which an image of so many bytes is checked.
-fn given_sizes(len: usize, block_size: u32, page: u32) -> Given
-    ensures { (image : List ℕ) → length image ≡ len → AreSizesGivenToCheck block_size page image result }
+fn given_sizes_with_block_count_of_image(len: usize, block_size: u32, page: u32) -> GivenSizes
+    ensures { (image : List ℕ) → length image ≡ len → AreReportedSizesThoseGivenToCheck block_size page image result }
 {
     let blocks = if block_size == 0 {
         0
     } else {
         len / block_size as usize
     };
-    Given {
+    GivenSizes {
         block_size,
         page,
         blocks,
@@ -54,33 +54,44 @@ fn given_sizes(len: usize, block_size: u32, page: u32) -> Given
 }
 
 // Returns the result for an image that isn't accepted. What its superblock states comes first.
-fn refused_check_result(stated: Option<WrongNumber>, reason: Reason, given: Given) -> Checked
+fn refused_check_result(
+    stated: Option<WrongNumber>,
+    reason: RefusalReason,
+    given: GivenSizes,
+) -> CheckResult
     ensures { (block_size : ℕ) (page : ℕ) (image : List ℕ) → AreBytesNoAcceptedImage block_size page image → IfSome stated (IsWrongNumberInImageBytes image block_size)
-        → IsReasonForRefusedBytes block_size page image reason → AreSizesGivenToCheck block_size page image given → IsCheckResultOfBytes block_size page image result }
+        → IsReasonForRefusedBytes block_size page image reason → AreReportedSizesThoseGivenToCheck block_size page image given → IsCheckResultOfBytes block_size page image result }
 {
     let reason = match stated {
-        Some(stated) => Reason::WrongNumber(stated),
+        Some(stated) => RefusalReason::WrongNumber(stated),
         None => reason,
     };
-    Checked::Refused { reason, given }
+    CheckResult::Refused { reason, given }
 }
 
 // Returns the result for the bytes.
 fn check_result_of_verdict(
     stated: Option<WrongNumber>,
-    verdict: Option<Verdict>,
-    given: Given,
-) -> Checked
+    verdict: Option<ImageVerdict>,
+    given: GivenSizes,
+) -> CheckResult
     ensures { (block_size : ℕ) (page : ℕ) (image : List ℕ) → IfSome stated (IsWrongNumberInImageBytes image block_size) → IsVerdictOnBytes block_size page image verdict
-        → AreSizesGivenToCheck block_size page image given → IsCheckResultOfBytes block_size page image result }
+        → AreReportedSizesThoseGivenToCheck block_size page image given → IsCheckResultOfBytes block_size page image result }
 {
     match verdict {
-        Some(Verdict::Accepted { summary, orders }) => Checked::Accepted { summary, orders },
-        Some(Verdict::Refused(Some(finding))) => {
-            refused_check_result(stated, Reason::Broken(finding), given)
+        Some(ImageVerdict::Accepted { summary, orders }) => CheckResult::Accepted {
+            summary,
+            orders,
+        },
+        Some(ImageVerdict::Refused(Some(finding))) => {
+            refused_check_result(stated, RefusalReason::Broken(finding), given)
         }
-        Some(Verdict::Refused(None)) => refused_check_result(stated, Reason::Other, given),
-        None => refused_check_result(stated, Reason::NoImage, given),
+        Some(ImageVerdict::Refused(None)) => refused_check_result(
+            stated,
+            RefusalReason::Other,
+            given,
+        ),
+        None => refused_check_result(stated, RefusalReason::NoImage, given),
     }
 }
 
@@ -90,12 +101,12 @@ fn check_result_of_bytes(
     image: Vec<u8>,
     block_size: u32,
     page: u32,
-) -> Result<Checked, Error>
+) -> Result<CheckResult, Error>
     requires { length image.items < 2 ^ 32 }
     ensures checked { IfOk result (IsCheckResultOfBytes block_size page image.items) }
     ensures err { IfErr result (λ e. e ≡ Error.NoMemory) }
 {
-    let given = given_sizes(image.len(), block_size, page);
+    let given = given_sizes_with_block_count_of_image(image.len(), block_size, page);
     let stated = wrong_superblock_number_in_image(&image, block_size);
     let verdict = judge_image(alloc, image, block_size, page)?;
     Ok(check_result_of_verdict(stated, verdict, given))
@@ -116,16 +127,16 @@ pub fn check_result_of_image<R: ImageInput>(
     image: &mut R,
     block_size: u32,
     page: u32,
-) -> Result<Checked, ToolError>
+) -> Result<CheckResult, ToolError>
     ensures checked { IfOk result (λ checked. IfSome (R.remaining image.old) (λ bytes. IsCheckResultOfBytes block_size page bytes checked)) }
     ensures kept { OnOk result (R.faults image.new ≡ R.faults image.old) }
-    ensures err { IfErr result (λ e. IsErrorOfFailedRead e (R.faults image.old) (R.faults image.new)) }
+    ensures err { IfErr result (λ e. IsErrorOfReaderFaultOrNoMemory e (R.faults image.old) (R.faults image.new)) }
     ensures read { ¬ IsErrOf result ToolError.Input → ¬ IsErrOf result (ToolError.Fs Error.NoMemory) → IsReadToEndOrPastImageLimit (R.remaining image.old) (R.remaining image.new) }
 {
     let bytes = read_image(alloc, image)?;
     if bytes.len() > IMAGE_MAX {
-        let given = given_sizes(bytes.len(), block_size, page);
-        return Ok(refused_check_result(None, Reason::NoImage, given));
+        let given = given_sizes_with_block_count_of_image(bytes.len(), block_size, page);
+        return Ok(refused_check_result(None, RefusalReason::NoImage, given));
     }
     let checked = check_result_of_bytes(alloc, bytes, block_size, page)?;
     Ok(checked)

@@ -1,9 +1,9 @@
 ghost use Rattle.std.specs.Prelude.{◌≡◌, ◌≤◌, ◌<◌, ◌+◌, ◌%◌, [], ◌∷◌, true, false, length, slice_range, All, IsOk, IsErrOf};
-ghost use Rattle.lfs_model.specs.Blocks.{block_bytes_in};
-ghost use Rattle.lfs_model.specs.History.{call_event_with, AreBytesUnprogrammed, IsLeftByNewestCall};
-ghost use Rattle.lfs_model.specs.History.Call.{Read, Program, Erase};
-ghost use Rattle.lfs_model.specs.Conformance.{AreConformingCalls};
-ghost use Rattle.lfs_tool.specs.ExcerptBlocks.{IsNoFailedRead, AreExcerptsOfBlockSize, blocks_of_excerpts};
+ghost use Rattle.lfs_model.specs.Blocks.{block_bytes_by_number};
+ghost use Rattle.lfs_model.specs.History.{device_call_event_with_blocks, AreBytesUnprogrammed, AreBlocksLeftByNewestCall};
+ghost use Rattle.lfs_model.specs.History.DeviceCall.{Read, Program, Erase};
+ghost use Rattle.lfs_model.specs.Conformance.{AreConformingDeviceCalls};
+ghost use Rattle.lfs_tool.specs.ExcerptBlocks.{IsDeviceCallNoFailedRead, AreExcerptsOfBlocksWithSize, blocks_of_excerpts};
 
 use crate::BlockExcerpt;
 use lfs_device::{BlockDevice, Error, Geometry, Trace};
@@ -17,44 +17,44 @@ pub struct Excerpt {
     blocks: Vec<BlockExcerpt>,
     trace: Trace,
     ghost count: { length blocks.items ≡ geometry.block_count },
-    ghost sizes: { AreExcerptsOfBlockSize geometry.block_size blocks.items },
-    pub ghost has_read: { All IsNoFailedRead trace.events },
-    ghost newest: { IsLeftByNewestCall trace.events (blocks_of_excerpts blocks.items) },
-    ghost conforms: { AreConformingCalls trace.events },
+    ghost sizes: { AreExcerptsOfBlocksWithSize geometry.block_size blocks.items },
+    pub ghost has_read: { All IsDeviceCallNoFailedRead trace.events },
+    ghost newest: { AreBlocksLeftByNewestCall trace.events (blocks_of_excerpts blocks.items) },
+    ghost conforms: { AreConformingDeviceCalls trace.events },
 }
 
 impl Excerpt {
-    ghost use Rattle.lfs_tool.specs.ExcerptView.{excerpt_blocks, geometry_of, history_of};
+    ghost use Rattle.lfs_tool.specs.ExcerptView.{excerpt_blocks, geometry_of_excerpt_device, call_history_of_excerpt_device};
 
     /// Makes the device of these blocks. There are as many as the geometry has, of its size.
     pub fn new(geometry: Geometry, blocks: Vec<BlockExcerpt>) -> Excerpt
         requires count { length blocks.items ≡ geometry.block_count }
-        requires sizes { AreExcerptsOfBlockSize geometry.block_size blocks.items }
-        ensures geometry { geometry_of result ≡ geometry }
+        requires sizes { AreExcerptsOfBlocksWithSize geometry.block_size blocks.items }
+        ensures geometry { geometry_of_excerpt_device result ≡ geometry }
         ensures blocks { excerpt_blocks result ≡ blocks_of_excerpts blocks.items }
-        ensures no_call { history_of result ≡ [] }
+        ensures no_call { call_history_of_excerpt_device result ≡ [] }
     {
         Excerpt {
             geometry,
             blocks,
-            trace: Trace::from_proof(&geometry, &()),
+            trace: Trace::with_history_chosen_by_proof(&geometry, &()),
         }
     }
 }
 
 impl BlockDevice for Excerpt {
-    ghost use Rattle.lfs_tool.specs.ExcerptView.{excerpt_blocks, geometry_of, history_of};
-    ghost use Rattle.lfs_tool.specs.ExcerptShape.{bytes_shown, excerpts_show_blocks_of_size};
+    ghost use Rattle.lfs_tool.specs.ExcerptView.{excerpt_blocks, geometry_of_excerpt_device, call_history_of_excerpt_device};
+    ghost use Rattle.lfs_tool.specs.ExcerptShape.{values_in_excerpt_blocks_are_bytes, blocks_of_excerpts_have_size};
 
-    ghost geometry = { geometry_of };
+    ghost geometry = { geometry_of_excerpt_device };
 
     ghost blocks = { excerpt_blocks };
 
-    ghost history = { history_of };
+    ghost history = { call_history_of_excerpt_device };
 
-    ghost shape = { λ e. excerpts_show_blocks_of_size e.geometry.block_size e.geometry.block_count e.blocks.items e.count e.sizes };
+    ghost shape = { λ e. blocks_of_excerpts_have_size e.geometry.block_size e.geometry.block_count e.blocks.items e.count e.sizes };
 
-    ghost bytes = { λ e. bytes_shown e.blocks.items };
+    ghost bytes = { λ e. values_in_excerpt_blocks_are_bytes e.blocks.items };
 
     ghost newest = { λ e. e.newest };
 
@@ -65,42 +65,42 @@ impl BlockDevice for Excerpt {
     }
 
     fn read(&mut self, block: u32, off: u32, buf: &mut [u8]) -> Result<(), Error>
-        requires in_device { block < (geometry_of self.old).block_count }
-        requires in_block { off + length buf.old ≤ (geometry_of self.old).block_size }
+        requires in_device { block < (geometry_of_excerpt_device self.old).block_count }
+        requires in_block { off + length buf.old ≤ (geometry_of_excerpt_device self.old).block_size }
         ensures ok { IsOk result }
-        ensures bytes { buf.new ≡ slice_range (block_bytes_in (excerpt_blocks self.old) block) off (off + length buf.old) }
+        ensures bytes { buf.new ≡ slice_range (block_bytes_by_number (excerpt_blocks self.old) block) off (off + length buf.old) }
         ensures same { excerpt_blocks self.new ≡ excerpt_blocks self.old }
-        ensures geometry { geometry_of self.new ≡ geometry_of self.old }
-        ensures history { history_of self.new ≡ call_event_with (Read block off (length buf.old)) (excerpt_blocks self.old) (excerpt_blocks self.new) false ∷ history_of self.old }
+        ensures geometry { geometry_of_excerpt_device self.new ≡ geometry_of_excerpt_device self.old }
+        ensures history { call_history_of_excerpt_device self.new ≡ device_call_event_with_blocks (Read block off (length buf.old)) (excerpt_blocks self.old) (excerpt_blocks self.new) false ∷ call_history_of_excerpt_device self.old }
     {
         self.blocks[block as usize].read(off as usize, buf);
-        self.trace = Trace::from_proof(self, &(block, off, buf.len()));
+        self.trace = Trace::with_history_chosen_by_proof(self, &(block, off, buf.len()));
         Ok(())
     }
 
     fn prog(&mut self, block: u32, off: u32, bytes: &[u8]) -> Result<(), Error>
-        requires in_device { block < (geometry_of self.old).block_count }
-        requires in_block { off + length bytes.now ≤ (geometry_of self.old).block_size }
-        requires begins { off % (geometry_of self.old).page ≡ 0 }
-        requires ends { (off + length bytes.now) % (geometry_of self.old).page ≡ 0 }
-        requires unprogrammed { AreBytesUnprogrammed (history_of self.old) block off (off + length bytes.now) }
+        requires in_device { block < (geometry_of_excerpt_device self.old).block_count }
+        requires in_block { off + length bytes.now ≤ (geometry_of_excerpt_device self.old).block_size }
+        requires begins { off % (geometry_of_excerpt_device self.old).page ≡ 0 }
+        requires ends { (off + length bytes.now) % (geometry_of_excerpt_device self.old).page ≡ 0 }
+        requires unprogrammed { AreBytesUnprogrammed (call_history_of_excerpt_device self.old) block off (off + length bytes.now) }
         ensures err { IsErrOf result Error.Io }
         ensures same { excerpt_blocks self.new ≡ excerpt_blocks self.old }
-        ensures geometry { geometry_of self.new ≡ geometry_of self.old }
-        ensures history { history_of self.new ≡ call_event_with (Program block off bytes.now) (excerpt_blocks self.old) (excerpt_blocks self.new) true ∷ history_of self.old }
+        ensures geometry { geometry_of_excerpt_device self.new ≡ geometry_of_excerpt_device self.old }
+        ensures history { call_history_of_excerpt_device self.new ≡ device_call_event_with_blocks (Program block off bytes.now) (excerpt_blocks self.old) (excerpt_blocks self.new) true ∷ call_history_of_excerpt_device self.old }
     {
-        self.trace = Trace::from_proof(self, &(block, off, bytes));
+        self.trace = Trace::with_history_chosen_by_proof(self, &(block, off, bytes));
         Err(Error::Io)
     }
 
     fn erase(&mut self, block: u32) -> Result<(), Error>
-        requires { block < (geometry_of self.old).block_count }
+        requires { block < (geometry_of_excerpt_device self.old).block_count }
         ensures err { IsErrOf result Error.Io }
         ensures same { excerpt_blocks self.new ≡ excerpt_blocks self.old }
-        ensures geometry { geometry_of self.new ≡ geometry_of self.old }
-        ensures history { history_of self.new ≡ call_event_with (Erase block) (excerpt_blocks self.old) (excerpt_blocks self.new) true ∷ history_of self.old }
+        ensures geometry { geometry_of_excerpt_device self.new ≡ geometry_of_excerpt_device self.old }
+        ensures history { call_history_of_excerpt_device self.new ≡ device_call_event_with_blocks (Erase block) (excerpt_blocks self.old) (excerpt_blocks self.new) true ∷ call_history_of_excerpt_device self.old }
     {
-        self.trace = Trace::from_proof(self, &block);
+        self.trace = Trace::with_history_chosen_by_proof(self, &block);
         Err(Error::Io)
     }
 }

@@ -3,8 +3,8 @@
 ghost use Rattle.std.specs.Prelude.{◌≡◌, ◌++◌, IfOk, OnOk};
 ghost use Rattle.lfs_tool.specs.Explained.{enough_blocks_text, explanation_text, path_fault_text, needed_blocks_text, broken_size_rule_text};
 
-use crate::check_result::Checked;
-use crate::checked_lines::{checked_lines, push_number, push_text};
+use crate::check_result::CheckResult;
+use crate::checked_lines::{lines_of_check_result, push_labelled_number, push_text};
 use crate::escape::push_escaped_path;
 use crate::needed_blocks::NeededBlocks;
 use lfs_tool_folders::PathFault;
@@ -17,7 +17,7 @@ pub enum Explanation {
     /// A file or a folder met this fault.
     Place(PathFault),
     /// What a check says of the image.
-    Checked(Checked),
+    Checked(CheckResult),
     /// The sizes, and a rule that they break.
     Sizes(Sizes, Option<SizeRule>),
     /// The blocks are too few.
@@ -46,7 +46,7 @@ fn push_broken_size_rule(
     ensures { OnOk result (text.new.items ≡ text.old.items ++ broken_size_rule_text sizes rule) }
 {
     match rule {
-        Some(rule) => sizes.push_line(text, rule),
+        Some(rule) => sizes.push_broken_rule_line(text, rule),
         None => Ok(()),
     }
 }
@@ -56,7 +56,7 @@ fn push_enough_blocks(text: &mut Vec<u8>, enough: Option<u32>) -> Result<(), All
     ensures { OnOk result (text.new.items ≡ text.old.items ++ enough_blocks_text enough) }
 {
     match enough {
-        Some(enough) => push_number(text, ", it takes ", enough as usize),
+        Some(enough) => push_labelled_number(text, ", it takes ", enough as usize),
         None => Ok(()),
     }
 }
@@ -65,7 +65,7 @@ fn push_enough_blocks(text: &mut Vec<u8>, enough: Option<u32>) -> Result<(), All
 fn push_needed_blocks(text: &mut Vec<u8>, needed: NeededBlocks) -> Result<(), AllocError>
     ensures { OnOk result (text.new.items ≡ text.old.items ++ needed_blocks_text needed) }
 {
-    push_number(text, "", needed.blocks as usize)?;
+    push_labelled_number(text, "", needed.blocks as usize)?;
     push_text(text, " blocks are too few")?;
     push_enough_blocks(text, needed.enough)?;
     text.push(b'\n')?;
@@ -82,7 +82,7 @@ pub(crate) fn explanation_lines(
     let mut text = Vec::new(alloc);
     match explanation {
         Explanation::Place(fault) => push_path_fault(&mut text, fault)?,
-        Explanation::Checked(checked) => return checked_lines(alloc, checked),
+        Explanation::Checked(checked) => return lines_of_check_result(alloc, checked),
         Explanation::Sizes(sizes, rule) => push_broken_size_rule(&mut text, *sizes, *rule)?,
         Explanation::Blocks(needed) => push_needed_blocks(&mut text, *needed)?,
         Explanation::Nothing => {}

@@ -1,14 +1,14 @@
 // The cause for which a command line wasn't carried out.
 
 ghost use Rattle.std.specs.Prelude.{◌≡◌, IfErr, IfOk, IfSome, length, take};
-ghost use Rattle.lfs_tool.specs.Explained.{FailsToCountNeededBlocks, FailsToReadImage, ExplainsTooFewBlocks, ExplainsBrokenSizeRule, ExplainsByCheck, IsImageSizeOfLine, ExplainsError, IsPathFaultOrNothing, IsErrorFollowed, IsErrorInsteadOfExplanation, IsErrorInsteadOfLines, ExplainsNeededBlocksOfFolder, WritesWhy, explanation_text, unexplained_text};
+ghost use Rattle.lfs_tool.specs.Explained.{FailsToCountNeededBlocks, FailsToReadImage, ExplainsTooFewBlocks, ExplainsBrokenSizeRule, ExplainsErrorByImageCheck, IsSizeOfMadeOrReadImage, ExplainsError, IsExplanationPathFaultOrNothing, IsErrorFollowedByExplanationIfRequested, IsErrorInsteadOfExplanation, IsErrorInsteadOfExplanationOrItsLines, ExplainsNeededBlocksOfFolder, WritesExplanationOrErrorInstead, explanation_text, not_explained_text};
 ghost use Rattle.lfs_tool.specs.Reports.{WritesTextOrFails};
-ghost use Rattle.lfs_tool.specs.RunsAtPaths.{IsTrueAtPath, IsTrueForMode};
+ghost use Rattle.lfs_tool.specs.RunsAtPaths.{IsTrueOfSomethingAtPath, IsTrueForMode};
 
 use crate::creation::read_source_entries;
 use crate::explanation::{Explanation, explanation_lines};
 use crate::input::{IMAGE_MAX, read_image};
-use crate::needed_blocks::{NeededBlocks, enough_block_count_for_entries};
+use crate::needed_blocks::{NeededBlocks, just_enough_block_count_for_entries};
 use crate::{
     Line, Mode, Places, ToolError, ToolOutput, check_result_of_image, geometry_of_image_sizes,
     write_bytes_and_flush,
@@ -25,7 +25,7 @@ fn image_size_at_path<P: Places>(
     places: &P,
     line: &Line<'_>,
 ) -> Result<usize, ToolError>
-    ensures size { IfOk result (λ size. IsTrueAtPath P.image_path line.now.image.now (λ i. IfSome (P.Image.remaining i) (λ image. size ≡ length (take 268435457 image)))) }
+    ensures size { IfOk result (λ size. IsTrueOfSomethingAtPath P.image_path line.now.image.now (λ i. IfSome (P.Image.remaining i) (λ image. size ≡ length (take 268435457 image)))) }
     ensures err { IfErr result (FailsToReadImage P.image_path P.Image.faults line.now) }
 {
     let mut image = places.image(line.image)?;
@@ -34,12 +34,12 @@ fn image_size_at_path<P: Places>(
 }
 
 // Returns the size in bytes of a line's image: of the one to be made, or of the one that is there.
-fn image_size_of_line<P: Places>(
+fn size_of_made_or_read_image<P: Places>(
     alloc: Global,
     places: &P,
     line: &Line<'_>,
 ) -> Result<usize, ToolError>
-    ensures size { IfOk result (IsImageSizeOfLine P.image_path P.Image.remaining line.now) }
+    ensures size { IfOk result (IsSizeOfMadeOrReadImage P.image_path P.Image.remaining line.now) }
     ensures err { IfErr result (λ e. IsTrueForMode line.now.mode (FailsToReadImage P.image_path P.Image.faults line.now e) (FailsToReadImage P.image_path P.Image.faults line.now e) (λ _. ⊥) (λ _. FailsToReadImage P.image_path P.Image.faults line.now e)) }
 {
     match line.mode {
@@ -49,7 +49,7 @@ fn image_size_of_line<P: Places>(
 }
 
 // Returns the sizes of that image, and the rule that they break.
-fn explanation_by_sizes<P: Places>(
+fn explanation_by_broken_size_rule<P: Places>(
     alloc: Global,
     places: &P,
     line: &Line<'_>,
@@ -57,7 +57,7 @@ fn explanation_by_sizes<P: Places>(
     ensures sizes { IfOk result (ExplainsBrokenSizeRule P.image_path P.Image.remaining line.now) }
     ensures err { IfErr result (λ e. IsTrueForMode line.now.mode (FailsToReadImage P.image_path P.Image.faults line.now e) (FailsToReadImage P.image_path P.Image.faults line.now e) (λ _. ⊥) (λ _. FailsToReadImage P.image_path P.Image.faults line.now e)) }
 {
-    let size = image_size_of_line(alloc, places, line)?;
+    let size = size_of_made_or_read_image(alloc, places, line)?;
     let sizes = Sizes {
         size,
         block_size: line.block_size,
@@ -73,7 +73,7 @@ fn explanation_by_check<P: Places>(
     places: &P,
     line: &Line<'_>,
 ) -> Result<Explanation, ToolError>
-    ensures checked { IfOk result (ExplainsByCheck P.image_path P.Image.remaining line.now) }
+    ensures checked { IfOk result (ExplainsErrorByImageCheck P.image_path P.Image.remaining line.now) }
     ensures err { IfErr result (FailsToReadImage P.image_path P.Image.faults line.now) }
 {
     let mut image = places.image(line.image)?;
@@ -82,8 +82,8 @@ fn explanation_by_check<P: Places>(
 }
 
 // Returns the fault that a file or a folder met.
-fn explanation_by_fault<P: Places>(places: &P) -> Explanation
-    ensures { IsPathFaultOrNothing result }
+fn explanation_by_path_fault<P: Places>(places: &P) -> Explanation
+    ensures { IsExplanationPathFaultOrNothing result }
 {
     match places.fault() {
         Some(fault) => Explanation::Place(fault),
@@ -106,12 +106,12 @@ fn explanation_by_needed_blocks<P: Places>(
     let mut source = places.folder(folder, IMAGE_MAX as u32)?;
     let entries = read_source_entries(alloc, &mut source)?;
     let blocks = geometry.block_count;
-    let enough = enough_block_count_for_entries(alloc, line, entries.as_slice(), blocks);
+    let enough = just_enough_block_count_for_entries(alloc, line, entries.as_slice(), blocks);
     Ok(Explanation::Blocks(NeededBlocks { blocks, enough }))
 }
 
 // Returns how many blocks a line's image takes.
-fn blocks_at<P: Places>(
+fn explanation_of_too_few_blocks<P: Places>(
     alloc: Global,
     places: &P,
     line: &Line<'_>,
@@ -142,15 +142,15 @@ pub fn explanation_of_error<P: Places>(
     ensures err { IfErr result (IsErrorInsteadOfExplanation P.image_path P.Image.faults P.folder_path P.Folder.faults P.Folder.shown line.now error) }
 {
     match error {
-        ToolError::Input | ToolError::Output => Ok(explanation_by_fault(places)),
-        ToolError::Fs(Error::Invalid) => explanation_by_sizes(alloc, places, line),
+        ToolError::Input | ToolError::Output => Ok(explanation_by_path_fault(places)),
+        ToolError::Fs(Error::Invalid) => explanation_by_broken_size_rule(alloc, places, line),
         ToolError::Fs(Error::Corrupt) => explanation_by_check(alloc, places, line),
-        ToolError::Fs(Error::NoSpace) => blocks_at(alloc, places, line),
+        ToolError::Fs(Error::NoSpace) => explanation_of_too_few_blocks(alloc, places, line),
         ToolError::Fs(_) => Ok(Explanation::Nothing),
     }
 }
 
-// Returns the lines that explain the error in which a command line ended.
+// Returns the lines that write_explanation_if_requested the error in which a command line ended.
 fn explanation_lines_of_error<P: Places>(
     alloc: Global,
     places: &P,
@@ -158,7 +158,7 @@ fn explanation_lines_of_error<P: Places>(
     error: ToolError,
 ) -> Result<Vec<u8>, ToolError>
     ensures ok { IfOk result (λ text. (e : _) × (ExplainsError P.image_path P.Image.remaining P.folder_path P.folder_limit P.Folder.shown line.now error e × (text.items ≡ explanation_text e))) }
-    ensures err { IfErr result (IsErrorInsteadOfLines P.image_path P.Image.faults P.folder_path P.Folder.faults P.Folder.shown line.now error) }
+    ensures err { IfErr result (IsErrorInsteadOfExplanationOrItsLines P.image_path P.Image.faults P.folder_path P.Folder.faults P.Folder.shown line.now error) }
 {
     let explanation = match explanation_of_error(alloc, places, line, error) {
         Ok(explanation) => explanation,
@@ -178,42 +178,42 @@ fn write_explanation_lines<E: ToolOutput>(err: &mut E, lines: &[u8])
 }
 
 // Writes which error comes in place of an explanation, without memory.
-fn write_error_instead<E: ToolOutput>(err: &mut E, error: ToolError)
-    ensures { WritesTextOrFails E.ToolOutput (unexplained_text error) err.old err.new }
+fn write_error_in_place_of_explanation<E: ToolOutput>(err: &mut E, error: ToolError)
+    ensures { WritesTextOrFails E.ToolOutput (not_explained_text error) err.old err.new }
 {
     let mut text = ArrayString::<64>::new();
     text.push_str("not explained: ");
-    text.push_str(error.line().as_str());
+    text.push_str(error.error_line_text().as_str());
     write_explanation_lines(err, text.as_str().as_bytes());
 }
 
 // Writes the cause for which a line ended in this error, or the error that comes in place of it.
-fn explain_error<P: Places, E: ToolOutput>(
+fn write_explanation_of_error<P: Places, E: ToolOutput>(
     alloc: Global,
     places: &P,
     line: &Line<'_>,
     error: ToolError,
     err: &mut E,
 )
-    ensures { WritesWhy P.image_path P.Image.remaining P.Image.faults P.folder_path P.folder_limit P.Folder.faults P.Folder.shown E.ToolOutput line.now error err.old err.new }
+    ensures { WritesExplanationOrErrorInstead P.image_path P.Image.remaining P.Image.faults P.folder_path P.folder_limit P.Folder.faults P.Folder.shown E.ToolOutput line.now error err.old err.new }
 {
     match explanation_lines_of_error(alloc, places, line, error) {
         Ok(text) => write_explanation_lines(err, text.as_slice()),
-        Err(error) => write_error_instead(err, error),
+        Err(error) => write_error_in_place_of_explanation(err, error),
     }
 }
 
 // Writes the cause after the line of an error, where the command line requests it.
-pub(crate) fn explain<P: Places, E: ToolOutput>(
+pub(crate) fn write_explanation_if_requested<P: Places, E: ToolOutput>(
     alloc: Global,
     places: &P,
     line: &Line<'_>,
     error: ToolError,
     err: &mut E,
 )
-    ensures { IsErrorFollowed P.image_path P.Image.remaining P.Image.faults P.folder_path P.folder_limit P.Folder.faults P.Folder.shown E.ToolOutput line.now error err.old err.new }
+    ensures { IsErrorFollowedByExplanationIfRequested P.image_path P.Image.remaining P.Image.faults P.folder_path P.folder_limit P.Folder.faults P.Folder.shown E.ToolOutput line.now error err.old err.new }
 {
     if line.explain {
-        explain_error(alloc, places, line, error, err);
+        write_explanation_of_error(alloc, places, line, error, err);
     }
 }

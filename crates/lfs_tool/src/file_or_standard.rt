@@ -16,14 +16,14 @@ pub enum FileOrStandard<F, S> {
 }
 
 // Returns whether a path names a standard stream.
-pub(crate) fn names_standard(path: &str) -> bool
+pub(crate) fn is_standard_stream_path(path: &str) -> bool
     ensures { result ≡ is_path_of_standard_stream path.now }
 {
     path == "-"
 }
 
 // The error of a standard stream that was taken before.
-fn was_taken() -> io::Error {
+fn error_of_standard_stream_reuse() -> io::Error {
     io::Error::new(
         ErrorKind::Unsupported,
         "a standard stream is used only once",
@@ -41,7 +41,7 @@ impl<F: Read, S: Read> Read for FileOrStandard<F, S> {
         match self {
             FileOrStandard::File(file) => file.read(buf),
             FileOrStandard::Standard(Some(stream)) => stream.read(buf),
-            FileOrStandard::Standard(None) => Err(was_taken()),
+            FileOrStandard::Standard(None) => Err(error_of_standard_stream_reuse()),
         }
     }
 }
@@ -57,7 +57,7 @@ impl<F: Write, S: Write> Write for FileOrStandard<F, S> {
         match self {
             FileOrStandard::File(file) => file.write(buf),
             FileOrStandard::Standard(Some(stream)) => stream.write(buf),
-            FileOrStandard::Standard(None) => Err(was_taken()),
+            FileOrStandard::Standard(None) => Err(error_of_standard_stream_reuse()),
         }
     }
 
@@ -68,7 +68,7 @@ impl<F: Write, S: Write> Write for FileOrStandard<F, S> {
         match self {
             FileOrStandard::File(file) => file.flush(),
             FileOrStandard::Standard(Some(stream)) => stream.flush(),
-            FileOrStandard::Standard(None) => Err(was_taken()),
+            FileOrStandard::Standard(None) => Err(error_of_standard_stream_reuse()),
         }
     }
 }

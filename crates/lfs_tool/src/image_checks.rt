@@ -3,12 +3,12 @@
 ghost use Rattle.std.specs.Prelude.{◌≡◌, IfOk, IfSome, IsErrOf};
 ghost use Rattle.std.specs.Io.KnownBytes.{Appends};
 ghost use Rattle.lfs_tool.specs.KnownBytes.{AppendsBeginningOfBytes};
-ghost use Rattle.lfs_tool.specs.Reports.{IsReadToEndOrPastImageLimit, IsErrorExactlyWithOneFault, ReportsWriterFaults};
-ghost use Rattle.lfs_tool.specs.CheckResults.{IsCheckResultOfBytes, is_accepted};
+ghost use Rattle.lfs_tool.specs.Reports.{IsReadToEndOrPastImageLimit, IsThisErrorExactlyIfOneCallFailed, ReportsWriterFaults};
+ghost use Rattle.lfs_tool.specs.CheckResults.{IsCheckResultOfBytes, is_accepted_check_result};
 ghost use Rattle.lfs_tool.specs.CheckedLines.{check_result_text};
 
-use crate::check_result::Checked;
-use crate::checked_lines::checked_lines;
+use crate::check_result::CheckResult;
+use crate::checked_lines::lines_of_check_result;
 use crate::examination::check_result_of_image;
 use crate::output::write_bytes_and_flush;
 use crate::{ImageInput, ToolError, ToolOutput};
@@ -16,12 +16,12 @@ use lfs_device::Error;
 use std::alloc::Global;
 
 // Returns whether the image was accepted.
-fn is_accepted(checked: &Checked) -> bool
-    ensures { result ≡ is_accepted checked.now }
+fn is_check_result_accepted(checked: &CheckResult) -> bool
+    ensures { result ≡ is_accepted_check_result checked.now }
 {
     match checked {
-        Checked::Accepted { .. } => true,
-        Checked::Refused { .. } => false,
+        CheckResult::Accepted { .. } => true,
+        CheckResult::Refused { .. } => false,
     }
 }
 
@@ -44,7 +44,7 @@ pub fn check<R: ImageInput, W: ToolOutput>(
     out: &mut W,
 ) -> Result<bool, ToolError>
     ensures ok { IfOk result (λ accepted. IfSome (R.remaining image.old) (λ bytes.
-        (checked : _) × (IsCheckResultOfBytes block_size page bytes checked × (accepted ≡ is_accepted checked) × Appends (W.contents out.old) (W.contents out.new) (check_result_text checked)))) }
+        (checked : _) × (IsCheckResultOfBytes block_size page bytes checked × (accepted ≡ is_accepted_check_result checked) × Appends (W.contents out.old) (W.contents out.new) (check_result_text checked)))) }
 
     // The writer isn't called, unless it fails: then a beginning of the lines may be written.
     ensures writer { ReportsWriterFaults W.ToolOutput out.old out.new result }
@@ -53,14 +53,14 @@ pub fn check<R: ImageInput, W: ToolOutput>(
 
     // When each other error comes.
     ensures refused { (e : _) → IsErrOf result (ToolError.Fs e) → e ≡ Error.NoMemory }
-    ensures input { IsErrorExactlyWithOneFault ToolError.Input (R.faults image.old) (R.faults image.new) result }
+    ensures input { IsThisErrorExactlyIfOneCallFailed ToolError.Input (R.faults image.old) (R.faults image.new) result }
     ensures read { ¬ IsErrOf result ToolError.Input → ¬ IsErrOf result (ToolError.Fs Error.NoMemory) → IsReadToEndOrPastImageLimit (R.remaining image.old) (R.remaining image.new) }
 {
     let checked = check_result_of_image(alloc, image, block_size, page)?;
-    let text = match checked_lines(alloc, &checked) {
+    let text = match lines_of_check_result(alloc, &checked) {
         Ok(text) => text,
         Err(_) => return Err(ToolError::Fs(Error::NoMemory)),
     };
     write_bytes_and_flush(out, text.as_slice())?;
-    Ok(is_accepted(&checked))
+    Ok(is_check_result_accepted(&checked))
 }

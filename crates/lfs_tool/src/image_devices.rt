@@ -1,31 +1,31 @@
 // Images as devices.
 
 ghost use Rattle.std.specs.Prelude.{◌≡◌, ◌<◌, ◌/◌, ◌%◌, ◌^◌, [], List, IfErr, IfOk, OnOk, length};
-ghost use Rattle.lfs_device.specs.RamDevice.{ram_blocks, geometry_of, history_of};
-ghost use Rattle.lfs_device.specs.Shown.{disk_of_geometry_and_blocks as shown, ordered};
+ghost use Rattle.lfs_device.specs.RamDevice.{ram_blocks, geometry_of_ram_device, history_of_ram_device};
+ghost use Rattle.lfs_device.specs.Shown.{disk_of_geometry_and_blocks as shown, disk_with_name_order};
 ghost use Rattle.lfs_model.specs.Disk.{IsImageOfWholeBlocks, disk_of_image};
 ghost use Rattle.lfs_model.specs.Geometry.{IsValidGeometry};
 ghost use Rattle.lfs_model.specs.Thread.{Pair};
 ghost use Rattle.lfs_model.specs.View.{IsAcceptedImage};
 ghost use Rattle.lfs_model.specs.declared.order.NameOrder.{NameOrder};
-ghost use Rattle.lfs_tool.specs.ExcerptBlocks.{AreExcerptsOfBlockSize};
+ghost use Rattle.lfs_tool.specs.ExcerptBlocks.{AreExcerptsOfBlocksWithSize};
 ghost use Rattle.lfs_tool.specs.ExcerptView as excerpt;
 ghost use Rattle.lfs_mount.specs.Device.{IsIoCorruptOrNoMemory};
 ghost use Rattle.lfs_mount.specs.Either.{ReturnsUnchangedDeviceWithError};
 ghost use Rattle.lfs_thread.specs.Kept.{disk_of_device};
-ghost use Rattle.lfs_tool.specs.Blocks.{ExcerptShowsBlocks};
-ghost use Rattle.lfs_tool.specs.Listings.{IsThreadWithWalkedPlaces, IsMountErrorOfDisk};
+ghost use Rattle.lfs_tool.specs.Blocks.{DeviceOfExcerptHasTheseBlocksAndSizes};
+ghost use Rattle.lfs_tool.specs.Listings.{IsThreadWithEntriesOfTreeWalk, IsMountErrorOfDisk};
 ghost use Rattle.lfs_lookup.specs.Walk.{tree_items_view};
 
 use crate::{BlockExcerpt, Excerpt, excerpt_is_read_without_fault};
 use lfs_device::{BlockDevice, Error, Geometry, Ordered, RamDevice};
-use lfs_lookup::{TreeItem, walk};
-use lfs_mount::mount_either;
+use lfs_lookup::{TreeItem, walk_tree};
+use lfs_mount::mount_with_either_name_order;
 use lfs_thread::Thread;
 use std::alloc::Global;
 
 // Returns the geometry of an image of so many bytes.
-fn geometry_of(len: usize, block_size: u32, page: u32) -> Result<Geometry, Error>
+fn geometry_of_image_length(len: usize, block_size: u32, page: u32) -> Result<Geometry, Error>
     requires { len < 2 ^ 32 }
     ensures sizes { IfOk result (λ g. (g.block_size ≡ block_size) × (g.page ≡ page)) }
     ensures count { IfOk result (λ g. (g.block_count ≡ len / block_size) × (len % block_size ≡ 0)) }
@@ -46,11 +46,11 @@ pub(crate) fn ram_device_of_image(
 ) -> Result<RamDevice, Error>
     requires { length image.items < 2 ^ 32 }
     ensures image { OnOk result (IsImageOfWholeBlocks block_size page image.items) }
-    ensures disk { IfOk result (λ d. (order : NameOrder) → ordered order (shown (geometry_of d) (ram_blocks d)) ≡ disk_of_image block_size page order image.items) }
-    ensures no_call { IfOk result (λ d. history_of d ≡ []) }
+    ensures disk { IfOk result (λ d. (order : NameOrder) → disk_with_name_order order (shown (geometry_of_ram_device d) (ram_blocks d)) ≡ disk_of_image block_size page order image.items) }
+    ensures no_call { IfOk result (λ d. history_of_ram_device d ≡ []) }
     ensures err { IfErr result (λ e. (e ≡ Error.Invalid) × (¬ IsImageOfWholeBlocks block_size page image.items)) }
 {
-    let geometry = geometry_of(image.len(), block_size, page)?;
+    let geometry = geometry_of_image_length(image.len(), block_size, page)?;
     RamDevice::from_bytes(geometry, image)
 }
 
@@ -62,9 +62,9 @@ pub(crate) fn excerpt_device_of_blocks(
     page: u32,
 ) -> Result<Excerpt, Error>
     requires many { length blocks.items < 2 ^ 32 }
-    requires sizes { AreExcerptsOfBlockSize block_size blocks.items }
+    requires sizes { AreExcerptsOfBlocksWithSize block_size blocks.items }
     ensures geometry { OnOk result (IsValidGeometry block_size page (length blocks.items)) }
-    ensures shown { IfOk result (λ e. ExcerptShowsBlocks block_size page blocks.items e) }
+    ensures shown { IfOk result (λ e. DeviceOfExcerptHasTheseBlocksAndSizes block_size page blocks.items e) }
     ensures err { IfErr result (λ e. (e ≡ Error.Invalid) × (¬ IsValidGeometry block_size page (length blocks.items))) }
 {
     let geometry = Geometry::new(block_size, page, blocks.len() as u32)?;
@@ -77,25 +77,25 @@ pub(crate) fn tree_items_of_device<D: BlockDevice>(
     alloc: Global,
     device: D,
 ) -> Result<(Thread<Ordered<D>>, Vec<TreeItem>), (D, Error)>
-    ensures items { IfOk result (λ found. IsThreadWithWalkedPlaces (disk_of_device D.BlockDevice device) found.0 (tree_items_view found.1.items)) }
-    ensures corrupt { IfErr result (λ e. e.1 ≡ Error.Corrupt → (order : NameOrder) (ps : List Pair) → ¬ IsAcceptedImage (ordered order (disk_of_device D.BlockDevice device)) ps) }
+    ensures items { IfOk result (λ found. IsThreadWithEntriesOfTreeWalk (disk_of_device D.BlockDevice device) found.0 (tree_items_view found.1.items)) }
+    ensures corrupt { IfErr result (λ e. e.1 ≡ Error.Corrupt → (order : NameOrder) (ps : List Pair) → ¬ IsAcceptedImage (disk_with_name_order order (disk_of_device D.BlockDevice device)) ps) }
     ensures errors { IfErr result (λ e. IsIoCorruptOrNoMemory e.1) }
     ensures back { IfErr result (λ e. ReturnsUnchangedDeviceWithError D.BlockDevice device e.0 e.1) }
 {
-    let mut thread = mount_either(alloc, device)?;
-    match walk(alloc, &mut thread) {
+    let mut thread = mount_with_either_name_order(alloc, device)?;
+    match walk_tree(alloc, &mut thread) {
         Ok(items) => Ok((thread, items)),
         Err(error) => Err((thread.into_device().into_inner(), error)),
     }
 }
 
 // Returns the thread and the entries of an excerpt.
-pub(crate) fn items_of_excerpt(
+pub(crate) fn tree_items_of_excerpt(
     alloc: Global,
     device: Excerpt,
 ) -> Result<(Thread<Ordered<Excerpt>>, Vec<TreeItem>), Error>
-    ensures items { IfOk result (λ found. IsThreadWithWalkedPlaces (shown (excerpt.geometry_of device) (excerpt.excerpt_blocks device)) found.0 (tree_items_view found.1.items)) }
-    ensures err { IfErr result (IsMountErrorOfDisk (shown (excerpt.geometry_of device) (excerpt.excerpt_blocks device))) }
+    ensures items { IfOk result (λ found. IsThreadWithEntriesOfTreeWalk (shown (excerpt.geometry_of_excerpt_device device) (excerpt.excerpt_blocks device)) found.0 (tree_items_view found.1.items)) }
+    ensures err { IfErr result (IsMountErrorOfDisk (shown (excerpt.geometry_of_excerpt_device device) (excerpt.excerpt_blocks device))) }
 {
     match tree_items_of_device(alloc, device) {
         Ok(found) => Ok(found),
@@ -107,12 +107,12 @@ pub(crate) fn items_of_excerpt(
 }
 
 // Returns the thread and the entries of a device in memory.
-pub(crate) fn items_in_memory(
+pub(crate) fn tree_items_of_ram_device(
     alloc: Global,
     device: RamDevice,
 ) -> Result<(Thread<Ordered<RamDevice>>, Vec<TreeItem>), Error>
-    ensures items { IfOk result (λ found. IsThreadWithWalkedPlaces (shown (geometry_of device) (ram_blocks device)) found.0 (tree_items_view found.1.items)) }
-    ensures err { IfErr result (IsMountErrorOfDisk (shown (geometry_of device) (ram_blocks device))) }
+    ensures items { IfOk result (λ found. IsThreadWithEntriesOfTreeWalk (shown (geometry_of_ram_device device) (ram_blocks device)) found.0 (tree_items_view found.1.items)) }
+    ensures err { IfErr result (IsMountErrorOfDisk (shown (geometry_of_ram_device device) (ram_blocks device))) }
 {
     match tree_items_of_device(alloc, device) {
         Ok(found) => Ok(found),

@@ -1,7 +1,7 @@
 // Whole images from readers.
 
 ghost use Rattle.std.specs.Prelude.{◌≡◌, ◌+◌, ◌≤◌, IfErr, IfOk, IfSome, OnOk, length, suc, take};
-ghost use Rattle.lfs_tool.specs.KnownBytes.{IsErrorOfFailedRead};
+ghost use Rattle.lfs_tool.specs.KnownBytes.{IsErrorOfReaderFaultOrNoMemory};
 ghost use Rattle.lfs_tool.specs.Reports.{IsReadToEndOrPastImageLimit};
 
 use crate::{ImageInput, ToolError};
@@ -17,7 +17,7 @@ pub(crate) fn read_image<R: ImageInput>(alloc: Global, image: &mut R) -> Result<
     ensures bound { IfOk result (λ v. length v.items ≤ IMAGE_MAX + 1) }
     ensures read { OnOk result (IsReadToEndOrPastImageLimit (R.remaining image.old) (R.remaining image.new)) }
     ensures kept { OnOk result (R.faults image.new ≡ R.faults image.old) }
-    ensures err { IfErr result (λ e. IsErrorOfFailedRead e (R.faults image.old) (R.faults image.new)) }
+    ensures err { IfErr result (λ e. IsErrorOfReaderFaultOrNoMemory e (R.faults image.old) (R.faults image.new)) }
 {
     let mut bytes = Vec::new(alloc);
     let mut buffer = [0u8; 65536];

@@ -1,9 +1,9 @@
 // Whether an image is accepted, and with what, or why not.
 
 ghost use Rattle.std.specs.Prelude.{◌≡◌, ◌↔◌, IfErr, IfOk, IfSome, IsTrue, false};
-ghost use Rattle.lfs_device.specs.RamDevice.{ram_blocks, geometry_of};
-ghost use Rattle.lfs_device.specs.Shown.{disk_of_geometry_and_blocks, ordered};
-ghost use Rattle.lfs_tool.specs.Findings.{IsFindingOfDisk};
+ghost use Rattle.lfs_device.specs.RamDevice.{ram_blocks, geometry_of_ram_device};
+ghost use Rattle.lfs_device.specs.Shown.{disk_of_geometry_and_blocks, disk_with_name_order};
+ghost use Rattle.lfs_tool.specs.Findings.{IsTrueFindingOfDisk};
 ghost use Rattle.lfs_tool.specs.ImageSummaries.{HasAcceptedNameOrders, IsAcceptedInNameOrder};
 ghost use Rattle.lfs_tool.specs.Verdict.{IsVerdictOnDisk};
 ghost use Rattle.lfs_model.specs.BlockSets.{AreExactlyTheUsedBlocks};
@@ -13,11 +13,11 @@ ghost use Rattle.lfs_model.specs.declared.order.NameOrder.{NameOrder};
 ghost use Rattle.lfs_model.specs.declared.order.NameOrder.TheVariants.{LongerFirst, ShorterFirst};
 
 use crate::findings::Finding;
-use crate::searches::find;
+use crate::searches::find_broken_rule_on_device;
 use crate::summaries::image_summary_of_thread;
-use crate::verdict::{AcceptedOrders, Verdict};
+use crate::verdict::{AcceptedOrders, ImageVerdict};
 use lfs_device::{Error, NameOrder, Ordered, RamDevice};
-use lfs_mount::{mount, mount_either};
+use lfs_mount::{mount, mount_with_either_name_order};
 use lfs_thread::Thread;
 use std::alloc::Global;
 
@@ -27,7 +27,7 @@ fn is_accepted_in_name_order(
     device: RamDevice,
     order: NameOrder,
 ) -> Result<bool, Error>
-    ensures is { IfOk result (λ b. IsTrue b ↔ IsAcceptedInNameOrder order (disk_of_geometry_and_blocks (geometry_of device) (ram_blocks device))) }
+    ensures is { IfOk result (λ b. IsTrue b ↔ IsAcceptedInNameOrder order (disk_of_geometry_and_blocks (geometry_of_ram_device device) (ram_blocks device))) }
     ensures err { IfErr result (λ e. e ≡ Error.NoMemory) }
 {
     match mount(alloc, Ordered::new(device, order)) {
@@ -44,9 +44,9 @@ fn accepted_name_orders(
     device: RamDevice,
     first: NameOrder,
 ) -> Result<AcceptedOrders, Error>
-    requires first { IsAcceptedInNameOrder first (disk_of_geometry_and_blocks (geometry_of device) (ram_blocks device)) }
-    requires longer { first ≡ ShorterFirst → ¬ IsAcceptedInNameOrder LongerFirst (disk_of_geometry_and_blocks (geometry_of device) (ram_blocks device)) }
-    ensures orders { IfOk result (HasAcceptedNameOrders (disk_of_geometry_and_blocks (geometry_of device) (ram_blocks device))) }
+    requires first { IsAcceptedInNameOrder first (disk_of_geometry_and_blocks (geometry_of_ram_device device) (ram_blocks device)) }
+    requires longer { first ≡ ShorterFirst → ¬ IsAcceptedInNameOrder LongerFirst (disk_of_geometry_and_blocks (geometry_of_ram_device device) (ram_blocks device)) }
+    ensures orders { IfOk result (HasAcceptedNameOrders (disk_of_geometry_and_blocks (geometry_of_ram_device device) (ram_blocks device))) }
     ensures err { IfErr result (λ e. e ≡ Error.NoMemory) }
 {
     match first {
@@ -63,10 +63,10 @@ fn accepted_name_orders(
 
 // Returns a rule that the image of a device breaks.
 fn finding_on_device(alloc: Global, device: &mut RamDevice) -> Result<Option<Finding>, Error>
-    ensures found { IfOk result (λ found. IfSome found (IsFindingOfDisk (disk_of_geometry_and_blocks (geometry_of device.old) (ram_blocks device.old)))) }
+    ensures found { IfOk result (λ found. IfSome found (IsTrueFindingOfDisk (disk_of_geometry_and_blocks (geometry_of_ram_device device.old) (ram_blocks device.old)))) }
     ensures err { IfErr result (λ e. e ≡ Error.NoMemory) }
 {
-    match find(alloc, device) {
+    match find_broken_rule_on_device(alloc, device) {
         Ok(found) => Ok(found),
         // The device had no fault, so memory ran out.
         Err(error) => Err(error),
@@ -74,7 +74,10 @@ fn finding_on_device(alloc: Global, device: &mut RamDevice) -> Result<Option<Fin
 }
 
 // Returns what a mounted image has.
-fn judge_thread(alloc: Global, mut thread: Thread<Ordered<RamDevice>>) -> Result<Verdict, Error>
+fn judge_thread(
+    alloc: Global,
+    mut thread: Thread<Ordered<RamDevice>>,
+) -> Result<ImageVerdict, Error>
     requires works { thread.failed ≡ false }
     requires accepted { IsAcceptedImage thread.kept.disk thread.kept.pairs }
     requires used { AreExactlyTheUsedBlocks thread.kept.map (used_blocks thread.kept.disk thread.kept.pairs) }
@@ -86,7 +89,7 @@ fn judge_thread(alloc: Global, mut thread: Thread<Ordered<RamDevice>>) -> Result
     let device = thread.into_device();
     let order = device.order();
     let orders = accepted_name_orders(alloc, device.into_inner(), order)?;
-    Ok(Verdict::Accepted { summary, orders })
+    Ok(ImageVerdict::Accepted { summary, orders })
 }
 
 /// Returns whether the image of a device in memory is accepted, and with what, or why not. The
@@ -94,15 +97,15 @@ fn judge_thread(alloc: Global, mut thread: Thread<Ordered<RamDevice>>) -> Result
 /// Each finding is true of it. The order of names of the device's own geometry doesn't matter.
 ///
 /// Errors: `NoMemory` where memory isn't granted.
-pub fn judge(alloc: Global, device: RamDevice) -> Result<Verdict, Error>
-    ensures verdict { IfOk result (λ verdict. (order : NameOrder) → IsVerdictOnDisk (ordered order (disk_of_geometry_and_blocks (geometry_of device) (ram_blocks device))) verdict) }
+pub fn judge_image_on_device(alloc: Global, device: RamDevice) -> Result<ImageVerdict, Error>
+    ensures verdict { IfOk result (λ verdict. (order : NameOrder) → IsVerdictOnDisk (disk_with_name_order order (disk_of_geometry_and_blocks (geometry_of_ram_device device) (ram_blocks device))) verdict) }
     ensures err { IfErr result (λ e. e ≡ Error.NoMemory) }
 {
-    match mount_either(alloc, device) {
+    match mount_with_either_name_order(alloc, device) {
         Ok(thread) => judge_thread(alloc, thread),
         Err((mut device, Error::Corrupt)) => {
             let found = finding_on_device(alloc, &mut device)?;
-            Ok(Verdict::Refused(found))
+            Ok(ImageVerdict::Refused(found))
         }
         Err((_device, error)) => Err(error),
     }

@@ -1,7 +1,7 @@
 // The lines that list an image.
 
 ghost use Rattle.std.specs.Prelude.{◌≡◌, ◌++◌, IfOk, None, OnOk, Some};
-ghost use Rattle.lfs_tool.specs.Listings.{listing_line_of_place, listing_line_of_path, listing_lines_of_places};
+ghost use Rattle.lfs_tool.specs.Listings.{listing_line_of_tree_entry, listing_line_of_path, listing_lines_of_tree_entries};
 ghost use Rattle.lfs_lookup.specs.Walk.{tree_item_view, tree_items_view};
 
 use crate::escape::push_escaped_path;
@@ -32,8 +32,8 @@ fn push_directory_line(text: &mut Vec<u8>, path: &[u8]) -> Result<(), AllocError
 }
 
 // Adds the line of an entry that was found.
-fn push_line(text: &mut Vec<u8>, found: &TreeItem) -> Result<(), AllocError>
-    ensures { OnOk result (text.new.items ≡ text.old.items ++ listing_line_of_place (tree_item_view found.now)) }
+fn push_listing_line_of_item(text: &mut Vec<u8>, found: &TreeItem) -> Result<(), AllocError>
+    ensures { OnOk result (text.new.items ≡ text.old.items ++ listing_line_of_tree_entry (tree_item_view found.now)) }
 {
     match &found.structure {
         OwnedStruct::Inline(bytes) => push_file_line(text, bytes.len(), &found.path),
@@ -43,12 +43,15 @@ fn push_line(text: &mut Vec<u8>, found: &TreeItem) -> Result<(), AllocError>
 }
 
 // Returns the lines of the entries, in order.
-pub(crate) fn lines_of(alloc: Global, found: &[TreeItem]) -> Result<Vec<u8>, AllocError>
-    ensures { IfOk result (λ text. text.items ≡ listing_lines_of_places (tree_items_view found.now)) }
+pub(crate) fn listing_lines_of_tree_items(
+    alloc: Global,
+    found: &[TreeItem],
+) -> Result<Vec<u8>, AllocError>
+    ensures { IfOk result (λ text. text.items ≡ listing_lines_of_tree_entries (tree_items_view found.now)) }
 {
     let mut text = Vec::new(alloc);
     for one in found {
-        push_line(&mut text, one)?;
+        push_listing_line_of_item(&mut text, one)?;
     }
     Ok(text)
 }

@@ -1,49 +1,51 @@
 ghost use Rattle.std.specs.Prelude.{◌≡◌, ◌<◌, ◌^◌, List, ℕ, IfErr, IfOk, IfSome, IsErrOf, OnOk, length};
 ghost use Rattle.std.specs.Io.KnownBytes.{Appends};
-ghost use Rattle.lfs_tool.specs.ExcerptBlocks.{AreExcerptsOfBlockSize};
-ghost use Rattle.lfs_tool.specs.ExcerptView.{excerpt_blocks, geometry_of};
-ghost use Rattle.lfs_device.specs.Shown.{disk_of_geometry_and_blocks as shown, ordered};
+ghost use Rattle.lfs_tool.specs.ExcerptBlocks.{AreExcerptsOfBlocksWithSize};
+ghost use Rattle.lfs_tool.specs.ExcerptView.{excerpt_blocks, geometry_of_excerpt_device};
+ghost use Rattle.lfs_device.specs.Shown.{disk_of_geometry_and_blocks as shown, disk_with_name_order};
 ghost use Rattle.lfs_model.specs.Disk.{IsImageOfWholeBlocks};
 ghost use Rattle.lfs_model.specs.Geometry.{IsValidGeometry};
 ghost use Rattle.lfs_model.specs.declared.order.NameOrder.{NameOrder};
-ghost use Rattle.lfs_tool.specs.Blocks.{AreExcerptsOfBytes};
-ghost use Rattle.lfs_tool.specs.KnownBytes.{AppendsBeginningOfBytes, IsErrorOfFailedListing, IsListingRefusal};
-ghost use Rattle.lfs_tool.specs.Reports.{IsReadToEndOrPastImageLimit, IsErrorExactlyWithOneFault, ReportsWriterFaults};
-ghost use Rattle.lfs_tool.specs.Listings.{HasListingLines, IsMountErrorOfDisk, ListsImage, RefusesToList};
+ghost use Rattle.lfs_tool.specs.Blocks.{AreExcerptsOfAllBlocksOfImageBytes};
+ghost use Rattle.lfs_tool.specs.KnownBytes.{AppendsBeginningOfBytes, IsErrorOfReaderFaultOrListingRefusal, IsListingRefusal};
+ghost use Rattle.lfs_tool.specs.Reports.{IsReadToEndOrPastImageLimit, IsThisErrorExactlyIfOneCallFailed, ReportsWriterFaults};
+ghost use Rattle.lfs_tool.specs.Listings.{IsListingTextOfDisk, IsMountErrorOfDisk, IsListingTextOfImage, RefusesToList};
 
 use crate::blocks::read_block_excerpts;
-use crate::image_devices::{excerpt_device_of_blocks, items_of_excerpt};
+use crate::image_devices::{excerpt_device_of_blocks, tree_items_of_excerpt};
 use crate::input::read_image_without_keeping;
-use crate::lines::lines_of;
+use crate::lines::listing_lines_of_tree_items;
 use crate::output::write_bytes_and_flush;
-use crate::{BlockExcerpt, Excerpt, ImageInput, ToolError, ToolOutput, excerpt_is_listed_alike};
+use crate::{
+    BlockExcerpt, Excerpt, ImageInput, ToolError, ToolOutput, excerpt_is_listed_like_its_disk,
+};
 use lfs_device::{Error, Geometry};
 use std::alloc::Global;
 
 // Returns the lines of an excerpt.
 fn listing_lines_of_excerpt(alloc: Global, device: Excerpt) -> Result<Vec<u8>, Error>
-    ensures lines { IfOk result (λ text. (order : NameOrder) × HasListingLines (ordered order (shown (geometry_of device) (excerpt_blocks device))) text.items) }
-    ensures err { IfErr result (IsMountErrorOfDisk (shown (geometry_of device) (excerpt_blocks device))) }
+    ensures lines { IfOk result (λ text. (order : NameOrder) × IsListingTextOfDisk (disk_with_name_order order (shown (geometry_of_excerpt_device device) (excerpt_blocks device))) text.items) }
+    ensures err { IfErr result (IsMountErrorOfDisk (shown (geometry_of_excerpt_device device) (excerpt_blocks device))) }
 {
-    let (_thread, items) = items_of_excerpt(alloc, device)?;
-    let text = lines_of(alloc, &items)?;
+    let (_thread, items) = tree_items_of_excerpt(alloc, device)?;
+    let text = listing_lines_of_tree_items(alloc, &items)?;
     Ok(text)
 }
 
 // Returns the lines of an image whose blocks were read.
-fn listing_lines_of_blocks(
+fn listing_lines_of_tree_in_block_excerpts(
     alloc: Global,
     blocks: Vec<BlockExcerpt>,
     block_size: u32,
     page: u32,
 ) -> Result<Vec<u8>, Error>
     requires many { length blocks.items < 2 ^ 32 }
-    requires sizes { AreExcerptsOfBlockSize block_size blocks.items }
-    ensures ok { IfOk result (λ text. (bytes : List ℕ) → AreExcerptsOfBytes block_size bytes blocks.items → ListsImage block_size page bytes text.items) }
-    ensures err { IfErr result (λ e. (bytes : List ℕ) → AreExcerptsOfBytes block_size bytes blocks.items → RefusesToList block_size page bytes e) }
+    requires sizes { AreExcerptsOfBlocksWithSize block_size blocks.items }
+    ensures ok { IfOk result (λ text. (bytes : List ℕ) → AreExcerptsOfAllBlocksOfImageBytes block_size bytes blocks.items → IsListingTextOfImage block_size page bytes text.items) }
+    ensures err { IfErr result (λ e. (bytes : List ℕ) → AreExcerptsOfAllBlocksOfImageBytes block_size bytes blocks.items → RefusesToList block_size page bytes e) }
     ensures kinds { IfErr result IsListingRefusal }
 {
-    excerpt_is_listed_alike();
+    excerpt_is_listed_like_its_disk();
     match excerpt_device_of_blocks(blocks, block_size, page) {
         Ok(excerpt) => listing_lines_of_excerpt(alloc, excerpt),
         Err(error) => Err(error),
@@ -67,10 +69,10 @@ fn read_image_as_listing_lines<R: ImageInput>(
     block_size: u32,
     page: u32,
 ) -> Result<Vec<u8>, ToolError>
-    ensures ok { IfOk result (λ text. IfSome (R.remaining image.old) (λ bytes. ListsImage block_size page bytes text.items)) }
+    ensures ok { IfOk result (λ text. IfSome (R.remaining image.old) (λ bytes. IsListingTextOfImage block_size page bytes text.items)) }
     ensures refused { (e : _) → IsErrOf result (ToolError.Fs e) → IfSome (R.remaining image.old) (λ bytes. RefusesToList block_size page bytes e) }
     ensures kept { OnOk result (R.faults image.new ≡ R.faults image.old) }
-    ensures failed { IfErr result (λ e. IsErrorOfFailedListing e (R.faults image.old) (R.faults image.new)) }
+    ensures failed { IfErr result (λ e. IsErrorOfReaderFaultOrListingRefusal e (R.faults image.old) (R.faults image.new)) }
     ensures read { ¬ IsErrOf result ToolError.Input → ¬ IsErrOf result (ToolError.Fs Error.NoMemory) → IsReadToEndOrPastImageLimit (R.remaining image.old) (R.remaining image.new) }
 {
     if let Err(error) = check_block_and_page_size(block_size, page) {
@@ -80,7 +82,7 @@ fn read_image_as_listing_lines<R: ImageInput>(
     let Some(blocks) = read_block_excerpts(alloc, image, block_size)? else {
         return Err(ToolError::Fs(Error::Invalid));
     };
-    let text = listing_lines_of_blocks(alloc, blocks, block_size, page)?;
+    let text = listing_lines_of_tree_in_block_excerpts(alloc, blocks, block_size, page)?;
     Ok(text)
 }
 
@@ -111,16 +113,16 @@ pub fn list<R: ImageInput, W: ToolOutput>(
     out: &mut W,
 ) -> Result<(), ToolError>
     ensures ok { OnOk result (IfSome (R.remaining image.old) (λ bytes.
-        (text : _) × (ListsImage block_size page bytes text × Appends (W.contents out.old) (W.contents out.new) text))) }
+        (text : _) × (IsListingTextOfImage block_size page bytes text × Appends (W.contents out.old) (W.contents out.new) text))) }
 
     // The writer isn't called, unless it fails: then a beginning of the lines may be written.
     ensures writer { ReportsWriterFaults W.ToolOutput out.old out.new result }
     ensures beginning { IsErrOf result ToolError.Output → IfSome (R.remaining image.old) (λ bytes.
-        (text : _) × (ListsImage block_size page bytes text × AppendsBeginningOfBytes (W.contents out.old) (W.contents out.new) text)) }
+        (text : _) × (IsListingTextOfImage block_size page bytes text × AppendsBeginningOfBytes (W.contents out.old) (W.contents out.new) text)) }
 
     // When each other error comes.
     ensures refused { (e : _) → IsErrOf result (ToolError.Fs e) → IsListingRefusal e × IfSome (R.remaining image.old) (λ bytes. RefusesToList block_size page bytes e) }
-    ensures input { IsErrorExactlyWithOneFault ToolError.Input (R.faults image.old) (R.faults image.new) result }
+    ensures input { IsThisErrorExactlyIfOneCallFailed ToolError.Input (R.faults image.old) (R.faults image.new) result }
     ensures read { ¬ IsErrOf result ToolError.Input → ¬ IsErrOf result (ToolError.Fs Error.NoMemory) → IsReadToEndOrPastImageLimit (R.remaining image.old) (R.remaining image.new) }
 {
     let text = read_image_as_listing_lines(alloc, image, block_size, page)?;

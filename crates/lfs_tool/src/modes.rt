@@ -2,7 +2,7 @@
 
 ghost use Rattle.std.specs.Prelude.{◌≡◌, ◌≢◌, IfOk, IsErrOf, OnOk, false, suc, true};
 ghost use Rattle.lfs_tool.specs.Reports.{ReportsWriterFaults};
-ghost use Rattle.lfs_tool.specs.RunsAtPaths.{IsTrueForMode, ChecksImageAtPath, IsAcceptedUnlessCheck, HasFaultAtPath, FailsToReadFolder, ListsImageAtPath, MakesImageAtPath, RefusesToListAtPath, RefusesToMakeImage, UnpacksImageAtPath, is_mode_that_writes_lines};
+ghost use Rattle.lfs_tool.specs.RunsAtPaths.{IsTrueForMode, ChecksImageAtPath, IsImageAcceptedUnlessModeIsCheck, HasFaultAtPath, FailsToReadFolder, ListsImageAtPath, MakesImageAtPath, RefusesToListAtPath, RefusesToMakeImage, UnpacksImageAtPath, is_mode_that_writes_lines};
 
 use crate::{
     Line, Mode, Places, ToolError, ToolOutput, check_for_command_line, create_for_command_line,
@@ -12,7 +12,7 @@ use lfs_device::Error;
 use std::alloc::Global;
 
 // Lists the image.
-fn list_at<P: Places, W: ToolOutput>(
+fn list_image_at_path<P: Places, W: ToolOutput>(
     alloc: Global,
     places: &P,
     line: &Line<'_>,
@@ -89,7 +89,7 @@ fn unpack_image_at_path<P: Places>(
 /// # Errors
 /// Those of `lfs_tool::list`, `lfs_tool::check`, `lfs_tool::unpack` or `create_for_command_line`, at the
 /// same times. `Fs(NoMemory)` also where memory isn't granted for what is at a path.
-pub fn carry_out<P: Places, W: ToolOutput>(
+pub fn run_mode_of_command_line<P: Places, W: ToolOutput>(
     alloc: Global,
     places: &P,
     line: &Line<'_>,
@@ -97,7 +97,7 @@ pub fn carry_out<P: Places, W: ToolOutput>(
 ) -> Result<bool, ToolError>
     ensures writer { is_mode_that_writes_lines line.now.mode ≡ true → ReportsWriterFaults W.ToolOutput out.old out.new result }
     ensures unlisted { is_mode_that_writes_lines line.now.mode ≡ false → out.new ≡ out.old }
-    ensures done { IfOk result (λ accepted. IsAcceptedUnlessCheck line.now.mode accepted × IsTrueForMode line.now.mode
+    ensures done { IfOk result (λ accepted. IsImageAcceptedUnlessModeIsCheck line.now.mode accepted × IsTrueForMode line.now.mode
         (ListsImageAtPath P.image_path P.Image.remaining line.now (W.contents out.old) (W.contents out.new) × (W.pending out.new ≡ 0))
         (ChecksImageAtPath P.image_path P.Image.remaining line.now accepted (W.contents out.old) (W.contents out.new) × (W.pending out.new ≡ 0))
         (MakesImageAtPath P.folder_path P.folder_limit P.Folder.shown P.new_image_path P.NewImage.contents P.NewImage.pending line.now)
@@ -120,7 +120,7 @@ pub fn carry_out<P: Places, W: ToolOutput>(
 {
     match line.mode {
         Mode::Check => return check_image_at_path(alloc, places, line, out),
-        Mode::List => list_at(alloc, places, line, out)?,
+        Mode::List => list_image_at_path(alloc, places, line, out)?,
         Mode::Create(folder) => create_image_at_path(alloc, places, line, folder)?,
         Mode::Unpack(folder) => unpack_image_at_path(alloc, places, line, folder)?,
     }

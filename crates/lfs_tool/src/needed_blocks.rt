@@ -28,7 +28,12 @@ fn has_room_for_entries(
     ensures small { IfOk result (λ has_room_for_entries. has_room_for_entries ≡ false → IsTooFewBlocksForEntries line.now entries.now count) }
 {
     let geometry = Geometry::new(line.block_size, line.page, count)?;
-    match image_bytes_of_entries(alloc, geometry.ordered(line.order), entries, &mut ()) {
+    match image_bytes_of_entries(
+        alloc,
+        geometry.with_name_order(line.order),
+        entries,
+        &mut (),
+    ) {
         Ok(_image) => Ok(true),
         Err(Error::NoSpace) => Ok(false),
         Err(error) => Err(error),
@@ -71,7 +76,7 @@ fn needed_block_count(
     ensures { IfOk result (λ count. IfSome count (IsJustEnoughBlocksForEntries line.now entries.now)) }
 {
     let mut few = few;
-    let most = largest_block_count(line.block_size);
+    let most = largest_block_count_of_image(line.block_size);
     while few < most {
         let more = (few + few.max(1)).min(most);
         if has_room_for_entries(alloc, line, entries, more)? {
@@ -84,7 +89,7 @@ fn needed_block_count(
 }
 
 // Returns how many blocks of a size an image has at most.
-fn largest_block_count(block_size: u32) -> u32
+fn largest_block_count_of_image(block_size: u32) -> u32
     ensures { result ≤ 65536 }
 {
     match (IMAGE_MAX as u32).checked_div(block_size) {
@@ -95,7 +100,7 @@ fn largest_block_count(block_size: u32) -> u32
 
 // Returns how many blocks it takes, where it is known that an image of so many is too small. Nothing is
 // returned where no image is large enough, another refusal comes first, or memory isn't granted.
-pub(crate) fn enough_block_count_for_entries(
+pub(crate) fn just_enough_block_count_for_entries(
     alloc: Global,
     line: &Line<'_>,
     entries: &[SourceEntry],

@@ -8,26 +8,26 @@ use std::io::{ErrorKind, Read, Write};
 
 /// A reader or a writer of std at a path, whose faults are noted in a log.
 #[derive(Drop)]
-pub struct Noted<'a, T> {
+pub struct NotedStream<'a, T> {
     inner: T,
     alloc: Global,
     path: String,
     log: &'a FaultLog,
 }
 
-impl<'a, T: Drop> Noted<'a, T> {
+impl<'a, T: Drop> NotedStream<'a, T> {
     /// Makes a reader or a writer of what is at the path.
     pub fn new(
         alloc: Global,
         inner: T,
         path: &str,
         log: &'a FaultLog,
-    ) -> Result<Noted<'a, T>, AllocError>
+    ) -> Result<NotedStream<'a, T>, AllocError>
         ensures inner { IfOk result (λ n. n.inner ≡ inner) }
         ensures path { IfOk result (λ n. string_bytes n.path ≡ path.now) }
     {
         let path = String::from_str(alloc, path)?;
-        Ok(Noted {
+        Ok(NotedStream {
             inner,
             alloc,
             path,
@@ -36,32 +36,32 @@ impl<'a, T: Drop> Noted<'a, T> {
     }
 
     // Notes a fault. A call that a signal interrupted has none.
-    fn note(&self, error: &io::Error) {
+    fn note_error_at_path(&self, error: &io::Error) {
         if error.kind() != ErrorKind::Interrupted {
             self.log.note(self.alloc, self.path.as_bytes(), error);
         }
     }
 }
 
-impl<'a, R: Read + Drop> Read for Noted<'a, R> {
+impl<'a, R: Read + Drop> Read for NotedStream<'a, R> {
     ghost remaining = { λ n. R.remaining n.inner };
 
     fn read(&mut self, buf: &mut [u8]) -> io::Result<usize> {
         let read = self.inner.read(buf);
         if let Err(error) = &read {
-            self.note(error);
+            self.note_error_at_path(error);
         }
         read
     }
 }
 
-impl<'a, W: Write + Drop> Write for Noted<'a, W> {
+impl<'a, W: Write + Drop> Write for NotedStream<'a, W> {
     ghost contents = { λ n. W.contents n.inner };
 
     fn write(&mut self, buf: &[u8]) -> io::Result<usize> {
         let written = self.inner.write(buf);
         if let Err(error) = &written {
-            self.note(error);
+            self.note_error_at_path(error);
         }
         written
     }
@@ -69,7 +69,7 @@ impl<'a, W: Write + Drop> Write for Noted<'a, W> {
     fn flush(&mut self) -> io::Result<()> {
         let flushed = self.inner.flush();
         if let Err(error) = &flushed {
-            self.note(error);
+            self.note_error_at_path(error);
         }
         flushed
     }

@@ -2,26 +2,26 @@
 
 ghost use Rattle.std.specs.Prelude.{◌≡◌, ◌<◌, ◌++◌, IfNone, IfOk, IfSome, None, OnOk, is_some, length, map, true};
 ghost use Rattle.std.specs.Option.{option_map};
-ghost use Rattle.lfs_model.specs.Content.{complete, slots_if_all_complete, slot_of_id};
+ghost use Rattle.lfs_model.specs.Content.{slot_if_name_and_struct_present, slots_if_names_and_structs_present, slot_of_id};
 ghost use Rattle.lfs_model.specs.LoggedContent.{IsWellFormedRawSlot, AreWellFormedRawSlots};
 ghost use Rattle.lfs_tag.specs.ContentView.{slot_view};
-ghost use Rattle.lfs_tool.specs.OwnedSlots.{slot_without_attributes, complete_slots_among, complete_slot_in};
+ghost use Rattle.lfs_tool.specs.OwnedSlots.{slot_without_attributes, complete_slots_of_raw_slots, complete_slot_of_raw_slot};
 ghost use Rattle.lfs_tool.specs.OwnedSlotView.{owned_slot_view};
 
 use crate::owned_parts::OwnedSlot;
-use lfs_lookup::structure_of;
+use lfs_lookup::owned_copy_of_struct;
 use lfs_tag::{Slot, SlotNameKind};
 use std::alloc::{AllocError, Global};
 
 // Returns a slot, where it has a name and a struct.
 fn owned_slot_if_complete(alloc: Global, slot: &Slot<'_>) -> Result<Option<OwnedSlot>, AllocError>
     requires { IsWellFormedRawSlot (slot_view slot.now) }
-    ensures { IfOk result (λ held. option_map owned_slot_view held ≡ option_map slot_without_attributes (complete (slot_view slot.now))) }
+    ensures { IfOk result (λ held. option_map owned_slot_view held ≡ option_map slot_without_attributes (slot_if_name_and_struct_present (slot_view slot.now))) }
 {
     let (Some(name), Some(part)) = (slot.name, slot.structure) else {
         return Ok(None);
     };
-    let structure = structure_of(alloc, &part)?;
+    let structure = owned_copy_of_struct(alloc, &part)?;
     let kind = SlotNameKind::of(&name);
     let name = Vec::from_slice(alloc, name.bytes)?;
     Ok(Some(OwnedSlot {
@@ -38,7 +38,7 @@ fn push_complete_slot(
     slot: &Slot<'_>,
 ) -> Result<(), AllocError>
     requires { IsWellFormedRawSlot (slot_view slot.now) }
-    ensures { OnOk result (map owned_slot_view all.new.items ≡ map owned_slot_view all.old.items ++ complete_slot_in (slot_view slot.now)) }
+    ensures { OnOk result (map owned_slot_view all.new.items ≡ map owned_slot_view all.old.items ++ complete_slot_of_raw_slot (slot_view slot.now)) }
 {
     if let Some(held) = owned_slot_if_complete(alloc, slot)? {
         all.push(held)?;
@@ -52,7 +52,7 @@ pub(crate) fn owned_complete_slots(
     slots: &[Slot<'_>],
 ) -> Result<Vec<OwnedSlot>, AllocError>
     requires { AreWellFormedRawSlots (map slot_view slots.now) }
-    ensures { IfOk result (λ held. map owned_slot_view held.items ≡ complete_slots_among (map slot_view slots.now)) }
+    ensures { IfOk result (λ held. map owned_slot_view held.items ≡ complete_slots_of_raw_slots (map slot_view slots.now)) }
 {
     let mut all = Vec::new(alloc);
     for slot in slots {
@@ -63,8 +63,8 @@ pub(crate) fn owned_complete_slots(
 
 // Returns the number of the first slot that lacks its name or its struct.
 pub(crate) fn first_incomplete_slot_id(slots: &[Slot<'_>]) -> Option<usize>
-    ensures there { IfSome result (λ id. (id < length slots.now) × (complete (slot_of_id (map slot_view slots.now) id) ≡ None)) }
-    ensures none { IfNone result (is_some (slots_if_all_complete (map slot_view slots.now)) ≡ true) }
+    ensures there { IfSome result (λ id. (id < length slots.now) × (slot_if_name_and_struct_present (slot_of_id (map slot_view slots.now) id) ≡ None)) }
+    ensures none { IfNone result (is_some (slots_if_names_and_structs_present (map slot_view slots.now)) ≡ true) }
 {
     for (id, slot) in slots.iter().enumerate() {
         if slot.name.is_none() || slot.structure.is_none() {

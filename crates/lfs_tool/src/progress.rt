@@ -18,24 +18,24 @@ const PAUSE: u64 = 200;
 
 /// A number of files, and of the bytes in them.
 #[derive(Clone, Copy, Debug, PartialEq, Eq)]
-pub struct Amount {
+pub struct FilesAndBytes {
     pub files: usize,
     pub bytes: usize,
 }
 
-impl Amount {
+impl FilesAndBytes {
     /// Returns no files and no bytes.
-    pub fn none() -> Amount
+    pub fn none() -> FilesAndBytes
         ensures { result ≡ no_amount }
     {
-        Amount { files: 0, bytes: 0 }
+        FilesAndBytes { files: 0, bytes: 0 }
     }
 
     /// Returns both together, up to the greatest `usize`.
-    pub fn plus(self, more: Amount) -> Amount
+    pub fn plus(self, more: FilesAndBytes) -> FilesAndBytes
         ensures { result ≡ sum_of_amounts self more }
     {
-        Amount {
+        FilesAndBytes {
             files: self.files.saturating_add(more.files),
             bytes: self.bytes.saturating_add(more.bytes),
         }
@@ -45,26 +45,26 @@ impl Amount {
 /// Is told how far the making or the unpacking of an image is.
 pub trait FollowsProgress {
     /// So many files and bytes are to be done.
-    fn begin(&mut self, whole: Amount);
+    fn begin(&mut self, whole: FilesAndBytes);
 
     /// So many more are done.
-    fn add(&mut self, more: Amount);
+    fn add(&mut self, more: FilesAndBytes);
 }
 
 impl FollowsProgress for () {
-    fn begin(&mut self, _whole: Amount) {}
+    fn begin(&mut self, _whole: FilesAndBytes) {}
 
-    fn add(&mut self, _more: Amount) {}
+    fn add(&mut self, _more: FilesAndBytes) {}
 }
 
 impl<F: FollowsProgress> FollowsProgress for Option<F> {
-    fn begin(&mut self, whole: Amount) {
+    fn begin(&mut self, whole: FilesAndBytes) {
         if let Some(follower) = self {
             follower.begin(whole);
         }
     }
 
-    fn add(&mut self, more: Amount) {
+    fn add(&mut self, more: FilesAndBytes) {
         if let Some(follower) = self {
             follower.add(more);
         }
@@ -81,8 +81,8 @@ pub struct Progress<W: ToolOutput + Drop, C: Clock + Drop> {
     began: Option<Instant>,
     // How long after that the line is written next.
     next: Duration,
-    whole: Amount,
-    done: Amount,
+    whole: FilesAndBytes,
+    done: FilesAndBytes,
     is_shown: bool,
     ghost late: { 1_000_000_000 ≤ as_nanos next },
 }
@@ -131,7 +131,7 @@ fn push_part_of_whole(line: &mut ProgressLine, done: usize, whole: usize, unit: 
 }
 
 // Returns the text of the line.
-fn line_of(done: Amount, whole: Amount) -> ProgressLine
+fn progress_line_text(done: FilesAndBytes, whole: FilesAndBytes) -> ProgressLine
     ensures { result.bytes ≡ progress_line done whole }
 {
     let mut line = ProgressLine::new();
@@ -154,14 +154,14 @@ impl<W: ToolOutput + Drop, C: Clock + Drop> Progress<W, C> {
             clock,
             began,
             next: Duration::from_secs(1),
-            whole: Amount::none(),
-            done: Amount::none(),
+            whole: FilesAndBytes::none(),
+            done: FilesAndBytes::none(),
             is_shown: false,
         }
     }
 
     // Writes the line, where it is time so long after the beginning.
-    fn show_after(&mut self, gone: Duration)
+    fn write_progress_line_if_due_at_elapsed_time(&mut self, gone: Duration)
         ensures amounts { (self.new.whole ≡ self.old.whole) × (self.new.done ≡ self.old.done) }
         ensures early { as_nanos gone ≤ as_nanos self.old.next → self.new ≡ self.old }
         ensures line { as_nanos self.old.next < as_nanos gone → WritesTextOrFails W.ToolOutput (progress_line self.old.done self.old.whole) self.old.out self.new.out }
@@ -172,7 +172,7 @@ impl<W: ToolOutput + Drop, C: Clock + Drop> Progress<W, C> {
             return;
         }
         self.next = gone.saturating_add(Duration::from_millis(PAUSE));
-        let line = line_of(self.done, self.whole);
+        let line = progress_line_text(self.done, self.whole);
         self.is_shown = true;
         if write_bytes_and_flush(&mut self.out, line.as_str().as_bytes()).is_err() {
             self.began = None;
@@ -180,7 +180,7 @@ impl<W: ToolOutput + Drop, C: Clock + Drop> Progress<W, C> {
     }
 
     // Writes the line, where it is time.
-    fn show(&mut self)
+    fn write_progress_line_if_due(&mut self)
         ensures amounts { (self.new.whole ≡ self.old.whole) × (self.new.done ≡ self.old.done) }
         ensures line { (self.new.out ≡ self.old.out) ⊎ WritesTextOrFails W.ToolOutput (progress_line self.old.done self.old.whole) self.old.out self.new.out }
     {
@@ -188,26 +188,26 @@ impl<W: ToolOutput + Drop, C: Clock + Drop> Progress<W, C> {
             return;
         };
         match began.elapsed(&self.clock) {
-            Ok(gone) => self.show_after(gone),
+            Ok(gone) => self.write_progress_line_if_due_at_elapsed_time(gone),
             Err(_) => self.began = None,
         }
     }
 }
 
 impl<W: ToolOutput + Drop, C: Clock + Drop> FollowsProgress for Progress<W, C> {
-    fn begin(&mut self, whole: Amount)
+    fn begin(&mut self, whole: FilesAndBytes)
         ensures amounts { (self.new.whole ≡ whole) × (self.new.done ≡ self.old.done) }
         ensures line { (self.new.out ≡ self.old.out) ⊎ WritesTextOrFails W.ToolOutput (progress_line self.new.done self.new.whole) self.old.out self.new.out }
     {
         self.whole = whole;
-        self.show();
+        self.write_progress_line_if_due();
     }
 
-    fn add(&mut self, more: Amount)
+    fn add(&mut self, more: FilesAndBytes)
         ensures amounts { (self.new.whole ≡ self.old.whole) × (self.new.done ≡ sum_of_amounts self.old.done more) }
         ensures line { (self.new.out ≡ self.old.out) ⊎ WritesTextOrFails W.ToolOutput (progress_line self.new.done self.new.whole) self.old.out self.new.out }
     {
         self.done = self.done.plus(more);
-        self.show();
+        self.write_progress_line_if_due();
     }
 }

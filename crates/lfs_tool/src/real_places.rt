@@ -1,10 +1,10 @@
 ghost use Rattle.std.specs.Prelude.{◌≡◌, IfOk};
 ghost use Rattle.lfs_tool_folders.specs.Paths.{image_path};
-ghost use Rattle.lfs_tool.specs.Paths.{old_path};
-ghost use Rattle.lfs_tool.specs.StandardStreams.{is_standard_stream, is_path_of_standard_stream, path_of_file_or_standard};
+ghost use Rattle.lfs_tool.specs.Paths.{path_of_old_image_file};
+ghost use Rattle.lfs_tool.specs.StandardStreams.{is_standard_stream, is_path_of_standard_stream, path_or_dash_of_file_or_standard};
 
-use crate::file_or_standard::names_standard;
-use crate::{FileOrStandard, NewImage, Noted, OldImage, Places, Progress, Watched};
+use crate::file_or_standard::is_standard_stream_path;
+use crate::{FileOrStandard, NewImage, NotedStream, OldImage, Places, Progress, WatchedStream};
 use lfs_device::Error;
 use lfs_tool_folders::{FaultLog, Folder, PathFault, TargetFolder};
 use std::alloc::AllocError;
@@ -57,11 +57,14 @@ where
     }
 
     // Returns what is read at a path.
-    fn old_image(&self, path: &str) -> Result<FileOrStandard<OldImage<'a, R>, I>, AllocError>
-        ensures path { IfOk result (λ i. path_of_file_or_standard old_path i ≡ path.now) }
+    fn image_input_at_path(
+        &self,
+        path: &str,
+    ) -> Result<FileOrStandard<OldImage<'a, R>, I>, AllocError>
+        ensures path { IfOk result (λ i. path_or_dash_of_file_or_standard path_of_old_image_file i ≡ path.now) }
         ensures kind { IfOk result (λ i. is_standard_stream i ≡ is_path_of_standard_stream path.now) }
     {
-        if names_standard(path) {
+        if is_standard_stream_path(path) {
             return Ok(FileOrStandard::Standard(self.input.replace(None)));
         }
         let file = OldImage::new(self.rt.alloc(), self.rt, path)?;
@@ -73,10 +76,10 @@ where
         &self,
         path: &str,
     ) -> Result<FileOrStandard<NewImage<'a, R>, O>, AllocError>
-        ensures path { IfOk result (λ i. path_of_file_or_standard image_path i ≡ path.now) }
+        ensures path { IfOk result (λ i. path_or_dash_of_file_or_standard image_path i ≡ path.now) }
         ensures kind { IfOk result (λ i. is_standard_stream i ≡ is_path_of_standard_stream path.now) }
     {
-        if names_standard(path) {
+        if is_standard_stream_path(path) {
             return Ok(FileOrStandard::Standard(self.output.replace(None)));
         }
         let file = NewImage::new(self.rt.alloc(), self.rt, path)?;
@@ -92,48 +95,51 @@ where
     E: Write + Copy + Drop,
     C: Clock + Copy + Drop,
 {
-    ghost use Rattle.lfs_tool_folders.specs.Roots.{folder_root, file_size_read_limit, target_root};
+    ghost use Rattle.lfs_tool_folders.specs.Roots.{root_path_of_source_folder, file_size_read_limit, root_path_of_target_folder};
     ghost use Rattle.lfs_tool.specs.Paths.{path_of_new_image, path_of_old_image};
 
-    type Image = Watched<BufReader<Noted<'a, FileOrStandard<OldImage<'a, R>, I>>>>;
+    type Image = WatchedStream<BufReader<NotedStream<'a, FileOrStandard<OldImage<'a, R>, I>>>>;
 
-    type NewImage = Watched<Noted<'a, FileOrStandard<NewImage<'a, R>, O>>>;
+    type NewImage = WatchedStream<NotedStream<'a, FileOrStandard<NewImage<'a, R>, O>>>;
 
     type Folder = Folder<'a, R>;
 
     type NewFolder = TargetFolder<'a, R>;
 
-    type Progress = Option<Progress<Watched<E>, C>>;
+    type Progress = Option<Progress<WatchedStream<E>, C>>;
 
     ghost image_path = { path_of_old_image };
 
     ghost new_image_path = { path_of_new_image };
 
-    ghost folder_path = { folder_root };
+    ghost folder_path = { root_path_of_source_folder };
 
     ghost folder_limit = { file_size_read_limit };
 
-    ghost new_folder_path = { target_root };
+    ghost new_folder_path = { root_path_of_target_folder };
 
     fn image(
         &self,
         path: &str,
-    ) -> Result<Watched<BufReader<Noted<'a, FileOrStandard<OldImage<'a, R>, I>>>>, Error> {
-        let image = self.old_image(path)?;
-        let image = Noted::new(self.rt.alloc(), image, path, self.log)?;
+    ) -> Result<
+        WatchedStream<BufReader<NotedStream<'a, FileOrStandard<OldImage<'a, R>, I>>>>,
+        Error,
+    > {
+        let image = self.image_input_at_path(path)?;
+        let image = NotedStream::new(self.rt.alloc(), image, path, self.log)?;
         let Ok(reader) = BufReader::with_capacity(self.rt.alloc(), READ_AHEAD, image) else {
             return Err(Error::NoMemory);
         };
-        Ok(Watched::new(reader))
+        Ok(WatchedStream::new(reader))
     }
 
     fn new_image(
         &self,
         path: &str,
-    ) -> Result<Watched<Noted<'a, FileOrStandard<NewImage<'a, R>, O>>>, Error> {
+    ) -> Result<WatchedStream<NotedStream<'a, FileOrStandard<NewImage<'a, R>, O>>>, Error> {
         let image = self.image_output_at_path(path)?;
-        let image = Noted::new(self.rt.alloc(), image, path, self.log)?;
-        Ok(Watched::new(image))
+        let image = NotedStream::new(self.rt.alloc(), image, path, self.log)?;
+        Ok(WatchedStream::new(image))
     }
 
     fn folder(&self, path: &str, size: u32) -> Result<Folder<'a, R>, Error> {
@@ -146,9 +152,9 @@ where
         Ok(folder)
     }
 
-    fn progress(&self) -> Option<Progress<Watched<E>, C>> {
+    fn progress(&self) -> Option<Progress<WatchedStream<E>, C>> {
         match self.terminal {
-            Some((out, clock)) => Some(Progress::new(Watched::new(out), clock)),
+            Some((out, clock)) => Some(Progress::new(WatchedStream::new(out), clock)),
             None => None,
         }
     }

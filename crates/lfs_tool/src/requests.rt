@@ -3,11 +3,11 @@
 ghost use Rattle.std.specs.Prelude.{◌≡◌, ◌≢◌, ◌⊎◌, IfErr, IfOk, IfSome, IsErrOf, OnErr, OnOk};
 ghost use Rattle.std.specs.Io.KnownBytes.{Appends};
 ghost use Rattle.lfs_tool.specs.KnownBytes.{AppendsBeginningOfBytes, IsListingRefusal};
-ghost use Rattle.lfs_tool.specs.Listings.{ListsImage, RefusesToList};
+ghost use Rattle.lfs_tool.specs.Listings.{IsListingTextOfImage, RefusesToList};
 ghost use Rattle.lfs_tool.specs.Unpackings.{HasBegunUnpackingImage, HasUnpackedImage};
-ghost use Rattle.lfs_tool.specs.CheckResults.{IsCheckResultOfBytes, is_accepted};
+ghost use Rattle.lfs_tool.specs.CheckResults.{IsCheckResultOfBytes, is_accepted_check_result};
 ghost use Rattle.lfs_tool.specs.CheckedLines.{check_result_text};
-ghost use Rattle.lfs_tool.specs.Reports.{IsReadToEndOrPastImageLimit, IsErrorExactlyWithOneFault, ReportsWriterFaults};
+ghost use Rattle.lfs_tool.specs.Reports.{IsReadToEndOrPastImageLimit, IsThisErrorExactlyIfOneCallFailed, ReportsWriterFaults};
 
 use crate::{FollowsProgress, ImageInput, Line, ToolError, ToolOutput, check, list, unpack};
 use lfs_device::Error;
@@ -25,17 +25,17 @@ pub fn list_for_command_line<R: ImageInput, W: ToolOutput>(
     out: &mut W,
 ) -> Result<(), ToolError>
     ensures ok { OnOk result (IfSome (R.remaining image.old) (λ bytes.
-        (text : _) × (ListsImage line.now.block_size line.now.page bytes text × Appends (W.contents out.old) (W.contents out.new) text))) }
+        (text : _) × (IsListingTextOfImage line.now.block_size line.now.page bytes text × Appends (W.contents out.old) (W.contents out.new) text))) }
 
     // The writer isn't called, unless it fails: then a beginning of the lines may be written.
     ensures writer { ReportsWriterFaults W.ToolOutput out.old out.new result }
     ensures beginning { IsErrOf result ToolError.Output → IfSome (R.remaining image.old) (λ bytes.
-        (text : _) × (ListsImage line.now.block_size line.now.page bytes text × AppendsBeginningOfBytes (W.contents out.old) (W.contents out.new) text)) }
+        (text : _) × (IsListingTextOfImage line.now.block_size line.now.page bytes text × AppendsBeginningOfBytes (W.contents out.old) (W.contents out.new) text)) }
 
     // When each other error comes.
     ensures refused { (e : _) → IsErrOf result (ToolError.Fs e)
         → IsListingRefusal e × IfSome (R.remaining image.old) (λ bytes. RefusesToList line.now.block_size line.now.page bytes e) }
-    ensures input { IsErrorExactlyWithOneFault ToolError.Input (R.faults image.old) (R.faults image.new) result }
+    ensures input { IsThisErrorExactlyIfOneCallFailed ToolError.Input (R.faults image.old) (R.faults image.new) result }
     ensures read { ¬ IsErrOf result ToolError.Input → ¬ IsErrOf result (ToolError.Fs Error.NoMemory) → IsReadToEndOrPastImageLimit (R.remaining image.old) (R.remaining image.new) }
 {
     list(alloc, image, line.block_size, line.page, out)
@@ -53,7 +53,7 @@ pub fn check_for_command_line<R: ImageInput, W: ToolOutput>(
     out: &mut W,
 ) -> Result<bool, ToolError>
     ensures ok { IfOk result (λ accepted. IfSome (R.remaining image.old) (λ bytes.
-        (checked : _) × (IsCheckResultOfBytes line.now.block_size line.now.page bytes checked × (accepted ≡ is_accepted checked) × Appends (W.contents out.old) (W.contents out.new) (check_result_text checked)))) }
+        (checked : _) × (IsCheckResultOfBytes line.now.block_size line.now.page bytes checked × (accepted ≡ is_accepted_check_result checked) × Appends (W.contents out.old) (W.contents out.new) (check_result_text checked)))) }
 
     // The writer isn't called, unless it fails: then a beginning of the lines may be written.
     ensures writer { ReportsWriterFaults W.ToolOutput out.old out.new result }
@@ -62,7 +62,7 @@ pub fn check_for_command_line<R: ImageInput, W: ToolOutput>(
 
     // When each other error comes.
     ensures refused { (e : _) → IsErrOf result (ToolError.Fs e) → e ≡ Error.NoMemory }
-    ensures input { IsErrorExactlyWithOneFault ToolError.Input (R.faults image.old) (R.faults image.new) result }
+    ensures input { IsThisErrorExactlyIfOneCallFailed ToolError.Input (R.faults image.old) (R.faults image.new) result }
     ensures read { ¬ IsErrOf result ToolError.Input → ¬ IsErrOf result (ToolError.Fs Error.NoMemory) → IsReadToEndOrPastImageLimit (R.remaining image.old) (R.remaining image.new) }
 {
     check(alloc, image, line.block_size, line.page, out)
@@ -89,9 +89,9 @@ pub fn unpack_for_command_line<R: ImageInput, T: Target, F: FollowsProgress>(
 
     // When each error comes.
     ensures refused { (e : _) → IsErrOf result (ToolError.Fs e) → IfSome (R.remaining image.old) (λ bytes. RefusesToList line.now.block_size line.now.page bytes e) }
-    ensures input { IsErrorExactlyWithOneFault ToolError.Input (R.faults image.old) (R.faults image.new) result }
+    ensures input { IsThisErrorExactlyIfOneCallFailed ToolError.Input (R.faults image.old) (R.faults image.new) result }
     ensures read { ¬ IsErrOf result ToolError.Input → ¬ IsErrOf result (ToolError.Fs Error.NoMemory) → IsReadToEndOrPastImageLimit (R.remaining image.old) (R.remaining image.new) }
-    ensures output { IsErrorExactlyWithOneFault ToolError.Output (T.faults target.old) (T.faults target.new) result }
+    ensures output { IsThisErrorExactlyIfOneCallFailed ToolError.Output (T.faults target.old) (T.faults target.new) result }
 {
     unpack(alloc, image, line.block_size, line.page, target, progress)
 }

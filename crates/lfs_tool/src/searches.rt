@@ -5,16 +5,16 @@ ghost use Rattle.lfs_device.specs.Shown.{disk_of_geometry_and_blocks};
 ghost use Rattle.lfs_model.specs.Disk.{Disk};
 ghost use Rattle.lfs_tool.specs.BrokenRules.{BreaksRuleOfFinding};
 ghost use Rattle.lfs_tool.specs.Device.{HasSizesOfGeometry, OnlyReadsDevice};
-ghost use Rattle.lfs_tool.specs.Findings.{IsFindingOfDisk};
+ghost use Rattle.lfs_tool.specs.Findings.{IsTrueFindingOfDisk};
 ghost use Rattle.lfs_tool.specs.OwnedSlotView.{owned_pairs_view};
-ghost use Rattle.lfs_tool.specs.PairReads.{IsFollowed};
+ghost use Rattle.lfs_tool.specs.PairReads.{AreAllThreadPairsOrFinding};
 
 use crate::findings::Finding;
 use crate::owned_parts::OwnedPair;
-use crate::roots::root_of;
+use crate::roots::root_pair_index;
 use crate::slots::finding_on_entry_slots;
 use crate::superblock_checks::finding_on_superblock_chain;
-use crate::thread_walk::{FollowedThread, follow};
+use crate::thread_walk::{FollowedThread, read_pairs_of_thread};
 use lfs_device::{BlockDevice, Error, Geometry};
 use std::alloc::{AllocError, Global};
 
@@ -29,7 +29,7 @@ fn finding_on_pairs(
     if pairs.is_empty() {
         return Ok(None);
     }
-    let root = root_of(pairs);
+    let root = root_pair_index(pairs);
     if let Some(finding) = finding_on_superblock_chain(geometry, pairs, root) {
         return Ok(Some(finding));
     }
@@ -42,7 +42,7 @@ fn finding_on_followed_thread(
     geometry: &Geometry,
     followed: FollowedThread,
 ) -> Result<Option<Finding>, Error>
-    ensures found { IfOk result (λ found. IfSome found (λ f. (disk : Disk) → HasSizesOfGeometry disk geometry.now → IsFollowed disk followed → IsFindingOfDisk disk f)) }
+    ensures found { IfOk result (λ found. IfSome found (λ f. (disk : Disk) → HasSizesOfGeometry disk geometry.now → AreAllThreadPairsOrFinding disk followed → IsTrueFindingOfDisk disk f)) }
     ensures errors { IfErr result (λ e. e ≡ Error.NoMemory) }
 {
     match followed {
@@ -62,12 +62,15 @@ fn finding_on_followed_thread(
 /// be accepted then.
 ///
 /// Errors: `Io` where a read failed. `NoMemory` where memory isn't granted.
-pub fn find<D: BlockDevice>(alloc: Global, device: &mut D) -> Result<Option<Finding>, Error>
-    ensures found { IfOk result (λ found. IfSome found (IsFindingOfDisk (disk_of_geometry_and_blocks (D.geometry device.old) (D.blocks device.old)))) }
+pub fn find_broken_rule_on_device<D: BlockDevice>(
+    alloc: Global,
+    device: &mut D,
+) -> Result<Option<Finding>, Error>
+    ensures found { IfOk result (λ found. IfSome found (IsTrueFindingOfDisk (disk_of_geometry_and_blocks (D.geometry device.old) (D.blocks device.old)))) }
     ensures looks { OnlyReadsDevice D.BlockDevice device.old device.new result }
 {
     let geometry = device.geometry();
-    match follow(alloc, device)? {
+    match read_pairs_of_thread(alloc, device)? {
         Some(followed) => finding_on_followed_thread(alloc, &geometry, followed),
         None => Ok(None),
     }

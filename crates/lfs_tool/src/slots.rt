@@ -5,7 +5,7 @@ ghost use Rattle.lfs_model.specs.Disk.{Disk};
 ghost use Rattle.lfs_model.specs.Slots.{pair_address_of_array};
 ghost use Rattle.lfs_model.specs.Thread.{Pair, pair_count_before_root};
 ghost use Rattle.lfs_model.specs.View.{IsStructOfKind};
-ghost use Rattle.lfs_tool.specs.BrokenRules.{IsTrueOfEntryAtPlace, BreaksRuleOfFinding, IsSlotRequiredToBeEntry};
+ghost use Rattle.lfs_tool.specs.BrokenRules.{IsTrueOfNamedEntrySlot, BreaksRuleOfFinding, IsSlotRequiredToBeEntry};
 ghost use Rattle.lfs_tool.specs.Entries.{BreaksEntryRule};
 ghost use Rattle.lfs_tool.specs.OwnedSlotView.{owned_slot_view, owned_pair_view, owned_pairs_view};
 
@@ -36,7 +36,7 @@ fn has_struct_of_its_kind(slot: &OwnedSlot) -> bool
 }
 
 // Returns what is wrong with a slot that has to be an entry.
-fn fault_of(slot: &OwnedSlot) -> Option<EntryDefect>
+fn entry_defect_of_slot(slot: &OwnedSlot) -> Option<EntryDefect>
     ensures { IfSome result (BreaksEntryRule (owned_slot_view slot.now)) }
 {
     if slot.kind.is_superblock() {
@@ -52,7 +52,7 @@ fn fault_of(slot: &OwnedSlot) -> Option<EntryDefect>
 }
 
 // Returns a slot by its pair, its number and its name.
-fn place_of_slot(
+fn named_slot_of_owned_slot(
     alloc: Global,
     pair: [u32; 2],
     slot: usize,
@@ -66,7 +66,7 @@ fn place_of_slot(
 
 // Returns the finding for a slot at a place.
 fn finding_of_entry_defect(fault: EntryDefect, place: NamedSlot) -> Finding
-    ensures { (disk : Disk) (ps : List Pair) → IsTrueOfEntryAtPlace (λ s. BreaksEntryRule s fault) ps place → BreaksRuleOfFinding disk ps result }
+    ensures { (disk : Disk) (ps : List Pair) → IsTrueOfNamedEntrySlot (λ s. BreaksEntryRule s fault) ps place → BreaksRuleOfFinding disk ps result }
 {
     match fault {
         EntryDefect::IsSuperblock => Finding::SecondSuperblock(place),
@@ -84,15 +84,19 @@ fn finding_on_entry_slot(
 ) -> Result<Option<Finding>, AllocError>
     ensures { IfOk result (λ found. IfSome found (λ f. (disk : Disk) (ps : List Pair) → IsSlotRequiredToBeEntry ps (pair_address_of_array pair) id (owned_slot_view slot.now) → BreaksRuleOfFinding disk ps f)) }
 {
-    let Some(fault) = fault_of(slot) else {
+    let Some(fault) = entry_defect_of_slot(slot) else {
         return Ok(None);
     };
-    let place = place_of_slot(alloc, pair, id, slot)?;
+    let place = named_slot_of_owned_slot(alloc, pair, id, slot)?;
     Ok(Some(finding_of_entry_defect(fault, place)))
 }
 
 // Returns what is wrong with the slots of a pair from a number on, which have to be entries.
-fn pair_fault(alloc: Global, pair: &OwnedPair, from: usize) -> Result<Option<Finding>, AllocError>
+fn finding_on_entry_slots_of_pair(
+    alloc: Global,
+    pair: &OwnedPair,
+    from: usize,
+) -> Result<Option<Finding>, AllocError>
     ensures { IfOk result (λ found. IfSome found (λ f. (disk : Disk) (ps : List Pair) (index : ℕ) → slice_get ps index ≡ Some (owned_pair_view pair.now) → (pair_count_before_root ps < index) ⊎ (0 < from) → BreaksRuleOfFinding disk ps f)) }
 {
     for id in from..pair.slots.len() {
@@ -123,7 +127,7 @@ pub(crate) fn finding_on_entry_slots(
 {
     for index in 0..pairs.len() {
         let from = first_entry_slot_id(root, index);
-        if let Some(finding) = pair_fault(alloc, &pairs[index], from)? {
+        if let Some(finding) = finding_on_entry_slots_of_pair(alloc, &pairs[index], from)? {
             return Ok(Some(finding));
         }
     }

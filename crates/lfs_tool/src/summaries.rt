@@ -2,25 +2,25 @@
 
 ghost use Rattle.std.specs.Prelude.{◌≡◌, ◌↔◌, ◌≤◌, IfErr, IfOk, IsTrue, count_by, false, length};
 ghost use Rattle.lfs_model.specs.BlockSets.{AreExactlyTheUsedBlocks};
-ghost use Rattle.lfs_model.specs.Profile.{IsWritable};
+ghost use Rattle.lfs_model.specs.Profile.{IsWritableImage};
 ghost use Rattle.lfs_model.specs.Shown.{used_blocks};
 ghost use Rattle.lfs_model.specs.Thread.{pair_count_before_root};
 ghost use Rattle.lfs_model.specs.View.{IsAcceptedImage};
 ghost use Rattle.lfs_tag.specs.FieldsView.{move_view};
 ghost use Rattle.lfs_thread.specs.Steps.{IsThreadOnlyRead};
-ghost use Rattle.lfs_lookup.specs.Items.{structure_view};
+ghost use Rattle.lfs_lookup.specs.Items.{owned_struct_view};
 ghost use Rattle.lfs_lookup.specs.Walk.{ArePathsAndStructsOfWalk, tree_items_view};
 ghost use Rattle.lfs_tool.specs.ImageSummaries.{HasImageSummary, is_file_item, is_file_struct, has_half_done_operation};
 
 use crate::verdict::ImageSummary;
 use lfs_device::{Error, Ordered, RamDevice};
-use lfs_lookup::{OwnedStruct, TreeItem, find_root, is_writable, walk};
+use lfs_lookup::{OwnedStruct, TreeItem, find_root, is_writable, walk_tree};
 use lfs_tag::MoveState;
 use lfs_thread::Thread;
 use std::alloc::Global;
 
 fn is_file(structure: &OwnedStruct) -> bool
-    ensures { result ≡ is_file_struct (structure_view structure.now) }
+    ensures { result ≡ is_file_struct (owned_struct_view structure.now) }
 {
     match structure {
         OwnedStruct::Inline(_) => true,
@@ -44,7 +44,7 @@ fn count_files(items: &[TreeItem]) -> usize
 }
 
 // Returns whether a global state has an operation to end.
-fn is_half_done(state: &MoveState) -> bool
+fn has_unfinished_operation(state: &MoveState) -> bool
     ensures { result ≡ has_half_done_operation (move_view state.now) }
 {
     state.sync || state.kind != 0
@@ -61,7 +61,7 @@ fn tree_items_of_thread(
     ensures only { (IsThreadOnlyRead thread.old.kept thread.new.kept) × (thread.new.failed ≡ false) }
     ensures err { IfErr result (λ e. e ≡ Error.NoMemory) }
 {
-    match walk(alloc, thread) {
+    match walk_tree(alloc, thread) {
         Ok(items) => Ok(items),
         Err(error) => {
             // The device had no fault, so memory ran out.
@@ -101,7 +101,7 @@ fn is_thread_writable(
     requires works { thread.old.failed ≡ false }
     requires accepted { IsAcceptedImage thread.old.kept.disk thread.old.kept.pairs }
     requires root { root ≡ pair_count_before_root thread.old.kept.pairs }
-    ensures is { IfOk result (λ b. IsTrue b ↔ IsWritable thread.old.kept.disk thread.old.kept.pairs) }
+    ensures is { IfOk result (λ b. IsTrue b ↔ IsWritableImage thread.old.kept.disk thread.old.kept.pairs) }
     ensures only { (IsThreadOnlyRead thread.old.kept thread.new.kept) × (thread.new.failed ≡ false) }
     ensures err { IfErr result (λ e. e ≡ Error.NoMemory) }
 {
@@ -137,7 +137,7 @@ pub(crate) fn image_summary_of_thread(
         directories: items.len() - files,
         used: thread.used_count(),
         blocks: thread.geometry().block_count,
-        recover: is_half_done(&state),
+        recover: has_unfinished_operation(&state),
         writable,
     })
 }

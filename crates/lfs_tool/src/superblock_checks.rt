@@ -6,23 +6,23 @@ ghost use Rattle.lfs_model.specs.EntryTypes.{SuperblockFields};
 ghost use Rattle.lfs_model.specs.Slots.{Inline, Struct as ModelStruct, pair_address_of_array};
 ghost use Rattle.lfs_model.specs.Thread.{Pair, pair_count_before_root};
 ghost use Rattle.lfs_tag.specs.FieldsView.{superblock_view};
-ghost use Rattle.lfs_tool.specs.BrokenRules.{HasSuperblockFields, BreaksRuleOfFinding, IsInSuperblockChain, IsWrongFieldForDisk};
+ghost use Rattle.lfs_tool.specs.BrokenRules.{HasSuperblockFields, BreaksRuleOfFinding, IsFirstStructOfSuperblockChainPair, IsWrongSuperblockFieldForDisk};
 ghost use Rattle.lfs_tool.specs.Device.{HasSizesOfGeometry};
-ghost use Rattle.lfs_lookup.specs.Items.{structure_view};
+ghost use Rattle.lfs_lookup.specs.Items.{owned_struct_view};
 ghost use Rattle.lfs_tool.specs.OwnedSlotView.{owned_slot_view, owned_pair_view, owned_pairs_view};
 
 use crate::findings::{Finding, WrongNumber};
 use crate::owned_parts::{OwnedPair, OwnedSlot};
 use crate::roots::starts_with_superblock;
-use crate::superblocks::unlike;
+use crate::superblocks::wrong_number_in_superblock_fields;
 use lfs_device::Geometry;
 use lfs_lookup::OwnedStruct;
 use lfs_tag::{Superblock, superblock_of};
 
 // Returns the fields of a superblock's struct.
 pub(crate) fn superblock_fields_of_struct(structure: &OwnedStruct) -> Option<Superblock>
-    ensures some { IfSome result (λ fields. HasSuperblockFields (structure_view structure.now) (superblock_view fields)) }
-    ensures none { result ≡ None → (fields : SuperblockFields) → ¬ HasSuperblockFields (structure_view structure.now) fields }
+    ensures some { IfSome result (λ fields. HasSuperblockFields (owned_struct_view structure.now) (superblock_view fields)) }
+    ensures none { result ≡ None → (fields : SuperblockFields) → ¬ HasSuperblockFields (owned_struct_view structure.now) fields }
 {
     match structure {
         OwnedStruct::Inline(bytes) => superblock_fields_in_bytes(bytes),
@@ -46,9 +46,9 @@ pub(crate) fn wrong_superblock_number(
     geometry: &Geometry,
     fields: &Superblock,
 ) -> Option<WrongNumber>
-    ensures { IfSome result (λ stated. (disk : Disk) → HasSizesOfGeometry disk geometry.now → IsWrongFieldForDisk disk (superblock_view fields.now) stated) }
+    ensures { IfSome result (λ stated. (disk : Disk) → HasSizesOfGeometry disk geometry.now → IsWrongSuperblockFieldForDisk disk (superblock_view fields.now) stated) }
 {
-    unlike(geometry.block_size, geometry.block_count as usize, fields)
+    wrong_number_in_superblock_fields(geometry.block_size, geometry.block_count as usize, fields)
 }
 
 // Returns what is wrong with the fields of the superblock in a pair of the chain.
@@ -57,7 +57,7 @@ fn finding_on_superblock_fields(
     pair: [u32; 2],
     fields: &Superblock,
 ) -> Option<Finding>
-    ensures { IfSome result (λ f. (disk : Disk) (ps : List Pair) (s : ModelStruct) → HasSizesOfGeometry disk geometry.now → IsInSuperblockChain ps (pair_address_of_array pair) s → HasSuperblockFields s (superblock_view fields.now) → BreaksRuleOfFinding disk ps f) }
+    ensures { IfSome result (λ f. (disk : Disk) (ps : List Pair) (s : ModelStruct) → HasSizesOfGeometry disk geometry.now → IsFirstStructOfSuperblockChainPair ps (pair_address_of_array pair) s → HasSuperblockFields s (superblock_view fields.now) → BreaksRuleOfFinding disk ps f) }
 {
     match wrong_superblock_number(geometry, fields) {
         Some(stated) => Some(Finding::OtherFields { pair, stated }),
@@ -67,7 +67,7 @@ fn finding_on_superblock_fields(
 
 // Returns what is wrong with the superblock in a pair of the chain.
 fn finding_on_superblock(geometry: &Geometry, pair: [u32; 2], first: &OwnedSlot) -> Option<Finding>
-    ensures { IfSome result (λ f. (disk : Disk) (ps : List Pair) → HasSizesOfGeometry disk geometry.now → IsInSuperblockChain ps (pair_address_of_array pair) (owned_slot_view first.now).struct → BreaksRuleOfFinding disk ps f) }
+    ensures { IfSome result (λ f. (disk : Disk) (ps : List Pair) → HasSizesOfGeometry disk geometry.now → IsFirstStructOfSuperblockChainPair ps (pair_address_of_array pair) (owned_slot_view first.now).struct → BreaksRuleOfFinding disk ps f) }
 {
     match superblock_fields_of_struct(&first.structure) {
         Some(fields) => finding_on_superblock_fields(geometry, pair, &fields),
@@ -76,7 +76,7 @@ fn finding_on_superblock(geometry: &Geometry, pair: [u32; 2], first: &OwnedSlot)
 }
 
 // Returns what is wrong with the superblock in a pair of the chain, if the pair has one.
-fn pair_fault(geometry: &Geometry, pair: &OwnedPair) -> Option<Finding>
+fn finding_on_superblock_of_pair(geometry: &Geometry, pair: &OwnedPair) -> Option<Finding>
     ensures { IfSome result (λ f. (disk : Disk) (ps : List Pair) (index : ℕ) → HasSizesOfGeometry disk geometry.now → slice_get ps index ≡ Some (owned_pair_view pair.now) → index ≤ pair_count_before_root ps → BreaksRuleOfFinding disk ps f) }
 {
     if pair.slots.is_empty() {
@@ -98,7 +98,7 @@ fn finding_on_chain_superblocks(
     ensures { IfSome result (λ f. (disk : Disk) → HasSizesOfGeometry disk geometry.now → BreaksRuleOfFinding disk (owned_pairs_view pairs.now) f) }
 {
     for index in 0..root + 1 {
-        if let Some(finding) = pair_fault(geometry, &pairs[index]) {
+        if let Some(finding) = finding_on_superblock_of_pair(geometry, &pairs[index]) {
             return Some(finding);
         }
     }

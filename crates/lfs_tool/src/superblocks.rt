@@ -8,7 +8,11 @@ use crate::findings::WrongNumber;
 use lfs_tag::{Superblock, superblock_of};
 
 // Returns which of these fields is wrong for so many blocks of that size.
-pub(crate) fn unlike(block_size: u32, count: usize, fields: &Superblock) -> Option<WrongNumber>
+pub(crate) fn wrong_number_in_superblock_fields(
+    block_size: u32,
+    count: usize,
+    fields: &Superblock,
+) -> Option<WrongNumber>
     ensures { IfSome result (IsWrongSuperblockField block_size count (superblock_view fields.now)) }
 {
     if fields.block_size != block_size {
@@ -45,7 +49,7 @@ fn wrong_number_at_offset(bytes: &[u8], block_size: u32, from: usize) -> Option<
 {
     let count = bytes.len() / block_size as usize;
     match superblock_fields_at_offset(bytes, from) {
-        Some(fields) => unlike(block_size, count, &fields),
+        Some(fields) => wrong_number_in_superblock_fields(block_size, count, &fields),
         None => None,
     }
 }

@@ -1,23 +1,23 @@
 // Images that are unpacked.
 
 ghost use Rattle.std.specs.Prelude.{◌≡◌, ◌≢◌, ◌⊎◌, ◌<◌, ◌^◌, IfErr, IfOk, IfSome, IsErrOf, OnErr, OnOk, false, length};
-ghost use Rattle.lfs_device.specs.RamDevice.{ram_blocks, geometry_of};
+ghost use Rattle.lfs_device.specs.RamDevice.{ram_blocks, geometry_of_ram_device};
 ghost use Rattle.lfs_device.specs.Shown.{disk_of_geometry_and_blocks as shown};
-ghost use Rattle.lfs_model.specs.View.{IsListIfCtz};
+ghost use Rattle.lfs_model.specs.View.{IsSkipListIfCtzStruct};
 ghost use Rattle.lfs_tool_folders.specs.Actions.{AddsAction};
 ghost use Rattle.lfs_tool.specs.Listings.{RefusesToList};
-ghost use Rattle.lfs_tool.specs.Unpackings.{HaveWellFormedSkipLists, FailsToUnpackDisk, FailsToUnpackImage, HasDoneBeginningOfActions, HasDoneMoreActions, HasBegunUnpackingImage, HasUnpackedDisk, HasUnpackedImage, ReportsTargetFaults, action_for_place, actions_for_places};
+ghost use Rattle.lfs_tool.specs.Unpackings.{HaveWellFormedSkipLists, FailsToUnpackDisk, FailsToUnpackImage, HasDoneBeginningOfUnpackingActions, HasDoneTheseFurtherUnpackingActions, HasBegunUnpackingImage, HasUnpackedDisk, HasUnpackedImage, ReportsUnpackTargetFaults, unpacking_action_for_tree_entry, unpacking_actions_for_tree_entries};
 ghost use Rattle.lfs_thread.specs.Steps.{IsThreadOnlyRead};
 ghost use Rattle.lfs_lookup.specs.FileBytes.{file_bytes_of_struct};
-ghost use Rattle.lfs_lookup.specs.Items.{structure_view};
+ghost use Rattle.lfs_lookup.specs.Items.{owned_struct_view};
 ghost use Rattle.lfs_lookup.specs.Walk.{tree_item_view, tree_items_view};
-ghost use Rattle.lfs_tool.specs.Reports.{IsReadToEndOrPastImageLimit, IsErrorExactlyWithOneFault};
+ghost use Rattle.lfs_tool.specs.Reports.{IsReadToEndOrPastImageLimit, IsThisErrorExactlyIfOneCallFailed};
 
-use crate::image_devices::{items_in_memory, ram_device_of_image};
+use crate::image_devices::{ram_device_of_image, tree_items_of_ram_device};
 use crate::input::read_image;
-use crate::{Amount, FollowsProgress, ImageInput, ToolError};
+use crate::{FilesAndBytes, FollowsProgress, ImageInput, ToolError};
 use lfs_device::{Error, Ordered, RamDevice};
-use lfs_lookup::{OwnedStruct, TreeItem, contents_of};
+use lfs_lookup::{OwnedStruct, TreeItem, read_file_bytes_of_struct};
 use lfs_thread::Thread;
 use lfs_tool_folders::{Target, TargetError};
 use std::alloc::Global;
@@ -29,13 +29,13 @@ fn file_bytes(
     structure: &OwnedStruct,
 ) -> Result<Vec<u8>, ToolError>
     requires works { thread.old.failed ≡ false }
-    requires list { IsListIfCtz thread.old.kept.disk (structure_view structure.now) }
-    ensures bytes { IfOk result (λ bytes. bytes.items ≡ file_bytes_of_struct thread.old.kept.disk (structure_view structure.now)) }
+    requires list { IsSkipListIfCtzStruct thread.old.kept.disk (owned_struct_view structure.now) }
+    ensures bytes { IfOk result (λ bytes. bytes.items ≡ file_bytes_of_struct thread.old.kept.disk (owned_struct_view structure.now)) }
     ensures only { IsThreadOnlyRead thread.old.kept thread.new.kept }
     ensures works { thread.new.failed ≡ false }
     ensures err { IfErr result (λ e. e ≡ ToolError.Fs Error.NoMemory) }
 {
-    match contents_of(alloc, thread, structure) {
+    match read_file_bytes_of_struct(alloc, thread, structure) {
         Ok(bytes) => Ok(bytes),
         Err(error) => {
             // The device had no fault, so memory ran out.
@@ -46,7 +46,7 @@ fn file_bytes(
 }
 
 // Returns the tool's error for a target's error.
-fn fault_of(error: TargetError) -> ToolError
+fn tool_error_of_target_error(error: TargetError) -> ToolError
     ensures { (error ≡ TargetError.Fault × (result ≡ ToolError.Output)) ⊎ (error ≡ TargetError.NoMemory × (result ≡ ToolError.Fs Error.NoMemory)) }
 {
     match error {
@@ -63,11 +63,11 @@ fn put_tree_item<T: Target>(
     target: &mut T,
 ) -> Result<(), ToolError>
     requires works { thread.old.failed ≡ false }
-    requires list { IsListIfCtz thread.old.kept.disk (structure_view item.now.structure) }
-    ensures done { OnOk result (AddsAction (T.done target.old) (T.done target.new) (action_for_place thread.old.kept.disk (tree_item_view item.now))) }
+    requires list { IsSkipListIfCtzStruct thread.old.kept.disk (owned_struct_view item.now.structure) }
+    ensures done { OnOk result (AddsAction (T.done target.old) (T.done target.new) (unpacking_action_for_tree_entry thread.old.kept.disk (tree_item_view item.now))) }
     ensures undone { OnErr result (T.done target.new ≡ T.done target.old) }
     ensures only { (IsThreadOnlyRead thread.old.kept thread.new.kept) × (thread.new.failed ≡ false) }
-    ensures reports { ReportsTargetFaults (T.faults target.old) (T.faults target.new) result }
+    ensures reports { ReportsUnpackTargetFaults (T.faults target.old) (T.faults target.new) result }
 {
     let result = match &item.structure {
         OwnedStruct::Branch(_) => target.make_folder(alloc, &item.path),
@@ -78,30 +78,30 @@ fn put_tree_item<T: Target>(
     };
     match result {
         Ok(()) => Ok(()),
-        Err(error) => Err(fault_of(error)),
+        Err(error) => Err(tool_error_of_target_error(error)),
     }
 }
 
 // Returns what an item is of the whole.
-fn amount_of(item: &TreeItem) -> Amount {
+fn file_and_byte_counts_of_item(item: &TreeItem) -> FilesAndBytes {
     match &item.structure {
-        OwnedStruct::Inline(bytes) => Amount {
+        OwnedStruct::Inline(bytes) => FilesAndBytes {
             files: 1,
             bytes: bytes.len(),
         },
-        OwnedStruct::Ctz { size, .. } => Amount {
+        OwnedStruct::Ctz { size, .. } => FilesAndBytes {
             files: 1,
             bytes: *size as usize,
         },
-        OwnedStruct::Branch(_) => Amount::none(),
+        OwnedStruct::Branch(_) => FilesAndBytes::none(),
     }
 }
 
 // Returns the whole of all items.
-fn amount_of_all(items: &[TreeItem]) -> Amount {
-    let mut whole = Amount::none();
+fn file_and_byte_counts_of_items(items: &[TreeItem]) -> FilesAndBytes {
+    let mut whole = FilesAndBytes::none();
     for item in items {
-        whole = whole.plus(amount_of(item));
+        whole = whole.plus(file_and_byte_counts_of_item(item));
     }
     whole
 }
@@ -116,14 +116,14 @@ fn put_tree_items<T: Target, F: FollowsProgress>(
 ) -> Result<(), ToolError>
     requires works { thread.old.failed ≡ false }
     requires lists { HaveWellFormedSkipLists thread.old.kept.disk (tree_items_view items.now) }
-    ensures done { OnOk result (HasDoneMoreActions (T.done target.old) (T.done target.new) (actions_for_places thread.old.kept.disk (tree_items_view items.now))) }
-    ensures begun { OnErr result (HasDoneBeginningOfActions (T.done target.old) (T.done target.new) (actions_for_places thread.old.kept.disk (tree_items_view items.now))) }
-    ensures reports { ReportsTargetFaults (T.faults target.old) (T.faults target.new) result }
+    ensures done { OnOk result (HasDoneTheseFurtherUnpackingActions (T.done target.old) (T.done target.new) (unpacking_actions_for_tree_entries thread.old.kept.disk (tree_items_view items.now))) }
+    ensures begun { OnErr result (HasDoneBeginningOfUnpackingActions (T.done target.old) (T.done target.new) (unpacking_actions_for_tree_entries thread.old.kept.disk (tree_items_view items.now))) }
+    ensures reports { ReportsUnpackTargetFaults (T.faults target.old) (T.faults target.new) result }
 {
-    progress.begin(amount_of_all(items));
+    progress.begin(file_and_byte_counts_of_items(items));
     for item in items {
         put_tree_item(alloc, thread, item, target)?;
-        progress.add(amount_of(item));
+        progress.add(file_and_byte_counts_of_item(item));
     }
     Ok(())
 }
@@ -135,11 +135,11 @@ fn unpack_ram_device<T: Target, F: FollowsProgress>(
     target: &mut T,
     progress: &mut F,
 ) -> Result<(), ToolError>
-    ensures done { OnOk result (HasUnpackedDisk (shown (geometry_of device) (ram_blocks device)) (T.done target.old) (T.done target.new)) }
-    ensures failed { IfErr result (FailsToUnpackDisk (shown (geometry_of device) (ram_blocks device)) (T.done target.old) (T.done target.new)) }
-    ensures output { IsErrorExactlyWithOneFault ToolError.Output (T.faults target.old) (T.faults target.new) result }
+    ensures done { OnOk result (HasUnpackedDisk (shown (geometry_of_ram_device device) (ram_blocks device)) (T.done target.old) (T.done target.new)) }
+    ensures failed { IfErr result (FailsToUnpackDisk (shown (geometry_of_ram_device device) (ram_blocks device)) (T.done target.old) (T.done target.new)) }
+    ensures output { IsThisErrorExactlyIfOneCallFailed ToolError.Output (T.faults target.old) (T.faults target.new) result }
 {
-    match items_in_memory(alloc, device) {
+    match tree_items_of_ram_device(alloc, device) {
         Ok((mut thread, items)) => put_tree_items(alloc, &mut thread, &items, target, progress),
         Err(error) => Err(ToolError::Fs(error)),
     }
@@ -157,7 +157,7 @@ fn unpack_image<T: Target, F: FollowsProgress>(
     requires { length image.items < 2 ^ 32 }
     ensures done { OnOk result (HasUnpackedImage block_size page image.items (T.done target.old) (T.done target.new)) }
     ensures failed { IfErr result (FailsToUnpackImage block_size page image.items (T.done target.old) (T.done target.new)) }
-    ensures output { IsErrorExactlyWithOneFault ToolError.Output (T.faults target.old) (T.faults target.new) result }
+    ensures output { IsThisErrorExactlyIfOneCallFailed ToolError.Output (T.faults target.old) (T.faults target.new) result }
 {
     match ram_device_of_image(image, block_size, page) {
         Ok(device) => unpack_ram_device(alloc, device, target, progress),
@@ -198,9 +198,9 @@ pub fn unpack<R: ImageInput, T: Target, F: FollowsProgress>(
 
     // When each error comes.
     ensures refused { (e : _) → IsErrOf result (ToolError.Fs e) → IfSome (R.remaining image.old) (λ bytes. RefusesToList block_size page bytes e) }
-    ensures input { IsErrorExactlyWithOneFault ToolError.Input (R.faults image.old) (R.faults image.new) result }
+    ensures input { IsThisErrorExactlyIfOneCallFailed ToolError.Input (R.faults image.old) (R.faults image.new) result }
     ensures read { ¬ IsErrOf result ToolError.Input → ¬ IsErrOf result (ToolError.Fs Error.NoMemory) → IsReadToEndOrPastImageLimit (R.remaining image.old) (R.remaining image.new) }
-    ensures output { IsErrorExactlyWithOneFault ToolError.Output (T.faults target.old) (T.faults target.new) result }
+    ensures output { IsThisErrorExactlyIfOneCallFailed ToolError.Output (T.faults target.old) (T.faults target.new) result }
 {
     let bytes = read_image(alloc, image)?;
     unpack_image(alloc, bytes, block_size, page, target, progress)

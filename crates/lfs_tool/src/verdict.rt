@@ -29,7 +29,7 @@ pub struct ImageSummary {
 
 /// Whether an image is accepted, and with what, or why not.
 #[derive(Drop)]
-pub enum Verdict {
+pub enum ImageVerdict {
     Accepted {
         summary: ImageSummary,
         orders: AcceptedOrders,

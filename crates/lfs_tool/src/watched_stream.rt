@@ -11,10 +11,10 @@ use std::io::{ErrorKind, Read, Write};
 ///
 /// std's traits have no word for a call that failed, nor for a flush. So three facts are read in
 /// the code here, and not proved: that std's call is made, that a failure is counted only where the
-/// call failed, and that a flush is one. Callers know a `Watched` by `ImageInput` and `ToolOutput`, and
+/// call failed, and that a flush is one. Callers know a `WatchedStream` by `ImageInput` and `ToolOutput`, and
 /// can't count anything without a call.
 #[derive(Drop)]
-pub struct Watched<T> {
+pub struct WatchedStream<T> {
     inner: T,
     // The failed calls, the writes since the last flush, and the values that were shown.
     faults: Tally,
@@ -22,15 +22,15 @@ pub struct Watched<T> {
     shown: Tally,
 }
 
-impl<T> Watched<T> {
+impl<T> WatchedStream<T> {
     ghost use Rattle.lfs_tool.specs.WatchedStreams.{watched_fault_count, watched_inner_stream};
 
     /// Makes a reader or a writer of which no call was made yet.
-    pub fn new(inner: T) -> Watched<T>
+    pub fn new(inner: T) -> WatchedStream<T>
         ensures inner { watched_inner_stream result ≡ inner }
         ensures faults { watched_fault_count result ≡ 0 }
     {
-        Watched {
+        WatchedStream {
             inner,
             faults: Tally::none(),
             pending: Tally::none(),
@@ -53,7 +53,7 @@ impl<T> Watched<T> {
     }
 }
 
-impl<R: Read> ImageInput for Watched<R> {
+impl<R: Read> ImageInput for WatchedStream<R> {
     ghost use Rattle.lfs_tool.specs.WatchedStreams.{watched_fault_count, watched_inner_stream};
 
     ghost remaining = { λ w. R.remaining (watched_inner_stream w) };
@@ -77,8 +77,8 @@ impl<R: Read> ImageInput for Watched<R> {
     }
 }
 
-impl<W: Write> ToolOutput for Watched<W> {
-    ghost use Rattle.lfs_tool.specs.WatchedStreams.{watched_fault_count, watched_inner_stream, unflushed_write_count, shown_of};
+impl<W: Write> ToolOutput for WatchedStream<W> {
+    ghost use Rattle.lfs_tool.specs.WatchedStreams.{watched_fault_count, watched_inner_stream, unflushed_write_count, written_value_count};
 
     ghost contents = { λ w. W.contents (watched_inner_stream w) };
 
@@ -86,7 +86,7 @@ impl<W: Write> ToolOutput for Watched<W> {
 
     ghost pending = { unflushed_write_count };
 
-    ghost shown = { shown_of };
+    ghost shown = { written_value_count };
 
     // A writer that takes nothing of some bytes fails.
     fn write(&mut self, buf: &[u8]) -> io::Result<usize> {

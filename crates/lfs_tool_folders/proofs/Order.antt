@@ -11,12 +11,12 @@ use Rattle.std.proofs.lemmas.List.Sums.{sum_by-cons}
 use Rattle.std.proofs.lemmas.List.Sorted.{IsPermutation-map, sum_by-IsPermutation}
 use Rattle.lfs_model.specs.declared.order.NameOrder.TheVariants.{ShorterFirst}
 use Rattle.lfs_model.specs.Names.{Name, name_cmp, same_name, is_path_component, is_less_ordering}
-use Rattle.lfs_model.specs.Source.{HaveBadOrRepeatedName, Source, names_of_given_entries, occurrence_count_of_name}
+use Rattle.lfs_model.specs.Source.{HaveBadOrRepeatedName, TreeSource, names_of_source_entries, occurrence_count_of_name}
 use Rattle.lfs_tool_folders.specs.SourceTrees.{listed_name_and_kind_view}
 use Rattle.lfs_model.proofs.Counts.{Each, each_weaker}
 use Rattle.lfs_model.proofs.Paths.{name_from_equal, same_itself}
-use Rattle.lfs_tool_folders.specs.Entries.{AreNamesInOrder, is_listed_name_before, name_of_listed, are_names_increasing_after}
-use Rattle.lfs_tool_folders.specs.declared.source.Listed.{Listed}
+use Rattle.lfs_tool_folders.specs.Entries.{ArePathComponentsInOrder, is_listed_name_before, name_bytes_of_listed_name, are_path_components_increasing_after_name}
+use Rattle.lfs_tool_folders.specs.declared.source.ListedName.{ListedName}
 
 -- ---- in order
 
@@ -30,10 +30,10 @@ record Rises (last : Name) (ns : List Name) : Type 0 where
   above : Each (λ n. name_cmp ShorterFirst last n ≡ Less) ns
   pairs : AllPairs (λ a b. name_cmp ShorterFirst a b ≡ Less) ns
 
-rises_from : (last : Name) (ns : List Name) → are_names_increasing_after last ns ≡ true → Rises last ns
+rises_from : (last : Name) (ns : List Name) → are_path_components_increasing_after_name last ns ≡ true → Rises last ns
 rises_from last [] e = record { components = tt; above = tt; pairs = λ i j d l m. absurd (omega arith) }
 rises_from last (n ∷ ns) e =
-    let one = and_parts (is_path_component n && is_less_ordering (name_cmp ShorterFirst last n)) (are_names_increasing_after n ns) e in
+    let one = and_parts (is_path_component n && is_less_ordering (name_cmp ShorterFirst last n)) (are_path_components_increasing_after_name n ns) e in
     let two = and_parts (is_path_component n) (is_less_ordering (name_cmp ShorterFirst last n)) one.0 in
     let less = less_from (name_cmp ShorterFirst last n) two.1 in
     let rest = rises_from n ns one.1 in
@@ -43,7 +43,7 @@ rises_from last (n ∷ ns) e =
       pairs = AllPairs-cons (λ a b. name_cmp ShorterFirst a b ≡ Less) n ns (All-from_recursion (λ m. name_cmp ShorterFirst n m ≡ Less) ns rest.above) rest.pairs;
     }
 
-pub in_order : (ns : List Name) → are_names_increasing_after [] ns ≡ true → AreNamesInOrder ns
+pub in_order : (ns : List Name) → are_path_components_increasing_after_name [] ns ≡ true → ArePathComponentsInOrder ns
 in_order ns e =
     let r = rises_from [] ns e in
     record { components = All-from_recursion (λ n. is_path_component n ≡ true) ns r.components; rise = r.pairs }
@@ -55,7 +55,7 @@ NeverFall [] = Unit {0}
 NeverFall (n ∷ []) = Unit {0}
 NeverFall (n ∷ m ∷ ns) = (is_less_ordering (name_cmp ShorterFirst m n) ≡ false) × NeverFall (m ∷ ns)
 
-never_fall : (xs : List Listed) → IsSortedBy is_listed_name_before xs → NeverFall (map name_of_listed xs)
+never_fall : (xs : List ListedName) → IsSortedBy is_listed_name_before xs → NeverFall (map name_bytes_of_listed_name xs)
 never_fall [] h = tt
 never_fall (x ∷ []) h = tt
 never_fall (x ∷ y ∷ xs) h = (
@@ -81,11 +81,11 @@ odd_here n ns e = inl (n, e, omega (arith, here_too n ns))
 twice : (n : Name) (ns : List Name) → HaveBadOrRepeatedName (n ∷ n ∷ ns)
 twice n ns = inr (n, omega (arith, here_too n (n ∷ ns), here_too n ns))
 
-bad_behind : (last : Name) (ns : List Name) → NeverFall (last ∷ ns) → are_names_increasing_after last ns ≡ false → HaveBadOrRepeatedName (last ∷ ns)
+bad_behind : (last : Name) (ns : List Name) → NeverFall (last ∷ ns) → are_path_components_increasing_after_name last ns ≡ false → HaveBadOrRepeatedName (last ∷ ns)
 bad_behind last [] h e = absurd (cc)
 bad_behind last (n ∷ ns) h e = go (is_path_component n) (name_cmp ShorterFirst last n) refl refl e (bad_behind n ns h.1)
   where
-    go : (c : Bool) (o : Ordering) → is_path_component n ≡ c → name_cmp ShorterFirst last n ≡ o → (c && is_less_ordering o && are_names_increasing_after n ns) ≡ false → (are_names_increasing_after n ns ≡ false → HaveBadOrRepeatedName (n ∷ ns)) → HaveBadOrRepeatedName (last ∷ n ∷ ns)
+    go : (c : Bool) (o : Ordering) → is_path_component n ≡ c → name_cmp ShorterFirst last n ≡ o → (c && is_less_ordering o && are_path_components_increasing_after_name n ns) ≡ false → (are_path_components_increasing_after_name n ns ≡ false → HaveBadOrRepeatedName (n ∷ ns)) → HaveBadOrRepeatedName (last ∷ n ∷ ns)
     go false o is cmp f next = bad_later last (n ∷ ns) (odd_here n ns is)
     go true Less is cmp f next = bad_later last (n ∷ ns) (next f)
     go true Equal is cmp f next = subst (λ m. HaveBadOrRepeatedName (last ∷ m ∷ ns)) (name_from_equal last n cmp) (twice last ns)
@@ -98,33 +98,33 @@ above_nothing : (n : Name) → is_path_component n ≡ true → is_less_ordering
 above_nothing [] e = absurd (cc)
 above_nothing (b ∷ n) e = refl
 
-bad_from : (ns : List Name) → NeverFall ns → are_names_increasing_after [] ns ≡ false → HaveBadOrRepeatedName ns
+bad_from : (ns : List Name) → NeverFall ns → are_path_components_increasing_after_name [] ns ≡ false → HaveBadOrRepeatedName ns
 bad_from [] h e = absurd (cc)
 bad_from (n ∷ ns) h e = go (is_path_component n) refl e
   where
-    go : (c : Bool) → is_path_component n ≡ c → (c && is_less_ordering (name_cmp ShorterFirst [] n) && are_names_increasing_after n ns) ≡ false → HaveBadOrRepeatedName (n ∷ ns)
+    go : (c : Bool) → is_path_component n ≡ c → (c && is_less_ordering (name_cmp ShorterFirst [] n) && are_path_components_increasing_after_name n ns) ≡ false → HaveBadOrRepeatedName (n ∷ ns)
     go false is f = odd_here n ns is
-    go true is f = bad_behind n ns h (sym (ap (λ b. b && are_names_increasing_after n ns) (above_nothing n is)) ∙ f)
+    go true is f = bad_behind n ns h (sym (ap (λ b. b && are_path_components_increasing_after_name n ns) (above_nothing n is)) ∙ f)
 
-pub bad_names : (xs : List Listed) → IsSortedBy is_listed_name_before xs → are_names_increasing_after [] (map name_of_listed xs) ≡ false → HaveBadOrRepeatedName (map name_of_listed xs)
-bad_names xs h e = bad_from (map name_of_listed xs) (never_fall xs h) e
+pub bad_names : (xs : List ListedName) → IsSortedBy is_listed_name_before xs → are_path_components_increasing_after_name [] (map name_bytes_of_listed_name xs) ≡ false → HaveBadOrRepeatedName (map name_bytes_of_listed_name xs)
+bad_names xs h e = bad_from (map name_bytes_of_listed_name xs) (never_fall xs h) e
 
 -- ---- in another order
 
-same_times : (xs ys : List Listed) (name : Name) → IsPermutation xs ys → occurrence_count_of_name name (map name_of_listed ys) ≡ occurrence_count_of_name name (map name_of_listed xs)
-same_times xs ys name h = sum_by-IsPermutation (λ n. cond (same_name name n) 1 0) (map name_of_listed xs) (map name_of_listed ys) (IsPermutation-map name_of_listed xs ys h)
+same_times : (xs ys : List ListedName) (name : Name) → IsPermutation xs ys → occurrence_count_of_name name (map name_bytes_of_listed_name ys) ≡ occurrence_count_of_name name (map name_bytes_of_listed_name xs)
+same_times xs ys name h = sum_by-IsPermutation (λ n. cond (same_name name n) 1 0) (map name_bytes_of_listed_name xs) (map name_bytes_of_listed_name ys) (IsPermutation-map name_bytes_of_listed_name xs ys h)
 
-bad_before : (xs ys : List Listed) → IsPermutation xs ys → HaveBadOrRepeatedName (map name_of_listed ys) → HaveBadOrRepeatedName (map name_of_listed xs)
+bad_before : (xs ys : List ListedName) → IsPermutation xs ys → HaveBadOrRepeatedName (map name_bytes_of_listed_name ys) → HaveBadOrRepeatedName (map name_bytes_of_listed_name xs)
 bad_before xs ys h (inl b) = inl (b.0, b.1, omega (arith, b.2, same_times xs ys b.0 h))
 bad_before xs ys h (inr b) = inr (b.0, omega (arith, b.1, same_times xs ys b.0 h))
 
-pub names_given : (xs : List Listed) → names_of_given_entries (map listed_name_and_kind_view xs) ≡ map name_of_listed xs
+pub names_given : (xs : List ListedName) → names_of_source_entries (map listed_name_and_kind_view xs) ≡ map name_bytes_of_listed_name xs
 names_given [] = refl
 names_given (x ∷ xs) = ap (λ ns. x.name.items ∷ ns) (names_given xs)
 
 -- what is bad once it is sorted was bad as it was given
-pub bad_given : (known : Option Source) (folder : List ℕ) (xs ys zs : List Listed) → IfSome known (λ s. map listed_name_and_kind_view xs ≡ s.names folder) → IsPermutation xs ys → zs ≡ ys → HaveBadOrRepeatedName (map name_of_listed zs)
-    → IfSome known (λ s. HaveBadOrRepeatedName (names_of_given_entries (s.names folder)))
+pub bad_given : (known : Option TreeSource) (folder : List ℕ) (xs ys zs : List ListedName) → IfSome known (λ s. map listed_name_and_kind_view xs ≡ s.names folder) → IsPermutation xs ys → zs ≡ ys → HaveBadOrRepeatedName (map name_bytes_of_listed_name zs)
+    → IfSome known (λ s. HaveBadOrRepeatedName (names_of_source_entries (s.names folder)))
 bad_given None folder xs ys zs e h same b = tt
 bad_given (Some s) folder xs ys zs e h same b =
-    subst (λ g. HaveBadOrRepeatedName (names_of_given_entries g)) e (subst HaveBadOrRepeatedName (sym (names_given xs)) (bad_before xs ys h (subst (λ v. HaveBadOrRepeatedName (map name_of_listed v)) same b)))
+    subst (λ g. HaveBadOrRepeatedName (names_of_source_entries g)) e (subst HaveBadOrRepeatedName (sym (names_given xs)) (bad_before xs ys h (subst (λ v. HaveBadOrRepeatedName (map name_bytes_of_listed_name v)) same b)))

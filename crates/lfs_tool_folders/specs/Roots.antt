@@ -5,13 +5,13 @@ use Rattle.lfs_tool_folders.specs.declared.source_folder.Folder.{Folder}
 use Rattle.lfs_tool_folders.specs.declared.target_folder.TargetFolder.{TargetFolder}
 
 -- the path at which a folder is read
-abbrev pub folder_root : {R : Type 0} → Folder R → List ℕ
-folder_root f = string_bytes f.root
+abbrev pub root_path_of_source_folder : {R : Type 0} → Folder R → List ℕ
+root_path_of_source_folder f = string_bytes f.root
 
 -- how many bytes a file may have that is read
 abbrev pub file_size_read_limit : {R : Type 0} → Folder R → ℕ
 file_size_read_limit f = f.size
 
 -- the path at which one is written
-abbrev pub target_root : {R : Type 0} → TargetFolder R → List ℕ
-target_root t = string_bytes t.root
+abbrev pub root_path_of_target_folder : {R : Type 0} → TargetFolder R → List ℕ
+root_path_of_target_folder t = string_bytes t.root

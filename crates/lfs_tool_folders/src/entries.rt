@@ -1,11 +1,11 @@
 ghost use Rattle.std.specs.Prelude.{◌≡◌, ◌++◌, ◌∷◌, [], IfOk, IfSome, IsErrOf, OnOk, map, reverse, true};
-ghost use Rattle.lfs_model.specs.Source.{HaveBadOrRepeatedName, names_of_given_entries, source_path_in};
-ghost use Rattle.lfs_tool_folders.specs.SourceTrees.{IsKnownTreeUnchanged, is_folder, listed_name_and_kind_view};
+ghost use Rattle.lfs_model.specs.Source.{HaveBadOrRepeatedName, names_of_source_entries, source_path_in_folder};
+ghost use Rattle.lfs_tool_folders.specs.SourceTrees.{IsKnownSourceTreeUnchanged, is_folder, listed_name_and_kind_view};
 ghost use Rattle.lfs_tool_folders.specs.MemorySources.{optional_bytes_view};
-ghost use Rattle.lfs_tool_folders.specs.Entries.{AreAllEntriesOfSource, AreNamesInFolder, HasOneFaultMoreOr, HasFolderWithBadNames, HasContentsInSource, path_and_is_folder_of_waiting, paths_of_names_in_folder};
+ghost use Rattle.lfs_tool_folders.specs.Entries.{AreAllEntriesOfSource, AreNamesInFolder, HasOneMoreFaultOrPropertyHolds, HasFolderWithBadNames, HasContentsInSource, path_and_is_folder_of_waiting_entry, paths_of_names_in_folder};
 
-use crate::names::{are_listed_in_order, sort_names};
-use crate::{Listed, Source, SourceError, SourceKind};
+use crate::names::{are_listed_names_path_components_in_order, sort_names};
+use crate::{ListedName, Source, SourceError, SourceKind};
 use std::alloc::Global;
 
 /// A file or a folder of a source.
@@ -26,7 +26,7 @@ struct WaitingEntry {
 
 // Returns the path of a name in a folder.
 fn join_path(alloc: Global, folder: &[u8], name: &[u8]) -> Result<Vec<u8>, SourceError>
-    ensures path { IfOk result (λ v. v.items ≡ source_path_in folder.now name.now) }
+    ensures path { IfOk result (λ v. v.items ≡ source_path_in_folder folder.now name.now) }
     ensures memory { (e : _) → result ≡ Err e → e ≡ SourceError.NoMemory }
 {
     let mut path = folder.to_vec(alloc).map_err(|_| SourceError::NoMemory)?;
@@ -41,23 +41,23 @@ fn sorted_names_in_folder<S: Source>(
     alloc: Global,
     source: &mut S,
     folder: &[u8],
-) -> Result<Vec<Listed>, SourceError>
+) -> Result<Vec<ListedName>, SourceError>
     ensures names { IfOk result (λ v. AreNamesInFolder (S.shown source.old) folder.now (map listed_name_and_kind_view v.items)) }
-    ensures shown { IsKnownTreeUnchanged (S.shown source.old) (S.shown source.new) }
+    ensures shown { IsKnownSourceTreeUnchanged (S.shown source.old) (S.shown source.new) }
     ensures kept { OnOk result (S.faults source.new ≡ S.faults source.old) }
     ensures fault { IsErrOf result SourceError.Fault
-        → HasOneFaultMoreOr (S.faults source.old) (S.faults source.new) (IfSome (S.shown source.old) (λ s. HaveBadOrRepeatedName (names_of_given_entries (s.names folder.now)))) }
+        → HasOneMoreFaultOrPropertyHolds (S.faults source.old) (S.faults source.new) (IfSome (S.shown source.old) (λ s. HaveBadOrRepeatedName (names_of_source_entries (s.names folder.now)))) }
     ensures no_memory { IsErrOf result SourceError.NoMemory → S.faults source.new ≡ S.faults source.old }
 {
     let mut names = source.list(alloc, folder)?;
     sort_names(&mut names);
-    if !are_listed_in_order(names.as_slice()) {
+    if !are_listed_names_path_components_in_order(names.as_slice()) {
         return Err(SourceError::Fault);
     }
     Ok(names)
 }
 
-fn wait(waiting: &mut Vec<WaitingEntry>, one: WaitingEntry) -> Result<(), SourceError>
+fn push_waiting_entry(waiting: &mut Vec<WaitingEntry>, one: WaitingEntry) -> Result<(), SourceError>
     ensures waiting { OnOk result (waiting.new.items ≡ waiting.old.items ++ one ∷ []) }
     ensures memory { (e : _) → result ≡ Err e → e ≡ SourceError.NoMemory }
 {
@@ -67,16 +67,16 @@ fn wait(waiting: &mut Vec<WaitingEntry>, one: WaitingEntry) -> Result<(), Source
 fn push_names_as_waiting(
     alloc: Global,
     folder: &[u8],
-    names: &[Listed],
+    names: &[ListedName],
     waiting: &mut Vec<WaitingEntry>,
 ) -> Result<(), SourceError>
-    ensures places { OnOk result (map path_and_is_folder_of_waiting waiting.new.items ≡ map path_and_is_folder_of_waiting waiting.old.items ++ paths_of_names_in_folder folder.now (map listed_name_and_kind_view names.now)) }
+    ensures places { OnOk result (map path_and_is_folder_of_waiting_entry waiting.new.items ≡ map path_and_is_folder_of_waiting_entry waiting.old.items ++ paths_of_names_in_folder folder.now (map listed_name_and_kind_view names.now)) }
     ensures memory { (e : _) → result ≡ Err e → e ≡ SourceError.NoMemory }
 {
     for one in names {
         let path = join_path(alloc, folder, one.name.as_slice())?;
         let kind = one.kind;
-        wait(waiting, WaitingEntry { path, kind })?;
+        push_waiting_entry(waiting, WaitingEntry { path, kind })?;
     }
     Ok(())
 }
@@ -89,11 +89,11 @@ fn push_folder_names_as_waiting<S: Source>(
     waiting: &mut Vec<WaitingEntry>,
 ) -> Result<(), SourceError>
     ensures within { OnOk result ((within : _) × (AreNamesInFolder (S.shown source.old) folder.now within
-        × (map path_and_is_folder_of_waiting waiting.new.items ≡ map path_and_is_folder_of_waiting waiting.old.items ++ reverse (paths_of_names_in_folder folder.now within)))) }
-    ensures shown { IsKnownTreeUnchanged (S.shown source.old) (S.shown source.new) }
+        × (map path_and_is_folder_of_waiting_entry waiting.new.items ≡ map path_and_is_folder_of_waiting_entry waiting.old.items ++ reverse (paths_of_names_in_folder folder.now within)))) }
+    ensures shown { IsKnownSourceTreeUnchanged (S.shown source.old) (S.shown source.new) }
     ensures kept { OnOk result (S.faults source.new ≡ S.faults source.old) }
     ensures fault { IsErrOf result SourceError.Fault
-        → HasOneFaultMoreOr (S.faults source.old) (S.faults source.new) (IfSome (S.shown source.old) (λ s. HaveBadOrRepeatedName (names_of_given_entries (s.names folder.now)))) }
+        → HasOneMoreFaultOrPropertyHolds (S.faults source.old) (S.faults source.new) (IfSome (S.shown source.old) (λ s. HaveBadOrRepeatedName (names_of_source_entries (s.names folder.now)))) }
     ensures no_memory { IsErrOf result SourceError.NoMemory → S.faults source.new ≡ S.faults source.old }
 {
     let mut names = sorted_names_in_folder(alloc, source, folder)?;
@@ -110,12 +110,12 @@ fn read_waiting_entry<S: Source>(
     waiting: &mut Vec<WaitingEntry>,
 ) -> Result<Option<Vec<u8>>, SourceError>
     ensures holds { IfOk result (λ bytes. (within : _) × (HasContentsInSource (S.shown source.old) one.now.path.items (is_folder one.now.kind) (optional_bytes_view bytes) within
-        × (map path_and_is_folder_of_waiting waiting.new.items ≡ map path_and_is_folder_of_waiting waiting.old.items ++ reverse (paths_of_names_in_folder one.now.path.items within)))) }
-    ensures shown { IsKnownTreeUnchanged (S.shown source.old) (S.shown source.new) }
+        × (map path_and_is_folder_of_waiting_entry waiting.new.items ≡ map path_and_is_folder_of_waiting_entry waiting.old.items ++ reverse (paths_of_names_in_folder one.now.path.items within)))) }
+    ensures shown { IsKnownSourceTreeUnchanged (S.shown source.old) (S.shown source.new) }
     ensures kept { OnOk result (S.faults source.new ≡ S.faults source.old) }
     ensures fault { IsErrOf result SourceError.Fault
-        → HasOneFaultMoreOr (S.faults source.old) (S.faults source.new)
-        ((is_folder one.now.kind ≡ true) × IfSome (S.shown source.old) (λ s. HaveBadOrRepeatedName (names_of_given_entries (s.names one.now.path.items)))) }
+        → HasOneMoreFaultOrPropertyHolds (S.faults source.old) (S.faults source.new)
+        ((is_folder one.now.kind ≡ true) × IfSome (S.shown source.old) (λ s. HaveBadOrRepeatedName (names_of_source_entries (s.names one.now.path.items)))) }
     ensures no_memory { IsErrOf result SourceError.NoMemory → S.faults source.new ≡ S.faults source.old }
 {
     match one.kind {
@@ -130,7 +130,10 @@ fn read_waiting_entry<S: Source>(
     }
 }
 
-fn push_source_entry(entries: &mut Vec<SourceEntry>, entry: SourceEntry) -> Result<(), SourceError>
+fn push_entry_to_source_entries(
+    entries: &mut Vec<SourceEntry>,
+    entry: SourceEntry,
+) -> Result<(), SourceError>
     ensures entries { OnOk result (entries.new.items ≡ entries.old.items ++ entry ∷ []) }
     ensures memory { (e : _) → result ≡ Err e → e ≡ SourceError.NoMemory }
 {
@@ -145,9 +148,9 @@ fn push_source_entry(entries: &mut Vec<SourceEntry>, entry: SourceEntry) -> Resu
 /// - `NoMemory` where memory isn't granted.
 pub fn read_tree<S: Source>(alloc: Global, source: &mut S) -> Result<Vec<SourceEntry>, SourceError>
     ensures entries { IfOk result (λ v. AreAllEntriesOfSource (S.shown source.old) v.items) }
-    ensures shown { IsKnownTreeUnchanged (S.shown source.old) (S.shown source.new) }
+    ensures shown { IsKnownSourceTreeUnchanged (S.shown source.old) (S.shown source.new) }
     ensures kept { OnOk result (S.faults source.new ≡ S.faults source.old) }
-    ensures fault { IsErrOf result SourceError.Fault → HasOneFaultMoreOr (S.faults source.old) (S.faults source.new) (IfSome (S.shown source.old) HasFolderWithBadNames) }
+    ensures fault { IsErrOf result SourceError.Fault → HasOneMoreFaultOrPropertyHolds (S.faults source.old) (S.faults source.new) (IfSome (S.shown source.old) HasFolderWithBadNames) }
     ensures no_memory { IsErrOf result SourceError.NoMemory → S.faults source.new ≡ S.faults source.old }
 {
     let mut entries = Vec::new(alloc);
@@ -160,7 +163,7 @@ pub fn read_tree<S: Source>(alloc: Global, source: &mut S) -> Result<Vec<SourceE
         };
         let bytes = read_waiting_entry(alloc, source, &one, &mut waiting)?;
         let path = one.path;
-        push_source_entry(&mut entries, SourceEntry { path, bytes })?;
+        push_entry_to_source_entries(&mut entries, SourceEntry { path, bytes })?;
     }
     Err(SourceError::NoMemory)
 }

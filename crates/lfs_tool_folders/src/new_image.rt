@@ -56,7 +56,7 @@ impl<'a, R: Files> NewImage<'a, R> {
     }
 
     // Makes the file.
-    fn make(&mut self) -> io::Result<()>
+    fn create_and_keep_file(&mut self) -> io::Result<()>
         ensures path { self.new.paths.path ≡ self.old.paths.path }
         ensures beside { OnOk result (self.new.is_beside ≡ true → IsNumberedTemporaryPath (string_bytes self.old.paths.path) (string_bytes self.new.paths.beside)) }
         ensures err { IfErr result (λ _. (self.new.file ≡ self.old.file) × (self.new.is_beside ≡ self.old.is_beside)) }
@@ -68,7 +68,7 @@ impl<'a, R: Files> NewImage<'a, R> {
     }
 
     // Puts the file at its path, where it isn't there.
-    fn place(&mut self) -> io::Result<()>
+    fn move_image_to_final_path(&mut self) -> io::Result<()>
         ensures file { (self.new.file ≡ self.old.file) × (self.new.paths ≡ self.old.paths) }
         ensures placed { OnOk result (self.new.is_beside ≡ false) }
         ensures err { IfErr result (λ _. self.new ≡ self.old) }
@@ -91,7 +91,7 @@ impl<'a, R: Files> Write for NewImage<'a, R> {
         ensures path { self.new.paths.path ≡ self.old.paths.path }
     {
         if self.file.is_none() {
-            self.make()?;
+            self.create_and_keep_file()?;
         }
         match &mut self.file {
             Some(file) => file.write(buf),
@@ -108,6 +108,6 @@ impl<'a, R: Files> Write for NewImage<'a, R> {
         if let Some(file) = &mut self.file {
             file.flush()?;
         }
-        self.place()
+        self.move_image_to_final_path()
     }
 }

@@ -18,7 +18,7 @@ pub(crate) enum PathState {
 }
 
 // What stands at a path, by what the system says of the path itself: a link is one, wherever it leads.
-pub(crate) fn path_state_of(found: io::Result<Metadata>) -> PathState
+pub(crate) fn path_state_of_metadata(found: io::Result<Metadata>) -> PathState
     ensures { IsStateOfPath found result }
 {
     match found {

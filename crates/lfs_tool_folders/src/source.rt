@@ -1,6 +1,6 @@
 ghost use Rattle.std.specs.Prelude.{◌≡◌, ℕ, IfOk, IfSome, IsErrOf, None, OnOk, Option, Some, map, suc};
 ghost use Rattle.lfs_model.specs.Source as model;
-ghost use Rattle.lfs_tool_folders.specs.SourceTrees.{IsKnownTreeUnchanged, listed_name_and_kind_view};
+ghost use Rattle.lfs_tool_folders.specs.SourceTrees.{IsKnownSourceTreeUnchanged, listed_name_and_kind_view};
 
 use std::alloc::Global;
 
@@ -15,7 +15,7 @@ pub enum SourceKind {
 
 /// A name in a folder.
 #[derive(Debug, PartialEq, Eq, PartialOrd, Ord, Drop)]
-pub struct Listed {
+pub struct ListedName {
     /// The name's bytes.
     pub name: Vec<u8>,
     /// Its kind.
@@ -34,7 +34,7 @@ pub enum SourceError {
 /// A folder and all below it. A path has `/` before each name, and is empty for the folder itself.
 pub trait Source {
     // The tree of the source, where it is known.
-    ghost shown: { Self → Option model.Source } = { λ _. None };
+    ghost shown: { Self → Option model.TreeSource } = { λ _. None };
 
     // How many calls have met a fault.
     ghost faults: { Self → ℕ };
@@ -44,9 +44,9 @@ pub trait Source {
     /// # Errors
     /// - `Fault` where the folder couldn't be read.
     /// - `NoMemory` where memory isn't granted.
-    fn list(&mut self, alloc: Global, folder: &[u8]) -> Result<Vec<Listed>, SourceError>
+    fn list(&mut self, alloc: Global, folder: &[u8]) -> Result<Vec<ListedName>, SourceError>
         ensures names { IfOk result (λ v. IfSome (shown self.old) (λ s. map listed_name_and_kind_view v.items ≡ s.names folder.now)) }
-        ensures shown { IsKnownTreeUnchanged (shown self.old) (shown self.new) }
+        ensures shown { IsKnownSourceTreeUnchanged (shown self.old) (shown self.new) }
         ensures kept { OnOk result (faults self.new ≡ faults self.old) }
         ensures fault { IsErrOf result SourceError.Fault → faults self.new ≡ suc (faults self.old) }
         ensures no_memory { IsErrOf result SourceError.NoMemory → faults self.new ≡ faults self.old };
@@ -58,7 +58,7 @@ pub trait Source {
     /// - `NoMemory` where memory isn't granted.
     fn read(&mut self, alloc: Global, file: &[u8]) -> Result<Vec<u8>, SourceError>
         ensures bytes { IfOk result (λ v. IfSome (shown self.old) (λ s. v.items ≡ s.bytes file.now)) }
-        ensures shown { IsKnownTreeUnchanged (shown self.old) (shown self.new) }
+        ensures shown { IsKnownSourceTreeUnchanged (shown self.old) (shown self.new) }
         ensures kept { OnOk result (faults self.new ≡ faults self.old) }
         ensures fault { IsErrOf result SourceError.Fault → faults self.new ≡ suc (faults self.old) }
         ensures no_memory { IsErrOf result SourceError.NoMemory → faults self.new ≡ faults self.old };

@@ -1,11 +1,11 @@
 ghost use Rattle.std.specs.Prelude.{◌≡◌, ◌↔◌, IfOk, suc};
 ghost use Rattle.std.specs.IoError.{error_kind};
-ghost use Rattle.lfs_tool_folders.specs.Roots.{folder_root, file_size_read_limit};
+ghost use Rattle.lfs_tool_folders.specs.Roots.{root_path_of_source_folder, file_size_read_limit};
 
 use crate::file_bytes::read_at_most;
-use crate::full_path::{full_path, joined_path};
-use crate::zeros::{zero_count_for_long_file, zeros};
-use crate::{FaultLog, Listed, Source, SourceError, SourceKind, Tally};
+use crate::full_path::{full_path, full_path_joined_with_name_unless_empty};
+use crate::zeros::{number_of_zeros_replacing_too_long_file, zeros};
+use crate::{FaultLog, ListedName, Source, SourceError, SourceKind, Tally};
 use std::alloc::{AllocError, Global};
 use std::fs::{File, FileType, OpenFile};
 use std::io::ErrorKind;
@@ -38,7 +38,7 @@ fn source_kind_of_file_type(kind: FileType) -> io::Result<SourceKind> {
 }
 
 // Returns a name that is text.
-fn name_of(alloc: Global, name: &[u8]) -> io::Result<Vec<u8>> {
+fn copy_name_if_utf8(alloc: Global, name: &[u8]) -> io::Result<Vec<u8>> {
     if str::from_utf8(name).is_err() {
         return Err(io::Error::new(ErrorKind::InvalidFilename, "the name is not UTF-8"));
     }
@@ -47,16 +47,20 @@ fn name_of(alloc: Global, name: &[u8]) -> io::Result<Vec<u8>> {
 }
 
 // Returns an entry of a folder: its name, and what it is.
-fn listed_as(alloc: Global, name: &[u8], kind: io::Result<FileType>) -> io::Result<Listed> {
+fn listed_name_with_source_kind(
+    alloc: Global,
+    name: &[u8],
+    kind: io::Result<FileType>,
+) -> io::Result<ListedName> {
     let kind = source_kind_of_file_type(kind?)?;
-    let name = name_of(alloc, name)?;
-    Ok(Listed { name, kind })
+    let name = copy_name_if_utf8(alloc, name)?;
+    Ok(ListedName { name, kind })
 }
 
 impl<'a, R: Files + AllocGlobal + Clone + Drop> Folder<'a, R> {
     /// Makes a source of the folder at a path of the file system. Nothing is read yet.
     pub fn new(rt: &'a R, log: &'a FaultLog, root: &str) -> Result<Folder<'a, R>, AllocError>
-        ensures root { IfOk result (λ f. folder_root f ≡ root.now) }
+        ensures root { IfOk result (λ f. root_path_of_source_folder f ≡ root.now) }
     {
         Folder::with_file_size_limit(rt, log, root, u64::MAX)
     }
@@ -68,7 +72,7 @@ impl<'a, R: Files + AllocGlobal + Clone + Drop> Folder<'a, R> {
         root: &str,
         size: u32,
     ) -> Result<Folder<'a, R>, AllocError>
-        ensures root { IfOk result (λ f. folder_root f ≡ root.now) }
+        ensures root { IfOk result (λ f. root_path_of_source_folder f ≡ root.now) }
         ensures limit { IfOk result (λ f. file_size_read_limit f ≡ size) }
     {
         Folder::with_file_size_limit(rt, log, root, size as u64)
@@ -81,7 +85,7 @@ impl<'a, R: Files + AllocGlobal + Clone + Drop> Folder<'a, R> {
         root: &str,
         size: u64,
     ) -> Result<Folder<'a, R>, AllocError>
-        ensures root { IfOk result (λ f. folder_root f ≡ root.now) }
+        ensures root { IfOk result (λ f. root_path_of_source_folder f ≡ root.now) }
         ensures limit { IfOk result (λ f. file_size_read_limit f ≡ size) }
     {
         Ok(Folder {
@@ -93,15 +97,15 @@ impl<'a, R: Files + AllocGlobal + Clone + Drop> Folder<'a, R> {
         })
     }
 
-    fn names(&self, alloc: Global, path: &[u8]) -> io::Result<Vec<Listed>> {
+    fn list_names_in_folder(&self, alloc: Global, path: &[u8]) -> io::Result<Vec<ListedName>> {
         let full = full_path(self.rt.alloc(), self.root.as_str(), path)?;
         let mut names = Vec::new(alloc);
         for entry in fs::read_dir(self.rt, full.as_str())? {
             let entry = entry?;
             let name = entry.file_name();
-            let listed = listed_as(alloc, name.as_bytes(), entry.file_type());
+            let listed = listed_name_with_source_kind(alloc, name.as_bytes(), entry.file_type());
             if let Err(error) = &listed {
-                self.note(path, name.as_bytes(), error);
+                self.note_error_at_name(path, name.as_bytes(), error);
             }
             names.push(listed?)?;
         }
@@ -109,17 +113,22 @@ impl<'a, R: Files + AllocGlobal + Clone + Drop> Folder<'a, R> {
     }
 
     // Notes a fault of a name in a folder. With no name it is the fault of the path itself.
-    fn note(&self, path: &[u8], name: &[u8], error: &io::Error) {
-        if let Ok(full) = joined_path(self.rt.alloc(), self.root.as_str(), path, name) {
+    fn note_error_at_name(&self, path: &[u8], name: &[u8], error: &io::Error) {
+        if let Ok(full) = full_path_joined_with_name_unless_empty(
+            self.rt.alloc(),
+            self.root.as_str(),
+            path,
+            name,
+        ) {
             self.log.note(self.rt.alloc(), full.as_slice(), error);
         }
     }
 
-    fn bytes(&self, path: &[u8]) -> io::Result<Vec<u8>> {
+    fn read_file_bytes(&self, path: &[u8]) -> io::Result<Vec<u8>> {
         let full = full_path(self.rt.alloc(), self.root.as_str(), path)?;
         let file = File::open(self.rt, full.as_str())?;
         let len = file.metadata()?.len();
-        if let Some(count) = zero_count_for_long_file(len, self.size) {
+        if let Some(count) = number_of_zeros_replacing_too_long_file(len, self.size) {
             return Ok(zeros(self.rt.alloc(), count)?);
         }
         // A file that has become longer meanwhile is too long, too.
@@ -128,7 +137,7 @@ impl<'a, R: Files + AllocGlobal + Clone + Drop> Folder<'a, R> {
     }
 
     // Returns the source's error for an error of std.
-    fn note_fault(&mut self, path: &[u8], error: io::Error) -> SourceError
+    fn note_fault_and_return_source_error(&mut self, path: &[u8], error: io::Error) -> SourceError
         ensures kind { (error_kind error ≡ ErrorKind.OutOfMemory) ↔ (result ≡ SourceError.NoMemory) }
         ensures fault { result ≡ SourceError.Fault → self.new.faults.count ≡ suc self.old.faults.count }
         ensures no_memory { result ≡ SourceError.NoMemory → self.new.faults.count ≡ self.old.faults.count }
@@ -136,7 +145,7 @@ impl<'a, R: Files + AllocGlobal + Clone + Drop> Folder<'a, R> {
         if error.kind() == ErrorKind::OutOfMemory {
             return SourceError::NoMemory;
         }
-        self.note(path, b"", &error);
+        self.note_error_at_name(path, b"", &error);
         self.faults = self.faults.one_more();
         SourceError::Fault
     }
@@ -145,17 +154,17 @@ impl<'a, R: Files + AllocGlobal + Clone + Drop> Folder<'a, R> {
 impl<'a, R: Files + AllocGlobal + Clone + Drop> Source for Folder<'a, R> {
     ghost faults = { λ s. s.faults.count };
 
-    fn list(&mut self, alloc: Global, folder: &[u8]) -> Result<Vec<Listed>, SourceError> {
-        match self.names(alloc, folder) {
+    fn list(&mut self, alloc: Global, folder: &[u8]) -> Result<Vec<ListedName>, SourceError> {
+        match self.list_names_in_folder(alloc, folder) {
             Ok(names) => Ok(names),
-            Err(error) => Err(self.note_fault(folder, error)),
+            Err(error) => Err(self.note_fault_and_return_source_error(folder, error)),
         }
     }
 
     fn read(&mut self, _alloc: Global, file: &[u8]) -> Result<Vec<u8>, SourceError> {
-        match self.bytes(file) {
+        match self.read_file_bytes(file) {
             Ok(bytes) => Ok(bytes),
-            Err(error) => Err(self.note_fault(file, error)),
+            Err(error) => Err(self.note_fault_and_return_source_error(file, error)),
         }
     }
 }

@@ -19,18 +19,18 @@ impl Tally {
     pub fn none() -> Tally
         ensures { result.count ≡ 0 }
     {
-        Tally::from_proof(&(), &())
+        Tally::with_count_given_by_proof(&(), &())
     }
 
     /// Counts one more.
     pub fn one_more(&self) -> Tally
         ensures { result.count ≡ suc self.now.count }
     {
-        Tally::from_proof(self, &())
+        Tally::with_count_given_by_proof(self, &())
     }
 
     // Makes any count. The caller's proof picks the count from what the reference points to.
-    fn from_proof<S, T>(_before: &S, _counted: &T) -> Tally
+    fn with_count_given_by_proof<S, T>(_before: &S, _counted: &T) -> Tally
         ghost count: { ℕ }
         ensures { result.count ≡ count }
     {

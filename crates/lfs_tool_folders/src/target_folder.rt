@@ -1,8 +1,8 @@
 ghost use Rattle.std.specs.Prelude.{◌≡◌, ◌↔◌, IfOk, suc};
 ghost use Rattle.std.specs.IoError.{error_kind};
-ghost use Rattle.lfs_tool_folders.specs.Roots.{target_root};
+ghost use Rattle.lfs_tool_folders.specs.Roots.{root_path_of_target_folder};
 
-use crate::full_path::{full_path, joined_path};
+use crate::full_path::{full_path, full_path_joined_with_name_unless_empty};
 use crate::{FaultLog, Tally, Target, TargetError};
 use std::alloc::{AllocError, Global};
 use std::fs::File;
@@ -22,7 +22,7 @@ pub struct TargetFolder<'a, R> {
 }
 
 // Makes a folder, unless there is one.
-fn make<R: Files>(rt: &R, path: &str) -> io::Result<()> {
+fn make_folder_unless_present<R: Files>(rt: &R, path: &str) -> io::Result<()> {
     let Err(error) = fs::create_dir(rt, path) else {
         return Ok(());
     };
@@ -34,7 +34,7 @@ fn make<R: Files>(rt: &R, path: &str) -> io::Result<()> {
 
 // Makes a folder and those above it, unless there is one.
 fn make_folder_and_parents<R: Files>(rt: &R, path: &str) -> io::Result<()> {
-    match make(rt, path) {
+    match make_folder_unless_present(rt, path) {
         Err(error) if error.kind() == ErrorKind::NotFound => fs::create_dir_all(rt, path),
         other => other,
     }
@@ -54,7 +54,7 @@ fn check_path_is_file_or_free<R: Files>(rt: &R, path: &str) -> io::Result<()> {
 impl<'a, R: Files + AllocGlobal + Clone + Drop> TargetFolder<'a, R> {
     /// Makes a target of the folder at a path of the file system. Nothing is made yet.
     pub fn new(rt: &'a R, log: &'a FaultLog, root: &str) -> Result<TargetFolder<'a, R>, AllocError>
-        ensures root { IfOk result (λ f. target_root f ≡ root.now) }
+        ensures root { IfOk result (λ f. root_path_of_target_folder f ≡ root.now) }
     {
         Ok(TargetFolder {
             rt,
@@ -65,36 +65,41 @@ impl<'a, R: Files + AllocGlobal + Clone + Drop> TargetFolder<'a, R> {
     }
 
     // Returns the path in the file system, where it is text. The folder itself is there then.
-    fn full(&self, path: &[u8]) -> io::Result<String> {
+    fn make_target_folder_and_return_full_path(&self, path: &[u8]) -> io::Result<String> {
         let full = full_path(self.rt.alloc(), self.root.as_str(), path)?;
         if let Err(error) = make_folder_and_parents(self.rt, self.root.as_str()) {
-            self.note(b"", &error);
+            self.note_error_at_target_path(b"", &error);
             return Err(error);
         }
         Ok(full)
     }
 
     // Notes a fault at a path.
-    fn note(&self, path: &[u8], error: &io::Error) {
-        if let Ok(full) = joined_path(self.rt.alloc(), self.root.as_str(), path, b"") {
+    fn note_error_at_target_path(&self, path: &[u8], error: &io::Error) {
+        if let Ok(full) = full_path_joined_with_name_unless_empty(
+            self.rt.alloc(),
+            self.root.as_str(),
+            path,
+            b"",
+        ) {
             self.log.note(self.rt.alloc(), full.as_slice(), error);
         }
     }
 
-    fn folder(&self, path: &[u8]) -> io::Result<()> {
-        let full = self.full(path)?;
-        make(self.rt, full.as_str())
+    fn make_folder_at_path(&self, path: &[u8]) -> io::Result<()> {
+        let full = self.make_target_folder_and_return_full_path(path)?;
+        make_folder_unless_present(self.rt, full.as_str())
     }
 
-    fn file(&self, path: &[u8], bytes: &[u8]) -> io::Result<()> {
-        let full = self.full(path)?;
+    fn write_file_at_path(&self, path: &[u8], bytes: &[u8]) -> io::Result<()> {
+        let full = self.make_target_folder_and_return_full_path(path)?;
         check_path_is_file_or_free(self.rt, full.as_str())?;
         let mut file = File::create(self.rt, full.as_str())?;
         file.write_all(bytes)
     }
 
     // Returns the target's error for an error of std.
-    fn note_fault(&mut self, path: &[u8], error: io::Error) -> TargetError
+    fn note_fault_and_return_target_error(&mut self, path: &[u8], error: io::Error) -> TargetError
         ensures kind { (error_kind error ≡ ErrorKind.OutOfMemory) ↔ (result ≡ TargetError.NoMemory) }
         ensures fault { result ≡ TargetError.Fault → self.new.faults.count ≡ suc self.old.faults.count }
         ensures no_memory { result ≡ TargetError.NoMemory → self.new.faults.count ≡ self.old.faults.count }
@@ -102,7 +107,7 @@ impl<'a, R: Files + AllocGlobal + Clone + Drop> TargetFolder<'a, R> {
         if error.kind() == ErrorKind::OutOfMemory {
             return TargetError::NoMemory;
         }
-        self.note(path, &error);
+        self.note_error_at_target_path(path, &error);
         self.faults = self.faults.one_more();
         TargetError::Fault
     }
@@ -112,16 +117,16 @@ impl<'a, R: Files + AllocGlobal + Clone + Drop> Target for TargetFolder<'a, R> {
     ghost faults = { λ t. t.faults.count };
 
     fn make_folder(&mut self, _alloc: Global, path: &[u8]) -> Result<(), TargetError> {
-        match self.folder(path) {
+        match self.make_folder_at_path(path) {
             Ok(()) => Ok(()),
-            Err(error) => Err(self.note_fault(path, error)),
+            Err(error) => Err(self.note_fault_and_return_target_error(path, error)),
         }
     }
 
     fn put_file(&mut self, _alloc: Global, path: &[u8], bytes: &[u8]) -> Result<(), TargetError> {
-        match self.file(path, bytes) {
+        match self.write_file_at_path(path, bytes) {
             Ok(()) => Ok(()),
-            Err(error) => Err(self.note_fault(path, error)),
+            Err(error) => Err(self.note_fault_and_return_target_error(path, error)),
         }
     }
 }

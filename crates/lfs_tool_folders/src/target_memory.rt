@@ -6,7 +6,7 @@ use std::alloc::Global;
 
 /// An action on a target in memory.
 #[derive(Debug, PartialEq, Eq, Drop)]
-pub enum Done {
+pub enum TargetAction {
     /// A folder was made at this path.
     Folder(Vec<u8>),
     /// A file was put at this path, with these bytes.
@@ -16,7 +16,7 @@ pub enum Done {
 /// A target that keeps the actions that were done, in order. It has no faults.
 #[derive(Drop)]
 pub struct MemoryTarget {
-    pub done: Vec<Done>,
+    pub done: Vec<TargetAction>,
 }
 
 fn copy_bytes(alloc: Global, bytes: &[u8]) -> Result<Vec<u8>, TargetError>
@@ -34,7 +34,7 @@ impl Target for MemoryTarget {
     fn make_folder(&mut self, alloc: Global, path: &[u8]) -> Result<(), TargetError> {
         let path = copy_bytes(alloc, path)?;
         self.done
-            .push(Done::Folder(path))
+            .push(TargetAction::Folder(path))
             .map_err(|_| TargetError::NoMemory)
     }
 
@@ -42,7 +42,7 @@ impl Target for MemoryTarget {
         let path = copy_bytes(alloc, path)?;
         let bytes = copy_bytes(alloc, bytes)?;
         self.done
-            .push(Done::File(path, bytes))
+            .push(TargetAction::File(path, bytes))
             .map_err(|_| TargetError::NoMemory)
     }
 }

@@ -5,7 +5,7 @@ ghost use Rattle.std.specs.Fmt.{decimal};
 ghost use Rattle.std.specs.String.{string_bytes};
 ghost use Rattle.lfs_tool_folders.specs.TemporaryNames.{IsNumberedTemporaryPath, temporary_path_prefix};
 
-use crate::path_state::{PathState, path_state_of};
+use crate::path_state::{PathState, path_state_of_metadata};
 use std::alloc::{AllocError, Global};
 use std::fs::{File, OpenFile, OpenOptions, Permissions};
 use std::io::ErrorKind;
@@ -49,7 +49,7 @@ impl ImagePaths {
     }
 
     // Takes the path beside it of that number.
-    fn set_number_of_beside_path(&mut self, number: u32) -> Result<(), AllocError>
+    fn set_number_of_temporary_path(&mut self, number: u32) -> Result<(), AllocError>
         ensures path { self.new.path ≡ self.old.path }
         ensures beside { OnOk result (string_bytes self.new.beside ≡ temporary_path_prefix (string_bytes self.old.path) ++ decimal number) }
     {
@@ -66,7 +66,7 @@ fn create_temporary_file<R: Files>(files: &R, paths: &mut ImagePaths) -> io::Res
     ensures beside { OnOk result (IsNumberedTemporaryPath (string_bytes paths.old.path) (string_bytes paths.new.beside)) }
 {
     for number in 0..NAMES {
-        paths.set_number_of_beside_path(number)?;
+        paths.set_number_of_temporary_path(number)?;
         match File::create_new(files, paths.beside.as_str()) {
             Ok(file) => return Ok(file),
             Err(error) if error.kind() == ErrorKind::AlreadyExists => {}
@@ -139,7 +139,7 @@ pub(crate) fn create_image_file<R: Files>(
     ensures beside { IfOk result (λ made. made.1 ≡ true → IsNumberedTemporaryPath (string_bytes paths.old.path) (string_bytes paths.new.beside)) }
 {
     let found = fs::symlink_metadata(files, paths.path.as_str());
-    create_file_by_path_state(files, paths, path_state_of(found))
+    create_file_by_path_state(files, paths, path_state_of_metadata(found))
 }
 
 // Puts the file beside a path in its place. Where the system refuses that, as at a file that is mounted

@@ -7,7 +7,7 @@ use Rattle.clap.specs.Words.{Text, first_of, first_value, one_text, rows_of, wit
 use Rattle.clap.specs.Matches.{ReadsOne}
 use Rattle.clap.specs.declared.parser.matches.Found.{Found}
 use Rattle.clap.proofs.WalkLemmas.{first_value-rows, one_text-rows}
-use Rattle.lfs_tool_line.specs.Matches.{HasOptionNumberOf32Bits, flag_at, is_flag_set, number_at}
+use Rattle.lfs_tool_line.specs.Matches.{HasOptionNumberOf32Bits, flag_value_in_rows, is_flag_text_true, numeric_option_value_in_rows}
 
 flag_by : (E : Type 0) (t : Text) (r : Option Bool) → ReadsOne {T = Bool} {E = E} ParsesBool t r → unwrap_or r false ≡ bytes_eq t (codes "true")
 flag_by E t (Some true) h = rw h refl
@@ -19,16 +19,16 @@ flag_by E t None h = go (bytes_eq t (codes "true")) refl
     go false e = refl
 
 pub flag_read : (E : Type 0) (f : Found) (id : Text) (r : Option Bool) → (one_text f id ≡ None → r ≡ None)
-    → ((t : Text) → one_text f id ≡ Some t → ReadsOne {T = Bool} {E = E} ParsesBool t r) → unwrap_or r false ≡ flag_at id (rows_of f)
-flag_read E f id r none value = go (one_text f id) refl ∙ ap is_flag_set (one_text-rows f id)
+    → ((t : Text) → one_text f id ≡ Some t → ReadsOne {T = Bool} {E = E} ParsesBool t r) → unwrap_or r false ≡ flag_value_in_rows id (rows_of f)
+flag_read E f id r none value = go (one_text f id) refl ∙ ap is_flag_text_true (one_text-rows f id)
   where
-    go : (o : Option Text) → one_text f id ≡ o → unwrap_or r false ≡ is_flag_set (one_text f id)
+    go : (o : Option Text) → one_text f id ≡ o → unwrap_or r false ≡ is_flag_text_true (one_text f id)
     go None e = rw (e, none e) refl
     go (Some t) e = rw e (flag_by E t r (value t e))
 
 pub number_read : (E : Type 0) (G : Text → Result ℕ E → Type 0) (f : Found) (id : Text) (n : ℕ) → HasOptionNumberOf32Bits f id
     → ((t : Text) → one_text f id ≡ Some t → G t (Ok n)) → ((u : Text) (x : Result ℕ E) → G u x → ParsesUnsigned 32 10 u x)
-    → number_at id (rows_of f) ≡ Some n
+    → numeric_option_value_in_rows id (rows_of f) ≡ Some n
 number_read E G f id n has value only =
     let read = only _ _ (value (without_minus has.0) has.1) in
     rw (← one_text-rows f id, has.1) (ap (λ (k : ℕ). Some k) (sym read.1))

@@ -4,13 +4,13 @@ use Rattle.clap.specs.Words.{Text, first_of}
 use Rattle.clap.specs.declared.error.ErrorKind.TheVariants as kind
 use Rattle.clap.proofs.OnLiterals.{clap_on_literals}
 use Rattle.lfs_tool_line.specs.Command.{mklittlefs, with_mode_options, with_size_options}
-use Rattle.lfs_tool_line.specs.Matches.{faults, given_mode_count, number_at, rows}
+use Rattle.lfs_tool_line.specs.Matches.{faults, given_mode_count, numeric_option_value_in_rows, rows}
 
 abbrev create_line : List Text
 create_line = codes "mklittlefs" ∷ codes "-cdir" ∷ codes "-b=512" ∷ codes "-p" ∷ codes "+16" ∷ codes "disk.img" ∷ []
 
-created : (number_at (codes "block_size") (rows create_line) ≡ Some 512) × (number_at (codes "page") (rows create_line) ≡ Some 16)
-    × (number_at (codes "size") (rows create_line) ≡ Some 65536) × (first_of (codes "create") (rows create_line) ≡ Some (codes "dir"))
+created : (numeric_option_value_in_rows (codes "block_size") (rows create_line) ≡ Some 512) × (numeric_option_value_in_rows (codes "page") (rows create_line) ≡ Some 16)
+    × (numeric_option_value_in_rows (codes "size") (rows create_line) ≡ Some 65536) × (first_of (codes "create") (rows create_line) ≡ Some (codes "dir"))
     × (given_mode_count (rows create_line) ≡ 1) × (faults create_line ≡ [])
 unfolding clap_on_literals mklittlefs with_mode_options with_size_options rows faults
 created = (refl, refl, refl, refl, refl, refl)

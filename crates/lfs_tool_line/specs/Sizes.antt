@@ -18,26 +18,26 @@ BreaksSizeRule s rule.WholeBlocks = s.size % s.block_size ≢ 0
 BreaksSizeRule s rule.BlockCount = (s.size / s.block_size < 2) ⊎ (65536 < s.size / s.block_size)
 
 -- the rule's place among the rules
-abbrev pub place_of_size_rule : SizeRule → ℕ
-place_of_size_rule rule.PageSize = 0
-place_of_size_rule rule.BlockSize = 1
-place_of_size_rule rule.EightPages = 2
-place_of_size_rule rule.WholePages = 3
-place_of_size_rule rule.ImageSize = 4
-place_of_size_rule rule.WholeBlocks = 5
-place_of_size_rule rule.BlockCount = 6
+abbrev pub index_of_size_rule : SizeRule → ℕ
+index_of_size_rule rule.PageSize = 0
+index_of_size_rule rule.BlockSize = 1
+index_of_size_rule rule.EightPages = 2
+index_of_size_rule rule.WholePages = 3
+index_of_size_rule rule.ImageSize = 4
+index_of_size_rule rule.WholeBlocks = 5
+index_of_size_rule rule.BlockCount = 6
 
 -- the sizes break no rule before this place
-abbrev pub BreaksNoSizeRuleBefore : Sizes → ℕ → Type 0
-BreaksNoSizeRuleBefore s place = (rule : SizeRule) → place_of_size_rule rule < place → ¬ BreaksSizeRule s rule
+abbrev pub BreaksNoSizeRuleBeforeIndex : Sizes → ℕ → Type 0
+BreaksNoSizeRuleBeforeIndex s place = (rule : SizeRule) → index_of_size_rule rule < place → ¬ BreaksSizeRule s rule
 
 -- the sizes break the rule, and none before it
 abbrev pub IsFirstBrokenSizeRule : Sizes → SizeRule → Type 0
-IsFirstBrokenSizeRule s rule = BreaksSizeRule s rule × BreaksNoSizeRuleBefore s (place_of_size_rule rule)
+IsFirstBrokenSizeRule s rule = BreaksSizeRule s rule × BreaksNoSizeRuleBeforeIndex s (index_of_size_rule rule)
 
 -- there are images of these sizes
-abbrev pub Fits : Sizes → Type 0
-Fits s = (s.size % s.block_size ≡ 0) × IsValidGeometry s.block_size s.page (s.size / s.block_size)
+abbrev pub AreSizesOfSomeImage : Sizes → Type 0
+AreSizesOfSomeImage s = (s.size % s.block_size ≡ 0) × IsValidGeometry s.block_size s.page (s.size / s.block_size)
 
 abbrev pub labelled_number_text : List ℕ → ℕ → List ℕ
 labelled_number_text before n = before ++ decimal n

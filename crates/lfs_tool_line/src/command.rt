@@ -2,8 +2,8 @@
 
 ghost use Rattle.std.specs.Prelude.{◌≡◌, IfOk, codes, map, false};
 ghost use Rattle.clap.specs.Words.{FailsBy, app_of, found_of, new_app, rows_of, rule_of, with_rule};
-ghost use Rattle.lfs_tool_line.specs.Command.{check_option_rule, explain_option_rule, folder, image_argument_rule, list_option_rule, mklittlefs, number, order_option_rule, with_mode_options, with_size_options, with_version};
-ghost use Rattle.lfs_tool_line.specs.Matches.{HasAllNeededValues, faults, rows};
+ghost use Rattle.lfs_tool_line.specs.Command.{rule_of_check_option, rule_of_explain_option, rule_of_folder_option, rule_of_image_argument, rule_of_list_option, mklittlefs, rule_of_number_option, rule_of_order_option, with_mode_options, with_size_options, with_version_option};
+ghost use Rattle.lfs_tool_line.specs.Matches.{HasAllRequiredAndDefaultedArgumentValues, faults, rows};
 
 use clap::{Arg, ArgAction, ArgMatches, Command, Error, value_parser};
 use std::alloc::{AllocError, Global};
@@ -43,7 +43,7 @@ Progress:
   At a terminal -c and -u show how much is done, once a second has gone by.";
 
 fn folder_arg<'a>(alloc: Global, id: &'a str, short: char, help: &'a str) -> Arg<'a>
-    ensures rule { rule_of result ≡ folder id.entry.now short }
+    ensures rule { rule_of result ≡ rule_of_folder_option id.entry.now short }
     ensures local { result.global ≡ false }
 {
     Arg::new(alloc, id)
@@ -55,14 +55,14 @@ fn folder_arg<'a>(alloc: Global, id: &'a str, short: char, help: &'a str) -> Arg
 }
 
 // Adds an option that takes a folder.
-fn with_folder<'a>(
+fn with_folder_option<'a>(
     alloc: Global,
     command: Command<'a>,
     id: &'a str,
     short: char,
     help: &'a str,
 ) -> Result<Command<'a>, AllocError>
-    ensures { IfOk result (λ c. app_of c ≡ with_rule (app_of command.entry) (folder id.entry.now short)) }
+    ensures { IfOk result (λ c. app_of c ≡ with_rule (app_of command.entry) (rule_of_folder_option id.entry.now short)) }
 {
     command.arg(folder_arg(alloc, id, short, help))
 }
@@ -75,7 +75,7 @@ fn number_arg<'a>(
     default: &'a str,
     help: &'a str,
 ) -> Arg<'a>
-    ensures rule { rule_of result ≡ number id.entry.now short long.entry.now default.entry.now }
+    ensures rule { rule_of result ≡ rule_of_number_option id.entry.now short long.entry.now default.entry.now }
     ensures local { result.global ≡ false }
 {
     Arg::new(alloc, id)
@@ -89,7 +89,7 @@ fn number_arg<'a>(
 }
 
 // Adds an option that takes a number, with its default.
-fn with_number<'a>(
+fn with_number_option<'a>(
     alloc: Global,
     command: Command<'a>,
     id: &'a str,
@@ -98,13 +98,13 @@ fn with_number<'a>(
     default: &'a str,
     help: &'a str,
 ) -> Result<Command<'a>, AllocError>
-    ensures { IfOk result (λ c. app_of c ≡ with_rule (app_of command.entry) (number id.entry.now short long.entry.now default.entry.now)) }
+    ensures { IfOk result (λ c. app_of c ≡ with_rule (app_of command.entry) (rule_of_number_option id.entry.now short long.entry.now default.entry.now)) }
 {
     command.arg(number_arg(alloc, id, short, long, default, help))
 }
 
-fn list_arg<'a>(alloc: Global) -> Arg<'a>
-    ensures rule { rule_of result ≡ list_option_rule }
+fn arg_of_list_option<'a>(alloc: Global) -> Arg<'a>
+    ensures rule { rule_of result ≡ rule_of_list_option }
     ensures local { result.global ≡ false }
 {
     Arg::new(alloc, "list")
@@ -114,14 +114,14 @@ fn list_arg<'a>(alloc: Global) -> Arg<'a>
         .help("List the files and folders of IMAGE")
 }
 
-fn with_list<'a>(alloc: Global, command: Command<'a>) -> Result<Command<'a>, AllocError>
-    ensures { IfOk result (λ c. app_of c ≡ with_rule (app_of command.entry) list_option_rule) }
+fn with_list_option<'a>(alloc: Global, command: Command<'a>) -> Result<Command<'a>, AllocError>
+    ensures { IfOk result (λ c. app_of c ≡ with_rule (app_of command.entry) rule_of_list_option) }
 {
-    command.arg(list_arg(alloc))
+    command.arg(arg_of_list_option(alloc))
 }
 
-fn check_arg<'a>(alloc: Global) -> Arg<'a>
-    ensures rule { rule_of result ≡ check_option_rule }
+fn arg_of_check_option<'a>(alloc: Global) -> Arg<'a>
+    ensures rule { rule_of result ≡ rule_of_check_option }
     ensures local { result.global ≡ false }
 {
     Arg::new(alloc, "check")
@@ -130,14 +130,14 @@ fn check_arg<'a>(alloc: Global) -> Arg<'a>
         .help("Say what is wrong with IMAGE, or what is in it")
 }
 
-fn with_check<'a>(alloc: Global, command: Command<'a>) -> Result<Command<'a>, AllocError>
-    ensures { IfOk result (λ c. app_of c ≡ with_rule (app_of command.entry) check_option_rule) }
+fn with_check_option<'a>(alloc: Global, command: Command<'a>) -> Result<Command<'a>, AllocError>
+    ensures { IfOk result (λ c. app_of c ≡ with_rule (app_of command.entry) rule_of_check_option) }
 {
-    command.arg(check_arg(alloc))
+    command.arg(arg_of_check_option(alloc))
 }
 
-fn order_arg<'a>(alloc: Global) -> Arg<'a>
-    ensures rule { rule_of result ≡ order_option_rule }
+fn name_order_option_arg<'a>(alloc: Global) -> Arg<'a>
+    ensures rule { rule_of result ≡ rule_of_order_option }
     ensures local { result.global ≡ false }
 {
     Arg::new(alloc, "order")
@@ -148,14 +148,17 @@ fn order_arg<'a>(alloc: Global) -> Arg<'a>
         .help("Order of names in the image that -c makes")
 }
 
-fn with_order<'a>(alloc: Global, command: Command<'a>) -> Result<Command<'a>, AllocError>
-    ensures { IfOk result (λ c. app_of c ≡ with_rule (app_of command.entry) order_option_rule) }
+fn with_name_order_option<'a>(
+    alloc: Global,
+    command: Command<'a>,
+) -> Result<Command<'a>, AllocError>
+    ensures { IfOk result (λ c. app_of c ≡ with_rule (app_of command.entry) rule_of_order_option) }
 {
-    command.arg(order_arg(alloc))
+    command.arg(name_order_option_arg(alloc))
 }
 
-fn explain_arg<'a>(alloc: Global) -> Arg<'a>
-    ensures rule { rule_of result ≡ explain_option_rule }
+fn arg_of_explain_option<'a>(alloc: Global) -> Arg<'a>
+    ensures rule { rule_of result ≡ rule_of_explain_option }
     ensures local { result.global ≡ false }
 {
     Arg::new(alloc, "explain")
@@ -164,14 +167,14 @@ fn explain_arg<'a>(alloc: Global) -> Arg<'a>
         .help("Say why behind the line of an error")
 }
 
-fn with_explain<'a>(alloc: Global, command: Command<'a>) -> Result<Command<'a>, AllocError>
-    ensures { IfOk result (λ c. app_of c ≡ with_rule (app_of command.entry) explain_option_rule) }
+fn with_explain_option<'a>(alloc: Global, command: Command<'a>) -> Result<Command<'a>, AllocError>
+    ensures { IfOk result (λ c. app_of c ≡ with_rule (app_of command.entry) rule_of_explain_option) }
 {
-    command.arg(explain_arg(alloc))
+    command.arg(arg_of_explain_option(alloc))
 }
 
 fn image_arg<'a>(alloc: Global) -> Arg<'a>
-    ensures rule { rule_of result ≡ image_argument_rule }
+    ensures rule { rule_of result ≡ rule_of_image_argument }
     ensures local { result.global ≡ false }
 {
     Arg::new(alloc, "image")
@@ -181,15 +184,15 @@ fn image_arg<'a>(alloc: Global) -> Arg<'a>
         .help("The file with the image, or - for standard input or output")
 }
 
-fn with_image<'a>(alloc: Global, command: Command<'a>) -> Result<Command<'a>, AllocError>
-    ensures { IfOk result (λ c. app_of c ≡ with_rule (app_of command.entry) image_argument_rule) }
+fn with_image_argument<'a>(alloc: Global, command: Command<'a>) -> Result<Command<'a>, AllocError>
+    ensures { IfOk result (λ c. app_of c ≡ with_rule (app_of command.entry) rule_of_image_argument) }
 {
     command.arg(image_arg(alloc))
 }
 
 // Makes the command without its arguments, with the texts of its help.
-fn command_without_arguments<'a>(alloc: Global) -> Command<'a>
-    ensures { app_of result ≡ with_version (new_app (codes "mklittlefs")) }
+fn clap_command_before_arguments_are_added<'a>(alloc: Global) -> Command<'a>
+    ensures { app_of result ≡ with_version_option (new_app (codes "mklittlefs")) }
 {
     Command::new(alloc, "mklittlefs")
         .version(VERSION)
@@ -201,15 +204,18 @@ fn command_without_arguments<'a>(alloc: Global) -> Command<'a>
 }
 
 // Adds the options of which exactly one has to be given.
-fn with_mode_options<'a>(alloc: Global, command: Command<'a>) -> Result<Command<'a>, AllocError>
+fn with_create_unpack_list_and_check_options<'a>(
+    alloc: Global,
+    command: Command<'a>,
+) -> Result<Command<'a>, AllocError>
     ensures { IfOk result (λ c. app_of c ≡ with_mode_options (app_of command.entry)) }
 {
     let create = "Create IMAGE from the folder DIR";
     let unpack = "Unpack IMAGE into the folder DIR";
-    let command = with_folder(alloc, command, "create", 'c', create)?;
-    let command = with_folder(alloc, command, "unpack", 'u', unpack)?;
-    let command = with_list(alloc, command)?;
-    let command = with_check(alloc, command)?;
+    let command = with_folder_option(alloc, command, "create", 'c', create)?;
+    let command = with_folder_option(alloc, command, "unpack", 'u', unpack)?;
+    let command = with_list_option(alloc, command)?;
+    let command = with_check_option(alloc, command)?;
     Ok(command)
 }
 
@@ -220,7 +226,7 @@ fn with_size_options<'a>(alloc: Global, command: Command<'a>) -> Result<Command<
     let block_size = "Size of a block in bytes";
     let page = "Size of a page in bytes";
     let size = "Size of the image in bytes, with -c";
-    let command = with_number(
+    let command = with_number_option(
         alloc,
         command,
         "block_size",
@@ -229,28 +235,34 @@ fn with_size_options<'a>(alloc: Global, command: Command<'a>) -> Result<Command<
         "4096",
         block_size,
     )?;
-    let command = with_number(alloc, command, "page", 'p', "page", "256", page)?;
-    let command = with_number(alloc, command, "size", 's', "size", "65536", size)?;
+    let command = with_number_option(alloc, command, "page", 'p', "page", "256", page)?;
+    let command = with_number_option(alloc, command, "size", 's', "size", "65536", size)?;
     Ok(command)
 }
 
 // Makes the command of mklittlefs.
-fn command<'a>(alloc: Global) -> Result<Command<'a>, AllocError>
+fn mklittlefs_command<'a>(alloc: Global) -> Result<Command<'a>, AllocError>
     ensures { IfOk result (λ c. app_of c ≡ mklittlefs) }
 {
-    let command = with_mode_options(alloc, command_without_arguments(alloc))?;
+    let command = with_create_unpack_list_and_check_options(
+        alloc,
+        clap_command_before_arguments_are_added(alloc),
+    )?;
     let command = with_size_options(alloc, command)?;
-    let command = with_order(alloc, command)?;
-    let command = with_explain(alloc, command)?;
-    let command = with_image(alloc, command)?;
+    let command = with_name_order_option(alloc, command)?;
+    let command = with_explain_option(alloc, command)?;
+    let command = with_image_argument(alloc, command)?;
     Ok(command)
 }
 
 // Returns the matches of the words.
-pub(crate) fn parse<'a, S: AsStr>(alloc: Global, words: &'a [S]) -> Result<ArgMatches<'a>, Error>
+pub(crate) fn parse_command_line_words<'a, S: AsStr>(
+    alloc: Global,
+    words: &'a [S],
+) -> Result<ArgMatches<'a>, Error>
     ensures kinds { FailsBy (faults (map S.text words.entry.now)) result }
     ensures matches { IfOk result (λ m. rows_of (found_of m) ≡ rows (map S.text words.entry.now)) }
-    ensures complete { IfOk result (λ m. HasAllNeededValues (found_of m)) }
+    ensures complete { IfOk result (λ m. HasAllRequiredAndDefaultedArgumentValues (found_of m)) }
 {
-    command(alloc)?.try_get_matches_from(words)
+    mklittlefs_command(alloc)?.try_get_matches_from(words)
 }

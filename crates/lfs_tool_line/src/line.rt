@@ -1,8 +1,8 @@
 ghost use Rattle.std.specs.Prelude.{◌≡◌, IfErr, IfOk, MatchOption, Some, map, option_map};
 ghost use Rattle.clap.specs.Words.{first_of, found_of, rows_of};
-ghost use Rattle.lfs_tool_line.specs.Matches.{HasOptionNumberOf32Bits, HasOneMode, HasAllNeededValues, IsLineErrorOfWords, IsLineGivenByRows, IsModeGivenByRows, ParserTakesWords, flag_at, number_at, given_name_order, name_order_of_text, rows};
+ghost use Rattle.lfs_tool_line.specs.Matches.{HasOptionNumberOf32Bits, HasOneMode, HasAllRequiredAndDefaultedArgumentValues, IsLineErrorOfWords, IsCommandLineOfParsedArguments, IsModeOfParsedArguments, ParserAcceptsWords, flag_value_in_rows, numeric_option_value_in_rows, given_name_order, name_order_of_text, rows};
 
-use crate::command::parse;
+use crate::command::parse_command_line_words;
 use clap::ArgMatches;
 use lfs_model::NameOrder;
 use std::alloc::Global;
@@ -67,15 +67,15 @@ fn argument_text<'a>(matches: &ArgMatches<'a>, id: &str) -> Option<&'a str>
 
 // Returns the value of a flag.
 fn flag_value_in_matches(matches: &ArgMatches<'_>, id: &str) -> bool
-    ensures { result ≡ flag_at id.now (rows_of (found_of matches.now)) }
+    ensures { result ≡ flag_value_in_rows id.now (rows_of (found_of matches.now)) }
 {
     matches.get_one::<bool>(id).unwrap_or(false)
 }
 
 // Returns the number of an option that has one.
-fn number_in(matches: &ArgMatches<'_>, id: &str) -> u32
+fn numeric_option_value_in_matches(matches: &ArgMatches<'_>, id: &str) -> u32
     requires { HasOptionNumberOf32Bits (found_of matches.now) id.now }
-    ensures { number_at id.now (rows_of (found_of matches.now)) ≡ Some result }
+    ensures { numeric_option_value_in_rows id.now (rows_of (found_of matches.now)) ≡ Some result }
 {
     matches.get_one::<u32>(id).unwrap()
 }
@@ -83,7 +83,7 @@ fn number_in(matches: &ArgMatches<'_>, id: &str) -> u32
 // Returns the mode, where exactly one is given.
 fn mode_of_matches<'a>(matches: &ArgMatches<'a>) -> Option<Mode<'a>>
     ensures { MatchOption result (¬ HasOneMode (rows_of (found_of matches.now)))
-        (λ mode. HasOneMode (rows_of (found_of matches.now)) × IsModeGivenByRows (rows_of (found_of matches.now)) mode) }
+        (λ mode. HasOneMode (rows_of (found_of matches.now)) × IsModeOfParsedArguments (rows_of (found_of matches.now)) mode) }
 {
     let create = argument_text(matches, "create");
     let unpack = argument_text(matches, "unpack");
@@ -99,7 +99,7 @@ fn mode_of_matches<'a>(matches: &ArgMatches<'a>) -> Option<Mode<'a>>
 }
 
 // Returns the order that a text names.
-fn order_of_text(text: &str) -> Option<NameOrder>
+fn name_order_named_by_text(text: &str) -> Option<NameOrder>
     ensures { result ≡ name_order_of_text text.now }
 {
     if text == "longer-first" {
@@ -112,11 +112,11 @@ fn order_of_text(text: &str) -> Option<NameOrder>
 }
 
 // Returns the order that is given, or the default.
-fn order_of(matches: &ArgMatches<'_>) -> Option<NameOrder>
+fn name_order_of_matches(matches: &ArgMatches<'_>) -> Option<NameOrder>
     ensures { result ≡ given_name_order (rows_of (found_of matches.now)) }
 {
     match argument_text(matches, "order") {
-        Some(text) => order_of_text(text),
+        Some(text) => name_order_named_by_text(text),
         None => None,
     }
 }
@@ -127,17 +127,17 @@ fn command_line_of_matches<'a>(
     mode: Mode<'a>,
     order: NameOrder,
 ) -> Line<'a>
-    requires complete { HasAllNeededValues (found_of matches.now) }
+    requires complete { HasAllRequiredAndDefaultedArgumentValues (found_of matches.now) }
     requires one { HasOneMode (rows_of (found_of matches.now)) }
-    requires mode { IsModeGivenByRows (rows_of (found_of matches.now)) mode }
+    requires mode { IsModeOfParsedArguments (rows_of (found_of matches.now)) mode }
     requires order { given_name_order (rows_of (found_of matches.now)) ≡ Some order }
-    ensures { IsLineGivenByRows (rows_of (found_of matches.now)) result }
+    ensures { IsCommandLineOfParsedArguments (rows_of (found_of matches.now)) result }
 {
     Line {
         mode,
-        block_size: number_in(matches, "block_size"),
-        page: number_in(matches, "page"),
-        size: number_in(matches, "size"),
+        block_size: numeric_option_value_in_matches(matches, "block_size"),
+        page: numeric_option_value_in_matches(matches, "page"),
+        size: numeric_option_value_in_matches(matches, "size"),
         order,
         explain: flag_value_in_matches(matches, "explain"),
         image: argument_text(matches, "image").unwrap(),
@@ -157,16 +157,16 @@ fn command_line_of_matches<'a>(
 /// or where memory isn't granted. `LineError::Modes` where it takes them and not exactly one of `-c`, `-u`, `-l` and
 /// `--check` is given, and `LineError::Order` where ORDER is neither.
 pub fn read_line<'a, S: AsStr>(alloc: Global, words: &'a [S]) -> Result<Line<'a>, LineError>
-    ensures ok { IfOk result (λ line. ParserTakesWords (map S.text words.entry.now)
-        × IsLineGivenByRows (rows (map S.text words.entry.now)) line) }
+    ensures ok { IfOk result (λ line. ParserAcceptsWords (map S.text words.entry.now)
+        × IsCommandLineOfParsedArguments (rows (map S.text words.entry.now)) line) }
     ensures err { IfErr result (IsLineErrorOfWords (map S.text words.entry.now)) }
 {
-    let matches = match parse(alloc, words) {
+    let matches = match parse_command_line_words(alloc, words) {
         Ok(matches) => matches,
         Err(error) => return Err(LineError::Parser(error)),
     };
     match mode_of_matches(&matches) {
-        Some(mode) => match order_of(&matches) {
+        Some(mode) => match name_order_of_matches(&matches) {
             Some(order) => Ok(command_line_of_matches(&matches, mode, order)),
             None => Err(LineError::Order),
         },

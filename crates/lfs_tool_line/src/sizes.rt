@@ -3,7 +3,7 @@
 ghost use Rattle.std.specs.Prelude.{◌≡◌, ◌≤◌, ◌*◌, ◌++◌, ◌/◌, ◌%◌, IfSome, None, OnOk};
 ghost use Rattle.std.specs.Fmt.{decimal};
 ghost use Rattle.lfs_model.specs.Geometry.{is_valid_page_size};
-ghost use Rattle.lfs_tool_line.specs.Sizes.{Fits, IsFirstBrokenSizeRule, BreaksNoSizeRuleBefore, labelled_number_text, place_of_size_rule, size_rule_words, broken_size_rule_line, sizes_in_rule_text};
+ghost use Rattle.lfs_tool_line.specs.Sizes.{AreSizesOfSomeImage, IsFirstBrokenSizeRule, BreaksNoSizeRuleBeforeIndex, labelled_number_text, index_of_size_rule, size_rule_words, broken_size_rule_line, sizes_in_rule_text};
 
 use std::alloc::AllocError;
 use std::io::Write;
@@ -35,14 +35,14 @@ pub enum SizeRule {
     BlockCount,
 }
 
-fn is_page(page: u32) -> bool
+fn is_allowed_page_size(page: u32) -> bool
     ensures { result ≡ is_valid_page_size page }
 {
     page == 8 || page == 16 || page == 32 || page == 64 || page == 128 || page == 256 || page == 512
 }
 
 // Adds a text and a number behind it.
-fn push_number(text: &mut Vec<u8>, before: &str, number: usize) -> Result<(), AllocError>
+fn push_label_and_number(text: &mut Vec<u8>, before: &str, number: usize) -> Result<(), AllocError>
     ensures { OnOk result (text.new.items ≡ text.old.items ++ labelled_number_text before.now number) }
 {
     text.extend_from_slice(before.as_bytes())?;
@@ -74,22 +74,22 @@ impl Sizes {
     {
         let (block_size, page) = (self.block_size as usize, self.page as usize);
         match rule {
-            SizeRule::PageSize => push_number(text, "page ", page),
-            SizeRule::BlockSize => push_number(text, "block ", block_size),
+            SizeRule::PageSize => push_label_and_number(text, "page ", page),
+            SizeRule::BlockSize => push_label_and_number(text, "block ", block_size),
             SizeRule::EightPages | SizeRule::WholePages => {
-                push_number(text, "block ", block_size)?;
-                push_number(text, ", page ", page)
+                push_label_and_number(text, "block ", block_size)?;
+                push_label_and_number(text, ", page ", page)
             }
             SizeRule::WholeBlocks | SizeRule::BlockCount => {
-                push_number(text, "size ", self.size)?;
-                push_number(text, ", block ", block_size)
+                push_label_and_number(text, "size ", self.size)?;
+                push_label_and_number(text, ", block ", block_size)
             }
             SizeRule::ImageSize => Ok(()),
         }
     }
 
     /// Adds the line that says that the sizes break the rule.
-    pub fn push_line(self, text: &mut Vec<u8>, rule: SizeRule) -> Result<(), AllocError>
+    pub fn push_broken_rule_line(self, text: &mut Vec<u8>, rule: SizeRule) -> Result<(), AllocError>
         ensures { OnOk result (text.new.items ≡ text.old.items ++ broken_size_rule_line self rule) }
     {
         self.push_sizes_in_rule(text, rule)?;
@@ -98,10 +98,10 @@ impl Sizes {
     }
 
     // Returns the first rule that the image's size breaks, where those of blocks and pages break none.
-    fn broken_image_size_rule(self) -> Option<SizeRule>
-        requires { BreaksNoSizeRuleBefore self (place_of_size_rule SizeRule.ImageSize) }
+    fn first_rule_that_image_size_breaks(self) -> Option<SizeRule>
+        requires { BreaksNoSizeRuleBeforeIndex self (index_of_size_rule SizeRule.ImageSize) }
         ensures broken { IfSome result (IsFirstBrokenSizeRule self) }
-        ensures fits { result ≡ None → Fits self }
+        ensures fits { result ≡ None → AreSizesOfSomeImage self }
     {
         let block_size = self.block_size as usize;
         if self.size > 268_435_456 {
@@ -121,10 +121,10 @@ impl Sizes {
     /// where there are images of these sizes.
     pub fn broken_rule(self) -> Option<SizeRule>
         ensures broken { IfSome result (IsFirstBrokenSizeRule self) }
-        ensures fits { result ≡ None → Fits self }
+        ensures fits { result ≡ None → AreSizesOfSomeImage self }
     {
         let (block_size, page) = (self.block_size as usize, self.page as usize);
-        if !is_page(self.page) {
+        if !is_allowed_page_size(self.page) {
             return Some(SizeRule::PageSize);
         }
         if block_size < 1024 || block_size > 65536 {
@@ -136,6 +136,6 @@ impl Sizes {
         if block_size % page != 0 {
             return Some(SizeRule::WholePages);
         }
-        self.broken_image_size_rule()
+        self.first_rule_that_image_size_breaks()
     }
 }

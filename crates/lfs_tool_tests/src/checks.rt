@@ -3,7 +3,7 @@
 use crate::images::{BELOW, ENTRIES};
 use crate::texts::check_text;
 use lfs_fixtures::{BlockFilling, FixtureEntries, image_with_second_commit};
-use lfs_tool::Watched;
+use lfs_tool::WatchedStream;
 use std::alloc::{AllocError, Global};
 use std::test::Fail;
 
@@ -193,10 +193,10 @@ const REFUSED: [Row<'static>; 16] = [
 ];
 
 // Whether an image has these lines.
-fn is_checked(alloc: Global, row: Row<'_>) -> Result<bool, AllocError> {
+fn has_expected_check_text(alloc: Global, row: Row<'_>) -> Result<bool, AllocError> {
     let (entries, others, wanted) = row;
     let image = image_with_second_commit(alloc, entries, others)?;
-    let mut image = Watched::new(image.as_slice());
+    let mut image = WatchedStream::new(image.as_slice());
     let text = check_text(alloc, &mut image, 4096, 256)?;
     Ok(text.as_slice() == wanted.as_bytes())
 }
@@ -205,7 +205,7 @@ fn is_checked(alloc: Global, row: Row<'_>) -> Result<bool, AllocError> {
 fn images_are_checked(rt: HostRuntime) -> Result<(), Fail> {
     for rows in [ACCEPTED.as_slice(), REFUSED.as_slice()] {
         for row in rows {
-            assert!(rt; is_checked(rt.alloc(), *row)?, "{:?}", row.0);
+            assert!(rt; has_expected_check_text(rt.alloc(), *row)?, "{:?}", row.0);
         }
     }
     Ok(())
@@ -266,11 +266,14 @@ const SIZES: [(usize, u32, u32, &str); 9] = [
 ];
 
 // Whether so many bytes of a fresh image have these lines.
-fn is_sized(alloc: Global, row: (usize, u32, u32, &str)) -> Result<bool, AllocError> {
+fn has_expected_size_check(
+    alloc: Global,
+    row: (usize, u32, u32, &str),
+) -> Result<bool, AllocError> {
     let (len, block_size, page, wanted) = row;
     let mut image = image_with_second_commit(alloc, &[], &[])?;
     image.resize(len, 0xff)?;
-    let mut image = Watched::new(image.as_slice());
+    let mut image = WatchedStream::new(image.as_slice());
     let text = check_text(alloc, &mut image, block_size, page)?;
     Ok(text.as_slice() == wanted.as_bytes())
 }
@@ -278,7 +281,12 @@ fn is_sized(alloc: Global, row: (usize, u32, u32, &str)) -> Result<bool, AllocEr
 #[test]
 fn sizes_are_checked(rt: HostRuntime) -> Result<(), Fail> {
     for row in SIZES {
-        assert!(rt; is_sized(rt.alloc(), row)?, "{} {}", row.0, row.1);
+        assert!(rt;
+            has_expected_size_check(rt.alloc(), row)?,
+            "{} {}",
+            row.0,
+            row.1
+        );
     }
     Ok(())
 }

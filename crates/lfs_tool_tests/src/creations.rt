@@ -1,9 +1,9 @@
 // Sources, the images that are made of them, and what comes back.
 
-use crate::sources::{Items, source_of};
+use crate::sources::{Items, memory_source_of_items};
 use crate::texts::{list_text, unpack_text, with_error_line};
 use lfs_device::{Error, Geometry};
-use lfs_tool::{Watched, create};
+use lfs_tool::{WatchedStream, create};
 use lfs_tool_folders::MemorySource;
 use std::alloc::Global;
 use std::test::Fail;
@@ -14,7 +14,7 @@ const NAME_TOO_LONG: &str = "error: NameTooLong (36)\n";
 
 // Whether the image of a source lists as these lines and, where they are given, is unpacked by these
 // actions; or whether this error comes and nothing is written.
-fn comes_back(
+fn is_made_image_as_expected(
     alloc: Global,
     source: MemorySource,
     geometry: Geometry,
@@ -22,19 +22,19 @@ fn comes_back(
     actions: Option<&[u8]>,
 ) -> Result<bool, Error> {
     let mut source = source;
-    let mut out = Watched::new(Vec::new(alloc));
+    let mut out = WatchedStream::new(Vec::new(alloc));
     let result = create(alloc, &mut source, geometry, &mut out, &mut ());
     let image = out.into_inner();
     if result.is_err() {
         return Ok(with_error_line(alloc, image, result)?.as_slice() == lines);
     }
     let (block_size, page) = (geometry.block_size, geometry.page);
-    let mut reader = Watched::new(image.as_slice());
+    let mut reader = WatchedStream::new(image.as_slice());
     let is_listed = list_text(alloc, &mut reader, block_size, page)?.as_slice() == lines;
     let Some(actions) = actions else {
         return Ok(is_listed);
     };
-    let mut reader = Watched::new(image.as_slice());
+    let mut reader = WatchedStream::new(image.as_slice());
     let done = unpack_text(alloc, &mut reader, block_size, page)?;
     Ok(is_listed && done.as_slice() == actions)
 }
@@ -144,15 +144,21 @@ const MADE: [(u32, u32, &[Row]); 2] = [(4096, 256, &SOURCES), (1024, 128, &SMALL
 fn images_are_made(rt: HostRuntime) -> Result<(), Fail> {
     for (block_size, page, rows) in MADE {
         for (items, blocks, text) in rows {
-            let source = source_of(rt.alloc(), items)?;
+            let source = memory_source_of_items(rt.alloc(), items)?;
             let geometry = Geometry::new(block_size, page, *blocks)?;
-            let comes_back = comes_back(rt.alloc(), source, geometry, text.as_bytes(), None)?;
+            let comes_back = is_made_image_as_expected(
+                rt.alloc(),
+                source,
+                geometry,
+                text.as_bytes(),
+                None,
+            )?;
             assert!(rt; comes_back, "{text}");
         }
     }
-    let source = source_of(rt.alloc(), FOLDER)?;
+    let source = memory_source_of_items(rt.alloc(), FOLDER)?;
     let geometry = Geometry::new(4096, 256, 16)?;
-    assert!(rt; comes_back(rt.alloc(), source, geometry, LINES, Some(ACTIONS))?);
+    assert!(rt; is_made_image_as_expected(rt.alloc(), source, geometry, LINES, Some(ACTIONS))?);
     Ok(())
 }
 
@@ -165,8 +171,8 @@ const FRESH: [u8; 52] = [
 
 #[test]
 fn an_image_has_these_bytes(rt: HostRuntime) -> Result<(), Fail> {
-    let mut source = source_of(rt.alloc(), &[])?;
-    let mut out = Watched::new(Vec::new(rt.alloc()));
+    let mut source = memory_source_of_items(rt.alloc(), &[])?;
+    let mut out = WatchedStream::new(Vec::new(rt.alloc()));
     let result = create(
         rt.alloc(),
         &mut source,

@@ -19,7 +19,7 @@ pub(crate) enum PathKind {
 
 // A name with what stands there; an empty name is none any more.
 #[derive(Drop)]
-pub(crate) struct Node {
+pub(crate) struct DiskNode {
     pub(crate) name: Vec<u8>,
     pub(crate) kind: PathKind,
     pub(crate) bytes: Vec<u8>,
@@ -29,7 +29,7 @@ pub(crate) struct Node {
 
 // What the file system does.
 #[derive(Clone, Copy, PartialEq, Eq, Debug, Drop)]
-pub(crate) enum Habit {
+pub(crate) enum DiskHabit {
     Plain,
     // It makes no new names.
     NoNewNames,
@@ -39,24 +39,24 @@ pub(crate) enum Habit {
 
 #[derive(Drop)]
 pub(crate) struct Disk {
-    pub(crate) nodes: RefCell<Vec<Node>>,
+    pub(crate) nodes: RefCell<Vec<DiskNode>>,
     // How many bytes of files it takes yet.
     pub(crate) room: Cell<usize>,
-    pub(crate) habit: Habit,
+    pub(crate) habit: DiskHabit,
 }
 
-fn error<T>(kind: ErrorKind) -> io::Result<T> {
+fn io_error_of_kind<T>(kind: ErrorKind) -> io::Result<T> {
     Err(io::Error::from(kind))
 }
 
-fn place_of(nodes: &[Node], name: &str) -> Option<usize> {
+fn index_of_node_name(nodes: &[DiskNode], name: &str) -> Option<usize> {
     nodes
         .iter()
         .position(|node| node.name.as_slice() == name.as_bytes())
 }
 
 impl Disk {
-    pub(crate) fn new(alloc: Global, room: usize, habit: Habit) -> Disk {
+    pub(crate) fn new(alloc: Global, room: usize, habit: DiskHabit) -> Disk {
         Disk {
             nodes: RefCell::new(Vec::new(alloc)),
             room: Cell::new(room),
@@ -65,21 +65,21 @@ impl Disk {
     }
 
     // Adds a node, and gives its number.
-    pub(crate) fn put(
+    pub(crate) fn add_node(
         &self,
         alloc: Global,
         name: &str,
         kind: PathKind,
         bytes: &[u8],
     ) -> io::Result<usize> {
-        let node = Node {
+        let node = DiskNode {
             name: name.as_bytes().to_vec(alloc)?,
             kind,
             bytes: bytes.to_vec(alloc)?,
             mode: 0,
         };
         let Ok(mut nodes) = self.nodes.try_borrow_mut() else {
-            return error(ErrorKind::ResourceBusy);
+            return io_error_of_kind(ErrorKind::ResourceBusy);
         };
         let number = nodes.len();
         nodes.push(node)?;
@@ -87,7 +87,11 @@ impl Disk {
     }
 
     // What stands under a name.
-    pub(crate) fn bytes_at(&self, alloc: Global, name: &str) -> io::Result<Option<Vec<u8>>> {
+    pub(crate) fn bytes_of_named_node(
+        &self,
+        alloc: Global,
+        name: &str,
+    ) -> io::Result<Option<Vec<u8>>> {
         match self.find(name) {
             Some(number) => Ok(Some(self.bytes(alloc, number)?)),
             None => Ok(None),
@@ -95,7 +99,7 @@ impl Disk {
     }
 
     // The permissions that were given to what stands under a name.
-    pub(crate) fn mode_at(&self, name: &str) -> u32 {
+    pub(crate) fn mode_of_named_node(&self, name: &str) -> u32 {
         let Some(number) = self.find(name) else {
             return 0;
         };
@@ -115,7 +119,7 @@ impl Disk {
 
     fn find(&self, name: &str) -> Option<usize> {
         match self.nodes.try_borrow() {
-            Ok(nodes) => place_of(nodes.as_slice(), name),
+            Ok(nodes) => index_of_node_name(nodes.as_slice(), name),
             Err(_) => None,
         }
     }
@@ -135,7 +139,7 @@ impl Disk {
     }
 
     // Empties what stands there, and takes its name where it is to be gone.
-    fn empty(&self, number: usize, is_gone: bool) {
+    fn empty_node(&self, number: usize, is_gone: bool) {
         self.room
             .set(self.room.get().saturating_add(self.len(number)));
         let Ok(mut nodes) = self.nodes.try_borrow_mut() else {
@@ -170,7 +174,7 @@ impl Disk {
 
     // The bytes of one, in place of another's.
     fn copy(&self, alloc: Global, from: usize, to: usize) -> io::Result<u64> {
-        self.empty(to, false);
+        self.empty_node(to, false);
         let bytes = self.bytes(alloc, from)?;
         for byte in &bytes {
             self.append(to, &[*byte])?;
@@ -182,16 +186,16 @@ impl Disk {
     pub(crate) fn bytes(&self, alloc: Global, number: usize) -> io::Result<Vec<u8>> {
         match self.nodes.try_borrow() {
             Ok(nodes) if number < nodes.len() => Ok(nodes[number].bytes.as_slice().to_vec(alloc)?),
-            _ => error(ErrorKind::NotFound),
+            _ => io_error_of_kind(ErrorKind::NotFound),
         }
     }
 
     fn set_name(&self, number: usize, name: &[u8]) -> io::Result<()> {
         let Ok(mut nodes) = self.nodes.try_borrow_mut() else {
-            return error(ErrorKind::ResourceBusy);
+            return io_error_of_kind(ErrorKind::ResourceBusy);
         };
         if number >= nodes.len() {
-            return error(ErrorKind::NotFound);
+            return io_error_of_kind(ErrorKind::NotFound);
         }
         nodes[number].name.clear();
         nodes[number].name.extend_from_slice(name)?;
@@ -210,25 +214,25 @@ impl Disk {
 
 // The disk's files, for those who open them.
 #[derive(Clone, Drop)]
-pub(crate) struct Mounted<'a> {
+pub(crate) struct DiskFiles<'a> {
     pub(crate) alloc: Global,
     pub(crate) disk: &'a Disk,
 }
 
 // A file that is open.
 #[derive(Drop)]
-pub(crate) struct Opened<'a> {
+pub(crate) struct OpenedDiskFile<'a> {
     disk: &'a Disk,
     number: usize,
 }
 
-impl Read for Opened<'_> {
+impl Read for OpenedDiskFile<'_> {
     fn read(&mut self, _buf: &mut [u8]) -> io::Result<usize> {
         Ok(0)
     }
 }
 
-impl Write for Opened<'_> {
+impl Write for OpenedDiskFile<'_> {
     fn write(&mut self, buf: &[u8]) -> io::Result<usize> {
         self.disk.append(self.number, buf)
     }
@@ -238,19 +242,19 @@ impl Write for Opened<'_> {
     }
 }
 
-impl Seek for Opened<'_> {
+impl Seek for OpenedDiskFile<'_> {
     fn seek(&mut self, _to: SeekFrom) -> io::Result<u64> {
-        error(ErrorKind::NotSeekable)
+        io_error_of_kind(ErrorKind::NotSeekable)
     }
 }
 
-impl OpenFile for Opened<'_> {
+impl OpenFile for OpenedDiskFile<'_> {
     fn metadata(&self) -> io::Result<Metadata> {
         Ok(Metadata::of_file(self.disk.len(self.number) as u64))
     }
 
     fn set_len(&self, _size: u64) -> io::Result<()> {
-        error(ErrorKind::Unsupported)
+        io_error_of_kind(ErrorKind::Unsupported)
     }
 
     fn sync_all(&self) -> io::Result<()> {
@@ -267,60 +271,64 @@ impl OpenFile for Opened<'_> {
     }
 }
 
-impl<'a> Mounted<'a> {
-    fn open_number(&self, number: usize) -> Opened<'a> {
-        Opened {
+impl<'a> DiskFiles<'a> {
+    fn open_node(&self, number: usize) -> OpenedDiskFile<'a> {
+        OpenedDiskFile {
             disk: self.disk,
             number,
         }
     }
 
-    fn open_old(&self, how: &OpenOptions, number: usize) -> io::Result<Opened<'a>> {
+    fn open_existing_node(
+        &self,
+        how: &OpenOptions,
+        number: usize,
+    ) -> io::Result<OpenedDiskFile<'a>> {
         if how.asks_create_new() {
-            return error(ErrorKind::AlreadyExists);
+            return io_error_of_kind(ErrorKind::AlreadyExists);
         }
         if how.asks_write() && self.disk.kind(number) == PathKind::ReadOnly {
-            return error(ErrorKind::PermissionDenied);
+            return io_error_of_kind(ErrorKind::PermissionDenied);
         }
         if how.asks_truncate() {
-            self.disk.empty(number, false);
+            self.disk.empty_node(number, false);
         }
-        Ok(self.open_number(number))
+        Ok(self.open_node(number))
     }
 
-    fn open_new(&self, how: &OpenOptions, path: &str) -> io::Result<Opened<'a>> {
+    fn open_new(&self, how: &OpenOptions, path: &str) -> io::Result<OpenedDiskFile<'a>> {
         if !how.asks_create() && !how.asks_create_new() {
-            return error(ErrorKind::NotFound);
+            return io_error_of_kind(ErrorKind::NotFound);
         }
-        if self.disk.habit == Habit::NoNewNames {
-            return error(ErrorKind::PermissionDenied);
+        if self.disk.habit == DiskHabit::NoNewNames {
+            return io_error_of_kind(ErrorKind::PermissionDenied);
         }
-        let number = self.disk.put(self.alloc, path, PathKind::File, b"")?;
-        Ok(self.open_number(number))
+        let number = self.disk.add_node(self.alloc, path, PathKind::File, b"")?;
+        Ok(self.open_node(number))
     }
 }
 
-impl<'a> Files for Mounted<'a> {
-    type File = Opened<'a>;
+impl<'a> Files for DiskFiles<'a> {
+    type File = OpenedDiskFile<'a>;
 
     type Dir = &'a [u8];
 
-    fn open_file(&self, how: &OpenOptions, path: &str) -> io::Result<Opened<'a>> {
+    fn open_file(&self, how: &OpenOptions, path: &str) -> io::Result<OpenedDiskFile<'a>> {
         how.check()?;
         match self.disk.find(path) {
-            Some(number) => self.open_old(how, number),
+            Some(number) => self.open_existing_node(how, number),
             None => self.open_new(how, path),
         }
     }
 
     fn open_dir(&self, _path: &str) -> io::Result<&'a [u8]> {
-        error(ErrorKind::Unsupported)
+        io_error_of_kind(ErrorKind::Unsupported)
     }
 
     fn metadata(&self, path: &str) -> io::Result<Metadata> {
         match self.disk.find(path) {
             Some(number) => Ok(Metadata::of_file(self.disk.len(number) as u64)),
-            None => error(ErrorKind::NotFound),
+            None => io_error_of_kind(ErrorKind::NotFound),
         }
     }
 
@@ -328,26 +336,26 @@ impl<'a> Files for Mounted<'a> {
         match self.disk.find(path) {
             Some(number) if self.disk.kind(number) == PathKind::Link => Ok(Metadata::of_symlink(1)),
             Some(number) => Ok(Metadata::of_file(self.disk.len(number) as u64)),
-            None => error(ErrorKind::NotFound),
+            None => io_error_of_kind(ErrorKind::NotFound),
         }
     }
 
     fn copy(&self, from: &str, to: &str) -> io::Result<u64> {
         let (Some(from), Some(to)) = (self.disk.find(from), self.disk.find(to)) else {
-            return error(ErrorKind::NotFound);
+            return io_error_of_kind(ErrorKind::NotFound);
         };
         self.disk.copy(self.alloc, from, to)
     }
 
     fn rename(&self, from: &str, to: &str) -> io::Result<()> {
         let Some(number) = self.disk.find(from) else {
-            return error(ErrorKind::NotFound);
+            return io_error_of_kind(ErrorKind::NotFound);
         };
-        if self.disk.habit == Habit::NoNewPlaces {
-            return error(ErrorKind::CrossesDevices);
+        if self.disk.habit == DiskHabit::NoNewPlaces {
+            return io_error_of_kind(ErrorKind::CrossesDevices);
         }
         if let Some(old) = self.disk.find(to) {
-            self.disk.empty(old, true);
+            self.disk.empty_node(old, true);
         }
         self.disk.set_name(number, to.as_bytes())
     }
@@ -355,22 +363,22 @@ impl<'a> Files for Mounted<'a> {
     fn remove_file(&self, path: &str) -> io::Result<()> {
         match self.disk.find(path) {
             Some(number) => {
-                self.disk.empty(number, true);
+                self.disk.empty_node(number, true);
                 Ok(())
             }
-            None => error(ErrorKind::NotFound),
+            None => io_error_of_kind(ErrorKind::NotFound),
         }
     }
 
     fn create_dir(&self, _path: &str) -> io::Result<()> {
-        error(ErrorKind::Unsupported)
+        io_error_of_kind(ErrorKind::Unsupported)
     }
 
     fn remove_dir(&self, _path: &str) -> io::Result<()> {
-        error(ErrorKind::Unsupported)
+        io_error_of_kind(ErrorKind::Unsupported)
     }
 
     fn remove_dir_all<B: Allocator>(&self, _alloc: B, _path: &str) -> io::Result<()> {
-        error(ErrorKind::Unsupported)
+        io_error_of_kind(ErrorKind::Unsupported)
     }
 }

@@ -1,11 +1,11 @@
 // Readers and writers that fail in mid-stream, or that a signal interrupts.
 
 use crate::images::shifting_block;
-use crate::sources::source_of;
+use crate::sources::memory_source_of_items;
 use crate::texts::{list_text, unpack_text, with_error_line};
 use lfs_device::{Error, Geometry};
-use lfs_fixtures::image_of_two_blocks;
-use lfs_tool::{Watched, create, list};
+use lfs_fixtures::image_with_first_two_blocks;
+use lfs_tool::{WatchedStream, create, list};
 use std::alloc::{AllocError, Global};
 use std::io;
 use std::io::{ErrorKind, Read, Write};
@@ -31,7 +31,7 @@ struct Faulty<'a> {
 }
 
 impl Faulty<'_> {
-    fn go_on(&mut self) -> io::Result<()> {
+    fn count_call_or_fail(&mut self) -> io::Result<()> {
         self.calls = self.calls.saturating_add(1);
         if self.calls == self.fails_at {
             return Err(io::Error::from(self.kind));
@@ -42,7 +42,7 @@ impl Faulty<'_> {
 
 impl Read for Faulty<'_> {
     fn read(&mut self, buf: &mut [u8]) -> io::Result<usize> {
-        self.go_on()?;
+        self.count_call_or_fail()?;
         let n = self.left.len().min(self.most);
         let mut part = &self.left[..n];
         let given = part.read(buf)?;
@@ -53,25 +53,25 @@ impl Read for Faulty<'_> {
 
 impl Write for Faulty<'_> {
     fn write(&mut self, buf: &[u8]) -> io::Result<usize> {
-        self.go_on()?;
+        self.count_call_or_fail()?;
         let n = buf.len().min(self.most);
         self.taken.extend_from_slice(&buf[..n])?;
         Ok(n)
     }
 
     fn flush(&mut self) -> io::Result<()> {
-        self.go_on()
+        self.count_call_or_fail()
     }
 }
 
-fn failing_at<'a>(
+fn stream_failing_at_call<'a>(
     alloc: Global,
     left: &'a [u8],
     most: usize,
     fails_at: u32,
     kind: ErrorKind,
-) -> Watched<Faulty<'a>> {
-    Watched::new(Faulty {
+) -> WatchedStream<Faulty<'a>> {
+    WatchedStream::new(Faulty {
         left,
         taken: Vec::new(alloc),
         most,
@@ -95,9 +95,9 @@ const READERS: [(bool, u32, usize, u32, &[u8]); 4] = [
 ];
 
 // What is shown of an image whose reader fails at a call.
-fn read_badly(
+fn text_from_failing_reader(
     alloc: Global,
-    reader: Watched<Faulty<'_>>,
+    reader: WatchedStream<Faulty<'_>>,
     is_unpacked: bool,
     block_size: u32,
 ) -> Result<Vec<u8>, AllocError> {
@@ -112,12 +112,18 @@ fn read_badly(
 #[test]
 fn failing_readers_are_reported(rt: HostRuntime) -> Result<(), Fail> {
     let block = shifting_block(rt.alloc())?;
-    let image = image_of_two_blocks(rt.alloc(), block.as_slice(), &[])?;
+    let image = image_with_first_two_blocks(rt.alloc(), block.as_slice(), &[])?;
     for (kind, is_failure) in KINDS {
         for (is_unpacked, block_size, most, calls, text) in READERS {
             for fails_at in 0..calls + 3 {
-                let reader = failing_at(rt.alloc(), image.as_slice(), most, fails_at, kind);
-                let told = read_badly(rt.alloc(), reader, is_unpacked, block_size)?;
+                let reader = stream_failing_at_call(
+                    rt.alloc(),
+                    image.as_slice(),
+                    most,
+                    fails_at,
+                    kind,
+                );
+                let told = text_from_failing_reader(rt.alloc(), reader, is_unpacked, block_size)?;
                 let fails = is_failure && (1..=calls).contains(&fails_at);
                 let wanted = if fails { INPUT } else { text };
                 let is_reported = told.as_slice() == wanted;
@@ -155,15 +161,15 @@ const WRITERS: [(bool, usize, u32, usize); 18] = [
 ];
 
 // What is written, with the line of an error behind it: an image of nothing, or the lines of this one.
-fn write_badly(
+fn text_from_failing_writer(
     alloc: Global,
     image: &[u8],
     is_made: bool,
-    writer: Watched<Faulty<'_>>,
+    writer: WatchedStream<Faulty<'_>>,
 ) -> Result<Vec<u8>, Error> {
     let mut writer = writer;
     let result = if is_made {
-        let mut source = source_of(alloc, &[])?;
+        let mut source = memory_source_of_items(alloc, &[])?;
         create(
             alloc,
             &mut source,
@@ -172,14 +178,20 @@ fn write_badly(
             &mut (),
         )
     } else {
-        list(alloc, &mut Watched::new(image), 4096, 256, &mut writer)
+        list(
+            alloc,
+            &mut WatchedStream::new(image),
+            4096,
+            256,
+            &mut writer,
+        )
     };
     let text = with_error_line(alloc, writer.into_inner().taken, result)?;
     Ok(text)
 }
 
 // Whether the text is this beginning of the whole one, with the line of an error behind it.
-fn is_broken_off(text: &[u8], whole: &[u8], len: usize) -> bool {
+fn is_beginning_with_error_line(text: &[u8], whole: &[u8], len: usize) -> bool {
     match (text.split_at_checked(len), whole.get(..len)) {
         (Some((beginning, end)), Some(wanted)) => beginning == wanted && end == OUTPUT,
         _ => false,
@@ -189,16 +201,16 @@ fn is_broken_off(text: &[u8], whole: &[u8], len: usize) -> bool {
 #[test]
 fn failing_writers_are_reported(rt: HostRuntime) -> Result<(), Fail> {
     let block = shifting_block(rt.alloc())?;
-    let image = image_of_two_blocks(rt.alloc(), block.as_slice(), &[])?;
+    let image = image_with_first_two_blocks(rt.alloc(), block.as_slice(), &[])?;
     for (is_made, most, fails_at, taken) in WRITERS {
-        let plain = failing_at(rt.alloc(), &[], most, 0, ErrorKind::Other);
-        let whole = write_badly(rt.alloc(), image.as_slice(), is_made, plain)?;
+        let plain = stream_failing_at_call(rt.alloc(), &[], most, 0, ErrorKind::Other);
+        let whole = text_from_failing_writer(rt.alloc(), image.as_slice(), is_made, plain)?;
         assert!(rt; is_made || whole.as_slice() == LINES);
         for (kind, is_failure) in KINDS {
-            let writer = failing_at(rt.alloc(), &[], most, fails_at, kind);
-            let text = write_badly(rt.alloc(), image.as_slice(), is_made, writer)?;
+            let writer = stream_failing_at_call(rt.alloc(), &[], most, fails_at, kind);
+            let text = text_from_failing_writer(rt.alloc(), image.as_slice(), is_made, writer)?;
             let is_reported = if is_failure {
-                is_broken_off(text.as_slice(), whole.as_slice(), taken)
+                is_beginning_with_error_line(text.as_slice(), whole.as_slice(), taken)
             } else {
                 text.as_slice() == whole.as_slice()
             };

@@ -1,9 +1,9 @@
 // Runs of the program over real files.
 
 use crate::images::{BELOW, ENTRIES};
-use crate::sources::{Items, is_read};
+use crate::sources::{Items, is_source_read_as_items};
 use lfs_fixtures::{BlockFilling, FixtureEntries, image_with_second_commit};
-use lfs_tool::{RealPlaces, Watched, answer};
+use lfs_tool::{RealPlaces, WatchedStream, run_and_return_exit_status};
 use lfs_tool_folders::{FaultLog, Folder};
 use std::alloc::{AllocError, Global};
 use std::fs::OpenFile;
@@ -15,7 +15,7 @@ use std::{fs, io};
 
 // What is made at a path before a run.
 #[derive(Clone, Copy)]
-enum Before {
+enum PathBeforeRun {
     File(&'static str),
     Folder,
     // A symbolic link that leads there.
@@ -26,7 +26,7 @@ enum Before {
 
 // What stands at a path behind a run.
 #[derive(Clone, Copy)]
-enum Behind {
+enum PathAfterRun {
     // A file with this text.
     File(&'static str),
     // A file with so many bytes.
@@ -37,34 +37,34 @@ enum Behind {
 }
 
 // Runs one behind the other, where a folder of two files and an old image are.
-struct Run {
+struct RunsInFolder {
     // What is made beside them.
-    before: &'static [(&'static str, Before)],
+    before: &'static [(&'static str, PathBeforeRun)],
     // The words of each run behind the program's name.
     words: &'static [&'static [&'static str]],
     // How the last run ends, and what it writes. Those before it end with 0 and write nothing.
     status: u8,
     out: &'static str,
     err: &'static str,
-    behind: &'static [(&'static str, Behind)],
+    behind: &'static [(&'static str, PathAfterRun)],
 }
 
 // What the image's file holds before each run.
 const OLD: &str = "an older image";
 
-const OLD_IMAGE: &[(&str, Behind)] = &[("runs/image", Behind::File(OLD))];
+const OLD_IMAGE: &[(&str, PathAfterRun)] = &[("runs/image", PathAfterRun::File(OLD))];
 
 // Runs in which an image is made, or nothing is done.
-const MADE: [Run; 22] = [
-    Run {
+const MADE: [RunsInFolder; 22] = [
+    RunsInFolder {
         before: &[],
         words: &[&["-c", "runs/files", "runs/image"]],
         status: 0,
         out: "",
         err: "",
-        behind: &[("runs/image", Behind::Len(65536))],
+        behind: &[("runs/image", PathAfterRun::Len(65536))],
     },
-    Run {
+    RunsInFolder {
         before: &[],
         words: &[&[
             "-c",
@@ -80,19 +80,19 @@ const MADE: [Run; 22] = [
         status: 0,
         out: "",
         err: "",
-        behind: &[("runs/image", Behind::Len(4096))],
+        behind: &[("runs/image", PathAfterRun::Len(4096))],
     },
     // a folder in the folder
-    Run {
+    RunsInFolder {
         before: &[],
         words: &[&["-c", "runs", "runs/image"]],
         status: 0,
         out: "",
         err: "",
-        behind: &[("runs/image", Behind::Len(65536))],
+        behind: &[("runs/image", PathAfterRun::Len(65536))],
     },
     // what refuses leaves the old image
-    Run {
+    RunsInFolder {
         before: &[],
         words: &[&[
             "-c",
@@ -110,7 +110,7 @@ const MADE: [Run; 22] = [
         err: "error: Invalid (22)\n",
         behind: OLD_IMAGE,
     },
-    Run {
+    RunsInFolder {
         before: &[],
         words: &[&["-c", "runs/files", "-s", "65537", "runs/image"]],
         status: 1,
@@ -119,7 +119,7 @@ const MADE: [Run; 22] = [
         behind: OLD_IMAGE,
     },
     // sizes are refused before the folder is read
-    Run {
+    RunsInFolder {
         before: &[],
         words: &[&["-c", "runs/none", "-s", "65537", "runs/image"]],
         status: 1,
@@ -127,7 +127,7 @@ const MADE: [Run; 22] = [
         err: "error: Invalid (22)\n",
         behind: OLD_IMAGE,
     },
-    Run {
+    RunsInFolder {
         before: &[],
         words: &[&["-c", "runs/files", "-s", "8192", "runs/image"]],
         status: 1,
@@ -135,7 +135,7 @@ const MADE: [Run; 22] = [
         err: "error: NoSpace (28)\n",
         behind: OLD_IMAGE,
     },
-    Run {
+    RunsInFolder {
         before: &[],
         words: &[&["-c", "runs/none", "runs/image"]],
         status: 3,
@@ -143,7 +143,7 @@ const MADE: [Run; 22] = [
         err: "error: input\n",
         behind: OLD_IMAGE,
     },
-    Run {
+    RunsInFolder {
         before: &[],
         words: &[&["-u", "runs/files", "runs/image"]],
         status: 1,
@@ -151,7 +151,7 @@ const MADE: [Run; 22] = [
         err: "error: Invalid (22)\n",
         behind: OLD_IMAGE,
     },
-    Run {
+    RunsInFolder {
         before: &[],
         words: &[&["-c", "runs/files", "runs/none/image"]],
         status: 3,
@@ -159,7 +159,7 @@ const MADE: [Run; 22] = [
         err: "error: output\n",
         behind: OLD_IMAGE,
     },
-    Run {
+    RunsInFolder {
         before: &[],
         words: &[&["-l", "runs/none/image"]],
         status: 3,
@@ -167,7 +167,7 @@ const MADE: [Run; 22] = [
         err: "error: input\n",
         behind: OLD_IMAGE,
     },
-    Run {
+    RunsInFolder {
         before: &[],
         words: &[&["runs/image"]],
         status: 2,
@@ -176,7 +176,7 @@ const MADE: [Run; 22] = [
         behind: OLD_IMAGE,
     },
     // sizes that no image has
-    Run {
+    RunsInFolder {
         before: &[],
         words: &[&["-l", "-b", "0", "runs/image"]],
         status: 1,
@@ -184,7 +184,7 @@ const MADE: [Run; 22] = [
         err: "error: Invalid (22)\n",
         behind: OLD_IMAGE,
     },
-    Run {
+    RunsInFolder {
         before: &[],
         words: &[&["-l", "-b", "3", "runs/image"]],
         status: 1,
@@ -192,7 +192,7 @@ const MADE: [Run; 22] = [
         err: "error: Invalid (22)\n",
         behind: OLD_IMAGE,
     },
-    Run {
+    RunsInFolder {
         before: &[],
         words: &[&["-l", "-p", "0", "runs/image"]],
         status: 1,
@@ -200,7 +200,7 @@ const MADE: [Run; 22] = [
         err: "error: Invalid (22)\n",
         behind: OLD_IMAGE,
     },
-    Run {
+    RunsInFolder {
         before: &[],
         words: &[&["-c", "runs/files", "-s", "4294967295", "runs/image"]],
         status: 1,
@@ -208,7 +208,7 @@ const MADE: [Run; 22] = [
         err: "error: Invalid (22)\n",
         behind: OLD_IMAGE,
     },
-    Run {
+    RunsInFolder {
         before: &[],
         words: &[&[
             "-c",
@@ -225,7 +225,7 @@ const MADE: [Run; 22] = [
         behind: OLD_IMAGE,
     },
     // a folder where a file is to be, and a file where a folder is to be
-    Run {
+    RunsInFolder {
         before: &[],
         words: &[&["-l", "runs/files"]],
         status: 3,
@@ -233,7 +233,7 @@ const MADE: [Run; 22] = [
         err: "error: input\n",
         behind: OLD_IMAGE,
     },
-    Run {
+    RunsInFolder {
         before: &[],
         words: &[&["-c", "runs/files", "runs/files"]],
         status: 3,
@@ -241,7 +241,7 @@ const MADE: [Run; 22] = [
         err: "error: output\n",
         behind: OLD_IMAGE,
     },
-    Run {
+    RunsInFolder {
         before: &[],
         words: &[&["-c", "runs/image", "runs/image"]],
         status: 3,
@@ -250,7 +250,7 @@ const MADE: [Run; 22] = [
         behind: OLD_IMAGE,
     },
     // a folder can't be read, also where no image has such blocks
-    Run {
+    RunsInFolder {
         before: &[],
         words: &[&["-l", "-b", "3", "runs/files"]],
         status: 3,
@@ -258,7 +258,7 @@ const MADE: [Run; 22] = [
         err: "error: input\n",
         behind: OLD_IMAGE,
     },
-    Run {
+    RunsInFolder {
         before: &[],
         words: &[&["-u", "runs/other", "-b", "3", "runs/files"]],
         status: 3,
@@ -269,8 +269,8 @@ const MADE: [Run; 22] = [
 ];
 
 // Images that are made, and then listed or unpacked.
-const READ: [Run; 4] = [
-    Run {
+const READ: [RunsInFolder; 4] = [
+    RunsInFolder {
         before: &[],
         words: &[&["-c", "runs/files", "runs/image"], &["-l", "runs/image"]],
         status: 0,
@@ -278,7 +278,7 @@ const READ: [Run; 4] = [
         err: "",
         behind: &[],
     },
-    Run {
+    RunsInFolder {
         before: &[],
         words: &[
             &[
@@ -300,10 +300,10 @@ const READ: [Run; 4] = [
         behind: &[],
     },
     // also where a file is there already
-    Run {
+    RunsInFolder {
         before: &[
-            ("runs/other", Before::Folder),
-            ("runs/other/a", Before::File("an older file")),
+            ("runs/other", PathBeforeRun::Folder),
+            ("runs/other/a", PathBeforeRun::File("an older file")),
         ],
         words: &[
             &["-c", "runs/files", "runs/image"],
@@ -314,13 +314,13 @@ const READ: [Run; 4] = [
         err: "",
         behind: &[(
             "runs/other",
-            Behind::Folder(&[(b"/a", Some(b"hello")), (b"/b", Some(b""))]),
+            PathAfterRun::Folder(&[(b"/a", Some(b"hello")), (b"/b", Some(b""))]),
         )],
     },
-    Run {
+    RunsInFolder {
         before: &[
-            ("runs/other", Before::Folder),
-            ("runs/other/a", Before::File("an older file")),
+            ("runs/other", PathBeforeRun::Folder),
+            ("runs/other/a", PathBeforeRun::File("an older file")),
         ],
         words: &[
             &["-c", "runs/files", "-b", "1024", "-p", "128", "runs/image"],
@@ -331,19 +331,19 @@ const READ: [Run; 4] = [
         err: "",
         behind: &[(
             "runs/other",
-            Behind::Folder(&[(b"/a", Some(b"hello")), (b"/b", Some(b""))]),
+            PathAfterRun::Folder(&[(b"/a", Some(b"hello")), (b"/b", Some(b""))]),
         )],
     },
 ];
 
-const IMAGE: (&str, Before) = ("runs/image", Before::Image(ENTRIES, BELOW));
+const IMAGE: (&str, PathBeforeRun) = ("runs/image", PathBeforeRun::Image(ENTRIES, BELOW));
 
 const UNPACKING: &[&[&str]] = &[&["-u", "runs/other", "runs/image"]];
 
 // Images that are unpacked.
-const UNPACKED: [Run; 8] = [
+const UNPACKED: [RunsInFolder; 8] = [
     // the folders above the target are made
-    Run {
+    RunsInFolder {
         before: &[IMAGE],
         words: &[&["-u", "runs/x/y", "runs/image"]],
         status: 0,
@@ -351,30 +351,30 @@ const UNPACKED: [Run; 8] = [
         err: "",
         behind: &[(
             "runs/x/y",
-            Behind::Folder(&[(b"/a", Some(b"hello")), (b"/d", None), (b"/d/x", Some(b""))]),
+            PathAfterRun::Folder(&[(b"/a", Some(b"hello")), (b"/d", None), (b"/d/x", Some(b""))]),
         )],
     },
     // a folder where a file is to be, and a file where a folder is to be
-    Run {
+    RunsInFolder {
         before: &[
             IMAGE,
-            ("runs/other", Before::Folder),
-            ("runs/other/a", Before::Folder),
+            ("runs/other", PathBeforeRun::Folder),
+            ("runs/other/a", PathBeforeRun::Folder),
         ],
         words: UNPACKING,
         status: 3,
         out: "",
         err: "error: output\n",
-        behind: &[("runs/other", Behind::Folder(&[(b"/a", None)]))],
+        behind: &[("runs/other", PathAfterRun::Folder(&[(b"/a", None)]))],
     },
-    Run {
+    RunsInFolder {
         before: &[
             (
                 "runs/image",
-                Before::Image(ENTRIES, BlockFilling::Commit(&[])),
+                PathBeforeRun::Image(ENTRIES, BlockFilling::Commit(&[])),
             ),
-            ("runs/other", Before::Folder),
-            ("runs/other/d", Before::File("older")),
+            ("runs/other", PathBeforeRun::Folder),
+            ("runs/other/d", PathBeforeRun::File("older")),
         ],
         words: UNPACKING,
         status: 3,
@@ -382,32 +382,32 @@ const UNPACKED: [Run; 8] = [
         err: "error: output\n",
         behind: &[(
             "runs/other",
-            Behind::Folder(&[(b"/a", Some(b"hello")), (b"/d", Some(b"older"))]),
+            PathAfterRun::Folder(&[(b"/a", Some(b"hello")), (b"/d", Some(b"older"))]),
         )],
     },
     // a name that isn't text
-    Run {
+    RunsInFolder {
         before: &[
             (
                 "runs/image",
-                Before::Image(&[(0x0010_0401, b"\xff"), (0x2010_0405, b"hello")], BELOW),
+                PathBeforeRun::Image(&[(0x0010_0401, b"\xff"), (0x2010_0405, b"hello")], BELOW),
             ),
-            ("runs/other", Before::Folder),
+            ("runs/other", PathBeforeRun::Folder),
         ],
         words: UNPACKING,
         status: 3,
         out: "",
         err: "error: output\n",
-        behind: &[("runs/other", Behind::Folder(&[]))],
+        behind: &[("runs/other", PathAfterRun::Folder(&[]))],
     },
     // a folder that is there stays, with what else is in it
-    Run {
+    RunsInFolder {
         before: &[
             IMAGE,
-            ("runs/other", Before::Folder),
-            ("runs/other/d", Before::Folder),
-            ("runs/other/d/x", Before::File("older")),
-            ("runs/other/d/y", Before::File("older")),
+            ("runs/other", PathBeforeRun::Folder),
+            ("runs/other/d", PathBeforeRun::Folder),
+            ("runs/other/d/x", PathBeforeRun::File("older")),
+            ("runs/other/d/y", PathBeforeRun::File("older")),
         ],
         words: UNPACKING,
         status: 0,
@@ -415,7 +415,7 @@ const UNPACKED: [Run; 8] = [
         err: "",
         behind: &[(
             "runs/other",
-            Behind::Folder(&[
+            PathAfterRun::Folder(&[
                 (b"/a", Some(b"hello")),
                 (b"/d", None),
                 (b"/d/x", Some(b"")),
@@ -424,11 +424,11 @@ const UNPACKED: [Run; 8] = [
         )],
     },
     // an unpacking stops at a link: to a file, to nothing, and to a folder
-    Run {
+    RunsInFolder {
         before: &[
             IMAGE,
-            ("runs/other", Before::Folder),
-            ("runs/other/a", Before::Link("../image")),
+            ("runs/other", PathBeforeRun::Folder),
+            ("runs/other/a", PathBeforeRun::Link("../image")),
         ],
         words: UNPACKING,
         status: 3,
@@ -436,23 +436,23 @@ const UNPACKED: [Run; 8] = [
         err: "error: output\n",
         behind: &[],
     },
-    Run {
+    RunsInFolder {
         before: &[
             IMAGE,
-            ("runs/other", Before::Folder),
-            ("runs/other/a", Before::Link("none")),
+            ("runs/other", PathBeforeRun::Folder),
+            ("runs/other/a", PathBeforeRun::Link("none")),
         ],
         words: UNPACKING,
         status: 3,
         out: "",
         err: "error: output\n",
-        behind: &[("runs/other/none", Behind::Nothing)],
+        behind: &[("runs/other/none", PathAfterRun::Nothing)],
     },
-    Run {
+    RunsInFolder {
         before: &[
             IMAGE,
-            ("runs/other", Before::Folder),
-            ("runs/other/d", Before::Link("..")),
+            ("runs/other", PathBeforeRun::Folder),
+            ("runs/other/d", PathBeforeRun::Link("..")),
         ],
         words: UNPACKING,
         status: 3,
@@ -464,22 +464,22 @@ const UNPACKED: [Run; 8] = [
 
 const MAKING: &[&[&str]] = &[&["-c", "runs/files", "runs/made"]];
 
-const NOT_MADE: &[(&str, Behind)] = &[("runs/made", Behind::Nothing)];
+const NOT_MADE: &[(&str, PathAfterRun)] = &[("runs/made", PathAfterRun::Nothing)];
 
 // A folder with a symbolic link is no source: to a file, to a folder, and to nothing.
-const LINKED: [Run; 3] = [
-    Run {
-        before: &[("runs/files/c", Before::Link("a"))],
+const LINKED: [RunsInFolder; 3] = [
+    RunsInFolder {
+        before: &[("runs/files/c", PathBeforeRun::Link("a"))],
         words: MAKING,
         status: 3,
         out: "",
         err: "error: input\n",
         behind: NOT_MADE,
     },
-    Run {
+    RunsInFolder {
         before: &[
-            ("runs/empty", Before::Folder),
-            ("runs/files/c", Before::Link("../empty")),
+            ("runs/empty", PathBeforeRun::Folder),
+            ("runs/files/c", PathBeforeRun::Link("../empty")),
         ],
         words: MAKING,
         status: 3,
@@ -487,8 +487,8 @@ const LINKED: [Run; 3] = [
         err: "error: input\n",
         behind: NOT_MADE,
     },
-    Run {
-        before: &[("runs/files/c", Before::Link("none"))],
+    RunsInFolder {
+        before: &[("runs/files/c", PathBeforeRun::Link("none"))],
         words: MAKING,
         status: 3,
         out: "",
@@ -498,7 +498,7 @@ const LINKED: [Run; 3] = [
 ];
 
 // A source with a file that is longer than an image of 4096 bytes.
-const LONG: (&str, Before) = ("runs/files/c", Before::Image(ENTRIES, BELOW));
+const LONG: (&str, PathBeforeRun) = ("runs/files/c", PathBeforeRun::Image(ENTRIES, BELOW));
 
 const MAKING_SHORT: &[&[&str]] = &[&[
     "-c",
@@ -513,8 +513,8 @@ const MAKING_SHORT: &[&[&str]] = &[&[
 ]];
 
 // Runs with a file that is too long, and with images that are put in their place or written through a link.
-const PLACED: [Run; 4] = [
-    Run {
+const PLACED: [RunsInFolder; 4] = [
+    RunsInFolder {
         before: &[LONG],
         words: MAKING_SHORT,
         status: 1,
@@ -523,18 +523,18 @@ const PLACED: [Run; 4] = [
         behind: OLD_IMAGE,
     },
     // all of the source is read first, but for what is too long
-    Run {
-        before: &[LONG, ("runs/files/d", Before::Link("a"))],
+    RunsInFolder {
+        before: &[LONG, ("runs/files/d", PathBeforeRun::Link("a"))],
         words: MAKING_SHORT,
         status: 3,
         out: "",
         err: "error: input\n",
         behind: OLD_IMAGE,
     },
-    Run {
+    RunsInFolder {
         before: &[
-            ("runs/link", Before::Link("image")),
-            ("runs/empty", Before::Folder),
+            ("runs/link", PathBeforeRun::Link("image")),
+            ("runs/empty", PathBeforeRun::Folder),
         ],
         words: &[
             &["-c", "runs/files", "runs/link"],
@@ -544,11 +544,11 @@ const PLACED: [Run; 4] = [
         status: 0,
         out: "",
         err: "",
-        behind: &[("runs/image", Behind::Len(65536))],
+        behind: &[("runs/image", PathAfterRun::Len(65536))],
     },
     // nothing else is left in its folder
-    Run {
-        before: &[("runs/empty", Before::Folder)],
+    RunsInFolder {
+        before: &[("runs/empty", PathBeforeRun::Folder)],
         words: &[
             &["-c", "runs/files", "runs/empty/image"],
             &["-c", "runs/empty", "-s", "131072", "runs/image"],
@@ -557,13 +557,13 @@ const PLACED: [Run; 4] = [
         status: 0,
         out: "f 65536 /image\n",
         err: "",
-        behind: &[("runs/image", Behind::Len(131_072))],
+        behind: &[("runs/image", PathAfterRun::Len(131_072))],
     },
 ];
 
 // Runs in which an image is checked.
-const CHECKED: [Run; 5] = [
-    Run {
+const CHECKED: [RunsInFolder; 5] = [
+    RunsInFolder {
         before: &[],
         words: &[
             &["-c", "runs/files", "runs/image"],
@@ -572,10 +572,10 @@ const CHECKED: [Run; 5] = [
         status: 0,
         out: "ok\nfiles 2\ndirectories 0\nused 2 of 16 blocks\nfree 14\norder either\nrecover no\nwritable yes\n",
         err: "",
-        behind: &[("runs/image", Behind::Len(65536))],
+        behind: &[("runs/image", PathAfterRun::Len(65536))],
     },
     // the sizes that are given aren't those that it was made with
-    Run {
+    RunsInFolder {
         before: &[],
         words: &[
             &["-c", "runs/files", "runs/image"],
@@ -584,10 +584,10 @@ const CHECKED: [Run; 5] = [
         status: 1,
         out: "corrupt\nsuperblock: block size 4096, given 8192\n",
         err: "",
-        behind: &[("runs/image", Behind::Len(65536))],
+        behind: &[("runs/image", PathAfterRun::Len(65536))],
     },
     // a file that is no image, one that isn't there, and a folder
-    Run {
+    RunsInFolder {
         before: &[],
         words: &[&["--check", "runs/image"]],
         status: 1,
@@ -595,7 +595,7 @@ const CHECKED: [Run; 5] = [
         err: "",
         behind: OLD_IMAGE,
     },
-    Run {
+    RunsInFolder {
         before: &[],
         words: &[&["--check", "runs/none"]],
         status: 3,
@@ -603,7 +603,7 @@ const CHECKED: [Run; 5] = [
         err: "error: input\n",
         behind: OLD_IMAGE,
     },
-    Run {
+    RunsInFolder {
         before: &[],
         words: &[&["--check", "runs/files"]],
         status: 3,
@@ -613,12 +613,16 @@ const CHECKED: [Run; 5] = [
     },
 ];
 
-fn make<R: Files + AllocGlobal>(rt: &R, path: &str, before: Before) -> io::Result<()> {
+fn make_path_before_run<R: Files + AllocGlobal>(
+    rt: &R,
+    path: &str,
+    before: PathBeforeRun,
+) -> io::Result<()> {
     match before {
-        Before::File(text) => fs::write(rt, path, text.as_bytes()),
-        Before::Folder => fs::create_dir(rt, path),
-        Before::Link(original) => symlink(rt, original, path),
-        Before::Image(entries, below) => {
+        PathBeforeRun::File(text) => fs::write(rt, path, text.as_bytes()),
+        PathBeforeRun::Folder => fs::create_dir(rt, path),
+        PathBeforeRun::Link(original) => symlink(rt, original, path),
+        PathBeforeRun::Image(entries, below) => {
             let image = image_with_second_commit(rt.alloc(), entries, &[(2, below)])?;
             fs::write(rt, path, image.as_slice())
         }
@@ -626,36 +630,39 @@ fn make<R: Files + AllocGlobal>(rt: &R, path: &str, before: Before) -> io::Resul
 }
 
 // A folder with a folder of two files, an old image, and these.
-fn make_all<R: Files + AllocGlobal>(rt: &R, before: &[(&str, Before)]) -> io::Result<()> {
+fn make_files_before_runs<R: Files + AllocGlobal>(
+    rt: &R,
+    before: &[(&str, PathBeforeRun)],
+) -> io::Result<()> {
     let _ = fs::remove_dir_all(rt, "runs");
     fs::create_dir_all(rt, "runs/files")?;
     fs::write(rt, "runs/files/a", b"hello")?;
     fs::write(rt, "runs/files/b", b"")?;
     fs::write(rt, "runs/image", OLD.as_bytes())?;
     for (path, one) in before {
-        make(rt, path, *one)?;
+        make_path_before_run(rt, path, *one)?;
     }
     Ok(())
 }
 
-fn is_behind<R: Files + AllocGlobal + Clone + Drop>(
+fn is_path_left_as_expected<R: Files + AllocGlobal + Clone + Drop>(
     rt: &R,
     path: &str,
-    behind: Behind,
+    behind: PathAfterRun,
 ) -> io::Result<bool> {
     match behind {
-        Behind::File(text) => Ok(fs::read(rt, path)?.as_slice() == text.as_bytes()),
-        Behind::Len(len) => Ok(fs::read(rt, path)?.len() == len),
-        Behind::Folder(items) => {
+        PathAfterRun::File(text) => Ok(fs::read(rt, path)?.as_slice() == text.as_bytes()),
+        PathAfterRun::Len(len) => Ok(fs::read(rt, path)?.len() == len),
+        PathAfterRun::Folder(items) => {
             let log = FaultLog::new();
             let mut folder = Folder::new(rt, &log, path)?;
-            Ok(is_read(rt.alloc(), &mut folder, items) == Ok(true))
+            Ok(is_source_read_as_items(rt.alloc(), &mut folder, items) == Ok(true))
         }
-        Behind::Nothing => Ok(!fs::exists(rt, path)?),
+        PathAfterRun::Nothing => Ok(!fs::exists(rt, path)?),
     }
 }
 
-pub(crate) fn words_of(alloc: Global, words: &[&str]) -> Result<Vec<String>, AllocError> {
+pub(crate) fn program_words(alloc: Global, words: &[&str]) -> Result<Vec<String>, AllocError> {
     let mut all = vec![in alloc; String::from_str(alloc, "mklittlefs")?]?;
     for word in words {
         all.push(String::from_str(alloc, word)?)?;
@@ -664,15 +671,15 @@ pub(crate) fn words_of(alloc: Global, words: &[&str]) -> Result<Vec<String>, All
 }
 
 // Whether the program answers so to its words, or to what there is in their place.
-fn answers<R: Files + AllocGlobal + Clone + Drop>(
+fn is_program_answer_as_expected<R: Files + AllocGlobal + Clone + Drop>(
     rt: &R,
     words: io::Result<Vec<String>>,
     status: u8,
     out: &str,
     err: &str,
 ) -> bool {
-    let mut written = Watched::new(Vec::new(rt.alloc()));
-    let mut told = Watched::new(Vec::new(rt.alloc()));
+    let mut written = WatchedStream::new(Vec::new(rt.alloc()));
+    let mut told = WatchedStream::new(Vec::new(rt.alloc()));
     let log = FaultLog::new();
     let places = RealPlaces::new(
         rt,
@@ -681,15 +688,18 @@ fn answers<R: Files + AllocGlobal + Clone + Drop>(
         io::sink(),
         None::<(io::Stderr, HostRuntime)>,
     );
-    let given = answer(rt.alloc(), &places, words, &mut written, &mut told);
+    let given = run_and_return_exit_status(rt.alloc(), &places, words, &mut written, &mut told);
     given == status
         && written.inner().as_slice() == out.as_bytes()
         && told.inner().as_slice() == err.as_bytes()
 }
 
 // Whether the runs answer so, and leave the files so.
-fn holds<R: Files + AllocGlobal + Clone + Drop>(rt: &R, run: &Run) -> io::Result<bool> {
-    make_all(rt, run.before)?;
+fn is_run_as_expected<R: Files + AllocGlobal + Clone + Drop>(
+    rt: &R,
+    run: &RunsInFolder,
+) -> io::Result<bool> {
+    make_files_before_runs(rt, run.before)?;
     let mut holds = true;
     for (number, words) in run.words.iter().enumerate() {
         let is_last = number + 1 == run.words.len();
@@ -698,19 +708,22 @@ fn holds<R: Files + AllocGlobal + Clone + Drop>(rt: &R, run: &Run) -> io::Result
         } else {
             (0, "", "")
         };
-        let words = words_of(rt.alloc(), words)?;
-        holds = holds && answers(rt, Ok(words), status, out, err);
+        let words = program_words(rt.alloc(), words)?;
+        holds = holds && is_program_answer_as_expected(rt, Ok(words), status, out, err);
     }
     for (path, behind) in run.behind {
-        holds = holds && is_behind(rt, path, *behind)?;
+        holds = holds && is_path_left_as_expected(rt, path, *behind)?;
     }
     Ok(holds)
 }
 
 // Whether all of these do.
-fn all_hold<R: Files + AllocGlobal + Clone + Drop>(rt: &R, runs: &[Run]) -> io::Result<bool> {
+fn are_all_runs_as_expected<R: Files + AllocGlobal + Clone + Drop>(
+    rt: &R,
+    runs: &[RunsInFolder],
+) -> io::Result<bool> {
     for run in runs {
-        if !holds(rt, run)? {
+        if !is_run_as_expected(rt, run)? {
             return Ok(false);
         }
     }
@@ -825,66 +838,68 @@ const EXPLAINED: [(&[&str], u8, &str); 19] = [
 ];
 
 // The files and folders of the runs above.
-const ABOUT: [(&str, Before); 7] = [
-    ("runs/long", Before::Folder),
-    ("runs/long/c", Before::Image(ENTRIES, BELOW)),
-    ("runs/linked", Before::Folder),
-    ("runs/linked/x", Before::Link("../files")),
-    ("runs/held", Before::Folder),
-    ("runs/held/a", Before::Folder),
-    ("runs/good", Before::Image(ENTRIES, BELOW)),
+const ABOUT: [(&str, PathBeforeRun); 7] = [
+    ("runs/long", PathBeforeRun::Folder),
+    ("runs/long/c", PathBeforeRun::Image(ENTRIES, BELOW)),
+    ("runs/linked", PathBeforeRun::Folder),
+    ("runs/linked/x", PathBeforeRun::Link("../files")),
+    ("runs/held", PathBeforeRun::Folder),
+    ("runs/held/a", PathBeforeRun::Folder),
+    ("runs/good", PathBeforeRun::Image(ENTRIES, BELOW)),
 ];
 
 // Whether an image is refused for the length of a file, which isn't read.
 fn is_long_file_refused<R: Files + AllocGlobal + Clone + Drop>(rt: &R) -> io::Result<bool> {
     fs::create_dir(rt, "runs/large")?;
     fs::File::create(rt, "runs/large/c")?.set_len(1 << 30)?;
-    let words = words_of(rt.alloc(), &["-c", "runs/large", "runs/made"])?;
-    Ok(answers(rt, Ok(words), 1, "", "error: NoSpace (28)\n"))
+    let words = program_words(rt.alloc(), &["-c", "runs/large", "runs/made"])?;
+    Ok(is_program_answer_as_expected(rt, Ok(words), 1, "", "error: NoSpace (28)\n"))
 }
 
 // Whether the errors of the runs above are explained so.
-fn are_explained<R: Files + AllocGlobal + Clone + Drop>(rt: &R) -> io::Result<bool> {
-    make_all(rt, &ABOUT)?;
+fn are_run_errors_explained<R: Files + AllocGlobal + Clone + Drop>(rt: &R) -> io::Result<bool> {
+    make_files_before_runs(rt, &ABOUT)?;
     fs::write(rt, "runs/zeros", &[0u8; 8192])?;
     let mut holds = true;
     for (words, status, err) in EXPLAINED {
-        let words = words_of(rt.alloc(), words)?;
-        holds = holds && answers(rt, Ok(words), status, "", err);
+        let words = program_words(rt.alloc(), words)?;
+        holds = holds && is_program_answer_as_expected(rt, Ok(words), status, "", err);
     }
     Ok(holds)
 }
 
 // Whether the runs that make and read images do.
-fn images_hold<R: Files + AllocGlobal + Clone + Drop>(rt: &R) -> io::Result<bool> {
-    Ok(all_hold(rt, &MADE)? && all_hold(rt, &READ)?)
+fn are_image_runs_as_expected<R: Files + AllocGlobal + Clone + Drop>(rt: &R) -> io::Result<bool> {
+    Ok(are_all_runs_as_expected(rt, &MADE)? && are_all_runs_as_expected(rt, &READ)?)
 }
 
 // Whether the runs that unpack images do.
-fn folders_hold<R: Files + AllocGlobal + Clone + Drop>(rt: &R) -> io::Result<bool> {
-    Ok(all_hold(rt, &UNPACKED)? && all_hold(rt, &LINKED)?)
+fn are_unpack_runs_as_expected<R: Files + AllocGlobal + Clone + Drop>(rt: &R) -> io::Result<bool> {
+    Ok(are_all_runs_as_expected(rt, &UNPACKED)? && are_all_runs_as_expected(rt, &LINKED)?)
 }
 
 // Whether the runs that replace images and check them do.
-fn places_hold<R: Files + AllocGlobal + Clone + Drop>(rt: &R) -> io::Result<bool> {
-    Ok(all_hold(rt, &PLACED)? && all_hold(rt, &CHECKED)?)
+fn are_replace_runs_as_expected<R: Files + AllocGlobal + Clone + Drop>(rt: &R) -> io::Result<bool> {
+    Ok(are_all_runs_as_expected(rt, &PLACED)? && are_all_runs_as_expected(rt, &CHECKED)?)
 }
 
 #[test]
-fn runs(rt: HostRuntime) -> Result<(), Fail> {
-    assert!(rt; images_hold(&rt)?);
-    assert!(rt; folders_hold(&rt)?);
-    assert!(rt; places_hold(&rt)?);
-    assert!(rt; are_explained(&rt)?);
+fn program_runs_are_as_expected(rt: HostRuntime) -> Result<(), Fail> {
+    assert!(rt; are_image_runs_as_expected(&rt)?);
+    assert!(rt; are_unpack_runs_as_expected(&rt)?);
+    assert!(rt; are_replace_runs_as_expected(&rt)?);
+    assert!(rt; are_run_errors_explained(&rt)?);
     assert!(rt; is_long_file_refused(&rt)?);
     fs::remove_dir_all(&rt, "runs")?;
     Ok(())
 }
 
 #[test]
-fn words_are_missing(rt: HostRuntime) {
+fn missing_words_are_reported(rt: HostRuntime) {
     let memory = Err(io::Error::from(ErrorKind::OutOfMemory));
-    assert!(rt; answers(&rt, memory, 1, "", "error: NoMemory (12)\n"));
+    assert!(rt; is_program_answer_as_expected(&rt, memory, 1, "", "error: NoMemory (12)\n"));
     let text = Err(io::Error::from(ErrorKind::InvalidData));
-    assert!(rt; answers(&rt, text, 2, "", "error: the command line is not UTF-8\n"));
+    assert!(rt;
+        is_program_answer_as_expected(&rt, text, 2, "", "error: the command line is not UTF-8\n")
+    );
 }

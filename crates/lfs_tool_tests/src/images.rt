@@ -3,9 +3,9 @@
 use crate::texts::{list_text, unpack_text};
 use lfs_fixtures::{
     BlockFilling, FixtureEntries, block_with_superblock_and_commits,
-    block_with_superblock_and_entries, image_of_two_blocks, image_with_second_commit,
+    block_with_superblock_and_entries, image_with_first_two_blocks, image_with_second_commit,
 };
-use lfs_tool::Watched;
+use lfs_tool::WatchedStream;
 use std::alloc::{AllocError, Global};
 use std::test::Fail;
 
@@ -456,10 +456,14 @@ const UNPACKED: [Row<'static>; 4] = [
 ];
 
 // Whether an image is listed so, or does this where it is unpacked.
-fn is_shown(alloc: Global, row: Row<'_>, is_unpacked: bool) -> Result<bool, AllocError> {
+fn has_expected_list_or_unpack_text(
+    alloc: Global,
+    row: Row<'_>,
+    is_unpacked: bool,
+) -> Result<bool, AllocError> {
     let (entries, others, wanted) = row;
     let image = image_with_second_commit(alloc, entries, others)?;
-    let mut image = Watched::new(image.as_slice());
+    let mut image = WatchedStream::new(image.as_slice());
     let text = if is_unpacked {
         unpack_text(alloc, &mut image, 4096, 256)?
     } else {
@@ -475,17 +479,25 @@ const LISTED: [&[Row<'static>]; 6] = [&TAILS, &DIRECTORIES, &SUPERBLOCKS, &ORDER
 fn images_are_shown(rt: HostRuntime) -> Result<(), Fail> {
     for (entries, text) in COMMITS {
         assert!(rt;
-            is_shown(rt.alloc(), (entries, &[], text), false)?,
+            has_expected_list_or_unpack_text(rt.alloc(), (entries, &[], text), false)?,
             "{entries:?}"
         );
     }
     for rows in LISTED {
         for row in rows {
-            assert!(rt; is_shown(rt.alloc(), *row, false)?, "{:?}", row.0);
+            assert!(rt;
+                has_expected_list_or_unpack_text(rt.alloc(), *row, false)?,
+                "{:?}",
+                row.0
+            );
         }
     }
     for row in UNPACKED {
-        assert!(rt; is_shown(rt.alloc(), row, true)?, "{:?}", row.0);
+        assert!(rt;
+            has_expected_list_or_unpack_text(rt.alloc(), row, true)?,
+            "{:?}",
+            row.0
+        );
     }
     Ok(())
 }
@@ -511,7 +523,7 @@ const NEARLY_END: &[u8] = b"\x70\x1f\xf8\x3b";
 
 // Images that more than commits make.
 #[derive(Clone, Copy)]
-enum Odd {
+enum UnusualImage {
     // The block in which a file moves, and a second block: its revision and its second commit.
     Second(u32, FixtureEntries<'static>),
     // A first block without a commit, and such a second block.
@@ -527,32 +539,32 @@ enum Odd {
 }
 
 // These images, and what is listed of them.
-const ODD: [(Odd, &str); 15] = [
-    (Odd::Second(0xffff_ffff, &[]), "f 0 /b\n"),
+const ODD: [(UnusualImage, &str); 15] = [
+    (UnusualImage::Second(0xffff_ffff, &[]), "f 0 /b\n"),
     (
-        Odd::Second(2, &[(0x0010_0401, b"c"), (0x2010_0400, b"")]),
+        UnusualImage::Second(2, &[(0x0010_0401, b"c"), (0x2010_0400, b"")]),
         "f 0 /c\n",
     ),
     (
-        Odd::Uncommitted(2, &[(0x0010_0401, b"c"), (0x2010_0400, b"")]),
+        UnusualImage::Uncommitted(2, &[(0x0010_0401, b"c"), (0x2010_0400, b"")]),
         "f 0 /c\n",
     ),
-    (Odd::Nearly(0xff), "f 71 /x\n"),
-    (Odd::Nearly(0), "f 0 /b\n"),
-    (Odd::Flipped(0, 0), "f 0 /b\n"),
-    (Odd::Flipped(264, 0x62 ^ 0x63), ""),
-    (Odd::Flipped(776, 0xff), "f 0 /a\nf 0 /b\n"),
-    (Odd::Flipped(48, 0xff), CORRUPT),
-    (Odd::Fresh(8192), CORRUPT),
-    (Odd::Fresh(69632), CORRUPT),
-    (Odd::Fresh(4100), INVALID),
-    (Odd::Blank(0), INVALID),
-    (Odd::Blank(4100), INVALID),
-    (Odd::Blank(65536), CORRUPT),
+    (UnusualImage::Nearly(0xff), "f 71 /x\n"),
+    (UnusualImage::Nearly(0), "f 0 /b\n"),
+    (UnusualImage::Flipped(0, 0), "f 0 /b\n"),
+    (UnusualImage::Flipped(264, 0x62 ^ 0x63), ""),
+    (UnusualImage::Flipped(776, 0xff), "f 0 /a\nf 0 /b\n"),
+    (UnusualImage::Flipped(48, 0xff), CORRUPT),
+    (UnusualImage::Fresh(8192), CORRUPT),
+    (UnusualImage::Fresh(69632), CORRUPT),
+    (UnusualImage::Fresh(4100), INVALID),
+    (UnusualImage::Blank(0), INVALID),
+    (UnusualImage::Blank(4100), INVALID),
+    (UnusualImage::Blank(65536), CORRUPT),
 ];
 
 // The block that is nearly a log.
-fn nearly(alloc: Global, byte: u8) -> Result<Vec<u8>, AllocError> {
+fn block_nearly_with_log(alloc: Global, byte: u8) -> Result<Vec<u8>, AllocError> {
     let mut block = Vec::from_slice(alloc, NEARLY)?;
     block.resize(128, 0)?;
     block.extend_from_slice(NEARLY_END)?;
@@ -561,47 +573,47 @@ fn nearly(alloc: Global, byte: u8) -> Result<Vec<u8>, AllocError> {
 }
 
 // The bytes of such an image.
-fn odd_image(alloc: Global, odd: Odd) -> Result<Vec<u8>, AllocError> {
+fn odd_image(alloc: Global, odd: UnusualImage) -> Result<Vec<u8>, AllocError> {
     let mut first = shifting_block(alloc)?;
     let mut second = Vec::new(alloc);
     let mut len = 65536;
     match odd {
-        Odd::Second(revision, entries) => second = block_with_superblock_and_entries(
+        UnusualImage::Second(revision, entries) => second = block_with_superblock_and_entries(
             alloc, revision, entries,
         )?,
-        Odd::Uncommitted(revision, entries) => {
+        UnusualImage::Uncommitted(revision, entries) => {
             first = Vec::from_slice(alloc, &[0; 4])?;
             second = block_with_superblock_and_entries(alloc, revision, entries)?;
         }
-        Odd::Nearly(byte) => second = nearly(alloc, byte)?,
-        Odd::Flipped(at, bits) => {
+        UnusualImage::Nearly(byte) => second = block_nearly_with_log(alloc, byte)?,
+        UnusualImage::Flipped(at, bits) => {
             if let Some(byte) = first.get_mut(at) {
                 *byte ^= bits;
             }
         }
-        Odd::Fresh(bytes) => {
+        UnusualImage::Fresh(bytes) => {
             first = block_with_superblock_and_entries(alloc, 1, &[])?;
             len = bytes;
         }
-        Odd::Blank(bytes) => {
+        UnusualImage::Blank(bytes) => {
             first = Vec::new(alloc);
             len = bytes;
         }
     }
-    let mut image = image_of_two_blocks(alloc, first.as_slice(), second.as_slice())?;
+    let mut image = image_with_first_two_blocks(alloc, first.as_slice(), second.as_slice())?;
     image.resize(len, 0xff)?;
     Ok(image)
 }
 
-fn is_listed(
+fn is_odd_image_listed(
     alloc: Global,
-    odd: Odd,
+    odd: UnusualImage,
     block_size: u32,
     page: u32,
     wanted: &str,
 ) -> Result<bool, AllocError> {
     let image = odd_image(alloc, odd)?;
-    let mut image = Watched::new(image.as_slice());
+    let mut image = WatchedStream::new(image.as_slice());
     let text = list_text(alloc, &mut image, block_size, page)?;
     Ok(text.as_slice() == wanted.as_bytes())
 }
@@ -617,12 +629,21 @@ const SIZES: [(u32, u32, &str); 6] = [
 ];
 
 #[test]
-fn odd_images_are_listed(rt: HostRuntime) -> Result<(), Fail> {
+fn odd_images_are_listed_or_refused(rt: HostRuntime) -> Result<(), Fail> {
     for (number, (odd, text)) in ODD.iter().enumerate() {
-        assert!(rt; is_listed(rt.alloc(), *odd, 4096, 256, text)?, "{number}");
+        assert!(rt;
+            is_odd_image_listed(rt.alloc(), *odd, 4096, 256, text)?,
+            "{number}"
+        );
     }
     for (block_size, page, text) in SIZES {
-        let is_listed = is_listed(rt.alloc(), Odd::Fresh(65536), block_size, page, text)?;
+        let is_listed = is_odd_image_listed(
+            rt.alloc(),
+            UnusualImage::Fresh(65536),
+            block_size,
+            page,
+            text,
+        )?;
         assert!(rt; is_listed, "{block_size}, {page}");
     }
     Ok(())
@@ -639,33 +660,33 @@ const INVERTED: [(usize, &str); 6] = [
     (8192, "f 0 /b\n"),
 ];
 
-fn invert(image: &mut [u8], at: usize) {
+fn invert_byte(image: &mut [u8], at: usize) {
     if let Some(byte) = image.get_mut(at) {
         *byte = !*byte;
     }
 }
 
 // Whether the image is listed so where this byte is inverted. The image is as it was then.
-fn is_listed_inverted(
+fn is_image_listed_with_inverted_byte(
     alloc: Global,
     image: &mut [u8],
     at: usize,
     wanted: &str,
 ) -> Result<bool, AllocError> {
-    invert(image, at);
-    let text = list_text(alloc, &mut Watched::new(&*image), 4096, 256)?;
-    invert(image, at);
+    invert_byte(image, at);
+    let text = list_text(alloc, &mut WatchedStream::new(&*image), 4096, 256)?;
+    invert_byte(image, at);
     Ok(text.as_slice() == wanted.as_bytes())
 }
 
 #[test]
-fn inverted_bytes(rt: HostRuntime) -> Result<(), Fail> {
-    let mut image = odd_image(rt.alloc(), Odd::Flipped(0, 0))?;
+fn images_with_inverted_bytes_are_listed(rt: HostRuntime) -> Result<(), Fail> {
+    let mut image = odd_image(rt.alloc(), UnusualImage::Flipped(0, 0))?;
     let mut from = 0;
     for (to, text) in INVERTED {
         for at in from..to {
             assert!(rt;
-                is_listed_inverted(rt.alloc(), &mut image, at, text)?,
+                is_image_listed_with_inverted_byte(rt.alloc(), &mut image, at, text)?,
                 "{at}"
             );
         }

@@ -125,7 +125,7 @@ const LINES: [(&[&str], Line<'static>); 7] = [
 ];
 
 #[test]
-fn lines_are_read(rt: HostRuntime) -> Result<(), Fail> {
+fn command_lines_are_read(rt: HostRuntime) -> Result<(), Fail> {
     for (words, wanted) in LINES {
         let line = read_line(rt.alloc(), words)?;
         assert!(rt; line == wanted, "{words:?}");
@@ -227,7 +227,7 @@ const REFUSED: [(&[&str], u8, &str, Option<&str>); 17] = [
 ];
 
 // Whether a fault is shown so, which is its own text too.
-fn is_shown(
+fn is_fault_reported_as(
     alloc: Global,
     fault: &Fault,
     status: u8,
@@ -252,7 +252,7 @@ fn faults_of_lines_are_shown(rt: HostRuntime) -> Result<(), Fail> {
     for (words, status, out, err) in REFUSED {
         let is_reported = match read_line(rt.alloc(), words) {
             Ok(_) => false,
-            Err(error) => is_shown(rt.alloc(), &Fault::Line(error), status, out, err)?,
+            Err(error) => is_fault_reported_as(rt.alloc(), &Fault::Line(error), status, out, err)?,
         };
         assert!(rt; is_reported, "{words:?}");
     }
@@ -296,9 +296,15 @@ const NOT_UTF8: &str = "error: the command line is not UTF-8\n";
 #[test]
 fn errors_are_shown(rt: HostRuntime) -> Result<(), Fail> {
     let not_utf8 = Fault::Line(LineError::NotUtf8);
-    assert!(rt; is_shown(rt.alloc(), &not_utf8, 2, "", Some(NOT_UTF8))?);
+    assert!(rt; is_fault_reported_as(rt.alloc(), &not_utf8, 2, "", Some(NOT_UTF8))?);
     for (error, status, line) in ERRORS {
-        let is_reported = is_shown(rt.alloc(), &Fault::Tool(error), status, "", Some(line))?;
+        let is_reported = is_fault_reported_as(
+            rt.alloc(),
+            &Fault::Tool(error),
+            status,
+            "",
+            Some(line),
+        )?;
         assert!(rt; is_reported, "{line}");
     }
     Ok(())

@@ -1,9 +1,9 @@
 // This holds whichever allocation fails.
 
-use crate::files::words_of;
+use crate::files::program_words;
 use crate::images::shifting_block;
-use lfs_fixtures::image_of_two_blocks;
-use lfs_tool::{RealPlaces, Watched, answer};
+use lfs_fixtures::image_with_first_two_blocks;
+use lfs_tool::{RealPlaces, WatchedStream, run_and_return_exit_status};
 use lfs_tool_folders::FaultLog;
 use std::alloc::{AllocError, Global};
 use std::io::Write;
@@ -12,14 +12,14 @@ use std::{fs, io};
 
 // A writer that counts, knows which text is to come, and takes no memory.
 #[derive(Drop)]
-struct Knowing {
+struct ExpectingWriter {
     wanted: &'static [u8],
     // How many bytes came.
     taken: usize,
     is_other: bool,
 }
 
-impl Write for Knowing {
+impl Write for ExpectingWriter {
     fn write(&mut self, buf: &[u8]) -> io::Result<usize> {
         let rest = self.wanted.get(self.taken..).unwrap_or_default();
         if !rest.starts_with(buf) {
@@ -34,8 +34,8 @@ impl Write for Knowing {
     }
 }
 
-fn writer_for(wanted: &'static [u8]) -> Watched<Knowing> {
-    Watched::new(Knowing {
+fn writer_expecting_bytes(wanted: &'static [u8]) -> WatchedStream<ExpectingWriter> {
+    WatchedStream::new(ExpectingWriter {
         wanted,
         taken: 0,
         is_other: false,
@@ -43,7 +43,7 @@ fn writer_for(wanted: &'static [u8]) -> Watched<Knowing> {
 }
 
 // Whether so many bytes were written, and no other text.
-fn has_taken(out: &Watched<Knowing>, len: usize) -> bool {
+fn has_written_expected_bytes(out: &WatchedStream<ExpectingWriter>, len: usize) -> bool {
     let inner = out.inner();
     !inner.is_other && inner.taken == len
 }
@@ -51,9 +51,9 @@ fn has_taken(out: &Watched<Knowing>, len: usize) -> bool {
 const NO_MEMORY: &[u8] = b"error: NoMemory (12)\n";
 
 // An image in which a file moves from slot to slot.
-fn image(alloc: Global) -> Result<Vec<u8>, AllocError> {
+fn image_with_moving_file(alloc: Global) -> Result<Vec<u8>, AllocError> {
     let block = shifting_block(alloc)?;
-    image_of_two_blocks(alloc, block.as_slice(), &[])
+    image_with_first_two_blocks(alloc, block.as_slice(), &[])
 }
 
 // Words behind the program's name, and what goes to `out`: a listing, an unpacking, and a making.
@@ -64,18 +64,18 @@ const RUNS: [(&[&str], &[u8]); 3] = [
 ];
 
 // Whether a run of the program writes this, or tells that memory ran out and writes nothing.
-fn is_run<R: Files + AllocGlobal + Clone + Drop>(
+fn is_run_whole_or_without_memory<R: Files + AllocGlobal + Clone + Drop>(
     rt: &R,
     words: &[&str],
     text: &'static [u8],
 ) -> bool {
-    let Ok(words) = words_of(rt.alloc(), words) else {
+    let Ok(words) = program_words(rt.alloc(), words) else {
         return true;
     };
-    let mut out = writer_for(text);
-    let mut err = writer_for(NO_MEMORY);
+    let mut out = writer_expecting_bytes(text);
+    let mut err = writer_expecting_bytes(NO_MEMORY);
     let log = FaultLog::new();
-    match answer(
+    match run_and_return_exit_status(
         rt.alloc(),
         &RealPlaces::new(
             rt,
@@ -88,8 +88,9 @@ fn is_run<R: Files + AllocGlobal + Clone + Drop>(
         &mut out,
         &mut err,
     ) {
-        0 => has_taken(&out, text.len()) && has_taken(&err, 0),
-        1 => has_taken(&out, 0) && has_taken(&err, NO_MEMORY.len()),
+        0 => has_written_expected_bytes(&out, text.len()) && has_written_expected_bytes(&err, 0),
+        1 => has_written_expected_bytes(&out, 0)
+            && has_written_expected_bytes(&err, NO_MEMORY.len()),
         _ => false,
     }
 }
@@ -100,16 +101,19 @@ fn make_files<R: Files + AllocGlobal>(rt: &R) -> io::Result<()> {
     fs::write(rt, "memory/source/a", b"hi")?;
     fs::write(rt, "memory/source/b", b"")?;
     fs::write(rt, "memory/source/d/x", b"hi")?;
-    let image = image(rt.alloc())?;
+    let image = image_with_moving_file(rt.alloc())?;
     fs::write(rt, "memory/image", image.as_slice())
 }
 
 #[test]
-fn runs(rt: HostRuntime) {
+fn runs_report_missing_memory(rt: HostRuntime) {
     // None of the files is missing, unless memory runs out.
     let are_made = make_files(&rt).is_ok();
     for (words, text) in RUNS {
-        assert!(rt; !are_made || is_run(&rt, words, text), "{words:?}");
+        assert!(rt;
+            !are_made || is_run_whole_or_without_memory(&rt, words, text),
+            "{words:?}"
+        );
     }
     let _ = fs::remove_dir_all(&rt, "memory");
 }

@@ -1,11 +1,14 @@
 // The line that says how far a work is, and what is told of one.
 
-use crate::files::words_of;
+use crate::files::program_words;
 use crate::images::{BELOW, ENTRIES};
-use crate::sources::source_of;
+use crate::sources::memory_source_of_items;
 use lfs_device::{Error, Geometry};
 use lfs_fixtures::image_with_second_commit;
-use lfs_tool::{Amount, FollowsProgress, Progress, RealPlaces, Watched, answer, create, unpack};
+use lfs_tool::{
+    FilesAndBytes, FollowsProgress, Progress, RealPlaces, WatchedStream, create,
+    run_and_return_exit_status, unpack,
+};
 use lfs_tool_folders::{FaultLog, MemoryTarget};
 use std::alloc::{AllocError, Global};
 use std::cell::Cell;
@@ -17,12 +20,12 @@ use std::{fs, io};
 
 // A terminal: a file, which takes so many bytes yet.
 #[derive(Clone, Copy)]
-struct Output<'a> {
+struct LimitedTerminal<'a> {
     file: &'a File,
     room: usize,
 }
 
-impl Write for Output<'_> {
+impl Write for LimitedTerminal<'_> {
     fn write(&mut self, buf: &[u8]) -> io::Result<usize> {
         let n = buf.len().min(self.room);
         if n == 0 {
@@ -41,19 +44,19 @@ impl Write for Output<'_> {
 
 // A clock that goes on by so many milliseconds at each look, and fails without a step.
 #[derive(Drop)]
-struct Ticks {
+struct TickingClock {
     now: Cell<u64>,
     step: u64,
 }
 
-fn clock_of(step: u64) -> Ticks {
-    Ticks {
+fn clock_with_step(step: u64) -> TickingClock {
+    TickingClock {
         now: Cell::new(0),
         step,
     }
 }
 
-impl Clock for Ticks {
+impl Clock for TickingClock {
     fn monotonic(&self) -> io::Result<Duration> {
         if self.step == 0 {
             return Err(io::Error::from(ErrorKind::Unsupported));
@@ -95,26 +98,26 @@ const LINES: [(u64, usize, usize, &str); 8] = [
 ];
 
 // Does so many files, with a terminal at this file.
-fn follow(rt: &HostRuntime, path: &str, row: (u64, usize, usize)) -> io::Result<()> {
+fn write_progress_lines(rt: &HostRuntime, path: &str, row: (u64, usize, usize)) -> io::Result<()> {
     let (step, files, room) = row;
     let file = File::create(rt, path)?;
-    let out = Output { file: &file, room };
-    let mut progress = Progress::new(Watched::new(out), clock_of(step));
-    progress.begin(Amount {
+    let out = LimitedTerminal { file: &file, room };
+    let mut progress = Progress::new(WatchedStream::new(out), clock_with_step(step));
+    progress.begin(FilesAndBytes {
         files,
         bytes: files.saturating_mul(4),
     });
     for _ in 0..files {
-        progress.add(Amount { files: 1, bytes: 4 });
+        progress.add(FilesAndBytes { files: 1, bytes: 4 });
     }
     Ok(())
 }
 
 #[test]
-fn lines_are_shown_in_time(rt: HostRuntime) -> Result<(), Fail> {
+fn progress_lines_are_shown_when_due(rt: HostRuntime) -> Result<(), Fail> {
     fs::create_dir_all(&rt, "lines")?;
     for (step, files, room, text) in LINES {
-        follow(&rt, "lines/shown", (step, files, room))?;
+        write_progress_lines(&rt, "lines/shown", (step, files, room))?;
         let shown = fs::read(&rt, "lines/shown")?;
         assert!(rt;
             shown.as_slice() == text.as_bytes(),
@@ -127,30 +130,30 @@ fn lines_are_shown_in_time(rt: HostRuntime) -> Result<(), Fail> {
 
 // Keeps what it is told: the whole first.
 #[derive(Drop)]
-struct Told {
-    amounts: Vec<Amount>,
+struct RecordedProgress {
+    amounts: Vec<FilesAndBytes>,
     is_full: bool,
 }
 
-impl FollowsProgress for Told {
-    fn begin(&mut self, whole: Amount) {
+impl FollowsProgress for RecordedProgress {
+    fn begin(&mut self, whole: FilesAndBytes) {
         self.add(whole);
     }
 
-    fn add(&mut self, more: Amount) {
+    fn add(&mut self, more: FilesAndBytes) {
         self.is_full = self.amounts.push(more).is_err();
     }
 }
 
-fn nothing_told(alloc: Global) -> Told {
-    Told {
+fn no_progress_told(alloc: Global) -> RecordedProgress {
+    RecordedProgress {
         amounts: Vec::new(alloc),
         is_full: false,
     }
 }
 
 // Whether these were told: the files and bytes of the whole, and of each entry.
-fn is_told(told: &Told, wanted: &[(usize, usize)]) -> bool {
+fn is_progress_told(told: &RecordedProgress, wanted: &[(usize, usize)]) -> bool {
     let is_same = told.amounts.iter().zip(wanted).all(|(amount, (files, bytes))| amount.files
         == *files
         && amount.bytes == *bytes);
@@ -158,8 +161,8 @@ fn is_told(told: &Told, wanted: &[(usize, usize)]) -> bool {
 }
 
 // What is told of an image that is made, of two files and a folder.
-fn told_of_making(alloc: Global) -> Result<Told, Error> {
-    let mut source = source_of(
+fn progress_of_making_image(alloc: Global) -> Result<RecordedProgress, Error> {
+    let mut source = memory_source_of_items(
         alloc,
         &[
             (b"/a", Some(b"hello")),
@@ -167,31 +170,31 @@ fn told_of_making(alloc: Global) -> Result<Told, Error> {
             (b"/d/x", Some(b"hi")),
         ],
     )?;
-    let mut out = Watched::new(Vec::new(alloc));
-    let mut told = nothing_told(alloc);
+    let mut out = WatchedStream::new(Vec::new(alloc));
+    let mut told = no_progress_told(alloc);
     let geometry = Geometry::new(4096, 256, 16)?;
     let _ = create(alloc, &mut source, geometry, &mut out, &mut told);
     Ok(told)
 }
 
 // What is told of one that is unpacked.
-fn told_of_unpacking(alloc: Global) -> Result<Told, AllocError> {
+fn progress_of_unpacking_image(alloc: Global) -> Result<RecordedProgress, AllocError> {
     let image = image_with_second_commit(alloc, ENTRIES, &[(2, BELOW)])?;
     let mut target = MemoryTarget {
         done: Vec::new(alloc),
     };
-    let mut told = nothing_told(alloc);
-    let mut image = Watched::new(image.as_slice());
+    let mut told = no_progress_told(alloc);
+    let mut image = WatchedStream::new(image.as_slice());
     let _ = unpack(alloc, &mut image, 4096, 256, &mut target, &mut told);
     Ok(told)
 }
 
 #[test]
 fn files_and_bytes_are_told(rt: HostRuntime) -> Result<(), Fail> {
-    let made = told_of_making(rt.alloc())?;
-    assert!(rt; is_told(&made, &[(2, 7), (1, 5), (0, 0), (1, 2)]));
-    let unpacked = told_of_unpacking(rt.alloc())?;
-    assert!(rt; is_told(&unpacked, &[(2, 5), (1, 5), (0, 0), (1, 0)]));
+    let made = progress_of_making_image(rt.alloc())?;
+    assert!(rt; is_progress_told(&made, &[(2, 7), (1, 5), (0, 0), (1, 2)]));
+    let unpacked = progress_of_unpacking_image(rt.alloc())?;
+    assert!(rt; is_progress_told(&unpacked, &[(2, 5), (1, 5), (0, 0), (1, 0)]));
     Ok(())
 }
 
@@ -214,27 +217,44 @@ const RUNS: [(&[&str], usize, &str); 4] = [
 ];
 
 // Whether a run ends well and writes no error, with this terminal and this clock.
-fn ends_well<'a>(
+fn is_run_successful<'a>(
     rt: &'a HostRuntime,
     log: &'a FaultLog,
-    out: Output<'a>,
-    clock: &'a Ticks,
+    out: LimitedTerminal<'a>,
+    clock: &'a TickingClock,
     words: &[&str],
 ) -> Result<bool, AllocError> {
-    let mut written = Watched::new(Vec::new(rt.alloc()));
-    let mut told = Watched::new(Vec::new(rt.alloc()));
+    let mut written = WatchedStream::new(Vec::new(rt.alloc()));
+    let mut told = WatchedStream::new(Vec::new(rt.alloc()));
     let places = RealPlaces::new(rt, log, io::empty(), io::sink(), Some((out, clock)));
-    let words = words_of(rt.alloc(), words)?;
-    let status = answer(rt.alloc(), &places, Ok(words), &mut written, &mut told);
+    let words = program_words(rt.alloc(), words)?;
+    let status = run_and_return_exit_status(
+        rt.alloc(),
+        &places,
+        Ok(words),
+        &mut written,
+        &mut told,
+    );
     Ok(status == 0 && told.inner().is_empty())
 }
 
 // Whether it does, and shows this at a terminal that takes so many bytes.
-fn shows(rt: &HostRuntime, words: &[&str], room: usize, text: &str) -> io::Result<bool> {
+fn is_progress_shown(
+    rt: &HostRuntime,
+    words: &[&str],
+    room: usize,
+    text: &str,
+) -> io::Result<bool> {
     let log = FaultLog::new();
     let file = File::create(rt, "progress/shown")?;
-    let clock = clock_of(2000);
-    let ends = ends_well(rt, &log, Output { file: &file, room }, &clock, words)?;
+    let clock = clock_with_step(2000);
+    let ends = is_run_successful(
+        rt,
+        &log,
+        LimitedTerminal { file: &file, room },
+        &clock,
+        words,
+    )?;
     Ok(ends && fs::read(rt, "progress/shown")?.as_slice() == text.as_bytes())
 }
 
@@ -244,7 +264,7 @@ fn runs_show_their_progress(rt: HostRuntime) -> Result<(), Fail> {
     fs::create_dir_all(&rt, "progress/files")?;
     fs::write(&rt, "progress/files/a", b"hello")?;
     for (words, room, text) in RUNS {
-        assert!(rt; shows(&rt, words, room, text)?, "{words:?}");
+        assert!(rt; is_progress_shown(&rt, words, room, text)?, "{words:?}");
     }
     fs::remove_dir_all(&rt, "progress")?;
     Ok(())

@@ -12,7 +12,10 @@ use std::{fs, io};
 pub(crate) type Items<'a> = &'a [(&'a [u8], Option<&'a [u8]>)];
 
 // A source in memory of these.
-pub(crate) fn source_of(alloc: Global, items: Items<'_>) -> Result<MemorySource, AllocError> {
+pub(crate) fn memory_source_of_items(
+    alloc: Global,
+    items: Items<'_>,
+) -> Result<MemorySource, AllocError> {
     let mut held = Vec::new(alloc);
     for (path, bytes) in items {
         let path = path.to_vec(alloc)?;
@@ -26,7 +29,7 @@ pub(crate) fn source_of(alloc: Global, items: Items<'_>) -> Result<MemorySource,
 }
 
 // Whether these are the entries of a source, in this order.
-pub(crate) fn is_read<S: Source>(
+pub(crate) fn is_source_read_as_items<S: Source>(
     alloc: Global,
     source: &mut S,
     wanted: Items<'_>,
@@ -92,12 +95,13 @@ const BAD: [Items<'static>; 6] = [
 #[test]
 fn sources_are_read(rt: HostRuntime) -> Result<(), Fail> {
     for (items, wanted) in READ {
-        let mut source = source_of(rt.alloc(), items)?;
-        assert!(rt; is_read(rt.alloc(), &mut source, wanted)?);
+        let mut source = memory_source_of_items(rt.alloc(), items)?;
+        assert!(rt; is_source_read_as_items(rt.alloc(), &mut source, wanted)?);
     }
     for items in BAD {
-        let mut source = source_of(rt.alloc(), items)?;
-        let is_fault = is_read(rt.alloc(), &mut source, &[]) == Err(SourceError::Fault);
+        let mut source = memory_source_of_items(rt.alloc(), items)?;
+        let is_fault = is_source_read_as_items(rt.alloc(), &mut source, &[])
+            == Err(SourceError::Fault);
         assert!(rt; is_fault, "{items:?}");
     }
     Ok(())
@@ -105,7 +109,7 @@ fn sources_are_read(rt: HostRuntime) -> Result<(), Fail> {
 
 // A folder whose name isn't text, one that is not there, and a folder that is read as a file.
 #[test]
-fn real_folders_fault(rt: HostRuntime) -> Result<(), Fail> {
+fn real_folders_report_faults(rt: HostRuntime) -> Result<(), Fail> {
     fs::create_dir_all(&rt, "source_folder/d")?;
     let log = FaultLog::new();
     let mut folder = Folder::new(&rt, &log, "source_folder")?;

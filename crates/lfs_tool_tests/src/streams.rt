@@ -1,10 +1,10 @@
 // Runs of the program whose image is standard input or output.
 
-use crate::files::words_of;
+use crate::files::program_words;
 use crate::images::{BELOW, ENTRIES};
-use crate::sources::{Items, is_read};
+use crate::sources::{Items, is_source_read_as_items};
 use lfs_fixtures::image_with_second_commit;
-use lfs_tool::{RealPlaces, Watched, answer};
+use lfs_tool::{RealPlaces, WatchedStream, run_and_return_exit_status};
 use lfs_tool_folders::{FaultLog, Folder};
 use std::alloc::{AllocError, Global};
 use std::io::{ErrorKind, Read, Write};
@@ -110,10 +110,10 @@ fn ends_so<R: Files + AllocGlobal + Clone + Drop>(
     let log = FaultLog::new();
     let terminal = None::<(io::Stderr, HostRuntime)>;
     let places = RealPlaces::new(rt, &log, input, output, terminal);
-    let words = words_of(rt.alloc(), ending.words)?;
-    let mut out = Watched::new(Vec::new(rt.alloc()));
-    let mut err = Watched::new(Vec::new(rt.alloc()));
-    let status = answer(rt.alloc(), &places, Ok(words), &mut out, &mut err);
+    let words = program_words(rt.alloc(), ending.words)?;
+    let mut out = WatchedStream::new(Vec::new(rt.alloc()));
+    let mut err = WatchedStream::new(Vec::new(rt.alloc()));
+    let status = run_and_return_exit_status(rt.alloc(), &places, Ok(words), &mut out, &mut err);
     Ok(
         status == ending.status
             && out.inner().as_slice() == ending.out.as_bytes()
@@ -371,7 +371,7 @@ const UNPACKED: Items<'static> = &[(b"/a", Some(b"hello")), (b"/d", None), (b"/d
 fn is_unpacked<R: Files + AllocGlobal + Clone + Drop>(rt: &R) -> io::Result<bool> {
     let log = FaultLog::new();
     let mut folder = Folder::new(rt, &log, "streams/other")?;
-    let is_there = is_read(rt.alloc(), &mut folder, UNPACKED) == Ok(true);
+    let is_there = is_source_read_as_items(rt.alloc(), &mut folder, UNPACKED) == Ok(true);
     Ok(is_there && !fs::exists(rt, "streams/none")? && !fs::exists(rt, "-")?)
 }
 

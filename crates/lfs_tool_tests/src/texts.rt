@@ -1,7 +1,7 @@
 // What the tool shows, as text.
 
-use lfs_tool::{Fault, ImageInput, ToolError, Watched, check, list, report, unpack};
-use lfs_tool_folders::{Done, MemoryTarget};
+use lfs_tool::{Fault, ImageInput, ToolError, WatchedStream, check, list, report, unpack};
+use lfs_tool_folders::{MemoryTarget, TargetAction};
 use std::alloc::{AllocError, Global};
 
 // What is shown of a fault: the status, and what goes to `out` and to `err`.
@@ -13,8 +13,8 @@ pub(crate) struct Report {
 }
 
 pub(crate) fn report_of(alloc: Global, fault: &Fault) -> Report {
-    let mut out = Watched::new(Vec::new(alloc));
-    let mut err = Watched::new(Vec::new(alloc));
+    let mut out = WatchedStream::new(Vec::new(alloc));
+    let mut err = WatchedStream::new(Vec::new(alloc));
     let status = report(fault, &mut out, &mut err);
     Report {
         status,
@@ -44,7 +44,7 @@ pub(crate) fn list_text<R: ImageInput>(
     block_size: u32,
     page: u32,
 ) -> Result<Vec<u8>, AllocError> {
-    let mut out = Watched::new(Vec::new(alloc));
+    let mut out = WatchedStream::new(Vec::new(alloc));
     let result = list(alloc, image, block_size, page, &mut out);
     with_error_line(alloc, out.into_inner(), result)
 }
@@ -56,7 +56,7 @@ pub(crate) fn check_text<R: ImageInput>(
     block_size: u32,
     page: u32,
 ) -> Result<Vec<u8>, AllocError> {
-    let mut out = Watched::new(Vec::new(alloc));
+    let mut out = WatchedStream::new(Vec::new(alloc));
     let answer = match check(alloc, image, block_size, page, &mut out) {
         Ok(_) => Ok(()),
         Err(error) => Err(error),
@@ -64,13 +64,13 @@ pub(crate) fn check_text<R: ImageInput>(
     with_error_line(alloc, out.into_inner(), answer)
 }
 
-fn push_done(text: &mut Vec<u8>, done: &Done) -> Result<(), AllocError> {
+fn push_unpacked_entry(text: &mut Vec<u8>, done: &TargetAction) -> Result<(), AllocError> {
     match done {
-        Done::Folder(path) => {
+        TargetAction::Folder(path) => {
             text.extend_from_slice(b"d ")?;
             text.extend_from_slice(path)?;
         }
-        Done::File(path, bytes) => {
+        TargetAction::File(path, bytes) => {
             text.extend_from_slice(b"f ")?;
             text.extend_from_slice(path)?;
             text.push(b' ')?;
@@ -94,7 +94,7 @@ pub(crate) fn unpack_text<R: ImageInput>(
     let result = unpack(alloc, image, block_size, page, &mut target, &mut ());
     let mut text = Vec::new(alloc);
     for done in &target.done {
-        push_done(&mut text, done)?;
+        push_unpacked_entry(&mut text, done)?;
     }
     with_error_line(alloc, text, result)
 }

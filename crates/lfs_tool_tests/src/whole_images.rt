@@ -1,6 +1,6 @@
 // Images that are written whole or not at all.
 
-use crate::disk::{Disk, Habit, Mounted, PathKind};
+use crate::disk::{Disk, DiskFiles, DiskHabit, PathKind};
 use lfs_tool_folders::NewImage;
 use std::alloc::Global;
 use std::io;
@@ -15,42 +15,20 @@ const OLD: &[u8] = b"an old image";
 
 // What stands at the path, how many bytes are free, what the file system does, whether the image is made, what stands
 // at the path then, and how many names there are.
-const ROWS: [(Option<PathKind>, usize, Habit, bool, Option<&[u8]>, usize); 12] = [
-    (None, 24, Habit::Plain, true, Some(IMAGE), 1),
-    (None, 23, Habit::Plain, false, None, 0),
-    (Some(PathKind::File), 24, Habit::Plain, true, Some(IMAGE), 1),
-    (Some(PathKind::File), 23, Habit::Plain, false, Some(OLD), 1),
-    (Some(PathKind::File), 0, Habit::Plain, false, Some(OLD), 1),
-    (
-        Some(PathKind::ReadOnly),
-        99,
-        Habit::Plain,
-        false,
-        Some(OLD),
-        1,
-    ),
-    (Some(PathKind::Link), 99, Habit::Plain, true, Some(IMAGE), 1),
-    (
-        Some(PathKind::Link),
-        8,
-        Habit::Plain,
-        false,
-        Some(b"the bytes of a new i"),
-        1,
-    ),
-    (None, 99, Habit::NoNewNames, false, None, 0),
+const ROWS: [(
+    Option<PathKind>,
+    usize,
+    DiskHabit,
+    bool,
+    Option<&[u8]>,
+    usize,
+); 12] = [
+    (None, 24, DiskHabit::Plain, true, Some(IMAGE), 1),
+    (None, 23, DiskHabit::Plain, false, None, 0),
     (
         Some(PathKind::File),
-        99,
-        Habit::NoNewNames,
-        true,
-        Some(IMAGE),
-        1,
-    ),
-    (
-        Some(PathKind::File),
-        99,
-        Habit::NoNewPlaces,
+        24,
+        DiskHabit::Plain,
         true,
         Some(IMAGE),
         1,
@@ -58,7 +36,64 @@ const ROWS: [(Option<PathKind>, usize, Habit, bool, Option<&[u8]>, usize); 12] =
     (
         Some(PathKind::File),
         23,
-        Habit::NoNewPlaces,
+        DiskHabit::Plain,
+        false,
+        Some(OLD),
+        1,
+    ),
+    (
+        Some(PathKind::File),
+        0,
+        DiskHabit::Plain,
+        false,
+        Some(OLD),
+        1,
+    ),
+    (
+        Some(PathKind::ReadOnly),
+        99,
+        DiskHabit::Plain,
+        false,
+        Some(OLD),
+        1,
+    ),
+    (
+        Some(PathKind::Link),
+        99,
+        DiskHabit::Plain,
+        true,
+        Some(IMAGE),
+        1,
+    ),
+    (
+        Some(PathKind::Link),
+        8,
+        DiskHabit::Plain,
+        false,
+        Some(b"the bytes of a new i"),
+        1,
+    ),
+    (None, 99, DiskHabit::NoNewNames, false, None, 0),
+    (
+        Some(PathKind::File),
+        99,
+        DiskHabit::NoNewNames,
+        true,
+        Some(IMAGE),
+        1,
+    ),
+    (
+        Some(PathKind::File),
+        99,
+        DiskHabit::NoNewPlaces,
+        true,
+        Some(IMAGE),
+        1,
+    ),
+    (
+        Some(PathKind::File),
+        23,
+        DiskHabit::NoNewPlaces,
         false,
         Some(OLD),
         1,
@@ -66,16 +101,21 @@ const ROWS: [(Option<PathKind>, usize, Habit, bool, Option<&[u8]>, usize); 12] =
 ];
 
 // A disk on which that stands at the path.
-fn disk_with(alloc: Global, kind: Option<PathKind>, room: usize, habit: Habit) -> io::Result<Disk> {
+fn disk_with_old_image(
+    alloc: Global,
+    kind: Option<PathKind>,
+    room: usize,
+    habit: DiskHabit,
+) -> io::Result<Disk> {
     let disk = Disk::new(alloc, room, habit);
     if let Some(kind) = kind {
-        disk.put(alloc, PATH, kind, OLD)?;
+        disk.add_node(alloc, PATH, kind, OLD)?;
     }
     Ok(disk)
 }
 
 // Writes the image, and flushes it.
-fn make(files: &Mounted<'_>) -> io::Result<()> {
+fn make_new_image(files: &DiskFiles<'_>) -> io::Result<()> {
     let mut image = NewImage::new(files.alloc, files, PATH)?;
     image.write_all(IMAGE)?;
     image.flush()
@@ -84,13 +124,17 @@ fn make(files: &Mounted<'_>) -> io::Result<()> {
 #[test]
 fn images_are_whole_or_not_there(rt: HostRuntime) -> Result<(), Fail> {
     for (kind, room, habit, is_made, bytes, names) in ROWS {
-        let disk = disk_with(rt.alloc(), kind, room, habit)?;
-        let files = Mounted {
+        let disk = disk_with_old_image(rt.alloc(), kind, room, habit)?;
+        let files = DiskFiles {
             alloc: rt.alloc(),
             disk: &disk,
         };
-        assert_eq!(rt; make(&files).is_ok(), is_made, "{kind:?} {room} {habit:?}");
-        let found = disk.bytes_at(rt.alloc(), PATH)?;
+        assert_eq!(rt;
+            make_new_image(&files).is_ok(),
+            is_made,
+            "{kind:?} {room} {habit:?}"
+        );
+        let found = disk.bytes_of_named_node(rt.alloc(), PATH)?;
         assert!(rt;
             found.as_ref().map(|v| v.as_slice()) == bytes,
             "{kind:?} {room} {habit:?}"
@@ -103,23 +147,23 @@ fn images_are_whole_or_not_there(rt: HostRuntime) -> Result<(), Fail> {
 // Names that are taken are left alone, and the permissions of the old file are kept.
 #[test]
 fn other_names_are_left_alone(rt: HostRuntime) -> Result<(), Fail> {
-    let disk = disk_with(rt.alloc(), Some(PathKind::File), 99, Habit::Plain)?;
-    disk.put(rt.alloc(), "out/.mklittlefs-0", PathKind::File, b"another")?;
-    let files = Mounted {
+    let disk = disk_with_old_image(rt.alloc(), Some(PathKind::File), 99, DiskHabit::Plain)?;
+    disk.add_node(rt.alloc(), "out/.mklittlefs-0", PathKind::File, b"another")?;
+    let files = DiskFiles {
         alloc: rt.alloc(),
         disk: &disk,
     };
-    make(&files)?;
+    make_new_image(&files)?;
     assert_eq!(rt; disk.count(), 2);
-    assert_eq!(rt; disk.mode_at(PATH), 0o100644);
+    assert_eq!(rt; disk.mode_of_named_node(PATH), 0o100644);
     Ok(())
 }
 
 // Nothing is made where nothing is written.
 #[test]
 fn nothing_written_makes_nothing(rt: HostRuntime) -> Result<(), Fail> {
-    let disk = disk_with(rt.alloc(), None, 99, Habit::Plain)?;
-    let files = Mounted {
+    let disk = disk_with_old_image(rt.alloc(), None, 99, DiskHabit::Plain)?;
+    let files = DiskFiles {
         alloc: rt.alloc(),
         disk: &disk,
     };

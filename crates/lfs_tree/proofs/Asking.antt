@@ -6,28 +6,28 @@ use Rattle.lfs_device.specs.declared.error.Error.TheVariants.{Io}
 use Rattle.lfs_model.specs.BlockSets.{BlockStateList}
 use Rattle.lfs_model.specs.Cache.{CachedBlocks}
 use Rattle.lfs_model.specs.Disk.{Disk}
-use Rattle.lfs_model.specs.History.{CallEvent}
+use Rattle.lfs_model.specs.History.{DeviceCallEvent}
 use Rattle.lfs_model.specs.Thread.{Pair, pair_count_before_root}
 use Rattle.lfs_model.specs.Operations.{Operation}
-use Rattle.lfs_model.specs.PowerLoss.{SurvivesStopsSince}
+use Rattle.lfs_model.specs.PowerLoss.{SurvivesPowerLossInCallsSince}
 use Rattle.lfs_model.specs.Tree.{Tree}
 use Rattle.lfs_model.specs.Shown.{tree_on_disk}
 use Rattle.lfs_thread.specs.Kept.{ThreadView}
 use Rattle.lfs_tree.specs.TreeChanges.{AppliesOperationOnThread, SparesBlocksOutsideOperation}
-use Rattle.lfs_tree.specs.RootedThreads.{IsSoundThreadUnlessFailed, IsSoundThreadWithRoot, tree_state_of_kept_thread, tree_state_of_thread}
+use Rattle.lfs_tree.specs.RootedThreads.{IsSoundThreadUnlessFailed, IsSoundThreadWithRootAtPairNumber, tree_state_of_kept_thread, tree_state_of_thread}
 use Rattle.lfs_lookup.specs.Reading.{OnlyReadsThreadAndReportsErrors}
-use Rattle.lfs_tree.specs.TreeState.{TreeState, tree_state_without_cache, WasTreeOnlyRead, IsReadOnlyCall, IsTreeFailedByRead, IsOperationAppliedToTree, IsErrorWithCause, tree_view, LeavesUnconcernedBlocksAlone}
+use Rattle.lfs_tree.specs.TreeState.{TreeState, tree_state_without_cache, WasTreeOnlyRead, OnlyReadsTreeOrFails, IsTreeFailedByRead, IsOperationAppliedToTree, IsIoWithFaultOrNoMemory, tree_view, LeavesUnconcernedBlocksAlone}
 use Rattle.lfs_tree.proofs.Mounting.{sound_read}
 use Rattle.lfs_tree.proofs.SameErrors.{same_error}
 
-abbrev see : Disk → List CallEvent → List Pair → BlockStateList → Bool → Bool → CachedBlocks → TreeState
+abbrev see : Disk → List DeviceCallEvent → List Pair → BlockStateList → Bool → Bool → CachedBlocks → TreeState
 see disk history pairs map writable failed cache = record { disk = disk; history = history; pairs = pairs; map = map; writable = writable; failed = failed; cache = cache }
 
 -- a thread that was read, as it is behind the answer
 abbrev pub behind : {X : Type 0} → ThreadView → Result X Error → ThreadView
 behind b r = record b { failed = is_err r || b.failed }
 
-module _ {X : Type 0} (a b : ThreadView) (root : ℕ) (writable : Bool) (h : IsSoundThreadWithRoot a root writable) where
+module _ {X : Type 0} (a b : ThreadView) (root : ℕ) (writable : Bool) (h : IsSoundThreadWithRootAtPairNumber a root writable) where
   asked : (r : Result X Error) → OnlyReadsThreadAndReportsErrors a b r → OnOk r (WasTreeOnlyRead (tree_state_of_thread a writable) (tree_state_of_thread (behind b r) writable))
   asked (Err e) k = tt
   asked (Ok x) k = record {
@@ -44,7 +44,7 @@ module _ {X : Type 0} (a b : ThreadView) (root : ℕ) (writable : Bool) (h : IsS
   broken (Ok x) k = tt
   broken (Err e) k = record { failed = refl; disk = k.only.disk; reads = k.only.reads }
 
-  reported : (r : Result X Error) → OnlyReadsThreadAndReportsErrors a b r → IfErr r (IsErrorWithCause (tree_state_of_thread a writable) (tree_state_of_thread (behind b r) writable))
+  reported : (r : Result X Error) → OnlyReadsThreadAndReportsErrors a b r → IfErr r (IsIoWithFaultOrNoMemory (tree_state_of_thread a writable) (tree_state_of_thread (behind b r) writable))
   reported (Ok x) k = tt
   reported (Err e) k = record {
     errors = k.reported.errors;
@@ -52,13 +52,13 @@ module _ {X : Type 0} (a b : ThreadView) (root : ℕ) (writable : Bool) (h : IsS
     no_fault = λ other. k.reported.no_fault (λ z. other (same_error e Io z));
   }
 
-  pub asking : (now : TreeState) (r : Result X Error) (c : ThreadView) → tree_state_of_thread a writable ≡ now → c ≡ behind b r → OnlyReadsThreadAndReportsErrors a b r → IsReadOnlyCall now r (tree_state_of_thread c writable)
+  pub asking : (now : TreeState) (r : Result X Error) (c : ThreadView) → tree_state_of_thread a writable ≡ now → c ≡ behind b r → OnlyReadsThreadAndReportsErrors a b r → OnlyReadsTreeOrFails now r (tree_state_of_thread c writable)
   asking now r c view is k =
-      subst (λ (s : TreeState). IsReadOnlyCall s r (tree_state_of_thread c writable)) view
-      (subst (λ (t : ThreadView). IsReadOnlyCall (tree_state_of_thread a writable) r (tree_state_of_thread t writable)) (sym is) (record { asked = asked r k; broken = broken r k; errors = reported r k }))
+      subst (λ (s : TreeState). OnlyReadsTreeOrFails s r (tree_state_of_thread c writable)) view
+      (subst (λ (t : ThreadView). OnlyReadsTreeOrFails (tree_state_of_thread a writable) r (tree_state_of_thread t writable)) (sym is) (record { asked = asked r k; broken = broken r k; errors = reported r k }))
 
   -- it stays what it is
-  pub rooted : (r : Result X Error) → OnlyReadsThreadAndReportsErrors a b r → IsSoundThreadWithRoot b root writable
+  pub rooted : (r : Result X Error) → OnlyReadsThreadAndReportsErrors a b r → IsSoundThreadWithRootAtPairNumber b root writable
   rooted r k = record { works = k.works; sound = sound_read a.kept b.kept writable false false k.only h.sound; root_is = h.root_is ∙ ap pair_count_before_root (sym k.only.pairs) }
 
   -- where it doesn't fail
@@ -75,7 +75,7 @@ module _ (thread : ThreadView) (root : ℕ) (writable : Bool) (now : TreeState) 
   pub works_held : now.failed ≡ false → thread.failed ≡ false
   works_held e = ap (λ (s : TreeState). s.failed) view ∙ e
 
-  pub rooted_held : now.failed ≡ false → IsSoundThreadWithRoot thread root writable
+  pub rooted_held : now.failed ≡ false → IsSoundThreadWithRootAtPairNumber thread root writable
   rooted_held e = kept (works_held e)
 
   -- what works and may be written, is seen so

@@ -4,38 +4,38 @@ use Rattle.std.specs.List.{list_all}
 use Rattle.lfs_device.specs.declared.error.Error.{Error}
 use Rattle.std.proofs.lemmas.Bool.{ltb-false}
 use Rattle.std.proofs.lemmas.Option.{same_Some}
-use Rattle.lfs_device.specs.Bytes.{HasBytes}
+use Rattle.lfs_device.specs.Bytes.{AreAllBlockElementsBelow256}
 use Rattle.lfs_model.specs.Frame.{LeavesUnrelatedBlocksUnchanged, paths_changed_by_operation}
-use Rattle.lfs_model.specs.Session.{Files, Session}
+use Rattle.lfs_model.specs.Session.{OpenFilesByNumber, Session}
 use Rattle.lfs_model.specs.Thread.{Pair}
 use Rattle.lfs_model.specs.TreeEdits.{tree_after_creation, last_name_of_path}
-use Rattle.lfs_model.specs.BlockSets.{BlockStateList, IsFree, IsInFlight}
+use Rattle.lfs_model.specs.BlockSets.{BlockStateList, IsBlockFree, IsBlockInFlight}
 use Rattle.lfs_model.specs.BlockSets.BlockState.{Free, InFlight}
-use Rattle.lfs_model.specs.Disk.{entry_charge_limit}
-use Rattle.lfs_model.specs.History.{CallEvent, AreCallsSinceOnlyReads, faults}
-use Rattle.lfs_model.specs.Names.{Name, is_path_component, is_name}
+use Rattle.lfs_model.specs.Disk.{charged_entry_size_limit_in_pair}
+use Rattle.lfs_model.specs.History.{DeviceCallEvent, AreCallsSinceOnlyReads, fault_count_of_history}
+use Rattle.lfs_model.specs.Names.{Name, is_path_component, is_valid_name}
 use Rattle.lfs_model.specs.Operations as ops
-use Rattle.lfs_model.specs.Operations.{Flags, Operation}
-use Rattle.lfs_model.specs.Slots.{charge_of_entry}
-use Rattle.lfs_model.specs.Refusals.{path_or_root}
+use Rattle.lfs_model.specs.Operations.{FlagsOfOpen, Operation}
+use Rattle.lfs_model.specs.Slots.{entry_charge_with_longest_inline_contents}
+use Rattle.lfs_model.specs.Refusals.{path_of_bytes_or_root}
 use Rattle.lfs_model.specs.Tree.{Path, Tree, DirectoryNode, FileNode}
 use Rattle.lfs_model.specs.Shown.{tree_on_disk}
 use Rattle.lfs_model.proofs.Counts.{each_weaker}
 use Rattle.lfs_model.proofs.Paths.{last_is}
 use Rattle.lfs_operations.proofs.Held.{here}
-use Rattle.lfs_operations.specs.Changing.{WritesPairAndTwoFreeBlocks, AltersPair}
+use Rattle.lfs_operations.specs.Changing.{WritesPairAndTwoFreeBlocks, IsPairAltered}
 use Rattle.lfs_operations.specs.Creating.{CanCreateFileInPair, IsFileCreated, tree_with_new_file}
-use Rattle.lfs_operations.specs.Making.{AltersPairAndLastPair, CanMakeDirectoryAt, IsDirectoryMade, WritesPairAndLastPair, tree_with_new_directory}
+use Rattle.lfs_operations.specs.Making.{ArePairAndLastPairOfDirectoryAltered, CanMakeDirectoryAt, IsDirectoryMade, WritesPairLastPairAndFourFreeBlocks, tree_with_new_directory}
 use Rattle.lfs_operations.specs.Ready.{IsImageReadyForChange, KeepsStatesOfTakenBlocks}
-use Rattle.lfs_thread.specs.Kept.{Kept, ThreadView}
-use Rattle.lfs_thread.specs.Steps.{ThreadChangesOnlyTheseBlocks, kept_pair_at_index}
+use Rattle.lfs_thread.specs.Kept.{KeptThread, ThreadView}
+use Rattle.lfs_thread.specs.Steps.{ThreadChangesOnlyTheseBlocks, thread_pair_at_index}
 use Rattle.lfs_tree.proofs.LeftAlone.{IsConcernedOrFree, concerned_alone, concerned_pair, rest_left_alone}
 use Rattle.lfs_tree.specs.Permissions.{CanAddEntryAtPath}
 use Rattle.lfs_tree.specs.Calls as call
 use Rattle.lfs_tree.specs.Calls.{tree_after_call}
-use Rattle.lfs_tree.specs.TreeChanges.{AppliesOperationOnThread, HasAppliedCall, CanChangeRecoveredImage, AppliesCallOnThread, IsSpotForNewName, IsVacantPath, HasSoundImageOfTree, SurvivesWithOldOrNewTree}
+use Rattle.lfs_tree.specs.TreeChanges.{AppliesOperationOnThread, HasAppliedCall, CanChangeRecoveredImage, AppliesCallOnThreadOrFails, IsSpotForNewName, IsVacantPath, HasSoundImageOfTree, SurvivesWithOldOrNewTree}
 use Rattle.lfs_tree.specs.RootedThreads.{tree_state_of_kept_thread}
-use Rattle.lfs_lookup.specs.declared.search.Spot.{Spot}
+use Rattle.lfs_lookup.specs.declared.search.SlotPosition.{SlotPosition}
 use Rattle.lfs_tree.proofs.Carried.{among_one, among_two, behind_below, carried, with_history}
 use Rattle.lfs_tree.proofs.CarryLogged.{logged_there}
 use Rattle.lfs_tree.proofs.CarrySurvives.{survives_behind}
@@ -44,7 +44,7 @@ use Rattle.lfs_tree.proofs.ReportedFaults.{ReportsFaultsSince}
 use Rattle.lfs_tree.proofs.Operated.{changed, create_stands, does_create, does_mkdir, mkdir_stands, quiet_reported}
 use Rattle.std.specs.Prelude.{Contains, OnOk}
 
-pub ready_to : (t : ThreadView) (root : ℕ) (h : List CallEvent) → CanChangeRecoveredImage t root → 1024 ≤ t.kept.disk.block_size → IsImageReadyForChange (with_history t.kept h)
+pub ready_to : (t : ThreadView) (root : ℕ) (h : List DeviceCallEvent) → CanChangeRecoveredImage t root → 1024 ≤ t.kept.disk.block_size → IsImageReadyForChange (with_history t.kept h)
 ready_to t root h rests large = record {
   accepted = rests.held.sound.accepted;
   writable = rests.held.sound.fits refl;
@@ -54,17 +54,17 @@ ready_to t root h rests large = record {
   large = large;
 }
 
-pub vacant_to : (t : Kept) (path : Path) (need : ℕ) → CanAddEntryAtPath (tree_state_of_kept_thread t true false) path need → IsVacantPath (tree_on_disk t.disk t.pairs) path
+pub vacant_to : (t : KeptThread) (path : Path) (need : ℕ) → CanAddEntryAtPath (tree_state_of_kept_thread t true false) path need → IsVacantPath (tree_on_disk t.disk t.pairs) path
 vacant_to t path need can = record { parents = can.parents; nothing = can.nothing }
 
-pub stay_in_flight : (old new : BlockStateList) → KeepsStatesOfTakenBlocks old new → (b : ℕ) → IsInFlight old b → IsInFlight new b
+pub stay_in_flight : (old new : BlockStateList) → KeepsStatesOfTakenBlocks old new → (b : ℕ) → IsBlockInFlight old b → IsBlockInFlight new b
 stay_in_flight old new stays b flies = stays b (λ free. let k : InFlight ≡ Free = same_Some InFlight Free (sym flies ∙ free) in absurd (cc)) ∙ flies
 
-any_flags : Flags
+any_flags : FlagsOfOpen
 any_flags = record { read = false; write = true; create = true; exclusive = false; truncate = false; append = false; unknown = false }
 
-module _ (t : ThreadView) (root : ℕ) (rests : CanChangeRecoveredImage t root) (path : Path) (components : list_all is_path_component path ≡ true) (large : 1024 ≤ t.kept.disk.block_size) (bytes : HasBytes t.kept.disk.blocks)
-    (need : ℕ) (can : CanAddEntryAtPath (tree_state_of_kept_thread t.kept true false) path need) (name : Name) (spot : Spot) (place : IsSpotForNewName t.kept.disk.order t.kept.pairs path name spot) (h : List CallEvent) where
+module _ (t : ThreadView) (root : ℕ) (rests : CanChangeRecoveredImage t root) (path : Path) (components : list_all is_path_component path ≡ true) (large : 1024 ≤ t.kept.disk.block_size) (bytes : AreAllBlockElementsBelow256 t.kept.disk.blocks)
+    (need : ℕ) (can : CanAddEntryAtPath (tree_state_of_kept_thread t.kept true false) path need) (name : Name) (spot : SlotPosition) (place : IsSpotForNewName t.kept.disk.order t.kept.pairs path name spot) (h : List DeviceCallEvent) where
   name_is : last_name_of_path path ≡ name
   name_is = ap last_name_of_path place.is ∙ last_is place.above name
 
@@ -75,11 +75,11 @@ module _ (t : ThreadView) (root : ℕ) (rests : CanChangeRecoveredImage t root) 
       none [] k = absurd (cc)
       none (x ∷ xs) k = absurd (cc)
 
-  named : is_name name ≡ true
-  named = subst (λ n. is_name n ≡ true) name_is (last_is_name path has_some components can.name)
+  named : is_valid_name name ≡ true
+  named = subst (λ n. is_valid_name n ≡ true) name_is (last_is_name path has_some components can.name)
 
-  fits : charge_of_entry t.kept.disk.block_size name [] ≤ entry_charge_limit t.kept.disk.block_size t.kept.disk.page
-  fits = subst (λ n. charge_of_entry t.kept.disk.block_size n [] ≤ entry_charge_limit t.kept.disk.block_size t.kept.disk.page) name_is (ltb-false _ _ can.fits)
+  fits : entry_charge_with_longest_inline_contents t.kept.disk.block_size name [] ≤ charged_entry_size_limit_in_pair t.kept.disk.block_size t.kept.disk.page
+  fits = subst (λ n. entry_charge_with_longest_inline_contents t.kept.disk.block_size n [] ≤ charged_entry_size_limit_in_pair t.kept.disk.block_size t.kept.disk.page) name_is (ltb-false _ _ can.fits)
 
   pub can_create : CanCreateFileInPair (with_history t.kept h) spot.pair spot.id name
   can_create = record {
@@ -109,8 +109,8 @@ module _ (t : ThreadView) (root : ℕ) (rests : CanChangeRecoveredImage t root) 
     room = let r = room_for t.kept need rests.held.sound can.room in omega (arith, r, enough);
   }
 
-  created_at : (c : Kept) (given : List ℕ) (flags : Flags) → faults c.history ≡ faults t.kept.history → AreCallsSinceOnlyReads t.kept.disk.blocks t.kept.history h → WritesPairAndTwoFreeBlocks (with_history t.kept h) spot.pair c
-      → ((can : CanCreateFileInPair (with_history t.kept h) spot.pair spot.id name) → IsFileCreated (with_history t.kept h) c can.path name) → path_or_root given ≡ path → AppliesOperationOnThread t.kept (ops.Open given flags) c
+  created_at : (c : KeptThread) (given : List ℕ) (flags : FlagsOfOpen) → fault_count_of_history c.history ≡ fault_count_of_history t.kept.history → AreCallsSinceOnlyReads t.kept.disk.blocks t.kept.history h → WritesPairAndTwoFreeBlocks (with_history t.kept h) spot.pair c
+      → ((can : CanCreateFileInPair (with_history t.kept h) spot.pair spot.id name) → IsFileCreated (with_history t.kept h) c can.path name) → path_of_bytes_or_root given ≡ path → AppliesOperationOnThread t.kept (ops.Open given flags) c
   unfolding can_create
   created_at c given flags quiet reads writes gives e =
       let is : IsFileCreated (with_history t.kept h) c place.above name = gives can_create in
@@ -133,18 +133,18 @@ module _ (t : ThreadView) (root : ℕ) (rests : CanChangeRecoveredImage t root) 
         no_fault = quiet;
       }) refl refl
 
-  created_alone : (c : Kept) (op : Operation) (files : Files) → WritesPairAndTwoFreeBlocks (with_history t.kept h) spot.pair c → AltersPair (with_history t.kept h) spot.pair c
+  created_alone : (c : KeptThread) (op : Operation) (files : OpenFilesByNumber) → WritesPairAndTwoFreeBlocks (with_history t.kept h) spot.pair c → IsPairAltered (with_history t.kept h) spot.pair c
       → LeavesUnrelatedBlocksUnchanged t.kept.disk t.kept.pairs (record { tree = tree_on_disk t.kept.disk t.kept.pairs; files = files }) op c.disk c.pairs
   created_alone c op files w alters =
       let b = place.belongs in
-      let is : kept_pair_at_index t.kept spot.pair ≡ b.pair = here (with_history t.kept h) (ready_to t root h rests large) place.first spot.pair b.pair (b.later ++ b.rest) b.place in
+      let is : thread_pair_at_index t.kept spot.pair ≡ b.pair = here (with_history t.kept h) (ready_to t root h rests large) place.first spot.pair b.pair (b.later ++ b.rest) b.place in
       rest_left_alone (with_history t.kept h) c place.first spot.pair b.pair (b.later ++ b.rest) w.fresh (record { tree = tree_on_disk t.kept.disk t.kept.pairs; files = files }) op
       rests.held.sound.accepted rests.held.sound.used b.place w.free
       (subst (λ (z : Pair). ThreadChangesOnlyTheseBlocks (z.at.0 ∷ z.at.1 ∷ w.fresh) (with_history t.kept h) c) is w.writes)
       (λ has n. alters (subst (Contains c.pairs) (sym is) has))
 
-  made_at : (c : Kept) (given : List ℕ) → faults c.history ≡ faults t.kept.history → AreCallsSinceOnlyReads t.kept.disk.blocks t.kept.history h → WritesPairAndLastPair (with_history t.kept h) spot.pair c
-      → ((can : CanMakeDirectoryAt (with_history t.kept h) spot.pair spot.id name) → IsDirectoryMade (with_history t.kept h) c can.path name) → 4 ≤ need → path_or_root given ≡ path → AppliesOperationOnThread t.kept (ops.Mkdir given) c
+  made_at : (c : KeptThread) (given : List ℕ) → fault_count_of_history c.history ≡ fault_count_of_history t.kept.history → AreCallsSinceOnlyReads t.kept.disk.blocks t.kept.history h → WritesPairLastPairAndFourFreeBlocks (with_history t.kept h) spot.pair c
+      → ((can : CanMakeDirectoryAt (with_history t.kept h) spot.pair spot.id name) → IsDirectoryMade (with_history t.kept h) c can.path name) → 4 ≤ need → path_of_bytes_or_root given ≡ path → AppliesOperationOnThread t.kept (ops.Mkdir given) c
   unfolding can_make
   made_at c given quiet reads writes gives enough e =
       let is : IsDirectoryMade (with_history t.kept h) c place.above name = gives (can_make enough) in
@@ -167,7 +167,7 @@ module _ (t : ThreadView) (root : ℕ) (rests : CanChangeRecoveredImage t root) 
         no_fault = quiet;
       }) refl refl
 
-  made_alone : (c : Kept) (op : Operation) (files : Files) → WritesPairAndLastPair (with_history t.kept h) spot.pair c → AltersPairAndLastPair (with_history t.kept h) spot.pair c
+  made_alone : (c : KeptThread) (op : Operation) (files : OpenFilesByNumber) → WritesPairLastPairAndFourFreeBlocks (with_history t.kept h) spot.pair c → ArePairAndLastPairOfDirectoryAltered (with_history t.kept h) spot.pair c
       → LeavesUnrelatedBlocksUnchanged t.kept.disk t.kept.pairs (record { tree = tree_on_disk t.kept.disk t.kept.pairs; files = files }) op c.disk c.pairs
   made_alone c op files w alters =
       let s : Session = record { tree = tree_on_disk t.kept.disk t.kept.pairs; files = files } in
@@ -175,18 +175,18 @@ module _ (t : ThreadView) (root : ℕ) (rests : CanChangeRecoveredImage t root) 
       let entry = concerned_pair old (paths_changed_by_operation s op) c.pairs spot.pair (behind_below t.kept.pairs place.first spot.pair place.belongs.pair _ place.belongs.place) (inr alters.entry) in
       let end = concerned_pair old (paths_changed_by_operation s op) c.pairs w.last w.is_last.below (inr (alters.end w.last w.is_last)) in
       concerned_alone old c s op _ rests.held.sound.accepted rests.held.sound.used
-      (entry.0, (entry.1, (end.0, (end.1, each_weaker (IsFree t.kept.map) (IsConcernedOrFree old (paths_changed_by_operation s op) c.pairs) (λ b f. inr f) w.fresh w.free)))) w.writes
+      (entry.0, (entry.1, (end.0, (end.1, each_weaker (IsBlockFree t.kept.map) (IsConcernedOrFree old (paths_changed_by_operation s op) c.pairs) (λ b f. inr f) w.fresh w.free)))) w.writes
 
   abbrev before : Tree
   before = tree_on_disk t.kept.disk t.kept.pairs
 
-  created_survives : (c : Kept) → AreCallsSinceOnlyReads t.kept.disk.blocks t.kept.history h → WritesPairAndTwoFreeBlocks (with_history t.kept h) spot.pair c
+  created_survives : (c : KeptThread) → AreCallsSinceOnlyReads t.kept.disk.blocks t.kept.history h → WritesPairAndTwoFreeBlocks (with_history t.kept h) spot.pair c
       → ((can : CanCreateFileInPair (with_history t.kept h) spot.pair spot.id name) → SurvivesWithOldOrNewTree (with_history t.kept h) c (tree_with_new_file (with_history t.kept h) can.path name)) → SurvivesWithOldOrNewTree t.kept c (tree_after_creation path (FileNode [] []) before)
   unfolding can_create
   created_survives c reads writes gives =
       subst (λ p. SurvivesWithOldOrNewTree t.kept c (tree_after_creation p (FileNode [] []) before)) (sym place.is) (survives_behind t root rests h c _ (tree_after_creation (place.above ++ name ∷ []) (FileNode [] []) before) reads writes.writes (gives can_create))
 
-  made_survives : (c : Kept) → AreCallsSinceOnlyReads t.kept.disk.blocks t.kept.history h → WritesPairAndLastPair (with_history t.kept h) spot.pair c
+  made_survives : (c : KeptThread) → AreCallsSinceOnlyReads t.kept.disk.blocks t.kept.history h → WritesPairLastPairAndFourFreeBlocks (with_history t.kept h) spot.pair c
       → ((can : CanMakeDirectoryAt (with_history t.kept h) spot.pair spot.id name) → SurvivesWithOldOrNewTree (with_history t.kept h) c (tree_with_new_directory (with_history t.kept h) can.path name)) → 4 ≤ need → SurvivesWithOldOrNewTree t.kept c (tree_after_creation path (DirectoryNode [] []) before)
   unfolding can_make
   made_survives c reads writes gives enough =
@@ -194,14 +194,14 @@ module _ (t : ThreadView) (root : ℕ) (rests : CanChangeRecoveredImage t root) 
 
   -- ---- all that is said of it
 
-  pub create_does : (new : ThreadView) (r : Result (Unit {0}) Error) (given : List ℕ) → path_or_root given ≡ path → faults h ≡ faults t.kept.history → AreCallsSinceOnlyReads t.kept.disk.blocks t.kept.history h → WritesPairAndTwoFreeBlocks (with_history t.kept h) spot.pair new.kept
-      → OnOk r ((can : CanCreateFileInPair (with_history t.kept h) spot.pair spot.id name) → IsFileCreated (with_history t.kept h) new.kept can.path name) → OnOk r (AltersPair (with_history t.kept h) spot.pair new.kept) → ReportsFaultsSince h new.kept.history r → OnOk r (new.failed ≡ false)
-      → ((can : CanCreateFileInPair (with_history t.kept h) spot.pair spot.id name) → SurvivesWithOldOrNewTree (with_history t.kept h) new.kept (tree_with_new_file (with_history t.kept h) can.path name)) → AppliesCallOnThread t (call.Create path) r new
+  pub create_does : (new : ThreadView) (r : Result (Unit {0}) Error) (given : List ℕ) → path_of_bytes_or_root given ≡ path → fault_count_of_history h ≡ fault_count_of_history t.kept.history → AreCallsSinceOnlyReads t.kept.disk.blocks t.kept.history h → WritesPairAndTwoFreeBlocks (with_history t.kept h) spot.pair new.kept
+      → OnOk r ((can : CanCreateFileInPair (with_history t.kept h) spot.pair spot.id name) → IsFileCreated (with_history t.kept h) new.kept can.path name) → OnOk r (IsPairAltered (with_history t.kept h) spot.pair new.kept) → ReportsFaultsSince h new.kept.history r → OnOk r (new.failed ≡ false)
+      → ((can : CanCreateFileInPair (with_history t.kept h) spot.pair spot.id name) → SurvivesWithOldOrNewTree (with_history t.kept h) new.kept (tree_with_new_file (with_history t.kept h) can.path name)) → AppliesCallOnThreadOrFails t (call.Create path) r new
   create_does new r given named quiet reads w gives alters reported works survives =
       changed t new (HasAppliedCall t.kept (call.Create path)) (tree_after_call (call.Create path) before) h _ r quiet reads w.writes reported works (go r gives alters (quiet_reported t.kept new.kept h r quiet reported)) (created_survives new.kept reads w survives)
     where
-      go : (r : Result (Unit {0}) Error) → OnOk r ((can : CanCreateFileInPair (with_history t.kept h) spot.pair spot.id name) → IsFileCreated (with_history t.kept h) new.kept can.path name) → OnOk r (AltersPair (with_history t.kept h) spot.pair new.kept)
-          → OnOk r (faults new.kept.history ≡ faults t.kept.history) → OnOk r (HasAppliedCall t.kept (call.Create path) new.kept × HasSoundImageOfTree t.kept (tree_after_call (call.Create path) before) new.kept)
+      go : (r : Result (Unit {0}) Error) → OnOk r ((can : CanCreateFileInPair (with_history t.kept h) spot.pair spot.id name) → IsFileCreated (with_history t.kept h) new.kept can.path name) → OnOk r (IsPairAltered (with_history t.kept h) spot.pair new.kept)
+          → OnOk r (fault_count_of_history new.kept.history ≡ fault_count_of_history t.kept.history) → OnOk r (HasAppliedCall t.kept (call.Create path) new.kept × HasSoundImageOfTree t.kept (tree_after_call (call.Create path) before) new.kept)
       go (Err e) gives alters same = tt
       go (Ok x) gives alters same = (
         record {
@@ -211,14 +211,14 @@ module _ (t : ThreadView) (root : ℕ) (rests : CanChangeRecoveredImage t root) 
         create_stands t.kept new.kept path given any_flags can.nothing named (created_at new.kept given any_flags same reads w gives named) (gives can_create).now.root,
       )
 
-  pub make_does : (new : ThreadView) (r : Result (Unit {0}) Error) (given : List ℕ) → path_or_root given ≡ path → 4 ≤ need → faults h ≡ faults t.kept.history → AreCallsSinceOnlyReads t.kept.disk.blocks t.kept.history h → WritesPairAndLastPair (with_history t.kept h) spot.pair new.kept
-      → OnOk r ((can : CanMakeDirectoryAt (with_history t.kept h) spot.pair spot.id name) → IsDirectoryMade (with_history t.kept h) new.kept can.path name) → OnOk r (AltersPairAndLastPair (with_history t.kept h) spot.pair new.kept) → ReportsFaultsSince h new.kept.history r → OnOk r (new.failed ≡ false)
-      → ((can : CanMakeDirectoryAt (with_history t.kept h) spot.pair spot.id name) → SurvivesWithOldOrNewTree (with_history t.kept h) new.kept (tree_with_new_directory (with_history t.kept h) can.path name)) → AppliesCallOnThread t (call.Mkdir path) r new
+  pub make_does : (new : ThreadView) (r : Result (Unit {0}) Error) (given : List ℕ) → path_of_bytes_or_root given ≡ path → 4 ≤ need → fault_count_of_history h ≡ fault_count_of_history t.kept.history → AreCallsSinceOnlyReads t.kept.disk.blocks t.kept.history h → WritesPairLastPairAndFourFreeBlocks (with_history t.kept h) spot.pair new.kept
+      → OnOk r ((can : CanMakeDirectoryAt (with_history t.kept h) spot.pair spot.id name) → IsDirectoryMade (with_history t.kept h) new.kept can.path name) → OnOk r (ArePairAndLastPairOfDirectoryAltered (with_history t.kept h) spot.pair new.kept) → ReportsFaultsSince h new.kept.history r → OnOk r (new.failed ≡ false)
+      → ((can : CanMakeDirectoryAt (with_history t.kept h) spot.pair spot.id name) → SurvivesWithOldOrNewTree (with_history t.kept h) new.kept (tree_with_new_directory (with_history t.kept h) can.path name)) → AppliesCallOnThreadOrFails t (call.Mkdir path) r new
   make_does new r given named enough quiet reads w gives alters reported works survives =
       changed t new (HasAppliedCall t.kept (call.Mkdir path)) (tree_after_call (call.Mkdir path) before) h _ r quiet reads w.writes reported works (go r gives alters (quiet_reported t.kept new.kept h r quiet reported)) (made_survives new.kept reads w survives enough)
     where
-      go : (r : Result (Unit {0}) Error) → OnOk r ((can : CanMakeDirectoryAt (with_history t.kept h) spot.pair spot.id name) → IsDirectoryMade (with_history t.kept h) new.kept can.path name) → OnOk r (AltersPairAndLastPair (with_history t.kept h) spot.pair new.kept)
-          → OnOk r (faults new.kept.history ≡ faults t.kept.history) → OnOk r (HasAppliedCall t.kept (call.Mkdir path) new.kept × HasSoundImageOfTree t.kept (tree_after_call (call.Mkdir path) before) new.kept)
+      go : (r : Result (Unit {0}) Error) → OnOk r ((can : CanMakeDirectoryAt (with_history t.kept h) spot.pair spot.id name) → IsDirectoryMade (with_history t.kept h) new.kept can.path name) → OnOk r (ArePairAndLastPairOfDirectoryAltered (with_history t.kept h) spot.pair new.kept)
+          → OnOk r (fault_count_of_history new.kept.history ≡ fault_count_of_history t.kept.history) → OnOk r (HasAppliedCall t.kept (call.Mkdir path) new.kept × HasSoundImageOfTree t.kept (tree_after_call (call.Mkdir path) before) new.kept)
       go (Err e) gives alters same = tt
       go (Ok x) gives alters same = (
         record {

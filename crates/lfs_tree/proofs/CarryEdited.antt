@@ -6,44 +6,44 @@ use Rattle.std.specs.List.{AllByRecursion}
 use Rattle.std.specs.Option.{option_map}
 use Rattle.std.proofs.lemmas.Bool.{ltb-false}
 use Rattle.std.proofs.lemmas.List.Elements.{recursion_from_All}
-use Rattle.lfs_device.specs.Bytes.{HasBytes}
-use Rattle.lfs_model.specs.BlockSets.{IsFree}
+use Rattle.lfs_device.specs.Bytes.{AreAllBlockElementsBelow256}
+use Rattle.lfs_model.specs.BlockSets.{IsBlockFree}
 use Rattle.lfs_model.specs.Frame.{IsPairWithSlotOfPath, LeavesUnrelatedBlocksUnchanged, paths_changed_by_operation}
-use Rattle.lfs_model.specs.Session.{Files}
+use Rattle.lfs_model.specs.Session.{OpenFilesByNumber}
 use Rattle.lfs_model.specs.TreeEdits.{attributes_of_node, last_name_of_path}
 use Rattle.lfs_model.specs.Content.{attributes_with_attribute, attributes_without_attribute}
-use Rattle.lfs_model.specs.Disk.{entry_charge_limit, inline_limit}
-use Rattle.lfs_model.specs.History.{CallEvent, AreCallsSinceOnlyReads, faults}
+use Rattle.lfs_model.specs.Disk.{charged_entry_size_limit_in_pair, inline_limit}
+use Rattle.lfs_model.specs.History.{DeviceCallEvent, AreCallsSinceOnlyReads, fault_count_of_history}
 use Rattle.lfs_model.specs.Names.{Name}
 use Rattle.lfs_model.specs.Operations as ops
 use Rattle.lfs_model.specs.Operations.{Operation}
 use Rattle.lfs_model.specs.Run.{is_recover_operation, renames_to_itself}
 use Rattle.lfs_model.specs.SlotEdits.{slot_of_path}
-use Rattle.lfs_model.specs.Slots.{Attributes, Slot, Struct, Inline, Ctz, Branch, charge_of_entry}
-use Rattle.lfs_model.specs.Refusals.{path_or_root, is_root}
+use Rattle.lfs_model.specs.Slots.{Attributes, Slot, Struct, Inline, Ctz, Branch, entry_charge_with_longest_inline_contents}
+use Rattle.lfs_model.specs.Refusals.{path_of_bytes_or_root, is_root_path}
 use Rattle.lfs_model.specs.Thread.{Pair}
 use Rattle.lfs_model.specs.Tree.{Path, Tree, node_of_struct_and_attributes}
-use Rattle.lfs_model.specs.Profile.{FitsSlotLimits, HasInlineBytesWithin}
+use Rattle.lfs_model.specs.Profile.{IsSlotWithinWritableLimits, HasInlineBytesWithinLimit}
 use Rattle.lfs_model.specs.Shown.{skip_list_bytes_on_disk, entries_by_directory_in_thread, tree_on_disk}
 use Rattle.lfs_model.proofs.Counts.{Each, each_right}
 use Rattle.lfs_model.proofs.Paths.{last_is}
 use Rattle.lfs_operations.proofs.Held.{here}
 use Rattle.lfs_operations.specs.Changing.{WritesPairAndTwoFreeBlocks}
 use Rattle.lfs_operations.specs.Editing.{CanEditEntryOfPair, CanSetAttribute, HasRemovedAttribute, HasSetAttribute, HasAttributesChanged, tree_with_attributes_at}
-use Rattle.lfs_thread.specs.Device.{blocks_of_address}
-use Rattle.lfs_thread.specs.Kept.{Kept, ThreadView}
-use Rattle.lfs_thread.specs.Steps.{ThreadChangesOnlyTheseBlocks, kept_pair_at_index}
+use Rattle.lfs_thread.specs.Device.{blocks_of_pair_address}
+use Rattle.lfs_thread.specs.Kept.{KeptThread, ThreadView}
+use Rattle.lfs_thread.specs.Steps.{ThreadChangesOnlyTheseBlocks, thread_pair_at_index}
 use Rattle.lfs_tree.proofs.LeftAlone.{about_one, holds_slot, rest_left_alone}
 use Rattle.lfs_tree.specs.Permissions.{CanRemoveAttrAtPath, CanSetAttrAtPath}
 use Rattle.lfs_tree.specs.Calls as call
 use Rattle.lfs_tree.specs.Calls.{tree_after_call}
-use Rattle.lfs_tree.specs.TreeChanges.{AppliesOperationOnThread, HasAppliedCall, CanChangeRecoveredImage, AppliesCallOnThread, SparesBlocksOutsideOperation, HasSoundImageOfTree, SurvivesWithOldOrNewTree}
-use Rattle.lfs_tree.specs.SlotChanges.{HasEntryAtPath, IsSpotOfPathSlot, IsSpotOfFoundEntry, is_entry_found, tree_with_attributes_changed}
+use Rattle.lfs_tree.specs.TreeChanges.{AppliesOperationOnThread, HasAppliedCall, CanChangeRecoveredImage, AppliesCallOnThreadOrFails, SparesBlocksOutsideOperation, HasSoundImageOfTree, SurvivesWithOldOrNewTree}
+use Rattle.lfs_tree.specs.SlotChanges.{HasEntryAtPath, IsSpotOfSlotAtPath, IsSpotOfFoundEntry, is_entry_found, tree_with_attributes_changed}
 use Rattle.lfs_tree.specs.RootedThreads.{tree_state_of_kept_thread}
-use Rattle.lfs_lookup.specs.Paths.{PathLeadsToFound, IsSlotOfNameBelowPath}
-use Rattle.lfs_lookup.specs.declared.paths.Found.{Found}
-use Rattle.lfs_lookup.specs.declared.paths.Found.TheVariants as found
-use Rattle.lfs_lookup.specs.declared.search.Spot.{Spot}
+use Rattle.lfs_lookup.specs.Paths.{PathLeadsToLookupResult, IsSlotOfNameBelowPath}
+use Rattle.lfs_lookup.specs.declared.paths.PathLookup.{PathLookup}
+use Rattle.lfs_lookup.specs.declared.paths.PathLookup.TheVariants as found
+use Rattle.lfs_lookup.specs.declared.search.SlotPosition.{SlotPosition}
 use Rattle.lfs_tree.proofs.Carried.{IsPairsOrFree, among_one, behind_below, carried, with_history}
 use Rattle.lfs_tree.proofs.CarryCreated.{ready_to, stay_in_flight}
 use Rattle.lfs_tree.proofs.CarryLogged.{logged_there}
@@ -53,22 +53,22 @@ use Rattle.lfs_tree.proofs.Operated.{changed, clear_stands, does_clear, does_set
 
 -- ---- what is found
 
-absent : (t : Kept) (path : Path) → HasEntryAtPath (tree_on_disk t.disk t.pairs) path → slot_of_path t.pairs path ≡ None → ⊥
+absent : (t : KeptThread) (path : Path) → HasEntryAtPath (tree_on_disk t.disk t.pairs) path → slot_of_path t.pairs path ≡ None → ⊥
 absent t path v e =
     let k = sym v.something ∙ ap (λ o. is_none (option_map (λ (f : Slot). node_of_struct_and_attributes (skip_list_bytes_on_disk t.disk) (entries_by_directory_in_thread t.pairs) f.attributes f.struct) o)) e in absurd (cc)
 
-pub slot_found : (t : Kept) (path : Path) (f : Found) → HasEntryAtPath (tree_on_disk t.disk t.pairs) path → PathLeadsToFound t path f → is_entry_found f ≡ true
-slot_found t path found.Root v l = let k = sym v.entry ∙ ap is_root l.there in absurd (cc)
+pub slot_found : (t : KeptThread) (path : Path) (f : PathLookup) → HasEntryAtPath (tree_on_disk t.disk t.pairs) path → PathLeadsToLookupResult t path f → is_entry_found f ≡ true
+slot_found t path found.Root v l = let k = sym v.entry ∙ ap is_root_path l.there in absurd (cc)
 slot_found t path found.ParentIsFile v l = let k = sym v.parents ∙ l.parents in absurd (cc)
 slot_found t path found.ParentIsMissing v l = let k = sym v.parents ∙ l.parents in absurd (cc)
 slot_found t path (found.Nothing parent place) v l = absurd (absent t path v (ap (slot_of_path t.pairs) l.there.is ∙ l.there.there.nothing))
 slot_found t path (found.Directory parent slot first) v l = refl
 slot_found t path (found.File parent slot contents) v l = refl
 
-slot_is : (ps : List Pair) (path above : Path) (name : Name) (parent : ℕ) (slot spot : Spot) → path ≡ above ++ name ∷ [] → IsSlotOfNameBelowPath ps above name parent slot → slot ≡ spot → IsSpotOfPathSlot ps path spot
+slot_is : (ps : List Pair) (path above : Path) (name : Name) (parent : ℕ) (slot spot : SlotPosition) → path ≡ above ++ name ∷ [] → IsSlotOfNameBelowPath ps above name parent slot → slot ≡ spot → IsSpotOfSlotAtPath ps path spot
 slot_is ps path above name parent slot spot e s h = record { above = above; name = name; first = parent; is = e; stands = subst (IsSlotOfNameBelowPath ps above name parent) h s }
 
-pub slot_for : (t : Kept) (path : Path) (f : Found) (spot : Spot) → PathLeadsToFound t path f → IsSpotOfFoundEntry f spot → IsSpotOfPathSlot t.pairs path spot
+pub slot_for : (t : KeptThread) (path : Path) (f : PathLookup) (spot : SlotPosition) → PathLeadsToLookupResult t path f → IsSpotOfFoundEntry f spot → IsSpotOfSlotAtPath t.pairs path spot
 slot_for t path found.Root spot l h = absurd h
 slot_for t path found.ParentIsFile spot l h = absurd h
 slot_for t path found.ParentIsMissing spot l h = absurd h
@@ -76,16 +76,16 @@ slot_for t path (found.Nothing parent place) spot l h = absurd h
 slot_for t path (found.Directory parent slot first) spot l h = slot_is t.pairs path l.there.above l.there.name parent slot spot l.there.is l.there.there.0 h
 slot_for t path (found.File parent slot contents) spot l h = slot_is t.pairs path l.there.above l.there.name parent slot spot l.there.is l.there.there.0 h
 
-pub entry_to_set : (t : Kept) (path : Path) (kind : ℕ) (bytes : List ℕ) → CanSetAttrAtPath (tree_state_of_kept_thread t true false) path kind bytes → HasEntryAtPath (tree_on_disk t.disk t.pairs) path
+pub entry_to_set : (t : KeptThread) (path : Path) (kind : ℕ) (bytes : List ℕ) → CanSetAttrAtPath (tree_state_of_kept_thread t true false) path kind bytes → HasEntryAtPath (tree_on_disk t.disk t.pairs) path
 entry_to_set t path kind bytes can = record { entry = can.entry; parents = can.parents; something = can.something }
 
-pub entry_to_clear : (t : Kept) (path : Path) (kind : ℕ) → CanRemoveAttrAtPath (tree_state_of_kept_thread t true false) path kind → HasEntryAtPath (tree_on_disk t.disk t.pairs) path
+pub entry_to_clear : (t : KeptThread) (path : Path) (kind : ℕ) → CanRemoveAttrAtPath (tree_state_of_kept_thread t true false) path kind → HasEntryAtPath (tree_on_disk t.disk t.pairs) path
 entry_to_clear t path kind can = record { entry = can.entry; parents = can.parents; something = can.something }
 
 -- ---- what may be changed
 
-module _ (t : ThreadView) (root : ℕ) (rests : CanChangeRecoveredImage t root) (path : Path) (large : 1024 ≤ t.kept.disk.block_size) (bytes : HasBytes t.kept.disk.blocks) (spot : Spot) (slot : IsSpotOfPathSlot t.kept.pairs path spot)
-    (h : List CallEvent) where
+module _ (t : ThreadView) (root : ℕ) (rests : CanChangeRecoveredImage t root) (path : Path) (large : 1024 ≤ t.kept.disk.block_size) (bytes : AreAllBlockElementsBelow256 t.kept.disk.blocks) (spot : SlotPosition) (slot : IsSpotOfSlotAtPath t.kept.pairs path spot)
+    (h : List DeviceCallEvent) where
   abbrev before : Tree
   before = tree_on_disk t.kept.disk t.kept.pairs
 
@@ -119,9 +119,9 @@ module _ (t : ThreadView) (root : ℕ) (rests : CanChangeRecoveredImage t root) 
   name_is = ap last_name_of_path slot.is ∙ last_is slot.above slot.name ∙ sym slot.stands.stands.stands.named
 
   abbrev Fit : Slot → Type 0
-  Fit s = FitsSlotLimits t.kept.disk.block_size t.kept.disk.page s
+  Fit s = IsSlotWithinWritableLimits t.kept.disk.block_size t.kept.disk.page s
 
-  pub inline_fits : HasInlineBytesWithin (inline_limit t.kept.disk.block_size) found_slot.struct
+  pub inline_fits : HasInlineBytesWithinLimit (inline_limit t.kept.disk.block_size) found_slot.struct
   inline_fits =
       let place = slot.stands.stands.place in
       let stands = slot.stands.stands.stands in
@@ -138,8 +138,8 @@ module _ (t : ThreadView) (root : ℕ) (rests : CanChangeRecoveredImage t root) 
     can = can_edit;
     short = can.len;
     fits = record {
-      charge = subst (λ n. charge_of_entry t.kept.disk.block_size n (attributes_with_attribute kind given found_slot.attributes) ≤ entry_charge_limit t.kept.disk.block_size t.kept.disk.page) name_is
-          (subst (λ a. charge_of_entry t.kept.disk.block_size (last_name_of_path path) (attributes_with_attribute kind given a) ≤ entry_charge_limit t.kept.disk.block_size t.kept.disk.page) attributes_are (ltb-false _ _ can.fits));
+      charge = subst (λ n. entry_charge_with_longest_inline_contents t.kept.disk.block_size n (attributes_with_attribute kind given found_slot.attributes) ≤ charged_entry_size_limit_in_pair t.kept.disk.block_size t.kept.disk.page) name_is
+          (subst (λ a. entry_charge_with_longest_inline_contents t.kept.disk.block_size (last_name_of_path path) (attributes_with_attribute kind given a) ≤ charged_entry_size_limit_in_pair t.kept.disk.block_size t.kept.disk.page) attributes_are (ltb-false _ _ can.fits));
       inline = inline_fits;
     };
   }
@@ -147,8 +147,8 @@ module _ (t : ThreadView) (root : ℕ) (rests : CanChangeRecoveredImage t root) 
   pub slot_below : spot.pair < length t.kept.pairs
   slot_below = behind_below t.kept.pairs slot.first spot.pair slot.stands.stands.pair slot.stands.stands.rest slot.stands.stands.place
 
-  edited_at : (c : Kept) (f : Attributes → Attributes) (op : List ℕ → Operation) (given : List ℕ) (bs : List ℕ) → faults c.history ≡ faults t.kept.history → AreCallsSinceOnlyReads t.kept.disk.blocks t.kept.history h → ThreadChangesOnlyTheseBlocks bs (with_history t.kept h) c → AllByRecursion (IsPairsOrFree t.kept) bs
-      → HasAttributesChanged (with_history t.kept h) c slot.above slot.name f op → path_or_root given ≡ path → renames_to_itself (op given) ≡ false → is_recover_operation (op given) ≡ false → AppliesOperationOnThread t.kept (op given) c
+  edited_at : (c : KeptThread) (f : Attributes → Attributes) (op : List ℕ → Operation) (given : List ℕ) (bs : List ℕ) → fault_count_of_history c.history ≡ fault_count_of_history t.kept.history → AreCallsSinceOnlyReads t.kept.disk.blocks t.kept.history h → ThreadChangesOnlyTheseBlocks bs (with_history t.kept h) c → AllByRecursion (IsPairsOrFree t.kept) bs
+      → HasAttributesChanged (with_history t.kept h) c slot.above slot.name f op → path_of_bytes_or_root given ≡ path → renames_to_itself (op given) ≡ false → is_recover_operation (op given) ≡ false → AppliesOperationOnThread t.kept (op given) c
   edited_at c f op given bs quiet reads writes among is e other asks = carried t.kept h (op given) c
       (record {
         accepted = rests.held.sound.accepted;
@@ -164,47 +164,47 @@ module _ (t : ThreadView) (root : ℕ) (rests : CanChangeRecoveredImage t root) 
         no_fault = quiet;
       }) other asks
 
-  set_at : (c : Kept) (kind : ℕ) (bytes_given given : List ℕ) (bs : List ℕ) → CanSetAttrAtPath (tree_state_of_kept_thread t.kept true false) path kind bytes_given → faults c.history ≡ faults t.kept.history → AreCallsSinceOnlyReads t.kept.disk.blocks t.kept.history h → ThreadChangesOnlyTheseBlocks bs (with_history t.kept h) c
+  set_at : (c : KeptThread) (kind : ℕ) (bytes_given given : List ℕ) (bs : List ℕ) → CanSetAttrAtPath (tree_state_of_kept_thread t.kept true false) path kind bytes_given → fault_count_of_history c.history ≡ fault_count_of_history t.kept.history → AreCallsSinceOnlyReads t.kept.disk.blocks t.kept.history h → ThreadChangesOnlyTheseBlocks bs (with_history t.kept h) c
       → AllByRecursion (IsPairsOrFree t.kept) bs → ((set : CanSetAttribute (with_history t.kept h) spot.pair spot.id kind bytes_given) → HasSetAttribute (with_history t.kept h) c set.can.path set.can.name kind bytes_given)
-      → path_or_root given ≡ path → AppliesOperationOnThread t.kept (ops.SetAttr given kind bytes_given) c
+      → path_of_bytes_or_root given ≡ path → AppliesOperationOnThread t.kept (ops.SetAttr given kind bytes_given) c
   unfolding can_set can_edit
   set_at c kind bytes_given given bs can quiet reads writes among gives e =
       let is : HasSetAttribute (with_history t.kept h) c slot.above slot.name kind bytes_given = gives (can_set kind bytes_given can) in
       edited_at c (attributes_with_attribute kind bytes_given) (λ z. ops.SetAttr z kind bytes_given) given bs quiet reads writes among is e refl refl
 
-  cleared_at : (c : Kept) (kind : ℕ) (given : List ℕ) (bs : List ℕ) → faults c.history ≡ faults t.kept.history → AreCallsSinceOnlyReads t.kept.disk.blocks t.kept.history h → ThreadChangesOnlyTheseBlocks bs (with_history t.kept h) c → AllByRecursion (IsPairsOrFree t.kept) bs
-      → ((can : CanEditEntryOfPair (with_history t.kept h) spot.pair spot.id) → HasRemovedAttribute (with_history t.kept h) c can.path can.name kind) → path_or_root given ≡ path → AppliesOperationOnThread t.kept (ops.RemoveAttr given kind) c
+  cleared_at : (c : KeptThread) (kind : ℕ) (given : List ℕ) (bs : List ℕ) → fault_count_of_history c.history ≡ fault_count_of_history t.kept.history → AreCallsSinceOnlyReads t.kept.disk.blocks t.kept.history h → ThreadChangesOnlyTheseBlocks bs (with_history t.kept h) c → AllByRecursion (IsPairsOrFree t.kept) bs
+      → ((can : CanEditEntryOfPair (with_history t.kept h) spot.pair spot.id) → HasRemovedAttribute (with_history t.kept h) c can.path can.name kind) → path_of_bytes_or_root given ≡ path → AppliesOperationOnThread t.kept (ops.RemoveAttr given kind) c
   unfolding can_edit
   cleared_at c kind given bs quiet reads writes among gives e =
       let is : HasRemovedAttribute (with_history t.kept h) c slot.above slot.name kind = gives can_edit in
       edited_at c (attributes_without_attribute kind) (λ z. ops.RemoveAttr z kind) given bs quiet reads writes among is e refl refl
 
   -- the pair holds the slot of the path
-  edited_alone : (c : Kept) (op : Operation) (files : Files) (given : List ℕ) (fresh : List ℕ) → paths_changed_by_operation (record { tree = tree_on_disk t.kept.disk t.kept.pairs; files = files }) op ≡ path_or_root given ∷ [] → path_or_root given ≡ path
-      → AllByRecursion (IsFree t.kept.map) fresh → ThreadChangesOnlyTheseBlocks ((kept_pair_at_index t.kept spot.pair).at.0 ∷ (kept_pair_at_index t.kept spot.pair).at.1 ∷ fresh) (with_history t.kept h) c
+  edited_alone : (c : KeptThread) (op : Operation) (files : OpenFilesByNumber) (given : List ℕ) (fresh : List ℕ) → paths_changed_by_operation (record { tree = tree_on_disk t.kept.disk t.kept.pairs; files = files }) op ≡ path_of_bytes_or_root given ∷ [] → path_of_bytes_or_root given ≡ path
+      → AllByRecursion (IsBlockFree t.kept.map) fresh → ThreadChangesOnlyTheseBlocks ((thread_pair_at_index t.kept spot.pair).at.0 ∷ (thread_pair_at_index t.kept spot.pair).at.1 ∷ fresh) (with_history t.kept h) c
       → LeavesUnrelatedBlocksUnchanged t.kept.disk t.kept.pairs (record { tree = tree_on_disk t.kept.disk t.kept.pairs; files = files }) op c.disk c.pairs
   edited_alone c op files given fresh about e free w =
       let s = slot.stands.stands in
-      let is : kept_pair_at_index t.kept spot.pair ≡ s.pair = here (with_history t.kept h) (ready_to t root h rests large) slot.first spot.pair s.pair s.rest s.place in
+      let is : thread_pair_at_index t.kept spot.pair ≡ s.pair = here (with_history t.kept h) (ready_to t root h rests large) slot.first spot.pair s.pair s.rest s.place in
       rest_left_alone (with_history t.kept h) c slot.first spot.pair s.pair s.rest fresh (record { tree = tree_on_disk t.kept.disk t.kept.pairs; files = files }) op
       rests.held.sound.accepted rests.held.sound.used s.place free
       (subst (λ (z : Pair). ThreadChangesOnlyTheseBlocks (z.at.0 ∷ z.at.1 ∷ fresh) (with_history t.kept h) c) is w)
       (λ has n. n (subst (Any (IsPairWithSlotOfPath t.kept.pairs s.pair)) (sym about)
-      (about_one (IsPairWithSlotOfPath t.kept.pairs s.pair) (path_or_root given) (slot.above ++ slot.name ∷ []) (e ∙ slot.is)
+      (about_one (IsPairWithSlotOfPath t.kept.pairs s.pair) (path_of_bytes_or_root given) (slot.above ++ slot.name ∷ []) (e ∙ slot.is)
       (holds_slot t.kept.pairs slot.above slot.stands.on.at slot.first slot.name spot.pair spot.id rests.held.sound.accepted.thread.distinct slot.stands.on.leads slot.stands.on.begins s))))
 
-  edit_survives : (c : Kept) (f : Attributes → Attributes) (bs : List ℕ) → AreCallsSinceOnlyReads t.kept.disk.blocks t.kept.history h → ThreadChangesOnlyTheseBlocks bs (with_history t.kept h) c
+  edit_survives : (c : KeptThread) (f : Attributes → Attributes) (bs : List ℕ) → AreCallsSinceOnlyReads t.kept.disk.blocks t.kept.history h → ThreadChangesOnlyTheseBlocks bs (with_history t.kept h) c
       → SurvivesWithOldOrNewTree (with_history t.kept h) c (tree_with_attributes_at t.kept slot.above slot.name f) → SurvivesWithOldOrNewTree t.kept c (tree_with_attributes_changed path f (tree_on_disk t.kept.disk t.kept.pairs))
   edit_survives c f bs reads writes k =
       subst (λ p. SurvivesWithOldOrNewTree t.kept c (tree_with_attributes_changed p f (tree_on_disk t.kept.disk t.kept.pairs))) (sym slot.is) (survives_behind t root rests h c bs (tree_with_attributes_at t.kept slot.above slot.name f) reads writes k)
 
-  set_survives : (c : Kept) (kind : ℕ) (bytes_given : List ℕ) (bs : List ℕ) → CanSetAttrAtPath (tree_state_of_kept_thread t.kept true false) path kind bytes_given → AreCallsSinceOnlyReads t.kept.disk.blocks t.kept.history h → ThreadChangesOnlyTheseBlocks bs (with_history t.kept h) c
+  set_survives : (c : KeptThread) (kind : ℕ) (bytes_given : List ℕ) (bs : List ℕ) → CanSetAttrAtPath (tree_state_of_kept_thread t.kept true false) path kind bytes_given → AreCallsSinceOnlyReads t.kept.disk.blocks t.kept.history h → ThreadChangesOnlyTheseBlocks bs (with_history t.kept h) c
       → ((set : CanSetAttribute (with_history t.kept h) spot.pair spot.id kind bytes_given) → SurvivesWithOldOrNewTree (with_history t.kept h) c (tree_with_attributes_at (with_history t.kept h) set.can.path set.can.name (attributes_with_attribute kind bytes_given)))
       → SurvivesWithOldOrNewTree t.kept c (tree_with_attributes_changed path (attributes_with_attribute kind bytes_given) (tree_on_disk t.kept.disk t.kept.pairs))
   unfolding can_set can_edit
   set_survives c kind bytes_given bs can reads writes gives = edit_survives c (attributes_with_attribute kind bytes_given) bs reads writes (gives (can_set kind bytes_given can))
 
-  cleared_survives : (c : Kept) (kind : ℕ) (bs : List ℕ) → AreCallsSinceOnlyReads t.kept.disk.blocks t.kept.history h → ThreadChangesOnlyTheseBlocks bs (with_history t.kept h) c
+  cleared_survives : (c : KeptThread) (kind : ℕ) (bs : List ℕ) → AreCallsSinceOnlyReads t.kept.disk.blocks t.kept.history h → ThreadChangesOnlyTheseBlocks bs (with_history t.kept h) c
       → ((can : CanEditEntryOfPair (with_history t.kept h) spot.pair spot.id) → SurvivesWithOldOrNewTree (with_history t.kept h) c (tree_with_attributes_at (with_history t.kept h) can.path can.name (attributes_without_attribute kind)))
       → SurvivesWithOldOrNewTree t.kept c (tree_with_attributes_changed path (attributes_without_attribute kind) (tree_on_disk t.kept.disk t.kept.pairs))
   unfolding can_edit
@@ -212,19 +212,19 @@ module _ (t : ThreadView) (root : ℕ) (rests : CanChangeRecoveredImage t root) 
 
   -- ---- all that is said of it
 
-  pub set_does : (new : ThreadView) (r : Result (Unit {0}) Error) (kind : ℕ) (value given : List ℕ) → path_or_root given ≡ path → CanSetAttrAtPath (tree_state_of_kept_thread t.kept true false) path kind value → faults h ≡ faults t.kept.history → AreCallsSinceOnlyReads t.kept.disk.blocks t.kept.history h
+  pub set_does : (new : ThreadView) (r : Result (Unit {0}) Error) (kind : ℕ) (value given : List ℕ) → path_of_bytes_or_root given ≡ path → CanSetAttrAtPath (tree_state_of_kept_thread t.kept true false) path kind value → fault_count_of_history h ≡ fault_count_of_history t.kept.history → AreCallsSinceOnlyReads t.kept.disk.blocks t.kept.history h
       → WritesPairAndTwoFreeBlocks (with_history t.kept h) spot.pair new.kept → OnOk r ((set : CanSetAttribute (with_history t.kept h) spot.pair spot.id kind value) → HasSetAttribute (with_history t.kept h) new.kept set.can.path set.can.name kind value)
       → ReportsFaultsSince h new.kept.history r → OnOk r (new.failed ≡ false)
       → ((set : CanSetAttribute (with_history t.kept h) spot.pair spot.id kind value) → SurvivesWithOldOrNewTree (with_history t.kept h) new.kept (tree_with_attributes_at (with_history t.kept h) set.can.path set.can.name (attributes_with_attribute kind value)))
-      → AppliesCallOnThread t (call.SetAttr path kind value) r new
+      → AppliesCallOnThreadOrFails t (call.SetAttr path kind value) r new
   set_does new r kind value given named can quiet reads w gives reported works survives =
       changed t new (HasAppliedCall t.kept (call.SetAttr path kind value)) (tree_after_call (call.SetAttr path kind value) before) h _ r quiet reads w.writes reported works (go r gives (quiet_reported t.kept new.kept h r quiet reported)) (set_survives new.kept kind value _ can reads w.writes survives)
     where
       go : (r : Result (Unit {0}) Error) → OnOk r ((set : CanSetAttribute (with_history t.kept h) spot.pair spot.id kind value) → HasSetAttribute (with_history t.kept h) new.kept set.can.path set.can.name kind value)
-          → OnOk r (faults new.kept.history ≡ faults t.kept.history) → OnOk r (HasAppliedCall t.kept (call.SetAttr path kind value) new.kept × HasSoundImageOfTree t.kept (tree_after_call (call.SetAttr path kind value) before) new.kept)
+          → OnOk r (fault_count_of_history new.kept.history ≡ fault_count_of_history t.kept.history) → OnOk r (HasAppliedCall t.kept (call.SetAttr path kind value) new.kept × HasSoundImageOfTree t.kept (tree_after_call (call.SetAttr path kind value) before) new.kept)
       go (Err e) gives same = tt
       go (Ok x) gives same =
-          let at : (given : List ℕ) → path_or_root given ≡ path → AppliesOperationOnThread t.kept (ops.SetAttr given kind value) new.kept
+          let at : (given : List ℕ) → path_of_bytes_or_root given ≡ path → AppliesOperationOnThread t.kept (ops.SetAttr given kind value) new.kept
           = λ given e. set_at new.kept kind value given _ can same reads w.writes (among_one t.kept spot.pair w.fresh slot_below w.free) gives e in (
             record {
               carries = does_set (λ op. AppliesOperationOnThread t.kept op new.kept) path kind value at;
@@ -233,19 +233,19 @@ module _ (t : ThreadView) (root : ℕ) (rests : CanChangeRecoveredImage t root) 
             set_stands t.kept new.kept path kind value given named (at given named) (gives (can_set kind value can)).now.root,
           )
 
-  pub clear_does : (new : ThreadView) (r : Result (Unit {0}) Error) (kind : ℕ) (given : List ℕ) → path_or_root given ≡ path → faults h ≡ faults t.kept.history → AreCallsSinceOnlyReads t.kept.disk.blocks t.kept.history h
-      → ThreadChangesOnlyTheseBlocks (blocks_of_address (kept_pair_at_index t.kept spot.pair).at) (with_history t.kept h) new.kept → OnOk r ((can : CanEditEntryOfPair (with_history t.kept h) spot.pair spot.id) → HasRemovedAttribute (with_history t.kept h) new.kept can.path can.name kind)
+  pub clear_does : (new : ThreadView) (r : Result (Unit {0}) Error) (kind : ℕ) (given : List ℕ) → path_of_bytes_or_root given ≡ path → fault_count_of_history h ≡ fault_count_of_history t.kept.history → AreCallsSinceOnlyReads t.kept.disk.blocks t.kept.history h
+      → ThreadChangesOnlyTheseBlocks (blocks_of_pair_address (thread_pair_at_index t.kept spot.pair).at) (with_history t.kept h) new.kept → OnOk r ((can : CanEditEntryOfPair (with_history t.kept h) spot.pair spot.id) → HasRemovedAttribute (with_history t.kept h) new.kept can.path can.name kind)
       → ReportsFaultsSince h new.kept.history r → OnOk r (new.failed ≡ false)
       → ((can : CanEditEntryOfPair (with_history t.kept h) spot.pair spot.id) → SurvivesWithOldOrNewTree (with_history t.kept h) new.kept (tree_with_attributes_at (with_history t.kept h) can.path can.name (attributes_without_attribute kind)))
-      → AppliesCallOnThread t (call.RemoveAttr path kind) r new
+      → AppliesCallOnThreadOrFails t (call.RemoveAttr path kind) r new
   clear_does new r kind given named quiet reads w gives reported works survives =
       changed t new (HasAppliedCall t.kept (call.RemoveAttr path kind)) (tree_after_call (call.RemoveAttr path kind) before) h _ r quiet reads w reported works (go r gives (quiet_reported t.kept new.kept h r quiet reported)) (cleared_survives new.kept kind _ reads w survives)
     where
       go : (r : Result (Unit {0}) Error) → OnOk r ((can : CanEditEntryOfPair (with_history t.kept h) spot.pair spot.id) → HasRemovedAttribute (with_history t.kept h) new.kept can.path can.name kind)
-          → OnOk r (faults new.kept.history ≡ faults t.kept.history) → OnOk r (HasAppliedCall t.kept (call.RemoveAttr path kind) new.kept × HasSoundImageOfTree t.kept (tree_after_call (call.RemoveAttr path kind) before) new.kept)
+          → OnOk r (fault_count_of_history new.kept.history ≡ fault_count_of_history t.kept.history) → OnOk r (HasAppliedCall t.kept (call.RemoveAttr path kind) new.kept × HasSoundImageOfTree t.kept (tree_after_call (call.RemoveAttr path kind) before) new.kept)
       go (Err e) gives same = tt
       go (Ok x) gives same =
-          let at : (given : List ℕ) → path_or_root given ≡ path → AppliesOperationOnThread t.kept (ops.RemoveAttr given kind) new.kept
+          let at : (given : List ℕ) → path_of_bytes_or_root given ≡ path → AppliesOperationOnThread t.kept (ops.RemoveAttr given kind) new.kept
           = λ given e. cleared_at new.kept kind given _ same reads w (among_one t.kept spot.pair [] slot_below tt) gives e in (
             record {
               carries = does_clear (λ op. AppliesOperationOnThread t.kept op new.kept) path kind at;

@@ -5,7 +5,7 @@ use Rattle.std.specs.Option.{option_and_then}
 use Rattle.std.proofs.lemmas.Bool.{ltb-false}
 use Rattle.std.proofs.lemmas.List.{length-map}
 use Rattle.std.proofs.lemmas.Option.{same_Some, slice_get_within}
-use Rattle.lfs_device.specs.Bytes.{HasBytes}
+use Rattle.lfs_device.specs.Bytes.{AreAllBlockElementsBelow256}
 use Rattle.lfs_device.specs.declared.error.Error.{Error}
 use Rattle.lfs_device.specs.declared.error.Error.TheVariants.{Io, NoMemory}
 use Rattle.lfs_writer.specs.SettledFiles.{ChangesOnlyBlockMap}
@@ -14,37 +14,37 @@ use Rattle.lfs_model.proofs.Orders.{length_in_order}
 use Rattle.lfs_model.specs.declared.order.NameOrder.TheVariants.{ShorterFirst}
 use Rattle.lfs_model.specs.TreeEdits.{names_of_directory_node, tree_after_removal}
 use Rattle.lfs_model.specs.Disk.{Disk}
-use Rattle.lfs_model.specs.History.{CallEvent, AreCallsSinceOnlyReads, faults}
+use Rattle.lfs_model.specs.History.{DeviceCallEvent, AreCallsSinceOnlyReads, fault_count_of_history}
 use Rattle.lfs_model.specs.Operations as ops
 use Rattle.lfs_model.specs.Slots.{Slot, Struct, Inline, Ctz, Branch}
-use Rattle.lfs_model.specs.Refusals.{path_or_root}
+use Rattle.lfs_model.specs.Refusals.{path_of_bytes_or_root}
 use Rattle.lfs_model.specs.Thread.{Pair, pair_count_before_root}
-use Rattle.lfs_model.specs.Tree.{names_of_directory_at, Path, Tree, branch_address_of_struct}
+use Rattle.lfs_model.specs.Tree.{names_of_directory_at_address, Path, Tree, branch_address_of_struct}
 use Rattle.lfs_model.specs.Shown.{IsPathToDirectory, entries_by_directory_in_thread, tree_on_disk, used_blocks}
-use Rattle.lfs_model.proofs.BlockSets.{Contains-count, count-Contains}
-use Rattle.lfs_model.proofs.Committed.{IsCompleted, no_move_from}
+use Rattle.lfs_model.proofs.BlockSets.{Contains-occurrence_count_of_number, occurrence_count_of_number-Contains}
+use Rattle.lfs_model.proofs.Committed.{IsImageAfterCompletedOperation, no_move_from}
 use Rattle.lfs_operations.specs.Dropping.{HasSameBlocksInFlight}
-use Rattle.lfs_operations.specs.Ready.{IsImageReadyForChange, IsReadyOnceBlocksSettle}
-use Rattle.lfs_operations.specs.Removing.{IsFileRemoved, ReportsCommitTakingNoBlock, pair_address_written_by_removal}
-use Rattle.lfs_operations.specs.Unlinking.{CanRemoveDirectory, IsDirectoryRemoved, ReportsCommitsTakingNoBlock}
-use Rattle.lfs_thread.specs.Device.{blocks_of_two_addresses}
-use Rattle.lfs_thread.specs.Kept.{Kept, ThreadView}
-use Rattle.lfs_thread.specs.Steps.{ThreadChangesOnlyTheseBlocks, kept_pair_at_index}
-use Rattle.lfs_operations.specs.MovingSteps.{WritesPairsAndFreeBlocks}
+use Rattle.lfs_operations.specs.Ready.{IsImageReadyForChange, IsImageReadyOnceMapIsUpdated}
+use Rattle.lfs_operations.specs.Removing.{IsFileRemoved, ReportsErrorsOfCommitTakingNoBlock, pair_address_written_by_removal}
+use Rattle.lfs_operations.specs.Unlinking.{CanRemoveDirectory, IsDirectoryRemoved, ReportsErrorsOfCommitsTakingNoBlock}
+use Rattle.lfs_thread.specs.Device.{blocks_of_two_pair_addresses}
+use Rattle.lfs_thread.specs.Kept.{KeptThread, ThreadView}
+use Rattle.lfs_thread.specs.Steps.{ThreadChangesOnlyTheseBlocks, thread_pair_at_index}
+use Rattle.lfs_operations.specs.MovingSteps.{WritesOnlyThreadPairsAndFreeBlocks}
 use Rattle.lfs_tree.specs.Permissions.{CanRemoveEntryAtPath}
 use Rattle.lfs_tree.specs.Calls as call
 use Rattle.lfs_tree.specs.Calls.{tree_after_call}
-use Rattle.lfs_tree.specs.TreeChanges.{AppliesOperationOnThread, HasAppliedCall, CanChangeRecoveredImage, AppliesCallOnThread, SparesBlocksOutsideOperation, HasSoundImageOfTree, SurvivesWithOldOrNewTree}
-use Rattle.lfs_tree.specs.SlotChanges.{HasEntryAtPath, IsSpotOfPathSlot, is_entry_found}
+use Rattle.lfs_tree.specs.TreeChanges.{AppliesOperationOnThread, HasAppliedCall, CanChangeRecoveredImage, AppliesCallOnThreadOrFails, SparesBlocksOutsideOperation, HasSoundImageOfTree, SurvivesWithOldOrNewTree}
+use Rattle.lfs_tree.specs.SlotChanges.{HasEntryAtPath, IsSpotOfSlotAtPath, is_entry_found}
 use Rattle.lfs_lookup.specs.Entry.{IsStorageOfStruct}
 use Rattle.lfs_tree.specs.Removals.{CanRemoveFoundEntry, HasRemovedEntry, SparesOtherBlocksInRemoval, IsEntryFoundForPath}
 use Rattle.lfs_tree.specs.RootedThreads.{tree_state_of_kept_thread}
-use Rattle.lfs_lookup.specs.Paths.{PathLeadsToFound, IsSlotOfNameBelowPath}
+use Rattle.lfs_lookup.specs.Paths.{PathLeadsToLookupResult, IsSlotOfNameBelowPath}
 use Rattle.lfs_lookup.specs.declared.entry.FileStorage.{FileStorage}
 use Rattle.lfs_lookup.specs.declared.entry.FileStorage.TheVariants as contents
-use Rattle.lfs_lookup.specs.declared.paths.Found.{Found}
-use Rattle.lfs_lookup.specs.declared.paths.Found.TheVariants as found
-use Rattle.lfs_lookup.specs.declared.search.Spot.{Spot}
+use Rattle.lfs_lookup.specs.declared.paths.PathLookup.{PathLookup}
+use Rattle.lfs_lookup.specs.declared.paths.PathLookup.TheVariants as found
+use Rattle.lfs_lookup.specs.declared.search.SlotPosition.{SlotPosition}
 use Rattle.lfs_lookup.proofs.AtPaths.{directory_at_path}
 use Rattle.lfs_tree.proofs.Carried.{among_one, behind_below, carried, with_history}
 use Rattle.lfs_tree.proofs.CarryEdited.{can_edit, slot_found}
@@ -56,10 +56,10 @@ use Rattle.lfs_tree.proofs.EmptyDirectories.{at_there, bare_there}
 
 -- ---- what is found
 
-pub entry_on : (t : Kept) (path : Path) (f : Found) → HasEntryAtPath (tree_on_disk t.disk t.pairs) path → PathLeadsToFound t path f → IsEntryFoundForPath t.disk.order t.pairs path f
+pub entry_on : (t : KeptThread) (path : Path) (f : PathLookup) → HasEntryAtPath (tree_on_disk t.disk t.pairs) path → PathLeadsToLookupResult t path f → IsEntryFoundForPath t.disk.order t.pairs path f
 entry_on t path f v l = go f l (slot_found t path f v l)
   where
-    go : (f : Found) → PathLeadsToFound t path f → is_entry_found f ≡ true → IsEntryFoundForPath t.disk.order t.pairs path f
+    go : (f : PathLookup) → PathLeadsToLookupResult t path f → is_entry_found f ≡ true → IsEntryFoundForPath t.disk.order t.pairs path f
     go found.Root l e = absurd (cc)
     go found.ParentIsFile l e = absurd (cc)
     go found.ParentIsMissing l e = absurd (cc)
@@ -67,7 +67,7 @@ entry_on t path f v l = go f l (slot_found t path f v l)
     go (found.Directory parent slot first) l e = record { ends = l.there; has = e }
     go (found.File parent slot contents) l e = record { ends = l.there; has = e }
 
-pub entry_to_remove : (t : Kept) (path : Path) → CanRemoveEntryAtPath (tree_state_of_kept_thread t true false) path → HasEntryAtPath (tree_on_disk t.disk t.pairs) path
+pub entry_to_remove : (t : KeptThread) (path : Path) → CanRemoveEntryAtPath (tree_state_of_kept_thread t true false) path → HasEntryAtPath (tree_on_disk t.disk t.pairs) path
 entry_to_remove t path can = record { entry = can.entry; parents = can.parents; something = can.something }
 
 file_branch : (c : FileStorage) (s : Struct) → IsStorageOfStruct c s → branch_address_of_struct s ≡ None
@@ -82,26 +82,26 @@ branch_is (Branch at) to e = ap Branch (same_Some at to e)
 -- ---- what may go
 
 -- a directory without names has no entries
-pub none_entered : (t : Kept) (path : Path) → nat_lt 0 (length (names_of_directory_node (tree_on_disk t.disk t.pairs path))) ≡ false → (at : ℕ × ℕ) → IsPathToDirectory t.pairs path at → entries_by_directory_in_thread t.pairs at ≡ []
+pub none_entered : (t : KeptThread) (path : Path) → nat_lt 0 (length (names_of_directory_node (tree_on_disk t.disk t.pairs path))) ≡ false → (at : ℕ × ℕ) → IsPathToDirectory t.pairs path at → entries_by_directory_in_thread t.pairs at ≡ []
 none_entered t path bare at leads =
     let d = directory_at_path t.disk t.pairs path at leads in
     let none = ltb-false 0 (length (names_of_directory_node (tree_on_disk t.disk t.pairs path))) bare in
     let e = ap (λ o. length (names_of_directory_node o)) d.is in
-    let l = length_in_order ShorterFirst (names_of_directory_at (entries_by_directory_in_thread t.pairs) at) ∙ length-map (entries_by_directory_in_thread t.pairs at) (λ (s : Slot). s.name) in
+    let l = length_in_order ShorterFirst (names_of_directory_at_address (entries_by_directory_in_thread t.pairs) at) ∙ length-map (entries_by_directory_in_thread t.pairs at) (λ (s : Slot). s.name) in
     empty (entries_by_directory_in_thread t.pairs at) (omega arith)
   where
     empty : (xs : List Slot) → length xs ≤ 0 → xs ≡ []
     empty [] l = refl
     empty (x ∷ xs) l = absurd (omega arith)
 
-module _ (t : ThreadView) (root : ℕ) (rests : CanChangeRecoveredImage t root) (path : Path) (large : 1024 ≤ t.kept.disk.block_size) (bytes : HasBytes t.kept.disk.blocks) (can : CanRemoveEntryAtPath (tree_state_of_kept_thread t.kept true false) path) (h : List CallEvent) where
+module _ (t : ThreadView) (root : ℕ) (rests : CanChangeRecoveredImage t root) (path : Path) (large : 1024 ≤ t.kept.disk.block_size) (bytes : AreAllBlockElementsBelow256 t.kept.disk.blocks) (can : CanRemoveEntryAtPath (tree_state_of_kept_thread t.kept true false) path) (h : List DeviceCallEvent) where
   no_entries : (at : ℕ × ℕ) → IsPathToDirectory t.kept.pairs path at → entries_by_directory_in_thread t.kept.pairs at ≡ []
   no_entries at leads = none_entered t.kept path can.empty at leads
 
-  slot_on : (parent : ℕ) (slot : Spot) (ends_above : Path) (name : List ℕ) → path ≡ ends_above ++ name ∷ [] → IsSlotOfNameBelowPath t.kept.pairs ends_above name parent slot → IsSpotOfPathSlot t.kept.pairs path slot
+  slot_on : (parent : ℕ) (slot : SlotPosition) (ends_above : Path) (name : List ℕ) → path ≡ ends_above ++ name ∷ [] → IsSlotOfNameBelowPath t.kept.pairs ends_above name parent slot → IsSpotOfSlotAtPath t.kept.pairs path slot
   slot_on parent slot above name is stands = record { above = above; name = name; first = parent; is = is; stands = stands }
 
-  pub can_go : (f : Found) → IsEntryFoundForPath t.kept.disk.order t.kept.pairs path f → CanRemoveFoundEntry (with_history t.kept h) path f
+  pub can_go : (f : PathLookup) → IsEntryFoundForPath t.kept.disk.order t.kept.pairs path f → CanRemoveFoundEntry (with_history t.kept h) path f
   unfolding can_edit slot_on
   can_go found.Root on = absurd (let e = on.has in cc)
   can_go found.ParentIsFile on = absurd (let e = on.has in cc)
@@ -139,20 +139,20 @@ module _ (t : ThreadView) (root : ℕ) (rests : CanChangeRecoveredImage t root) 
 
 -- ---- what comes of it
 
-ready_from : (t : Kept) → IsReadyOnceBlocksSettle t [] [] → IsImageReadyForChange t
+ready_from : (t : KeptThread) → IsImageReadyOnceMapIsUpdated t [] [] → IsImageReadyForChange t
 ready_from t r = record {
   accepted = r.accepted;
   writable = r.writable;
   settled = r.settled;
   used = λ b. (
-    (λ h. Contains-count (used_blocks t.disk t.pairs) b (let k = count-Contains r.used.owned b ((r.used.are b).0 h) in let e = r.used.same b in omega arith)),
-    (λ h. (r.used.are b).1 (Contains-count r.used.owned b (let k = count-Contains (used_blocks t.disk t.pairs) b h in let e = r.used.same b in omega arith))),
+    (λ h. Contains-occurrence_count_of_number (used_blocks t.disk t.pairs) b (let k = occurrence_count_of_number-Contains r.used.owned b ((r.used.are b).0 h) in let e = r.used.same b in omega arith)),
+    (λ h. (r.used.are b).1 (Contains-occurrence_count_of_number r.used.owned b (let k = occurrence_count_of_number-Contains (used_blocks t.disk t.pairs) b h in let e = r.used.same b in omega arith))),
   );
   size = r.size;
   large = r.large;
 }
 
-pub directory_gone : (old new : Kept) (path above : Path) (name : List ℕ) → path ≡ above ++ name ∷ [] → IsDirectoryRemoved old new above name → HasRemovedEntry old path new
+pub directory_gone : (old new : KeptThread) (path above : Path) (name : List ℕ) → path ≡ above ++ name ∷ [] → IsDirectoryRemoved old new above name → HasRemovedEntry old path new
 directory_gone old new path above name e is = record {
   ready = ready_from new is.now.ready;
   flying = is.now.flying;
@@ -161,18 +161,18 @@ directory_gone old new path above name e is = record {
 }
 
 -- a file, whose list is freed behind it
-pub file_gone : (old mid new : Kept) (path above : Path) (name : List ℕ) (struct : Struct) → path ≡ above ++ name ∷ [] → IsFileRemoved old mid above name struct → ChangesOnlyBlockMap mid new → IsImageReadyForChange new → HasSameBlocksInFlight mid.map new.map → HasRemovedEntry old path new
+pub file_gone : (old mid new : KeptThread) (path above : Path) (name : List ℕ) (struct : Struct) → path ≡ above ++ name ∷ [] → IsFileRemoved old mid above name struct → ChangesOnlyBlockMap mid new → IsImageReadyForChange new → HasSameBlocksInFlight mid.map new.map → HasRemovedEntry old path new
 file_gone old mid new path above name struct e is only ready flying = record {
   ready = ready;
   flying = λ b. ((λ flies. (is.now.flying b).0 ((flying b).0 flies)), (λ flies. (flying b).1 ((is.now.flying b).1 flies)));
   root = ap pair_count_before_root only.pairs ∙ is.now.root;
-  completed = λ s given tree given_is. subst (λ (d : Disk). IsCompleted old.disk old.pairs s (ops.Remove given) d new.pairs) (sym only.disk)
-      (subst (λ (ps : List Pair). IsCompleted old.disk old.pairs s (ops.Remove given) mid.disk ps) (sym only.pairs) (is.completed s given tree (given_is ∙ e)));
+  completed = λ s given tree given_is. subst (λ (d : Disk). IsImageAfterCompletedOperation old.disk old.pairs s (ops.Remove given) d new.pairs) (sym only.disk)
+      (subst (λ (ps : List Pair). IsImageAfterCompletedOperation old.disk old.pairs s (ops.Remove given) mid.disk ps) (sym only.pairs) (is.completed s given tree (given_is ∙ e)));
 }
 
-pub directory_writes : (old new : Kept) (pair id first gone : ℕ) → CanRemoveDirectory old pair id first gone → ThreadChangesOnlyTheseBlocks (blocks_of_two_addresses (pair_address_written_by_removal old pair first) (kept_pair_at_index old (gone - 1)).at) old new → WritesPairsAndFreeBlocks old new
+pub directory_writes : (old new : KeptThread) (pair id first gone : ℕ) → CanRemoveDirectory old pair id first gone → ThreadChangesOnlyTheseBlocks (blocks_of_two_pair_addresses (pair_address_written_by_removal old pair first) (thread_pair_at_index old (gone - 1)).at) old new → WritesOnlyThreadPairsAndFreeBlocks old new
 directory_writes old new pair id first gone take w = record {
-  blocks = blocks_of_two_addresses (pair_address_written_by_removal old pair first) (kept_pair_at_index old (gone - 1)).at;
+  blocks = blocks_of_two_pair_addresses (pair_address_written_by_removal old pair first) (thread_pair_at_index old (gone - 1)).at;
   each = (
       let k = written_pairs old pair first (behind_below old.pairs take.can.first pair take.can.stands.pair take.can.stands.rest take.can.stands.place) in
       let b = take.below in
@@ -181,8 +181,8 @@ directory_writes old new pair id first gone take w = record {
   writes = w;
 }
 
-module _ (t : ThreadView) (root : ℕ) (rests : CanChangeRecoveredImage t root) (path : Path) (h : List CallEvent) (c : Kept) (reads : AreCallsSinceOnlyReads t.kept.disk.blocks t.kept.history h) (w : WritesPairsAndFreeBlocks (with_history t.kept h) c) where
-  removed_at : (given : List ℕ) → HasRemovedEntry (with_history t.kept h) path c → faults c.history ≡ faults t.kept.history → path_or_root given ≡ path → AppliesOperationOnThread t.kept (ops.Remove given) c
+module _ (t : ThreadView) (root : ℕ) (rests : CanChangeRecoveredImage t root) (path : Path) (h : List DeviceCallEvent) (c : KeptThread) (reads : AreCallsSinceOnlyReads t.kept.disk.blocks t.kept.history h) (w : WritesOnlyThreadPairsAndFreeBlocks (with_history t.kept h) c) where
+  removed_at : (given : List ℕ) → HasRemovedEntry (with_history t.kept h) path c → fault_count_of_history c.history ≡ fault_count_of_history t.kept.history → path_of_bytes_or_root given ≡ path → AppliesOperationOnThread t.kept (ops.Remove given) c
   removed_at given g quiet e = carried t.kept h (ops.Remove given) c
       (record {
         accepted = rests.held.sound.accepted;
@@ -204,7 +204,7 @@ same_err : {X : Type 0} (a b : Error) (r : Result X Error) → r ≡ Err a → r
 same_err a b r h k = cc
 
 -- an error of one call that is passed on
-pub steps_from : {X Y : Type 0} (old new : ThreadView) (e : Error) (result : Result X Error) (given : Result Y Error) → result ≡ Err e → given ≡ Err e → ReportsCommitTakingNoBlock old new result → ReportsCommitsTakingNoBlock old new given
+pub steps_from : {X Y : Type 0} (old new : ThreadView) (e : Error) (result : Result X Error) (given : Result Y Error) → result ≡ Err e → given ≡ Err e → ReportsErrorsOfCommitTakingNoBlock old new result → ReportsErrorsOfCommitsTakingNoBlock old new given
 steps_from {X} {Y} old new e result given is same t = record {
   failed = t.failed ∙ ap is_err is ∙ sym (ap is_err same);
   errors = subst (λ (r : Result Y Error). IfErr r (λ x. (x ≡ Io) ⊎ (x ≡ NoMemory))) (sym same) (subst (λ (r : Result X Error). IfErr r (λ x. (x ≡ Io) ⊎ (x ≡ NoMemory))) is t.reported.errors);
@@ -213,7 +213,7 @@ steps_from {X} {Y} old new e result given is same t = record {
 }
 
 -- a call that answered, and another
-pub steps_both : {X Y : Type 0} (old mid new : ThreadView) (x : X) (result : Result X Error) (given : Result Y Error) → result ≡ Ok x → ReportsCommitTakingNoBlock old mid result → new.failed ≡ is_err given → ReportsFaultOrNoMemory mid.kept new.kept given → ReportsCommitsTakingNoBlock old new given
+pub steps_both : {X Y : Type 0} (old mid new : ThreadView) (x : X) (result : Result X Error) (given : Result Y Error) → result ≡ Ok x → ReportsErrorsOfCommitTakingNoBlock old mid result → new.failed ≡ is_err given → ReportsFaultOrNoMemory mid.kept new.kept given → ReportsErrorsOfCommitsTakingNoBlock old new given
 steps_both old mid new x result given is t failed w =
     let same = t.reported.no_fault (λ io. let z = sym is ∙ io in absurd (cc)) in
     record {
@@ -226,11 +226,11 @@ steps_both old mid new x result given is t failed w =
 -- ---- a loss of power on the way
 
 -- an entry of a path
-pub removal_survives : (old new : Kept) (path above : Path) (name : List ℕ) → path ≡ above ++ name ∷ [] → SurvivesWithOldOrNewTree old new (tree_after_removal (above ++ name ∷ []) (tree_on_disk old.disk old.pairs)) → SurvivesWithOldOrNewTree old new (tree_after_removal path (tree_on_disk old.disk old.pairs))
+pub removal_survives : (old new : KeptThread) (path above : Path) (name : List ℕ) → path ≡ above ++ name ∷ [] → SurvivesWithOldOrNewTree old new (tree_after_removal (above ++ name ∷ []) (tree_on_disk old.disk old.pairs)) → SurvivesWithOldOrNewTree old new (tree_after_removal path (tree_on_disk old.disk old.pairs))
 removal_survives old new path above name e k = subst (λ p. SurvivesWithOldOrNewTree old new (tree_after_removal p (tree_on_disk old.disk old.pairs))) (sym e) k
 
 -- a file, whose list is freed behind it
-pub freeing_survives : (old mid new : Kept) (path above : Path) (name : List ℕ) (struct : Struct) (bs : List ℕ) → path ≡ above ++ name ∷ [] → ThreadChangesOnlyTheseBlocks bs old mid → IsFileRemoved old mid above name struct → ChangesOnlyBlockMap mid new
+pub freeing_survives : (old mid new : KeptThread) (path above : Path) (name : List ℕ) (struct : Struct) (bs : List ℕ) → path ≡ above ++ name ∷ [] → ThreadChangesOnlyTheseBlocks bs old mid → IsFileRemoved old mid above name struct → ChangesOnlyBlockMap mid new
     → SurvivesWithOldOrNewTree old mid (tree_after_removal (above ++ name ∷ []) (tree_on_disk old.disk old.pairs)) → SurvivesWithOldOrNewTree old new (tree_after_removal path (tree_on_disk old.disk old.pairs))
 freeing_survives old mid new path above name struct bs e w is only k =
     survives_left old mid new.history (tree_after_removal path (tree_on_disk old.disk old.pairs)) (shape_geometry old mid w.shape) w.at_worst is.now.ready.accepted is.now.ready.writable
@@ -238,17 +238,17 @@ freeing_survives old mid new path above name struct bs e w is only k =
 
 -- ---- all that is said of it
 
-module _ (t : ThreadView) (root : ℕ) (rests : CanChangeRecoveredImage t root) (path : Path) (h : List CallEvent) (new : ThreadView) (reads : AreCallsSinceOnlyReads t.kept.disk.blocks t.kept.history h) (w : WritesPairsAndFreeBlocks (with_history t.kept h) new.kept) where
+module _ (t : ThreadView) (root : ℕ) (rests : CanChangeRecoveredImage t root) (path : Path) (h : List DeviceCallEvent) (new : ThreadView) (reads : AreCallsSinceOnlyReads t.kept.disk.blocks t.kept.history h) (w : WritesOnlyThreadPairsAndFreeBlocks (with_history t.kept h) new.kept) where
   abbrev before : Tree
   before = tree_on_disk t.kept.disk t.kept.pairs
 
-  pub remove_does : (r : Result (Unit {0}) Error) (given : List ℕ) → path_or_root given ≡ path → faults h ≡ faults t.kept.history → OnOk r (HasRemovedEntry (with_history t.kept h) path new.kept) → OnOk r (SparesOtherBlocksInRemoval (with_history t.kept h) path new.kept)
-      → ReportsFaultsSince h new.kept.history r → OnOk r (new.failed ≡ false) → SurvivesWithOldOrNewTree (with_history t.kept h) new.kept (tree_after_removal path before) → AppliesCallOnThread t (call.Remove path) r new
+  pub remove_does : (r : Result (Unit {0}) Error) (given : List ℕ) → path_of_bytes_or_root given ≡ path → fault_count_of_history h ≡ fault_count_of_history t.kept.history → OnOk r (HasRemovedEntry (with_history t.kept h) path new.kept) → OnOk r (SparesOtherBlocksInRemoval (with_history t.kept h) path new.kept)
+      → ReportsFaultsSince h new.kept.history r → OnOk r (new.failed ≡ false) → SurvivesWithOldOrNewTree (with_history t.kept h) new.kept (tree_after_removal path before) → AppliesCallOnThreadOrFails t (call.Remove path) r new
   remove_does r given named quiet gone spared reported works survives =
       changed t new (HasAppliedCall t.kept (call.Remove path)) (tree_after_call (call.Remove path) before) h w.blocks r quiet reads w.writes reported works (go r gone spared (quiet_reported t.kept new.kept h r quiet reported))
       (survives_behind t root rests h new.kept w.blocks (tree_after_removal path before) reads w.writes survives)
     where
-      go : (r : Result (Unit {0}) Error) → OnOk r (HasRemovedEntry (with_history t.kept h) path new.kept) → OnOk r (SparesOtherBlocksInRemoval (with_history t.kept h) path new.kept) → OnOk r (faults new.kept.history ≡ faults t.kept.history)
+      go : (r : Result (Unit {0}) Error) → OnOk r (HasRemovedEntry (with_history t.kept h) path new.kept) → OnOk r (SparesOtherBlocksInRemoval (with_history t.kept h) path new.kept) → OnOk r (fault_count_of_history new.kept.history ≡ fault_count_of_history t.kept.history)
           → OnOk r (HasAppliedCall t.kept (call.Remove path) new.kept × HasSoundImageOfTree t.kept (tree_after_call (call.Remove path) before) new.kept)
       go (Err e) gone spared same = tt
       go (Ok x) gone spared same = (

@@ -11,19 +11,19 @@ use Rattle.lfs_model.specs.Slots.{Slot}
 use Rattle.lfs_model.specs.Tree.{Path, node_of_struct_and_attributes}
 use Rattle.lfs_model.specs.Shown.{skip_list_bytes_on_disk, entries_by_directory_in_thread, tree_on_disk}
 use Rattle.lfs_model.proofs.Paths.{last_is}
-use Rattle.lfs_thread.specs.Kept.{Kept}
-use Rattle.lfs_tree.specs.TreeChanges.{IsSpotForNewName, IsSpotOfNothingFound, IsVacantPath, is_nothing_found}
-use Rattle.lfs_lookup.specs.Paths.{PathLeadsToFound}
-use Rattle.lfs_lookup.specs.declared.paths.Found.{Found}
-use Rattle.lfs_lookup.specs.declared.paths.Found.TheVariants as found
-use Rattle.lfs_lookup.specs.declared.search.Spot.{Spot}
+use Rattle.lfs_thread.specs.Kept.{KeptThread}
+use Rattle.lfs_tree.specs.TreeChanges.{IsSpotForNewName, IsSpotForNameNotFound, IsVacantPath, is_nothing_found}
+use Rattle.lfs_lookup.specs.Paths.{PathLeadsToLookupResult}
+use Rattle.lfs_lookup.specs.declared.paths.PathLookup.{PathLookup}
+use Rattle.lfs_lookup.specs.declared.paths.PathLookup.TheVariants as found
+use Rattle.lfs_lookup.specs.declared.search.SlotPosition.{SlotPosition}
 
 -- what has a slot isn't vacant
-taken : (t : Kept) (path : Path) (x : Slot) → IsVacantPath (tree_on_disk t.disk t.pairs) path → slot_of_path t.pairs path ≡ Some x → ⊥
+taken : (t : KeptThread) (path : Path) (x : Slot) → IsVacantPath (tree_on_disk t.disk t.pairs) path → slot_of_path t.pairs path ≡ Some x → ⊥
 taken t path x v e =
     let k = sym v.nothing ∙ ap (λ o. is_some (option_map (λ (f : Slot). node_of_struct_and_attributes (skip_list_bytes_on_disk t.disk) (entries_by_directory_in_thread t.pairs) f.attributes f.struct) o)) e in absurd (cc)
 
-pub place_found : (t : Kept) (path : Path) (f : Found) → IsVacantPath (tree_on_disk t.disk t.pairs) path → PathLeadsToFound t path f → is_nothing_found f ≡ true
+pub place_found : (t : KeptThread) (path : Path) (f : PathLookup) → IsVacantPath (tree_on_disk t.disk t.pairs) path → PathLeadsToLookupResult t path f → is_nothing_found f ≡ true
 place_found t path found.Root v l = let k = sym v.nothing ∙ ap (λ p. is_some (tree_on_disk t.disk t.pairs p)) l.there in absurd (cc)
 place_found t path found.ParentIsFile v l = let k = sym v.parents ∙ l.parents in absurd (cc)
 place_found t path found.ParentIsMissing v l = let k = sym v.parents ∙ l.parents in absurd (cc)
@@ -31,7 +31,7 @@ place_found t path (found.Nothing parent place) v l = refl
 place_found t path (found.Directory parent slot first) v l = let s = l.there.there.0 in absurd (taken t path s.stands.stands.slot v (ap (slot_of_path t.pairs) l.there.is ∙ s.slot))
 place_found t path (found.File parent slot contents) v l = let s = l.there.there.0 in absurd (taken t path s.stands.stands.slot v (ap (slot_of_path t.pairs) l.there.is ∙ s.slot))
 
-pub place_for : (t : Kept) (path : Path) (f : Found) (name : Name) (spot : Spot) → IsVacantPath (tree_on_disk t.disk t.pairs) path → PathLeadsToFound t path f → IsSpotOfNothingFound f spot → name ≡ last_name_of_path path → IsSpotForNewName t.disk.order t.pairs path name spot
+pub place_for : (t : KeptThread) (path : Path) (f : PathLookup) (name : Name) (spot : SlotPosition) → IsVacantPath (tree_on_disk t.disk t.pairs) path → PathLeadsToLookupResult t path f → IsSpotForNameNotFound f spot → name ≡ last_name_of_path path → IsSpotForNewName t.disk.order t.pairs path name spot
 place_for t path found.Root name spot v l h e = absurd h
 place_for t path found.ParentIsFile name spot v l h e = absurd h
 place_for t path found.ParentIsMissing name spot v l h e = absurd h
@@ -44,7 +44,7 @@ place_for t path (found.Nothing parent place) name spot v l h e =
       first = parent;
       is = l.there.is ∙ ap (λ n. l.there.above ++ n ∷ []) (sym same);
       on = l.there.there.on;
-      belongs = subst (λ (s : Spot). IsPlaceWhereNameBelongs t.disk.order t.pairs parent name s.pair s.id) h (subst (λ n. IsPlaceWhereNameBelongs t.disk.order t.pairs parent n place.pair place.id) (sym same) l.there.there.belongs);
+      belongs = subst (λ (s : SlotPosition). IsPlaceWhereNameBelongs t.disk.order t.pairs parent name s.pair s.id) h (subst (λ n. IsPlaceWhereNameBelongs t.disk.order t.pairs parent n place.pair place.id) (sym same) l.there.there.belongs);
     }
 
 pub last_of_map : {A : Type 0} (f : A → Name) (xs above : List A) (x : A) → xs ≡ above ++ x ∷ [] → f x ≡ last_name_of_path (map f xs)

@@ -5,35 +5,35 @@ use Rattle.std.specs.List.{list_all}
 use Rattle.std.proofs.lemmas.Bool.{le-leb, ltb-false}
 use Rattle.std.proofs.lemmas.Option.{same_Some}
 use Rattle.lfs_model.specs.TreeEdits.{last_name_of_path}
-use Rattle.lfs_model.specs.BlockSets.{BlockStateList, IsFree, is_in_flight, is_used}
+use Rattle.lfs_model.specs.BlockSets.{BlockStateList, IsBlockFree, is_block_state_in_flight, is_used}
 use Rattle.lfs_model.specs.BlockSets.BlockState.{Free, InFlight}
-use Rattle.lfs_model.specs.Disk.{entry_charge_limit}
-use Rattle.lfs_model.specs.Names.{Name, is_path_component, is_name}
-use Rattle.lfs_model.specs.Session.{has_too_long_name}
-use Rattle.lfs_model.specs.Slots.{charge_of_entry}
+use Rattle.lfs_model.specs.Disk.{charged_entry_size_limit_in_pair}
+use Rattle.lfs_model.specs.Names.{Name, is_path_component, is_valid_name}
+use Rattle.lfs_model.specs.Session.{has_too_long_last_name}
+use Rattle.lfs_model.specs.Slots.{entry_charge_with_longest_inline_contents}
 use Rattle.lfs_model.specs.Tree.{Path}
 use Rattle.lfs_model.proofs.BlockSets.{count_by-set, counts_from_none_free, slice_get-set_other, slice_get-set_same, used_count-AreExactlyTheUsedBlocks}
 use Rattle.lfs_operations.specs.Changing.{AreTwoFreeBlocks, HasTwoFreeBlocks}
 use Rattle.lfs_operations.specs.Making.{HasSoManyFreeBlocks}
-use Rattle.lfs_thread.specs.Kept.{Kept}
+use Rattle.lfs_thread.specs.Kept.{KeptThread}
 use Rattle.lfs_tree.specs.Permissions.{HasFreeBlocksForNeed}
 use Rattle.lfs_tree.specs.RootedThreads.{tree_state_of_kept_thread}
 use Rattle.lfs_tree.specs.TreeState.{IsSoundTreeState}
 
 -- ---- room
 
-pub room_for : (t : Kept) (need : ℕ) → IsSoundTreeState (tree_state_of_kept_thread t true false) → HasFreeBlocksForNeed (tree_state_of_kept_thread t true false) need → HasSoManyFreeBlocks need t.map
+pub room_for : (t : KeptThread) (need : ℕ) → IsSoundTreeState (tree_state_of_kept_thread t true false) → HasFreeBlocksForNeed (tree_state_of_kept_thread t true false) need → HasSoManyFreeBlocks need t.map
 room_for t need sound room =
     let e = used_count-AreExactlyTheUsedBlocks t.map _ sound.accepted.owned_once sound.used in
     let l = sound.size in
     omega (arith, room)
 
-within : (sets : BlockStateList) (b : ℕ) → IsFree sets b → b < length sets
+within : (sets : BlockStateList) (b : ℕ) → IsBlockFree sets b → b < length sets
 within [] b e = absurd (cc)
 within (x ∷ sets) zero e = omega arith
 within (x ∷ sets) (suc b) e = let l = within sets b e in omega arith
 
-two_free : (sets : BlockStateList) (a b : ℕ) → IsFree sets a → IsFree (set sets a InFlight) b → AreTwoFreeBlocks sets (a, b)
+two_free : (sets : BlockStateList) (a b : ℕ) → IsBlockFree sets a → IsBlockFree (set sets a InFlight) b → AreTwoFreeBlocks sets (a, b)
 two_free sets a b first second = record { apart = apart; first = first; second = sym (slice_get-set_other sets a b InFlight (λ e. apart (sym e))) ∙ second }
   where
     apart : a ≢ b
@@ -43,14 +43,14 @@ two_free sets a b first second = record { apart = apart; first = first; second =
 pub no_room : (sets : BlockStateList) → HasSoManyFreeBlocks 2 sets → (HasTwoFreeBlocks sets → ⊥) → ⊥
 no_room sets room none = not_none (λ a free. go a free)
   where
-    not_none : ((b : ℕ) → IsFree sets b → ⊥) → ⊥
+    not_none : ((b : ℕ) → IsBlockFree sets b → ⊥) → ⊥
     not_none f = let e = counts_from_none_free sets f in absurd (omega (arith, room))
 
-    go : (a : ℕ) → IsFree sets a → ⊥
+    go : (a : ℕ) → IsBlockFree sets a → ⊥
     go a free =
         let one : BlockStateList = set sets a InFlight in
         let u = count_by-set is_used sets a Free InFlight free in
-        let i = count_by-set is_in_flight sets a Free InFlight free in
+        let i = count_by-set is_block_state_in_flight sets a Free InFlight free in
         let l = length-set sets a InFlight in
         let e = counts_from_none_free one (λ b other. none ((a, b), two_free sets a b free other)) in
         absurd (omega (arith, room))
@@ -70,7 +70,7 @@ last_component (n ∷ m ∷ path) some all = last_component (m ∷ path) (λ e. 
     behind true y e = e
     behind false y e = absurd (cc)
 
-pub last_is_name : (path : Path) → path ≢ [] → list_all is_path_component path ≡ true → has_too_long_name path ≡ false → is_name (last_name_of_path path) ≡ true
+pub last_is_name : (path : Path) → path ≢ [] → list_all is_path_component path ≡ true → has_too_long_last_name path ≡ false → is_valid_name (last_name_of_path path) ≡ true
 last_is_name path some all long =
     let n = length (last_name_of_path path) in
     ap₂ (λ x y. x && y) (last_component path some all) (le-leb n 255 (ltb-false 255 n long))

@@ -3,37 +3,37 @@ use Rattle.std.proofs.Common.{ℕ, ◌≡◌, inl, inr, false, if◌then◌else�
 use Rattle.std.specs.Prelude.{is_none, is_some}
 use Rattle.lfs_model.specs.TreeEdits.{tree_after_creation}
 use Rattle.lfs_model.specs.Disk.{Disk, SameGeometry}
-use Rattle.lfs_model.specs.History.{CallEvent, IsTrueOfEachCallSince, AreCallsSinceOnlyReads}
-use Rattle.lfs_model.specs.PowerLoss.{ShowsTreeBeforeOrAfter, SurvivesStopsSince, with_blocks}
+use Rattle.lfs_model.specs.History.{DeviceCallEvent, IsTrueOfEachCallSince, AreCallsSinceOnlyReads}
+use Rattle.lfs_model.specs.PowerLoss.{HasTreeBeforeOrAfterOperation, SurvivesPowerLossInCallsSince, disk_with_blocks}
 use Rattle.lfs_model.specs.Tree.{FileNode, Node, Path, Tree}
 use Rattle.lfs_model.specs.View.{IsAcceptedImage}
-use Rattle.lfs_model.specs.Profile.{IsWritable}
+use Rattle.lfs_model.specs.Profile.{IsWritableImage}
 use Rattle.lfs_model.specs.Shown.{tree_on_disk}
 use Rattle.lfs_model.proofs.AfterStops.{survives_then}
-use Rattle.lfs_model.proofs.Histories.{IsTrueAfterEachStopSince-reads, IsLeftByStopIn-read}
-use Rattle.lfs_thread.specs.Kept.{Kept, ThreadView}
+use Rattle.lfs_model.proofs.Histories.{IsTrueAfterAnyPowerLossSince-read_count_of_history, AreBlocksLeftByPowerLossInCall-read}
+use Rattle.lfs_thread.specs.Kept.{KeptThread, ThreadView}
 use Rattle.lfs_thread.specs.Steps.{ThreadChangesOnlyTheseBlocks}
 use Rattle.lfs_tree.specs.TreeChanges.{CanChangeRecoveredImage, SurvivesWithOldOrNewTree}
 use Rattle.lfs_tree.proofs.Carried.{with_history}
 
-pub survives_reading : (t : ThreadView) (root : ℕ) → CanChangeRecoveredImage t root → (h : List CallEvent) → AreCallsSinceOnlyReads t.kept.disk.blocks t.kept.history h → (after : Tree) →
-    SurvivesStopsSince t.kept.disk t.kept.history h (tree_on_disk t.kept.disk t.kept.pairs) after
-survives_reading t root rests h reads after clean = IsTrueAfterEachStopSince-reads IsLeftByStopIn-read reads (record { pairs = t.kept.pairs; accepted = rests.held.sound.accepted; writable = rests.held.sound.fits refl; tree = inl refl })
+pub survives_reading : (t : ThreadView) (root : ℕ) → CanChangeRecoveredImage t root → (h : List DeviceCallEvent) → AreCallsSinceOnlyReads t.kept.disk.blocks t.kept.history h → (after : Tree) →
+    SurvivesPowerLossInCallsSince t.kept.disk t.kept.history h (tree_on_disk t.kept.disk t.kept.pairs) after
+survives_reading t root rests h reads after clean = IsTrueAfterAnyPowerLossSince-read_count_of_history AreBlocksLeftByPowerLossInCall-read reads (record { pairs = t.kept.pairs; accepted = rests.held.sound.accepted; writable = rests.held.sound.fits refl; tree = inl refl })
 
-pub survives_behind : (t : ThreadView) (root : ℕ) → CanChangeRecoveredImage t root → (h : List CallEvent) (c : Kept) (bs : List ℕ) (after : Tree) → AreCallsSinceOnlyReads t.kept.disk.blocks t.kept.history h → ThreadChangesOnlyTheseBlocks bs (with_history t.kept h) c →
+pub survives_behind : (t : ThreadView) (root : ℕ) → CanChangeRecoveredImage t root → (h : List DeviceCallEvent) (c : KeptThread) (bs : List ℕ) (after : Tree) → AreCallsSinceOnlyReads t.kept.disk.blocks t.kept.history h → ThreadChangesOnlyTheseBlocks bs (with_history t.kept h) c →
     SurvivesWithOldOrNewTree (with_history t.kept h) c after → SurvivesWithOldOrNewTree t.kept c after
 survives_behind t root rests h c bs after reads w k =
     survives_then t.kept.disk t.kept.history h c.history (tree_on_disk t.kept.disk t.kept.pairs) after reads w.at_worst (survives_reading t root rests h reads after) k
 
 -- a stop in a call that only reads behind calls that left such a tree leaves it
-pub survives_left : {P : CallEvent → Type 0} (t c : Kept) (h : List CallEvent) (after : Tree) → SameGeometry t.disk c.disk → IsTrueOfEachCallSince P t.history c.history → IsAcceptedImage c.disk c.pairs → IsWritable c.disk c.pairs
-    → tree_on_disk c.disk c.pairs ≡ after → AreCallsSinceOnlyReads c.disk.blocks c.history h → SurvivesWithOldOrNewTree t c after → SurvivesStopsSince t.disk t.history h (tree_on_disk t.disk t.pairs) after
+pub survives_left : {P : DeviceCallEvent → Type 0} (t c : KeptThread) (h : List DeviceCallEvent) (after : Tree) → SameGeometry t.disk c.disk → IsTrueOfEachCallSince P t.history c.history → IsAcceptedImage c.disk c.pairs → IsWritableImage c.disk c.pairs
+    → tree_on_disk c.disk c.pairs ≡ after → AreCallsSinceOnlyReads c.disk.blocks c.history h → SurvivesWithOldOrNewTree t c after → SurvivesPowerLossInCallsSince t.disk t.history h (tree_on_disk t.disk t.pairs) after
 survives_left t c h after geometry since accepted fits shows reads k =
     survives_then t.disk t.history c.history h (tree_on_disk t.disk t.pairs) after since reads k
-    (λ clean. IsTrueAfterEachStopSince-reads IsLeftByStopIn-read reads (subst (λ disk. ShowsTreeBeforeOrAfter disk (tree_on_disk t.disk t.pairs) after) (sym (same_disk t.disk c.disk geometry))
+    (λ clean. IsTrueAfterAnyPowerLossSince-read_count_of_history AreBlocksLeftByPowerLossInCall-read reads (subst (λ disk. HasTreeBeforeOrAfterOperation disk (tree_on_disk t.disk t.pairs) after) (sym (same_disk t.disk c.disk geometry))
     (record { pairs = c.pairs; accepted = accepted; writable = fits; tree = inr shows })))
   where
-    same_disk : (disk new : Disk) → SameGeometry disk new → with_blocks new.blocks disk ≡ new
+    same_disk : (disk new : Disk) → SameGeometry disk new → disk_with_blocks new.blocks disk ≡ new
     same_disk disk new g = λ j. record { block_size = sym g.block_size j; page = sym g.page j; order = sym g.order j; blocks = new.blocks }
 
 -- the tree with an empty file, where nothing was

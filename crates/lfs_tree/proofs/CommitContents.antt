@@ -4,39 +4,39 @@ use Rattle.std.specs.Prelude.{Contains}
 use Rattle.std.specs.List.{IsDistinct, flat_map}
 use Rattle.std.proofs.lemmas.Bool.{cases_lt}
 use Rattle.std.proofs.lemmas.List.Elements.{All-contains, All-from_recursion, recursion_from_All}
-use Rattle.lfs_model.specs.BlockSets.{AreExactlyTheUsedBlocks, IsFree, IsInFlight, IsUsed, in_flight_count}
+use Rattle.lfs_model.specs.BlockSets.{AreExactlyTheUsedBlocks, IsBlockFree, IsBlockInFlight, IsBlockUsed, in_flight_block_count}
 use Rattle.lfs_model.specs.Disk.{Disk, inline_limit}
-use Rattle.lfs_model.specs.History.{CallEvent}
-use Rattle.lfs_model.specs.SkipLists.{list_block_count_for_size, bytes_of}
-use Rattle.lfs_model.specs.Session.{ctz_block_count}
+use Rattle.lfs_model.specs.History.{DeviceCallEvent}
+use Rattle.lfs_model.specs.SkipLists.{list_block_count_for_size, bytes_of_skip_list}
+use Rattle.lfs_model.specs.Session.{skip_list_block_count_unless_inline}
 use Rattle.lfs_model.specs.SlotEdits.{slot_of_path}
 use Rattle.lfs_model.specs.Slots.{Slot, Struct, Inline, Ctz, Branch}
 use Rattle.lfs_model.specs.Thread.{blocks_of_pairs}
 use Rattle.lfs_model.specs.Tree.{Path}
-use Rattle.lfs_model.specs.View.{IsAcceptedImage, IsListIfCtz}
+use Rattle.lfs_model.specs.View.{IsAcceptedImage, IsSkipListIfCtzStruct}
 use Rattle.lfs_model.specs.Shown.{all_slots_not_moved, skip_list_blocks_of_struct, used_blocks}
 use Rattle.lfs_model.proofs.BlockCounts.{few_flying}
-use Rattle.lfs_model.proofs.BlockSets.{Contains-count, count-Contains}
-use Rattle.lfs_model.proofs.Counts.{Each, count, count_append, each_from_counted, each_pieces, once_from_distinct}
+use Rattle.lfs_model.proofs.BlockSets.{Contains-occurrence_count_of_number, occurrence_count_of_number-Contains}
+use Rattle.lfs_model.proofs.Counts.{Each, occurrence_count_of_number, count_append, each_from_counted, each_pieces, once_from_distinct}
 use Rattle.lfs_model.proofs.Files.{length_back}
 use Rattle.lfs_writer.specs.StructChanges.{CanReplaceFileStruct}
 use Rattle.lfs_writer.specs.SettledFiles.{blocks_of_list_on_thread}
-use Rattle.lfs_writer.specs.ThreadContents.{AreContentsOnThread}
+use Rattle.lfs_writer.specs.ThreadContents.{AreContentsConsistentWithThread}
 use Rattle.lfs_writer.proofs.Coming.{inline_comes, list_comes}
 use Rattle.lfs_operations.specs.Making.{HasSoManyFreeBlocks}
-use Rattle.lfs_thread.specs.Kept.{Kept}
-use Rattle.lfs_tree.specs.OpenContents.{AreWriterContentsOverKeptFile, blocks_named, bytes_of_writer_contents}
-use Rattle.lfs_tree.specs.Stores.{CanCommitContentsAtPath, IsFinishedFormWithinLimit, stored_list_of_finished_contents, stored_list_in_struct, struct_of_finished_contents}
+use Rattle.lfs_thread.specs.Kept.{KeptThread}
+use Rattle.lfs_tree.specs.OpenContents.{AreWriterContentsOverFileOnThread, skip_list_blocks_of_slot, bytes_of_writer_contents}
+use Rattle.lfs_tree.specs.Stores.{CanCommitContentsAtPath, IsFinishedAndInlineExactlyUpToLimit, stored_skip_list_of_finished_contents, skip_list_in_struct, struct_of_finished_contents}
 use Rattle.lfs_lookup.proofs.AtPaths.{SizedLists}
 use Rattle.lfs_tree.proofs.Carried.{with_history}
 use Rattle.lfs_tree.proofs.OpenedFiles.{marked_there, no_flight}
 use Rattle.lfs_tree.proofs.SlotsHave.{slot_has}
-use Rattle.lfs_writer.specs.Bases.{IsListUnlessEmpty}
-use Rattle.lfs_writer.specs.Contents.{form_of_contents}
-use Rattle.lfs_writer.specs.Hand.{IsFinishedListOnDisk as IsStoredList}
+use Rattle.lfs_writer.specs.Bases.{IsSkipListOnDiskUnlessEmpty}
+use Rattle.lfs_writer.specs.Contents.{storage_form_of_contents}
+use Rattle.lfs_writer.specs.Hand.{IsFinishedListConsistentWithMapAndDisk as IsStoredList}
 use Rattle.lfs_writer.specs.declared.contents.WriterContents.{WriterContents}
 use Rattle.lfs_writer.specs.declared.contents.WriterContents.TheVariants.{InMemory, Finished, InHand}
-use Rattle.lfs_writer.specs.declared.stored_list.Stored.{Stored}
+use Rattle.lfs_writer.specs.declared.stored_list.StoredList.{StoredList}
 
 -- ---- lists
 
@@ -44,109 +44,109 @@ none_distinct : IsDistinct nat_eq []
 unfolding IsDistinct
 none_distinct = tt
 
-pub distinct_list : (disk : Disk) (s : Struct) → IsListIfCtz disk s → IsDistinct nat_eq (skip_list_blocks_of_struct disk s)
+pub distinct_list : (disk : Disk) (s : Struct) → IsSkipListIfCtzStruct disk s → IsDistinct nat_eq (skip_list_blocks_of_struct disk s)
 distinct_list disk (Inline bytes) ok = none_distinct
 distinct_list disk (Ctz head size) ok = ok.blocks.distinct
 distinct_list disk (Branch to) ok = none_distinct
 
 -- a slot's list, by what it says
-pub blocks_before_is : (t : Kept) (s : Struct) → blocks_of_list_on_thread t (stored_list_in_struct s) ≡ skip_list_blocks_of_struct t.disk s
+pub blocks_before_is : (t : KeptThread) (s : Struct) → blocks_of_list_on_thread t (skip_list_in_struct s) ≡ skip_list_blocks_of_struct t.disk s
 blocks_before_is t (Inline bytes) = refl
 blocks_before_is t (Ctz head size) = refl
 blocks_before_is t (Branch to) = refl
 
-pub blocks_now_is : (t : Kept) (c : WriterContents) → blocks_of_list_on_thread t (stored_list_of_finished_contents c) ≡ skip_list_blocks_of_struct t.disk (struct_of_finished_contents c)
+pub blocks_now_is : (t : KeptThread) (c : WriterContents) → blocks_of_list_on_thread t (stored_skip_list_of_finished_contents c) ≡ skip_list_blocks_of_struct t.disk (struct_of_finished_contents c)
 blocks_now_is t (InMemory list) = refl
 blocks_now_is t (Finished s) = refl
 blocks_now_is t (InHand hand) = refl
 
-pub base_before : (disk : Disk) (s : Struct) → IsListIfCtz disk s → IsListUnlessEmpty disk.blocks disk.block_size (stored_list_in_struct s).head (stored_list_in_struct s).size
+pub base_before : (disk : Disk) (s : Struct) → IsSkipListIfCtzStruct disk s → IsSkipListOnDiskUnlessEmpty disk.blocks disk.block_size (skip_list_in_struct s).head (skip_list_in_struct s).size
 base_before disk (Inline bytes) ok = inl refl
 base_before disk (Ctz head size) ok = inr ok
 base_before disk (Branch to) ok = inl refl
 
-pub base_now : (disk : Disk) (c : WriterContents) → IsListIfCtz disk (struct_of_finished_contents c) → IsListUnlessEmpty disk.blocks disk.block_size (stored_list_of_finished_contents c).head (stored_list_of_finished_contents c).size
+pub base_now : (disk : Disk) (c : WriterContents) → IsSkipListIfCtzStruct disk (struct_of_finished_contents c) → IsSkipListOnDiskUnlessEmpty disk.blocks disk.block_size (stored_skip_list_of_finished_contents c).head (stored_skip_list_of_finished_contents c).size
 base_now disk (InMemory list) ok = inl refl
 base_now disk (Finished s) ok = inr ok
 base_now disk (InHand hand) ok = inl refl
 
 -- ---- what may come
 
-module _ (t : Kept) (path : Path) (u : Slot) (ok : IsAcceptedImage t.disk t.pairs) (used : AreExactlyTheUsedBlocks t.map (used_blocks t.disk t.pairs)) (at : slot_of_path t.pairs path ≡ Some u) (sized : SizedLists t.disk) where
-  pub list_there : IsListIfCtz t.disk u.struct
-  list_there = slot_has (λ (s : Slot). IsListIfCtz t.disk s.struct) t.disk t.pairs ok (recursion_from_All (λ (s : Slot). IsListIfCtz t.disk s.struct) (all_slots_not_moved t.pairs) ok.lists) tt path u at
+module _ (t : KeptThread) (path : Path) (u : Slot) (ok : IsAcceptedImage t.disk t.pairs) (used : AreExactlyTheUsedBlocks t.map (used_blocks t.disk t.pairs)) (at : slot_of_path t.pairs path ≡ Some u) (sized : SizedLists t.disk) where
+  pub list_there : IsSkipListIfCtzStruct t.disk u.struct
+  list_there = slot_has (λ (s : Slot). IsSkipListIfCtzStruct t.disk s.struct) t.disk t.pairs ok (recursion_from_All (λ (s : Slot). IsSkipListIfCtzStruct t.disk s.struct) (all_slots_not_moved t.pairs) ok.lists) tt path u at
 
   -- a block of the file's list is no pair's
-  pub list_apart : (b : ℕ) → 1 ≤ count b (skip_list_blocks_of_struct t.disk u.struct) → count b (blocks_of_pairs t.pairs) ≡ 0
+  pub list_apart : (b : ℕ) → 1 ≤ occurrence_count_of_number b (skip_list_blocks_of_struct t.disk u.struct) → occurrence_count_of_number b (blocks_of_pairs t.pairs) ≡ 0
   list_apart b some =
       let files = flat_map (λ (s : Slot). skip_list_blocks_of_struct t.disk s.struct) (all_slots_not_moved t.pairs) in
-      let each = slot_has (λ (s : Slot). Each (λ c. 1 ≤ count c (flat_map (λ (x : Slot). skip_list_blocks_of_struct t.disk x.struct) (all_slots_not_moved t.pairs))) (skip_list_blocks_of_struct t.disk s.struct)) t.disk t.pairs ok
-      (each_pieces (λ c. 1 ≤ count c (flat_map (λ (x : Slot). skip_list_blocks_of_struct t.disk x.struct) (all_slots_not_moved t.pairs))) (λ (s : Slot). skip_list_blocks_of_struct t.disk s.struct) (all_slots_not_moved t.pairs)
-      (each_from_counted (λ c. 1 ≤ count c (flat_map (λ (x : Slot). skip_list_blocks_of_struct t.disk x.struct) (all_slots_not_moved t.pairs))) (flat_map (λ (x : Slot). skip_list_blocks_of_struct t.disk x.struct) (all_slots_not_moved t.pairs)) (λ c h. h))) tt path u at in
-      let here : 1 ≤ count b (flat_map (λ (x : Slot). skip_list_blocks_of_struct t.disk x.struct) (all_slots_not_moved t.pairs))
-      = All-contains (λ c. 1 ≤ count c (flat_map (λ (x : Slot). skip_list_blocks_of_struct t.disk x.struct) (all_slots_not_moved t.pairs))) (skip_list_blocks_of_struct t.disk u.struct) b
-      (All-from_recursion (λ c. 1 ≤ count c (flat_map (λ (x : Slot). skip_list_blocks_of_struct t.disk x.struct) (all_slots_not_moved t.pairs))) (skip_list_blocks_of_struct t.disk u.struct) each) (Contains-count (skip_list_blocks_of_struct t.disk u.struct) b some) in
+      let each = slot_has (λ (s : Slot). Each (λ c. 1 ≤ occurrence_count_of_number c (flat_map (λ (x : Slot). skip_list_blocks_of_struct t.disk x.struct) (all_slots_not_moved t.pairs))) (skip_list_blocks_of_struct t.disk s.struct)) t.disk t.pairs ok
+      (each_pieces (λ c. 1 ≤ occurrence_count_of_number c (flat_map (λ (x : Slot). skip_list_blocks_of_struct t.disk x.struct) (all_slots_not_moved t.pairs))) (λ (s : Slot). skip_list_blocks_of_struct t.disk s.struct) (all_slots_not_moved t.pairs)
+      (each_from_counted (λ c. 1 ≤ occurrence_count_of_number c (flat_map (λ (x : Slot). skip_list_blocks_of_struct t.disk x.struct) (all_slots_not_moved t.pairs))) (flat_map (λ (x : Slot). skip_list_blocks_of_struct t.disk x.struct) (all_slots_not_moved t.pairs)) (λ c h. h))) tt path u at in
+      let here : 1 ≤ occurrence_count_of_number b (flat_map (λ (x : Slot). skip_list_blocks_of_struct t.disk x.struct) (all_slots_not_moved t.pairs))
+      = All-contains (λ c. 1 ≤ occurrence_count_of_number c (flat_map (λ (x : Slot). skip_list_blocks_of_struct t.disk x.struct) (all_slots_not_moved t.pairs))) (skip_list_blocks_of_struct t.disk u.struct) b
+      (All-from_recursion (λ c. 1 ≤ occurrence_count_of_number c (flat_map (λ (x : Slot). skip_list_blocks_of_struct t.disk x.struct) (all_slots_not_moved t.pairs))) (skip_list_blocks_of_struct t.disk u.struct) each) (Contains-occurrence_count_of_number (skip_list_blocks_of_struct t.disk u.struct) b some) in
       let e = count_append b (blocks_of_pairs t.pairs) (flat_map (λ (x : Slot). skip_list_blocks_of_struct t.disk x.struct) (all_slots_not_moved t.pairs)) in
       let o = once_from_distinct (used_blocks t.disk t.pairs) ok.owned_once b in
       omega arith
 
-  pub list_used : (b : ℕ) → 1 ≤ count b (skip_list_blocks_of_struct t.disk u.struct) → IsUsed t.map b
-  list_used b some = All-contains (IsUsed t.map) (skip_list_blocks_of_struct t.disk u.struct) b (marked_there t path u ok used at) (Contains-count (skip_list_blocks_of_struct t.disk u.struct) b some)
+  pub list_used : (b : ℕ) → 1 ≤ occurrence_count_of_number b (skip_list_blocks_of_struct t.disk u.struct) → IsBlockUsed t.map b
+  list_used b some = All-contains (IsBlockUsed t.map) (skip_list_blocks_of_struct t.disk u.struct) b (marked_there t path u ok used at) (Contains-occurrence_count_of_number (skip_list_blocks_of_struct t.disk u.struct) b some)
 
-  stored_of : (s : Stored) → AreContentsOnThread t (Finished s) → IsStoredList t.map t.disk.blocks t.disk.block_size s
+  stored_of : (s : StoredList) → AreContentsConsistentWithThread t (Finished s) → IsStoredList t.map t.disk.blocks t.disk.block_size s
   stored_of s stands = subst (λ (n : ℕ). IsStoredList t.map t.disk.blocks n s) stands.divided.block_size stands.stands
 
-  size_of_list : (s : Stored) (limit : ℕ) → limit < s.size → AreContentsOnThread t (Finished s) → s.size ≡ length (bytes_of_writer_contents t (Finished s))
+  size_of_list : (s : StoredList) (limit : ℕ) → limit < s.size → AreContentsConsistentWithThread t (Finished s) → s.size ≡ length (bytes_of_writer_contents t (Finished s))
   size_of_list s limit large stands = sym (sized s.head s.size (⊎_elim (λ none. absurd (omega arith)) (λ list. list) (stored_of s stands).base))
 
-  pub may_come : (c : WriterContents) → AreWriterContentsOverKeptFile t path c → IsFinishedFormWithinLimit (inline_limit t.disk.block_size) (form_of_contents c) → CanReplaceFileStruct t (bytes_of_writer_contents t c) u.struct (struct_of_finished_contents c)
+  pub may_come : (c : WriterContents) → AreWriterContentsOverFileOnThread t path c → IsFinishedAndInlineExactlyUpToLimit (inline_limit t.disk.block_size) (storage_form_of_contents c) → CanReplaceFileStruct t (bytes_of_writer_contents t c) u.struct (struct_of_finished_contents c)
   may_come (InMemory list) over few = inline_comes t (bytes_of_writer_contents t (InMemory list)) u.struct few
   may_come (Finished s) over large =
       let size = size_of_list s (inline_limit t.disk.block_size) large over.stands in
-      list_comes t s (bytes_of_writer_contents t (Finished s)) (form_of_contents (Finished s)) u.struct
+      list_comes t s (bytes_of_writer_contents t (Finished s)) (storage_form_of_contents (Finished s)) u.struct
       (record {
         geometry = over.stands.geometry;
         divided = over.stands.divided;
-        has = record { stands = over.stands.stands; has = ap (λ (n : ℕ). bytes_of t.disk.blocks n s.head s.size) over.stands.divided.block_size; form = refl };
+        has = record { stands = over.stands.stands; has = ap (λ (n : ℕ). bytes_of_skip_list t.disk.blocks n s.head s.size) over.stands.divided.block_size; form = refl };
       }) size (omega arith)
-      (record { each = λ b has is. subst (λ (o : Option Slot). Contains (blocks_named t.disk o) b) at (over.owned.each b has is) })
+      (record { each = λ b has is. subst (λ (o : Option Slot). Contains (skip_list_blocks_of_slot t.disk o) b) at (over.owned.each b has is) })
       (distinct_list t.disk u.struct list_there)
   may_come (InHand hand) over never = absurd never
 
   -- blocks in flight are those of the contents
-  pub flying_in : (c : WriterContents) → AreWriterContentsOverKeptFile t path c → IsFinishedFormWithinLimit (inline_limit t.disk.block_size) (form_of_contents c) → (b : ℕ) → IsInFlight t.map b → Contains (skip_list_blocks_of_struct t.disk (struct_of_finished_contents c)) b
+  pub flying_in : (c : WriterContents) → AreWriterContentsOverFileOnThread t path c → IsFinishedAndInlineExactlyUpToLimit (inline_limit t.disk.block_size) (storage_form_of_contents c) → (b : ℕ) → IsBlockInFlight t.map b → Contains (skip_list_blocks_of_struct t.disk (struct_of_finished_contents c)) b
   flying_in (InMemory list) over few b flies = absurd (over.stands.stands.idle.none b flies)
   flying_in (Finished s) over large b flies = ((stored_of s over.stands).flying b flies).1
   flying_in (InHand hand) over never b flies = absurd never
 
   -- none of these is free, or a pair's
-  pub coming_taken : (c : WriterContents) → AreWriterContentsOverKeptFile t path c → IsFinishedFormWithinLimit (inline_limit t.disk.block_size) (form_of_contents c) → (b : ℕ) → 1 ≤ count b (skip_list_blocks_of_struct t.disk (struct_of_finished_contents c)) → IsFree t.map b → ⊥
+  pub coming_taken : (c : WriterContents) → AreWriterContentsOverFileOnThread t path c → IsFinishedAndInlineExactlyUpToLimit (inline_limit t.disk.block_size) (storage_form_of_contents c) → (b : ℕ) → 1 ≤ occurrence_count_of_number b (skip_list_blocks_of_struct t.disk (struct_of_finished_contents c)) → IsBlockFree t.map b → ⊥
   coming_taken (InMemory list) over few b some = absurd (omega arith)
-  coming_taken (Finished s) over large b some = All-contains (λ x. ¬ (IsFree t.map x)) (blocks_of_list_on_thread t s) b (stored_of s over.stands).marked (Contains-count (blocks_of_list_on_thread t s) b some)
+  coming_taken (Finished s) over large b some = All-contains (λ x. ¬ (IsBlockFree t.map x)) (blocks_of_list_on_thread t s) b (stored_of s over.stands).marked (Contains-occurrence_count_of_number (blocks_of_list_on_thread t s) b some)
   coming_taken (InHand hand) over never b some = absurd never
 
-  pub coming_apart : (c : WriterContents) → AreWriterContentsOverKeptFile t path c → IsFinishedFormWithinLimit (inline_limit t.disk.block_size) (form_of_contents c) → (b : ℕ) → 1 ≤ count b (skip_list_blocks_of_struct t.disk (struct_of_finished_contents c)) → count b (blocks_of_pairs t.pairs) ≡ 0
+  pub coming_apart : (c : WriterContents) → AreWriterContentsOverFileOnThread t path c → IsFinishedAndInlineExactlyUpToLimit (inline_limit t.disk.block_size) (storage_form_of_contents c) → (b : ℕ) → 1 ≤ occurrence_count_of_number b (skip_list_blocks_of_struct t.disk (struct_of_finished_contents c)) → occurrence_count_of_number b (blocks_of_pairs t.pairs) ≡ 0
   coming_apart (InMemory list) over few b some = absurd (omega arith)
   coming_apart (Finished s) over large b some = ⊎_elim
       (λ is. absurd (
       let e = count_append b (blocks_of_pairs t.pairs) (flat_map (λ (x : Slot). skip_list_blocks_of_struct t.disk x.struct) (all_slots_not_moved t.pairs)) in
-      let u_is = (used b).1 (Contains-count (used_blocks t.disk t.pairs) b (omega arith)) in
-      let own = subst (λ (o : Option Slot). Contains (blocks_named t.disk o) b) at (over.owned.each b (Contains-count (blocks_of_list_on_thread t s) b some) u_is) in
-      let none = list_apart b (count-Contains (skip_list_blocks_of_struct t.disk u.struct) b own) in
+      let u_is = (used b).1 (Contains-occurrence_count_of_number (used_blocks t.disk t.pairs) b (omega arith)) in
+      let own = subst (λ (o : Option Slot). Contains (skip_list_blocks_of_slot t.disk o) b) at (over.owned.each b (Contains-occurrence_count_of_number (blocks_of_list_on_thread t s) b some) u_is) in
+      let none = list_apart b (occurrence_count_of_number-Contains (skip_list_blocks_of_struct t.disk u.struct) b own) in
       omega arith))
       (λ none. omega arith)
-      (cases_lt 0 (count b (blocks_of_pairs t.pairs)))
+      (cases_lt 0 (occurrence_count_of_number b (blocks_of_pairs t.pairs)))
   coming_apart (InHand hand) over never b some = absurd never
 
-  list_room : (c : WriterContents) → AreWriterContentsOverKeptFile t path c → IsFinishedFormWithinLimit (inline_limit t.disk.block_size) (form_of_contents c) → in_flight_count t.map ≤ ctz_block_count t.disk.block_size (length (bytes_of_writer_contents t c))
+  list_room : (c : WriterContents) → AreWriterContentsOverFileOnThread t path c → IsFinishedAndInlineExactlyUpToLimit (inline_limit t.disk.block_size) (storage_form_of_contents c) → in_flight_block_count t.map ≤ skip_list_block_count_unless_inline t.disk.block_size (length (bytes_of_writer_contents t c))
   list_room (InMemory list) over few = let e = no_flight t.map (λ b. over.stands.stands.idle.none b) in omega arith
   list_room (Finished s) over large =
       let size = size_of_list s (inline_limit t.disk.block_size) large over.stands in
       let few = few_flying (blocks_of_list_on_thread t s) t.map (λ b flies. ((stored_of s over.stands).flying b flies).1) in
       let l = length_back t.disk.blocks (list_block_count_for_size t.disk.block_size s.size) s.head in
-      let k : ctz_block_count t.disk.block_size s.size ≡ list_block_count_for_size t.disk.block_size s.size
+      let k : skip_list_block_count_unless_inline t.disk.block_size s.size ≡ list_block_count_for_size t.disk.block_size s.size
       = ap (λ b. cond b 0 (list_block_count_for_size t.disk.block_size s.size)) (past s.size (inline_limit t.disk.block_size) large) in
-      let m = ap (ctz_block_count t.disk.block_size) size in
+      let m = ap (skip_list_block_count_unless_inline t.disk.block_size) size in
       omega arith
     where
       past : (n limit : ℕ) → limit < n → nat_le n limit ≡ false
@@ -160,12 +160,12 @@ module _ (t : Kept) (path : Path) (u : Slot) (ok : IsAcceptedImage t.disk t.pair
   pub room_there : (c : WriterContents) → CanCommitContentsAtPath t path c → HasSoManyFreeBlocks 2 t.map
   room_there c can = let l = list_room c can.over can.finished in let r = can.room in omega arith
 
-pub over_read : (t : Kept) (h : List CallEvent) (path : Path) (c : WriterContents) → AreWriterContentsOverKeptFile t path c → AreWriterContentsOverKeptFile (with_history t h) path c
+pub over_read : (t : KeptThread) (h : List DeviceCallEvent) (path : Path) (c : WriterContents) → AreWriterContentsOverFileOnThread t path c → AreWriterContentsOverFileOnThread (with_history t h) path c
 over_read t h path c over = record {
   file = over.file;
   stands = record { geometry = over.stands.geometry; divided = over.stands.divided; stands = over.stands.stands };
   owned = over.owned;
 }
 
-pub can_read : (t : Kept) (h : List CallEvent) (path : Path) (c : WriterContents) → CanCommitContentsAtPath t path c → CanCommitContentsAtPath (with_history t h) path c
+pub can_read : (t : KeptThread) (h : List DeviceCallEvent) (path : Path) (c : WriterContents) → CanCommitContentsAtPath t path c → CanCommitContentsAtPath (with_history t h) path c
 can_read t h path c can = record { over = over_read t h path c can.over; finished = can.finished; room = can.room }

@@ -12,18 +12,18 @@ use Rattle.lfs_device.specs.declared.device.BlockDevice.{Ghosts}
 use Rattle.lfs_device.specs.Calls.{ChangesOnlyTheseBlocks}
 use Rattle.lfs_device.specs.Shown.{disk_of_geometry_and_blocks}
 use Rattle.lfs_model.specs.Blocks.{Blocks}
-use Rattle.lfs_model.specs.BlockSets.{AreExactlyTheInFlightBlocks, AreExactlyTheUsedBlocks, BlockStateList, BlockState, Free, InFlight, IsFree, Used}
-use Rattle.lfs_model.specs.Changes.{ContentChange, content_after_changes}
-use Rattle.lfs_model.specs.Content.{content_if_slots_are_complete, has_commit, current_block_of_two, current_block_of_pair_at, is_later_revision, empty_raw_content, raw_content_of_pair_at}
+use Rattle.lfs_model.specs.BlockSets.{AreExactlyTheInFlightBlocks, AreExactlyTheUsedBlocks, BlockStateList, BlockState, Free, InFlight, IsBlockFree, Used}
+use Rattle.lfs_model.specs.Changes.{PairContentChange, raw_pair_content_after_changes}
+use Rattle.lfs_model.specs.Content.{pair_content_if_slots_complete, has_commit, current_block_of_two, current_block_of_pair_at, is_later_revision, empty_raw_pair_content, raw_content_of_pair_at}
 use Rattle.lfs_model.specs.Disk.{Disk, block_bytes_on_disk, block_count}
-use Rattle.lfs_model.specs.Fresh.{content_of_fresh_disk, fresh_pair, superblock_struct_bytes}
+use Rattle.lfs_model.specs.Fresh.{content_of_fresh_disk, only_pair_of_fresh_disk, superblock_struct_bytes}
 use Rattle.lfs_model.specs.Geometry.{IsValidGeometry}
-use Rattle.lfs_model.specs.History.{CallEvent}
+use Rattle.lfs_model.specs.History.{DeviceCallEvent}
 use Rattle.lfs_model.specs.Log.{revision_of_block}
 use Rattle.lfs_model.specs.Slots.{zero_gstate}
 use Rattle.lfs_model.specs.Thread.{AreLinkedByTails, anchor_pair_address, blocks_of_pairs}
 use Rattle.lfs_model.specs.View.{BeginsWithLogEntry, IsAcceptedImage, superblock_name_log_entry, view_of_disk}
-use Rattle.lfs_model.specs.Profile.{IsWritable}
+use Rattle.lfs_model.specs.Profile.{IsWritableImage}
 use Rattle.lfs_model.specs.WrittenContent.{log_entries_of_content}
 use Rattle.lfs_model.proofs.Histories.{began}
 use Rattle.lfs_model.proofs.Fresh.{accepted, shows, writable}
@@ -31,10 +31,10 @@ use Rattle.lfs_model.proofs.BlockSets.{Contains-cons, Contains-head, Contains-ta
 use Rattle.lfs_pair.specs.Commit.{IsPairAddressOnDisk}
 use Rattle.lfs_pair.specs.Fresh as pair
 use Rattle.lfs_pair.specs.Writing.{HasContentInOneCommit}
-use Rattle.lfs_thread.specs.Device.{blocks_of_address}
-use Rattle.lfs_thread.specs.Kept.{AreAllBlocksUsed, PairHeader, Kept, WasKeptThreadOnDisk, pair_on, pairs_of_headers, kept_thread_view, kept_thread_of_device}
+use Rattle.lfs_thread.specs.Device.{blocks_of_pair_address}
+use Rattle.lfs_thread.specs.Kept.{AreAllBlocksUsed, PairHeader, KeptThread, WasKeptThreadOnDisk, pair_on_disk_at, pairs_of_headers, kept_thread_view, kept_thread_of_device}
 use Rattle.lfs_thread.specs.Steps.{ThreadChangesOnlyTheseBlocks}
-use Rattle.lfs_tree.specs.Formats.{IsBlockMapAfterFormat, IsHeaderOfEmptyRoot, IsThreadOfEmptyRoot, IsFreshlyFormatted, ShowsEmptyRoot, superblock_slot_changes, content_with_superblock_only}
+use Rattle.lfs_tree.specs.Formats.{IsBlockMapAfterFormat, IsHeaderOfEmptyRoot, IsThreadOfEmptyRoot, IsFreshlyFormatted, IsWritableImageWithEmptyRoot, superblock_slot_changes, content_with_superblock_only}
 
 -- ---- the map
 
@@ -73,33 +73,33 @@ empty_map (suc (suc m)) few = record {
   in_flight = none_in_flight m;
 }
 
-first_free : (n : ℕ) → 2 ≤ n → IsFree (replicate n Free) 0
+first_free : (n : ℕ) → 2 ≤ n → IsBlockFree (replicate n Free) 0
 first_free zero few = absurd (omega arith)
 first_free (suc n) few = refl
 
-second_free : (n : ℕ) → 2 ≤ n → IsFree (set (replicate n Free) 0 Used) 1
+second_free : (n : ℕ) → 2 ≤ n → IsBlockFree (set (replicate n Free) 0 Used) 1
 second_free zero few = absurd (omega arith)
 second_free (suc zero) few = absurd (omega arith)
 second_free (suc (suc n)) few = refl
 
 -- the first block is marked, and then the second
-pub marked_first : (n : ℕ) (was now : BlockStateList) (is_free : Bool) → 2 ≤ n → was ≡ replicate n Free → (IsFree was 0 → IsTrue is_free) → OnTrue is_free (now ≡ set was 0 Used)
+pub marked_first : (n : ℕ) (was now : BlockStateList) (is_free : Bool) → 2 ≤ n → was ≡ replicate n Free → (IsBlockFree was 0 → IsTrue is_free) → OnTrue is_free (now ≡ set was 0 Used)
     → now ≡ set (replicate n Free) 0 Used
 marked_first n was now is_free few e free marked =
-    OnTrue_at (free (subst (λ s. IsFree s 0) (sym e) (first_free n few))) marked ∙ ap (λ s. set s 0 Used) e
+    OnTrue_at (free (subst (λ s. IsBlockFree s 0) (sym e) (first_free n few))) marked ∙ ap (λ s. set s 0 Used) e
 
-pub marked_both : (n : ℕ) (now last : BlockStateList) (is_free : Bool) → 2 ≤ n → now ≡ set (replicate n Free) 0 Used → (IsFree now 1 → IsTrue is_free) → OnTrue is_free (last ≡ set now 1 Used)
+pub marked_both : (n : ℕ) (now last : BlockStateList) (is_free : Bool) → 2 ≤ n → now ≡ set (replicate n Free) 0 Used → (IsBlockFree now 1 → IsTrue is_free) → OnTrue is_free (last ≡ set now 1 Used)
     → IsBlockMapAfterFormat n last
 marked_both n now last is_free few e free marked =
-    subst (IsBlockMapAfterFormat n) (sym (OnTrue_at (free (subst (λ s. IsFree s 1) (sym e) (second_free n few))) marked ∙ ap (λ s. set s 1 Used) e)) (empty_map n few)
+    subst (IsBlockMapAfterFormat n) (sym (OnTrue_at (free (subst (λ s. IsBlockFree s 1) (sym e) (second_free n few))) marked ∙ ap (λ s. set s 1 Used) e)) (empty_map n few)
 
 -- ---- the pair
 
 -- what the superblock's changes make of nothing
-made : (disk : Disk) → content_after_changes empty_raw_content (superblock_slot_changes (superblock_struct_bytes disk.block_size (block_count disk))) ≡ Some (content_with_superblock_only disk)
+made : (disk : Disk) → raw_pair_content_after_changes empty_raw_pair_content (superblock_slot_changes (superblock_struct_bytes disk.block_size (block_count disk))) ≡ Some (content_with_superblock_only disk)
 made disk = refl
 
-completes : (disk : Disk) → content_if_slots_are_complete (content_with_superblock_only disk) ≡ Some (content_of_fresh_disk disk.block_size (block_count disk))
+completes : (disk : Disk) → pair_content_if_slots_complete (content_with_superblock_only disk) ≡ Some (content_of_fresh_disk disk.block_size (block_count disk))
 completes disk = refl
 
 address : (disk : Disk) → 2 ≤ block_count disk → IsPairAddressOnDisk disk anchor_pair_address
@@ -119,7 +119,7 @@ holder_first : (a b : List ℕ) → has_commit a ≡ true → has_commit b ≡ f
 holder_first a b first second =
     ap₂ (λ p q. cond (not p) (cond q (Some b) None) (cond (q && is_later_revision (revision_of_block a) (revision_of_block b)) (Some b) (Some a))) first second
 
-module _ (disk : Disk) (before history : List CallEvent) (h : PairHeader) (g : IsValidGeometry disk.block_size disk.page (block_count disk))
+module _ (disk : Disk) (before history : List DeviceCallEvent) (h : PairHeader) (g : IsValidGeometry disk.block_size disk.page (block_count disk))
     (is : pair.IsFreshPair before (superblock_slot_changes (superblock_struct_bytes disk.block_size (block_count disk))) disk history anchor_pair_address h) where
   new_is : is.new ≡ content_with_superblock_only disk
   new_is = same_Some is.new (content_with_superblock_only disk) (sym is.made ∙ made disk)
@@ -138,12 +138,12 @@ module _ (disk : Disk) (before history : List CallEvent) (h : PairHeader) (g : I
       is_pair = is.holds.is_pair;
       raw = ap (raw_content_of_pair_at disk) is.holds.same ∙ is.holds.content;
       content = content_of_fresh_disk disk.block_size (block_count disk);
-      complete = ap content_if_slots_are_complete new_is ∙ completes disk;
+      complete = ap pair_content_if_slots_complete new_is ∙ completes disk;
     };
     at = is.holds.same;
     fresh = record {
       geometry = g;
-      content = ap (option_and_then content_if_slots_are_complete) is.holds.content ∙ ap content_if_slots_are_complete new_is ∙ completes disk;
+      content = ap (option_and_then pair_content_if_slots_complete) is.holds.content ∙ ap pair_content_if_slots_complete new_is ∙ completes disk;
       first = begins;
     };
     first = subst (λ c. HasContentInOneCommit 1 c (block_bytes_on_disk disk 0)) new_is is.fresh.anew;
@@ -153,20 +153,20 @@ module _ (disk : Disk) (before history : List CallEvent) (h : PairHeader) (g : I
 -- ---- of a device
 
 -- the changes are those of a disk of that geometry
-changes_are : (k : Geometry) (n : ℕ) (changes : List ContentChange) (bytes fields : List ℕ) → n ≡ k.block_count → changes ≡ superblock_slot_changes bytes → bytes ≡ fields → fields ≡ superblock_struct_bytes k.block_size k.block_count
+changes_are : (k : Geometry) (n : ℕ) (changes : List PairContentChange) (bytes fields : List ℕ) → n ≡ k.block_count → changes ≡ superblock_slot_changes bytes → bytes ≡ fields → fields ≡ superblock_struct_bytes k.block_size k.block_count
     → changes ≡ superblock_slot_changes (superblock_struct_bytes k.block_size n)
 changes_are k n changes bytes fields count e f b = e ∙ ap superblock_slot_changes (f ∙ b ∙ ap (superblock_struct_bytes k.block_size) (sym count))
 
 geometry_is : (k : Geometry) (blocks : Blocks) → length blocks ≡ k.block_count → IsValidGeometry k.block_size k.page (length blocks)
 geometry_is k blocks count = subst (IsValidGeometry k.block_size k.page) (sym count) k.valid
 
-pub can_root : (k asked : Geometry) (blocks : Blocks) (changes : List ContentChange) (bytes fields : List ℕ) → length blocks ≡ k.block_count → asked ≡ k → changes ≡ superblock_slot_changes bytes → bytes ≡ fields
+pub can_root : (k asked : Geometry) (blocks : Blocks) (changes : List PairContentChange) (bytes fields : List ℕ) → length blocks ≡ k.block_count → asked ≡ k → changes ≡ superblock_slot_changes bytes → bytes ≡ fields
     → fields ≡ superblock_struct_bytes asked.block_size asked.block_count → pair.CanWriteFreshPair (disk_of_geometry_and_blocks k blocks) anchor_pair_address changes
 can_root k asked blocks changes bytes fields count same e f b =
     subst (pair.CanWriteFreshPair (disk_of_geometry_and_blocks k blocks) anchor_pair_address) (sym (changes_are k (length blocks) changes bytes fields count e f (b ∙ ap (λ (j : Geometry). superblock_struct_bytes j.block_size j.block_count) same)))
     (can_be_fresh (disk_of_geometry_and_blocks k blocks) (geometry_is k blocks count))
 
-pub device_root : (k asked : Geometry) (blocks : Blocks) (before history : List CallEvent) (h : PairHeader) (changes : List ContentChange) (bytes fields : List ℕ) → length blocks ≡ k.block_count → asked ≡ k → changes ≡ superblock_slot_changes bytes → bytes ≡ fields
+pub device_root : (k asked : Geometry) (blocks : Blocks) (before history : List DeviceCallEvent) (h : PairHeader) (changes : List PairContentChange) (bytes fields : List ℕ) → length blocks ≡ k.block_count → asked ≡ k → changes ≡ superblock_slot_changes bytes → bytes ≡ fields
     → fields ≡ superblock_struct_bytes asked.block_size asked.block_count → pair.IsFreshPair before changes (disk_of_geometry_and_blocks k blocks) history anchor_pair_address h → IsHeaderOfEmptyRoot (disk_of_geometry_and_blocks k blocks) history h
 device_root k asked blocks before history h changes bytes fields count same e f b is =
     is_root (disk_of_geometry_and_blocks k blocks) before history h (geometry_is k blocks count)
@@ -174,12 +174,12 @@ device_root k asked blocks before history h changes bytes fields count same e f 
 
 -- ---- what is kept
 
-pairs_are : (disk : Disk) (history : List CallEvent) (h : PairHeader) → IsHeaderOfEmptyRoot disk history h → pairs_of_headers disk (h ∷ []) ≡ fresh_pair disk ∷ []
+pairs_are : (disk : Disk) (history : List DeviceCallEvent) (h : PairHeader) → IsHeaderOfEmptyRoot disk history h → pairs_of_headers disk (h ∷ []) ≡ only_pair_of_fresh_disk disk ∷ []
 pairs_are disk history h root =
-    ap (λ at. pair_on disk at ∷ []) root.at
+    ap (λ at. pair_on_disk_at disk at ∷ []) root.at
     ∙ ap (λ o. record { at = anchor_pair_address; content = unwrap_or o (record { slots = []; tail = None; move = zero_gstate }) } ∷ []) root.fresh.content
 
-kept : (disk : Disk) (history : List CallEvent) (h : PairHeader) (sets : BlockStateList) → IsHeaderOfEmptyRoot disk history h → IsBlockMapAfterFormat (block_count disk) sets → WasKeptThreadOnDisk disk history (h ∷ []) sets
+kept : (disk : Disk) (history : List DeviceCallEvent) (h : PairHeader) (sets : BlockStateList) → IsHeaderOfEmptyRoot disk history h → IsBlockMapAfterFormat (block_count disk) sets → WasKeptThreadOnDisk disk history (h ∷ []) sets
 unfolding IsDistinct
 kept disk history h sets root map = record {
   before = history;
@@ -192,11 +192,11 @@ kept disk history h sets root map = record {
       ((map.used 0).1 (Contains-head 0 (1 ∷ [])), ((map.used 1).1 (Contains-tail 0 1 (1 ∷ []) (Contains-head 1 [])), tt));
 }
 
-pub empty_kept : (disk : Disk) (history : List CallEvent) (hs : List PairHeader) (sets : BlockStateList) (n : ℕ) → block_count disk ≡ n → IsThreadOfEmptyRoot disk history hs → IsBlockMapAfterFormat n sets → WasKeptThreadOnDisk disk history hs sets
+pub empty_kept : (disk : Disk) (history : List DeviceCallEvent) (hs : List PairHeader) (sets : BlockStateList) (n : ℕ) → block_count disk ≡ n → IsThreadOfEmptyRoot disk history hs → IsBlockMapAfterFormat n sets → WasKeptThreadOnDisk disk history hs sets
 empty_kept disk history hs sets n count thread map =
     subst (λ z. WasKeptThreadOnDisk disk history z sets) (sym thread.only) (kept disk history thread.first sets thread.root (subst (λ k. IsBlockMapAfterFormat k sets) (sym count) map))
 
-pub empty_formatted : (disk : Disk) (history : List CallEvent) (hs : List PairHeader) (sets : BlockStateList) (n : ℕ) → block_count disk ≡ n → IsThreadOfEmptyRoot disk history hs → IsBlockMapAfterFormat n sets → IsFreshlyFormatted (kept_thread_view disk history hs sets)
+pub empty_formatted : (disk : Disk) (history : List DeviceCallEvent) (hs : List PairHeader) (sets : BlockStateList) (n : ℕ) → block_count disk ≡ n → IsThreadOfEmptyRoot disk history hs → IsBlockMapAfterFormat n sets → IsFreshlyFormatted (kept_thread_view disk history hs sets)
 empty_formatted disk history hs sets n count thread map = record {
   fresh = thread.root.fresh;
   first = thread.root.first;
@@ -207,11 +207,11 @@ empty_formatted disk history hs sets n count thread map = record {
   size = map.size ∙ sym count;
 }
 
-pub shows_empty : (t : Kept) → IsFreshlyFormatted t → ShowsEmptyRoot t
+pub shows_empty : (t : KeptThread) → IsFreshlyFormatted t → IsWritableImageWithEmptyRoot t
 shows_empty t h = record {
   accepted = subst (IsAcceptedImage t.disk) (sym h.pairs) (accepted t.disk h.fresh);
-  writable = subst (IsWritable t.disk) (sym h.pairs) (writable t.disk h.fresh);
-  view = ap (view_of_disk t.disk) h.pairs ∙ ap (λ tree. record { tree = tree; gstate = zero_gstate; used = blocks_of_address anchor_pair_address }) (shows t.disk);
+  writable = subst (IsWritableImage t.disk) (sym h.pairs) (writable t.disk h.fresh);
+  view = ap (view_of_disk t.disk) h.pairs ∙ ap (λ tree. record { tree = tree; gstate = zero_gstate; used = blocks_of_pair_address anchor_pair_address }) (shows t.disk);
 }
 
 -- what was written of the device, in the words of the thread

@@ -3,7 +3,7 @@ use Rattle.std.proofs.Common.{ℕ, ◌≡◌, ◌≤◌, ◌∙◌, true, List, 
 use Rattle.std.specs.Prelude.{Contains}
 use Rattle.std.specs.Option.{option_map}
 use Rattle.lfs_model.specs.TreeEdits.{is_file}
-use Rattle.lfs_model.specs.BlockSets.{AreExactlyTheUsedBlocks, IsUsed}
+use Rattle.lfs_model.specs.BlockSets.{AreExactlyTheUsedBlocks, IsBlockUsed}
 use Rattle.lfs_model.specs.Disk.{Disk, SameGeometry, block_bytes_on_disk}
 use Rattle.lfs_model.specs.Keeping.{struct_of_path}
 use Rattle.lfs_model.specs.SlotEdits.{slot_of_path}
@@ -12,57 +12,57 @@ use Rattle.lfs_model.specs.Thread.{blocks_of_pairs}
 use Rattle.lfs_model.specs.Tree.{Path, node_of_struct_and_attributes}
 use Rattle.lfs_model.specs.View.{IsAcceptedImage}
 use Rattle.lfs_model.specs.Shown.{all_slots_not_moved, skip_list_bytes_on_disk, entries_by_directory_in_thread, skip_list_blocks_of_struct, tree_on_disk, used_blocks}
-use Rattle.lfs_model.proofs.BlockSets.{Contains-count, count-Contains}
-use Rattle.lfs_model.proofs.Counts.{Each, count, count_append, each_from_counted, once_from_distinct}
+use Rattle.lfs_model.proofs.BlockSets.{Contains-occurrence_count_of_number, occurrence_count_of_number-Contains}
+use Rattle.lfs_model.proofs.Counts.{Each, occurrence_count_of_number, count_append, each_from_counted, once_from_distinct}
 use Rattle.lfs_model.proofs.Files.{file_blocks_same}
-use Rattle.lfs_model.proofs.Splices.{files_of}
-use Rattle.lfs_thread.specs.Kept.{Kept}
-use Rattle.lfs_tree.specs.KeptFiles.{KeepsFileAtPath, blocks_named, list_at}
+use Rattle.lfs_model.proofs.Splices.{file_blocks_of_slots}
+use Rattle.lfs_thread.specs.Kept.{KeptThread}
+use Rattle.lfs_tree.specs.KeptFiles.{KeepsFileAtPath, skip_list_blocks_of_slot, skip_list_blocks_at_path}
 use Rattle.lfs_tree.proofs.SlotsHave.{slot_has}
 
 -- ---- the blocks of a file's list
 
 -- each of a slot's is one of the image's files
-pub among_files : (b : ℕ) (disk : Disk) (slots : List Slot) → Each (λ (s : Slot). count b (skip_list_blocks_of_struct disk s.struct) ≤ count b (files_of disk slots)) slots
+pub among_files : (b : ℕ) (disk : Disk) (slots : List Slot) → Each (λ (s : Slot). occurrence_count_of_number b (skip_list_blocks_of_struct disk s.struct) ≤ occurrence_count_of_number b (file_blocks_of_slots disk slots)) slots
 among_files b disk [] = tt
 among_files b disk (s ∷ slots) =
-    let e = count_append b (skip_list_blocks_of_struct disk s.struct) (files_of disk slots) in
+    let e = count_append b (skip_list_blocks_of_struct disk s.struct) (file_blocks_of_slots disk slots) in
     (omega arith, weaker slots (among_files b disk slots))
   where
-    weaker : (xs : List Slot) → Each (λ (x : Slot). count b (skip_list_blocks_of_struct disk x.struct) ≤ count b (files_of disk slots)) xs
-        → Each (λ (x : Slot). count b (skip_list_blocks_of_struct disk x.struct) ≤ count b (files_of disk (s ∷ slots))) xs
+    weaker : (xs : List Slot) → Each (λ (x : Slot). occurrence_count_of_number b (skip_list_blocks_of_struct disk x.struct) ≤ occurrence_count_of_number b (file_blocks_of_slots disk slots)) xs
+        → Each (λ (x : Slot). occurrence_count_of_number b (skip_list_blocks_of_struct disk x.struct) ≤ occurrence_count_of_number b (file_blocks_of_slots disk (s ∷ slots))) xs
     weaker [] h = tt
-    weaker (x ∷ xs) h = (let l = h.0 in let e = count_append b (skip_list_blocks_of_struct disk s.struct) (files_of disk slots) in omega arith, weaker xs h.1)
+    weaker (x ∷ xs) h = (let l = h.0 in let e = count_append b (skip_list_blocks_of_struct disk s.struct) (file_blocks_of_slots disk slots) in omega arith, weaker xs h.1)
 
-list_counted : (t : Kept) (path : Path) → IsAcceptedImage t.disk t.pairs → (b : ℕ) → count b (list_at t path) ≤ count b (files_of t.disk (all_slots_not_moved t.pairs))
+list_counted : (t : KeptThread) (path : Path) → IsAcceptedImage t.disk t.pairs → (b : ℕ) → occurrence_count_of_number b (skip_list_blocks_at_path t path) ≤ occurrence_count_of_number b (file_blocks_of_slots t.disk (all_slots_not_moved t.pairs))
 list_counted t path accepted b = go (slot_of_path t.pairs path) refl
   where
-    go : (o : Option Slot) → slot_of_path t.pairs path ≡ o → count b (blocks_named t.disk o) ≤ count b (files_of t.disk (all_slots_not_moved t.pairs))
+    go : (o : Option Slot) → slot_of_path t.pairs path ≡ o → occurrence_count_of_number b (skip_list_blocks_of_slot t.disk o) ≤ occurrence_count_of_number b (file_blocks_of_slots t.disk (all_slots_not_moved t.pairs))
     go None e = omega arith
-    go (Some s) e = slot_has (λ (x : Slot). count b (skip_list_blocks_of_struct t.disk x.struct) ≤ count b (files_of t.disk (all_slots_not_moved t.pairs))) t.disk t.pairs accepted (among_files b t.disk (all_slots_not_moved t.pairs)) (omega arith) path s e
+    go (Some s) e = slot_has (λ (x : Slot). occurrence_count_of_number b (skip_list_blocks_of_struct t.disk x.struct) ≤ occurrence_count_of_number b (file_blocks_of_slots t.disk (all_slots_not_moved t.pairs))) t.disk t.pairs accepted (among_files b t.disk (all_slots_not_moved t.pairs)) (omega arith) path s e
 
 -- they are used
-pub list_used : (t : Kept) (path : Path) → IsAcceptedImage t.disk t.pairs → AreExactlyTheUsedBlocks t.map (used_blocks t.disk t.pairs) → (b : ℕ) → Contains (list_at t path) b → IsUsed t.map b
+pub list_used : (t : KeptThread) (path : Path) → IsAcceptedImage t.disk t.pairs → AreExactlyTheUsedBlocks t.map (used_blocks t.disk t.pairs) → (b : ℕ) → Contains (skip_list_blocks_at_path t path) b → IsBlockUsed t.map b
 list_used t path accepted used b has =
-    let k = count-Contains (list_at t path) b has in
+    let k = occurrence_count_of_number-Contains (skip_list_blocks_at_path t path) b has in
     let l = list_counted t path accepted b in
-    let e = count_append b (blocks_of_pairs t.pairs) (files_of t.disk (all_slots_not_moved t.pairs)) in
-    (used b).1 (Contains-count (used_blocks t.disk t.pairs) b (omega arith))
+    let e = count_append b (blocks_of_pairs t.pairs) (file_blocks_of_slots t.disk (all_slots_not_moved t.pairs)) in
+    (used b).1 (Contains-occurrence_count_of_number (used_blocks t.disk t.pairs) b (omega arith))
 
 -- and no pair's
-pub no_pairs : (t : Kept) (path : Path) → IsAcceptedImage t.disk t.pairs → (b : ℕ) → Contains (list_at t path) b → Contains (blocks_of_pairs t.pairs) b → ⊥
+pub no_pairs : (t : KeptThread) (path : Path) → IsAcceptedImage t.disk t.pairs → (b : ℕ) → Contains (skip_list_blocks_at_path t path) b → Contains (blocks_of_pairs t.pairs) b → ⊥
 no_pairs t path accepted b has pairs =
-    let k = count-Contains (list_at t path) b has in
-    let p = count-Contains (blocks_of_pairs t.pairs) b pairs in
+    let k = occurrence_count_of_number-Contains (skip_list_blocks_at_path t path) b has in
+    let p = occurrence_count_of_number-Contains (blocks_of_pairs t.pairs) b pairs in
     let l = list_counted t path accepted b in
-    let e = count_append b (blocks_of_pairs t.pairs) (files_of t.disk (all_slots_not_moved t.pairs)) in
+    let e = count_append b (blocks_of_pairs t.pairs) (file_blocks_of_slots t.disk (all_slots_not_moved t.pairs)) in
     let o = once_from_distinct (used_blocks t.disk t.pairs) accepted.owned_once b in
     absurd (omega arith)
 
 -- ---- a file that is kept
 
-module _ (old new : Kept) (path : Path) (file : is_file (tree_on_disk old.disk old.pairs path) ≡ true) (same : struct_of_path new.pairs path ≡ struct_of_path old.pairs path) (geometry : SameGeometry old.disk new.disk)
-    (bytes : (b : ℕ) → Contains (list_at old path) b → block_bytes_on_disk new.disk b ≡ block_bytes_on_disk old.disk b) where
+module _ (old new : KeptThread) (path : Path) (file : is_file (tree_on_disk old.disk old.pairs path) ≡ true) (same : struct_of_path new.pairs path ≡ struct_of_path old.pairs path) (geometry : SameGeometry old.disk new.disk)
+    (bytes : (b : ℕ) → Contains (skip_list_blocks_at_path old path) b → block_bytes_on_disk new.disk b ≡ block_bytes_on_disk old.disk b) where
   is_kept : (attributes others : Attributes) (s u : Struct) → u ≡ s → is_file (Some (node_of_struct_and_attributes (skip_list_bytes_on_disk old.disk) (entries_by_directory_in_thread old.pairs) attributes s)) ≡ true
       → is_file (Some (node_of_struct_and_attributes (skip_list_bytes_on_disk new.disk) (entries_by_directory_in_thread new.pairs) others u)) ≡ true
   is_kept attributes others s (Inline own) e h = refl
@@ -72,14 +72,14 @@ module _ (old new : Kept) (path : Path) (file : is_file (tree_on_disk old.disk o
 
   list_kept : (s u : Struct) → u ≡ s → ((b : ℕ) → Contains (skip_list_blocks_of_struct old.disk s) b → block_bytes_on_disk new.disk b ≡ block_bytes_on_disk old.disk b) → skip_list_blocks_of_struct new.disk u ≡ skip_list_blocks_of_struct old.disk s
   list_kept s u e k = ap (skip_list_blocks_of_struct new.disk) e
-      ∙ file_blocks_same old.disk new.disk s geometry (each_from_counted (λ b. block_bytes_on_disk new.disk b ≡ block_bytes_on_disk old.disk b) (skip_list_blocks_of_struct old.disk s) (λ b some. k b (Contains-count (skip_list_blocks_of_struct old.disk s) b some)))
+      ∙ file_blocks_same old.disk new.disk s geometry (each_from_counted (λ b. block_bytes_on_disk new.disk b ≡ block_bytes_on_disk old.disk b) (skip_list_blocks_of_struct old.disk s) (λ b some. k b (Contains-occurrence_count_of_number (skip_list_blocks_of_struct old.disk s) b some)))
 
   abbrev StaysAt : Option Slot → Option Slot → Type 0
-  StaysAt was now = (is_file (option_map (λ (u : Slot). node_of_struct_and_attributes (skip_list_bytes_on_disk new.disk) (entries_by_directory_in_thread new.pairs) u.attributes u.struct) now) ≡ true) × (blocks_named new.disk now ≡ blocks_named old.disk was)
+  StaysAt was now = (is_file (option_map (λ (u : Slot). node_of_struct_and_attributes (skip_list_bytes_on_disk new.disk) (entries_by_directory_in_thread new.pairs) u.attributes u.struct) now) ≡ true) × (skip_list_blocks_of_slot new.disk now ≡ skip_list_blocks_of_slot old.disk was)
 
   slots_kept : (was now : Option Slot) → option_map (λ (u : Slot). u.struct) now ≡ option_map (λ (u : Slot). u.struct) was
       → is_file (option_map (λ (u : Slot). node_of_struct_and_attributes (skip_list_bytes_on_disk old.disk) (entries_by_directory_in_thread old.pairs) u.attributes u.struct) was) ≡ true
-      → ((b : ℕ) → Contains (blocks_named old.disk was) b → block_bytes_on_disk new.disk b ≡ block_bytes_on_disk old.disk b) → StaysAt was now
+      → ((b : ℕ) → Contains (skip_list_blocks_of_slot old.disk was) b → block_bytes_on_disk new.disk b ≡ block_bytes_on_disk old.disk b) → StaysAt was now
   slots_kept None now e h k = absurd (cc)
   slots_kept (Some s) None e h k = absurd (cc)
   slots_kept (Some s) (Some u) e h k =
@@ -91,10 +91,10 @@ module _ (old new : Kept) (path : Path) (file : is_file (tree_on_disk old.disk o
       let k = slots_kept (slot_of_path old.pairs path) (slot_of_path new.pairs path) same file bytes in
       record { file = k.0; struct = same; list = k.1; bytes = bytes }
 
-pub keeps_same : (t : Kept) (path : Path) → is_file (tree_on_disk t.disk t.pairs path) ≡ true → KeepsFileAtPath t t path
+pub keeps_same : (t : KeptThread) (path : Path) → is_file (tree_on_disk t.disk t.pairs path) ≡ true → KeepsFileAtPath t t path
 keeps_same t path file = record { file = file; struct = refl; list = refl; bytes = λ b has. refl }
 
-pub keeps_then : (a b c : Kept) (path : Path) → KeepsFileAtPath a b path → KeepsFileAtPath b c path → KeepsFileAtPath a c path
+pub keeps_then : (a b c : KeptThread) (path : Path) → KeepsFileAtPath a b path → KeepsFileAtPath b c path → KeepsFileAtPath a c path
 keeps_then a b c path first second = record {
   file = second.file;
   struct = second.struct ∙ first.struct;

@@ -3,11 +3,11 @@ use Rattle.std.proofs.Common.{ℕ, ◌≡◌, ◌∙◌, ◌||◌, true, Result,
 use Rattle.std.specs.Prelude.{OnErr, is_err}
 use Rattle.lfs_device.specs.declared.error.Error.{Error}
 use Rattle.lfs_model.specs.Tree.{Tree}
-use Rattle.lfs_thread.specs.Kept.{Kept, ThreadView}
+use Rattle.lfs_thread.specs.Kept.{KeptThread, ThreadView}
 use Rattle.lfs_tree.specs.TreeChanges.{ChangesTreeOrFails}
-use Rattle.lfs_tree.specs.RootedThreads.{IsSoundThreadUnlessFailed, IsSoundThreadWithRoot}
+use Rattle.lfs_tree.specs.RootedThreads.{IsSoundThreadUnlessFailed, IsSoundThreadWithRootAtPairNumber}
 
-module _ {X : Type 0} (t b new : ThreadView) (Done : Kept → Type 0) (after : Tree) (r : Result X Error) (w : ChangesTreeOrFails t Done after r b) (f : new ≡ record b { failed = is_err r || b.failed }) where
+module _ {X : Type 0} (t b new : ThreadView) (Done : KeptThread → Type 0) (after : Tree) (r : Result X Error) (w : ChangesTreeOrFails t Done after r b) (f : new ≡ record b { failed = is_err r || b.failed }) where
   pub noted : ChangesTreeOrFails t Done after r new
   noted = subst (λ (n : ThreadView). ChangesTreeOrFails t Done after r n) (sym f) (go r w)
     where
@@ -22,7 +22,7 @@ module _ {X : Type 0} (t b new : ThreadView) (Done : Kept → Type 0) (after : T
       go (Ok x) = tt
       go (Err e) = refl
 
-  pub noted_held : (root : ℕ) → IsSoundThreadWithRoot t root true → IsSoundThreadUnlessFailed new root true
+  pub noted_held : (root : ℕ) → IsSoundThreadWithRootAtPairNumber t root true → IsSoundThreadUnlessFailed new root true
   noted_held root rooted = subst (λ (n : ThreadView). IsSoundThreadUnlessFailed n root true) (sym f) (go r w)
     where
       go : (r : Result X Error) → ChangesTreeOrFails t Done after r b → IsSoundThreadUnlessFailed (record b { failed = is_err r || b.failed }) root true

@@ -4,33 +4,33 @@ use Rattle.std.specs.Prelude.{IfOk, IfSome, sum_by}
 use Rattle.std.proofs.lemmas.List.Sums.{sum_by-append, sum_by-cons}
 use Rattle.lfs_device.specs.declared.error.Error.{Error}
 use Rattle.lfs_model.specs.Disk.{Disk}
-use Rattle.lfs_model.specs.Frame.{pair_count_of_directory_at, parents}
-use Rattle.lfs_model.specs.History.{CallEvent, reads}
+use Rattle.lfs_model.specs.Frame.{pair_count_of_directory_at, ancestor_paths_of_path}
+use Rattle.lfs_model.specs.History.{DeviceCallEvent, read_count_of_history}
 use Rattle.lfs_model.specs.Names.{Name}
 use Rattle.lfs_model.specs.SlotEdits.{slot_of_path}
 use Rattle.lfs_model.specs.Slots.{zero_gstate}
-use Rattle.lfs_model.specs.Thread.{Pair, gstate_of}
+use Rattle.lfs_model.specs.Thread.{Pair, gstate_of_pairs}
 use Rattle.lfs_model.specs.Tree.{Path}
 use Rattle.lfs_model.specs.View.{IsAcceptedImage}
 use Rattle.lfs_model.specs.Shown.{tree_on_disk}
-use Rattle.lfs_thread.specs.Kept.{Kept, ThreadView}
+use Rattle.lfs_thread.specs.Kept.{KeptThread, ThreadView}
 use Rattle.lfs_thread.specs.Steps.{IsThreadOnlyRead}
-use Rattle.lfs_lookup.specs.AtPath.{IsLookupResultAtPath}
-use Rattle.lfs_lookup.specs.Paths.{PathLeadsToFirstPair, IsUnmovedSlotOfPath, IsSlotOfNameBelowPath, PathLeadsToFound, IsLookupResultWithSlotHidden}
-use Rattle.lfs_lookup.specs.declared.paths.Found.{Found}
-use Rattle.lfs_lookup.specs.declared.paths.Found.TheVariants as found
-use Rattle.lfs_lookup.specs.declared.paths.Shown.{Shown}
-use Rattle.lfs_lookup.specs.declared.search.Spot.{Spot}
+use Rattle.lfs_lookup.specs.AtPath.{IsLookupResultAtPathHidingMovedSlot}
+use Rattle.lfs_lookup.specs.Paths.{PathLeadsToFirstPair, IsUnmovedSlotOfPath, IsSlotOfNameBelowPath, PathLeadsToLookupResult, IsLookupResultWithSlotHidden}
+use Rattle.lfs_lookup.specs.declared.paths.PathLookup.{PathLookup}
+use Rattle.lfs_lookup.specs.declared.paths.PathLookup.TheVariants as found
+use Rattle.lfs_lookup.specs.declared.paths.VisiblePathLookup.{VisiblePathLookup}
+use Rattle.lfs_lookup.specs.declared.search.SlotPosition.{SlotPosition}
 use Rattle.lfs_lookup.proofs.Entered.{hiding_none}
-use Rattle.lfs_tree.specs.RenamePaths.{AreRenameTargets, directories_of_rename, lookup_result_of_found}
-use Rattle.lfs_tree.specs.TreeState.{TreeState, kept_of}
+use Rattle.lfs_tree.specs.RenamePaths.{AreRenameTargets, directories_searched_for_rename, visible_lookup_without_insertion_spot_and_parent}
+use Rattle.lfs_tree.specs.TreeState.{TreeState, kept_thread_of_tree_state}
 use Rattle.lfs_tree.specs.declared.rename_paths.RenameFindings.{RenameFindings}
 use Rattle.lfs_tree.specs.declared.rename_paths.RenameTargets.{RenameTargets}
 use Rattle.lfs_tree.proofs.Carried.{read_is, with_history}
 
 -- ---- where the paths lead to, after reads
 
-leads_on : (t : Kept) (h : List CallEvent) (path : Path) (f : Found) → PathLeadsToFound t path f → PathLeadsToFound (with_history t h) path f
+leads_on : (t : KeptThread) (h : List DeviceCallEvent) (path : Path) (f : PathLookup) → PathLeadsToLookupResult t path f → PathLeadsToLookupResult (with_history t h) path f
 leads_on t h path found.Root l = record { parents = l.parents; there = l.there }
 leads_on t h path found.ParentIsFile l = record { parents = l.parents; there = l.there }
 leads_on t h path found.ParentIsMissing l = record { parents = l.parents; there = l.there }
@@ -38,22 +38,22 @@ leads_on t h path (found.Nothing parent place) l = record { parents = l.parents;
 leads_on t h path (found.Directory parent slot first) l = record { parents = l.parents; there = l.there }
 leads_on t h path (found.File parent slot contents) l = record { parents = l.parents; there = l.there }
 
-pub leads_since : (a b : Kept) (path : Path) (f : Found) → IsThreadOnlyRead a b → PathLeadsToFound a path f → PathLeadsToFound b path f
-leads_since a b path f only l = subst (λ z. PathLeadsToFound z path f) (sym (read_is a b only)) (leads_on a b.history path f l)
+pub leads_since : (a b : KeptThread) (path : Path) (f : PathLookup) → IsThreadOnlyRead a b → PathLeadsToLookupResult a path f → PathLeadsToLookupResult b path f
+leads_since a b path f only l = subst (λ z. PathLeadsToLookupResult z path f) (sym (read_is a b only)) (leads_on a b.history path f l)
 
-targets_since : (a b : Kept) (from to : Path) (r : RenameTargets) → IsThreadOnlyRead a b → AreRenameTargets a from to r → AreRenameTargets b from to r
+targets_since : (a b : KeptThread) (from to : Path) (r : RenameTargets) → IsThreadOnlyRead a b → AreRenameTargets a from to r → AreRenameTargets b from to r
 targets_since a b from to r only k = record {
-  settled = ap gstate_of only.pairs ∙ k.settled;
+  settled = ap gstate_of_pairs only.pairs ∙ k.settled;
   entry = leads_since a b from r.entry only k.entry;
   target = leads_since a b to r.target only k.target;
 }
 
 -- the tree stays
-pub same_tree : (a b : Kept) → IsThreadOnlyRead a b → tree_on_disk b.disk b.pairs ≡ tree_on_disk a.disk a.pairs
+pub same_tree : (a b : KeptThread) → IsThreadOnlyRead a b → tree_on_disk b.disk b.pairs ≡ tree_on_disk a.disk a.pairs
 same_tree a b only = ap (λ (d : Disk). tree_on_disk d b.pairs) only.disk ∙ ap (λ (ps : List Pair). tree_on_disk a.disk ps) only.pairs
 
 -- so do those of what was found, if they are known
-pub found_since : (a b : Kept) (from to : Path) (r : Result RenameFindings Error) → IsThreadOnlyRead a b → IfOk r (λ found. IfSome found.targets (AreRenameTargets a from to)) → IfOk r (λ found. IfSome found.targets (AreRenameTargets b from to))
+pub found_since : (a b : KeptThread) (from to : Path) (r : Result RenameFindings Error) → IsThreadOnlyRead a b → IfOk r (λ found. IfSome found.targets (AreRenameTargets a from to)) → IfOk r (λ found. IfSome found.targets (AreRenameTargets b from to))
 found_since a b from to (Err e) only k = tt
 found_since a b from to (Ok x) only k = go x.targets k
   where
@@ -62,9 +62,9 @@ found_since a b from to (Ok x) only k = go x.targets k
     go (Some x) k = targets_since a b from to x only k
 
 -- a recovery before it did nothing
-pub known_behind : (old mid : TreeState) (t : ThreadView) (from to : Path) (o : Option RenameTargets) → (gstate_of old.pairs ≡ zero_gstate → mid ≡ old) → t.kept ≡ kept_of mid → IfSome o (AreRenameTargets (kept_of old) from to) → IfSome o (AreRenameTargets t.kept from to)
+pub known_behind : (old mid : TreeState) (t : ThreadView) (from to : Path) (o : Option RenameTargets) → (gstate_of_pairs old.pairs ≡ zero_gstate → mid ≡ old) → t.kept ≡ kept_thread_of_tree_state mid → IfSome o (AreRenameTargets (kept_thread_of_tree_state old) from to) → IfSome o (AreRenameTargets t.kept from to)
 known_behind old mid t from to None idle is k = tt
-known_behind old mid t from to (Some x) idle is k = subst (λ z. AreRenameTargets z from to x) (sym (is ∙ ap kept_of (idle k.settled))) k
+known_behind old mid t from to (Some x) idle is k = subst (λ z. AreRenameTargets z from to x) (sym (is ∙ ap kept_thread_of_tree_state (idle k.settled))) k
 
 -- ---- what is there
 
@@ -72,7 +72,7 @@ known_behind old mid t from to (Some x) idle is k = subst (λ z. AreRenameTarget
 not_deleted : (id : ℕ) → ◌≡◌ {A = Option ℕ} None (Some id) → ⊥
 not_deleted id k = absurd (cc)
 
-abbrev spot_of_shown_entry : (ps : List Pair) (path above : Path) (name : Name) (parent : ℕ) (slot : Spot) → path ≡ above ++ name ∷ [] → IsSlotOfNameBelowPath ps above name parent slot → IsUnmovedSlotOfPath ps None path slot
+abbrev spot_of_shown_entry : (ps : List Pair) (path above : Path) (name : Name) (parent : ℕ) (slot : SlotPosition) → path ≡ above ++ name ∷ [] → IsSlotOfNameBelowPath ps above name parent slot → IsUnmovedSlotOfPath ps None path slot
 spot_of_shown_entry ps path above name parent slot e s = record {
   above = above;
   name = name;
@@ -84,7 +84,7 @@ spot_of_shown_entry ps path above name parent slot e s = record {
   slot = ap (slot_of_path ps) e ∙ s.slot;
 }
 
-shows_to : (t : Kept) (path : Path) (f : Found) → PathLeadsToFound t path f → IsLookupResultWithSlotHidden t None path (lookup_result_of_found f)
+shows_to : (t : KeptThread) (path : Path) (f : PathLookup) → PathLeadsToLookupResult t path f → IsLookupResultWithSlotHidden t None path (visible_lookup_without_insertion_spot_and_parent f)
 shows_to t path found.Root l = l.there
 shows_to t path found.ParentIsFile l = l.parents
 shows_to t path found.ParentIsMissing l = l.parents
@@ -93,22 +93,22 @@ shows_to t path (found.Directory parent slot first) l =
     (l.parents, (spot_of_shown_entry t.pairs path l.there.above l.there.name parent slot l.there.is l.there.there.0, subst (λ (p : Path). PathLeadsToFirstPair t.pairs p first) (sym l.there.is) l.there.there.1))
 shows_to t path (found.File parent slot contents) l = (l.parents, (spot_of_shown_entry t.pairs path l.there.above l.there.name parent slot l.there.is l.there.there.0, l.there.there.1))
 
-pub shows_found : (t : Kept) (path : Path) (f : Found) (s : Shown) → IsAcceptedImage t.disk t.pairs → gstate_of t.pairs ≡ zero_gstate → PathLeadsToFound t path f → s ≡ lookup_result_of_found f → IsLookupResultAtPath t path s
+pub shows_found : (t : KeptThread) (path : Path) (f : PathLookup) (s : VisiblePathLookup) → IsAcceptedImage t.disk t.pairs → gstate_of_pairs t.pairs ≡ zero_gstate → PathLeadsToLookupResult t path f → s ≡ visible_lookup_without_insertion_spot_and_parent f → IsLookupResultAtPathHidingMovedSlot t path s
 shows_found t path f s ok settled l is =
-    subst (λ z. IsLookupResultAtPath t path z) (sym is) (record { moved = None; hides = (hiding_none t (record { accepted = ok; settled = settled })).hides; shows = shows_to t path f l })
+    subst (λ z. IsLookupResultAtPathHidingMovedSlot t path z) (sym is) (record { moved = None; hides = (hiding_none t (record { accepted = ok; settled = settled })).hides; shows = shows_to t path f l })
 
 -- ---- how many reads that takes
 
-pub sum_of_rename : (f : Path → ℕ) (from to : Path) → sum_by f (directories_of_rename from to) ≡ sum_by f (parents from) + (sum_by f (parents from) + (sum_by f (parents to) + f to))
+pub sum_of_rename : (f : Path → ℕ) (from to : Path) → sum_by f (directories_searched_for_rename from to) ≡ sum_by f (ancestor_paths_of_path from) + (sum_by f (ancestor_paths_of_path from) + (sum_by f (ancestor_paths_of_path to) + f to))
 sum_of_rename f from to =
-    let a = sum_by-append f (parents from) (parents from ++ (parents to ++ to ∷ [])) in
-    let b = sum_by-append f (parents from) (parents to ++ to ∷ []) in
-    let c = sum_by-append f (parents to) (to ∷ []) in
+    let a = sum_by-append f (ancestor_paths_of_path from) (ancestor_paths_of_path from ++ (ancestor_paths_of_path to ++ to ∷ [])) in
+    let b = sum_by-append f (ancestor_paths_of_path from) (ancestor_paths_of_path to ++ to ∷ []) in
+    let c = sum_by-append f (ancestor_paths_of_path to) (to ∷ []) in
     let d = sum_by-cons f to [] in
     omega (arith, a, b, c, d)
 
-pub few_since : (a b : Kept) (paths : List Path) (n : ℕ) → IsThreadOnlyRead a b → n ≤ reads b.history + sum_by (pair_count_of_directory_at b.pairs) paths → n ≤ reads b.history + sum_by (pair_count_of_directory_at a.pairs) paths
-few_since a b paths n only h = subst (λ (ps : List Pair). n ≤ reads b.history + sum_by (pair_count_of_directory_at ps) paths) only.pairs h
+pub few_since : (a b : KeptThread) (paths : List Path) (n : ℕ) → IsThreadOnlyRead a b → n ≤ read_count_of_history b.history + sum_by (pair_count_of_directory_at b.pairs) paths → n ≤ read_count_of_history b.history + sum_by (pair_count_of_directory_at a.pairs) paths
+few_since a b paths n only h = subst (λ (ps : List Pair). n ≤ read_count_of_history b.history + sum_by (pair_count_of_directory_at ps) paths) only.pairs h
 
-pub own_since : (a b : Kept) (path : Path) (n : ℕ) → IsThreadOnlyRead a b → n ≤ reads b.history + pair_count_of_directory_at b.pairs path → n ≤ reads b.history + pair_count_of_directory_at a.pairs path
-own_since a b path n only h = subst (λ (ps : List Pair). n ≤ reads b.history + pair_count_of_directory_at ps path) only.pairs h
+pub own_since : (a b : KeptThread) (path : Path) (n : ℕ) → IsThreadOnlyRead a b → n ≤ read_count_of_history b.history + pair_count_of_directory_at b.pairs path → n ≤ read_count_of_history b.history + pair_count_of_directory_at a.pairs path
+own_since a b path n only h = subst (λ (ps : List Pair). n ≤ read_count_of_history b.history + pair_count_of_directory_at ps path) only.pairs h

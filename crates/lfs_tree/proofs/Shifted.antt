@@ -5,38 +5,38 @@ use Rattle.std.specs.List.{list_all}
 use Rattle.std.specs.Option.{option_and_then}
 use Rattle.std.proofs.lemmas.Bool.{ltb-false}
 use Rattle.std.proofs.lemmas.Option.{slice_get_within}
-use Rattle.lfs_device.specs.Bytes.{HasBytes}
+use Rattle.lfs_device.specs.Bytes.{AreAllBlockElementsBelow256}
 use Rattle.lfs_device.specs.declared.error.Error.{Error}
-use Rattle.lfs_model.specs.TreeEdits.{is_path_beneath, last_name_of_path, renamed, path_without_prefix, same_path}
-use Rattle.lfs_model.specs.Disk.{entry_charge_limit}
-use Rattle.lfs_model.specs.History.{CallEvent, AreCallsSinceOnlyReads, faults}
+use Rattle.lfs_model.specs.TreeEdits.{is_path_beneath, last_name_of_path, tree_after_rename, path_without_prefix, same_path}
+use Rattle.lfs_model.specs.Disk.{charged_entry_size_limit_in_pair}
+use Rattle.lfs_model.specs.History.{DeviceCallEvent, AreCallsSinceOnlyReads, fault_count_of_history}
 use Rattle.lfs_model.specs.InDirectory.{IsPlaceWhereNameBelongs}
-use Rattle.lfs_model.specs.Names.{Name, is_path_component, is_name}
+use Rattle.lfs_model.specs.Names.{Name, is_path_component, is_valid_name}
 use Rattle.lfs_model.specs.Operations as ops
-use Rattle.lfs_model.specs.Slots.{Slot, charge_of_entry}
-use Rattle.lfs_model.specs.Refusals.{path_or_root, is_root}
-use Rattle.lfs_model.specs.Thread.{Pair, gstate_of, pair_count_before_root}
+use Rattle.lfs_model.specs.Slots.{Slot, entry_charge_with_longest_inline_contents}
+use Rattle.lfs_model.specs.Refusals.{path_of_bytes_or_root, is_root_path}
+use Rattle.lfs_model.specs.Thread.{Pair, gstate_of_pairs, pair_count_before_root}
 use Rattle.lfs_model.specs.Tree.{Path, Tree, branch_address_of_struct}
-use Rattle.lfs_model.specs.Profile.{FitsEntryLimits}
+use Rattle.lfs_model.specs.Profile.{IsEntryWithinWritableLimits}
 use Rattle.lfs_model.specs.Shown.{IsPathToDirectory, tree_on_disk}
 use Rattle.lfs_model.proofs.Committed.{no_move_from}
 use Rattle.lfs_model.proofs.Paths.{last_is}
-use Rattle.lfs_thread.specs.Kept.{Kept, ThreadView}
+use Rattle.lfs_thread.specs.Kept.{KeptThread, ThreadView}
 use Rattle.lfs_thread.specs.Steps.{IsThreadOnlyRead}
-use Rattle.lfs_operations.specs.MovingSteps.{WritesPairsAndFreeBlocks}
+use Rattle.lfs_operations.specs.MovingSteps.{WritesOnlyThreadPairsAndFreeBlocks}
 use Rattle.lfs_tree.specs.Permissions.{CanRenamePath}
 use Rattle.lfs_tree.specs.Calls as call
 use Rattle.lfs_tree.specs.Calls.{tree_after_call}
-use Rattle.lfs_tree.specs.TreeChanges.{AppliesOperationOnThread, HasAppliedCall, CanChangeRecoveredImage, AppliesCallOnThread, IsFoundAtPathWithLastName, SparesBlocksOutsideOperation, HasSoundImageOfTree, SurvivesWithOldOrNewTree}
+use Rattle.lfs_tree.specs.TreeChanges.{AppliesOperationOnThread, HasAppliedCall, CanChangeRecoveredImage, AppliesCallOnThreadOrFails, IsLookupResultAndLastNameOfPath, SparesBlocksOutsideOperation, HasSoundImageOfTree, SurvivesWithOldOrNewTree}
 use Rattle.lfs_tree.specs.SlotChanges.{HasEntryAtPath}
 use Rattle.lfs_tree.specs.RootedThreads.{tree_state_of_kept_thread}
-use Rattle.lfs_lookup.specs.Paths.{PathLeadsToFirstPair, PathLeadsToFound, IsSlotOfNameBelowPath}
-use Rattle.lfs_tree.specs.Moves.{CanMoveEntry, CanMoveOntoFound, CanMoveOntoFile, CanMoveOntoDirectory, CanMoveToVacantPath, HasMovedEntry, IsRenameSourceAtPath, IsRenameSourceOfFound, WorksOrReportsError}
+use Rattle.lfs_lookup.specs.Paths.{PathLeadsToFirstPair, PathLeadsToLookupResult, IsSlotOfNameBelowPath}
+use Rattle.lfs_tree.specs.Moves.{CanMoveEntry, CanMoveOntoFound, CanMoveOntoFile, CanMoveOntoDirectory, CanMoveToVacantPath, HasMovedEntry, IsRenameSourceAtPath, IsRenameSourceOfFound, ThreadWorksOrReportsError}
 use Rattle.lfs_tree.specs.declared.renames_at.RenameSource.{RenameSource}
 use Rattle.lfs_lookup.specs.declared.entry.FileStorage.{FileStorage}
-use Rattle.lfs_lookup.specs.declared.paths.Found.{Found}
-use Rattle.lfs_lookup.specs.declared.paths.Found.TheVariants as found
-use Rattle.lfs_lookup.specs.declared.search.Spot.{Spot}
+use Rattle.lfs_lookup.specs.declared.paths.PathLookup.{PathLookup}
+use Rattle.lfs_lookup.specs.declared.paths.PathLookup.TheVariants as found
+use Rattle.lfs_lookup.specs.declared.search.SlotPosition.{SlotPosition}
 use Rattle.lfs_tree.proofs.Carried.{carried, read_is, with_history}
 use Rattle.lfs_tree.proofs.CarryEdited.{attributes_are, can_edit, inline_fits}
 use Rattle.lfs_tree.proofs.CarryGone.{branch_is, none_entered}
@@ -50,11 +50,11 @@ use Rattle.lfs_tree.proofs.Mounting.{sound_read}
 
 -- ---- what is found
 
-source_is : (ps : List Pair) (path above : Path) (name : Name) (parent : ℕ) (slot : Spot) (source : RenameSource) → path ≡ above ++ name ∷ [] → IsSlotOfNameBelowPath ps above name parent slot → source ≡ record { slot = slot; first = parent } → IsRenameSourceAtPath ps path source
+source_is : (ps : List Pair) (path above : Path) (name : Name) (parent : ℕ) (slot : SlotPosition) (source : RenameSource) → path ≡ above ++ name ∷ [] → IsSlotOfNameBelowPath ps above name parent slot → source ≡ record { slot = slot; first = parent } → IsRenameSourceAtPath ps path source
 source_is ps path above name parent slot source e s h =
     subst (IsRenameSourceAtPath ps path) (sym h) (record { slot = record { above = above; name = name; first = parent; is = e; stands = s }; first_is = refl })
 
-pub source_for : (t : Kept) (path : Path) (f : Found) (source : RenameSource) → PathLeadsToFound t path f → IsRenameSourceOfFound f source → IsRenameSourceAtPath t.pairs path source
+pub source_for : (t : KeptThread) (path : Path) (f : PathLookup) (source : RenameSource) → PathLeadsToLookupResult t path f → IsRenameSourceOfFound f source → IsRenameSourceAtPath t.pairs path source
 source_for t path found.Root source l h = absurd h
 source_for t path found.ParentIsFile source l h = absurd h
 source_for t path found.ParentIsMissing source l h = absurd h
@@ -64,7 +64,7 @@ source_for t path (found.File parent slot contents) source l h = source_is t.pai
 
 -- ---- what may be done
 
-pub entry_to_rename : (t : Kept) (from to : Path) → CanRenamePath (tree_state_of_kept_thread t true false) from to → HasEntryAtPath (tree_on_disk t.disk t.pairs) from
+pub entry_to_rename : (t : KeptThread) (from to : Path) → CanRenamePath (tree_state_of_kept_thread t true false) from to → HasEntryAtPath (tree_on_disk t.disk t.pairs) from
 entry_to_rename t from to can = record { entry = can.entry; parents = can.parents; something = can.something }
 
 -- what isn't beneath it, and is another path, doesn't begin with it
@@ -80,17 +80,17 @@ checked_apart : (same b : Bool) → same ≡ false → (not same && b) ≡ false
 checked_apart true b e f = absurd (cc)
 checked_apart false b e f = f
 
-module _ (t : ThreadView) (root : ℕ) (rests : CanChangeRecoveredImage t root) (from to : Path) (components : list_all is_path_component to ≡ true) (large : 1024 ≤ t.kept.disk.block_size) (bytes : HasBytes t.kept.disk.blocks)
-    (can : CanRenamePath (tree_state_of_kept_thread t.kept true false) from to) (other : same_path from to ≡ false) (source : RenameSource) (is : IsRenameSourceAtPath t.kept.pairs from source) (h : List CallEvent) where
+module _ (t : ThreadView) (root : ℕ) (rests : CanChangeRecoveredImage t root) (from to : Path) (components : list_all is_path_component to ≡ true) (large : 1024 ≤ t.kept.disk.block_size) (bytes : AreAllBlockElementsBelow256 t.kept.disk.blocks)
+    (can : CanRenamePath (tree_state_of_kept_thread t.kept true false) from to) (other : same_path from to ≡ false) (source : RenameSource) (is : IsRenameSourceAtPath t.kept.pairs from source) (h : List DeviceCallEvent) where
   pub elsewhere : path_without_prefix from to ≡ None
   elsewhere = goes_elsewhere from to can.apart other
 
-  named : is_name (last_name_of_path to) ≡ true
-  named = last_is_name to (λ e. let k = sym can.target ∙ ap is_root e in absurd (cc)) components can.name
+  named : is_valid_name (last_name_of_path to) ≡ true
+  named = last_is_name to (λ e. let k = sym can.target ∙ ap is_root_path e in absurd (cc)) components can.name
 
-  pub fits_there : FitsEntryLimits t.kept.disk.block_size t.kept.disk.page (record is.slot.stands.stands.stands.slot { name = last_name_of_path to })
+  pub fits_there : IsEntryWithinWritableLimits t.kept.disk.block_size t.kept.disk.page (record is.slot.stands.stands.stands.slot { name = last_name_of_path to })
   fits_there = record {
-    charge = subst (λ a. charge_of_entry t.kept.disk.block_size (last_name_of_path to) a ≤ entry_charge_limit t.kept.disk.block_size t.kept.disk.page) (attributes_are t root rests from large bytes source.slot is.slot h)
+    charge = subst (λ a. entry_charge_with_longest_inline_contents t.kept.disk.block_size (last_name_of_path to) a ≤ charged_entry_size_limit_in_pair t.kept.disk.block_size t.kept.disk.page) (attributes_are t root rests from large bytes source.slot is.slot h)
         (ltb-false _ _ (checked_apart (same_path from to) _ other can.fits));
     inline = inline_fits t root rests from large bytes source.slot is.slot h;
   }
@@ -106,13 +106,13 @@ module _ (t : ThreadView) (root : ℕ) (rests : CanChangeRecoveredImage t root) 
     first = first;
     on = on;
     not_beneath = elsewhere;
-    is_name = subst (λ n. is_name n ≡ true) (sym same) named;
-    fits = subst (λ n. FitsEntryLimits t.kept.disk.block_size t.kept.disk.page (record is.slot.stands.stands.stands.slot { name = n })) (sym same) fits_there;
+    is_name = subst (λ n. is_valid_name n ≡ true) (sym same) named;
+    fits = subst (λ n. IsEntryWithinWritableLimits t.kept.disk.block_size t.kept.disk.page (record is.slot.stands.stands.stands.slot { name = n })) (sym same) fits_there;
     logged = λ at. logged_there t.kept.disk at bytes;
     room = room_for t.kept 2 rests.held.sound can.room;
   }
 
-  pub shift_to : (parent : ℕ) (place : Spot) (name : Name) → IsFoundAtPathWithLastName t.kept to (found.Nothing parent place) name → CanMoveToVacantPath (with_history t.kept h) from to source place name
+  pub shift_to : (parent : ℕ) (place : SlotPosition) (name : Name) → IsLookupResultAndLastNameOfPath t.kept to (found.Nothing parent place) name → CanMoveToVacantPath (with_history t.kept h) from to source place name
   unfolding can_shift
   shift_to parent place name target =
       let there = target.leads.there in
@@ -122,7 +122,7 @@ module _ (t : ThreadView) (root : ℕ) (rests : CanChangeRecoveredImage t root) 
         belongs = subst (λ n. IsPlaceWhereNameBelongs t.kept.disk.order t.kept.pairs parent n place.pair place.id) (sym same) there.there.belongs;
       }
 
-  pub shift_onto : (parent : ℕ) (slot : Spot) (contents : FileStorage) (name : Name) → IsFoundAtPathWithLastName t.kept to (found.File parent slot contents) name → CanMoveOntoFile (with_history t.kept h) from to source slot contents name
+  pub shift_onto : (parent : ℕ) (slot : SlotPosition) (contents : FileStorage) (name : Name) → IsLookupResultAndLastNameOfPath t.kept to (found.File parent slot contents) name → CanMoveOntoFile (with_history t.kept h) from to source slot contents name
   unfolding can_shift
   shift_onto parent slot contents name target =
       let there = target.leads.there in
@@ -130,7 +130,7 @@ module _ (t : ThreadView) (root : ℕ) (rests : CanChangeRecoveredImage t root) 
       subst (λ n. CanMoveOntoFile (with_history t.kept h) from to source slot contents n) (sym (target.named ∙ same))
       (record { can = can_shift there.above parent there.name (sym same) there.is there.there.0.on; target = there.there.0.stands; shows = there.there.1 })
 
-  pub shift_over : (parent : ℕ) (slot : Spot) (first : ℕ) (name : Name) → IsFoundAtPathWithLastName t.kept to (found.Directory parent slot first) name → CanMoveOntoDirectory (with_history t.kept h) from to source slot first name
+  pub shift_over : (parent : ℕ) (slot : SlotPosition) (first : ℕ) (name : Name) → IsLookupResultAndLastNameOfPath t.kept to (found.Directory parent slot first) name → CanMoveOntoDirectory (with_history t.kept h) from to source slot first name
   unfolding can_shift
   shift_over parent slot first name target =
       let there = target.leads.there in
@@ -151,8 +151,8 @@ module _ (t : ThreadView) (root : ℕ) (rests : CanChangeRecoveredImage t root) 
         alone = bare.alone;
       })
 
-  pub shift_found : (f : Found) (name : Name) → IsFoundAtPathWithLastName t.kept to f name → CanMoveOntoFound (with_history t.kept h) from to source f name
-  shift_found found.Root name target = let k = sym can.target ∙ ap is_root target.leads.there in absurd (cc)
+  pub shift_found : (f : PathLookup) (name : Name) → IsLookupResultAndLastNameOfPath t.kept to f name → CanMoveOntoFound (with_history t.kept h) from to source f name
+  shift_found found.Root name target = let k = sym can.target ∙ ap is_root_path target.leads.there in absurd (cc)
   shift_found found.ParentIsFile name target = let k = sym can.target_parents ∙ target.leads.parents in absurd (cc)
   shift_found found.ParentIsMissing name target = let k = sym can.target_parents ∙ target.leads.parents in absurd (cc)
   shift_found (found.Nothing parent place) name target = shift_to parent place name target
@@ -161,8 +161,8 @@ module _ (t : ThreadView) (root : ℕ) (rests : CanChangeRecoveredImage t root) 
 
 -- ---- what comes of it
 
-module _ (t : ThreadView) (root : ℕ) (rests : CanChangeRecoveredImage t root) (from to : Path) (other : same_path from to ≡ false) (h : List CallEvent) (c : Kept) (reads : AreCallsSinceOnlyReads t.kept.disk.blocks t.kept.history h) (w : WritesPairsAndFreeBlocks (with_history t.kept h) c) where
-  shifted_at : (given to_given : List ℕ) → HasMovedEntry (with_history t.kept h) from to c → faults c.history ≡ faults t.kept.history → path_or_root given ≡ from → path_or_root to_given ≡ to → AppliesOperationOnThread t.kept (ops.Rename given to_given) c
+module _ (t : ThreadView) (root : ℕ) (rests : CanChangeRecoveredImage t root) (from to : Path) (other : same_path from to ≡ false) (h : List DeviceCallEvent) (c : KeptThread) (reads : AreCallsSinceOnlyReads t.kept.disk.blocks t.kept.history h) (w : WritesOnlyThreadPairsAndFreeBlocks (with_history t.kept h) c) where
+  shifted_at : (given to_given : List ℕ) → HasMovedEntry (with_history t.kept h) from to c → fault_count_of_history c.history ≡ fault_count_of_history t.kept.history → path_of_bytes_or_root given ≡ from → path_of_bytes_or_root to_given ≡ to → AppliesOperationOnThread t.kept (ops.Rename given to_given) c
   shifted_at given to_given is quiet e f = carried t.kept h (ops.Rename given to_given) c
       (record {
         accepted = rests.held.sound.accepted;
@@ -178,18 +178,18 @@ module _ (t : ThreadView) (root : ℕ) (rests : CanChangeRecoveredImage t root) 
         no_fault = quiet;
       }) (ap₂ same_path e f ∙ other) refl
 
-module _ (t : ThreadView) (root : ℕ) (rests : CanChangeRecoveredImage t root) (from to : Path) (other : same_path from to ≡ false) (h : List CallEvent) (new : ThreadView) (reads : AreCallsSinceOnlyReads t.kept.disk.blocks t.kept.history h) (w : WritesPairsAndFreeBlocks (with_history t.kept h) new.kept) where
+module _ (t : ThreadView) (root : ℕ) (rests : CanChangeRecoveredImage t root) (from to : Path) (other : same_path from to ≡ false) (h : List DeviceCallEvent) (new : ThreadView) (reads : AreCallsSinceOnlyReads t.kept.disk.blocks t.kept.history h) (w : WritesOnlyThreadPairsAndFreeBlocks (with_history t.kept h) new.kept) where
   abbrev before : Tree
   before = tree_on_disk t.kept.disk t.kept.pairs
 
   -- all that is said of it
-  pub rename_does : (r : Result (Unit {0}) Error) (given to_given : List ℕ) → path_or_root given ≡ from → path_or_root to_given ≡ to → faults h ≡ faults t.kept.history → OnOk r (HasMovedEntry (with_history t.kept h) from to new.kept)
-      → ReportsFaultsSince h new.kept.history r → OnOk r (new.failed ≡ false) → SurvivesWithOldOrNewTree (with_history t.kept h) new.kept (renamed from to before) → AppliesCallOnThread t (call.Rename from to) r new
+  pub rename_does : (r : Result (Unit {0}) Error) (given to_given : List ℕ) → path_of_bytes_or_root given ≡ from → path_of_bytes_or_root to_given ≡ to → fault_count_of_history h ≡ fault_count_of_history t.kept.history → OnOk r (HasMovedEntry (with_history t.kept h) from to new.kept)
+      → ReportsFaultsSince h new.kept.history r → OnOk r (new.failed ≡ false) → SurvivesWithOldOrNewTree (with_history t.kept h) new.kept (tree_after_rename from to before) → AppliesCallOnThreadOrFails t (call.Rename from to) r new
   rename_does r given to_given named to_named quiet shifted reported works survives =
       changed t new (HasAppliedCall t.kept (call.Rename from to)) (tree_after_call (call.Rename from to) before) h w.blocks r quiet reads w.writes reported works (go r shifted (quiet_reported t.kept new.kept h r quiet reported))
-      (survives_behind t root rests h new.kept w.blocks (renamed from to before) reads w.writes survives)
+      (survives_behind t root rests h new.kept w.blocks (tree_after_rename from to before) reads w.writes survives)
     where
-      go : (r : Result (Unit {0}) Error) → OnOk r (HasMovedEntry (with_history t.kept h) from to new.kept) → OnOk r (faults new.kept.history ≡ faults t.kept.history)
+      go : (r : Result (Unit {0}) Error) → OnOk r (HasMovedEntry (with_history t.kept h) from to new.kept) → OnOk r (fault_count_of_history new.kept.history ≡ fault_count_of_history t.kept.history)
           → OnOk r (HasAppliedCall t.kept (call.Rename from to) new.kept × HasSoundImageOfTree t.kept (tree_after_call (call.Rename from to) before) new.kept)
       go (Err e) shifted same = tt
       go (Ok x) shifted same = (
@@ -207,13 +207,13 @@ rests_still t mid root rests only works = record {
     sound = sound_read t.kept mid.kept true false false only rests.held.sound;
     root_is = rests.held.root_is ∙ ap pair_count_before_root (sym only.pairs);
   };
-  settled = ap gstate_of only.pairs ∙ rests.settled;
+  settled = ap gstate_of_pairs only.pairs ∙ rests.settled;
 }
 
-pub reported_of_work : {X : Type 0} (old new : ThreadView) (result : Result X Error) → WorksOrReportsError old new result → ReportsFaultsSince old.kept.history new.kept.history result
+pub reported_of_work : {X : Type 0} (old new : ThreadView) (result : Result X Error) → ThreadWorksOrReportsError old new result → ReportsFaultsSince old.kept.history new.kept.history result
 reported_of_work old new result t = record { errors = t.errors; fault = t.fault; no_fault = t.no_fault }
 
-leads_back : (t : Kept) (h : List CallEvent) (path : Path) (f : Found) → PathLeadsToFound (with_history t h) path f → PathLeadsToFound t path f
+leads_back : (t : KeptThread) (h : List DeviceCallEvent) (path : Path) (f : PathLookup) → PathLeadsToLookupResult (with_history t h) path f → PathLeadsToLookupResult t path f
 leads_back t h path found.Root l = record { parents = l.parents; there = l.there }
 leads_back t h path found.ParentIsFile l = record { parents = l.parents; there = l.there }
 leads_back t h path found.ParentIsMissing l = record { parents = l.parents; there = l.there }
@@ -222,7 +222,7 @@ leads_back t h path (found.Directory parent slot first) l = record { parents = l
 leads_back t h path (found.File parent slot contents) l = record { parents = l.parents; there = l.there }
 
 -- what is found behind calls that only read
-pub target_back : (a b : Kept) (path : Path) (f : Found) (name : Name) → IsThreadOnlyRead a b → IsFoundAtPathWithLastName b path f name → IsFoundAtPathWithLastName a path f name
+pub target_back : (a b : KeptThread) (path : Path) (f : PathLookup) (name : Name) → IsThreadOnlyRead a b → IsLookupResultAndLastNameOfPath b path f name → IsLookupResultAndLastNameOfPath a path f name
 target_back a b path f name only target =
-    let k = subst (λ z. IsFoundAtPathWithLastName z path f name) (read_is a b only) target in
+    let k = subst (λ z. IsLookupResultAndLastNameOfPath z path f name) (read_is a b only) target in
     record { leads = leads_back a b.history path f k.leads; named = k.named }

@@ -2,36 +2,36 @@
 use Rattle.std.proofs.Common.{ℕ, ◌≡◌, ◌≢◌, ◌⊎◌, inl, inr, ◌-◌, ◌∙◌, ◌++◌, false, [], ◌∷◌, Result, Ok, Err, sym, ap₂, subst, arith}
 use Rattle.std.specs.Prelude.{OnOk, is_err}
 use Rattle.lfs_device.specs.declared.error.Error.{Error}
-use Rattle.lfs_model.specs.TreeEdits.{renamed, path_without_prefix}
+use Rattle.lfs_model.specs.TreeEdits.{tree_after_rename, path_without_prefix}
 use Rattle.lfs_model.specs.InDirectory.{IsPlaceOfNameInDirectory}
 use Rattle.lfs_model.specs.Names.{Name}
 use Rattle.lfs_model.specs.Slots.{Branch}
 use Rattle.lfs_model.specs.Tree.{Path}
 use Rattle.lfs_model.specs.Shown.{tree_on_disk}
 use Rattle.lfs_operations.specs.Altering.{ChangesOnlyGivenAlteredOrFreeBlocks}
-use Rattle.lfs_operations.specs.MovingSteps.{WritesPairsAndFreeBlocks}
+use Rattle.lfs_operations.specs.MovingSteps.{WritesOnlyThreadPairsAndFreeBlocks}
 use Rattle.lfs_operations.specs.MovingAcross.{IsEntryRenamedAcrossPairs, tree_with_moved_entry}
 use Rattle.lfs_operations.specs.MovingOnto.{CanReplaceDirectoryAcrossPairs}
 use Rattle.lfs_operations.specs.Renaming.{tree_with_renamed_entry}
-use Rattle.lfs_operations.specs.RenamingOver.{CanRenameOntoDirectoryInPair, IsEntryRenamedOntoDirectory, ReportsSlotReadThenCommits}
-use Rattle.lfs_thread.specs.Device.{blocks_of_two_addresses, blocks_of_address}
-use Rattle.lfs_thread.specs.Kept.{Kept, ThreadView}
-use Rattle.lfs_thread.specs.Steps.{IsThreadOnlyRead, ThreadChangesOnlyTheseBlocks, kept_pair_at_index}
+use Rattle.lfs_operations.specs.RenamingOver.{CanRenameOntoDirectoryInPair, IsEntryRenamedOntoDirectory, ReportsErrorsOfReadThenCommits}
+use Rattle.lfs_thread.specs.Device.{blocks_of_two_pair_addresses, blocks_of_pair_address}
+use Rattle.lfs_thread.specs.Kept.{KeptThread, ThreadView}
+use Rattle.lfs_thread.specs.Steps.{IsThreadOnlyRead, ThreadChangesOnlyTheseBlocks, thread_pair_at_index}
 use Rattle.lfs_tree.specs.TreeChanges.{SurvivesWithOldOrNewTree}
-use Rattle.lfs_tree.specs.Moves.{CanMoveEntry, CanMoveOntoDirectory, HasMovedEntry, WorksOrReportsError}
+use Rattle.lfs_tree.specs.Moves.{CanMoveEntry, CanMoveOntoDirectory, HasMovedEntry, ThreadWorksOrReportsError}
 use Rattle.lfs_tree.specs.declared.renames_at.RenameSource.{RenameSource}
-use Rattle.lfs_lookup.specs.declared.search.Spot.{Spot}
+use Rattle.lfs_lookup.specs.declared.search.SlotPosition.{SlotPosition}
 use Rattle.lfs_tree.proofs.Carried.{among_two, behind_below}
 use Rattle.lfs_tree.proofs.ShiftedAlone.{spares_one, spares_two}
 use Rattle.lfs_tree.proofs.ShiftedPlaces.{one_place, other_name, target_path}
 use Rattle.lfs_tree.proofs.ShiftedSlots.{none_gone, survives_at}
 
 -- what stands there, seen in the directory of another number
-record IsDirectoryAt (t : Kept) (first index id : ℕ) (name : Name) (at : ℕ × ℕ) : Type 0 where
+record IsDirectoryAt (t : KeptThread) (first index id : ℕ) (name : Name) (at : ℕ × ℕ) : Type 0 where
   target : IsPlaceOfNameInDirectory t.pairs first name index id
   branch : target.stands.slot.struct ≡ Branch at
 
-module _ (t : Kept) (from to : Path) (source : RenameSource) (slot : Spot) (gone : ℕ) (name : Name) (can : CanMoveOntoDirectory t from to source slot gone name) where
+module _ (t : KeptThread) (from to : Path) (source : RenameSource) (slot : SlotPosition) (gone : ℕ) (name : Name) (can : CanMoveOntoDirectory t from to source slot gone name) where
   abbrev shift : CanMoveEntry t from to source name
   shift = can.can
 
@@ -61,12 +61,12 @@ module _ (t : Kept) (from to : Path) (source : RenameSource) (slot : Spot) (gone
         alone = can.alone;
       }
 
-  pub over_survives_within : (new : Kept) → source.slot.pair ≡ slot.pair → ((rename : CanRenameOntoDirectoryInPair t source.slot.pair source.slot.id slot.id name gone) → SurvivesWithOldOrNewTree t new (tree_with_renamed_entry t rename.over.can.path rename.over.can.name name))
-      → SurvivesWithOldOrNewTree t new (renamed from to (tree_on_disk t.disk t.pairs))
+  pub over_survives_within : (new : KeptThread) → source.slot.pair ≡ slot.pair → ((rename : CanRenameOntoDirectoryInPair t source.slot.pair source.slot.id slot.id name gone) → SurvivesWithOldOrNewTree t new (tree_with_renamed_entry t rename.over.can.path rename.over.can.name name))
+      → SurvivesWithOldOrNewTree t new (tree_after_rename from to (tree_on_disk t.disk t.pairs))
   unfolding over_within
   over_survives_within new e gives = survives_at t new from to _ _ shift.old_is (path_here e) (gives (over_within e))
 
-  pub over_done_within : (new : Kept) → source.slot.pair ≡ slot.pair → ChangesOnlyGivenAlteredOrFreeBlocks t (blocks_of_address (kept_pair_at_index t source.slot.pair).at) new
+  pub over_done_within : (new : KeptThread) → source.slot.pair ≡ slot.pair → ChangesOnlyGivenAlteredOrFreeBlocks t (blocks_of_pair_address (thread_pair_at_index t source.slot.pair).at) new
       → ((rename : CanRenameOntoDirectoryInPair t source.slot.pair source.slot.id slot.id name gone) → IsEntryRenamedOntoDirectory t new rename.over.can.path rename.over.can.name name) → HasMovedEntry t from to new
   unfolding over_within
   over_done_within new e alters gives =
@@ -79,9 +79,9 @@ module _ (t : Kept) (from to : Path) (source : RenameSource) (slot : Spot) (gone
         alone = spares_one t new from to source name shift alters;
       }
 
-  pub over_writes_within : (new : Kept) → ThreadChangesOnlyTheseBlocks (blocks_of_two_addresses (kept_pair_at_index t source.slot.pair).at (kept_pair_at_index t (gone - 1)).at) t new → WritesPairsAndFreeBlocks t new
+  pub over_writes_within : (new : KeptThread) → ThreadChangesOnlyTheseBlocks (blocks_of_two_pair_addresses (thread_pair_at_index t source.slot.pair).at (thread_pair_at_index t (gone - 1)).at) t new → WritesOnlyThreadPairsAndFreeBlocks t new
   over_writes_within new w = record {
-    blocks = blocks_of_two_addresses (kept_pair_at_index t source.slot.pair).at (kept_pair_at_index t (gone - 1)).at;
+    blocks = blocks_of_two_pair_addresses (thread_pair_at_index t source.slot.pair).at (thread_pair_at_index t (gone - 1)).at;
     writes = w;
     each = among_two t source.slot.pair (gone - 1) [] (behind_below t.pairs shift.old.first source.slot.pair shift.old.stands.pair shift.old.stands.rest shift.old.stands.place) (let b = can.below in omega (arith, b)) tt;
   }
@@ -110,12 +110,12 @@ module _ (t : Kept) (from to : Path) (source : RenameSource) (slot : Spot) (gone
     fits = shift.fits;
   }
 
-  pub over_survives_apart : (new : Kept) → source.slot.pair ≢ slot.pair → ((rename : CanReplaceDirectoryAcrossPairs t source.slot.pair source.slot.id source.first slot.pair slot.id name gone) → SurvivesWithOldOrNewTree t new (tree_with_moved_entry t rename.old.path rename.old.name rename.path name))
-      → SurvivesWithOldOrNewTree t new (renamed from to (tree_on_disk t.disk t.pairs))
+  pub over_survives_apart : (new : KeptThread) → source.slot.pair ≢ slot.pair → ((rename : CanReplaceDirectoryAcrossPairs t source.slot.pair source.slot.id source.first slot.pair slot.id name gone) → SurvivesWithOldOrNewTree t new (tree_with_moved_entry t rename.old.path rename.old.name rename.path name))
+      → SurvivesWithOldOrNewTree t new (tree_after_rename from to (tree_on_disk t.disk t.pairs))
   unfolding over_apart
   over_survives_apart new ne gives = survives_at t new from to _ _ shift.old_is shift.is (gives (over_apart ne))
 
-  pub over_done_apart : (new : Kept) → source.slot.pair ≢ slot.pair → ChangesOnlyGivenAlteredOrFreeBlocks t (blocks_of_two_addresses (kept_pair_at_index t source.slot.pair).at (kept_pair_at_index t slot.pair).at) new
+  pub over_done_apart : (new : KeptThread) → source.slot.pair ≢ slot.pair → ChangesOnlyGivenAlteredOrFreeBlocks t (blocks_of_two_pair_addresses (thread_pair_at_index t source.slot.pair).at (thread_pair_at_index t slot.pair).at) new
       → ((rename : CanReplaceDirectoryAcrossPairs t source.slot.pair source.slot.id source.first slot.pair slot.id name gone) → IsEntryRenamedAcrossPairs t new rename.old.path rename.old.name rename.path name) → HasMovedEntry t from to new
   unfolding over_apart
   over_done_apart new ne alters gives =
@@ -130,7 +130,7 @@ module _ (t : Kept) (from to : Path) (source : RenameSource) (slot : Spot) (gone
 
 -- ---- what is told
 
-pub reported_over : {X : Type 0} (old new : ThreadView) (r : Result X Error) → ReportsSlotReadThenCommits old new r → WorksOrReportsError old new r
+pub reported_over : {X : Type 0} (old new : ThreadView) (r : Result X Error) → ReportsErrorsOfReadThenCommits old new r → ThreadWorksOrReportsError old new r
 reported_over {X} old new r t = record { works = works r t.failed; errors = t.errors; fault = t.fault; no_fault = t.no_fault }
   where
     works : (r : Result X Error) → (new.failed ≡ is_err r) ⊎ ((new.failed ≡ false) × IsThreadOnlyRead old.kept new.kept) → OnOk r (new.failed ≡ false)

@@ -7,33 +7,33 @@ use Rattle.lfs_writer.specs.SettledFiles.{ChangesOnlyBlockMap}
 use Rattle.lfs_writer.specs.ThreadContents.{ReportsFaultOrNoMemory}
 use Rattle.lfs_model.specs.Frame.{LeavesUnrelatedBlocksUnchanged}
 use Rattle.lfs_model.specs.Thread.{pair_count_before_root}
-use Rattle.lfs_model.specs.TreeEdits.{renamed, path_without_prefix}
+use Rattle.lfs_model.specs.TreeEdits.{tree_after_rename, path_without_prefix}
 use Rattle.lfs_model.specs.InDirectory.{IsPlaceOfNameInDirectory}
 use Rattle.lfs_model.specs.Names.{Name}
 use Rattle.lfs_model.specs.Operations as ops
 use Rattle.lfs_model.specs.Slots.{Struct}
 use Rattle.lfs_model.specs.Tree.{Path, branch_address_of_struct}
 use Rattle.lfs_model.specs.Shown.{tree_on_disk}
-use Rattle.lfs_model.proofs.Committed.{IsCompleted}
+use Rattle.lfs_model.proofs.Committed.{IsImageAfterCompletedOperation}
 use Rattle.lfs_operations.specs.Altering.{ChangesOnlyGivenAlteredOrFreeBlocks}
 use Rattle.lfs_operations.specs.Changing.{WritesPairAndTwoFreeBlocks}
 use Rattle.lfs_operations.specs.Dropping.{HasSameBlocksInFlight}
 use Rattle.lfs_operations.specs.Editing.{CanEditEntryOfPair}
-use Rattle.lfs_operations.specs.MovingSteps.{WritesTwoPairsAndTwoFreeBlocks, pair_written_by_second_move_commit, WritesPairsAndFreeBlocks}
+use Rattle.lfs_operations.specs.MovingSteps.{WritesTwoPairsAndTwoFreeBlocks, pair_written_by_second_move_commit, WritesOnlyThreadPairsAndFreeBlocks}
 use Rattle.lfs_operations.specs.MovingAcross.{tree_with_moved_entry}
 use Rattle.lfs_operations.specs.MovingOnto.{CanReplaceFileAcrossPairs, IsFileReplacedAcrossPairs}
 use Rattle.lfs_operations.specs.Ready.{IsImageReadyForChange}
 use Rattle.lfs_operations.specs.Renaming.{CanRenameOntoFileInPair, IsEntryRenamedOntoFileInPair, tree_with_renamed_entry}
-use Rattle.lfs_thread.specs.Device.{blocks_of_two_addresses}
-use Rattle.lfs_thread.specs.Kept.{Kept, ThreadView}
-use Rattle.lfs_thread.specs.Steps.{kept_pair_at_index}
+use Rattle.lfs_thread.specs.Device.{blocks_of_two_pair_addresses}
+use Rattle.lfs_thread.specs.Kept.{KeptThread, ThreadView}
+use Rattle.lfs_thread.specs.Steps.{thread_pair_at_index}
 use Rattle.lfs_tree.specs.TreeChanges.{SurvivesWithOldOrNewTree}
 use Rattle.lfs_lookup.specs.Entry.{IsStorageOfStruct}
-use Rattle.lfs_tree.specs.Moves.{CanMoveEntry, CanMoveOntoFile, HasMovedEntry, HasMovedOntoFile, WorksOrReportsError}
+use Rattle.lfs_tree.specs.Moves.{CanMoveEntry, CanMoveOntoFile, HasMovedEntry, HasMovedOntoFileWithListStillUsed, ThreadWorksOrReportsError}
 use Rattle.lfs_tree.specs.declared.renames_at.RenameSource.{RenameSource}
 use Rattle.lfs_lookup.specs.declared.entry.FileStorage.{FileStorage}
 use Rattle.lfs_lookup.specs.declared.entry.FileStorage.TheVariants as shown
-use Rattle.lfs_lookup.specs.declared.search.Spot.{Spot}
+use Rattle.lfs_lookup.specs.declared.search.SlotPosition.{SlotPosition}
 use Rattle.lfs_tree.proofs.Carried.{behind_below}
 use Rattle.lfs_tree.proofs.CarryCreated.{stay_in_flight}
 use Rattle.lfs_tree.proofs.CarryFreed.{can_free, shape_geometry, writes_then}
@@ -43,7 +43,7 @@ use Rattle.lfs_tree.proofs.ShiftedPlaces.{one_place, other_name, target_path}
 use Rattle.lfs_tree.proofs.ShiftedSlots.{across_written, apart_across, file_beside, shows_at, survives_at, within_written}
 
 -- what stands there, seen in the directory of another number
-record IsFileAt (t : Kept) (first index id : ℕ) (name : Name) (contents : FileStorage) : Type 0 where
+record IsFileAt (t : KeptThread) (first index id : ℕ) (name : Name) (contents : FileStorage) : Type 0 where
   target : IsPlaceOfNameInDirectory t.pairs first name index id
   shows : IsStorageOfStruct contents target.stands.slot.struct
 
@@ -51,7 +51,7 @@ file_branch : (c : FileStorage) (s : Struct) → IsStorageOfStruct c s → branc
 file_branch (shown.Inline len) s h = ap branch_address_of_struct h.1.0
 file_branch (shown.List head size) s h = ap branch_address_of_struct h
 
-module _ (t : Kept) (from to : Path) (source : RenameSource) (slot : Spot) (contents : FileStorage) (name : Name) (can : CanMoveOntoFile t from to source slot contents name) where
+module _ (t : KeptThread) (from to : Path) (source : RenameSource) (slot : SlotPosition) (contents : FileStorage) (name : Name) (can : CanMoveOntoFile t from to source slot contents name) where
   abbrev shift : CanMoveEntry t from to source name
   shift = can.can
 
@@ -101,12 +101,12 @@ module _ (t : Kept) (from to : Path) (source : RenameSource) (slot : Spot) (cont
     logged = shift.logged _;
   }
 
-  pub onto_survives_within : (new : Kept) → source.slot.pair ≡ slot.pair → ((rename : CanRenameOntoFileInPair t source.slot.pair source.slot.id slot.id name) → SurvivesWithOldOrNewTree t new (tree_with_renamed_entry t rename.can.path rename.can.name name)) → SurvivesWithOldOrNewTree t new (renamed from to (tree_on_disk t.disk t.pairs))
+  pub onto_survives_within : (new : KeptThread) → source.slot.pair ≡ slot.pair → ((rename : CanRenameOntoFileInPair t source.slot.pair source.slot.id slot.id name) → SurvivesWithOldOrNewTree t new (tree_with_renamed_entry t rename.can.path rename.can.name name)) → SurvivesWithOldOrNewTree t new (tree_after_rename from to (tree_on_disk t.disk t.pairs))
   unfolding replace_within
   onto_survives_within new e gives = survives_at t new from to _ _ shift.old_is (path_here e) (gives (replace_within e))
 
-  pub onto_within : (new : Kept) → source.slot.pair ≡ slot.pair → WritesPairAndTwoFreeBlocks t source.slot.pair new
-      → ((rename : CanRenameOntoFileInPair t source.slot.pair source.slot.id slot.id name) → IsEntryRenamedOntoFileInPair t new rename.can.path rename.can.name name rename.target.stands.slot.struct) → HasMovedOntoFile t from to contents new
+  pub onto_within : (new : KeptThread) → source.slot.pair ≡ slot.pair → WritesPairAndTwoFreeBlocks t source.slot.pair new
+      → ((rename : CanRenameOntoFileInPair t source.slot.pair source.slot.id slot.id name) → IsEntryRenamedOntoFileInPair t new rename.can.path rename.can.name name rename.target.stands.slot.struct) → HasMovedOntoFileWithListStillUsed t from to contents new
   unfolding replace_within within_edit
   onto_within new e w gives =
       let there = file_here e in
@@ -141,16 +141,16 @@ module _ (t : Kept) (from to : Path) (source : RenameSource) (slot : Spot) (cont
     fits = shift.fits;
   }
 
-  pub onto_survives_apart : (new : Kept) → source.slot.pair ≢ slot.pair → ((rename : CanReplaceFileAcrossPairs t source.slot.pair source.slot.id source.first slot.pair slot.id name) → SurvivesWithOldOrNewTree t new (tree_with_moved_entry t rename.old.path rename.old.name rename.path name))
-      → SurvivesWithOldOrNewTree t new (renamed from to (tree_on_disk t.disk t.pairs))
+  pub onto_survives_apart : (new : KeptThread) → source.slot.pair ≢ slot.pair → ((rename : CanReplaceFileAcrossPairs t source.slot.pair source.slot.id source.first slot.pair slot.id name) → SurvivesWithOldOrNewTree t new (tree_with_moved_entry t rename.old.path rename.old.name rename.path name))
+      → SurvivesWithOldOrNewTree t new (tree_after_rename from to (tree_on_disk t.disk t.pairs))
   unfolding replace_apart
   onto_survives_apart new ne gives = survives_at t new from to _ _ shift.old_is shift.is (gives (replace_apart ne))
 
   below_target : slot.pair < length t.pairs
   below_target = behind_below t.pairs shift.first slot.pair can.target.pair can.target.rest can.target.place
 
-  pub onto_apart : (new : Kept) → source.slot.pair ≢ slot.pair → WritesTwoPairsAndTwoFreeBlocks t (pair_written_by_second_move_commit t source.slot.pair source.first) slot.pair new → ChangesOnlyGivenAlteredOrFreeBlocks t (blocks_of_two_addresses (kept_pair_at_index t source.slot.pair).at (kept_pair_at_index t slot.pair).at) new
-      → ((rename : CanReplaceFileAcrossPairs t source.slot.pair source.slot.id source.first slot.pair slot.id name) → IsFileReplacedAcrossPairs t new rename.old.path rename.old.name rename.path name rename.target.stands.slot.struct) → HasMovedOntoFile t from to contents new
+  pub onto_apart : (new : KeptThread) → source.slot.pair ≢ slot.pair → WritesTwoPairsAndTwoFreeBlocks t (pair_written_by_second_move_commit t source.slot.pair source.first) slot.pair new → ChangesOnlyGivenAlteredOrFreeBlocks t (blocks_of_two_pair_addresses (thread_pair_at_index t source.slot.pair).at (thread_pair_at_index t slot.pair).at) new
+      → ((rename : CanReplaceFileAcrossPairs t source.slot.pair source.slot.id source.first slot.pair slot.id name) → IsFileReplacedAcrossPairs t new rename.old.path rename.old.name rename.path name rename.target.stands.slot.struct) → HasMovedOntoFileWithListStillUsed t from to contents new
   unfolding replace_apart target_edit
   onto_apart new ne w alters gives =
       let is : IsFileReplacedAcrossPairs t new shift.old.path shift.old.name shift.above name can.target.stands.slot.struct = gives (replace_apart ne) in
@@ -164,28 +164,28 @@ module _ (t : Kept) (from to : Path) (source : RenameSource) (slot : Spot) (cont
         alone = spares_two t new from to source name shift slot can.target alters;
       }
 
-  pub onto_writes_apart : (new : Kept) → WritesTwoPairsAndTwoFreeBlocks t (pair_written_by_second_move_commit t source.slot.pair source.first) slot.pair new → WritesPairsAndFreeBlocks t new
+  pub onto_writes_apart : (new : KeptThread) → WritesTwoPairsAndTwoFreeBlocks t (pair_written_by_second_move_commit t source.slot.pair source.first) slot.pair new → WritesOnlyThreadPairsAndFreeBlocks t new
   onto_writes_apart new w = apart_across t from to source name slot.pair new shift below_target w
 
 -- ---- the file's list is freed behind it
 
-pub onto_done : (t mid new : Kept) (from to : Path) (contents : FileStorage) → HasMovedOntoFile t from to contents mid → ChangesOnlyBlockMap mid new → IsImageReadyForChange new → HasSameBlocksInFlight mid.map new.map → HasMovedEntry t from to new
+pub onto_done : (t mid new : KeptThread) (from to : Path) (contents : FileStorage) → HasMovedOntoFileWithListStillUsed t from to contents mid → ChangesOnlyBlockMap mid new → IsImageReadyForChange new → HasSameBlocksInFlight mid.map new.map → HasMovedEntry t from to new
 onto_done t mid new from to contents is only ready flying = record {
   ready = ready;
   flying = λ b. ((λ h. (is.flying b).0 ((flying b).0 h)), (λ h. (flying b).1 ((is.flying b).1 h)));
   root = ap pair_count_before_root only.pairs ∙ is.root;
   completed = λ s given to_given tree f k.
-      subst (λ ps. IsCompleted t.disk t.pairs s (ops.Rename given to_given) new.disk ps) (sym only.pairs)
-      (subst (λ disk. IsCompleted t.disk t.pairs s (ops.Rename given to_given) disk mid.pairs) (sym only.disk) (is.completed s given to_given tree f k));
+      subst (λ ps. IsImageAfterCompletedOperation t.disk t.pairs s (ops.Rename given to_given) new.disk ps) (sym only.pairs)
+      (subst (λ disk. IsImageAfterCompletedOperation t.disk t.pairs s (ops.Rename given to_given) disk mid.pairs) (sym only.disk) (is.completed s given to_given tree f k));
   alone = λ s given to_given f k.
       subst (λ ps. LeavesUnrelatedBlocksUnchanged t.disk t.pairs s (ops.Rename given to_given) new.disk ps) (sym only.pairs)
       (subst (λ disk. LeavesUnrelatedBlocksUnchanged t.disk t.pairs s (ops.Rename given to_given) disk mid.pairs) (sym only.disk) (is.alone s given to_given f k));
 }
 
-pub apart_then : (t mid new : Kept) → WritesPairsAndFreeBlocks t mid → ChangesOnlyBlockMap mid new → WritesPairsAndFreeBlocks t new
+pub apart_then : (t mid new : KeptThread) → WritesOnlyThreadPairsAndFreeBlocks t mid → ChangesOnlyBlockMap mid new → WritesOnlyThreadPairsAndFreeBlocks t new
 apart_then t mid new w only = record { blocks = w.blocks; writes = writes_then t mid new w.blocks w.writes only; each = w.each }
 
-pub reported_then : {X Y : Type 0} (old mid new : ThreadView) (x : X) (result : Result X Error) (given : Result Y Error) → result ≡ Ok x → WorksOrReportsError old mid result → new.failed ≡ is_err given → ReportsFaultOrNoMemory mid.kept new.kept given → WorksOrReportsError old new given
+pub reported_then : {X Y : Type 0} (old mid new : ThreadView) (x : X) (result : Result X Error) (given : Result Y Error) → result ≡ Ok x → ThreadWorksOrReportsError old mid result → new.failed ≡ is_err given → ReportsFaultOrNoMemory mid.kept new.kept given → ThreadWorksOrReportsError old new given
 reported_then {X} {Y} old mid new x result given is t failed w =
     let same = t.no_fault (λ io. let z = sym is ∙ io in absurd (cc)) in
     record {
@@ -199,7 +199,7 @@ reported_then {X} {Y} old mid new x result given is t failed w =
     works (Ok y) e = e
     works (Err e) f = tt
 
-pub reported_of : {X Y : Type 0} (old new : ThreadView) (e : Error) (result : Result X Error) (given : Result Y Error) → result ≡ Err e → given ≡ Err e → WorksOrReportsError old new result → WorksOrReportsError old new given
+pub reported_of : {X Y : Type 0} (old new : ThreadView) (e : Error) (result : Result X Error) (given : Result Y Error) → result ≡ Err e → given ≡ Err e → ThreadWorksOrReportsError old new result → ThreadWorksOrReportsError old new given
 reported_of {X} {Y} old new e result given is same t = record {
   works = subst (λ (r : Result Y Error). OnOk r (new.failed ≡ false)) (sym same) tt;
   errors = subst (λ (r : Result Y Error). IfErr r (λ x. (x ≡ Io) ⊎ (x ≡ NoMemory))) (sym same) (subst (λ (r : Result X Error). IfErr r (λ x. (x ≡ Io) ⊎ (x ≡ NoMemory))) is t.errors);
@@ -210,7 +210,7 @@ reported_of {X} {Y} old new e result given is same t = record {
     error_is : {Z : Type 0} (a b : Error) (r : Result Z Error) → r ≡ Err a → r ≡ Err b → a ≡ b
     error_is a b r h k = cc
 
-pub onto_survives : (t mid new : Kept) (from to : Path) (contents : FileStorage) → WritesPairsAndFreeBlocks t mid → HasMovedOntoFile t from to contents mid → ChangesOnlyBlockMap mid new → SurvivesWithOldOrNewTree t mid (renamed from to (tree_on_disk t.disk t.pairs))
-    → SurvivesWithOldOrNewTree t new (renamed from to (tree_on_disk t.disk t.pairs))
+pub onto_survives : (t mid new : KeptThread) (from to : Path) (contents : FileStorage) → WritesOnlyThreadPairsAndFreeBlocks t mid → HasMovedOntoFileWithListStillUsed t from to contents mid → ChangesOnlyBlockMap mid new → SurvivesWithOldOrNewTree t mid (tree_after_rename from to (tree_on_disk t.disk t.pairs))
+    → SurvivesWithOldOrNewTree t new (tree_after_rename from to (tree_on_disk t.disk t.pairs))
 onto_survives t mid new from to contents w is only k =
-    survives_left t mid new.history (renamed from to (tree_on_disk t.disk t.pairs)) (shape_geometry t mid w.writes.shape) w.writes.at_worst is.free.ready.accepted is.free.ready.writable is.shows only.reads k
+    survives_left t mid new.history (tree_after_rename from to (tree_on_disk t.disk t.pairs)) (shape_geometry t mid w.writes.shape) w.writes.at_worst is.free.ready.accepted is.free.ready.writable is.shows only.reads k

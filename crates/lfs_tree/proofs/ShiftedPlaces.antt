@@ -5,13 +5,13 @@ use Rattle.lfs_model.specs.InDirectory.{IsPairOfDirectory, IsPlaceOfNameInDirect
 use Rattle.lfs_model.specs.Names.{Name}
 use Rattle.lfs_model.specs.Tree.{Path}
 use Rattle.lfs_model.proofs.Paths.{rest_itself}
-use Rattle.lfs_thread.specs.Kept.{Kept}
+use Rattle.lfs_thread.specs.Kept.{KeptThread}
 use Rattle.lfs_tree.specs.Moves.{CanMoveEntry}
 use Rattle.lfs_tree.specs.declared.renames_at.RenameSource.{RenameSource}
-use Rattle.lfs_lookup.specs.declared.search.Spot.{Spot}
+use Rattle.lfs_lookup.specs.declared.search.SlotPosition.{SlotPosition}
 use Rattle.lfs_tree.proofs.SameDirectory.{same_above, same_first}
 
-module _ (t : Kept) (from to : Path) (source : RenameSource) (slot : Spot) (name : Name) (can : CanMoveEntry t from to source name) (target : IsPlaceOfNameInDirectory t.pairs can.first name slot.pair slot.id) (e : source.slot.pair ≡ slot.pair) where
+module _ (t : KeptThread) (from to : Path) (source : RenameSource) (slot : SlotPosition) (name : Name) (can : CanMoveEntry t from to source name) (target : IsPlaceOfNameInDirectory t.pairs can.first name slot.pair slot.id) (e : source.slot.pair ≡ slot.pair) where
   pub one_place : can.first ≡ can.old.first
   one_place = same_first t.disk t.pairs can.above can.old.path can.on.at can.old.at can.first can.old.first slot.pair target.pair can.old.stands.pair target.rest can.old.stands.rest
       can.old.ready.accepted can.on.leads can.on.begins can.old.leads can.old.begins target.place

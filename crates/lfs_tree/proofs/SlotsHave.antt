@@ -6,7 +6,7 @@ use Rattle.lfs_model.specs.Disk.{Disk}
 use Rattle.lfs_model.specs.Names.{Name}
 use Rattle.lfs_model.specs.SlotEdits.{slot_of_path}
 use Rattle.lfs_model.specs.Slots.{Slot, Struct, Inline, Ctz, Branch}
-use Rattle.lfs_model.specs.Thread.{Pair, root_directory_of_pairs}
+use Rattle.lfs_model.specs.Thread.{Pair, root_directory_address_of_pairs}
 use Rattle.lfs_model.specs.Tree.{Path, branch_address_of_struct, child_slot_of, entry_of_name, root_slot, slot_at_path}
 use Rattle.lfs_model.specs.View.{IsAcceptedImage}
 use Rattle.lfs_model.specs.Shown.{IsPathToDirectory, all_slots_not_moved, entries_by_directory_in_thread}
@@ -30,7 +30,7 @@ module _ (P : Slot → Type 0) (disk : Disk) (ps : List Pair) (ok : IsAcceptedIm
   below_has : (path above : Path) (s u : Slot) → slot_of_path ps above ≡ Some s → P s → slot_at_path (entries_by_directory_in_thread ps) s path ≡ Some u → P u
   below_has [] above s u at has e = subst P (same_Some s u e) has
   below_has (n ∷ path) above s u at has e = go (child_slot_of (entries_by_directory_in_thread ps) s n) refl (λ c k h. below_has path (above ++ n ∷ []) c u
-      (walk_on (entries_by_directory_in_thread ps) (root_slot (root_directory_of_pairs ps)) s above (n ∷ []) at ∙ ap (λ o. option_and_then (λ x. slot_at_path (entries_by_directory_in_thread ps) x []) o) k) (child_has above s c n at k) h) e
+      (walk_on (entries_by_directory_in_thread ps) (root_slot (root_directory_address_of_pairs ps)) s above (n ∷ []) at ∙ ap (λ o. option_and_then (λ x. slot_at_path (entries_by_directory_in_thread ps) x []) o) k) (child_has above s c n at k) h) e
     where
       go : (o : Option Slot) → child_slot_of (entries_by_directory_in_thread ps) s n ≡ o → ((c : Slot) → child_slot_of (entries_by_directory_in_thread ps) s n ≡ Some c → slot_at_path (entries_by_directory_in_thread ps) c path ≡ Some u → P u)
           → option_and_then (λ child. slot_at_path (entries_by_directory_in_thread ps) child path) o ≡ Some u → P u
@@ -38,5 +38,5 @@ module _ (P : Slot → Type 0) (disk : Disk) (ps : List Pair) (ok : IsAcceptedIm
       go (Some c) k on h = on c k h
 
   -- the root's own slot stands in no directory
-  pub slot_has : P (root_slot (root_directory_of_pairs ps)) → (path : Path) (u : Slot) → slot_of_path ps path ≡ Some u → P u
-  slot_has root path u e = below_has path [] (root_slot (root_directory_of_pairs ps)) u refl root e
+  pub slot_has : P (root_slot (root_directory_address_of_pairs ps)) → (path : Path) (u : Slot) → slot_of_path ps path ≡ Some u → P u
+  slot_has root path u e = below_has path [] (root_slot (root_directory_address_of_pairs ps)) u refl root e

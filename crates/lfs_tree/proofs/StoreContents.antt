@@ -7,56 +7,56 @@ use Rattle.lfs_model.specs.TreeEdits.{tree_after_change_of_node}
 use Rattle.lfs_model.specs.Blocks.{Blocks}
 use Rattle.lfs_model.specs.BlockSets.{used_count}
 use Rattle.lfs_model.specs.Disk.{Disk, block_count, inline_limit}
-use Rattle.lfs_model.specs.History.{IsTrueOfEachCall, IsTrueOfEachCallSince, CallEvent, faults}
+use Rattle.lfs_model.specs.History.{IsTrueOfEachCall, IsTrueOfEachCallSince, DeviceCallEvent, fault_count_of_history}
 use Rattle.lfs_model.specs.Layout.{IsSlotLayoutAfterOperation}
 use Rattle.lfs_model.specs.Operations as ops
 use Rattle.lfs_model.specs.Operations.{Operation}
-use Rattle.lfs_model.specs.PowerLoss.{ShowsTreeBeforeOrAfter, SurvivesStopsSince, with_blocks}
-use Rattle.lfs_model.specs.Session.{Session, ctz_block_count}
+use Rattle.lfs_model.specs.PowerLoss.{HasTreeBeforeOrAfterOperation, SurvivesPowerLossInCallsSince, disk_with_blocks}
+use Rattle.lfs_model.specs.Session.{Session, skip_list_block_count_unless_inline}
 use Rattle.lfs_model.specs.Effects.{node_with_bytes}
-use Rattle.lfs_model.specs.Thread.{Pair, gstate_of}
+use Rattle.lfs_model.specs.Thread.{Pair, gstate_of_pairs}
 use Rattle.lfs_model.specs.Tree.{Path, Tree}
 use Rattle.lfs_model.specs.View.{IsAcceptedImage}
 use Rattle.lfs_model.specs.Shown.{tree_on_disk, used_blocks}
 use Rattle.lfs_model.proofs.AfterStops.{survives_then}
 use Rattle.lfs_model.proofs.Arranged.{arranged_after, recovered_stays}
 use Rattle.lfs_model.proofs.Committed.{recovered_from}
-use Rattle.lfs_model.proofs.Histories.{IsTrueAfterEachStopSince-weaker, IsTrueAfterEachStopSince-worst}
-use Rattle.lfs_writer.specs.ThreadContents.{CanFinishContentsOnThread, HasContentsInFormOnThread, LeavesPairsAndUsedBlocks, list_blocks_of_contents}
-use Rattle.lfs_thread.specs.Kept.{Kept, ThreadView}
+use Rattle.lfs_model.proofs.Histories.{IsTrueAfterAnyPowerLossSince-weaker, IsTrueAfterAnyPowerLossSince-worst}
+use Rattle.lfs_writer.specs.ThreadContents.{CanFinishContentsOnThread, HasContentsInStorageFormOnThread, LeavesPairsAndUsedBlocksUnchanged, list_blocks_of_contents}
+use Rattle.lfs_thread.specs.Kept.{KeptThread, ThreadView}
 use Rattle.lfs_tree.proofs.LeftAlone.{pair_of_alone}
-use Rattle.lfs_tree.specs.TreeChanges.{HasFurtherDeviceCalls, CanChangeRecoveredImage, SurvivesWithOldOrNewTree, ReportsErrorWithCause}
+use Rattle.lfs_tree.specs.TreeChanges.{HasFurtherDeviceCalls, CanChangeRecoveredImage, SurvivesWithOldOrNewTree, ReportsIoWithFaultOrNoMemory}
 use Rattle.lfs_tree.specs.RootedThreads.{IsSoundThreadUnlessFailed, tree_state_of_kept_thread, tree_state_of_thread}
 use Rattle.lfs_tree.proofs.Asking.{seen_working}
-use Rattle.lfs_tree.specs.KeptFiles.{KeepsOthers}
-use Rattle.lfs_tree.specs.OpenContents.{CanStoreContentsAt, AreWriterSlotsLaidOutAfterRecovery, IsInMemoryIfWithinInlineLimit, HasStoredBytesAt, bytes_of_writer_contents, kept_of}
+use Rattle.lfs_tree.specs.KeptFiles.{KeepsStructsOfOtherFiles}
+use Rattle.lfs_tree.specs.OpenContents.{CanStoreContentsAt, AreSlotsLaidOutByWriterOperationAfterRecovery, IsInMemoryExactlyUpToInlineLimit, StoresBytesKeepingOtherFilesAtPath, bytes_of_writer_contents, kept_thread_of_tree_state}
 use Rattle.lfs_tree.specs.TreeState.{IsSoundTreeState, TreeState, tree_view}
-use Rattle.lfs_tree.specs.Stores.{CanCommitContentsAtPath, HasCommittedBytesOfFile, HasStoredBytesOnThread, IsFinishedFormWithinLimit, AreWriterSlotsLaidOut, ChangesOnlyPairOfPath}
+use Rattle.lfs_tree.specs.Stores.{CanCommitContentsAtPath, HasCommittedBytesOfFile, StoresBytesKeepingOtherFilesOnThread, IsFinishedAndInlineExactlyUpToLimit, AreSlotsLaidOutByWriterOperation, ChangesOnlyPairOfPath}
 use Rattle.lfs_tree.proofs.BesideWritten.{accepted_beside, bytes_of_held, geometry_beside, left_beside, over_beside, rooted_beside, tree_beside}
 use Rattle.lfs_tree.proofs.UsedBlocks.{count_is}
-use Rattle.lfs_writer.specs.Contents.{contents_bytes_in_blocks, block_room_for_finish, finished, form_of_contents}
+use Rattle.lfs_writer.specs.Contents.{writer_contents_bytes_in_memory_or_blocks, block_room_for_finish, storage_form_after_finish, storage_form_of_contents}
 use Rattle.lfs_writer.specs.Form as form
-use Rattle.lfs_writer.specs.Form.{ContentsForm}
-use Rattle.lfs_writer.specs.BlockOwners.{AreUsedBlocksAmong}
+use Rattle.lfs_writer.specs.Form.{ContentsStorageForm}
+use Rattle.lfs_writer.specs.BlockOwners.{AreUsedBlocksOfListAmongOwnBlocks}
 use Rattle.lfs_writer.specs.declared.contents.WriterContents.{WriterContents}
 
 -- ---- calls, one after another
 
-pub each_any : (events : List CallEvent) → IsTrueOfEachCall (λ e. Unit {0}) events
+pub each_any : (events : List DeviceCallEvent) → IsTrueOfEachCall (λ e. Unit {0}) events
 each_any [] = tt
 each_any (e ∷ events) = (tt, each_any events)
 
-pub called_beside_image : (a b : Kept) → LeavesPairsAndUsedBlocks a b → HasFurtherDeviceCalls a b
+pub called_beside_image : (a b : KeptThread) → LeavesPairsAndUsedBlocksUnchanged a b → HasFurtherDeviceCalls a b
 called_beside_image a b l = record { geometry = geometry_beside a b l; calls = l.at_worst.events; called = l.at_worst.extends }
 
-pub called_then : (a b c : Kept) → HasFurtherDeviceCalls a b → HasFurtherDeviceCalls b c → HasFurtherDeviceCalls a c
+pub called_then : (a b c : KeptThread) → HasFurtherDeviceCalls a b → HasFurtherDeviceCalls b c → HasFurtherDeviceCalls a c
 called_then a b c k m = record {
   geometry = record { block_size = m.geometry.block_size ∙ k.geometry.block_size; page = m.geometry.page ∙ k.geometry.page; order = m.geometry.order ∙ k.geometry.order; count = m.geometry.count ∙ k.geometry.count };
   calls = m.calls ++ k.calls;
   called = m.called ∙ ap (λ z. m.calls ++ z) k.called ∙ sym (append_assoc m.calls k.calls a.history);
 }
 
-pub errors_then : {X : Type 0} (a b c : Kept) (r : Result X Error) → faults b.history ≡ faults a.history → IfErr r (ReportsErrorWithCause b c) → IfErr r (ReportsErrorWithCause a c)
+pub errors_then : {X : Type 0} (a b c : KeptThread) (r : Result X Error) → fault_count_of_history b.history ≡ fault_count_of_history a.history → IfErr r (ReportsIoWithFaultOrNoMemory b c) → IfErr r (ReportsIoWithFaultOrNoMemory a c)
 errors_then a b c (Ok x) same t = tt
 errors_then a b c (Err e) same t = record {
   errors = t.errors;
@@ -66,10 +66,10 @@ errors_then a b c (Err e) same t = record {
 
 -- ---- what is asked for
 
-room_on : (t : Kept) → IsSoundTreeState (tree_state_of_kept_thread t true false) → (need : ℕ) → length (used_blocks t.disk t.pairs) + need ≤ block_count t.disk → used_count t.map + need ≤ length t.map
+room_on : (t : KeptThread) → IsSoundTreeState (tree_state_of_kept_thread t true false) → (need : ℕ) → length (used_blocks t.disk t.pairs) + need ≤ block_count t.disk → used_count t.map + need ≤ length t.map
 room_on t sound need room = let e = count_is (tree_state_of_kept_thread t true false) sound in let s = sound.size in omega arith
 
-finished_form : (limit : ℕ) (f : ContentsForm) → IsInMemoryIfWithinInlineLimit limit f → IsFinishedFormWithinLimit limit (finished f)
+finished_form : (limit : ℕ) (f : ContentsStorageForm) → IsInMemoryExactlyUpToInlineLimit limit f → IsFinishedAndInlineExactlyUpToLimit limit (storage_form_after_finish f)
 finished_form limit (form.InMemory size) h = h
 finished_form limit (form.Finished size flying) h = h
 finished_form limit (form.InHand stop base flying) h = h
@@ -79,30 +79,30 @@ module _ (t : ThreadView) (root : ℕ) (rests : CanChangeRecoveredImage t root) 
   sound = rests.held.sound
 
   pub can_finish : CanFinishContentsOnThread t.kept contents
-  can_finish = record { stands = can.over.stands; room = room_on t.kept sound (block_room_for_finish t.kept.disk.block_size (form_of_contents contents)) can.end }
+  can_finish = record { stands = can.over.stands; room = room_on t.kept sound (block_room_for_finish t.kept.disk.block_size (storage_form_of_contents contents)) can.end }
 
   -- the list in hand was ended
-  module _ (b : ThreadView) (still : b.failed ≡ false) (leaves : LeavesPairsAndUsedBlocks t.kept b.kept) where
+  module _ (b : ThreadView) (still : b.failed ≡ false) (leaves : LeavesPairsAndUsedBlocksUnchanged t.kept b.kept) where
     pub rests_beside : CanChangeRecoveredImage b root
-    rests_beside = record { held = rooted_beside t b root true rests.held still leaves; settled = ap gstate_of leaves.pairs ∙ rests.settled }
+    rests_beside = record { held = rooted_beside t b root true rests.held still leaves; settled = ap gstate_of_pairs leaves.pairs ∙ rests.settled }
 
     pub survives_beside : (after : Tree) → SurvivesWithOldOrNewTree t.kept b.kept after
-    survives_beside after clean = IsTrueAfterEachStopSince-weaker (λ blocks spared. left_beside t.kept blocks sound.accepted (sound.fits refl) sound.used spared) (IsTrueAfterEachStopSince-worst leaves.at_worst)
+    survives_beside after clean = IsTrueAfterAnyPowerLossSince-weaker (λ blocks spared. left_beside t.kept blocks sound.accepted (sound.fits refl) sound.used spared) (IsTrueAfterAnyPowerLossSince-worst leaves.at_worst)
 
-    module _ (c : WriterContents) (holds : HasContentsInFormOnThread b.kept c (contents_bytes_in_blocks t.kept.disk.blocks t.kept.disk.block_size contents) (finished (form_of_contents contents))) (owned : AreUsedBlocksAmong b.kept.map (list_blocks_of_contents t.kept contents) (list_blocks_of_contents b.kept c)) where
+    module _ (c : WriterContents) (holds : HasContentsInStorageFormOnThread b.kept c (writer_contents_bytes_in_memory_or_blocks t.kept.disk.blocks t.kept.disk.block_size contents) (storage_form_after_finish (storage_form_of_contents contents))) (owned : AreUsedBlocksOfListAmongOwnBlocks b.kept.map (list_blocks_of_contents t.kept contents) (list_blocks_of_contents b.kept c)) where
       bytes_same : bytes_of_writer_contents b.kept c ≡ bytes_of_writer_contents t.kept contents
-      bytes_same = bytes_of_held b.kept c (contents_bytes_in_blocks t.kept.disk.blocks t.kept.disk.block_size contents) (finished (form_of_contents contents)) holds
+      bytes_same = bytes_of_held b.kept c (writer_contents_bytes_in_memory_or_blocks t.kept.disk.blocks t.kept.disk.block_size contents) (storage_form_after_finish (storage_form_of_contents contents)) holds
 
       pub can_commit : CanCommitContentsAtPath b.kept path c
       can_commit = record {
         over = over_beside t.kept b.kept leaves sound.accepted sound.used path contents c _ _ can.over holds owned;
-        finished = subst (λ (f : ContentsForm). IsFinishedFormWithinLimit (inline_limit b.kept.disk.block_size) f) (sym holds.has.form)
-            (subst (λ (n : ℕ). IsFinishedFormWithinLimit (inline_limit n) (finished (form_of_contents contents))) (sym leaves.shape.block_size) (finished_form (inline_limit t.kept.disk.block_size) (form_of_contents contents) can.form));
-        room = (let l : ctz_block_count b.kept.disk.block_size (length (bytes_of_writer_contents b.kept c)) ≡ ctz_block_count t.kept.disk.block_size (length (bytes_of_writer_contents t.kept contents))
-            = ap (λ n. ctz_block_count n (length (bytes_of_writer_contents b.kept c))) leaves.shape.block_size ∙ ap (λ z. ctz_block_count t.kept.disk.block_size (length z)) bytes_same in
+        finished = subst (λ (f : ContentsStorageForm). IsFinishedAndInlineExactlyUpToLimit (inline_limit b.kept.disk.block_size) f) (sym holds.has.form)
+            (subst (λ (n : ℕ). IsFinishedAndInlineExactlyUpToLimit (inline_limit n) (storage_form_after_finish (storage_form_of_contents contents))) (sym leaves.shape.block_size) (finished_form (inline_limit t.kept.disk.block_size) (storage_form_of_contents contents) can.form));
+        room = (let l : skip_list_block_count_unless_inline b.kept.disk.block_size (length (bytes_of_writer_contents b.kept c)) ≡ skip_list_block_count_unless_inline t.kept.disk.block_size (length (bytes_of_writer_contents t.kept contents))
+            = ap (λ n. skip_list_block_count_unless_inline n (length (bytes_of_writer_contents b.kept c))) leaves.shape.block_size ∙ ap (λ z. skip_list_block_count_unless_inline t.kept.disk.block_size (length z)) bytes_same in
             let r = can.room in
-            let k : length (used_blocks t.kept.disk t.kept.pairs) + (ctz_block_count t.kept.disk.block_size (length (bytes_of_writer_contents t.kept contents)) + 2) ≤ block_count t.kept.disk = omega arith in
-            let m = room_on t.kept sound (ctz_block_count t.kept.disk.block_size (length (bytes_of_writer_contents t.kept contents)) + 2) k in
+            let k : length (used_blocks t.kept.disk t.kept.pairs) + (skip_list_block_count_unless_inline t.kept.disk.block_size (length (bytes_of_writer_contents t.kept contents)) + 2) ≤ block_count t.kept.disk = omega arith in
+            let m = room_on t.kept sound (skip_list_block_count_unless_inline t.kept.disk.block_size (length (bytes_of_writer_contents t.kept contents)) + 2) k in
             let u = leaves.map.used in
             let n = leaves.map.count in
             omega arith);
@@ -118,7 +118,7 @@ module _ (t : ThreadView) (root : ℕ) (rests : CanChangeRecoveredImage t root) 
       turn_same = ap (λ (x : Tree). tree_after_change_of_node path (node_with_bytes (bytes_of_writer_contents b.kept c)) x) tree_same ∙ ap (λ z. tree_after_change_of_node path (node_with_bytes z) (tree_on_disk t.kept.disk t.kept.pairs)) bytes_same
 
       -- seen from before the end of the list
-      arranged_before : (new : Kept) (op : ℕ → Operation) → AreWriterSlotsLaidOut b.kept path (bytes_of_writer_contents b.kept c) op new → AreWriterSlotsLaidOutAfterRecovery (tree_state_of_kept_thread t.kept true false) path (bytes_of_writer_contents t.kept contents) op (tree_state_of_kept_thread new true false)
+      arranged_before : (new : KeptThread) (op : ℕ → Operation) → AreSlotsLaidOutByWriterOperation b.kept path (bytes_of_writer_contents b.kept c) op new → AreSlotsLaidOutByWriterOperationAfterRecovery (tree_state_of_kept_thread t.kept true false) path (bytes_of_writer_contents t.kept contents) op (tree_state_of_kept_thread new true false)
       arranged_before new op laid files fd writer wr =
           let s : Session = record { tree = tree_on_disk t.kept.disk t.kept.pairs; files = files } in
           let stays = recovered_stays t.kept.disk t.kept.pairs (record { tree = tree_on_disk t.kept.disk t.kept.pairs; files = files }) sound.accepted (sound.fits refl) rests.settled in
@@ -140,7 +140,7 @@ module _ (t : ThreadView) (root : ℕ) (rests : CanChangeRecoveredImage t root) 
             k.others x ((rests_beside.held.sound.used x).0 (leaves.map.stays x is)) first second ∙ leaves.spared.same x is;
       }
 
-      stored_before : (new : Kept) → HasFurtherDeviceCalls t.kept new → faults new.history ≡ faults t.kept.history → HasCommittedBytesOfFile b.kept path (bytes_of_writer_contents b.kept c) new → HasStoredBytesOnThread t.kept path (bytes_of_writer_contents t.kept contents) new
+      stored_before : (new : KeptThread) → HasFurtherDeviceCalls t.kept new → fault_count_of_history new.history ≡ fault_count_of_history t.kept.history → HasCommittedBytesOfFile b.kept path (bytes_of_writer_contents b.kept c) new → StoresBytesKeepingOtherFilesOnThread t.kept path (bytes_of_writer_contents t.kept contents) new
       stored_before new called quiet k = record {
         works = refl;
         sound = k.sound;
@@ -152,44 +152,44 @@ module _ (t : ThreadView) (root : ℕ) (rests : CanChangeRecoveredImage t root) 
         fits = k.fits;
         recovered = recovered_from new.disk new.pairs k.sound.accepted k.settled;
         shows = k.shows ∙ turn_same;
-        others = subst (λ (ps : List Pair). KeepsOthers (tree_on_disk t.kept.disk t.kept.pairs) ps path new.pairs) leaves.pairs
-            (subst (λ (x : Tree). KeepsOthers x b.kept.pairs path new.pairs) tree_same k.others);
+        others = subst (λ (ps : List Pair). KeepsStructsOfOtherFiles (tree_on_disk t.kept.disk t.kept.pairs) ps path new.pairs) leaves.pairs
+            (subst (λ (x : Tree). KeepsStructsOfOtherFiles x b.kept.pairs path new.pairs) tree_same k.others);
         synced = arranged_before new ops.Sync k.synced;
         closed = arranged_before new ops.Close k.closed;
         alone = λ files op. pair_of_alone t.kept.disk new.disk t.kept.pairs new.pairs path sound.accepted (changes_before new.disk k.alone) (record { tree = tree_on_disk t.kept.disk t.kept.pairs; files = files }) op;
         none_in_flight = k.none_in_flight;
       }
 
-      pub all_stored : (new : Kept) (r : Result (Unit {0}) Error) → HasFurtherDeviceCalls t.kept new → faults b.kept.history ≡ faults t.kept.history → OnOk r (faults new.history ≡ faults b.kept.history) → OnOk r (HasCommittedBytesOfFile b.kept path (bytes_of_writer_contents b.kept c) new) → OnOk r (HasStoredBytesOnThread t.kept path (bytes_of_writer_contents t.kept contents) new)
+      pub all_stored : (new : KeptThread) (r : Result (Unit {0}) Error) → HasFurtherDeviceCalls t.kept new → fault_count_of_history b.kept.history ≡ fault_count_of_history t.kept.history → OnOk r (fault_count_of_history new.history ≡ fault_count_of_history b.kept.history) → OnOk r (HasCommittedBytesOfFile b.kept path (bytes_of_writer_contents b.kept c) new) → OnOk r (StoresBytesKeepingOtherFilesOnThread t.kept path (bytes_of_writer_contents t.kept contents) new)
       all_stored new (Ok u) called same quiet k = stored_before new called (quiet ∙ same) k
       all_stored new (Err e) called same quiet k = tt
 
-      pub survives_then_commit : (new : Kept) → HasFurtherDeviceCalls b.kept new → SurvivesWithOldOrNewTree b.kept new (tree_after_change_of_node path (node_with_bytes (bytes_of_writer_contents b.kept c)) (tree_on_disk b.kept.disk b.kept.pairs))
+      pub survives_then_commit : (new : KeptThread) → HasFurtherDeviceCalls b.kept new → SurvivesWithOldOrNewTree b.kept new (tree_after_change_of_node path (node_with_bytes (bytes_of_writer_contents b.kept c)) (tree_on_disk b.kept.disk b.kept.pairs))
           → SurvivesWithOldOrNewTree t.kept new (tree_after_change_of_node path (node_with_bytes (bytes_of_writer_contents t.kept contents)) (tree_on_disk t.kept.disk t.kept.pairs))
       survives_then_commit new called k =
           let second : IsTrueOfEachCallSince (λ e. Unit {0}) b.kept.history new.history = record { events = called.calls; extends = called.called; each = each_any called.calls } in
           let after = tree_after_change_of_node path (node_with_bytes (bytes_of_writer_contents t.kept contents)) (tree_on_disk t.kept.disk t.kept.pairs) in
-          let same : (blocks : Blocks) → with_blocks blocks b.kept.disk ≡ with_blocks blocks t.kept.disk = λ blocks. λ i. record { block_size = leaves.shape.block_size i; page = leaves.shape.page i; order = leaves.shape.order i; blocks = blocks } in
+          let same : (blocks : Blocks) → disk_with_blocks blocks b.kept.disk ≡ disk_with_blocks blocks t.kept.disk = λ blocks. λ i. record { block_size = leaves.shape.block_size i; page = leaves.shape.page i; order = leaves.shape.order i; blocks = blocks } in
           survives_then t.kept.disk t.kept.history b.kept.history new.history (tree_on_disk t.kept.disk t.kept.pairs) after leaves.at_worst second (survives_beside after)
-          (λ clean. IsTrueAfterEachStopSince-weaker (λ blocks left.
-          subst (λ (d : Disk). ShowsTreeBeforeOrAfter d (tree_on_disk t.kept.disk t.kept.pairs) (tree_after_change_of_node path (node_with_bytes (bytes_of_writer_contents t.kept contents)) (tree_on_disk t.kept.disk t.kept.pairs))) (same blocks)
-          (subst (λ (x : Tree). ShowsTreeBeforeOrAfter (with_blocks blocks b.kept.disk) x (tree_after_change_of_node path (node_with_bytes (bytes_of_writer_contents t.kept contents)) (tree_on_disk t.kept.disk t.kept.pairs))) tree_same
-          (subst (λ (x : Tree). ShowsTreeBeforeOrAfter (with_blocks blocks b.kept.disk) (tree_on_disk b.kept.disk b.kept.pairs) x) turn_same left))) (k clean))
+          (λ clean. IsTrueAfterAnyPowerLossSince-weaker (λ blocks left.
+          subst (λ (d : Disk). HasTreeBeforeOrAfterOperation d (tree_on_disk t.kept.disk t.kept.pairs) (tree_after_change_of_node path (node_with_bytes (bytes_of_writer_contents t.kept contents)) (tree_on_disk t.kept.disk t.kept.pairs))) (same blocks)
+          (subst (λ (x : Tree). HasTreeBeforeOrAfterOperation (disk_with_blocks blocks b.kept.disk) x (tree_after_change_of_node path (node_with_bytes (bytes_of_writer_contents t.kept contents)) (tree_on_disk t.kept.disk t.kept.pairs))) tree_same
+          (subst (λ (x : Tree). HasTreeBeforeOrAfterOperation (disk_with_blocks blocks b.kept.disk) (tree_on_disk b.kept.disk b.kept.pairs) x) turn_same left))) (k clean))
 
 -- ---- seen from a tree
 
 module _ (thread : ThreadView) (root : ℕ) (writable : Bool) (now : TreeState) (kept : IsSoundThreadUnlessFailed thread root writable) (view : tree_state_of_thread thread writable ≡ now) (works : now.failed ≡ false) (may : now.writable ≡ true) (path : Path) (contents : WriterContents) where
-  stored_working : (new : ThreadView) → new.failed ≡ false → HasStoredBytesOnThread thread.kept path (bytes_of_writer_contents thread.kept contents) new.kept → HasStoredBytesAt now path (bytes_of_writer_contents (kept_of now) contents) (tree_state_of_thread new writable)
+  stored_working : (new : ThreadView) → new.failed ≡ false → StoresBytesKeepingOtherFilesOnThread thread.kept path (bytes_of_writer_contents thread.kept contents) new.kept → StoresBytesKeepingOtherFilesAtPath now path (bytes_of_writer_contents (kept_thread_of_tree_state now) contents) (tree_state_of_thread new writable)
   stored_working new still k =
-      subst (λ a. HasStoredBytesAt now path (bytes_of_writer_contents (kept_of now) contents) (tree_state_of_kept_thread new.kept a new.failed)) (sym (ap (λ (s : TreeState). s.writable) view ∙ may))
-      (subst (λ b. HasStoredBytesAt now path (bytes_of_writer_contents (kept_of now) contents) (tree_state_of_kept_thread new.kept true b)) (sym still)
-      (subst (λ (s : TreeState). HasStoredBytesAt s path (bytes_of_writer_contents (kept_of s) contents) (tree_state_of_kept_thread new.kept true false)) (sym (seen_working thread root writable now kept view works may)) k))
+      subst (λ a. StoresBytesKeepingOtherFilesAtPath now path (bytes_of_writer_contents (kept_thread_of_tree_state now) contents) (tree_state_of_kept_thread new.kept a new.failed)) (sym (ap (λ (s : TreeState). s.writable) view ∙ may))
+      (subst (λ b. StoresBytesKeepingOtherFilesAtPath now path (bytes_of_writer_contents (kept_thread_of_tree_state now) contents) (tree_state_of_kept_thread new.kept true b)) (sym still)
+      (subst (λ (s : TreeState). StoresBytesKeepingOtherFilesAtPath s path (bytes_of_writer_contents (kept_thread_of_tree_state s) contents) (tree_state_of_kept_thread new.kept true false)) (sym (seen_working thread root writable now kept view works may)) k))
 
-  pub all_stored_working : (r : Result (Unit {0}) Error) (new : ThreadView) → OnOk r (HasStoredBytesOnThread thread.kept path (bytes_of_writer_contents thread.kept contents) new.kept) → OnOk r (new.failed ≡ false) → OnOk r (HasStoredBytesAt now path (bytes_of_writer_contents (kept_of now) contents) (tree_state_of_thread new writable))
+  pub all_stored_working : (r : Result (Unit {0}) Error) (new : ThreadView) → OnOk r (StoresBytesKeepingOtherFilesOnThread thread.kept path (bytes_of_writer_contents thread.kept contents) new.kept) → OnOk r (new.failed ≡ false) → OnOk r (StoresBytesKeepingOtherFilesAtPath now path (bytes_of_writer_contents (kept_thread_of_tree_state now) contents) (tree_state_of_thread new writable))
   all_stored_working (Ok x) new k still = stored_working new still k
   all_stored_working (Err e) new k still = tt
 
-  pub survives_stored : (new : List CallEvent) → SurvivesStopsSince thread.kept.disk thread.kept.history new (tree_on_disk thread.kept.disk thread.kept.pairs) (tree_after_change_of_node path (node_with_bytes (bytes_of_writer_contents thread.kept contents)) (tree_on_disk thread.kept.disk thread.kept.pairs))
-      → SurvivesStopsSince now.disk now.history new (tree_view now) (tree_after_change_of_node path (node_with_bytes (bytes_of_writer_contents (kept_of now) contents)) (tree_view now))
+  pub survives_stored : (new : List DeviceCallEvent) → SurvivesPowerLossInCallsSince thread.kept.disk thread.kept.history new (tree_on_disk thread.kept.disk thread.kept.pairs) (tree_after_change_of_node path (node_with_bytes (bytes_of_writer_contents thread.kept contents)) (tree_on_disk thread.kept.disk thread.kept.pairs))
+      → SurvivesPowerLossInCallsSince now.disk now.history new (tree_view now) (tree_after_change_of_node path (node_with_bytes (bytes_of_writer_contents (kept_thread_of_tree_state now) contents)) (tree_view now))
   survives_stored new k =
-      subst (λ (s : TreeState). SurvivesStopsSince s.disk s.history new (tree_view s) (tree_after_change_of_node path (node_with_bytes (bytes_of_writer_contents (kept_of s) contents)) (tree_view s))) (sym (seen_working thread root writable now kept view works may)) k
+      subst (λ (s : TreeState). SurvivesPowerLossInCallsSince s.disk s.history new (tree_view s) (tree_after_change_of_node path (node_with_bytes (bytes_of_writer_contents (kept_thread_of_tree_state s) contents)) (tree_view s))) (sym (seen_working thread root writable now kept view works may)) k

@@ -6,15 +6,15 @@ use Rattle.std.proofs.lemmas.List.Sums.{sum_by-append, sum_by-cons}
 use Rattle.lfs_model.specs.TreeEdits.{last_name_of_path}
 use Rattle.lfs_model.specs.Content.{attributes_with_attribute, attributes_without_attribute}
 use Rattle.lfs_model.specs.Disk.{Disk}
-use Rattle.lfs_model.specs.Layout.{FitsPairOnDisk, IsDirectoryUnreachedOrRemoved, IsSlotLayoutWithRecoveryFirst, IsSlotLayoutAfterOperation}
+use Rattle.lfs_model.specs.Layout.{IsContentFittingPairOnDisk, IsDirectoryUnreachedOrRemoved, IsSlotLayoutAfterRecoveryAndOperation, IsSlotLayoutAfterOperation}
 use Rattle.lfs_model.specs.Names.{Name}
 use Rattle.lfs_model.specs.Operations as ops
-use Rattle.lfs_model.specs.Operations.{Operation, Flags}
+use Rattle.lfs_model.specs.Operations.{Operation, FlagsOfOpen}
 use Rattle.lfs_model.specs.Session.{Session}
-use Rattle.lfs_model.specs.SlotEdits.{RemovesSlotIfSome, AddsFileSlotIfNew, Edits, HasSlotsReplaced, AddsDirectorySlotAndPair, MovesSlotToPath, ReplacesSlotOfPath, new_directory_slot, new_file_slot, slot_of_path, pair_with_slots, pairs_without_moved_slot}
+use Rattle.lfs_model.specs.SlotEdits.{RemovesSlotIfSome, AddsFileSlotIfNew, AreSlotEditsOfOperation, HasSlotsReplacedInOnePair, AddsDirectorySlotAndPair, MovesSlotToPath, ReplacesSlotOfPath, new_directory_slot, new_file_slot, slot_of_path, pair_with_slots, pairs_without_moved_slot}
 use Rattle.lfs_model.specs.Slots.{IsContentFittingPair, Slot, slot_size}
-use Rattle.lfs_model.specs.Refusals.{path_or_root}
-use Rattle.lfs_model.specs.Thread.{Pair, gstate_of, pair_count_before_root}
+use Rattle.lfs_model.specs.Refusals.{path_of_bytes_or_root}
+use Rattle.lfs_model.specs.Thread.{Pair, gstate_of_pairs, pair_count_before_root}
 use Rattle.lfs_model.specs.Tree.{Node, Path, Tree}
 use Rattle.lfs_model.proofs.Counts.{Each, each_append, each_left, each_right}
 use Rattle.lfs_operations.proofs.RawSlots.{fewer_attributes}
@@ -24,7 +24,7 @@ use Rattle.lfs_tree.proofs.TakenBlocks.{FitBut, all_few, all_fit, fit_unmoved, l
 
 -- ---- slots that are replaced by others
 
-module _ (disk : Disk) (olds news : List Slot) (old new : List Pair) (s : HasSlotsReplaced olds news old new) where
+module _ (disk : Disk) (olds news : List Slot) (old new : List Pair) (s : HasSlotsReplacedInOnePair olds news old new) where
   abbrev now : Pair
   now = pair_with_slots (s.left ++ (news ++ s.right)) s.pair
 
@@ -59,21 +59,21 @@ module _ (disk : Disk) (olds news : List Slot) (old new : List Pair) (s : HasSlo
       let d = length-append s.before (now ∷ s.after) in
       omega arith
 
-  front_fits : Each (FitsPairOnDisk disk) old → Each (FitsPairOnDisk disk) s.before
-  front_fits h = each_left (FitsPairOnDisk disk) s.before (s.pair ∷ s.after) (subst (Each (FitsPairOnDisk disk)) s.was h)
+  front_fits : Each (IsContentFittingPairOnDisk disk) old → Each (IsContentFittingPairOnDisk disk) s.before
+  front_fits h = each_left (IsContentFittingPairOnDisk disk) s.before (s.pair ∷ s.after) (subst (Each (IsContentFittingPairOnDisk disk)) s.was h)
 
-  rest_fits : Each (FitsPairOnDisk disk) old → FitsPairOnDisk disk s.pair × Each (FitsPairOnDisk disk) s.after
-  rest_fits h = each_right (FitsPairOnDisk disk) s.before (s.pair ∷ s.after) (subst (Each (FitsPairOnDisk disk)) s.was h)
+  rest_fits : Each (IsContentFittingPairOnDisk disk) old → IsContentFittingPairOnDisk disk s.pair × Each (IsContentFittingPairOnDisk disk) s.after
+  rest_fits h = each_right (IsContentFittingPairOnDisk disk) s.before (s.pair ∷ s.after) (subst (Each (IsContentFittingPairOnDisk disk)) s.was h)
 
   -- one pair may have to be cut
-  pub splice_cut : Each (FitsPairOnDisk disk) old → FitBut disk 1 new
+  pub splice_cut : Each (IsContentFittingPairOnDisk disk) old → FitBut disk 1 new
   splice_cut h = subst (FitBut disk 1) (sym s.is) (some_fit disk 1 s.before (now ∷ s.after) (front_fits h) (inr (0, (refl, all_fit disk 0 s.after (rest_fits h).1))))
 
   -- or none, where what comes is no larger
-  pub splice_fits : sum_by slot_size news ≤ sum_by slot_size olds → length news ≤ length olds → Each (FitsPairOnDisk disk) old → Each (FitsPairOnDisk disk) new
-  splice_fits less few h = subst (Each (FitsPairOnDisk disk)) (sym s.is) (each_append (FitsPairOnDisk disk) s.before (now ∷ s.after) (front_fits h) (here, (rest_fits h).1))
+  pub splice_fits : sum_by slot_size news ≤ sum_by slot_size olds → length news ≤ length olds → Each (IsContentFittingPairOnDisk disk) old → Each (IsContentFittingPairOnDisk disk) new
+  splice_fits less few h = subst (Each (IsContentFittingPairOnDisk disk)) (sym s.is) (each_append (IsContentFittingPairOnDisk disk) s.before (now ∷ s.after) (front_fits h) (here, (rest_fits h).1))
     where
-      here : FitsPairOnDisk disk now
+      here : IsContentFittingPairOnDisk disk now
       here = record {
         size = (let a = sums_was slot_size in let b = sums_now slot_size in let k = (rest_fits h).0.size in omega arith);
         count = (let a = count_was in let b = count_now in let k = (rest_fits h).0.count in omega arith);
@@ -95,7 +95,7 @@ module _ (disk : Disk) where
   abbrev size : ℕ
   size = disk.block_size
 
-  stays_drafted : (old fresh drafts : List Pair) → Each (FitsPairOnDisk disk) old → (fresh ≡ []) × (drafts ≡ old) → IsDrafted disk old fresh drafts 0
+  stays_drafted : (old fresh drafts : List Pair) → Each (IsContentFittingPairOnDisk disk) old → (fresh ≡ []) × (drafts ≡ old) → IsDrafted disk old fresh drafts 0
   stays_drafted old fresh drafts h (none, same) = record {
     cuts = 0;
     few = subst (FitBut disk 0) (sym same) (all_fit disk 0 old h);
@@ -107,7 +107,7 @@ module _ (disk : Disk) where
   more_drafted old fresh drafts n m le d = record { cuts = d.cuts; few = d.few; same = d.same; taken = (let t = d.taken in omega arith) }
 
   -- some slots are replaced by others with no more blocks
-  spliced_drafted : (old fresh drafts : List Pair) (olds news : List Slot) → Each (FitsPairOnDisk disk) old → fresh ≡ [] → HasSlotsReplaced olds news old drafts → lists_in size news ≤ lists_in size olds → IsDrafted disk old fresh drafts 2
+  spliced_drafted : (old fresh drafts : List Pair) (olds news : List Slot) → Each (IsContentFittingPairOnDisk disk) old → fresh ≡ [] → HasSlotsReplacedInOnePair olds news old drafts → lists_in size news ≤ lists_in size olds → IsDrafted disk old fresh drafts 2
   spliced_drafted old fresh drafts olds news h none s le = record {
     cuts = 1;
     few = splice_cut disk olds news old drafts s h;
@@ -116,7 +116,7 @@ module _ (disk : Disk) where
   }
 
   -- and are no larger
-  shrunk_drafted : (old fresh drafts : List Pair) (olds news : List Slot) → Each (FitsPairOnDisk disk) old → fresh ≡ [] → HasSlotsReplaced olds news old drafts → lists_in size news ≤ lists_in size olds
+  shrunk_drafted : (old fresh drafts : List Pair) (olds news : List Slot) → Each (IsContentFittingPairOnDisk disk) old → fresh ≡ [] → HasSlotsReplacedInOnePair olds news old drafts → lists_in size news ≤ lists_in size olds
       → sum_by slot_size news ≤ sum_by slot_size olds → length news ≤ length olds → IsDrafted disk old fresh drafts 0
   shrunk_drafted old fresh drafts olds news h none s le less few = record {
     cuts = 0;
@@ -128,11 +128,11 @@ module _ (disk : Disk) where
   one_list : (f : Slot → ℕ) (s : Slot) → sum_by f (s ∷ []) ≡ f s
   one_list f s = let e = sum_by-cons f s [] in omega arith
 
-  created : (node : Option Node) (name : Name) (old fresh drafts : List Pair) → Each (FitsPairOnDisk disk) old → fresh ≡ [] → AddsFileSlotIfNew node name old drafts → IsDrafted disk old fresh drafts 2
+  created : (node : Option Node) (name : Name) (old fresh drafts : List Pair) → Each (IsContentFittingPairOnDisk disk) old → fresh ≡ [] → AddsFileSlotIfNew node name old drafts → IsDrafted disk old fresh drafts 2
   created None name old fresh drafts h none s = spliced_drafted old fresh drafts [] (new_file_slot name ∷ []) h none s (let e = one_list (λ (x : Slot). list_length size x.struct) (new_file_slot name) in omega arith)
   created (Some node) name old fresh drafts h none same = more_drafted old fresh drafts 0 2 (omega arith) (stays_drafted old fresh drafts h (none, same))
 
-  made : (name : Name) (fresh old drafts : List Pair) → Each (FitsPairOnDisk disk) old → AddsDirectorySlotAndPair name fresh old drafts → IsDrafted disk old fresh drafts 4
+  made : (name : Name) (fresh old drafts : List Pair) → Each (IsContentFittingPairOnDisk disk) old → AddsDirectorySlotAndPair name fresh old drafts → IsDrafted disk old fresh drafts 4
   made name [] old drafts h m = absurd m
   made name (p ∷ []) old drafts h m = record {
     cuts = 1;
@@ -146,14 +146,14 @@ module _ (disk : Disk) where
   }
   made name (p ∷ q ∷ fresh) old drafts h m = absurd m
 
-  cleared : (o : Option Slot) (left rest : List Pair) → Each (FitsPairOnDisk disk) left → RemovesSlotIfSome o left rest → Each (FitsPairOnDisk disk) rest × ((length rest ≡ length left) × (lists_of size rest ≤ lists_of size left))
-  cleared None left rest h same = (subst (Each (FitsPairOnDisk disk)) (sym same) h, (ap length same, let a = ap (lists_of size) same in omega arith))
+  cleared : (o : Option Slot) (left rest : List Pair) → Each (IsContentFittingPairOnDisk disk) left → RemovesSlotIfSome o left rest → Each (IsContentFittingPairOnDisk disk) rest × ((length rest ≡ length left) × (lists_of size rest ≤ lists_of size left))
+  cleared None left rest h same = (subst (Each (IsContentFittingPairOnDisk disk)) (sym same) h, (ap length same, let a = ap (lists_of size) same in omega arith))
   cleared (Some u) left rest h s = (
     splice_fits disk (u ∷ []) [] left rest s (omega arith) (omega arith) h,
     (splice_length disk (u ∷ []) [] left rest s, let a = splice_lists disk (u ∷ []) [] left rest s in omega arith),
   )
 
-  moved : (ps : List Pair) (from to : Path) (old fresh drafts : List Pair) → Each (FitsPairOnDisk disk) old → fresh ≡ [] → MovesSlotToPath ps from to old drafts → IsDrafted disk old fresh drafts 2
+  moved : (ps : List Pair) (from to : Path) (old fresh drafts : List Pair) → Each (IsContentFittingPairOnDisk disk) old → fresh ≡ [] → MovesSlotToPath ps from to old drafts → IsDrafted disk old fresh drafts 2
   moved ps from to old fresh drafts h none (u, left, rest, (at, taken, clears, placed)) =
       let gone = splice_fits disk (u ∷ []) [] old left taken (omega arith) (omega arith) h in
       let c = cleared (slot_of_path ps to) left rest gone clears in
@@ -172,7 +172,7 @@ module _ (disk : Disk) where
             omega arith);
       }
 
-  set : (ps : List Pair) (path : Path) (kind : ℕ) (bytes : List ℕ) (old fresh drafts : List Pair) → Each (FitsPairOnDisk disk) old → fresh ≡ []
+  set : (ps : List Pair) (path : Path) (kind : ℕ) (bytes : List ℕ) (old fresh drafts : List Pair) → Each (IsContentFittingPairOnDisk disk) old → fresh ≡ []
       → ReplacesSlotOfPath (λ u v. v ≡ record u { attributes = attributes_with_attribute kind bytes u.attributes }) ps path old drafts → IsDrafted disk old fresh drafts 2
   set ps path kind bytes old fresh drafts h none (u, v, (at, is, s)) = spliced_drafted old fresh drafts (u ∷ []) (v ∷ []) h none s (
       let f = λ (x : Slot). list_length size x.struct in
@@ -181,7 +181,7 @@ module _ (disk : Disk) where
       let i = ap f is in
       omega arith)
 
-  unset : (ps : List Pair) (path : Path) (kind : ℕ) (old fresh drafts : List Pair) → Each (FitsPairOnDisk disk) old → fresh ≡ []
+  unset : (ps : List Pair) (path : Path) (kind : ℕ) (old fresh drafts : List Pair) → Each (IsContentFittingPairOnDisk disk) old → fresh ≡ []
       → ReplacesSlotOfPath (λ u v. v ≡ record u { attributes = attributes_without_attribute kind u.attributes }) ps path old drafts → IsDrafted disk old fresh drafts 0
   unset ps path kind old fresh drafts h none (u, v, (at, is, s)) = shrunk_drafted old fresh drafts (u ∷ []) (v ∷ []) h none s (
       let f = λ (x : Slot). list_length size x.struct in
@@ -198,13 +198,13 @@ module _ (disk : Disk) where
   abbrev asked_in : Tree → Session
   asked_in tree = record { tree = tree; files = [] }
 
-  drafted : (new : Disk) (ps : List Pair) (tree : Tree) (op : Operation) (fresh old drafts : List Pair) → Each (FitsPairOnDisk disk) old → Edits new ps (asked_in tree) op fresh old drafts → IsDrafted disk old fresh drafts (blocks_taken_by_operation op)
-  drafted new ps tree (ops.Open path flags) fresh old drafts h e = created (tree (path_or_root path)) (last_name_of_path (path_or_root path)) old fresh drafts h e.0 e.1
-  drafted new ps tree (ops.Mkdir path) fresh old drafts h e = made (last_name_of_path (path_or_root path)) fresh old drafts h e
+  drafted : (new : Disk) (ps : List Pair) (tree : Tree) (op : Operation) (fresh old drafts : List Pair) → Each (IsContentFittingPairOnDisk disk) old → AreSlotEditsOfOperation new ps (asked_in tree) op fresh old drafts → IsDrafted disk old fresh drafts (blocks_taken_by_operation op)
+  drafted new ps tree (ops.Open path flags) fresh old drafts h e = created (tree (path_of_bytes_or_root path)) (last_name_of_path (path_of_bytes_or_root path)) old fresh drafts h e.0 e.1
+  drafted new ps tree (ops.Mkdir path) fresh old drafts h e = made (last_name_of_path (path_of_bytes_or_root path)) fresh old drafts h e
   drafted new ps tree (ops.Remove path) fresh old drafts h e = shrunk_drafted old fresh drafts (e.1 ∷ []) [] h e.0 e.2.1 (omega arith) (omega arith) (omega arith)
-  drafted new ps tree (ops.Rename from to) fresh old drafts h e = moved ps (path_or_root from) (path_or_root to) old fresh drafts h e.0 e.1
-  drafted new ps tree (ops.SetAttr path kind bytes) fresh old drafts h e = set ps (path_or_root path) kind bytes old fresh drafts h e.0 e.1
-  drafted new ps tree (ops.RemoveAttr path kind) fresh old drafts h e = unset ps (path_or_root path) kind old fresh drafts h e.0 e.1
+  drafted new ps tree (ops.Rename from to) fresh old drafts h e = moved ps (path_of_bytes_or_root from) (path_of_bytes_or_root to) old fresh drafts h e.0 e.1
+  drafted new ps tree (ops.SetAttr path kind bytes) fresh old drafts h e = set ps (path_of_bytes_or_root path) kind bytes old fresh drafts h e.0 e.1
+  drafted new ps tree (ops.RemoveAttr path kind) fresh old drafts h e = unset ps (path_of_bytes_or_root path) kind old fresh drafts h e.0 e.1
   drafted new ps tree (ops.Sync fd) fresh old drafts h e = stays_drafted old fresh drafts h e
   drafted new ps tree (ops.Close fd) fresh old drafts h e = stays_drafted old fresh drafts h e
   drafted new ps tree (ops.Read fd count) fresh old drafts h e = stays_drafted old fresh drafts h e
@@ -222,9 +222,9 @@ module _ (disk : Disk) where
 
   -- ---- the whole
 
-  module _ (new : Disk) (ps qs : List Pair) (tree : Tree) (op : Operation) (laid : IsSlotLayoutAfterOperation disk ps (asked_in tree) op new qs) (h : Each (FitsPairOnDisk disk) ps) where
-    fit_here : Each (FitsPairOnDisk disk) (pairs_without_moved_slot ps)
-    fit_here = fit_unmoved disk (gstate_of ps) ps h
+  module _ (new : Disk) (ps qs : List Pair) (tree : Tree) (op : Operation) (laid : IsSlotLayoutAfterOperation disk ps (asked_in tree) op new qs) (h : Each (IsContentFittingPairOnDisk disk) ps) where
+    fit_here : Each (IsContentFittingPairOnDisk disk) (pairs_without_moved_slot ps)
+    fit_here = fit_unmoved disk (gstate_of_pairs ps) ps h
 
     parts_total : total size qs ≡ total size (flat_map (λ part. part) laid.parts) + total size laid.fresh
     parts_total =
@@ -245,18 +245,18 @@ module _ (disk : Disk) where
         omega arith
 
   -- a recovery adds no pair, and cuts none
-  pub recovered_fit : (new : Disk) (ps qs : List Pair) (tree : Tree) → IsSlotLayoutAfterOperation disk ps (asked_in tree) ops.Recover new qs → Each (FitsPairOnDisk disk) qs
+  pub recovered_fit : (new : Disk) (ps qs : List Pair) (tree : Tree) → IsSlotLayoutAfterOperation disk ps (asked_in tree) ops.Recover new qs → Each (IsContentFittingPairOnDisk disk) qs
   recovered_fit new ps qs tree laid =
       let parts = parts_fit disk (IsDirectoryUnreachedOrRemoved ps ops.Recover) (pair_count_before_root ps) None laid.drafts laid.parts laid.stand in
-      let joined = subst (Each (FitsPairOnDisk disk)) laid.joined parts in
+      let joined = subst (Each (IsContentFittingPairOnDisk disk)) laid.joined parts in
       let none = laid.edits.0 in
-      subst (Each (FitsPairOnDisk disk)) (sym (laid.is ∙ ap (λ (z : List Pair). laid.front ++ (z ++ laid.back)) none)) joined
+      subst (Each (IsContentFittingPairOnDisk disk)) (sym (laid.is ∙ ap (λ (z : List Pair). laid.front ++ (z ++ laid.back)) none)) joined
 
-  pub taken_arranged : (new : Disk) (ps qs : List Pair) (tree : Tree) (op : Operation) → IsSlotLayoutWithRecoveryFirst disk ps (asked_in tree) op new qs → Each (FitsPairOnDisk disk) ps → total size qs ≤ total size (pairs_without_moved_slot ps) + blocks_taken_by_operation op
+  pub taken_arranged : (new : Disk) (ps qs : List Pair) (tree : Tree) (op : Operation) → IsSlotLayoutAfterRecoveryAndOperation disk ps (asked_in tree) op new qs → Each (IsContentFittingPairOnDisk disk) ps → total size qs ≤ total size (pairs_without_moved_slot ps) + blocks_taken_by_operation op
   taken_arranged new ps qs tree op a h =
       let first = taken_laid_out a.middle ps a.between tree ops.Recover a.recovery h in
       let second = taken_laid_out new a.between qs tree op a.operation (recovered_fit a.middle ps a.between tree a.recovery) in
-      let between = total_unmoved disk (gstate_of a.between) a.between in
+      let between = total_unmoved disk (gstate_of_pairs a.between) a.between in
       omega arith
 
 pub room_of : (old new : TreeState) (op : Operation) → IsSoundTreeState old → old.writable ≡ true → IsOperationAppliedToTree old op new → length (disk_summary_of_tree new).used ≤ length (disk_summary_of_tree old).used + blocks_taken_by_operation op
@@ -264,6 +264,6 @@ room_of old new op sound writable k =
     let taken = taken_arranged old.disk new.disk old.pairs new.pairs (tree_view old) op (k.arranged []) (recursion_from_All (λ (p : Pair). IsContentFittingPair old.disk.block_size old.disk.page p.content) old.pairs (sound.fits writable).pairs) in
     let before = used_total old.disk old.pairs in
     let after = used_total new.disk new.pairs in
-    let unmoved = total_unmoved new.disk (gstate_of new.pairs) new.pairs in
+    let unmoved = total_unmoved new.disk (gstate_of_pairs new.pairs) new.pairs in
     let same = ap (λ n. total n new.pairs) k.geometry.block_size in
     omega arith

@@ -10,7 +10,7 @@ use Rattle.lfs_model.specs.Slots.{Slot}
 use Rattle.lfs_model.specs.Thread.{Pair}
 use Rattle.lfs_model.specs.Tree.{Path, Tree}
 use Rattle.lfs_model.specs.Shown.{all_slots_not_moved, skip_list_blocks_of_struct, tree_on_disk}
-use Rattle.lfs_thread.specs.Kept.{Kept}
+use Rattle.lfs_thread.specs.Kept.{KeptThread}
 
 -- how many blocks an operation may take: a pair may be cut for a new entry, and a directory has a pair of its own
 abbrev pub blocks_taken_by_operation : Operation → ℕ
@@ -21,25 +21,25 @@ blocks_taken_by_operation (ops.SetAttr path kind bytes) = 2
 blocks_taken_by_operation _ = 0
 
 -- the blocks of the list that a slot names
-abbrev pub blocks_named : Disk → Option Slot → List ℕ
-blocks_named disk None = []
-blocks_named disk (Some s) = skip_list_blocks_of_struct disk s.struct
+abbrev pub skip_list_blocks_of_slot : Disk → Option Slot → List ℕ
+skip_list_blocks_of_slot disk None = []
+skip_list_blocks_of_slot disk (Some s) = skip_list_blocks_of_struct disk s.struct
 
 -- the blocks of the list of the file at a path
-abbrev pub list_at : Kept → Path → List ℕ
-list_at t path = blocks_named t.disk (slot_of_path t.pairs path)
+abbrev pub skip_list_blocks_at_path : KeptThread → Path → List ℕ
+skip_list_blocks_at_path t path = skip_list_blocks_of_slot t.disk (slot_of_path t.pairs path)
 
 -- a file is at the path still, with the struct that it had, and its list is in the same blocks, which hold what they held
-pub record KeepsFileAtPath (old new : Kept) (path : Path) : Type 0 where
+pub record KeepsFileAtPath (old new : KeptThread) (path : Path) : Type 0 where
   pub file : is_file (tree_on_disk new.disk new.pairs path) ≡ true
   pub struct : struct_of_path new.pairs path ≡ struct_of_path old.pairs path
-  pub list : list_at new path ≡ list_at old path
-  pub bytes : (b : ℕ) → Contains (list_at old path) b → block_bytes_on_disk new.disk b ≡ block_bytes_on_disk old.disk b
+  pub list : skip_list_blocks_at_path new path ≡ skip_list_blocks_at_path old path
+  pub bytes : (b : ℕ) → Contains (skip_list_blocks_at_path old path) b → block_bytes_on_disk new.disk b ≡ block_bytes_on_disk old.disk b
 
 -- every block of a file's list keeps its bytes
-abbrev pub KeepsBytesOfFileLists : Disk → List Pair → Disk → Type 0
-KeepsBytesOfFileLists disk ps new = All (λ t. All (λ b. block_bytes_on_disk new b ≡ block_bytes_on_disk disk b) (skip_list_blocks_of_struct disk t.struct)) (all_slots_not_moved ps)
+abbrev pub KeepsBytesOfSkipListsOfFiles : Disk → List Pair → Disk → Type 0
+KeepsBytesOfSkipListsOfFiles disk ps new = All (λ t. All (λ b. block_bytes_on_disk new b ≡ block_bytes_on_disk disk b) (skip_list_blocks_of_struct disk t.struct)) (all_slots_not_moved ps)
 
 -- the tree's files but for the one at the path have the structs that they had
-abbrev pub KeepsOthers : Tree → List Pair → Path → List Pair → Type 0
-KeepsOthers tree ps path new = (q : Path) → is_file (tree q) ≡ true → same_path path q ≡ false → struct_of_path new q ≡ struct_of_path ps q
+abbrev pub KeepsStructsOfOtherFiles : Tree → List Pair → Path → List Pair → Type 0
+KeepsStructsOfOtherFiles tree ps path new = (q : Path) → is_file (tree q) ≡ true → same_path path q ≡ false → struct_of_path new q ≡ struct_of_path ps q

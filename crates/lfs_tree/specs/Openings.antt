@@ -1,32 +1,32 @@
 -- What a file gives a writer that opens it.
 use Rattle.std.specs.Prelude.{All, false}
-use Rattle.lfs_model.specs.BlockSets.{IsFree}
+use Rattle.lfs_model.specs.BlockSets.{IsBlockFree}
 use Rattle.lfs_model.specs.Slots.{Slot, Struct}
 use Rattle.lfs_model.specs.Shown.{skip_list_blocks_of_struct}
-use Rattle.lfs_writer.specs.ThreadContents.{HasContentsInFormOnThread, list_blocks_of_contents}
-use Rattle.lfs_thread.specs.Kept.{Kept}
+use Rattle.lfs_writer.specs.ThreadContents.{HasContentsInStorageFormOnThread, list_blocks_of_contents}
+use Rattle.lfs_thread.specs.Kept.{KeptThread}
 use Rattle.lfs_lookup.specs.BytesAt.{IsFileSlotAtSpot}
 use Rattle.lfs_lookup.specs.FileBytes.{file_bytes_of_struct}
 use Rattle.lfs_lookup.specs.declared.entry.FileStorage.{FileStorage}
 use Rattle.lfs_lookup.specs.declared.entry.FileStorage.TheVariants as entry
-use Rattle.lfs_lookup.specs.declared.search.Spot.{Spot}
+use Rattle.lfs_lookup.specs.declared.search.SlotPosition.{SlotPosition}
 use Rattle.lfs_writer.specs.Contents.{HasNoBlockInFlight}
 use Rattle.lfs_writer.specs.Form as form
-use Rattle.lfs_writer.specs.Form.{ContentsForm}
-use Rattle.lfs_writer.specs.BlockOwners.{AreUsedBlocksAmong}
+use Rattle.lfs_writer.specs.Form.{ContentsStorageForm}
+use Rattle.lfs_writer.specs.BlockOwners.{AreUsedBlocksOfListAmongOwnBlocks}
 use Rattle.lfs_writer.specs.declared.contents.WriterContents.{WriterContents}
 
 -- a file's slot is there, no block is in flight, and the blocks of the file's list aren't free
-pub record CanOpenFileInSlot (t : Kept) (slot : Spot) (contents : FileStorage) (held : Slot) : Type 0 where
+pub record CanOpenSlotFileWithNothingInFlight (t : KeptThread) (slot : SlotPosition) (contents : FileStorage) (held : Slot) : Type 0 where
   pub file : IsFileSlotAtSpot t slot contents held
   pub idle : HasNoBlockInFlight t.map t.disk.blocks
-  pub marked : All (λ b. ¬ (IsFree t.map b)) (skip_list_blocks_of_struct t.disk held.struct)
+  pub marked : All (λ b. ¬ (IsBlockFree t.map b)) (skip_list_blocks_of_struct t.disk held.struct)
 
-abbrev pub form_of_opened_storage : FileStorage → ContentsForm
+abbrev pub form_of_opened_storage : FileStorage → ContentsStorageForm
 form_of_opened_storage (entry.Inline len) = form.InMemory len
 form_of_opened_storage (entry.List head size) = form.Finished size false
 
 -- a writer has the bytes of the struct, in memory or as the file's list
-pub record AreOpenedContentsOfStruct (t : Kept) (struct : Struct) (shape : ContentsForm) (contents : WriterContents) : Type 0 where
-  pub holds : HasContentsInFormOnThread t contents (file_bytes_of_struct t.disk struct) shape
-  pub owned : AreUsedBlocksAmong t.map (skip_list_blocks_of_struct t.disk struct) (list_blocks_of_contents t contents)
+pub record AreOpenedContentsOfStruct (t : KeptThread) (struct : Struct) (shape : ContentsStorageForm) (contents : WriterContents) : Type 0 where
+  pub holds : HasContentsInStorageFormOnThread t contents (file_bytes_of_struct t.disk struct) shape
+  pub owned : AreUsedBlocksOfListAmongOwnBlocks t.map (skip_list_blocks_of_struct t.disk struct) (list_blocks_of_contents t contents)

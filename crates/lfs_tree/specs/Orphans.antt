@@ -4,10 +4,10 @@ use Rattle.std.specs.List.{AllByRecursion}
 use Rattle.lfs_model.specs.InDirectory.{IsPairAtAddress}
 use Rattle.lfs_model.specs.Slots.{Struct, Inline, Ctz, Branch}
 use Rattle.lfs_model.specs.Thread.{Pair}
-use Rattle.lfs_model.specs.Shown.{IsDirectoryReached}
-use Rattle.lfs_model.specs.Steps.{SomeIn}
+use Rattle.lfs_model.specs.Shown.{IsDirectoryAddressReachedBySomePath}
+use Rattle.lfs_model.specs.Steps.{IsTrueOfSomeElement}
 use Rattle.lfs_lookup.specs.Items.{NameAndStruct}
-use Rattle.lfs_lookup.specs.Walk.{HasFirstPairInThreadIfBranch}
+use Rattle.lfs_lookup.specs.Walk.{HasFirstPairInThreadIfDirectory}
 
 abbrev pub IsMarkedReached : List Bool → ℕ → Type 0
 IsMarkedReached marks n = slice_get marks n ≡ Some true
@@ -24,14 +24,14 @@ IsFirstPairOfStruct ps (Inline bytes) n = ⊥
 IsFirstPairOfStruct ps (Ctz head size) n = ⊥
 
 abbrev pub IsFirstPairOfSomeStruct : List Pair → List NameAndStruct → ℕ → Type 0
-IsFirstPairOfSomeStruct ps shapes n = SomeIn (λ (s : NameAndStruct). IsFirstPairOfStruct ps s.struct n) shapes
+IsFirstPairOfSomeStruct ps shapes n = IsTrueOfSomeElement (λ (s : NameAndStruct). IsFirstPairOfStruct ps s.struct n) shapes
 
 -- the directories that are named begin with pairs of the thread
-abbrev pub BranchesBeginInThread : List Pair → List NameAndStruct → Type 0
-BranchesBeginInThread ps shapes = AllByRecursion (λ (s : NameAndStruct). HasFirstPairInThreadIfBranch ps s.struct) shapes
+abbrev pub NamedDirectoriesBeginInThread : List Pair → List NameAndStruct → Type 0
+NamedDirectoriesBeginInThread ps shapes = AllByRecursion (λ (s : NameAndStruct). HasFirstPairInThreadIfDirectory ps s.struct) shapes
 
 -- The numbers that have P are marked now, and those of them that weren't before are pending.
-pub record HasMarkedReachedPairs (P : ℕ → Type 0) (old : List Bool) (waiting : List ℕ) (new : List Bool) (pending : List ℕ) : Type 0 where
+pub record MarksPairsAndAddsNewlyMarkedToPending (P : ℕ → Type 0) (old : List Bool) (waiting : List ℕ) (new : List Bool) (pending : List ℕ) : Type 0 where
   pub len : length new ≡ length old
   pub stay : (n : ℕ) → IsMarkedReached old n → IsMarkedReached new n
   pub marked : (n : ℕ) → P n → IsMarkedReached new n
@@ -41,7 +41,7 @@ pub record HasMarkedReachedPairs (P : ℕ → Type 0) (old : List Bool) (waiting
   pub less : unmarked_count new + length pending ≤ unmarked_count old + length waiting
 
 -- a path leads to a pair, as the first of its directory, exactly where it is marked
-pub record AreMarksOfReachedPairs (ps : List Pair) (marks : List Bool) : Type 0 where
+pub record AreMarksOfFirstPairsReachedByPaths (ps : List Pair) (marks : List Bool) : Type 0 where
   pub len : length marks ≡ length ps
-  pub marked : (n : ℕ) (p : Pair) → slice_get ps n ≡ Some p → IsDirectoryReached ps p.at → IsMarkedReached marks n
-  pub reached : (n : ℕ) (p : Pair) → slice_get ps n ≡ Some p → IsMarkedReached marks n → IsDirectoryReached ps p.at
+  pub marked : (n : ℕ) (p : Pair) → slice_get ps n ≡ Some p → IsDirectoryAddressReachedBySomePath ps p.at → IsMarkedReached marks n
+  pub reached : (n : ℕ) (p : Pair) → slice_get ps n ≡ Some p → IsMarkedReached marks n → IsDirectoryAddressReachedBySomePath ps p.at

@@ -1,24 +1,24 @@
 -- What an operation's checks have shown before it is applied.
 use Rattle.std.specs.Prelude.{ℕ, ◌≡◌, ◌+◌, ◌≤◌, true, false, not, ◌&&◌, List, [], length, nat_lt, None, is_none, is_some}
 use Rattle.lfs_model.specs.TreeEdits.{attributes_of_node, is_path_beneath, is_directory, is_file, last_name_of_path, names_of_directory_node, same_path}
-use Rattle.lfs_model.specs.BlockSets.{in_flight_count}
+use Rattle.lfs_model.specs.BlockSets.{in_flight_block_count}
 use Rattle.lfs_model.specs.Content.{attribute_bytes_of_type, attributes_with_attribute}
 use Rattle.lfs_model.specs.Disk.{block_count}
-use Rattle.lfs_model.specs.Session.{refusal_of_parents, has_too_long_name, is_entry_over_charge_limit}
-use Rattle.lfs_model.specs.Refusals.{is_root}
+use Rattle.lfs_model.specs.Session.{refusal_unless_parents_are_directories, has_too_long_last_name, is_entry_over_charge_limit}
+use Rattle.lfs_model.specs.Refusals.{is_root_path}
 use Rattle.lfs_model.specs.Tree.{Path}
 use Rattle.lfs_tree.specs.TreeState.{TreeState, disk_summary_of_tree, tree_state_without_cache, tree_view}
 
 -- so many blocks are free: neither the image's nor in flight
 abbrev pub HasFreeBlocksForNeed : TreeState → ℕ → Type 0
-HasFreeBlocksForNeed t need = length (disk_summary_of_tree t).used + in_flight_count t.map + need ≤ block_count t.disk
+HasFreeBlocksForNeed t need = length (disk_summary_of_tree t).used + in_flight_block_count t.map + need ≤ block_count t.disk
 
 -- nothing is at the path, and an entry may be made there that takes so many blocks
 pub record CanAddEntryToImage (t : TreeState) (path : Path) (need : ℕ) : Type 0 where
   pub works : t.failed ≡ false
   pub writable : t.writable ≡ true
-  pub parents : refusal_of_parents (tree_view t) [] path ≡ None
-  pub name : has_too_long_name path ≡ false
+  pub parents : refusal_unless_parents_are_directories (tree_view t) [] path ≡ None
+  pub name : has_too_long_last_name path ≡ false
   pub nothing : is_some (tree_view t path) ≡ false
   pub fits : is_entry_over_charge_limit (disk_summary_of_tree t) (last_name_of_path path) [] ≡ false
   pub room : HasFreeBlocksForNeed t need
@@ -38,8 +38,8 @@ CanCreateFileAtPath t path = CanAddEntryAtPath t path 2
 pub record CanRemoveEntryInImage (t : TreeState) (path : Path) : Type 0 where
   pub works : t.failed ≡ false
   pub writable : t.writable ≡ true
-  pub entry : is_root path ≡ false
-  pub parents : refusal_of_parents (tree_view t) [] path ≡ None
+  pub entry : is_root_path path ≡ false
+  pub parents : refusal_unless_parents_are_directories (tree_view t) [] path ≡ None
   pub something : is_none (tree_view t path) ≡ false
   pub empty : nat_lt 0 (length (names_of_directory_node (tree_view t path))) ≡ false
 
@@ -50,8 +50,8 @@ CanRemoveEntryAtPath t path = CanRemoveEntryInImage (tree_state_without_cache t)
 pub record CanSetAttrInImage (t : TreeState) (path : Path) (kind : ℕ) (bytes : List ℕ) : Type 0 where
   pub works : t.failed ≡ false
   pub writable : t.writable ≡ true
-  pub entry : is_root path ≡ false
-  pub parents : refusal_of_parents (tree_view t) [] path ≡ None
+  pub entry : is_root_path path ≡ false
+  pub parents : refusal_unless_parents_are_directories (tree_view t) [] path ≡ None
   pub something : is_none (tree_view t path) ≡ false
   pub len : length bytes ≤ 1022
   pub fits : is_entry_over_charge_limit (disk_summary_of_tree t) (last_name_of_path path) (attributes_with_attribute kind bytes (attributes_of_node (tree_view t path))) ≡ false
@@ -64,8 +64,8 @@ CanSetAttrAtPath t path kind bytes = CanSetAttrInImage (tree_state_without_cache
 pub record CanRemoveAttrInImage (t : TreeState) (path : Path) (kind : ℕ) : Type 0 where
   pub works : t.failed ≡ false
   pub writable : t.writable ≡ true
-  pub entry : is_root path ≡ false
-  pub parents : refusal_of_parents (tree_view t) [] path ≡ None
+  pub entry : is_root_path path ≡ false
+  pub parents : refusal_unless_parents_are_directories (tree_view t) [] path ≡ None
   pub something : is_none (tree_view t path) ≡ false
   pub there : is_none (attribute_bytes_of_type kind (attributes_of_node (tree_view t path))) ≡ false
 
@@ -76,12 +76,12 @@ CanRemoveAttrAtPath t path kind = CanRemoveAttrInImage (tree_state_without_cache
 pub record CanRenameInImage (t : TreeState) (from to : Path) : Type 0 where
   pub works : t.failed ≡ false
   pub writable : t.writable ≡ true
-  pub entry : is_root from ≡ false
-  pub target : is_root to ≡ false
+  pub entry : is_root_path from ≡ false
+  pub target : is_root_path to ≡ false
   pub apart : is_path_beneath from to ≡ false
-  pub parents : refusal_of_parents (tree_view t) [] from ≡ None
-  pub target_parents : refusal_of_parents (tree_view t) [] to ≡ None
-  pub name : has_too_long_name to ≡ false
+  pub parents : refusal_unless_parents_are_directories (tree_view t) [] from ≡ None
+  pub target_parents : refusal_unless_parents_are_directories (tree_view t) [] to ≡ None
+  pub name : has_too_long_last_name to ≡ false
   pub something : is_none (tree_view t from) ≡ false
   pub directory : (not (same_path from to) && is_directory (tree_view t from) && is_file (tree_view t to)) ≡ false
   pub file : (not (same_path from to) && is_file (tree_view t from) && is_directory (tree_view t to)) ≡ false

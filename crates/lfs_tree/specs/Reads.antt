@@ -1,23 +1,23 @@
 -- How often the calls of a tree read.
 use Rattle.std.specs.Prelude.{sum_by, ◌≡◌, ◌≤◌, ◌+◌, List}
 use Rattle.lfs_model.specs.Cache.{cached_block_limit}
-use Rattle.lfs_model.specs.Frame.{pair_count_of_directory_at, parents}
-use Rattle.lfs_model.specs.History.{CallEvent, reads}
+use Rattle.lfs_model.specs.Frame.{pair_count_of_directory_at, ancestor_paths_of_path}
+use Rattle.lfs_model.specs.History.{DeviceCallEvent, read_count_of_history}
 use Rattle.lfs_model.specs.Slots.{zero_gstate}
-use Rattle.lfs_model.specs.Thread.{gstate_of}
+use Rattle.lfs_model.specs.Thread.{gstate_of_pairs}
 use Rattle.lfs_model.specs.Tree.{Path}
-use Rattle.lfs_lookup.specs.CachedPairs.{AreDirectoriesAmongLastUsed}
+use Rattle.lfs_lookup.specs.CachedPairs.{AreDirectoriesAtThesePathsAmongLastUsed}
 use Rattle.lfs_tree.specs.TreeState.{TreeState}
 
 -- all pairs of the directories at these paths are cached
 abbrev pub HasCachedDirectories : TreeState → List Path → Type 0
-HasCachedDirectories t paths = AreDirectoriesAmongLastUsed cached_block_limit t.disk t.cache t.pairs paths
+HasCachedDirectories t paths = AreDirectoriesAtThesePathsAmongLastUsed cached_block_limit t.disk t.cache t.pairs paths
 
 -- No more reads came than the directories at these paths have pairs, and none where all of them were cached.
-pub record ReadsEachPairOnce (paths : List Path) (old : TreeState) (history : List CallEvent) : Type 0 where
-  pub few : reads history ≤ reads old.history + sum_by (pair_count_of_directory_at old.pairs) paths
-  pub none : HasCachedDirectories old paths → reads history ≡ reads old.history
+pub record ReadsDirectoryPairsAtMostOnce (paths : List Path) (old : TreeState) (history : List DeviceCallEvent) : Type 0 where
+  pub few : read_count_of_history history ≤ read_count_of_history old.history + sum_by (pair_count_of_directory_at old.pairs) paths
+  pub none : HasCachedDirectories old paths → read_count_of_history history ≡ read_count_of_history old.history
 
 -- Where nothing is to recover, no more reads came than the directories above the path have pairs, and six.
-abbrev pub ReadsAtMostParentPairsPlusSix : Path → TreeState → List CallEvent → Type 0
-ReadsAtMostParentPairsPlusSix path old history = gstate_of old.pairs ≡ zero_gstate → reads history ≤ reads old.history + sum_by (pair_count_of_directory_at old.pairs) (parents path) + 6
+abbrev pub ReadsAtMostPairsAbovePathPlusSix : Path → TreeState → List DeviceCallEvent → Type 0
+ReadsAtMostPairsAbovePathPlusSix path old history = gstate_of_pairs old.pairs ≡ zero_gstate → read_count_of_history history ≤ read_count_of_history old.history + sum_by (pair_count_of_directory_at old.pairs) (ancestor_paths_of_path path) + 6

@@ -2,24 +2,24 @@
 use Rattle.std.specs.Prelude.{ℕ, ◌≡◌, Bool, true, false, List, [], ◌∷◌, ◌++◌, Some, None, is_none}
 use Rattle.lfs_model.specs.TreeEdits.{attributes_of_node, tree_after_change_of_node, node_with_attributes}
 use Rattle.lfs_model.specs.Names.{Name}
-use Rattle.lfs_model.specs.Session.{refusal_of_parents}
+use Rattle.lfs_model.specs.Session.{refusal_unless_parents_are_directories}
 use Rattle.lfs_model.specs.Slots.{Attributes}
-use Rattle.lfs_model.specs.Refusals.{is_root}
+use Rattle.lfs_model.specs.Refusals.{is_root_path}
 use Rattle.lfs_model.specs.Thread.{Pair}
 use Rattle.lfs_model.specs.Tree.{Path, Tree}
 use Rattle.lfs_lookup.specs.Paths.{IsSlotOfNameBelowPath}
-use Rattle.lfs_lookup.specs.declared.paths.Found.{Found}
-use Rattle.lfs_lookup.specs.declared.paths.Found.TheVariants as found
-use Rattle.lfs_lookup.specs.declared.search.Spot.{Spot}
+use Rattle.lfs_lookup.specs.declared.paths.PathLookup.{PathLookup}
+use Rattle.lfs_lookup.specs.declared.paths.PathLookup.TheVariants as found
+use Rattle.lfs_lookup.specs.declared.search.SlotPosition.{SlotPosition}
 
 -- an entry is at the path
 pub record HasEntryAtPath (t : Tree) (path : Path) : Type 0 where
-  pub entry : is_root path ≡ false
-  pub parents : refusal_of_parents t [] path ≡ None
+  pub entry : is_root_path path ≡ false
+  pub parents : refusal_unless_parents_are_directories t [] path ≡ None
   pub something : is_none (t path) ≡ false
 
 -- the last name of the path is at the spot, in the slot of the path
-pub record IsSpotOfPathSlot (ps : List Pair) (path : Path) (spot : Spot) : Type 0 where
+pub record IsSpotOfSlotAtPath (ps : List Pair) (path : Path) (spot : SlotPosition) : Type 0 where
   pub above : Path
   pub name : Name
   pub first : ℕ
@@ -27,12 +27,12 @@ pub record IsSpotOfPathSlot (ps : List Pair) (path : Path) (spot : Spot) : Type 
   pub stands : IsSlotOfNameBelowPath ps above name first spot
 
 -- an entry is found
-abbrev pub is_entry_found : Found → Bool
+abbrev pub is_entry_found : PathLookup → Bool
 is_entry_found (found.Directory parent slot first) = true
 is_entry_found (found.File parent slot contents) = true
 is_entry_found _ = false
 
-abbrev pub IsSpotOfFoundEntry : Found → Spot → Type 0
+abbrev pub IsSpotOfFoundEntry : PathLookup → SlotPosition → Type 0
 IsSpotOfFoundEntry (found.Directory parent slot first) spot = slot ≡ spot
 IsSpotOfFoundEntry (found.File parent slot contents) spot = slot ≡ spot
 IsSpotOfFoundEntry _ spot = ⊥

@@ -3,33 +3,33 @@ use Rattle.std.specs.Prelude.{ℕ, ◌≡◌, ◌≢◌, ◌⊎◌, ◌<◌, Boo
 use Rattle.lfs_device.specs.declared.error.Error.{Error}
 use Rattle.lfs_device.specs.declared.error.Error.TheVariants.{Io, NoMemory, Corrupt}
 use Rattle.lfs_model.specs.TreeEdits.{is_file}
-use Rattle.lfs_model.specs.BlockSets.{AreExactlyTheUsedBlocks, BlockStateList, IsInFlight, in_flight_count}
+use Rattle.lfs_model.specs.BlockSets.{AreExactlyTheUsedBlocks, BlockStateList, IsBlockInFlight, in_flight_block_count}
 use Rattle.lfs_model.specs.Cache.{CachedBlocks}
 use Rattle.lfs_model.specs.Frame.{LeavesUnrelatedBlocksUnchanged}
 use Rattle.lfs_model.specs.Disk.{Disk, SameGeometry, block_bytes_on_disk, block_count}
-use Rattle.lfs_model.specs.History.{CallEvent, AreCallsSinceOnlyReads, faults, reads, unprogrammed}
-use Rattle.lfs_model.specs.Keeping.{removes_or_moves_path}
-use Rattle.lfs_model.specs.Layout.{IsSlotLayoutWithRecoveryFirst}
+use Rattle.lfs_model.specs.History.{DeviceCallEvent, AreCallsSinceOnlyReads, fault_count_of_history, read_count_of_history, is_byte_unprogrammed}
+use Rattle.lfs_model.specs.Keeping.{removes_or_moves_path_or_ancestor}
+use Rattle.lfs_model.specs.Layout.{IsSlotLayoutAfterRecoveryAndOperation}
 use Rattle.lfs_model.specs.Operations.{Operation}
-use Rattle.lfs_model.specs.PowerLoss.{SurvivesStopsSince}
+use Rattle.lfs_model.specs.PowerLoss.{SurvivesPowerLossInCallsSince}
 use Rattle.lfs_model.specs.Recovery.{IsNothingLeftToRecover}
 use Rattle.lfs_model.specs.Run.{IsDiskUntouched, is_recover_operation, renames_to_itself}
-use Rattle.lfs_model.specs.Session.{Files, DiskSummary}
+use Rattle.lfs_model.specs.Session.{OpenFilesByNumber, DiskSummary}
 use Rattle.lfs_model.specs.Slots.{zero_gstate}
 use Rattle.lfs_model.specs.Effects.{effect_of_operation}
-use Rattle.lfs_model.specs.Thread.{Pair, gstate_of}
+use Rattle.lfs_model.specs.Thread.{Pair, gstate_of_pairs}
 use Rattle.lfs_model.specs.Tree.{Path, Tree}
 use Rattle.lfs_model.specs.View.{IsAcceptedImage}
-use Rattle.lfs_model.specs.Profile.{IsWritable}
+use Rattle.lfs_model.specs.Profile.{IsWritableImage}
 use Rattle.lfs_model.specs.Shown.{tree_on_disk, used_blocks}
-use Rattle.lfs_thread.specs.Kept.{Kept}
-use Rattle.lfs_tree.specs.KeptFiles.{KeepsFileAtPath, KeepsBytesOfFileLists}
+use Rattle.lfs_thread.specs.Kept.{KeptThread}
+use Rattle.lfs_tree.specs.KeptFiles.{KeepsFileAtPath, KeepsBytesOfSkipListsOfFiles}
 
 -- The disk and its calls so far, its pairs, and the state of each block. Also whether the image is in the writing profile,
 -- whether a call failed, and which blocks are cached.
 pub record TreeState : Type 0 where
   pub disk : Disk
-  pub history : List CallEvent
+  pub history : List DeviceCallEvent
   pub pairs : List Pair
   pub map : BlockStateList
   pub writable : Bool
@@ -40,8 +40,8 @@ pub record TreeState : Type 0 where
 abbrev pub tree_state_without_cache : TreeState → TreeState
 tree_state_without_cache t = record t { cache = [] }
 
-abbrev pub kept_of : TreeState → Kept
-kept_of t = record { disk = t.disk; history = t.history; pairs = t.pairs; map = t.map }
+abbrev pub kept_thread_of_tree_state : TreeState → KeptThread
+kept_thread_of_tree_state t = record { disk = t.disk; history = t.history; pairs = t.pairs; map = t.map }
 
 abbrev pub tree_view : TreeState → Tree
 tree_view t = tree_on_disk t.disk t.pairs
@@ -53,14 +53,14 @@ disk_summary_of_tree t = record {
   page = t.disk.page;
   block_count = block_count t.disk;
   used = used_blocks t.disk t.pairs;
-  gstate = gstate_of t.pairs;
+  gstate = gstate_of_pairs t.pairs;
 }
 
 -- The disk is accepted with these pairs, the profile is as noted, and the used blocks are the image's.
 pub record IsSoundTreeImage (t : TreeState) : Type 0 where
   pub accepted : IsAcceptedImage t.disk t.pairs
-  pub fits : t.writable ≡ true → IsWritable t.disk t.pairs
-  pub is_kept : IsWritable t.disk t.pairs → t.writable ≡ true
+  pub fits : t.writable ≡ true → IsWritableImage t.disk t.pairs
+  pub is_kept : IsWritableImage t.disk t.pairs → t.writable ≡ true
   pub used : AreExactlyTheUsedBlocks t.map (used_blocks t.disk t.pairs)
   pub size : length t.map ≡ block_count t.disk
 
@@ -75,7 +75,7 @@ pub record WasTreeOnlyRead (old new : TreeState) : Type 0 where
   pub same : new ≡ record old { history = new.history; cache = new.cache }
   pub failed : old.failed ≡ true → new ≡ old
   pub reads : AreCallsSinceOnlyReads old.disk.blocks old.history new.history
-  pub no_fault : faults new.history ≡ faults old.history
+  pub no_fault : fault_count_of_history new.history ≡ fault_count_of_history old.history
 
 -- a call failed that only reads
 pub record IsTreeFailedByRead (old new : TreeState) : Type 0 where
@@ -84,22 +84,22 @@ pub record IsTreeFailedByRead (old new : TreeState) : Type 0 where
   pub reads : AreCallsSinceOnlyReads old.disk.blocks old.history new.history
 
 -- `Io` comes with a fault of the device, and `NoMemory` without one
-pub record IsErrorWithCause (old new : TreeState) (e : Error) : Type 0 where
+pub record IsIoWithFaultOrNoMemory (old new : TreeState) (e : Error) : Type 0 where
   pub errors : (e ≡ Io) ⊎ (e ≡ NoMemory)
-  pub fault : e ≡ Io → faults old.history < faults new.history
-  pub no_fault : e ≢ Io → faults new.history ≡ faults old.history
+  pub fault : e ≡ Io → fault_count_of_history old.history < fault_count_of_history new.history
+  pub no_fault : e ≢ Io → fault_count_of_history new.history ≡ fault_count_of_history old.history
 
 -- what such a call promises
-pub record IsReadOnlyCall {X : Type 0} (old : TreeState) (result : Result X Error) (new : TreeState) : Type 0 where
+pub record OnlyReadsTreeOrFails {X : Type 0} (old : TreeState) (result : Result X Error) (new : TreeState) : Type 0 where
   pub asked : OnOk result (WasTreeOnlyRead old new)
   pub broken : OnErr result (IsTreeFailedByRead old new)
-  pub errors : IfErr result (IsErrorWithCause old new)
+  pub errors : IfErr result (IsIoWithFaultOrNoMemory old new)
 
 -- The same of a mount. `Corrupt` comes where the disk isn't accepted.
 pub record IsMountErrorWithCause (old new : TreeState) (e : Error) : Type 0 where
   pub errors : (e ≡ Io) ⊎ ((e ≡ NoMemory) ⊎ ((e ≡ Corrupt) × ((ps : List Pair) → IsAcceptedImage old.disk ps → ⊥)))
-  pub fault : e ≡ Io → faults old.history < faults new.history
-  pub no_fault : e ≢ Io → faults new.history ≡ faults old.history
+  pub fault : e ≡ Io → fault_count_of_history old.history < fault_count_of_history new.history
+  pub no_fault : e ≢ Io → fault_count_of_history new.history ≡ fault_count_of_history old.history
 
 -- ---- calls that write
 
@@ -107,19 +107,19 @@ pub record IsMountErrorWithCause (old new : TreeState) (e : Error) : Type 0 wher
 pub record IsFailedTree (old new : TreeState) : Type 0 where
   pub failed : new.failed ≡ true
   pub geometry : SameGeometry old.disk new.disk
-  pub calls : List CallEvent
+  pub calls : List DeviceCallEvent
   pub called : new.history ≡ calls ++ old.history
 
 -- the same blocks are in flight, keep their bytes, and have as many unprogrammed bytes
 pub record KeepsBlocksInFlightUnchanged (old new : TreeState) : Type 0 where
-  pub stay : (b : ℕ) → IsInFlight old.map b → IsInFlight new.map b
-  pub none_comes : (b : ℕ) → IsInFlight new.map b → IsInFlight old.map b
-  pub bytes : (b : ℕ) → IsInFlight old.map b → block_bytes_on_disk new.disk b ≡ block_bytes_on_disk old.disk b
-  pub unprogrammed_still : (b k : ℕ) → IsInFlight old.map b → unprogrammed old.history b k ≡ true → unprogrammed new.history b k ≡ true
+  pub stay : (b : ℕ) → IsBlockInFlight old.map b → IsBlockInFlight new.map b
+  pub none_comes : (b : ℕ) → IsBlockInFlight new.map b → IsBlockInFlight old.map b
+  pub bytes : (b : ℕ) → IsBlockInFlight old.map b → block_bytes_on_disk new.disk b ≡ block_bytes_on_disk old.disk b
+  pub unprogrammed_still : (b k : ℕ) → IsBlockInFlight old.map b → is_byte_unprogrammed old.history b k ≡ true → is_byte_unprogrammed new.history b k ≡ true
 
 -- a loss of power during the call leaves the tree from before, or that one
 abbrev pub SurvivesStopsInTreeCall : TreeState → TreeState → Tree → Type 0
-SurvivesStopsInTreeCall old new after = SurvivesStopsSince old.disk old.history new.history (tree_view old) after
+SurvivesStopsInTreeCall old new after = SurvivesPowerLossInCallsSince old.disk old.history new.history (tree_view old) after
 
 -- the operation is applied without a fault of the device, whatever files are open
 pub record IsOperationAppliedToImage (old : TreeState) (op : Operation) (new : TreeState) : Type 0 where
@@ -127,32 +127,32 @@ pub record IsOperationAppliedToImage (old : TreeState) (op : Operation) (new : T
   pub sound : IsSoundTreeState new
   pub writable : new.writable ≡ true
   pub geometry : SameGeometry old.disk new.disk
-  pub calls : List CallEvent
+  pub calls : List DeviceCallEvent
   pub called : new.history ≡ calls ++ old.history
-  pub no_fault : faults new.history ≡ faults old.history
-  pub fits : IsWritable new.disk new.pairs
+  pub no_fault : fault_count_of_history new.history ≡ fault_count_of_history old.history
+  pub fits : IsWritableImage new.disk new.pairs
   pub recovered : IsNothingLeftToRecover new.pairs
-  pub shows : (around : DiskSummary) (files : Files) → tree_view new ≡ (effect_of_operation around (record { tree = tree_view old; files = files }) op).1.tree
-  pub arranged : (files : Files) → IsSlotLayoutWithRecoveryFirst old.disk old.pairs (record { tree = tree_view old; files = files }) op new.disk new.pairs
+  pub shows : (around : DiskSummary) (files : OpenFilesByNumber) → tree_view new ≡ (effect_of_operation around (record { tree = tree_view old; files = files }) op).1.tree
+  pub arranged : (files : OpenFilesByNumber) → IsSlotLayoutAfterRecoveryAndOperation old.disk old.pairs (record { tree = tree_view old; files = files }) op new.disk new.pairs
   pub itself : renames_to_itself op ≡ true → IsDiskUntouched old.disk calls new.disk
   pub nothing_left : is_recover_operation op ≡ true → IsNothingLeftToRecover old.pairs → IsDiskUntouched old.disk calls new.disk
   pub flight : KeepsBlocksInFlightUnchanged old new
-  pub keeps : (path : Path) → is_file (tree_view old path) ≡ true → removes_or_moves_path op path ≡ false → KeepsFileAtPath (kept_of old) (kept_of new) path
-  pub lists : gstate_of old.pairs ≡ zero_gstate → KeepsBytesOfFileLists old.disk old.pairs new.disk
+  pub keeps : (path : Path) → is_file (tree_view old path) ≡ true → removes_or_moves_path_or_ancestor op path ≡ false → KeepsFileAtPath (kept_thread_of_tree_state old) (kept_thread_of_tree_state new) path
+  pub lists : gstate_of_pairs old.pairs ≡ zero_gstate → KeepsBytesOfSkipListsOfFiles old.disk old.pairs new.disk
 
 abbrev pub IsOperationAppliedToTree : TreeState → Operation → TreeState → Type 0
 IsOperationAppliedToTree old op new = IsOperationAppliedToImage (tree_state_without_cache old) op (tree_state_without_cache new)
 
 -- Where nothing was to recover, the blocks of files keep their bytes. So do blocks of pairs that the operation isn't about.
 abbrev pub LeavesUnconcernedBlocksAlone : TreeState → Operation → TreeState → Type 0
-LeavesUnconcernedBlocksAlone old op new = gstate_of old.pairs ≡ zero_gstate → (files : Files) → LeavesUnrelatedBlocksUnchanged old.disk old.pairs (record { tree = tree_view old; files = files }) op new.disk new.pairs
+LeavesUnconcernedBlocksAlone old op new = gstate_of_pairs old.pairs ≡ zero_gstate → (files : OpenFilesByNumber) → LeavesUnrelatedBlocksUnchanged old.disk old.pairs (record { tree = tree_view old; files = files }) op new.disk new.pairs
 
 -- The image of a disk that was only read, at least once and without a fault. The tree works, and no block is in flight.
-pub record IsMountedTree (disk : Disk) (history : List CallEvent) (t : TreeState) : Type 0 where
+pub record IsMountedTree (disk : Disk) (history : List DeviceCallEvent) (t : TreeState) : Type 0 where
   pub works : t.failed ≡ false
   pub disk_is : t.disk ≡ disk
-  pub called : reads history < reads t.history
+  pub called : read_count_of_history history < read_count_of_history t.history
   pub reads : AreCallsSinceOnlyReads disk.blocks history t.history
-  pub no_fault : faults t.history ≡ faults history
+  pub no_fault : fault_count_of_history t.history ≡ fault_count_of_history history
   pub sound : IsSoundTreeState t
-  pub none_in_flight : in_flight_count t.map ≡ 0
+  pub none_in_flight : in_flight_block_count t.map ≡ 0

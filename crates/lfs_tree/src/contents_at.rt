@@ -3,38 +3,38 @@
 ghost use Rattle.std.specs.Prelude.{◌≡◌, ◌∷◌, [], false, true, IfErr, OnOk};
 ghost use Rattle.lfs_writer.specs.ThreadContents.{ReportsFaultOrNoMemory};
 ghost use Rattle.lfs_model.specs.TreeEdits.{tree_after_change_of_node};
-ghost use Rattle.lfs_model.specs.History.{faults};
+ghost use Rattle.lfs_model.specs.History.{fault_count_of_history};
 ghost use Rattle.lfs_model.specs.Effects.{node_with_bytes};
 ghost use Rattle.lfs_model.specs.Shown.{tree_on_disk};
 ghost use Rattle.lfs_operations.specs.Changing.{WritesPairAndTwoFreeBlocks};
 ghost use Rattle.lfs_operations.specs.Storing.{HasStoredContentsOfFile, tree_with_contents_at};
-ghost use Rattle.lfs_tree.specs.TreeChanges.{HasFurtherDeviceCalls, CanChangeRecoveredImage, ChangesTreeOrFails, SurvivesWithOldOrNewTree, ReportsErrorWithCause};
+ghost use Rattle.lfs_tree.specs.TreeChanges.{HasFurtherDeviceCalls, CanChangeRecoveredImage, ChangesTreeOrFails, SurvivesWithOldOrNewTree, ReportsIoWithFaultOrNoMemory};
 ghost use Rattle.lfs_tree.specs.RootedThreads.{tree_state_of_kept_thread};
 ghost use Rattle.lfs_tree.specs.OpenContents.{CanStoreContentsAt, bytes_of_writer_contents};
-ghost use Rattle.lfs_tree.specs.Stores.{CanCommitContentsAtPath, CanPutFinishedContentsInSlot, HasCommittedBytesOfFile, HasStoredBytesOnThread, IsFileSlotOfFound, is_file_found, stored_list_of_finished_contents, stored_list_in_storage, no_list};
+ghost use Rattle.lfs_tree.specs.Stores.{CanCommitContentsAtPath, CanPutFinishedContentsInSlot, HasCommittedBytesOfFile, StoresBytesKeepingOtherFilesOnThread, IsFileSlotOfFound, is_file_found, stored_skip_list_of_finished_contents, skip_list_in_file_storage, empty_stored_skip_list};
 
 use crate::entries_at::{find_at_path, show_block_facts_to_proof};
 use lfs_device::{BlockDevice, Error};
-use lfs_lookup::{Found, Path, Spot};
+use lfs_lookup::{Path, PathLookup, SlotPosition};
 use lfs_operations::set_struct;
 use lfs_tag::ctz_bytes;
 use lfs_tag::kinds::{CTZ_STRUCT, INLINE_STRUCT};
 use lfs_thread::Thread;
-use lfs_writer::{Stored, WriterContents, finish_file, settle_file};
+use lfs_writer::{StoredList, WriterContents, finish_file, settle_file};
 use std::alloc::Global;
 
 // The slot of a file, and its list. Inline bytes have a list without bytes.
 #[derive(Clone, Copy, Drop)]
 struct FileSlot {
-    spot: Spot,
-    list: Stored,
+    spot: SlotPosition,
+    list: StoredList,
 }
 
 // Returns a list of no bytes.
-fn no_list() -> Stored
-    ensures { result ≡ no_list }
+fn skip_list_of_no_bytes() -> StoredList
+    ensures { result ≡ empty_stored_skip_list }
 {
-    Stored {
+    StoredList {
         head: 0,
         size: 0,
         in_flight: false,
@@ -42,12 +42,12 @@ fn no_list() -> Stored
 }
 
 // Returns the list that an entry names.
-fn list_named(contents: lfs_lookup::FileStorage) -> Stored
-    ensures { result ≡ stored_list_in_storage contents }
+fn skip_list_of_file_storage(contents: lfs_lookup::FileStorage) -> StoredList
+    ensures { result ≡ skip_list_in_file_storage contents }
 {
     match contents {
-        lfs_lookup::FileStorage::Inline { .. } => no_list(),
-        lfs_lookup::FileStorage::List { head, size } => Stored {
+        lfs_lookup::FileStorage::Inline { .. } => skip_list_of_no_bytes(),
+        lfs_lookup::FileStorage::List { head, size } => StoredList {
             head,
             size,
             in_flight: false,
@@ -56,34 +56,34 @@ fn list_named(contents: lfs_lookup::FileStorage) -> Stored
 }
 
 // Returns the list of finished contents.
-fn list_in(contents: &WriterContents) -> Stored
-    ensures { result ≡ stored_list_of_finished_contents contents.now }
+fn skip_list_of_finished_contents(contents: &WriterContents) -> StoredList
+    ensures { result ≡ stored_skip_list_of_finished_contents contents.now }
 {
     match contents {
         WriterContents::Finished(stored) => *stored,
-        _ => no_list(),
+        _ => skip_list_of_no_bytes(),
     }
 }
 
 // Returns the slot of a file that was found.
-fn file_slot_of_found(found: Found) -> FileSlot
+fn file_slot_of_found(found: PathLookup) -> FileSlot
     requires { is_file_found found ≡ true }
     ensures { IsFileSlotOfFound found result }
 {
     match found {
-        Found::File { slot, contents, .. } => FileSlot {
+        PathLookup::File { slot, contents, .. } => FileSlot {
             spot: slot,
-            list: list_named(contents),
+            list: skip_list_of_file_storage(contents),
         },
         _ => unreachable!(),
     }
 }
 
 // Puts finished contents into a file's slot. The lists aren't settled in the map.
-fn put_contents<D: BlockDevice>(
+fn put_finished_contents_in_slot<D: BlockDevice>(
     alloc: Global,
     thread: &mut Thread<D>,
-    spot: Spot,
+    spot: SlotPosition,
     contents: &WriterContents,
 ) -> Result<(), Error>
     requires works { thread.old.failed ≡ false }
@@ -103,7 +103,7 @@ fn put_contents<D: BlockDevice>(
                 spot.pair,
                 spot.id,
                 INLINE_STRUCT,
-                list.held(),
+                list.buffered_content(),
             )
         }
         WriterContents::Finished(stored) => {
@@ -129,8 +129,8 @@ fn commit_contents_at_path<D: BlockDevice>(
     ensures done { OnOk result (HasCommittedBytesOfFile thread.old.kept path.now (bytes_of_writer_contents thread.old.kept contents) thread.new.kept) }
     ensures works { OnOk result (thread.new.failed ≡ false) }
     ensures called { HasFurtherDeviceCalls thread.old.kept thread.new.kept }
-    ensures no_fault { OnOk result (faults thread.new.kept.history ≡ faults thread.old.kept.history) }
-    ensures errors { IfErr result (ReportsErrorWithCause thread.old.kept thread.new.kept) }
+    ensures no_fault { OnOk result (fault_count_of_history thread.new.kept.history ≡ fault_count_of_history thread.old.kept.history) }
+    ensures errors { IfErr result (ReportsIoWithFaultOrNoMemory thread.old.kept thread.new.kept) }
     ensures survives { SurvivesWithOldOrNewTree thread.old.kept thread.new.kept (tree_after_change_of_node path.now (node_with_bytes (bytes_of_writer_contents thread.old.kept contents)) (tree_on_disk thread.old.kept.disk thread.old.kept.pairs)) }
 {
     show_block_facts_to_proof(thread);
@@ -138,8 +138,8 @@ fn commit_contents_at_path<D: BlockDevice>(
     let _device = thread.device();
     let target = find_at_path(alloc, thread, root, path)?;
     let file = file_slot_of_found(target.found);
-    put_contents(alloc, thread, file.spot, &contents)?;
-    settle_file(thread, file.list, list_in(&contents))?;
+    put_finished_contents_in_slot(alloc, thread, file.spot, &contents)?;
+    settle_file(thread, file.list, skip_list_of_finished_contents(&contents))?;
     Ok(())
 }
 
@@ -155,7 +155,7 @@ pub(crate) fn store_contents_at_path<D: BlockDevice>(
 ) -> Result<(), Error>
     requires rests { CanChangeRecoveredImage thread.old root }
     requires can { CanStoreContentsAt (tree_state_of_kept_thread thread.old.kept true false) path.now contents }
-    ensures { ChangesTreeOrFails thread.old (HasStoredBytesOnThread thread.old.kept path.now (bytes_of_writer_contents thread.old.kept contents))
+    ensures { ChangesTreeOrFails thread.old (StoresBytesKeepingOtherFilesOnThread thread.old.kept path.now (bytes_of_writer_contents thread.old.kept contents))
         (tree_after_change_of_node path.now (node_with_bytes (bytes_of_writer_contents thread.old.kept contents)) (tree_on_disk thread.old.kept.disk thread.old.kept.pairs)) result thread.new }
 {
     let finished = finish_file(alloc, thread, contents)?;

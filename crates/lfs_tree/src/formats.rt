@@ -2,14 +2,14 @@
 
 ghost use Rattle.std.specs.Prelude.{◌≡◌, ◌≤◌, ◌+◌, [], false, IfErr, IfOk, OnOk};
 ghost use Rattle.lfs_device.specs.Calls.{ChangesOnlyTheseBlocks, ReportsFaults};
-ghost use Rattle.lfs_model.specs.History.{erases};
+ghost use Rattle.lfs_model.specs.History.{erase_count_of_history};
 ghost use Rattle.lfs_model.specs.Thread.{anchor_pair_address};
 ghost use Rattle.lfs_pair.specs.ChangeView.{changes_view};
-ghost use Rattle.lfs_pair.specs.Fresh.{FailsUntouchedAtNoMemory};
-ghost use Rattle.lfs_thread.specs.Device.{blocks_of_address};
+ghost use Rattle.lfs_pair.specs.Fresh.{LeavesDeviceUntouchedAtNoMemory};
+ghost use Rattle.lfs_thread.specs.Device.{blocks_of_pair_address};
 ghost use Rattle.lfs_thread.specs.Kept.{disk_of_device, kept_thread_of_device};
 ghost use Rattle.lfs_thread.specs.Steps.{ThreadChangesOnlyTheseBlocks};
-ghost use Rattle.lfs_tree.specs.Formats.{ReturnsDeviceWithFormatError, ErasesTwoBlocks, IsBlockMapAfterFormat, IsHeaderOfEmptyRoot, IsThreadOfEmptyRoot, IsFreshlyFormatted, ShowsEmptyRoot, superblock_slot_changes};
+ghost use Rattle.lfs_tree.specs.Formats.{FailedFormatSparesOtherBlocks, ErasesTwoBlocks, IsBlockMapAfterFormat, IsHeaderOfEmptyRoot, IsThreadOfEmptyRoot, IsFreshlyFormatted, IsWritableImageWithEmptyRoot, superblock_slot_changes};
 
 use lfs_alloc::BlockMap;
 use lfs_cache::Cache;
@@ -17,7 +17,7 @@ use lfs_device::{BlockDevice, Error};
 use lfs_pair::{Change, Pair};
 use lfs_tag::kinds::{INLINE_STRUCT, SUPERBLOCK_NAME};
 use lfs_tag::{Superblock, superblock_bytes};
-use lfs_thread::{Parts, Thread};
+use lfs_thread::{Thread, ThreadParts};
 use std::alloc::Global;
 
 // Where the thread begins.
@@ -47,13 +47,13 @@ fn write_root_pair_with_superblock<D: BlockDevice>(
     device: &mut D,
 ) -> Result<Pair, Error>
     ensures root { IfOk result (λ pair. IsHeaderOfEmptyRoot (disk_of_device D.BlockDevice device.new) (D.history device.new) pair) }
-    ensures erases { OnOk result (erases (D.history device.new) ≡ erases (D.history device.old) + 2) }
-    ensures error { IfErr result (λ e. FailsUntouchedAtNoMemory device.old device.new e) }
-    ensures device { ChangesOnlyTheseBlocks D.BlockDevice (blocks_of_address anchor_pair_address) device.old device.new }
+    ensures erases { OnOk result (erase_count_of_history (D.history device.new) ≡ erase_count_of_history (D.history device.old) + 2) }
+    ensures error { IfErr result (λ e. LeavesDeviceUntouchedAtNoMemory device.old device.new e) }
+    ensures device { ChangesOnlyTheseBlocks D.BlockDevice (blocks_of_pair_address anchor_pair_address) device.old device.new }
     ensures faults { ReportsFaults D.BlockDevice device.old device.new result }
 {
     let geometry = device.geometry();
-    let structure = superblock_bytes(&Superblock::of(&geometry));
+    let structure = superblock_bytes(&Superblock::for_fresh_image(&geometry));
     let changes = superblock_changes(&structure);
     let pair = Pair::fresh(alloc, device, ROOT, &changes)?;
     Ok(pair)
@@ -67,9 +67,9 @@ fn write_thread_of_root_pair<D: BlockDevice>(
 ) -> Result<(), Error>
     requires none { pairs.old.items ≡ [] }
     ensures root { OnOk result (IsThreadOfEmptyRoot (disk_of_device D.BlockDevice device.new) (D.history device.new) pairs.new.items) }
-    ensures erases { OnOk result (erases (D.history device.new) ≡ erases (D.history device.old) + 2) }
-    ensures error { IfErr result (λ e. FailsUntouchedAtNoMemory device.old device.new e) }
-    ensures device { ChangesOnlyTheseBlocks D.BlockDevice (blocks_of_address anchor_pair_address) device.old device.new }
+    ensures erases { OnOk result (erase_count_of_history (D.history device.new) ≡ erase_count_of_history (D.history device.old) + 2) }
+    ensures error { IfErr result (λ e. LeavesDeviceUntouchedAtNoMemory device.old device.new e) }
+    ensures device { ChangesOnlyTheseBlocks D.BlockDevice (blocks_of_pair_address anchor_pair_address) device.old device.new }
     ensures faults { ReportsFaults D.BlockDevice device.old device.new result }
 {
     // The header's memory is taken before anything is written.
@@ -80,7 +80,7 @@ fn write_thread_of_root_pair<D: BlockDevice>(
 }
 
 // Makes an empty cache, and a map of so many blocks, of which the first two are used.
-fn in_memory(alloc: Global, block_count: u32) -> Result<(Cache, BlockMap), Error>
+fn make_cache_and_block_map(alloc: Global, block_count: u32) -> Result<(Cache, BlockMap), Error>
     requires { 2 ≤ block_count }
     ensures empty { IfOk result (λ parts. parts.0 ≡ []) }
     ensures map { IfOk result (λ parts. IsBlockMapAfterFormat block_count parts.1) }
@@ -108,19 +108,19 @@ fn in_memory(alloc: Global, block_count: u32) -> Result<(Cache, BlockMap), Error
 pub fn format<D: BlockDevice>(alloc: Global, mut device: D) -> Result<Thread<D>, (D, Error)>
     ensures works { IfOk result (λ t. t.failed ≡ false) }
     ensures formatted { IfOk result (λ t. IsFreshlyFormatted t.kept) }
-    ensures shows { IfOk result (λ t. ShowsEmptyRoot t.kept) }
-    ensures writes { IfOk result (λ t. ThreadChangesOnlyTheseBlocks (blocks_of_address anchor_pair_address) (kept_thread_of_device D.BlockDevice device [] []) t.kept) }
+    ensures shows { IfOk result (λ t. IsWritableImageWithEmptyRoot t.kept) }
+    ensures writes { IfOk result (λ t. ThreadChangesOnlyTheseBlocks (blocks_of_pair_address anchor_pair_address) (kept_thread_of_device D.BlockDevice device [] []) t.kept) }
     ensures calls { IfOk result (λ t. ErasesTwoBlocks (D.history device) t.kept.history) }
-    ensures back { IfErr result (λ e. ReturnsDeviceWithFormatError D.BlockDevice (blocks_of_address anchor_pair_address) device e.0 e.1) }
+    ensures back { IfErr result (λ e. FailedFormatSparesOtherBlocks D.BlockDevice (blocks_of_pair_address anchor_pair_address) device e.0 e.1) }
 {
     let block_count = device.geometry().block_count;
     let mut pairs = Vec::new(alloc);
-    let (cache, map) = match in_memory(alloc, block_count) {
+    let (cache, map) = match make_cache_and_block_map(alloc, block_count) {
         Ok(parts) => parts,
         Err(error) => return Err((device, error)),
     };
     match write_thread_of_root_pair(alloc, &mut device, &mut pairs) {
-        Ok(()) => Ok(Thread::from_parts(Parts {
+        Ok(()) => Ok(Thread::from_parts(ThreadParts {
             device,
             cache,
             pairs,

@@ -23,7 +23,7 @@ mod tree;
 mod writers;
 
 pub use formats::format;
-pub use laws::{contents_stay, operations_take_few_blocks};
-pub use order_choice::mount_either;
+pub use laws::{operations_leave_writer_contents_alone, operations_take_few_blocks};
+pub use order_choice::mount_in_either_name_order;
 pub use rename_paths::{RenameFindings, RenameTargets};
 pub use tree::Tree;

@@ -5,34 +5,34 @@ ghost use Rattle.std.specs.Option.{option_to_list};
 ghost use Rattle.lfs_writer.specs.SettledFiles.{ChangesOnlyBlockMap};
 ghost use Rattle.lfs_writer.specs.ThreadContents.{ReportsFaultOrNoMemory};
 ghost use Rattle.lfs_model.specs.LoggedContent.{IsWellFormedRawSlot, AreWellFormedRawSlots};
-ghost use Rattle.lfs_model.specs.Slots.{Content as ModelContent};
+ghost use Rattle.lfs_model.specs.Slots.{PairContent as ModelContent};
 ghost use Rattle.lfs_operations.specs.Dropping.{HasSameBlocksInFlight};
 ghost use Rattle.lfs_operations.specs.Ready.{IsImageReadyForChange};
 ghost use Rattle.lfs_operations.specs.Recovering.{AreUnreachedPairNumbers, slots_of_numbered_pairs};
 ghost use Rattle.lfs_tag.specs.ContentView.{slot_view};
 ghost use Rattle.lfs_thread.specs.CachedLog.{IsLogBlockOfContent};
-ghost use Rattle.lfs_thread.specs.Steps.{kept_pair_at_index};
-ghost use Rattle.lfs_tree.specs.LostLists.{CanFreeListsOfDroppedSlots, stored_lists_of_raw_struct, stored_lists_of_slots, stored_lists_of_raw_slots};
+ghost use Rattle.lfs_thread.specs.Steps.{thread_pair_at_index};
+ghost use Rattle.lfs_tree.specs.LostLists.{CanFreeListsOfDroppedSlots, skip_lists_named_by_raw_struct, skip_lists_named_by_slots, skip_lists_named_by_raw_slots};
 ghost use Rattle.lfs_lookup.specs.Reading.{OnlyReadsThreadAndReportsErrors};
-ghost use Rattle.lfs_lookup.specs.Search.{HasLogWithCompleteContent};
+ghost use Rattle.lfs_lookup.specs.Search.{HasLogWhoseSlotsHaveNameAndStruct};
 
 use lfs_device::{BlockDevice, Error};
-use lfs_lookup::{FileOrDirectory, FileStorage, entry_of};
+use lfs_lookup::{FileOrDirectory, FileStorage, entry_of_struct};
 use lfs_tag::{Content, Log, Slot};
 use lfs_thread::Thread;
-use lfs_writer::{Stored, settle_file, settled_map_is_exact};
+use lfs_writer::{StoredList, settle_file, settled_map_has_exactly_image_blocks};
 use std::alloc::{AllocError, Global};
 
 // Returns the list that a slot names, if it names one.
-fn list_of_slot(slot: &Slot<'_>) -> Option<Stored>
+fn skip_list_named_by_slot(slot: &Slot<'_>) -> Option<StoredList>
     requires { IsWellFormedRawSlot (slot_view slot.now) }
-    ensures { option_to_list result ≡ stored_lists_of_raw_struct (slot_view slot.now).struct }
+    ensures { option_to_list result ≡ skip_lists_named_by_raw_struct (slot_view slot.now).struct }
 {
     let Some(structure) = slot.structure else {
         return None;
     };
-    match entry_of(&structure) {
-        FileOrDirectory::File(FileStorage::List { head, size }) => Some(Stored {
+    match entry_of_struct(&structure) {
+        FileOrDirectory::File(FileStorage::List { head, size }) => Some(StoredList {
             head,
             size,
             in_flight: false,
@@ -42,12 +42,15 @@ fn list_of_slot(slot: &Slot<'_>) -> Option<Stored>
 }
 
 // Adds the lists that slots name.
-fn push_lists_of_slots(lists: &mut Vec<Stored>, slots: &[Slot<'_>]) -> Result<(), AllocError>
+fn push_skip_lists_of_slots(
+    lists: &mut Vec<StoredList>,
+    slots: &[Slot<'_>],
+) -> Result<(), AllocError>
     requires { AreWellFormedRawSlots (map slot_view slots.now) }
-    ensures { OnOk result (lists.new.items ≡ lists.old.items ++ stored_lists_of_raw_slots (map slot_view slots.now)) }
+    ensures { OnOk result (lists.new.items ≡ lists.old.items ++ skip_lists_named_by_raw_slots (map slot_view slots.now)) }
 {
     for slot in slots {
-        if let Some(list) = list_of_slot(slot) {
+        if let Some(list) = skip_list_named_by_slot(slot) {
             lists.push(list)?;
         }
     }
@@ -55,48 +58,52 @@ fn push_lists_of_slots(lists: &mut Vec<Stored>, slots: &[Slot<'_>]) -> Result<()
 }
 
 // Adds the lists that the slots of a log name.
-fn push_lists_of_log(alloc: Global, lists: &mut Vec<Stored>, log: &Log<'_>) -> Result<(), Error>
-    requires { HasLogWithCompleteContent log.now }
-    ensures lists { (content : ModelContent) → IsLogBlockOfContent log.now content → OnOk result (lists.new.items ≡ lists.old.items ++ stored_lists_of_slots content.slots) }
+fn push_skip_lists_of_log(
+    alloc: Global,
+    lists: &mut Vec<StoredList>,
+    log: &Log<'_>,
+) -> Result<(), Error>
+    requires { HasLogWhoseSlotsHaveNameAndStruct log.now }
+    ensures lists { (content : ModelContent) → IsLogBlockOfContent log.now content → OnOk result (lists.new.items ≡ lists.old.items ++ skip_lists_named_by_slots content.slots) }
     ensures errors { IfErr result (λ e. e ≡ Error.NoMemory) }
 {
     let content = Content::read(alloc, log)?;
-    push_lists_of_slots(lists, &content.slots)?;
+    push_skip_lists_of_slots(lists, &content.slots)?;
     Ok(())
 }
 
 // Adds the lists that the slots of a pair name.
-fn push_lists_of_pair<D: BlockDevice>(
+fn push_skip_lists_of_pair<D: BlockDevice>(
     alloc: Global,
     thread: &mut Thread<D>,
-    lists: &mut Vec<Stored>,
+    lists: &mut Vec<StoredList>,
     index: usize,
 ) -> Result<(), Error>
     requires works { thread.old.failed ≡ false }
     requires below { index < length thread.old.kept.pairs }
-    ensures lists { OnOk result (lists.new.items ≡ lists.old.items ++ stored_lists_of_slots (kept_pair_at_index thread.old.kept index).content.slots) }
+    ensures lists { OnOk result (lists.new.items ≡ lists.old.items ++ skip_lists_named_by_slots (thread_pair_at_index thread.old.kept index).content.slots) }
     ensures reading { OnlyReadsThreadAndReportsErrors thread.old thread.new result }
 {
     thread.load_pair(index)?;
-    push_lists_of_log(alloc, lists, &thread.lend(index).unwrap())
+    push_skip_lists_of_log(alloc, lists, &thread.lend(index).unwrap())
 }
 
 // Returns the lists that the slots of these pairs name. No path leads to the pairs.
 //
 // Errors: `Io` where a read failed. `NoMemory` where memory isn't granted.
-pub(crate) fn lists_of_pairs<D: BlockDevice>(
+pub(crate) fn skip_lists_of_pairs<D: BlockDevice>(
     alloc: Global,
     thread: &mut Thread<D>,
     numbers: &[usize],
-) -> Result<Vec<Stored>, Error>
+) -> Result<Vec<StoredList>, Error>
     requires works { thread.old.failed ≡ false }
     requires unreached { AreUnreachedPairNumbers thread.old.kept.pairs numbers.now }
-    ensures lists { IfOk result (λ lists. lists.items ≡ stored_lists_of_slots (slots_of_numbered_pairs thread.old.kept.pairs numbers.now)) }
+    ensures lists { IfOk result (λ lists. lists.items ≡ skip_lists_named_by_slots (slots_of_numbered_pairs thread.old.kept.pairs numbers.now)) }
     ensures reading { OnlyReadsThreadAndReportsErrors thread.old thread.new result }
 {
     let mut lists = Vec::new(alloc);
     for number in numbers {
-        push_lists_of_pair(alloc, thread, &mut lists, *number)?;
+        push_skip_lists_of_pair(alloc, thread, &mut lists, *number)?;
     }
     Ok(lists)
 }
@@ -104,9 +111,9 @@ pub(crate) fn lists_of_pairs<D: BlockDevice>(
 // Frees the blocks of lists in the map, after no pair names them any more. Nothing is written.
 //
 // Errors: `Io` where a read failed. The thread has failed then.
-pub(crate) fn free_lists<D: BlockDevice>(
+pub(crate) fn free_blocks_of_skip_lists<D: BlockDevice>(
     thread: &mut Thread<D>,
-    lists: &[Stored],
+    lists: &[StoredList],
 ) -> Result<(), Error>
     requires works { thread.old.failed ≡ false }
     requires can { CanFreeListsOfDroppedSlots thread.old.kept lists.now }
@@ -116,8 +123,8 @@ pub(crate) fn free_lists<D: BlockDevice>(
     ensures failed { thread.new.failed ≡ is_err result }
     ensures reports { ReportsFaultOrNoMemory thread.old.kept thread.new.kept result }
 {
-    settled_map_is_exact();
-    let nothing = Stored {
+    settled_map_has_exactly_image_blocks();
+    let nothing = StoredList {
         head: 0,
         size: 0,
         in_flight: false,

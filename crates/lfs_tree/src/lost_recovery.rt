@@ -1,24 +1,24 @@
 // How a recovery ends what a loss of power left.
 
 ghost use Rattle.std.specs.Prelude.{◌≡◌, false, true, IfErr, IfOk, OnOk};
-ghost use Rattle.lfs_model.specs.History.{faults};
+ghost use Rattle.lfs_model.specs.History.{fault_count_of_history};
 ghost use Rattle.lfs_model.specs.Slots.{zero_gstate};
-ghost use Rattle.lfs_model.specs.Thread.{blocks_of_pairs, gstate_of, pair_count_before_root};
+ghost use Rattle.lfs_model.specs.Thread.{blocks_of_pairs, gstate_of_pairs, pair_count_before_root};
 ghost use Rattle.lfs_model.specs.Shown.{tree_on_disk};
 ghost use Rattle.lfs_operations.specs.Recovering.{CanDropUnreachedPairs, slots_of_numbered_pairs};
 ghost use Rattle.lfs_thread.specs.Steps.{ThreadChangesOnlyTheseBlocks};
-ghost use Rattle.lfs_tree.specs.TreeChanges.{HasFurtherDeviceCalls, ChangesTreeOrFails, SurvivesWithOldOrNewTree, ReportsErrorWithCause};
-ghost use Rattle.lfs_tree.specs.RootedThreads.{IsSoundThreadWithRoot};
-ghost use Rattle.lfs_tree.specs.LostLists.{stored_lists_of_slots};
+ghost use Rattle.lfs_tree.specs.TreeChanges.{HasFurtherDeviceCalls, ChangesTreeOrFails, SurvivesWithOldOrNewTree, ReportsIoWithFaultOrNoMemory};
+ghost use Rattle.lfs_tree.specs.RootedThreads.{IsSoundThreadWithRootAtPairNumber};
+ghost use Rattle.lfs_tree.specs.LostLists.{skip_lists_named_by_slots};
 ghost use Rattle.lfs_tree.specs.Recoveries.{CanDropUnreachedDirectories, HasDroppedUnreachedDirectories, HasRecoveredFromPowerLoss};
 
 use crate::entries_at::show_block_facts_to_proof;
-use crate::lost_lists::{free_lists, lists_of_pairs};
-use crate::orphans::unreached;
+use crate::lost_lists::{free_blocks_of_skip_lists, skip_lists_of_pairs};
+use crate::orphans::find_unreached_pair_numbers;
 use lfs_device::{BlockDevice, Error};
 use lfs_operations::{drop_unreached_pairs, end_move};
 use lfs_thread::Thread;
-use lfs_writer::Stored;
+use lfs_writer::StoredList;
 use std::alloc::Global;
 
 // Drops the pairs of these numbers, which no path leads to, and frees the lists that their slots
@@ -29,20 +29,20 @@ fn drop_unreached_pairs_and_lists<D: BlockDevice>(
     alloc: Global,
     thread: &mut Thread<D>,
     numbers: &[usize],
-    lists: &[Stored],
+    lists: &[StoredList],
 ) -> Result<(), Error>
     requires works { thread.old.failed ≡ false }
     requires can { CanDropUnreachedPairs thread.old.kept numbers.now }
-    requires lists { lists.now ≡ stored_lists_of_slots (slots_of_numbered_pairs thread.old.kept.pairs numbers.now) }
+    requires lists { lists.now ≡ skip_lists_named_by_slots (slots_of_numbered_pairs thread.old.kept.pairs numbers.now) }
     ensures dropped { OnOk result (HasDroppedUnreachedDirectories thread.old.kept thread.new.kept) }
     ensures works { OnOk result (thread.new.failed ≡ false) }
-    ensures no_fault { OnOk result (faults thread.new.kept.history ≡ faults thread.old.kept.history) }
-    ensures errors { IfErr result (ReportsErrorWithCause thread.old.kept thread.new.kept) }
+    ensures no_fault { OnOk result (fault_count_of_history thread.new.kept.history ≡ fault_count_of_history thread.old.kept.history) }
+    ensures errors { IfErr result (ReportsIoWithFaultOrNoMemory thread.old.kept thread.new.kept) }
     ensures device { ThreadChangesOnlyTheseBlocks (blocks_of_pairs thread.old.kept.pairs) thread.old.kept thread.new.kept }
     ensures survives { SurvivesWithOldOrNewTree thread.old.kept thread.new.kept (tree_on_disk thread.old.kept.disk thread.old.kept.pairs) }
 {
     drop_unreached_pairs(alloc, thread, numbers)?;
-    free_lists(thread, lists)?;
+    free_blocks_of_skip_lists(thread, lists)?;
     Ok(())
 }
 
@@ -61,14 +61,14 @@ fn drop_unreached_directories<D: BlockDevice>(
     ensures dropped { OnOk result (HasDroppedUnreachedDirectories thread.old.kept thread.new.kept) }
     ensures works { OnOk result (thread.new.failed ≡ false) }
     ensures called { HasFurtherDeviceCalls thread.old.kept thread.new.kept }
-    ensures no_fault { OnOk result (faults thread.new.kept.history ≡ faults thread.old.kept.history) }
-    ensures errors { IfErr result (ReportsErrorWithCause thread.old.kept thread.new.kept) }
+    ensures no_fault { OnOk result (fault_count_of_history thread.new.kept.history ≡ fault_count_of_history thread.old.kept.history) }
+    ensures errors { IfErr result (ReportsIoWithFaultOrNoMemory thread.old.kept thread.new.kept) }
     ensures survives { SurvivesWithOldOrNewTree thread.old.kept thread.new.kept (tree_on_disk thread.old.kept.disk thread.old.kept.pairs) }
 {
     show_block_facts_to_proof(thread);
-    let numbers = unreached(alloc, thread, root)?;
+    let numbers = find_unreached_pair_numbers(alloc, thread, root)?;
     // The lists are known before anything is written.
-    let lists = lists_of_pairs(alloc, thread, &numbers)?;
+    let lists = skip_lists_of_pairs(alloc, thread, &numbers)?;
     drop_unreached_pairs_and_lists(alloc, thread, &numbers, &lists)?;
     Ok(())
 }
@@ -76,13 +76,13 @@ fn drop_unreached_directories<D: BlockDevice>(
 // Ends what a loss of power left: a set move, and directories that no path leads to.
 //
 // Errors are those of `drop_unreached_directories`.
-pub(crate) fn recover_at<D: BlockDevice>(
+pub(crate) fn end_move_and_drop_unreached_directories<D: BlockDevice>(
     alloc: Global,
     thread: &mut Thread<D>,
     root: usize,
 ) -> Result<(), Error>
-    requires rooted { IsSoundThreadWithRoot thread.old root true }
-    requires left { gstate_of thread.old.kept.pairs ≡ zero_gstate → ⊥ }
+    requires rooted { IsSoundThreadWithRootAtPairNumber thread.old root true }
+    requires left { gstate_of_pairs thread.old.kept.pairs ≡ zero_gstate → ⊥ }
     ensures { ChangesTreeOrFails thread.old (HasRecoveredFromPowerLoss thread.old.kept) (tree_on_disk thread.old.kept.disk thread.old.kept.pairs) result thread.new }
 {
     end_move(alloc, thread)?;

@@ -3,7 +3,7 @@
 ghost use Rattle.std.specs.Prelude.{◌≡◌, ◌↔◌, IsTrue, IfOk, false};
 ghost use Rattle.lfs_model.specs.Thread.{pair_count_before_root};
 ghost use Rattle.lfs_model.specs.View.{IsAcceptedImage};
-ghost use Rattle.lfs_model.specs.Profile.{IsWritable};
+ghost use Rattle.lfs_model.specs.Profile.{IsWritableImage};
 ghost use Rattle.lfs_lookup.specs.Reading.{OnlyReadsThreadAndReportsErrors};
 
 use lfs_device::{BlockDevice, Error};
@@ -20,7 +20,7 @@ pub(crate) fn find_root_and_writing_profile<D: BlockDevice>(
     requires works { thread.old.failed ≡ false }
     requires accepted { IsAcceptedImage thread.old.kept.disk thread.old.kept.pairs }
     ensures root { IfOk result (λ r. r.0 ≡ pair_count_before_root thread.old.kept.pairs) }
-    ensures writable { IfOk result (λ r. IsTrue r.1 ↔ IsWritable thread.old.kept.disk thread.old.kept.pairs) }
+    ensures writable { IfOk result (λ r. IsTrue r.1 ↔ IsWritableImage thread.old.kept.disk thread.old.kept.pairs) }
     ensures reading { OnlyReadsThreadAndReportsErrors thread.old thread.new result }
 {
     let root = find_root(alloc, thread)?;

@@ -1,24 +1,26 @@
 // The contents of files that are opened for writing.
 
 ghost use Rattle.std.specs.Prelude.{◌≡◌, [], false, length, true, IfErr, IfOk};
-ghost use Rattle.lfs_model.specs.TreeEdits.{bytes_at, is_file};
-ghost use Rattle.lfs_model.specs.BlockSets.{in_flight_count};
+ghost use Rattle.lfs_model.specs.TreeEdits.{file_bytes_of_node, is_file};
+ghost use Rattle.lfs_model.specs.BlockSets.{in_flight_block_count};
 ghost use Rattle.lfs_model.specs.Slots.{Inline, Slot};
 ghost use Rattle.lfs_model.specs.Shown.{tree_on_disk};
 ghost use Rattle.lfs_thread.specs.Beside.{DiskHasGeometry};
-ghost use Rattle.lfs_tree.specs.RootedThreads.{IsSoundThreadWithRoot};
-ghost use Rattle.lfs_tree.specs.OpenContents.{IsFormOfOpenedContents, AreWriterContentsOverKeptFile, bytes_of_writer_contents};
-ghost use Rattle.lfs_tree.specs.Openings.{CanOpenFileInSlot, AreOpenedContentsOfStruct, form_of_opened_storage};
+ghost use Rattle.lfs_tree.specs.RootedThreads.{IsSoundThreadWithRootAtPairNumber};
+ghost use Rattle.lfs_tree.specs.OpenContents.{IsFormOfOpenedContents, AreWriterContentsOverFileOnThread, bytes_of_writer_contents};
+ghost use Rattle.lfs_tree.specs.Openings.{CanOpenSlotFileWithNothingInFlight, AreOpenedContentsOfStruct, form_of_opened_storage};
 ghost use Rattle.lfs_lookup.specs.Reading.{OnlyReadsThreadAndReportsErrors};
 ghost use Rattle.lfs_lookup.specs.declared.entry.FileStorage.TheVariants as entry_contents;
-ghost use Rattle.lfs_lookup.specs.declared.search.Spot.{Spot as SpotSeen};
-ghost use Rattle.lfs_writer.specs.Contents.{HasNoBlockInFlight, form_of_contents};
+ghost use Rattle.lfs_lookup.specs.declared.search.SlotPosition.{SlotPosition as SpotSeen};
+ghost use Rattle.lfs_writer.specs.Contents.{HasNoBlockInFlight, storage_form_of_contents};
 ghost use Rattle.lfs_writer.specs.Form as form;
 
 use lfs_device::{BlockDevice, Error, Geometry};
-use lfs_lookup::{Path, Spot, file_of, read_inline_bytes_at, shown_at};
+use lfs_lookup::{
+    Path, SlotPosition, lookup_result_at_path, read_inline_bytes_at, spot_and_storage_of_file,
+};
 use lfs_thread::Thread;
-use lfs_writer::{Stored, WriterContents, in_memory};
+use lfs_writer::{StoredList, WriterContents, make_contents_in_memory};
 use std::alloc::Global;
 
 // Returns the geometry of a thread's device.
@@ -32,26 +34,26 @@ fn geometry_of<D: BlockDevice>(thread: &Thread<D>) -> Geometry
 fn open_inline_contents<D: BlockDevice>(
     alloc: Global,
     thread: &mut Thread<D>,
-    slot: Spot,
+    slot: SlotPosition,
     len: usize,
 ) -> Result<WriterContents, Error>
     requires works { thread.old.failed ≡ false }
-    requires can { (held : Slot) × CanOpenFileInSlot thread.old.kept slot (entry_contents.Inline len) held }
-    ensures opened { (held : Slot) → CanOpenFileInSlot thread.old.kept slot (entry_contents.Inline len) held → IfOk result (AreOpenedContentsOfStruct thread.new.kept held.struct (form_of_opened_storage (entry_contents.Inline len))) }
+    requires can { (held : Slot) × CanOpenSlotFileWithNothingInFlight thread.old.kept slot (entry_contents.Inline len) held }
+    ensures opened { (held : Slot) → CanOpenSlotFileWithNothingInFlight thread.old.kept slot (entry_contents.Inline len) held → IfOk result (AreOpenedContentsOfStruct thread.new.kept held.struct (form_of_opened_storage (entry_contents.Inline len))) }
     ensures reading { OnlyReadsThreadAndReportsErrors thread.old thread.new result }
 {
     let geometry = geometry_of(thread);
     let bytes = read_inline_bytes_at(alloc, thread, slot, 0, len)?;
-    in_memory(alloc, geometry, &bytes)
+    make_contents_in_memory(alloc, geometry, &bytes)
 }
 
 // Makes contents in a finished list, of a slot that names it.
 fn open_list_contents<D: BlockDevice>(thread: &Thread<D>, head: u32, size: u32) -> WriterContents
-    ensures { (slot : SpotSeen) (held : Slot) → CanOpenFileInSlot thread.now.kept slot (entry_contents.List head size) held → AreOpenedContentsOfStruct thread.now.kept held.struct (form_of_opened_storage (entry_contents.List head size)) result }
+    ensures { (slot : SpotSeen) (held : Slot) → CanOpenSlotFileWithNothingInFlight thread.now.kept slot (entry_contents.List head size) held → AreOpenedContentsOfStruct thread.now.kept held.struct (form_of_opened_storage (entry_contents.List head size)) result }
 {
     // The blocks are of that size, for the proof.
     let _geometry = geometry_of(thread);
-    WriterContents::Finished(Stored {
+    WriterContents::Finished(StoredList {
         head,
         size,
         in_flight: false,
@@ -62,12 +64,12 @@ fn open_list_contents<D: BlockDevice>(thread: &Thread<D>, head: u32, size: u32) 
 fn open_contents<D: BlockDevice>(
     alloc: Global,
     thread: &mut Thread<D>,
-    slot: Spot,
+    slot: SlotPosition,
     contents: lfs_lookup::FileStorage,
 ) -> Result<WriterContents, Error>
     requires works { thread.old.failed ≡ false }
-    requires can { (held : Slot) × CanOpenFileInSlot thread.old.kept slot contents held }
-    ensures opened { (held : Slot) → CanOpenFileInSlot thread.old.kept slot contents held → IfOk result (AreOpenedContentsOfStruct thread.new.kept held.struct (form_of_opened_storage contents)) }
+    requires can { (held : Slot) × CanOpenSlotFileWithNothingInFlight thread.old.kept slot contents held }
+    ensures opened { (held : Slot) → CanOpenSlotFileWithNothingInFlight thread.old.kept slot contents held → IfOk result (AreOpenedContentsOfStruct thread.new.kept held.struct (form_of_opened_storage contents)) }
     ensures reading { OnlyReadsThreadAndReportsErrors thread.old thread.new result }
 {
     match contents {
@@ -84,16 +86,16 @@ pub(crate) fn open_contents_at_path<D: BlockDevice>(
     root: usize,
     path: &Path<'_>,
 ) -> Result<WriterContents, Error>
-    requires held { IsSoundThreadWithRoot thread.old root true }
-    requires idle { in_flight_count thread.old.kept.map ≡ 0 }
+    requires held { IsSoundThreadWithRootAtPairNumber thread.old root true }
+    requires idle { in_flight_block_count thread.old.kept.map ≡ 0 }
     requires file { is_file (tree_on_disk thread.old.kept.disk thread.old.kept.pairs path.now) ≡ true }
-    ensures over { IfOk result (AreWriterContentsOverKeptFile thread.new.kept path.now) }
-    ensures bytes { IfOk result (λ c. bytes_of_writer_contents thread.new.kept c ≡ bytes_at (tree_on_disk thread.old.kept.disk thread.old.kept.pairs path.now)) }
-    ensures form { IfOk result (λ c. IsFormOfOpenedContents thread.old.kept.disk.block_size (length (bytes_at (tree_on_disk thread.old.kept.disk thread.old.kept.pairs path.now))) (form_of_contents c)) }
+    ensures over { IfOk result (AreWriterContentsOverFileOnThread thread.new.kept path.now) }
+    ensures bytes { IfOk result (λ c. bytes_of_writer_contents thread.new.kept c ≡ file_bytes_of_node (tree_on_disk thread.old.kept.disk thread.old.kept.pairs path.now)) }
+    ensures form { IfOk result (λ c. IsFormOfOpenedContents thread.old.kept.disk.block_size (length (file_bytes_of_node (tree_on_disk thread.old.kept.disk thread.old.kept.pairs path.now))) (storage_form_of_contents c)) }
     ensures reading { OnlyReadsThreadAndReportsErrors thread.old thread.new result }
 {
-    let shown = shown_at(alloc, thread, root, path)?;
-    let Some((slot, contents)) = file_of(shown) else {
+    let shown = lookup_result_at_path(alloc, thread, root, path)?;
+    let Some((slot, contents)) = spot_and_storage_of_file(shown) else {
         unreachable!()
     };
     // By its sizes a list has as many bytes as its entry says.
@@ -110,5 +112,5 @@ pub(crate) fn contents_of_no_bytes<D: BlockDevice>(
     ensures opened { IfOk result (AreOpenedContentsOfStruct thread.now.kept (Inline []) (form.InMemory 0)) }
     ensures errors { IfErr result (λ e. e ≡ Error.NoMemory) }
 {
-    in_memory(alloc, geometry_of(thread), &[])
+    make_contents_in_memory(alloc, geometry_of(thread), &[])
 }

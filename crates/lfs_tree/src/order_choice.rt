@@ -1,7 +1,7 @@
 // A mounted image, in either order of names.
 
 ghost use Rattle.std.specs.Prelude.{◌≡◌, IfErr, IfOk, List};
-ghost use Rattle.lfs_device.specs.Shown.{ordered};
+ghost use Rattle.lfs_device.specs.Shown.{disk_with_name_order};
 ghost use Rattle.lfs_model.specs.Thread.{Pair};
 ghost use Rattle.lfs_model.specs.View.{IsAcceptedImage};
 ghost use Rattle.lfs_model.specs.declared.order.NameOrder.{NameOrder};
@@ -21,17 +21,17 @@ use std::alloc::Global;
 ///
 /// Errors: `Corrupt` exactly where the device has no accepted image in either order. `Io` where a
 /// read failed. `NoMemory` where memory isn't granted. An error comes with the device.
-pub fn mount_either<D: BlockDevice>(
+pub fn mount_in_either_name_order<D: BlockDevice>(
     alloc: Global,
     device: D,
 ) -> Result<Tree<Ordered<D>>, (D, Error)>
-    ensures mounted { IfOk result (λ t. IsMountedTree (ordered t.disk.order (disk_of_device D.BlockDevice device)) (D.history device) t) }
-    ensures longer { IfOk result (λ t. t.disk.order ≡ ShorterFirst → (ps : List Pair) → ¬ IsAcceptedImage (ordered LongerFirst (disk_of_device D.BlockDevice device)) ps) }
-    ensures corrupt { IfErr result (λ e. e.1 ≡ Error.Corrupt → (order : NameOrder) (ps : List Pair) → ¬ IsAcceptedImage (ordered order (disk_of_device D.BlockDevice device)) ps) }
+    ensures mounted { IfOk result (λ t. IsMountedTree (disk_with_name_order t.disk.order (disk_of_device D.BlockDevice device)) (D.history device) t) }
+    ensures longer { IfOk result (λ t. t.disk.order ≡ ShorterFirst → (ps : List Pair) → ¬ IsAcceptedImage (disk_with_name_order LongerFirst (disk_of_device D.BlockDevice device)) ps) }
+    ensures corrupt { IfErr result (λ e. e.1 ≡ Error.Corrupt → (order : NameOrder) (ps : List Pair) → ¬ IsAcceptedImage (disk_with_name_order order (disk_of_device D.BlockDevice device)) ps) }
     ensures errors { IfErr result (λ e. IsIoCorruptOrNoMemory e.1) }
     ensures back { IfErr result (λ e. ReturnsUnchangedDeviceWithError D.BlockDevice device e.0 e.1) }
 {
-    let mut thread = lfs_mount::mount_either(alloc, device)?;
+    let mut thread = lfs_mount::mount_with_either_name_order(alloc, device)?;
     match find_root_and_writing_profile(alloc, &mut thread) {
         Ok((root, is_writable)) => Ok(Tree {
             thread,

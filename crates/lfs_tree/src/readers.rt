@@ -1,20 +1,22 @@
 // The contents of files that are open for reading.
 
 ghost use Rattle.std.specs.Prelude.{◌≡◌, ◌<◌, ◌+◌, ◌^◌, List, ℕ, IfOk, drop, false, length, take};
-ghost use Rattle.lfs_model.specs.Frame.{parents};
-ghost use Rattle.lfs_model.specs.History.{reads};
+ghost use Rattle.lfs_model.specs.Frame.{ancestor_paths_of_path};
+ghost use Rattle.lfs_model.specs.History.{read_count_of_history};
 ghost use Rattle.lfs_model.specs.Slots.{Inline};
 ghost use Rattle.lfs_model.specs.Tree.{Path as ModelPath};
-ghost use Rattle.lfs_model.specs.TreeEdits.{bytes_at};
-ghost use Rattle.lfs_lookup.specs.FileContents.{AreFileContentsAtPath, AreContentsOfFileAtPathOrNone, struct_of};
+ghost use Rattle.lfs_model.specs.TreeEdits.{file_bytes_of_node};
+ghost use Rattle.lfs_lookup.specs.FileContents.{AreFileContentsAtPath, AreContentsOfFileAtPathOrNone, struct_of_file_contents};
 ghost use Rattle.lfs_lookup.specs.Finds.{IsFoundNodeAtPath};
-ghost use Rattle.lfs_tree.specs.Reads.{ReadsEachPairOnce};
-ghost use Rattle.lfs_tree.specs.TreeState.{IsReadOnlyCall, kept_of, tree_view};
+ghost use Rattle.lfs_tree.specs.Reads.{ReadsDirectoryPairsAtMostOnce};
+ghost use Rattle.lfs_tree.specs.TreeState.{OnlyReadsTreeOrFails, kept_thread_of_tree_state, tree_view};
 
 use crate::answers::mark_thread_failed_on_error;
 use crate::tree::Tree;
 use lfs_device::{BlockDevice, Error};
-use lfs_lookup::{FileContents, FoundFile, Path, bytes_of, file_at};
+use lfs_lookup::{
+    FileContents, FoundFile, Path, find_file_contents_at_path, read_file_contents_from_position,
+};
 use std::alloc::Global;
 
 impl<D: BlockDevice> Tree<D> {
@@ -25,12 +27,12 @@ impl<D: BlockDevice> Tree<D> {
     /// after either.
     pub fn find_file(&mut self, alloc: Global, path: &Path<'_>) -> Result<FoundFile, Error>
         requires { self.old.failed ≡ false }
-        ensures asks { IsReadOnlyCall self.old result self.new }
+        ensures asks { OnlyReadsTreeOrFails self.old result self.new }
         ensures found { IfOk result (λ found. IsFoundNodeAtPath (tree_view self.old) path.now found.finding) }
-        ensures contents { IfOk result (λ found. AreContentsOfFileAtPathOrNone (kept_of self.old) path.now found.contents) }
-        ensures few { ReadsEachPairOnce (parents path.now) self.old self.new.history }
+        ensures contents { IfOk result (λ found. AreContentsOfFileAtPathOrNone (kept_thread_of_tree_state self.old) path.now found.contents) }
+        ensures few { ReadsDirectoryPairsAtMostOnce (ancestor_paths_of_path path.now) self.old self.new.history }
     {
-        let found = file_at(alloc, &mut self.thread, self.root, path);
+        let found = find_file_contents_at_path(alloc, &mut self.thread, self.root, path);
         mark_thread_failed_on_error(&mut self.thread, &found);
         found
     }
@@ -49,12 +51,18 @@ impl<D: BlockDevice> Tree<D> {
     ) -> Result<Vec<u8>, Error>
         requires works { self.old.failed ≡ false }
         requires there { (path : ModelPath) × AreFileContentsAtPath self.old.pairs path contents.now }
-        ensures asks { IsReadOnlyCall self.old result self.new }
-        ensures bytes { (path : ModelPath) → AreFileContentsAtPath self.old.pairs path contents.now → IfOk result (λ v. v.items ≡ take count (drop position (bytes_at (tree_view self.old path)))) }
+        ensures asks { OnlyReadsTreeOrFails self.old result self.new }
+        ensures bytes { (path : ModelPath) → AreFileContentsAtPath self.old.pairs path contents.now → IfOk result (λ v. v.items ≡ take count (drop position (file_bytes_of_node (tree_view self.old path)))) }
         ensures end { IfOk result (λ v. position + length v.items < 2 ^ 32) }
-        ensures none { (own : List ℕ) → struct_of contents.now ≡ Inline own → self.new.history ≡ self.old.history }
+        ensures none { (own : List ℕ) → struct_of_file_contents contents.now ≡ Inline own → self.new.history ≡ self.old.history }
     {
-        let bytes = bytes_of(alloc, &mut self.thread, contents, position, count);
+        let bytes = read_file_contents_from_position(
+            alloc,
+            &mut self.thread,
+            contents,
+            position,
+            count,
+        );
         mark_thread_failed_on_error(&mut self.thread, &bytes);
         bytes
     }

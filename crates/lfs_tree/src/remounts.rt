@@ -7,7 +7,7 @@ use crate::tree::Tree;
 use lfs_alloc::BlockMap;
 use lfs_cache::Cache;
 use lfs_device::{BlockDevice, Error};
-use lfs_thread::{Parts, Thread};
+use lfs_thread::{Thread, ThreadParts};
 use std::alloc::Global;
 
 // What a thread has besides its device, for a device of which nothing is known.
@@ -43,7 +43,7 @@ pub(crate) fn mount_again<D: BlockDevice>(
     match Tree::mount(alloc, tree.into_device()) {
         Ok(tree) => (tree, Ok(())),
         Err((device, error)) => {
-            let thread = Thread::unread(Parts {
+            let thread = Thread::failed_thread_of_parts(ThreadParts {
                 device,
                 cache,
                 pairs: Vec::new(alloc),

@@ -2,31 +2,31 @@
 
 ghost use Rattle.std.specs.Prelude.{◌≡◌, ◌≢◌, false, true, IfSome, IsSome, OnOk};
 ghost use Rattle.lfs_model.specs.Slots.{zero_gstate};
-ghost use Rattle.lfs_model.specs.Thread.{gstate_of};
-ghost use Rattle.lfs_model.specs.TreeEdits.{renamed, same_path};
+ghost use Rattle.lfs_model.specs.Thread.{gstate_of_pairs};
+ghost use Rattle.lfs_model.specs.TreeEdits.{tree_after_rename, same_path};
 ghost use Rattle.lfs_model.specs.Tree.{Path};
 ghost use Rattle.lfs_model.specs.Shown.{tree_on_disk};
-ghost use Rattle.lfs_operations.specs.MovingSteps.{WritesPairsAndFreeBlocks};
+ghost use Rattle.lfs_operations.specs.MovingSteps.{WritesOnlyThreadPairsAndFreeBlocks};
 ghost use Rattle.lfs_tree.specs.Permissions.{CanRenamePath};
 ghost use Rattle.lfs_tree.specs.Calls as call;
 ghost use Rattle.lfs_tree.specs.Calls.{AppliesCallOrFails};
-ghost use Rattle.lfs_tree.specs.TreeChanges.{CanChangeRecoveredImage, AppliesCallOnThread, SurvivesWithOldOrNewTree};
+ghost use Rattle.lfs_tree.specs.TreeChanges.{CanChangeRecoveredImage, AppliesCallOnThreadOrFails, SurvivesWithOldOrNewTree};
 ghost use Rattle.lfs_tree.specs.SlotChanges.{is_entry_found};
 ghost use Rattle.lfs_tree.specs.RootedThreads.{tree_state_of_kept_thread};
-ghost use Rattle.lfs_tree.specs.Moves.{CanMoveOntoFound, CanMoveOntoFile, CanMoveOntoDirectory, HasMovedEntry, HasMovedOntoFile, IsRenameSourceOfFound, WorksOrReportsError};
+ghost use Rattle.lfs_tree.specs.Moves.{CanMoveOntoFound, CanMoveOntoFile, CanMoveOntoDirectory, HasMovedEntry, HasMovedOntoFileWithListStillUsed, IsRenameSourceOfFound, ThreadWorksOrReportsError};
 ghost use Rattle.lfs_tree.specs.RenamePaths.{AreRenameTargets};
-ghost use Rattle.lfs_tree.specs.TreeState.{kept_of};
+ghost use Rattle.lfs_tree.specs.TreeState.{kept_thread_of_tree_state};
 
 use crate::answers::mark_thread_failed_on_error;
-use crate::entries_at::{last_of, show_block_facts_to_proof};
-use crate::removals_at::free_list_of_file;
-use crate::rename_paths::{RenameTargets, rename_targets_at};
+use crate::entries_at::{last_name_or_empty, show_block_facts_to_proof};
+use crate::removals_at::free_blocks_of_file_list;
+use crate::rename_paths::{RenameTargets, given_or_looked_up_rename_targets};
 use crate::tree::Tree;
 use lfs_device::{BlockDevice, Error};
-use lfs_lookup::{FileStorage, Found, Path, Spot};
+use lfs_lookup::{FileStorage, Path, PathLookup, SlotPosition};
 use lfs_operations::{
-    rename, rename_across, rename_onto_directory, rename_onto_directory_across, rename_onto_file,
-    rename_onto_file_across,
+    rename, rename_across_pairs, rename_onto_directory, rename_onto_directory_across_pairs,
+    rename_onto_file, rename_onto_file_across_pairs,
 };
 use lfs_thread::Thread;
 use std::alloc::Global;
@@ -34,45 +34,46 @@ use std::alloc::Global;
 // An entry's slot, and the number of the first pair of its directory.
 #[derive(Clone, Copy, Drop)]
 pub(crate) struct RenameSource {
-    pub(crate) slot: Spot,
+    pub(crate) slot: SlotPosition,
     pub(crate) first: usize,
 }
 
 // Returns the slot of an entry that was found.
-fn source_of_found(found: Found) -> RenameSource
+fn rename_source_of_found_entry(found: PathLookup) -> RenameSource
     requires { is_entry_found found ≡ true }
     ensures { IsRenameSourceOfFound found result }
 {
     match found {
-        Found::Directory { parent, slot, .. } | Found::File { parent, slot, .. } => RenameSource {
-            slot,
-            first: parent,
-        },
+        PathLookup::Directory { parent, slot, .. } | PathLookup::File { parent, slot, .. } =>
+            RenameSource {
+                slot,
+                first: parent,
+            },
         _ => unreachable!(),
     }
 }
 
 // Puts an entry in the place of a file, whose list is left in the map.
-fn replace_file_keeping_list<D: BlockDevice>(
+fn replace_file_leaving_its_blocks_used<D: BlockDevice>(
     alloc: Global,
     thread: &mut Thread<D>,
     source: RenameSource,
-    slot: Spot,
+    slot: SlotPosition,
     _contents: FileStorage,
     name: &[u8],
 ) -> Result<(), Error>
     requires works { thread.old.failed ≡ false }
     requires can { (from to : Path) × CanMoveOntoFile thread.old.kept from to source slot _contents name.now }
-    ensures shifted { OnOk result ((from to : Path) → CanMoveOntoFile thread.old.kept from to source slot _contents name.now → HasMovedOntoFile thread.old.kept from to _contents thread.new.kept) }
-    ensures errors { WorksOrReportsError thread.old thread.new result }
-    ensures device { WritesPairsAndFreeBlocks thread.old.kept thread.new.kept }
-    ensures survives { (from to : Path) → CanMoveOntoFile thread.old.kept from to source slot _contents name.now → SurvivesWithOldOrNewTree thread.old.kept thread.new.kept (renamed from to (tree_on_disk thread.old.kept.disk thread.old.kept.pairs)) }
+    ensures shifted { OnOk result ((from to : Path) → CanMoveOntoFile thread.old.kept from to source slot _contents name.now → HasMovedOntoFileWithListStillUsed thread.old.kept from to _contents thread.new.kept) }
+    ensures errors { ThreadWorksOrReportsError thread.old thread.new result }
+    ensures device { WritesOnlyThreadPairsAndFreeBlocks thread.old.kept thread.new.kept }
+    ensures survives { (from to : Path) → CanMoveOntoFile thread.old.kept from to source slot _contents name.now → SurvivesWithOldOrNewTree thread.old.kept thread.new.kept (tree_after_rename from to (tree_on_disk thread.old.kept.disk thread.old.kept.pairs)) }
 {
     let from = source.slot;
     if from.pair == slot.pair {
         rename_onto_file(alloc, thread, from.pair, from.id, slot.id, name)
     } else {
-        rename_onto_file_across(
+        rename_onto_file_across_pairs(
             alloc,
             thread,
             from.pair,
@@ -90,19 +91,19 @@ fn move_onto_file<D: BlockDevice>(
     alloc: Global,
     thread: &mut Thread<D>,
     source: RenameSource,
-    slot: Spot,
+    slot: SlotPosition,
     contents: FileStorage,
     name: &[u8],
 ) -> Result<(), Error>
     requires works { thread.old.failed ≡ false }
     requires can { (from to : Path) × CanMoveOntoFile thread.old.kept from to source slot contents name.now }
     ensures shifted { OnOk result ((from to : Path) → CanMoveOntoFile thread.old.kept from to source slot contents name.now → HasMovedEntry thread.old.kept from to thread.new.kept) }
-    ensures errors { WorksOrReportsError thread.old thread.new result }
-    ensures device { WritesPairsAndFreeBlocks thread.old.kept thread.new.kept }
-    ensures survives { (from to : Path) → CanMoveOntoFile thread.old.kept from to source slot contents name.now → SurvivesWithOldOrNewTree thread.old.kept thread.new.kept (renamed from to (tree_on_disk thread.old.kept.disk thread.old.kept.pairs)) }
+    ensures errors { ThreadWorksOrReportsError thread.old thread.new result }
+    ensures device { WritesOnlyThreadPairsAndFreeBlocks thread.old.kept thread.new.kept }
+    ensures survives { (from to : Path) → CanMoveOntoFile thread.old.kept from to source slot contents name.now → SurvivesWithOldOrNewTree thread.old.kept thread.new.kept (tree_after_rename from to (tree_on_disk thread.old.kept.disk thread.old.kept.pairs)) }
 {
-    replace_file_keeping_list(alloc, thread, source, slot, contents, name)?;
-    free_list_of_file(thread, contents)
+    replace_file_leaving_its_blocks_used(alloc, thread, source, slot, contents, name)?;
+    free_blocks_of_file_list(thread, contents)
 }
 
 // Puts an entry in the place of a directory without entries, whose own pair has number `gone`.
@@ -110,22 +111,22 @@ fn move_onto_directory<D: BlockDevice>(
     alloc: Global,
     thread: &mut Thread<D>,
     source: RenameSource,
-    slot: Spot,
+    slot: SlotPosition,
     gone: usize,
     name: &[u8],
 ) -> Result<(), Error>
     requires works { thread.old.failed ≡ false }
     requires can { (from to : Path) × CanMoveOntoDirectory thread.old.kept from to source slot gone name.now }
     ensures shifted { OnOk result ((from to : Path) → CanMoveOntoDirectory thread.old.kept from to source slot gone name.now → HasMovedEntry thread.old.kept from to thread.new.kept) }
-    ensures errors { WorksOrReportsError thread.old thread.new result }
-    ensures device { WritesPairsAndFreeBlocks thread.old.kept thread.new.kept }
-    ensures survives { (from to : Path) → CanMoveOntoDirectory thread.old.kept from to source slot gone name.now → SurvivesWithOldOrNewTree thread.old.kept thread.new.kept (renamed from to (tree_on_disk thread.old.kept.disk thread.old.kept.pairs)) }
+    ensures errors { ThreadWorksOrReportsError thread.old thread.new result }
+    ensures device { WritesOnlyThreadPairsAndFreeBlocks thread.old.kept thread.new.kept }
+    ensures survives { (from to : Path) → CanMoveOntoDirectory thread.old.kept from to source slot gone name.now → SurvivesWithOldOrNewTree thread.old.kept thread.new.kept (tree_after_rename from to (tree_on_disk thread.old.kept.disk thread.old.kept.pairs)) }
 {
     let from = source.slot;
     if from.pair == slot.pair {
         rename_onto_directory(alloc, thread, from.pair, from.id, slot.id, name, gone)
     } else {
-        rename_onto_directory_across(
+        rename_onto_directory_across_pairs(
             alloc,
             thread,
             from.pair,
@@ -140,35 +141,35 @@ fn move_onto_directory<D: BlockDevice>(
 }
 
 // Gives an entry the path at which `target` was found.
-fn move_onto_found<D: BlockDevice>(
+fn move_entry_onto_found_target<D: BlockDevice>(
     alloc: Global,
     thread: &mut Thread<D>,
     source: RenameSource,
-    found: Found,
+    found: PathLookup,
     name: &[u8],
 ) -> Result<(), Error>
     requires works { thread.old.failed ≡ false }
     requires can { (from to : Path) × CanMoveOntoFound thread.old.kept from to source found name.now }
     ensures shifted { OnOk result ((from to : Path) → CanMoveOntoFound thread.old.kept from to source found name.now → HasMovedEntry thread.old.kept from to thread.new.kept) }
-    ensures errors { WorksOrReportsError thread.old thread.new result }
-    ensures device { WritesPairsAndFreeBlocks thread.old.kept thread.new.kept }
-    ensures survives { (from to : Path) → CanMoveOntoFound thread.old.kept from to source found name.now → SurvivesWithOldOrNewTree thread.old.kept thread.new.kept (renamed from to (tree_on_disk thread.old.kept.disk thread.old.kept.pairs)) }
+    ensures errors { ThreadWorksOrReportsError thread.old thread.new result }
+    ensures device { WritesOnlyThreadPairsAndFreeBlocks thread.old.kept thread.new.kept }
+    ensures survives { (from to : Path) → CanMoveOntoFound thread.old.kept from to source found name.now → SurvivesWithOldOrNewTree thread.old.kept thread.new.kept (tree_after_rename from to (tree_on_disk thread.old.kept.disk thread.old.kept.pairs)) }
 {
     match found {
-        Found::Nothing { place, .. } => {
+        PathLookup::Nothing { place, .. } => {
             let RenameSource { slot, first } = source;
             if slot.pair == place.pair {
                 rename(alloc, thread, slot.pair, slot.id, place.id, name)
             } else {
-                rename_across(
+                rename_across_pairs(
                     alloc, thread, slot.pair, slot.id, first, place.pair, place.id, name,
                 )
             }
         }
-        Found::File { slot, contents, .. } => {
+        PathLookup::File { slot, contents, .. } => {
             move_onto_file(alloc, thread, source, slot, contents, name)
         }
-        Found::Directory { slot, first, .. } => {
+        PathLookup::Directory { slot, first, .. } => {
             move_onto_directory(alloc, thread, source, slot, first, name)
         }
         _ => unreachable!(),
@@ -191,16 +192,22 @@ pub(crate) fn rename_at<D: BlockDevice>(
     requires can { CanRenamePath (tree_state_of_kept_thread thread.old.kept true false) from.now to.now }
     requires apart { same_path from.now to.now ≡ false }
     requires known { IfSome known (AreRenameTargets thread.old.kept from.now to.now) }
-    ensures { AppliesCallOnThread thread.old (call.Rename from.now to.now) result thread.new }
+    ensures { AppliesCallOnThreadOrFails thread.old (call.Rename from.now to.now) result thread.new }
 {
-    from.show_path_bytes_to_proof();
-    to.show_path_bytes_to_proof();
-    to.show_path_names_to_proof();
+    from.show_path_comes_from_bytes_to_proof();
+    to.show_path_comes_from_bytes_to_proof();
+    to.show_path_names_are_valid_to_proof();
     show_block_facts_to_proof(thread);
     let names = to.names(alloc)?;
-    let targets = rename_targets_at(alloc, thread, root, from, to, known)?;
-    let source = source_of_found(targets.entry);
-    move_onto_found(alloc, thread, source, targets.target, last_of(&names))
+    let targets = given_or_looked_up_rename_targets(alloc, thread, root, from, to, known)?;
+    let source = rename_source_of_found_entry(targets.entry);
+    move_entry_onto_found_target(
+        alloc,
+        thread,
+        source,
+        targets.target,
+        last_name_or_empty(&names),
+    )
 }
 
 impl<D: BlockDevice> Tree<D> {
@@ -222,8 +229,8 @@ impl<D: BlockDevice> Tree<D> {
     ) -> Result<(), Error>
         requires can { CanRenamePath self.old from.now to.now }
         requires apart { same_path from.now to.now ≡ false }
-        requires known { IfSome known (AreRenameTargets (kept_of self.old) from.now to.now) }
-        requires looked_up { gstate_of self.old.pairs ≡ zero_gstate → IsSome known }
+        requires known { IfSome known (AreRenameTargets (kept_thread_of_tree_state self.old) from.now to.now) }
+        requires looked_up { gstate_of_pairs self.old.pairs ≡ zero_gstate → IsSome known }
         ensures { AppliesCallOrFails self.old (call.Rename from.now to.now) result self.new }
     {
         self.recover(alloc)?;

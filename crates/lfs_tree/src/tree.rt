@@ -3,43 +3,44 @@
 ghost use Rattle.std.specs.Prelude.{◌≡◌, ◌<◌, ◌==◌, ◌≤◌, ◌+◌, ◌^◌, ◌++◌, ◌∷◌, List, [], length, map, take, drop, true, false, None, IfOk, IfErr, IfSome, OnErr, OnOk, sum_by};
 ghost use Rattle.std.specs.List.{list_any};
 ghost use Rattle.std.specs.Option.{option_map};
-ghost use Rattle.lfs_model.specs.History.{reads};
-ghost use Rattle.lfs_model.specs.Frame.{pair_count_of_directory_at, parents};
-ghost use Rattle.lfs_model.specs.TreeEdits.{attributes_of_node, bytes_at};
+ghost use Rattle.lfs_model.specs.History.{read_count_of_history};
+ghost use Rattle.lfs_model.specs.Frame.{pair_count_of_directory_at, ancestor_paths_of_path};
+ghost use Rattle.lfs_model.specs.TreeEdits.{attributes_of_node, file_bytes_of_node};
 ghost use Rattle.lfs_model.specs.Content.{attribute_bytes_of_type};
 ghost use Rattle.lfs_model.specs.Slots.{zero_gstate};
-ghost use Rattle.lfs_model.specs.Thread.{Pair, anchor_pair_address, gstate_of};
+ghost use Rattle.lfs_model.specs.Thread.{Pair, anchor_pair_address, gstate_of_pairs};
 ghost use Rattle.lfs_model.specs.View.{IsAcceptedImage};
 ghost use Rattle.lfs_model.specs.Disk.{SameGeometry, block_count};
-ghost use Rattle.lfs_model.specs.Effects.{items_in};
+ghost use Rattle.lfs_model.specs.Effects.{directory_items_at_path};
 ghost use Rattle.lfs_mount.specs.Device.{IsIoCorruptOrNoMemory};
 ghost use Rattle.lfs_tag.specs.FieldsView.{move_view};
-ghost use Rattle.lfs_thread.specs.Device.{GivesDeviceBackWithError, blocks_of_address};
+ghost use Rattle.lfs_thread.specs.Device.{GivesDeviceBackOnlyReadWithError, blocks_of_pair_address};
 ghost use Rattle.lfs_thread.specs.Kept.{disk_of_device, kept_thread_of_device};
 ghost use Rattle.lfs_tree.specs.Permissions.{CanCreateFileAtPath, CanMakeDirectoryAtPath, CanRemoveEntryAtPath, CanRemoveAttrAtPath, CanSetAttrAtPath};
 ghost use Rattle.lfs_lookup.specs.CachedPairs.{AreFewDirectoriesOfOnePairEach};
 ghost use Rattle.lfs_tree.specs.Calls as call;
 ghost use Rattle.lfs_tree.specs.Calls.{AppliesCallOrFails};
-ghost use Rattle.lfs_tree.specs.Reads.{HasCachedDirectories, ReadsEachPairOnce, ReadsAtMostParentPairsPlusSix};
+ghost use Rattle.lfs_tree.specs.Reads.{HasCachedDirectories, ReadsDirectoryPairsAtMostOnce, ReadsAtMostPairsAbovePathPlusSix};
 ghost use Rattle.lfs_tree.specs.Recoveries.{HasRecoveredFromPowerLoss};
 ghost use Rattle.lfs_lookup.specs.AttributeAt.{IsAttributesSize};
 ghost use Rattle.lfs_lookup.specs.Finds.{IsFoundNodeAtPath, has_entry_beneath_path, list_item_view};
-ghost use Rattle.lfs_tree.specs.Formats.{ReturnsDeviceWithFormatError, IsFreshlyFormatted, WritesFirstTwoBlocks};
-ghost use Rattle.lfs_tree.specs.TreeState.{IsReadOnlyCall, IsTreeFailedByRead, IsMountErrorWithCause, IsMountedTree, IsSoundTreeState, disk_summary_of_tree, kept_of, tree_view};
+ghost use Rattle.lfs_tree.specs.Formats.{FailedFormatSparesOtherBlocks, IsFreshlyFormatted, WritesFirstTwoBlocks};
+ghost use Rattle.lfs_tree.specs.TreeState.{OnlyReadsTreeOrFails, IsTreeFailedByRead, IsMountErrorWithCause, IsMountedTree, IsSoundTreeState, disk_summary_of_tree, kept_thread_of_tree_state, tree_view};
 
 use crate::answers::mark_thread_failed_on_error;
 use crate::attributes_at::{remove_attr_at, set_attr_at};
-use crate::entries_at::{create_at, make_directory_at};
+use crate::entries_at::{create_empty_file_at, make_directory_at};
 use crate::formats::format;
-use crate::lost_recovery::recover_at;
+use crate::lost_recovery::end_move_and_drop_unreached_directories;
 use crate::mounted_tree::find_root_and_writing_profile;
 use crate::remounts::{SpareThreadParts, mount_again};
 use crate::removals_at::remove_at;
 use core::mem::replace_with;
 use lfs_device::{BlockDevice, Error, Geometry};
 use lfs_lookup::{
-    FoundAttribute, FoundNode, Inside, Listing, Path, attribute_at, attributes_size_at,
-    find_node_at_path, list_at, look_inside_at,
+    FoundAttribute, FoundNode, Listing, NodeAndEmptiness, Path, find_attribute_at_path,
+    find_if_path_has_entries, find_node_at_path, find_total_size_of_attributes_at_path,
+    list_directory_at_path,
 };
 use lfs_tag::MoveState;
 use lfs_thread::Thread;
@@ -78,7 +79,7 @@ impl<D: BlockDevice> Tree<D> {
         ensures mounted { IfOk result (IsMountedTree (disk_of_device D.BlockDevice device) (D.history device)) }
         ensures corrupt { IfErr result (λ e. e.1 ≡ Error.Corrupt → (ps : List Pair) → ¬ IsAcceptedImage (disk_of_device D.BlockDevice device) ps) }
         ensures errors { IfErr result (λ e. IsIoCorruptOrNoMemory e.1) }
-        ensures back { IfErr result (λ e. GivesDeviceBackWithError D.BlockDevice device e.0 e.1) }
+        ensures back { IfErr result (λ e. GivesDeviceBackOnlyReadWithError D.BlockDevice device e.0 e.1) }
     {
         let mut thread = lfs_mount::mount(alloc, device)?;
         match find_root_and_writing_profile(alloc, &mut thread) {
@@ -97,10 +98,10 @@ impl<D: BlockDevice> Tree<D> {
     pub fn format(alloc: Global, device: D) -> Result<Tree<D>, (D, Error)>
         ensures works { IfOk result (λ t. (t.failed ≡ false) × (t.writable ≡ true)) }
         ensures sound { IfOk result IsSoundTreeState }
-        ensures formatted { IfOk result (λ t. IsFreshlyFormatted (kept_of t)) }
+        ensures formatted { IfOk result (λ t. IsFreshlyFormatted (kept_thread_of_tree_state t)) }
         ensures geometry { IfOk result (λ t. SameGeometry (disk_of_device D.BlockDevice device) t.disk) }
-        ensures calls { IfOk result (λ t. WritesFirstTwoBlocks (kept_thread_of_device D.BlockDevice device [] []) (kept_of t)) }
-        ensures back { IfErr result (λ e. ReturnsDeviceWithFormatError D.BlockDevice (blocks_of_address anchor_pair_address) device e.0 e.1) }
+        ensures calls { IfOk result (λ t. WritesFirstTwoBlocks (kept_thread_of_device D.BlockDevice device [] []) (kept_thread_of_tree_state t)) }
+        ensures back { IfErr result (λ e. FailedFormatSparesOtherBlocks D.BlockDevice (blocks_of_pair_address anchor_pair_address) device e.0 e.1) }
     {
         match format(alloc, device) {
             Ok(thread) => Ok(Tree {
@@ -207,10 +208,10 @@ impl<D: BlockDevice> Tree<D> {
     /// after either.
     pub fn look_up(&mut self, alloc: Global, path: &Path<'_>) -> Result<FoundNode, Error>
         requires { self.old.failed ≡ false }
-        ensures asks { IsReadOnlyCall self.old result self.new }
+        ensures asks { OnlyReadsTreeOrFails self.old result self.new }
         ensures found { IfOk result (IsFoundNodeAtPath (tree_view self.old) path.now) }
-        ensures few { ReadsEachPairOnce (parents path.now) self.old self.new.history }
-        ensures hand { AreFewDirectoriesOfOnePairEach self.old.pairs (parents path.now) → IfOk result (λ found. found.fault ≡ None → HasCachedDirectories self.new (parents path.now)) }
+        ensures few { ReadsDirectoryPairsAtMostOnce (ancestor_paths_of_path path.now) self.old self.new.history }
+        ensures hand { AreFewDirectoriesOfOnePairEach self.old.pairs (ancestor_paths_of_path path.now) → IfOk result (λ found. found.fault ≡ None → HasCachedDirectories self.new (ancestor_paths_of_path path.now)) }
     {
         let found = find_node_at_path(alloc, &mut self.thread, self.root, path);
         mark_thread_failed_on_error(&mut self.thread, &found);
@@ -222,14 +223,18 @@ impl<D: BlockDevice> Tree<D> {
     ///
     /// Errors: `Io` where a read failed. `NoMemory` where memory isn't granted. The tree has failed
     /// after either.
-    pub fn look_inside(&mut self, alloc: Global, path: &Path<'_>) -> Result<Inside, Error>
+    pub fn look_up_node_and_emptiness(
+        &mut self,
+        alloc: Global,
+        path: &Path<'_>,
+    ) -> Result<NodeAndEmptiness, Error>
         requires { self.old.failed ≡ false }
-        ensures asks { IsReadOnlyCall self.old result self.new }
+        ensures asks { OnlyReadsTreeOrFails self.old result self.new }
         ensures found { IfOk result (λ inside. IsFoundNodeAtPath (tree_view self.old) path.now inside.finding) }
         ensures has { IfOk result (λ inside. inside.has_entries ≡ has_entry_beneath_path (tree_view self.old) path.now) }
-        ensures few { reads self.new.history ≤ reads self.old.history + sum_by (pair_count_of_directory_at self.old.pairs) (parents path.now ++ path.now ∷ []) }
+        ensures few { read_count_of_history self.new.history ≤ read_count_of_history self.old.history + sum_by (pair_count_of_directory_at self.old.pairs) (ancestor_paths_of_path path.now ++ path.now ∷ []) }
     {
-        let inside = look_inside_at(alloc, &mut self.thread, self.root, path);
+        let inside = find_if_path_has_entries(alloc, &mut self.thread, self.root, path);
         mark_thread_failed_on_error(&mut self.thread, &inside);
         inside
     }
@@ -247,12 +252,12 @@ impl<D: BlockDevice> Tree<D> {
         kind: u8,
     ) -> Result<FoundAttribute, Error>
         requires { self.old.failed ≡ false }
-        ensures asks { IsReadOnlyCall self.old result self.new }
+        ensures asks { OnlyReadsTreeOrFails self.old result self.new }
         ensures found { IfOk result (λ found. IsFoundNodeAtPath (tree_view self.old) path.now found.finding) }
         ensures bytes { IfOk result (λ found. (option_map (λ v. v.items) found.bytes ≡ attribute_bytes_of_type kind (attributes_of_node (tree_view self.old path.now))) × IfSome found.bytes (λ v. length v.items ≤ 1022)) }
-        ensures few { ReadsEachPairOnce (parents path.now) self.old self.new.history }
+        ensures few { ReadsDirectoryPairsAtMostOnce (ancestor_paths_of_path path.now) self.old self.new.history }
     {
-        let found = attribute_at(alloc, &mut self.thread, self.root, path, kind);
+        let found = find_attribute_at_path(alloc, &mut self.thread, self.root, path, kind);
         mark_thread_failed_on_error(&mut self.thread, &found);
         found
     }
@@ -265,11 +270,11 @@ impl<D: BlockDevice> Tree<D> {
     /// after either.
     pub fn attributes_size(&mut self, alloc: Global, path: &Path<'_>) -> Result<usize, Error>
         requires { self.old.failed ≡ false }
-        ensures asks { IsReadOnlyCall self.old result self.new }
+        ensures asks { OnlyReadsTreeOrFails self.old result self.new }
         ensures size { IfOk result (IsAttributesSize (attributes_of_node (tree_view self.old path.now))) }
-        ensures few { ReadsEachPairOnce (parents path.now) self.old self.new.history }
+        ensures few { ReadsDirectoryPairsAtMostOnce (ancestor_paths_of_path path.now) self.old self.new.history }
     {
-        let size = attributes_size_at(alloc, &mut self.thread, self.root, path);
+        let size = find_total_size_of_attributes_at_path(alloc, &mut self.thread, self.root, path);
         mark_thread_failed_on_error(&mut self.thread, &size);
         size
     }
@@ -282,12 +287,12 @@ impl<D: BlockDevice> Tree<D> {
     /// after either.
     pub fn list(&mut self, alloc: Global, path: &Path<'_>) -> Result<Listing, Error>
         requires { self.old.failed ≡ false }
-        ensures asks { IsReadOnlyCall self.old result self.new }
+        ensures asks { OnlyReadsTreeOrFails self.old result self.new }
         ensures found { IfOk result (λ listing. IsFoundNodeAtPath (tree_view self.old) path.now listing.finding) }
-        ensures items { IfOk result (λ listing. map list_item_view listing.items.items ≡ items_in (tree_view self.old) path.now) }
-        ensures few { ReadsEachPairOnce (parents path.now ++ path.now ∷ []) self.old self.new.history }
+        ensures items { IfOk result (λ listing. map list_item_view listing.items.items ≡ directory_items_at_path (tree_view self.old) path.now) }
+        ensures few { ReadsDirectoryPairsAtMostOnce (ancestor_paths_of_path path.now ++ path.now ∷ []) self.old self.new.history }
     {
-        let listing = list_at(alloc, &mut self.thread, self.root, path);
+        let listing = list_directory_at_path(alloc, &mut self.thread, self.root, path);
         mark_thread_failed_on_error(&mut self.thread, &listing);
         listing
     }
@@ -318,10 +323,10 @@ impl<D: BlockDevice> Tree<D> {
     pub fn create(&mut self, alloc: Global, path: &Path<'_>) -> Result<(), Error>
         requires { CanCreateFileAtPath self.old path.now }
         ensures does { AppliesCallOrFails self.old (call.Create path.now) result self.new }
-        ensures few { ReadsAtMostParentPairsPlusSix path.now self.old self.new.history }
+        ensures few { ReadsAtMostPairsAbovePathPlusSix path.now self.old self.new.history }
     {
         self.recover(alloc)?;
-        let created = create_at(alloc, &mut self.thread, self.root, path);
+        let created = create_empty_file_at(alloc, &mut self.thread, self.root, path);
         mark_thread_failed_on_error(&mut self.thread, &created);
         created
     }
@@ -374,13 +379,13 @@ impl<D: BlockDevice> Tree<D> {
         requires works { self.old.failed ≡ false }
         requires writable { self.old.writable ≡ true }
         ensures does { AppliesCallOrFails self.old call.Recover result self.new }
-        ensures settled { OnOk result (HasRecoveredFromPowerLoss (kept_of self.old) (kept_of self.new)) }
-        ensures idle { gstate_of self.old.pairs ≡ zero_gstate → self.new ≡ self.old }
+        ensures settled { OnOk result (HasRecoveredFromPowerLoss (kept_thread_of_tree_state self.old) (kept_thread_of_tree_state self.new)) }
+        ensures idle { gstate_of_pairs self.old.pairs ≡ zero_gstate → self.new ≡ self.old }
     {
         if self.gstate().is_none() {
             return Ok(());
         }
-        let recovered = recover_at(alloc, &mut self.thread, self.root);
+        let recovered = end_move_and_drop_unreached_directories(alloc, &mut self.thread, self.root);
         mark_thread_failed_on_error(&mut self.thread, &recovered);
         recovered
     }

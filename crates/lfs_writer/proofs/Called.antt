@@ -6,23 +6,23 @@ use Rattle.lfs_device.specs.declared.error.Error.{Error}
 use Rattle.lfs_device.specs.declared.error.Error.TheVariants.{Io, NoMemory}
 use Rattle.lfs_model.specs.Blocks.{Blocks}
 use Rattle.lfs_model.specs.BlockSets.{BlockStateList}
-use Rattle.lfs_model.specs.History.{call_event_with, faults}
-use Rattle.lfs_model.specs.History.Call.{Read}
-use Rattle.lfs_model.proofs.Histories.{IsWorstOutcomeOfStop-read, IsTrueAfterEachStopSince-reads, AreCallsSinceOnlyReads-trans, began, goes_on, unprogrammed-reads}
+use Rattle.lfs_model.specs.History.{device_call_event_with_blocks, fault_count_of_history}
+use Rattle.lfs_model.specs.History.DeviceCall.{Read}
+use Rattle.lfs_model.proofs.Histories.{ArePossibleBlocksAfterPowerLossInCall-read, IsTrueAfterAnyPowerLossSince-read_count_of_history, AreCallsSinceOnlyReads-trans, began, goes_on, is_byte_unprogrammed-read_count_of_history}
 use Rattle.lfs_ctz.specs.Growing.{GrowingList, unwritten_block_of_list}
-use Rattle.lfs_writer.specs.BlocksApart.{IsTakenAndNotPending, HasGrowingListBlocksTaken, KeepsBytesOfTakenBlocks}
-use Rattle.lfs_writer.specs.Calls.{CallKeepsTakenBlocks, CallKeepsUsedBlocks}
+use Rattle.lfs_writer.specs.BlocksApart.{IsUsedOrInFlightButNotUnwritten, HasGrowingListBlocksTaken, KeepsBytesOfTakenBlocksExceptUnwritten}
+use Rattle.lfs_writer.specs.Calls.{CallKeepsTakenBlocksExceptUnwritten, CallKeepsUsedBlocks}
 use Rattle.lfs_writer.specs.Hand.{KeepsUsedBlocksInMap, KeepsBytesOfUsedBlocks}
-use Rattle.lfs_writer.proofs.Growth.{Spares-refl, Spares-trans, KeepsUnprogrammedInTakenBlocks-trans, stops_trans}
+use Rattle.lfs_writer.proofs.Growth.{Spares-refl, Spares-trans, KeepsUnprogrammedInTakenBlocksExceptUnwritten-trans, stops_trans}
 use Rattle.lfs_writer.proofs.Spared.{KeepsBytesOfUsedBlocks-refl, KeepsBytesOfUsedBlocks-trans, KeepsUnprogrammedInUsedBlocks-trans, pages_end, spares_end, stops_end, to_used, to_used_pages, to_used_stops, used_stops_trans}
 
 module _ {D : Type 0} (g : Ghosts D) where
   -- a call that succeeds has no fault
-  pub quiet : {X : Type 0} {old new : D} {x : X} → ReportsFaults g old new (Ok x) → faults (g.history new) ≡ faults (g.history old)
+  pub quiet : {X : Type 0} {old new : D} {x : X} → ReportsFaults g old new (Ok x) → fault_count_of_history (g.history new) ≡ fault_count_of_history (g.history old)
   quiet reported = reported.no_fault (λ is. absurd (cc))
 
   -- after calls without a fault
-  pub reported_on : {X : Type 0} {old mid new : D} {result : Result X Error} → faults (g.history mid) ≡ faults (g.history old) → ReportsFaults g mid new result → ReportsFaults g old new result
+  pub reported_on : {X : Type 0} {old mid new : D} {result : Result X Error} → fault_count_of_history (g.history mid) ≡ fault_count_of_history (g.history old) → ReportsFaults g mid new result → ReportsFaults g old new result
   reported_on none reported = record {
     fault = λ is. (let more = reported.fault is in omega arith);
     no_fault = λ other. reported.no_fault other ∙ none;
@@ -53,22 +53,22 @@ module _ {D : Type 0} (g : Ghosts D) where
     reads = AreCallsSinceOnlyReads-trans first.reads second.reads first.same;
   }
 
-  pub read_once : {old new : D} {block off len : ℕ} {failed : Bool} → g.history new ≡ call_event_with (Read block off len) (g.blocks old) (g.blocks new) failed ∷ g.history old
+  pub read_once : {old new : D} {block off len : ℕ} {failed : Bool} → g.history new ≡ device_call_event_with_blocks (Read block off len) (g.blocks old) (g.blocks new) failed ∷ g.history old
       → g.blocks new ≡ g.blocks old → g.geometry new ≡ g.geometry old → ReadsOnly g old new
   read_once called same geometry = record { same = same; geometry = geometry; reads = goes_on began called (record { reads = refl; before = refl; after = same }) }
 
   -- ---- blocks that stand apart
 
-  pub apart_reads : {old new : D} (map : BlockStateList) (pending : List ℕ) → ReadsOnly g old new → CallKeepsTakenBlocks g map pending old new
+  pub apart_reads : {old new : D} (map : BlockStateList) (pending : List ℕ) → ReadsOnly g old new → CallKeepsTakenBlocksExceptUnwritten g map pending old new
   apart_reads {old} {new} map pending only = record {
-    spared = subst (KeepsBytesOfTakenBlocks map pending (g.blocks old)) (sym only.same) (Spares-refl map pending (g.blocks old));
-    pages = record { stays = λ k i apart was. unprogrammed-reads k i only.reads ∙ was };
+    spared = subst (KeepsBytesOfTakenBlocksExceptUnwritten map pending (g.blocks old)) (sym only.same) (Spares-refl map pending (g.blocks old));
+    pages = record { stays = λ k i apart was. is_byte_unprogrammed-read_count_of_history k i only.reads ∙ was };
     geometry = only.geometry;
-    at_worst = IsTrueAfterEachStopSince-reads IsWorstOutcomeOfStop-read only.reads (Spares-refl map pending (g.blocks old));
+    at_worst = IsTrueAfterAnyPowerLossSince-read_count_of_history ArePossibleBlocksAfterPowerLossInCall-read only.reads (Spares-refl map pending (g.blocks old));
   }
 
   -- the list's last block is written
-  pub apart_end : {old new : D} {pending : List ℕ} (map : BlockStateList) → ChangesOnlyTheseBlocks g pending old new → CallKeepsTakenBlocks g map pending old new
+  pub apart_end : {old new : D} {pending : List ℕ} (map : BlockStateList) → ChangesOnlyTheseBlocks g pending old new → CallKeepsTakenBlocksExceptUnwritten g map pending old new
   apart_end {old} {new} {pending} map changes = record {
     spared = spares_end map pending (g.blocks old) (g.blocks new) changes.others;
     pages = pages_end map pending (g.history old) (g.history new) changes.elsewhere;
@@ -76,16 +76,16 @@ module _ {D : Type 0} (g : Ghosts D) where
     at_worst = stops_end map pending (g.blocks old) (g.history old) (g.history new) changes.at_worst;
   }
 
-  pub apart_on : {map later : BlockStateList} {pending then : List ℕ} {old mid new : D} → ((k : ℕ) → IsTakenAndNotPending map pending k → IsTakenAndNotPending later then k) → CallKeepsTakenBlocks g map pending old mid → CallKeepsTakenBlocks g later then mid new
-      → CallKeepsTakenBlocks g map pending old new
+  pub apart_on : {map later : BlockStateList} {pending then : List ℕ} {old mid new : D} → ((k : ℕ) → IsUsedOrInFlightButNotUnwritten map pending k → IsUsedOrInFlightButNotUnwritten later then k) → CallKeepsTakenBlocksExceptUnwritten g map pending old mid → CallKeepsTakenBlocksExceptUnwritten g later then mid new
+      → CallKeepsTakenBlocksExceptUnwritten g map pending old new
   apart_on {map} {later} {pending} {then} {old} {mid} {new} apart first second = record {
     spared = Spares-trans map later pending then (g.blocks old) (g.blocks mid) (g.blocks new) apart first.spared second.spared;
-    pages = KeepsUnprogrammedInTakenBlocks-trans map later pending then (g.history old) (g.history mid) (g.history new) apart first.pages second.pages;
+    pages = KeepsUnprogrammedInTakenBlocksExceptUnwritten-trans map later pending then (g.history old) (g.history mid) (g.history new) apart first.pages second.pages;
     geometry = second.geometry ∙ first.geometry;
     at_worst = stops_trans map later pending then (g.blocks old) (g.blocks mid) (g.history old) (g.history mid) (g.history new) apart first.at_worst first.spared second.at_worst;
   }
 
-  pub apart_read : {map : BlockStateList} {pending : List ℕ} {old mid new : D} → CallKeepsTakenBlocks g map pending old mid → ReadsOnly g mid new → CallKeepsTakenBlocks g map pending old new
+  pub apart_read : {map : BlockStateList} {pending : List ℕ} {old mid new : D} → CallKeepsTakenBlocksExceptUnwritten g map pending old mid → ReadsOnly g mid new → CallKeepsTakenBlocksExceptUnwritten g map pending old new
   apart_read {map} {pending} first only = apart_on (λ k apart. apart) first (apart_reads map pending only)
 
   -- ---- used blocks
@@ -93,9 +93,9 @@ module _ {D : Type 0} (g : Ghosts D) where
   pub used_reads : {old new : D} (map : BlockStateList) → ReadsOnly g old new → CallKeepsUsedBlocks g map old new
   used_reads {old} {new} map only = record {
     spared = subst (KeepsBytesOfUsedBlocks map (g.blocks old)) (sym only.same) (KeepsBytesOfUsedBlocks-refl map (g.blocks old));
-    pages = record { stays = λ k i used was. unprogrammed-reads k i only.reads ∙ was };
+    pages = record { stays = λ k i used was. is_byte_unprogrammed-read_count_of_history k i only.reads ∙ was };
     geometry = only.geometry;
-    at_worst = IsTrueAfterEachStopSince-reads IsWorstOutcomeOfStop-read only.reads (KeepsBytesOfUsedBlocks-refl map (g.blocks old));
+    at_worst = IsTrueAfterAnyPowerLossSince-read_count_of_history ArePossibleBlocksAfterPowerLossInCall-read only.reads (KeepsBytesOfUsedBlocks-refl map (g.blocks old));
   }
 
   pub used_on : {map later : BlockStateList} {old mid new : D} → KeepsUsedBlocksInMap map later → CallKeepsUsedBlocks g map old mid → CallKeepsUsedBlocks g later mid new → CallKeepsUsedBlocks g map old new
@@ -110,7 +110,7 @@ module _ {D : Type 0} (g : Ghosts D) where
   used_read {map} first only = used_on (record { count = refl; used = refl; stays = λ b used. used }) first (used_reads map only)
 
   -- used blocks stand apart
-  pub used_of : {map : BlockStateList} {d : Blocks} {old new : D} (list : GrowingList) → HasGrowingListBlocksTaken map d list → CallKeepsTakenBlocks g map (unwritten_block_of_list list) old new → CallKeepsUsedBlocks g map old new
+  pub used_of : {map : BlockStateList} {d : Blocks} {old new : D} (list : GrowingList) → HasGrowingListBlocksTaken map d list → CallKeepsTakenBlocksExceptUnwritten g map (unwritten_block_of_list list) old new → CallKeepsUsedBlocks g map old new
   used_of {map} {d} {old} {new} list marked leaves = record {
     spared = to_used map d list marked (g.blocks old) (g.blocks new) leaves.spared;
     pages = to_used_pages map d list marked (g.history old) (g.history new) leaves.pages;

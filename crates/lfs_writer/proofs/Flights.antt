@@ -8,20 +8,20 @@ use Rattle.std.proofs.lemmas.List.{append-nil, take_all, drop_all, length-replic
 use Rattle.lfs_model.specs.Blocks.{Blocks, HasBlocksOfCountAndSize}
 use Rattle.lfs_model.specs.Blocks.{bytes_after_overwrite_at as in_block}
 use Rattle.lfs_model.proofs.Overwrites.{overwritten_next, overwritten_none}
-use Rattle.lfs_model.specs.BlockSets.{BlockStateList, in_flight_count}
+use Rattle.lfs_model.specs.BlockSets.{BlockStateList, in_flight_block_count}
 use Rattle.lfs_model.specs.Writers.{contents_after_write, bytes_padded_with_zeros}
 use Rattle.lfs_device.specs.declared.geometry.Geometry.{Geometry}
-use Rattle.lfs_model.specs.SkipLists.{list_blocks_from_head, list_block_count_for_size, bytes_of}
-use Rattle.lfs_ctz.specs.Growing.{GrowingList, HasGrowingListOnDisk, blocks_of_growing_list, content_of, is_list_only_in_buffer, data_of_list_blocks, blocks_kept_when_growing, unwritten_block_of_list, list_size_by_block_size}
-use Rattle.lfs_writer.specs.BlocksApart.{GrowsListInFreeBlocks, HasGrowingListBlocksTaken, KeepsBytesOfTakenBlocks}
-use Rattle.lfs_writer.specs.Bases.{IsListUnlessEmpty, list_blocks_by_head_and_size}
-use Rattle.lfs_writer.specs.Hand.{IsListBegunOverBase, IsListInHandOverBase, IsFinishedListOnDisk, bytes_of_list_over_base, bytes_of_stored_list}
-use Rattle.lfs_writer.specs.BaseRoom.{blocks_in_flight_of_base}
+use Rattle.lfs_model.specs.SkipLists.{list_blocks_from_head, list_block_count_for_size, bytes_of_skip_list}
+use Rattle.lfs_ctz.specs.Growing.{GrowingList, HasGrowingListOnDisk, blocks_of_growing_list, bytes_of_growing_list, are_last_bytes_of_list_only_in_buffer, data_of_list_blocks, blocks_kept_when_growing, unwritten_block_of_list, growing_list_size_with_block_size}
+use Rattle.lfs_writer.specs.BlocksApart.{GrowsListInFreeBlocks, HasGrowingListBlocksTaken, KeepsBytesOfTakenBlocksExceptUnwritten}
+use Rattle.lfs_writer.specs.Bases.{IsSkipListOnDiskUnlessEmpty, list_blocks_by_head_and_size}
+use Rattle.lfs_writer.specs.Hand.{GrowingListSharesOnlyFirstBlocksWithBase, CanEndGrowingListOverBase, IsFinishedListConsistentWithMapAndDisk, list_bytes_then_rest_of_base, bytes_of_stored_list}
+use Rattle.lfs_writer.specs.BaseRoom.{in_flight_block_limit_of_stored_list}
 use Rattle.lfs_writer.specs.TakenBlocks.{ChangesOnlyFreeBlocksInMap}
-use Rattle.lfs_writer.specs.declared.stored_list.Stored.{Stored}
+use Rattle.lfs_writer.specs.declared.stored_list.StoredList.{StoredList}
 use Rattle.lfs_model.proofs.BlockCounts.{few_flying}
 use Rattle.lfs_model.proofs.Files.{length_back}
-use Rattle.lfs_model.proofs.ListSizes.{list_block_count_for_size-more, length-back_data, length-bytes_of}
+use Rattle.lfs_model.proofs.ListSizes.{list_block_count_for_size-more, length-back_data, length-bytes_of_skip_list}
 use Rattle.lfs_writer.proofs.Bases.{bytes_stay}
 
 -- ---- contents
@@ -31,7 +31,7 @@ pub shaped : (d : Blocks) (geometry now : Geometry) → geometry ≡ now → Has
 shaped d geometry now same shape = subst (λ (k : Geometry). HasBlocksOfCountAndSize k.block_size geometry.block_count d) same shape
 
 -- a list in hand has as many bytes as its size says
-pub length-content : (d : Blocks) (block_size count : ℕ) (g : GrowingList) → 1024 ≤ block_size → HasBlocksOfCountAndSize block_size count d → HasGrowingListOnDisk d g → length (content_of d g) ≡ list_size_by_block_size block_size g
+pub length-content : (d : Blocks) (block_size count : ℕ) (g : GrowingList) → 1024 ≤ block_size → HasBlocksOfCountAndSize block_size count d → HasGrowingListOnDisk d g → length (bytes_of_growing_list d g) ≡ growing_list_size_with_block_size block_size g
 length-content d block_size count g large shape growing =
     omega (arith, length-append (data_of_list_blocks d (list_blocks_from_head d g.full g.head)) g.rest, length-back_data d block_size count g.full g.head large shape growing.chain.in_range)
 
@@ -55,18 +55,18 @@ in_lent : (t : Bool) (bs : List ℕ) (b : ℕ) → t ≡ true → Contains bs b 
 unfolding lent
 in_lent t bs b is has = subst (λ (v : Bool). Contains (lent v bs) b) (sym is) has
 
-length-lent : (d : Blocks) (block_size : ℕ) (s : Stored) (t : Bool) → length (lent t (list_blocks_by_head_and_size d block_size s.head s.size)) ≡ (if t then list_block_count_for_size block_size s.size else 0)
+length-lent : (d : Blocks) (block_size : ℕ) (s : StoredList) (t : Bool) → length (lent t (list_blocks_by_head_and_size d block_size s.head s.size)) ≡ (if t then list_block_count_for_size block_size s.size else 0)
 unfolding lent
 length-lent d block_size s true = length_back d (list_block_count_for_size block_size s.size) s.head
 length-lent d block_size s false = refl
 
-pub stored_flying : (map : BlockStateList) (d : Blocks) (block_size : ℕ) (s : Stored) → IsFinishedListOnDisk map d block_size s → in_flight_count map ≤ blocks_in_flight_of_base block_size s
+pub stored_flying : (map : BlockStateList) (d : Blocks) (block_size : ℕ) (s : StoredList) → IsFinishedListConsistentWithMapAndDisk map d block_size s → in_flight_block_count map ≤ in_flight_block_limit_of_stored_list block_size s
 stored_flying map d block_size s stored =
     let bb : List ℕ = list_blocks_by_head_and_size d block_size s.head s.size in
     let few = few_flying (lent s.in_flight bb) map (λ b is. in_lent s.in_flight bb b (stored.flying b is).0 (stored.flying b is).1) in
     omega (arith, few, length-lent d block_size s s.in_flight)
 
-pub begun_flying : (map : BlockStateList) (d : Blocks) (block_size : ℕ) (g : GrowingList) (base : Stored) (shared : ℕ) → IsListBegunOverBase map d block_size g base shared → in_flight_count map ≤ length (blocks_kept_when_growing d g) + blocks_in_flight_of_base block_size base
+pub begun_flying : (map : BlockStateList) (d : Blocks) (block_size : ℕ) (g : GrowingList) (base : StoredList) (shared : ℕ) → GrowingListSharesOnlyFirstBlocksWithBase map d block_size g base shared → in_flight_block_count map ≤ length (blocks_kept_when_growing d g) + in_flight_block_limit_of_stored_list block_size base
 begun_flying map d block_size g base shared begun =
     let bb : List ℕ = list_blocks_by_head_and_size d block_size base.head base.size in
     let few = few_flying (blocks_kept_when_growing d g ++ lent base.in_flight bb) map (λ b is. ⊎_elim
@@ -77,34 +77,34 @@ begun_flying map d block_size g base shared begun =
 
 -- ---- a list in hand that grows, also under another name of the geometry
 
-pub wrote : (map : BlockStateList) (d e : Blocks) (geometry now : Geometry) (g h : GrowingList) (base : Stored) (shared : ℕ) (bytes : List ℕ) → now ≡ geometry → IsListBegunOverBase map d geometry.block_size g base shared → KeepsBytesOfTakenBlocks map (unwritten_block_of_list g) d e
-    → content_of e h ≡ content_of d g ++ bytes → list_size_by_block_size now.block_size h ≡ list_size_by_block_size geometry.block_size g + length bytes → length (content_of d g) ≡ list_size_by_block_size geometry.block_size g
-    → bytes_of_list_over_base e now.block_size h base ≡ contents_after_write (bytes_of_list_over_base d geometry.block_size g base) (list_size_by_block_size geometry.block_size g) bytes
+pub wrote : (map : BlockStateList) (d e : Blocks) (geometry now : Geometry) (g h : GrowingList) (base : StoredList) (shared : ℕ) (bytes : List ℕ) → now ≡ geometry → GrowingListSharesOnlyFirstBlocksWithBase map d geometry.block_size g base shared → KeepsBytesOfTakenBlocksExceptUnwritten map (unwritten_block_of_list g) d e
+    → bytes_of_growing_list e h ≡ bytes_of_growing_list d g ++ bytes → growing_list_size_with_block_size now.block_size h ≡ growing_list_size_with_block_size geometry.block_size g + length bytes → length (bytes_of_growing_list d g) ≡ growing_list_size_with_block_size geometry.block_size g
+    → list_bytes_then_rest_of_base e now.block_size h base ≡ contents_after_write (list_bytes_then_rest_of_base d geometry.block_size g base) (growing_list_size_with_block_size geometry.block_size g) bytes
 wrote map d e geometry now g h base shared bytes same begun spared content sum long =
-    let end : ℕ = list_size_by_block_size geometry.block_size g in
-    let old : List ℕ = bytes_of d geometry.block_size base.head base.size in
-    let stay : bytes_of e now.block_size base.head base.size ≡ old =
-    ap (λ (k : Geometry). bytes_of e k.block_size base.head base.size) same ∙ bytes_stay map (unwritten_block_of_list g) d e geometry.block_size base.head base.size spared begun.apart in
-    ap (λ (l : List ℕ). l ++ drop (list_size_by_block_size now.block_size h) (bytes_of e now.block_size base.head base.size)) content
-    ∙ ap (λ n. content_of d g ++ bytes ++ drop n (bytes_of e now.block_size base.head base.size)) sum
-    ∙ ap (λ (l : List ℕ). content_of d g ++ bytes ++ drop (end + length bytes) l) stay
-    ∙ written_on (content_of d g) old bytes end long
+    let end : ℕ = growing_list_size_with_block_size geometry.block_size g in
+    let old : List ℕ = bytes_of_skip_list d geometry.block_size base.head base.size in
+    let stay : bytes_of_skip_list e now.block_size base.head base.size ≡ old =
+    ap (λ (k : Geometry). bytes_of_skip_list e k.block_size base.head base.size) same ∙ bytes_stay map (unwritten_block_of_list g) d e geometry.block_size base.head base.size spared begun.apart in
+    ap (λ (l : List ℕ). l ++ drop (growing_list_size_with_block_size now.block_size h) (bytes_of_skip_list e now.block_size base.head base.size)) content
+    ∙ ap (λ n. bytes_of_growing_list d g ++ bytes ++ drop n (bytes_of_skip_list e now.block_size base.head base.size)) sum
+    ∙ ap (λ (l : List ℕ). bytes_of_growing_list d g ++ bytes ++ drop (end + length bytes) l) stay
+    ∙ written_on (bytes_of_growing_list d g) old bytes end long
 
 lent_count : (t : Bool) (n : ℕ) → (if t then n else 0) ≤ n
 lent_count true n = omega arith
 lent_count false n = omega arith
 
 -- at most all of a base's blocks are in flight
-pub blocks_in_flight_of_base-le : (block_size : ℕ) (s : Stored) → blocks_in_flight_of_base block_size s ≤ list_block_count_for_size block_size s.size
-blocks_in_flight_of_base-le block_size s = lent_count s.in_flight (list_block_count_for_size block_size s.size)
+pub in_flight_block_limit_of_stored_list-le : (block_size : ℕ) (s : StoredList) → in_flight_block_limit_of_stored_list block_size s ≤ list_block_count_for_size block_size s.size
+in_flight_block_limit_of_stored_list-le block_size s = lent_count s.in_flight (list_block_count_for_size block_size s.size)
 
 -- room for two lists is room for each that comes
-pub two_fit : (geometry now : Geometry) (s : Stored) (used all most end size : ℕ) → now ≡ geometry → s.size ≡ size → size ≤ most → end ≤ most → used + 2 * list_block_count_for_size geometry.block_size most ≤ all
-    → used + list_block_count_for_size now.block_size end + blocks_in_flight_of_base now.block_size s ≤ all
+pub two_fit : (geometry now : Geometry) (s : StoredList) (used all most end size : ℕ) → now ≡ geometry → s.size ≡ size → size ≤ most → end ≤ most → used + 2 * list_block_count_for_size geometry.block_size most ≤ all
+    → used + list_block_count_for_size now.block_size end + in_flight_block_limit_of_stored_list now.block_size s ≤ all
 two_fit geometry now s used all most end size same is low high room =
     let first = list_block_count_for_size-more now.block_size end most high in
     let second = list_block_count_for_size-more now.block_size s.size most (omega arith) in
-    let few = blocks_in_flight_of_base-le now.block_size s in
+    let few = in_flight_block_limit_of_stored_list-le now.block_size s in
     let e : list_block_count_for_size now.block_size most ≡ list_block_count_for_size geometry.block_size most = ap (λ (k : Geometry). list_block_count_for_size k.block_size most) same in
     omega arith
 
@@ -140,35 +140,35 @@ more_zeros old now new part at size done n le so_far is zeros written =
     ∙ ap (contents_after_write old at) (replicate-append-replicate done n 0)
 
 -- the bytes in hand are among the contents
-pub in_hand : (d : Blocks) (block_size count : ℕ) (g : GrowingList) (base : Stored) → 1024 ≤ block_size → HasBlocksOfCountAndSize block_size count d → HasGrowingListOnDisk d g → list_size_by_block_size block_size g ≤ length (bytes_of_list_over_base d block_size g base)
+pub in_hand : (d : Blocks) (block_size count : ℕ) (g : GrowingList) (base : StoredList) → 1024 ≤ block_size → HasBlocksOfCountAndSize block_size count d → HasGrowingListOnDisk d g → growing_list_size_with_block_size block_size g ≤ length (list_bytes_then_rest_of_base d block_size g base)
 in_hand d block_size count g base large shape growing =
-    omega (arith, length-content d block_size count g large shape growing, length-append (content_of d g) (drop (list_size_by_block_size block_size g) (bytes_of_stored_list d block_size base)))
+    omega (arith, length-content d block_size count g large shape growing, length-append (bytes_of_growing_list d g) (drop (growing_list_size_with_block_size block_size g) (bytes_of_stored_list d block_size base)))
 
 -- room for all is room for a part
-pub part_fits : (geometry now : Geometry) (s t : Stored) (used was all was_all size end : ℕ) → now ≡ geometry → s ≡ t → size ≤ end → used ≡ was → all ≡ was_all → was + list_block_count_for_size geometry.block_size end + blocks_in_flight_of_base geometry.block_size t ≤ was_all
-    → used + list_block_count_for_size now.block_size size + blocks_in_flight_of_base now.block_size s ≤ all
+pub part_fits : (geometry now : Geometry) (s t : StoredList) (used was all was_all size end : ℕ) → now ≡ geometry → s ≡ t → size ≤ end → used ≡ was → all ≡ was_all → was + list_block_count_for_size geometry.block_size end + in_flight_block_limit_of_stored_list geometry.block_size t ≤ was_all
+    → used + list_block_count_for_size now.block_size size + in_flight_block_limit_of_stored_list now.block_size s ≤ all
 part_fits geometry now s t used was all was_all size end same base le is count room =
     let first = list_block_count_for_size-more now.block_size size end le in
     let e : list_block_count_for_size now.block_size end ≡ list_block_count_for_size geometry.block_size end = ap (λ (k : Geometry). list_block_count_for_size k.block_size end) same in
-    let f : blocks_in_flight_of_base now.block_size s ≡ blocks_in_flight_of_base geometry.block_size t = ap (λ (k : Geometry). blocks_in_flight_of_base k.block_size s) same ∙ ap (blocks_in_flight_of_base geometry.block_size) base in
+    let f : in_flight_block_limit_of_stored_list now.block_size s ≡ in_flight_block_limit_of_stored_list geometry.block_size t = ap (λ (k : Geometry). in_flight_block_limit_of_stored_list k.block_size s) same ∙ ap (in_flight_block_limit_of_stored_list geometry.block_size) base in
     omega arith
 
 -- ---- a gap
 
 -- a base has as many bytes as its size says
-pub length-base : (d : Blocks) (block_size count head size : ℕ) → 1024 ≤ block_size → HasBlocksOfCountAndSize block_size count d → IsListUnlessEmpty d block_size head size → length (bytes_of d block_size head size) ≡ size
+pub length-base : (d : Blocks) (block_size count head size : ℕ) → 1024 ≤ block_size → HasBlocksOfCountAndSize block_size count d → IsSkipListOnDiskUnlessEmpty d block_size head size → length (bytes_of_skip_list d block_size head size) ≡ size
 length-base d block_size count head size large shape (inl none) = omega (arith, length-take size (data_of_list_blocks d (list_blocks_by_head_and_size d block_size head size)))
-length-base d block_size count head size large shape (inr list) = length-bytes_of d block_size count head size large shape list
+length-base d block_size count head size large shape (inr list) = length-bytes_of_skip_list d block_size count head size large shape list
 
 -- the contents are as long as the longer of both
-pub length-hand : (d : Blocks) (block_size count : ℕ) (g : GrowingList) (base : Stored) → 1024 ≤ block_size → HasBlocksOfCountAndSize block_size count d → HasGrowingListOnDisk d g → IsListUnlessEmpty d block_size base.head base.size → length (bytes_of_list_over_base d block_size g base) ≡ max (list_size_by_block_size block_size g) base.size
+pub length-hand : (d : Blocks) (block_size count : ℕ) (g : GrowingList) (base : StoredList) → 1024 ≤ block_size → HasBlocksOfCountAndSize block_size count d → HasGrowingListOnDisk d g → IsSkipListOnDiskUnlessEmpty d block_size base.head base.size → length (list_bytes_then_rest_of_base d block_size g base) ≡ max (growing_list_size_with_block_size block_size g) base.size
 length-hand d block_size count g base large shape growing based =
     omega (
       arith,
       length-content d block_size count g large shape growing,
       length-base d block_size count base.head base.size large shape based,
-      length-append (content_of d g) (drop (list_size_by_block_size block_size g) (bytes_of_stored_list d block_size base)),
-      length-drop (list_size_by_block_size block_size g) (bytes_of_stored_list d block_size base),
+      length-append (bytes_of_growing_list d g) (drop (growing_list_size_with_block_size block_size g) (bytes_of_stored_list d block_size base)),
+      length-drop (growing_list_size_with_block_size block_size g) (bytes_of_stored_list d block_size base),
     )
 
 -- bytes at the end or behind it
@@ -207,9 +207,9 @@ wrote_gap old bytes len place begin is at = ⊎_elim
     (cases_lt len place)
 
 -- there is room for one list more over the base as it is, or for two
-pub either_fits : (geometry now : Geometry) (s t : Stored) (used was all was_all end begin len last size : ℕ) → now ≡ geometry → used ≡ was → all ≡ was_all → size ≤ last
-    → (end ≡ begin → s ≡ t) → (end ≢ begin → s.size ≡ len) → (end ≡ begin → was + list_block_count_for_size geometry.block_size last + blocks_in_flight_of_base geometry.block_size t ≤ was_all)
-    → (end ≢ begin → was + 2 * list_block_count_for_size geometry.block_size (max len last) ≤ was_all) → used + list_block_count_for_size now.block_size size + blocks_in_flight_of_base now.block_size s ≤ all
+pub either_fits : (geometry now : Geometry) (s t : StoredList) (used was all was_all end begin len last size : ℕ) → now ≡ geometry → used ≡ was → all ≡ was_all → size ≤ last
+    → (end ≡ begin → s ≡ t) → (end ≢ begin → s.size ≡ len) → (end ≡ begin → was + list_block_count_for_size geometry.block_size last + in_flight_block_limit_of_stored_list geometry.block_size t ≤ was_all)
+    → (end ≢ begin → was + 2 * list_block_count_for_size geometry.block_size (max len last) ≤ was_all) → used + list_block_count_for_size now.block_size size + in_flight_block_limit_of_stored_list now.block_size s ≤ all
 either_fits geometry now s t used was all was_all end begin len last size same is count le stays grows on anew = ⊎_elim
     (λ e. part_fits geometry now s t used was all was_all size last same (stays e) le is count (on e))
     (λ ne. let room = anew ne in two_fit geometry now s used all (max len last) size len same (grows ne) (omega arith) (omega arith) (omega arith))

@@ -8,18 +8,18 @@ use Rattle.std.proofs.lemmas.Grind.{get_or_default_zero}
 use Rattle.std.proofs.lemmas.List.Elements.{All-append, All-contains, All-take, Contains-append_left, Contains-append_cases}
 use Rattle.std.proofs.lemmas.Map.Keys.{apart_from_distinct}
 use Rattle.lfs_model.specs.Blocks.{Blocks}
-use Rattle.lfs_model.specs.BlockSets.{BlockStateList, IsFree}
+use Rattle.lfs_model.specs.BlockSets.{BlockStateList, IsBlockFree}
 use Rattle.lfs_model.specs.BlockSets.BlockState.{Free, Used}
 use Rattle.lfs_model.specs.SkipLists.{list_block_count_for_size}
-use Rattle.lfs_ctz.specs.Growing.{GrowingList, HasGrowingListOnDisk, blocks_of_growing_list, is_list_only_in_buffer, blocks_kept_when_growing, unwritten_block_of_list, list_size_by_block_size}
-use Rattle.lfs_ctz.specs.Growing.{unwritten_block_of_rest}
+use Rattle.lfs_ctz.specs.Growing.{GrowingList, HasGrowingListOnDisk, blocks_of_growing_list, are_last_bytes_of_list_only_in_buffer, blocks_kept_when_growing, unwritten_block_of_list, growing_list_size_with_block_size}
+use Rattle.lfs_ctz.specs.Growing.{unwritten_block_after_full_blocks}
 use Rattle.lfs_ctz.specs.declared.rest.RestLocation.{RestLocation}
 use Rattle.lfs_ctz.specs.declared.rest.RestLocation.TheVariants.{Closed, Shared, Handed, Held}
-use Rattle.lfs_writer.specs.BlocksApart.{GrowsListInFreeBlocks, IsTakenAndNotPending, HasGrowingListBlocksTaken, KeepsBytesOfTakenBlocks}
+use Rattle.lfs_writer.specs.BlocksApart.{GrowsListInFreeBlocks, IsUsedOrInFlightButNotUnwritten, HasGrowingListBlocksTaken, KeepsBytesOfTakenBlocksExceptUnwritten}
 use Rattle.lfs_writer.specs.Bases.{list_blocks_by_head_and_size}
-use Rattle.lfs_writer.specs.Hand.{IsListBegunOverBase, IsListInHandOverBase, IsFinishedListOnDisk}
+use Rattle.lfs_writer.specs.Hand.{GrowingListSharesOnlyFirstBlocksWithBase, CanEndGrowingListOverBase, IsFinishedListConsistentWithMapAndDisk}
 use Rattle.lfs_writer.specs.TakenBlocks.{ChangesOnlyFreeBlocksInMap}
-use Rattle.lfs_writer.specs.declared.stored_list.Stored.{Stored}
+use Rattle.lfs_writer.specs.declared.stored_list.StoredList.{StoredList}
 use Rattle.lfs_writer.proofs.Bases.{blocks_stay, list_stays}
 use Rattle.lfs_writer.proofs.Growth.{in_longer, split}
 use Rattle.lfs_writer.proofs.Spared.{keeps_used}
@@ -49,8 +49,8 @@ distinct_parts n xs b distinct (i, lt, is) k x l same =
 
 -- ---- growth
 
-pub hand_grows : (map later : BlockStateList) (d e : Blocks) (block_size : ℕ) (g h : GrowingList) (base : Stored) (shared : ℕ) → IsListBegunOverBase map d block_size g base shared → KeepsBytesOfTakenBlocks map (unwritten_block_of_list g) d e → ChangesOnlyFreeBlocksInMap map later
-    → GrowsListInFreeBlocks map d g later e h → HasGrowingListOnDisk e h → HasGrowingListBlocksTaken later e h → blocks_of_growing_list e h ≡ blocks_kept_when_growing e h → length (blocks_kept_when_growing e h) ≡ list_block_count_for_size block_size (list_size_by_block_size block_size h) → is_list_only_in_buffer h ≡ false → IsListInHandOverBase later e block_size h base shared
+pub hand_grows : (map later : BlockStateList) (d e : Blocks) (block_size : ℕ) (g h : GrowingList) (base : StoredList) (shared : ℕ) → GrowingListSharesOnlyFirstBlocksWithBase map d block_size g base shared → KeepsBytesOfTakenBlocksExceptUnwritten map (unwritten_block_of_list g) d e → ChangesOnlyFreeBlocksInMap map later
+    → GrowsListInFreeBlocks map d g later e h → HasGrowingListOnDisk e h → HasGrowingListBlocksTaken later e h → blocks_of_growing_list e h ≡ blocks_kept_when_growing e h → length (blocks_kept_when_growing e h) ≡ list_block_count_for_size block_size (growing_list_size_with_block_size block_size h) → are_last_bytes_of_list_only_in_buffer h ≡ false → CanEndGrowingListOverBase later e block_size h base shared
 hand_grows map later d e block_size g h base shared begun spared keeps grown growing marked own many listed =
     let bb : List ℕ = list_blocks_by_head_and_size d block_size base.head base.size in
     let stay : list_blocks_by_head_and_size e block_size base.head base.size ≡ bb = blocks_stay map (unwritten_block_of_list g) d e block_size base.head base.size spared begun.apart in
@@ -65,18 +65,18 @@ hand_grows map later d e block_size g h base shared begun spared keeps grown gro
         growing = growing;
         marked = marked;
         list = ⊎_elim (λ none. inl none) (λ list. inr (list_stays map (unwritten_block_of_list g) d e block_size base.head base.size spared begun.apart list)) begun.list;
-        apart = subst (All (IsTakenAndNotPending later (unwritten_block_of_list h))) (sym stay) (λ k v l. grown.apart (get_or bb k v) (begun.apart k v l));
+        apart = subst (All (IsUsedOrInFlightButNotUnwritten later (unwritten_block_of_list h))) (sym stay) (λ k v l. grown.apart (get_or bb k v) (begun.apart k v l));
         few = begun.few;
         front = ap (take shared) all ∙ take-append-le shared x (drop (length x) y) few ∙ begun.front ∙ ap (take shared) (sym stay);
         behind = subst (λ (l : List ℕ). All (λ b. All (λ c. c ≢ b) l) (drop shared y)) (sym stay)
             (subst (All (λ b. All (λ c. c ≢ b) bb)) (sym (ap (drop shared) all ∙ drop-append-le shared x (drop (length x) y) few))
             (All-append (λ b. All (λ c. c ≢ b) bb) (drop shared x) (drop (length x) y) begun.behind
-            (λ k v l i w m same. (begun.apart i w m).0 (subst (IsFree map) (sym same) (grown.fresh k v l)))));
+            (λ k v l i w m same. (begun.apart i w m).0 (subst (IsBlockFree map) (sym same) (grown.fresh k v l)))));
         taken = λ b has used.
             let was = used_back (keeps_used keeps) b used in
             ⊎_elim
             (λ front. subst (λ (l : List ℕ). Contains l b) (sym stay) (begun.taken b front was))
-            (λ fresh. absurd (let free = All-contains (IsFree map) (drop (length x) y) b grown.fresh fresh in let both : Some Free ≡ Some Used = sym free ∙ was in cc))
+            (λ fresh. absurd (let free = All-contains (IsBlockFree map) (drop (length x) y) b grown.fresh fresh in let both : Some Free ≡ Some Used = sym free ∙ was in cc))
             (Contains-append_cases x (drop (length x) y) b (subst (λ (l : List ℕ). Contains l b) all has));
         flying = λ b is. ⊎_elim
             (λ was. ⊎_elim (λ has. inl (in_longer x y b grown.front has)) (λ both. inr (both.0, subst (λ (l : List ℕ). Contains l b) (sym stay) both.1)) (begun.flying b was))
@@ -90,8 +90,8 @@ hand_grows map later d e block_size g h base shared begun spared keeps grown gro
 
 -- ---- the beginning
 
-pub begins : (map : BlockStateList) (d : Blocks) (block_size : ℕ) (g : GrowingList) (base : Stored) (full : ℕ) → IsFinishedListOnDisk map d block_size base → HasGrowingListOnDisk d g → unwritten_block_of_list g ≡ []
-    → blocks_kept_when_growing d g ≡ take full (list_blocks_by_head_and_size d block_size base.head base.size) → g.full ≡ full → IsListBegunOverBase map d block_size g base full
+pub begins : (map : BlockStateList) (d : Blocks) (block_size : ℕ) (g : GrowingList) (base : StoredList) (full : ℕ) → IsFinishedListConsistentWithMapAndDisk map d block_size base → HasGrowingListOnDisk d g → unwritten_block_of_list g ≡ []
+    → blocks_kept_when_growing d g ≡ take full (list_blocks_by_head_and_size d block_size base.head base.size) → g.full ≡ full → GrowingListSharesOnlyFirstBlocksWithBase map d block_size g base full
 begins map d block_size g base full stored growing none kept is =
     let bb : List ℕ = list_blocks_by_head_and_size d block_size base.head base.size in
     let long = length_back d (list_block_count_for_size block_size base.size) base.head in
@@ -103,7 +103,7 @@ begins map d block_size g base full stored growing none kept is =
       growing = growing;
       marked = record {
         count = stored.count;
-        kept = subst (All (λ b. ¬ (IsFree map b))) (sym kept) (All-take (λ b. ¬ (IsFree map b)) full bb stored.marked);
+        kept = subst (All (λ b. ¬ (IsBlockFree map b))) (sym kept) (All-take (λ b. ¬ (IsBlockFree map b)) full bb stored.marked);
         pending = λ k x l. absurd (omega (arith, l));
       };
       list = stored.base;
@@ -115,7 +115,7 @@ begins map d block_size g base full stored growing none kept is =
       flying = λ b flying. inr (stored.flying b flying);
     }
 
-pub pending_none : (t : RestLocation) → length (unwritten_block_of_rest t) ≡ 0 → unwritten_block_of_rest t ≡ []
+pub pending_none : (t : RestLocation) → length (unwritten_block_after_full_blocks t) ≡ 0 → unwritten_block_after_full_blocks t ≡ []
 pending_none Closed e = refl
 pending_none (Shared b) e = refl
 pending_none (Handed b) e = absurd (omega (arith, e))

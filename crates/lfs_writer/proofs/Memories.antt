@@ -8,18 +8,18 @@ use Rattle.lfs_device.specs.declared.geometry.Geometry.{Geometry}
 use Rattle.std.proofs.Math.Seq.{take-add}
 use Rattle.std.specs.Prelude.{All, Contains, slice_range}
 use Rattle.lfs_model.specs.Blocks.{Blocks}
-use Rattle.lfs_model.specs.BlockSets.{BlockStateList, IsFree, IsInFlight}
-use Rattle.lfs_model.specs.SkipLists.{AreListBlocks, IsSkipList, list_blocks_from_head, list_block_count_for_size, bytes_before, bytes_of}
-use Rattle.lfs_ctz.specs.Growing.{GrowingList, HasGrowingListOnDisk, HasAllBytesInBuffer, IsRestAtItsLocation, content_of, is_rest_in_buffer, data_of_list_blocks, blocks_kept_when_growing, unwritten_block_of_rest, unwritten_block_of_list, list_size_by_block_size, size_of_growing_list}
+use Rattle.lfs_model.specs.BlockSets.{BlockStateList, IsBlockFree, IsBlockInFlight}
+use Rattle.lfs_model.specs.SkipLists.{AreListBlocks, IsSkipList, list_blocks_from_head, list_block_count_for_size, byte_count_before_list_block, bytes_of_skip_list}
+use Rattle.lfs_ctz.specs.Growing.{GrowingList, HasGrowingListOnDisk, HasAllBytesInBuffer, AreLastBytesAtLocation, bytes_of_growing_list, are_last_bytes_only_in_buffer, data_of_list_blocks, blocks_kept_when_growing, unwritten_block_after_full_blocks, unwritten_block_of_list, growing_list_size_with_block_size, size_of_growing_list}
 use Rattle.lfs_ctz.specs.declared.rest.RestLocation.{RestLocation}
 use Rattle.lfs_ctz.specs.declared.rest.RestLocation.TheVariants.{Closed, Shared, Handed, Held}
-use Rattle.lfs_writer.specs.Bases.{IsListUnlessEmpty, list_blocks_by_head_and_size}
-use Rattle.lfs_writer.specs.Contents.{IsInMemoryWithNoneInFlight, bytes_in_buffer}
+use Rattle.lfs_writer.specs.Bases.{IsSkipListOnDiskUnlessEmpty, list_blocks_by_head_and_size}
+use Rattle.lfs_writer.specs.Contents.{IsInMemoryWithNoBlockInFlight, bytes_in_buffer}
 use Rattle.lfs_writer.proofs.Copies.{base_list, none_behind}
-use Rattle.lfs_writer.specs.HandWrites.{IsListInHandBegunUpTo}
+use Rattle.lfs_writer.specs.HandWrites.{IsUnfinishedListOfContentsEndingAt}
 use Rattle.lfs_writer.proofs.Ends.{none_chain}
-use Rattle.lfs_writer.specs.BaseRoom.{blocks_in_flight_of_base}
-use Rattle.lfs_writer.specs.declared.stored_list.Stored.{Stored}
+use Rattle.lfs_writer.specs.BaseRoom.{in_flight_block_limit_of_stored_list}
+use Rattle.lfs_writer.specs.declared.stored_list.StoredList.{StoredList}
 use Rattle.lfs_model.proofs.ListSizes.{list_block_count_for_size-more}
 use Rattle.lfs_writer.proofs.Flights.{zeros_not, as_block, at_end}
 
@@ -70,12 +70,12 @@ wrote_cut old bytes place keep is behind = ⊎_elim
     (cases_lt place (length old))
 
 -- room for a list is room for its first bytes, over no base
-pub no_base_fits : (geometry now : Geometry) (s : Stored) (used was all was_all size most : ℕ) → now ≡ geometry → s.in_flight ≡ false → size ≤ most → used ≡ was → all ≡ was_all → was + list_block_count_for_size geometry.block_size most ≤ was_all
-    → used + list_block_count_for_size now.block_size size + blocks_in_flight_of_base now.block_size s ≤ all
+pub no_base_fits : (geometry now : Geometry) (s : StoredList) (used was all was_all size most : ℕ) → now ≡ geometry → s.in_flight ≡ false → size ≤ most → used ≡ was → all ≡ was_all → was + list_block_count_for_size geometry.block_size most ≤ was_all
+    → used + list_block_count_for_size now.block_size size + in_flight_block_limit_of_stored_list now.block_size s ≤ all
 no_base_fits geometry now s used was all was_all size most same none le is count room =
     let first = list_block_count_for_size-more now.block_size size most le in
     let e : list_block_count_for_size now.block_size most ≡ list_block_count_for_size geometry.block_size most = ap (λ (k : Geometry). list_block_count_for_size k.block_size most) same in
-    let f : blocks_in_flight_of_base now.block_size s ≡ 0 = ap (λ (t : Bool). if t then list_block_count_for_size now.block_size s.size else 0) none in
+    let f : in_flight_block_limit_of_stored_list now.block_size s ≡ 0 = ap (λ (t : Bool). if t then list_block_count_for_size now.block_size s.size else 0) none in
     omega arith
 
 -- zeros behind the end
@@ -93,7 +93,7 @@ shortened_bytes old size le = sym (ap (take size) (zeros_not old size le))
 
 -- bytes that stand in memory alone are as many as the list has
 pub held_size : (e : GrowingList) → HasAllBytesInBuffer e → size_of_growing_list e ≡ length e.rest
-held_size e held = omega (arith, ap (bytes_before e.geometry.block_size) held.none)
+held_size e held = omega (arith, ap (byte_count_before_list_block e.geometry.block_size) held.none)
 
 -- more of them are loaded
 pub loaded : (bytes old part : List ℕ) (pos n : ℕ) → old ≡ take pos bytes → pos + n ≤ length bytes → part ≡ take n (drop pos bytes) → contents_after_write old pos part ≡ take (pos + n) bytes
@@ -102,22 +102,22 @@ loaded bytes old part pos n is le read =
     at_end old part pos (omega arith) ∙ ap (λ (l : List ℕ). l ++ part) (zeros_not old pos (omega arith)) ∙ ap₂ (λ (a b : List ℕ). a ++ b) is read ∙ sym (take-add pos n bytes)
 
 -- the list on the device as it is now
-pub listed_on : (d e : Blocks) (geometry now : Geometry) (head size : ℕ) → e ≡ d → now ≡ geometry → 1 ≤ size → IsListUnlessEmpty d geometry.block_size head size → IsSkipList e now.block_size head size
+pub listed_on : (d e : Blocks) (geometry now : Geometry) (head size : ℕ) → e ≡ d → now ≡ geometry → 1 ≤ size → IsSkipListOnDiskUnlessEmpty d geometry.block_size head size → IsSkipList e now.block_size head size
 listed_on d e geometry now head size same is some base =
     subst (λ x. IsSkipList x now.block_size head size) (sym same) (subst (λ (k : Geometry). IsSkipList d k.block_size head size) (sym is) (base_list d geometry.block_size head size some base))
 
-pub bytes_on : (d e : Blocks) (geometry now : Geometry) (head size : ℕ) → e ≡ d → now ≡ geometry → bytes_of e now.block_size head size ≡ bytes_of d geometry.block_size head size
-bytes_on d e geometry now head size same is = ap (λ x. bytes_of x now.block_size head size) same ∙ ap (λ (k : Geometry). bytes_of d k.block_size head size) is
+pub bytes_on : (d e : Blocks) (geometry now : Geometry) (head size : ℕ) → e ≡ d → now ≡ geometry → bytes_of_skip_list e now.block_size head size ≡ bytes_of_skip_list d geometry.block_size head size
+bytes_on d e geometry now head size same is = ap (λ x. bytes_of_skip_list x now.block_size head size) same ∙ ap (λ (k : Geometry). bytes_of_skip_list d k.block_size head size) is
 
 -- ---- bytes in memory as the beginning of a list
 
-never : (t : RestLocation) → (full : ℕ) → is_rest_in_buffer t ≡ true → full ≡ 0 → (disk : Blocks) (head : ℕ) (rest : List ℕ) → IsRestAtItsLocation disk full head rest t
+never : (t : RestLocation) → (full : ℕ) → are_last_bytes_only_in_buffer t ≡ true → full ≡ 0 → (disk : Blocks) (head : ℕ) (rest : List ℕ) → AreLastBytesAtLocation disk full head rest t
 never Closed full held none disk head rest = absurd (cc)
 never (Shared b) full held none disk head rest = absurd (cc)
 never (Handed b) full held none disk head rest = absurd (cc)
 never Held full held none disk head rest = none
 
-pending_held : (t : RestLocation) → is_rest_in_buffer t ≡ true → unwritten_block_of_rest t ≡ []
+pending_held : (t : RestLocation) → are_last_bytes_only_in_buffer t ≡ true → unwritten_block_after_full_blocks t ≡ []
 pending_held Closed held = absurd (cc)
 pending_held (Shared b) held = absurd (cc)
 pending_held (Handed b) held = absurd (cc)
@@ -135,7 +135,7 @@ held_growing disk g held = record {
 pub held_kept : (disk : Blocks) (g : GrowingList) → HasAllBytesInBuffer g → blocks_kept_when_growing disk g ≡ []
 held_kept disk g held = ap₂ (λ n (p : List ℕ). list_blocks_from_head disk n g.head ++ p) held.none (held_pending g held)
 
-pub held_content : (disk : Blocks) (g : GrowingList) → HasAllBytesInBuffer g → content_of disk g ≡ g.rest
+pub held_content : (disk : Blocks) (g : GrowingList) → HasAllBytesInBuffer g → bytes_of_growing_list disk g ≡ g.rest
 held_content disk g held = ap (λ n. data_of_list_blocks disk (list_blocks_from_head disk n g.head) ++ g.rest) held.none
 
 -- what a call finds of the bytes that it reads
@@ -144,7 +144,7 @@ part_read bytes buf found pos n part le is read =
     sym (take-take part n buf le) ∙ ap (take part) (sym is ∙ read ∙ ap (λ k. take k (drop pos bytes)) (let k : pos + n - pos ≡ n = omega arith in k)) ∙ take-take part n (drop pos bytes) le
 
 -- over no base
-pub begins_none : (map : BlockStateList) (d : Blocks) (now : Geometry) (e : GrowingList) → IsInMemoryWithNoneInFlight map d now e → IsListInHandBegunUpTo map d now (record { list = e; base = record { head = 0; size = 0; in_flight = false }; shared = 0 }) (length (bytes_in_buffer e)) (bytes_in_buffer e)
+pub begins_none : (map : BlockStateList) (d : Blocks) (now : Geometry) (e : GrowingList) → IsInMemoryWithNoBlockInFlight map d now e → IsUnfinishedListOfContentsEndingAt map d now (record { list = e; base = record { head = 0; size = 0; in_flight = false }; shared = 0 }) (length (bytes_in_buffer e)) (bytes_in_buffer e)
 begins_none map d now e quiet =
     let g : GrowingList = e in
     let held = quiet.resting.held in
@@ -157,8 +157,8 @@ begins_none map d now e quiet =
           growing = held_growing d g held;
           marked = record {
             count = quiet.idle.count;
-            kept = subst (All (λ b. ¬ (IsFree map b))) (sym none) (λ k x l. absurd (omega (arith, l)));
-            pending = subst (All (IsInFlight map)) (sym (held_pending g held)) (λ k x l. absurd (omega (arith, l)));
+            kept = subst (All (λ b. ¬ (IsBlockFree map b))) (sym none) (λ k x l. absurd (omega (arith, l)));
+            pending = subst (All (IsBlockInFlight map)) (sym (held_pending g held)) (λ k x l. absurd (omega (arith, l)));
           };
           list = inl refl;
           apart = λ k x l. absurd (omega (arith, l));
@@ -170,5 +170,5 @@ begins_none map d now e quiet =
         };
       };
       size = held_size e held;
-      bytes = none_behind d block_size 0 0 (list_size_by_block_size block_size g) (content_of d g) (omega arith) ∙ held_content d g held;
+      bytes = none_behind d block_size 0 0 (growing_list_size_with_block_size block_size g) (bytes_of_growing_list d g) (omega arith) ∙ held_content d g held;
     }

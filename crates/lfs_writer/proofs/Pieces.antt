@@ -3,12 +3,12 @@ use Rattle.std.proofs.Common.{ℕ, ◌≡◌, ◌+◌, ◌-◌, ◌<◌, ◌≤�
 use Rattle.std.specs.Prelude.{All, slice_range}
 use Rattle.std.proofs.lemmas.List.{get_or-drop}
 use Rattle.lfs_device.specs.declared.geometry.Geometry.{Geometry}
-use Rattle.lfs_model.specs.Blocks.{Blocks, HasBlocksOfCountAndSize, block_bytes_in}
+use Rattle.lfs_model.specs.Blocks.{Blocks, HasBlocksOfCountAndSize, block_bytes_by_number}
 use Rattle.lfs_model.specs.BlockSets.{BlockStateList}
-use Rattle.lfs_model.specs.SkipLists.{IsPlaceOfByteInList, IsSkipList, list_block_count_for_size, bytes_of}
+use Rattle.lfs_model.specs.SkipLists.{IsPlaceOfByteInList, IsSkipList, list_block_count_for_size, bytes_of_skip_list}
 use Rattle.lfs_model.proofs.Files.{length_back}
-use Rattle.lfs_model.proofs.ListSizes.{pointers_of-le}
-use Rattle.lfs_writer.specs.BlocksApart.{IsTakenAndNotPending, KeepsBytesOfTakenBlocks}
+use Rattle.lfs_model.proofs.ListSizes.{pointer_count_of_list_block-le}
+use Rattle.lfs_writer.specs.BlocksApart.{IsUsedOrInFlightButNotUnwritten, KeepsBytesOfTakenBlocksExceptUnwritten}
 use Rattle.lfs_writer.specs.Bases.{list_blocks_by_head_and_size}
 use Rattle.lfs_model.proofs.ListParts.{part_of_bytes, place-lt, place-mono}
 use Rattle.lfs_writer.proofs.Releasings.{in_range_at}
@@ -40,21 +40,21 @@ module _ (d : Blocks) (block_size count head size : ℕ) (large : 1024 ≤ block
       omega (arith, within, is, shape.count)
 
   -- what was read from a block that stands apart
-  pub piece : (map : BlockStateList) (pending : List ℕ) (e : Blocks) (pos n i off block : ℕ) (taken : List ℕ) → KeepsBytesOfTakenBlocks map pending d e → All (IsTakenAndNotPending map pending) (list_blocks_by_head_and_size d block_size head size)
+  pub piece : (map : BlockStateList) (pending : List ℕ) (e : Blocks) (pos n i off block : ℕ) (taken : List ℕ) → KeepsBytesOfTakenBlocksExceptUnwritten map pending d e → All (IsUsedOrInFlightButNotUnwritten map pending) (list_blocks_by_head_and_size d block_size head size)
       → IsPlaceOfByteInList block_size pos i off → pos < size → n ≡ min (block_size - off) (size - pos) → block ≡ slice_index (list_blocks_by_head_and_size d block_size head size) i
-      → taken ≡ slice_range (block_bytes_in e block) off (off + n) → taken ≡ slice_range (bytes_of d block_size head size) pos (pos + n)
+      → taken ≡ slice_range (block_bytes_by_number e block) off (off + n) → taken ≡ slice_range (bytes_of_skip_list d block_size head size) pos (pos + n)
   piece map pending e pos n i off block taken spared apart place lt many is read =
       let b : ℕ = slice_index (list_blocks_by_head_and_size d block_size head size) i in
       let low = place.from in
       let high = place.below in
       let at = place.at in
-      let few = pointers_of-le i in
+      let few = pointer_count_of_list_block-le i in
       let index = place-lt block_size size pos i off large place lt in
-      let same : block_bytes_in e b ≡ block_bytes_in d b = spared.same b (apart i 0 (omega (arith, index, length_back d (list_block_count_for_size block_size size) head))) in
+      let same : block_bytes_by_number e b ≡ block_bytes_by_number d b = spared.same b (apart i 0 (omega (arith, index, length_back d (list_block_count_for_size block_size size) head))) in
       let short : off + n - off ≡ n = omega arith in
       read
-      ∙ ap (λ k. take k (drop off (block_bytes_in e block))) short
-      ∙ ap (λ x. take n (drop off (block_bytes_in e x))) is
+      ∙ ap (λ k. take k (drop off (block_bytes_by_number e block))) short
+      ∙ ap (λ x. take n (drop off (block_bytes_by_number e x))) is
       ∙ ap (λ (l : List ℕ). take n (drop off l)) same
-      ∙ ap (λ k. take n (drop k (block_bytes_in d b))) at
+      ∙ ap (λ k. take n (drop k (block_bytes_by_number d b))) at
       ∙ sym (part_of_bytes d block_size large head size count shape list.blocks i pos n index low (omega arith) (omega arith))

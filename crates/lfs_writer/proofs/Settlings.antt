@@ -7,12 +7,12 @@ use Rattle.std.proofs.lemmas.Option.{slice_get-get_or}
 use Rattle.std.proofs.lemmas.List.Elements.{All-cons, All-contains}
 use Rattle.lfs_device.specs.declared.error.Error.{Error}
 use Rattle.lfs_model.specs.Blocks.{Blocks}
-use Rattle.lfs_model.specs.BlockSets.{BlockState, BlockStateList, IsUsed}
+use Rattle.lfs_model.specs.BlockSets.{BlockState, BlockStateList, IsBlockUsed}
 use Rattle.lfs_model.specs.BlockSets.BlockState.{Free, InFlight, Used}
 use Rattle.lfs_model.specs.SkipLists.{list_blocks_from_head}
 use Rattle.lfs_model.proofs.BlockSets.{slice_get-set_same, slice_get-set_other}
 use Rattle.lfs_model.proofs.ListSizes.{head_of_back}
-use Rattle.lfs_writer.specs.SettledMaps.{IsMapSettled, PutsBlocksInState}
+use Rattle.lfs_writer.specs.SettledMaps.{MarksNewListUsedAndOldFree, PutsBlocksInState}
 use Rattle.lfs_writer.proofs.Releasings.{drop_here}
 
 -- the head is the last block
@@ -68,7 +68,7 @@ module _ (state : BlockState) where
       (puts_more old mid new block (drop (index + 1) (list_blocks_from_head d count head)) first second)
 
 -- one list is freed, and then another one used
-pub settles : (old mid new : BlockStateList) (gone kept : List ℕ) → PutsBlocksInState Free old mid gone → PutsBlocksInState Used mid new kept → IsMapSettled old new gone kept
+pub settles : (old mid new : BlockStateList) (gone kept : List ℕ) → PutsBlocksInState Free old mid gone → PutsBlocksInState Used mid new kept → MarksNewListUsedAndOldFree old new gone kept
 settles old mid new gone kept first second = record {
   count = second.count ∙ first.count;
   used = second.put;
@@ -77,10 +77,10 @@ settles old mid new gone kept first second = record {
 }
 
 -- a block that is neither free nor in flight is used
-pub used_else : (sets : BlockStateList) (b : ℕ) → b < length sets → (slice_get sets b ≡ Some InFlight → ⊥) → (slice_get sets b ≡ Some Free → ⊥) → IsUsed sets b
+pub used_else : (sets : BlockStateList) (b : ℕ) → b < length sets → (slice_get sets b ≡ Some InFlight → ⊥) → (slice_get sets b ≡ Some Free → ⊥) → IsBlockUsed sets b
 used_else sets b lt flying free = go (get_or sets b Free) (slice_get-get_or sets b Free lt)
   where
-    go : (s : BlockState) → slice_get sets b ≡ Some s → IsUsed sets b
+    go : (s : BlockState) → slice_get sets b ≡ Some s → IsBlockUsed sets b
     go Free is = absurd (free is)
     go InFlight is = absurd (flying is)
     go Used is = is

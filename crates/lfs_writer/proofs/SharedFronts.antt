@@ -5,15 +5,15 @@ use Rattle.std.specs.List.{IsDistinct, slice_get}
 use Rattle.std.proofs.lemmas.Bool.{cases_lt}
 use Rattle.std.proofs.lemmas.List.{get_or-take, take-append-drop, take_more}
 use Rattle.std.proofs.lemmas.List.Elements.{All-contains, Contains-append_cases, Contains-append_left, Contains-get_or}
-use Rattle.lfs_model.specs.Blocks.{Blocks, block_bytes_in}
-use Rattle.lfs_model.specs.BlockSets.{BlockStateList, IsUsed}
+use Rattle.lfs_model.specs.Blocks.{Blocks, block_bytes_by_number}
+use Rattle.lfs_model.specs.BlockSets.{BlockStateList, IsBlockUsed}
 use Rattle.lfs_model.specs.BlockSets.BlockState.{Free, Used}
-use Rattle.lfs_model.specs.SkipLists.{AreListBlocks, list_blocks_from_head, word_at}
-use Rattle.lfs_model.proofs.BlockSets.{count-Contains}
-use Rattle.lfs_model.proofs.Counts.{count, count_append, once_from_distinct}
+use Rattle.lfs_model.specs.SkipLists.{AreListBlocks, list_blocks_from_head, word_at_offset}
+use Rattle.lfs_model.proofs.BlockSets.{occurrence_count_of_number-Contains}
+use Rattle.lfs_model.proofs.Counts.{occurrence_count_of_number, count_append, once_from_distinct}
 use Rattle.lfs_model.proofs.Files.{length_back}
-use Rattle.lfs_writer.specs.SettledMaps.{IsMapSettled, PutsBlocksInState, AreSharedBlocksUsed}
-use Rattle.lfs_writer.specs.SharedBlocks.{IsCountOfSharedFrontBlocks, count_of_unshared_blocks}
+use Rattle.lfs_writer.specs.SettledMaps.{MarksNewListUsedAndOldFree, PutsBlocksInState, AreSharedBlocksUsed}
+use Rattle.lfs_writer.specs.SharedBlocks.{IsCountOfSharedFrontBlocks, count_of_unshared_blocks_in_both_lists}
 use Rattle.lfs_writer.proofs.Others.{Contains-behind}
 use Rattle.lfs_writer.proofs.Releasings.{before_in}
 use Rattle.lfs_writer.proofs.Takings.{member}
@@ -32,7 +32,7 @@ module _ (d : Blocks) (count_one head count_other other : ℕ) (chain : AreListB
       let e : suc m - 1 ≡ m = omega arith in
       ap (slice_index xs) (sym e)
       ∙ sym (before_in d count_one head (suc m) (slice_index xs (suc m)) chain (omega arith) one refl)
-      ∙ ap (λ b. word_at (block_bytes_in d b) 0) same
+      ∙ ap (λ b. word_at_offset (block_bytes_by_number d b) 0) same
       ∙ before_in d count_other other (suc m) (slice_index ys (suc m)) twin (omega arith) two refl
       ∙ ap (slice_index ys) e
 
@@ -67,7 +67,7 @@ module _ (d : Blocks) (count_one head count_other other : ℕ) (chain : AreListB
     most = λ first second. most (omega (arith, length_back d count_one head)) (omega (arith, length_back d count_other other));
   }
 
-pub apart_is : (d : Blocks) (count_one head count_other other n : ℕ) → count_of_unshared_blocks (list_blocks_from_head d count_one head) (list_blocks_from_head d count_other other) n ≡ (count_one - n) + (count_other - n)
+pub apart_is : (d : Blocks) (count_one head count_other other n : ℕ) → count_of_unshared_blocks_in_both_lists (list_blocks_from_head d count_one head) (list_blocks_from_head d count_other other) n ≡ (count_one - n) + (count_other - n)
 apart_is d count_one head count_other other n =
     omega (arith, length-drop n (list_blocks_from_head d count_one head), length-drop n (list_blocks_from_head d count_other other), length_back d count_one head, length_back d count_other other)
 
@@ -103,17 +103,17 @@ not_behind : (n : ℕ) (xs : List ℕ) (b : ℕ) → IsDistinct nat_eq xs → Co
 not_behind n xs b distinct front =
     ⊎_elim
     (λ behind.
-    let one = count-Contains (take n xs) b front in
-    let two = count-Contains (drop n xs) b behind in
+    let one = occurrence_count_of_number-Contains (take n xs) b front in
+    let two = occurrence_count_of_number-Contains (drop n xs) b behind in
     let sum = count_append b (take n xs) (drop n xs) in
-    let all = ap (count b) (take-append-drop n xs) in
+    let all = ap (occurrence_count_of_number b) (take-append-drop n xs) in
     let once = once_from_distinct xs distinct b in
     absurd (omega arith))
     (λ away. away) (member (drop n xs) b)
 
 module _ (old mid new : BlockStateList) (gone kept : List ℕ) (n : ℕ) (distinct : IsDistinct nat_eq gone) (same : take n gone ≡ take n kept) (shared : AreSharedBlocksUsed old gone kept)
     (first : PutsBlocksInState Free old mid (drop n gone)) (second : PutsBlocksInState Used mid new (drop n kept)) where
-  used_at : (b : ℕ) → Contains kept b → IsUsed new b
+  used_at : (b : ℕ) → Contains kept b → IsBlockUsed new b
   used_at b has =
       ⊎_elim
       (λ behind. All-contains (λ x. slice_get new x ≡ Some Used) (drop n kept) b second.put behind)
@@ -130,7 +130,7 @@ module _ (old mid new : BlockStateList) (gone kept : List ℕ) (n : ℕ) (distin
       (from_front n kept b (subst (λ (l : List ℕ). Contains l b) same (front_or_behind n gone b has away))) refl))
       (member (drop n gone) b)
 
-  pub settles_apart : IsMapSettled old new gone kept
+  pub settles_apart : MarksNewListUsedAndOldFree old new gone kept
   settles_apart = record {
     count = second.count ∙ first.count;
     used = λ k x l. used_at (get_or kept k x) (Contains-get_or kept k x l);

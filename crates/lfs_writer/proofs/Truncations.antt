@@ -7,7 +7,7 @@ use Rattle.std.proofs.Common.{length-append}
 use Rattle.lfs_model.specs.SkipLists.{list_block_count_for_size}
 use Rattle.lfs_model.specs.Writers.{contents_after_write, bytes_padded_with_zeros}
 use Rattle.lfs_writer.specs.Contents.{block_room_for_truncation}
-use Rattle.lfs_writer.specs.Form.{ContentsForm, InMemory, Finished, InHand, size_of_contents_form, grown, form_after_shortening, truncated}
+use Rattle.lfs_writer.specs.Form.{ContentsStorageForm, InMemory, Finished, InHand, contents_size_of_storage_form, storage_form_after_write_beginning_within_contents, storage_form_after_shortening, storage_form_after_truncate}
 use Rattle.lfs_writer.proofs.Flights.{at_end, zeros_not}
 use Rattle.lfs_writer.proofs.Memories.{shortened_bytes}
 
@@ -39,38 +39,38 @@ resized_none old size is = sym (take_all size old (omega arith)) ∙ shortened_b
 
 -- ---- forms
 
-pub truncated_same : (limit size : ℕ) (form : ContentsForm) → size ≡ size_of_contents_form form → form ≡ truncated limit size form
+pub truncated_same : (limit size : ℕ) (form : ContentsStorageForm) → size ≡ contents_size_of_storage_form form → form ≡ storage_form_after_truncate limit size form
 truncated_same limit size form is =
-    sym (ap (λ (t : Bool). if t then form else (if nat_le size limit then InMemory size else (if nat_lt (size_of_contents_form form) size then grown (size_of_contents_form form) size form else form_after_shortening size form))) (eq-eqb size (size_of_contents_form form) is))
+    sym (ap (λ (t : Bool). if t then form else (if nat_le size limit then InMemory size else (if nat_lt (contents_size_of_storage_form form) size then storage_form_after_write_beginning_within_contents (contents_size_of_storage_form form) size form else storage_form_after_shortening size form))) (eq-eqb size (contents_size_of_storage_form form) is))
 
-truncated_other : (limit size : ℕ) (form : ContentsForm) → size ≢ size_of_contents_form form → truncated limit size form ≡ (if nat_le size limit then InMemory size else (if nat_lt (size_of_contents_form form) size then grown (size_of_contents_form form) size form else form_after_shortening size form))
+truncated_other : (limit size : ℕ) (form : ContentsStorageForm) → size ≢ contents_size_of_storage_form form → storage_form_after_truncate limit size form ≡ (if nat_le size limit then InMemory size else (if nat_lt (contents_size_of_storage_form form) size then storage_form_after_write_beginning_within_contents (contents_size_of_storage_form form) size form else storage_form_after_shortening size form))
 truncated_other limit size form ne =
-    ap (λ (t : Bool). if t then form else (if nat_le size limit then InMemory size else (if nat_lt (size_of_contents_form form) size then grown (size_of_contents_form form) size form else form_after_shortening size form))) (ne_eqb size (size_of_contents_form form) ne)
+    ap (λ (t : Bool). if t then form else (if nat_le size limit then InMemory size else (if nat_lt (contents_size_of_storage_form form) size then storage_form_after_write_beginning_within_contents (contents_size_of_storage_form form) size form else storage_form_after_shortening size form))) (ne_eqb size (contents_size_of_storage_form form) ne)
 
-pub truncated_few : (limit size : ℕ) (form : ContentsForm) → size ≢ size_of_contents_form form → size ≤ limit → InMemory size ≡ truncated limit size form
+pub truncated_few : (limit size : ℕ) (form : ContentsStorageForm) → size ≢ contents_size_of_storage_form form → size ≤ limit → InMemory size ≡ storage_form_after_truncate limit size form
 truncated_few limit size form ne few =
-    sym (truncated_other limit size form ne ∙ ap (λ (t : Bool). if t then InMemory size else (if nat_lt (size_of_contents_form form) size then grown (size_of_contents_form form) size form else form_after_shortening size form)) (le-leb size limit few))
+    sym (truncated_other limit size form ne ∙ ap (λ (t : Bool). if t then InMemory size else (if nat_lt (contents_size_of_storage_form form) size then storage_form_after_write_beginning_within_contents (contents_size_of_storage_form form) size form else storage_form_after_shortening size form)) (le-leb size limit few))
 
-pub truncated_held : (limit size old : ℕ) → size ≤ limit → InMemory size ≡ truncated limit size (InMemory old)
+pub truncated_held : (limit size old : ℕ) → size ≤ limit → InMemory size ≡ storage_form_after_truncate limit size (InMemory old)
 truncated_held limit size old few = ⊎_elim
     (λ same. ap InMemory same ∙ truncated_same limit size (InMemory old) same)
     (λ ne. truncated_few limit size (InMemory old) ne few)
     (cases_eq size old)
 
-truncated_many : (limit size : ℕ) (form : ContentsForm) → size ≢ size_of_contents_form form → limit < size → truncated limit size form ≡ (if nat_lt (size_of_contents_form form) size then grown (size_of_contents_form form) size form else form_after_shortening size form)
+truncated_many : (limit size : ℕ) (form : ContentsStorageForm) → size ≢ contents_size_of_storage_form form → limit < size → storage_form_after_truncate limit size form ≡ (if nat_lt (contents_size_of_storage_form form) size then storage_form_after_write_beginning_within_contents (contents_size_of_storage_form form) size form else storage_form_after_shortening size form)
 truncated_many limit size form ne many =
-    truncated_other limit size form ne ∙ ap (λ (t : Bool). if t then InMemory size else (if nat_lt (size_of_contents_form form) size then grown (size_of_contents_form form) size form else form_after_shortening size form)) (lt-leb size limit many)
+    truncated_other limit size form ne ∙ ap (λ (t : Bool). if t then InMemory size else (if nat_lt (contents_size_of_storage_form form) size then storage_form_after_write_beginning_within_contents (contents_size_of_storage_form form) size form else storage_form_after_shortening size form)) (lt-leb size limit many)
 
-pub truncated_longer : (limit size : ℕ) (form : ContentsForm) → size_of_contents_form form < size → limit < size → grown (size_of_contents_form form) size form ≡ truncated limit size form
+pub truncated_longer : (limit size : ℕ) (form : ContentsStorageForm) → contents_size_of_storage_form form < size → limit < size → storage_form_after_write_beginning_within_contents (contents_size_of_storage_form form) size form ≡ storage_form_after_truncate limit size form
 truncated_longer limit size form more many =
-    sym (truncated_many limit size form (omega arith) many ∙ ap (λ (t : Bool). if t then grown (size_of_contents_form form) size form else form_after_shortening size form) (lt-ltb (size_of_contents_form form) size more))
+    sym (truncated_many limit size form (omega arith) many ∙ ap (λ (t : Bool). if t then storage_form_after_write_beginning_within_contents (contents_size_of_storage_form form) size form else storage_form_after_shortening size form) (lt-ltb (contents_size_of_storage_form form) size more))
 
-pub truncated_cut : (limit size : ℕ) (form : ContentsForm) → size < size_of_contents_form form → limit < size → form_after_shortening size form ≡ truncated limit size form
+pub truncated_cut : (limit size : ℕ) (form : ContentsStorageForm) → size < contents_size_of_storage_form form → limit < size → storage_form_after_shortening size form ≡ storage_form_after_truncate limit size form
 truncated_cut limit size form less many =
-    sym (truncated_many limit size form (omega arith) many ∙ ap (λ (t : Bool). if t then grown (size_of_contents_form form) size form else form_after_shortening size form) (le-ltb (size_of_contents_form form) size (omega arith)))
+    sym (truncated_many limit size form (omega arith) many ∙ ap (λ (t : Bool). if t then storage_form_after_write_beginning_within_contents (contents_size_of_storage_form form) size form else storage_form_after_shortening size form) (le-ltb (contents_size_of_storage_form form) size (omega arith)))
 
 -- contents in hand are ended where they are cut
-pub truncated_ended : (limit size end base : ℕ) (flying : Bool) → size < max end base → truncated limit size (Finished (max end base) true) ≡ truncated limit size (InHand end base flying)
+pub truncated_ended : (limit size end base : ℕ) (flying : Bool) → size < max end base → storage_form_after_truncate limit size (Finished (max end base) true) ≡ storage_form_after_truncate limit size (InHand end base flying)
 truncated_ended limit size end base flying less = ⊎_elim
     (λ many. sym (truncated_cut limit size (Finished (max end base) true) less many) ∙ truncated_cut limit size (InHand end base flying) less many)
     (λ few. sym (truncated_few limit size (Finished (max end base) true) (omega arith) few) ∙ truncated_few limit size (InHand end base flying) (omega arith) few)
@@ -79,7 +79,7 @@ truncated_ended limit size end base flying less = ⊎_elim
 -- contents in hand that grow, by what is made of the list and its base
 pub lengthened_hand : (limit end base size : ℕ) (flying : Bool) (now under : ℕ) (waits : Bool) → max end base < size → limit < size → now ≡ size
     → (end ≡ max end base → (under ≡ base) × (waits ≡ flying)) → (end ≢ max end base → (under ≡ max end base) × (waits ≡ true))
-    → InHand now under waits ≡ truncated limit size (InHand end base flying)
+    → InHand now under waits ≡ storage_form_after_truncate limit size (InHand end base flying)
 lengthened_hand limit end base size flying now under waits more many is on anew =
     let all = truncated_longer limit size (InHand end base flying) more many in
     ⊎_elim

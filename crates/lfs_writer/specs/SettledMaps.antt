@@ -1,12 +1,12 @@
 -- Blocks of a list that take another state.
 use Rattle.std.specs.Prelude.{ℕ, ◌≡◌, ◌≢◌, Bool, true, false, All, Contains, List, Some, length, slice_get}
-use Rattle.lfs_model.specs.BlockSets.{BlockStateList, BlockState, IsFree, IsUsed}
+use Rattle.lfs_model.specs.BlockSets.{BlockStateList, BlockState, IsBlockFree, IsBlockUsed}
 use Rattle.lfs_model.specs.BlockSets.BlockState.{Free, Used}
 
 -- the state of a block that is used, or is free
-abbrev pub state_after_settle : Bool → BlockState
-state_after_settle true = Used
-state_after_settle false = Free
+abbrev pub used_or_free_block_state : Bool → BlockState
+used_or_free_block_state true = Used
+used_or_free_block_state false = Free
 
 -- each of these blocks is in that state, and the others are as they were
 pub record PutsBlocksInState (state : BlockState) (old new : BlockStateList) (bs : List ℕ) : Type 0 where
@@ -15,15 +15,15 @@ pub record PutsBlocksInState (state : BlockState) (old new : BlockStateList) (bs
   pub others : (b : ℕ) → All (λ x. x ≢ b) bs → slice_get new b ≡ slice_get old b
 
 -- The blocks of the list that is kept are used, and those that only the other one had are free.
-pub record IsMapSettled (old new : BlockStateList) (gone kept : List ℕ) : Type 0 where
+pub record MarksNewListUsedAndOldFree (old new : BlockStateList) (gone kept : List ℕ) : Type 0 where
   pub count : length new ≡ length old
-  pub used : All (IsUsed new) kept
-  pub freed : (b : ℕ) → Contains gone b → All (λ x. x ≢ b) kept → IsFree new b
+  pub used : All (IsBlockUsed new) kept
+  pub freed : (b : ℕ) → Contains gone b → All (λ x. x ≢ b) kept → IsBlockFree new b
   pub others : (b : ℕ) → All (λ x. x ≢ b) gone → All (λ x. x ≢ b) kept → slice_get new b ≡ slice_get old b
 
 -- blocks that are in both lists are used
 pub record AreSharedBlocksUsed (sets : BlockStateList) (gone kept : List ℕ) : Type 0 where
-  pub used : (b : ℕ) → Contains gone b → Contains kept b → IsUsed sets b
+  pub used : (b : ℕ) → Contains gone b → Contains kept b → IsBlockUsed sets b
 
 -- the blocks that aren't among these are as they were
 pub record KeepsStatesOfOtherBlocks (old new : BlockStateList) (bs : List ℕ) : Type 0 where

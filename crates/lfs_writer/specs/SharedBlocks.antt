@@ -8,5 +8,5 @@ pub record IsCountOfSharedFrontBlocks (xs ys : List ℕ) (n : ℕ) : Type 0 wher
   pub most : n < length xs → n < length ys → slice_index xs n ≢ slice_index ys n
 
 -- how many blocks each list has after those
-abbrev pub count_of_unshared_blocks : List ℕ → List ℕ → ℕ → ℕ
-count_of_unshared_blocks xs ys n = length (drop n xs) + length (drop n ys)
+abbrev pub count_of_unshared_blocks_in_both_lists : List ℕ → List ℕ → ℕ → ℕ
+count_of_unshared_blocks_in_both_lists xs ys n = length (drop n xs) + length (drop n ys)

@@ -2,21 +2,21 @@
 
 ghost use Rattle.std.specs.Prelude.{◌≡◌, ◌≤◌, ◌<◌, ◌+◌, ◌-◌, ◌++◌, length, max, min, take, drop, slice_range, IfOk, OnOk};
 ghost use Rattle.lfs_device.specs.Calls.{ReadsOnly};
-ghost use Rattle.lfs_model.specs.Blocks.{block_bytes_in};
-ghost use Rattle.lfs_model.specs.BlockSets.{in_flight_count, used_count};
-ghost use Rattle.lfs_model.specs.History.{reads};
-ghost use Rattle.lfs_model.specs.SkipLists.{AreListBlocks, list_blocks_from_head, list_block_count_for_size, bytes_of};
+ghost use Rattle.lfs_model.specs.Blocks.{block_bytes_by_number};
+ghost use Rattle.lfs_model.specs.BlockSets.{in_flight_block_count, used_count};
+ghost use Rattle.lfs_model.specs.History.{read_count_of_history};
+ghost use Rattle.lfs_model.specs.SkipLists.{AreListBlocks, list_blocks_from_head, list_block_count_for_size, bytes_of_skip_list};
 ghost use Rattle.lfs_ctz.specs.Calls.{ReportsNoErrorButIo, ReportsIoOrNoMemory};
-ghost use Rattle.lfs_ctz.specs.Growing.{HasGrowingListOnDisk, blocks_kept_when_growing, unwritten_block_of_list, content_of, size_of_growing_list};
+ghost use Rattle.lfs_ctz.specs.Growing.{HasGrowingListOnDisk, blocks_kept_when_growing, unwritten_block_of_list, bytes_of_growing_list, size_of_growing_list};
 ghost use Rattle.lfs_writer.specs.BlocksApart.{HasGrowingListBlocksTaken};
-ghost use Rattle.lfs_writer.specs.Bases.{IsBaseApartFromGrowingList};
-ghost use Rattle.lfs_writer.specs.Calls.{CallKeepsTakenBlocks};
-ghost use Rattle.lfs_writer.specs.Extensions.{IsGrowingListExtended, HasOwnListBlocks};
+ghost use Rattle.lfs_writer.specs.Bases.{IsListApartFromFreeAndUnwrittenBlocks};
+ghost use Rattle.lfs_writer.specs.Calls.{CallKeepsTakenBlocksExceptUnwritten};
+ghost use Rattle.lfs_writer.specs.Extensions.{IsGrowingListExtended, CanEndGrowingListInOwnBlocks};
 ghost use Rattle.lfs_writer.specs.TakenBlocks.{ChangesOnlyFreeBlocksInMap};
 
 use crate::extensions::extend_list_in_free_blocks;
 use lfs_alloc::BlockMap;
-use lfs_ctz::{Extender, blocks_for, head_before, place};
+use lfs_ctz::{Extender, blocks_for, head_of_list_before_block, place};
 use lfs_device::{BlockDevice, Error};
 use std::alloc::Global;
 
@@ -26,7 +26,7 @@ use std::alloc::Global;
 ///
 /// Errors: `Io` where the device failed. `NoMemory` where memory isn't granted. After either the
 /// list in hand can only be dropped.
-pub(crate) fn copy_rest_of_base<D: BlockDevice>(
+pub(crate) fn append_remaining_bytes_of_base_list<D: BlockDevice>(
     alloc: Global,
     dev: &mut D,
     map: &mut BlockMap,
@@ -37,14 +37,14 @@ pub(crate) fn copy_rest_of_base<D: BlockDevice>(
     requires growing { HasGrowingListOnDisk (D.blocks dev.old) list.old }
     requires geometry { D.geometry dev.old ≡ list.old.geometry }
     requires marked { HasGrowingListBlocksTaken map.old (D.blocks dev.old) list.old }
-    requires own { HasOwnListBlocks (D.blocks dev.old) list.old }
-    requires base { IsBaseApartFromGrowingList map.old (unwritten_block_of_list list.old) (D.blocks dev.old) list.old.geometry.block_size head size }
-    requires room { used_count map.old + in_flight_count map.old + list_block_count_for_size list.old.geometry.block_size size ≤ length map.old + length (blocks_kept_when_growing (D.blocks dev.old) list.old) }
+    requires own { CanEndGrowingListInOwnBlocks (D.blocks dev.old) list.old }
+    requires base { IsListApartFromFreeAndUnwrittenBlocks map.old (unwritten_block_of_list list.old) (D.blocks dev.old) list.old.geometry.block_size head size }
+    requires room { used_count map.old + in_flight_block_count map.old + list_block_count_for_size list.old.geometry.block_size size ≤ length map.old + length (blocks_kept_when_growing (D.blocks dev.old) list.old) }
     ensures extended { OnOk result (IsGrowingListExtended map.old (D.blocks dev.old) list.old
-        (content_of (D.blocks dev.old) list.old ++ drop (size_of_growing_list list.old) (bytes_of (D.blocks dev.old) list.old.geometry.block_size head size))
+        (bytes_of_growing_list (D.blocks dev.old) list.old ++ drop (size_of_growing_list list.old) (bytes_of_skip_list (D.blocks dev.old) list.old.geometry.block_size head size))
         (max (size_of_growing_list list.old) size) map.new (D.blocks dev.new) list.new) }
     ensures map { ChangesOnlyFreeBlocksInMap map.old map.new }
-    ensures device { CallKeepsTakenBlocks D.BlockDevice map.old (unwritten_block_of_list list.old) dev.old dev.new }
+    ensures device { CallKeepsTakenBlocksExceptUnwritten D.BlockDevice map.old (unwritten_block_of_list list.old) dev.old dev.new }
     ensures reports { ReportsIoOrNoMemory D.BlockDevice dev.old dev.new result }
 {
     if list.size() >= size {
@@ -52,12 +52,12 @@ pub(crate) fn copy_rest_of_base<D: BlockDevice>(
     }
     let block_size = dev.geometry().block_size;
     let mut chunk = Vec::from_elem(alloc, 0u8, block_size as usize)?;
-    append_other_list_by_blocks(alloc, dev, map, list, head, size, chunk.as_mut_slice())?;
+    append_remaining_bytes_block_by_block(alloc, dev, map, list, head, size, chunk.as_mut_slice())?;
     Ok(())
 }
 
 // Appends to a list in hand the bytes that another list has after those in hand, a block at a time.
-fn append_other_list_by_blocks<D: BlockDevice>(
+fn append_remaining_bytes_block_by_block<D: BlockDevice>(
     alloc: Global,
     dev: &mut D,
     map: &mut BlockMap,
@@ -71,19 +71,19 @@ fn append_other_list_by_blocks<D: BlockDevice>(
     requires growing { HasGrowingListOnDisk (D.blocks dev.old) list.old }
     requires geometry { D.geometry dev.old ≡ list.old.geometry }
     requires marked { HasGrowingListBlocksTaken map.old (D.blocks dev.old) list.old }
-    requires own { HasOwnListBlocks (D.blocks dev.old) list.old }
-    requires base { IsBaseApartFromGrowingList map.old (unwritten_block_of_list list.old) (D.blocks dev.old) list.old.geometry.block_size head size }
-    requires room { used_count map.old + in_flight_count map.old + list_block_count_for_size list.old.geometry.block_size size ≤ length map.old + length (blocks_kept_when_growing (D.blocks dev.old) list.old) }
+    requires own { CanEndGrowingListInOwnBlocks (D.blocks dev.old) list.old }
+    requires base { IsListApartFromFreeAndUnwrittenBlocks map.old (unwritten_block_of_list list.old) (D.blocks dev.old) list.old.geometry.block_size head size }
+    requires room { used_count map.old + in_flight_block_count map.old + list_block_count_for_size list.old.geometry.block_size size ≤ length map.old + length (blocks_kept_when_growing (D.blocks dev.old) list.old) }
     ensures extended { OnOk result (IsGrowingListExtended map.old (D.blocks dev.old) list.old
-        (content_of (D.blocks dev.old) list.old ++ drop (size_of_growing_list list.old) (bytes_of (D.blocks dev.old) list.old.geometry.block_size head size))
+        (bytes_of_growing_list (D.blocks dev.old) list.old ++ drop (size_of_growing_list list.old) (bytes_of_skip_list (D.blocks dev.old) list.old.geometry.block_size head size))
         (max (size_of_growing_list list.old) size) map.new (D.blocks dev.new) list.new) }
     ensures map { ChangesOnlyFreeBlocksInMap map.old map.new }
-    ensures device { CallKeepsTakenBlocks D.BlockDevice map.old (unwritten_block_of_list list.old) dev.old dev.new }
+    ensures device { CallKeepsTakenBlocksExceptUnwritten D.BlockDevice map.old (unwritten_block_of_list list.old) dev.old dev.new }
     ensures reports { ReportsIoOrNoMemory D.BlockDevice dev.old dev.new result }
 {
     let block_size = dev.geometry().block_size;
     let (from, _) = place(block_size, list.size());
-    let blocks = blocks_from(alloc, dev, head, blocks_for(block_size, size), from)?;
+    let blocks = list_blocks_from_index(alloc, dev, head, blocks_for(block_size, size), from)?;
     'copying: while list.size() < size {
         let pos = list.size();
         let (index, off) = place(block_size, pos);
@@ -95,7 +95,7 @@ fn append_other_list_by_blocks<D: BlockDevice>(
 }
 
 // Returns the blocks of a list from an index on. `count` is how many blocks the list has.
-fn blocks_from<D: BlockDevice>(
+fn list_blocks_from_index<D: BlockDevice>(
     alloc: Global,
     dev: &mut D,
     head: u32,
@@ -108,7 +108,7 @@ fn blocks_from<D: BlockDevice>(
     ensures device { ReadsOnly D.BlockDevice dev.old dev.new }
     ensures reports { ReportsIoOrNoMemory D.BlockDevice dev.old dev.new result }
     // The list is walked once: one read for each of them.
-    ensures few { OnOk result (reads (D.history dev.new) ≤ reads (D.history dev.old) + (count - from)) }
+    ensures few { OnOk result (read_count_of_history (D.history dev.new) ≤ read_count_of_history (D.history dev.old) + (count - from)) }
 {
     let mut blocks = Vec::from_elem(alloc, 0u32, (count - from) as usize)?;
     let mut block = head;
@@ -116,7 +116,7 @@ fn blocks_from<D: BlockDevice>(
     'going: while index > from {
         index -= 1;
         blocks[(index - from) as usize] = block;
-        block = head_before(dev, block, index - from)?;
+        block = head_of_list_before_block(dev, block, index - from)?;
     }
     Ok(blocks)
 }
@@ -134,10 +134,10 @@ fn read_bytes_of_block_from<D: BlockDevice>(
     requires some { 1 ≤ most }
     requires room { length buf.old ≡ (D.geometry dev.old).block_size }
     ensures count { IfOk result (λ n. (1 ≤ n) × (n ≤ length buf.old) × (n ≡ min ((D.geometry dev.old).block_size - off) most)) }
-    ensures bytes { IfOk result (λ n. take n buf.new ≡ slice_range (block_bytes_in (D.blocks dev.old) block) off (off + n)) }
+    ensures bytes { IfOk result (λ n. take n buf.new ≡ slice_range (block_bytes_by_number (D.blocks dev.old) block) off (off + n)) }
     ensures device { ReadsOnly D.BlockDevice dev.old dev.new }
     ensures reports { ReportsNoErrorButIo D.BlockDevice dev.old dev.new result }
-    ensures few { reads (D.history dev.new) ≡ reads (D.history dev.old) + 1 }
+    ensures few { read_count_of_history (D.history dev.new) ≡ read_count_of_history (D.history dev.old) + 1 }
 {
     let count = (buf.len() - off as usize).min(most as usize);
     dev.read(block, off, &mut buf[..count])?;

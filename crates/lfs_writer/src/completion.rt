@@ -1,15 +1,15 @@
 // Contents that are finished for a commit, or dropped.
 
 ghost use Rattle.std.specs.Prelude.{ℕ, OnOk, IfOk};
-ghost use Rattle.lfs_model.specs.BlockSets.{IsInFlight};
+ghost use Rattle.lfs_model.specs.BlockSets.{IsBlockInFlight};
 ghost use Rattle.lfs_ctz.specs.Calls.{ReportsIoOrNoMemory};
 ghost use Rattle.lfs_writer.specs.Calls.{CallKeepsUsedBlocks};
-ghost use Rattle.lfs_writer.specs.Contents.{CanFinishContents, HasContentsInForm, contents_bytes_in_blocks, finished, form_of_contents};
+ghost use Rattle.lfs_writer.specs.Contents.{CanFinishContents, HasContentsInStorageForm, writer_contents_bytes_in_memory_or_blocks, storage_form_after_finish, storage_form_of_contents};
 ghost use Rattle.lfs_writer.specs.Hand.{KeepsUsedBlocksInMap};
-ghost use Rattle.lfs_writer.specs.BlockOwners.{AreUsedBlocksAmong, blocks_of_contents};
+ghost use Rattle.lfs_writer.specs.BlockOwners.{AreUsedBlocksOfListAmongOwnBlocks, blocks_of_contents};
 
 use crate::contents::WriterContents;
-use crate::list_ends::end_list_in_hand;
+use crate::list_ends::end_unfinished_list;
 use crate::releases::release_block_in_flight;
 use lfs_alloc::BlockMap;
 use lfs_device::{BlockDevice, Error};
@@ -22,16 +22,16 @@ use std::alloc::Global;
 ///
 /// Errors: `Io` where the device failed. `NoMemory` where memory isn't granted. After either the
 /// contents are dropped.
-pub fn finish<D: BlockDevice>(
+pub fn finish_contents<D: BlockDevice>(
     alloc: Global,
     dev: &mut D,
     map: &mut BlockMap,
     contents: WriterContents,
 ) -> Result<WriterContents, Error>
     requires { CanFinishContents map.old (D.blocks dev.old) (D.geometry dev.old) contents }
-    ensures finished { IfOk result (λ c. HasContentsInForm map.new (D.blocks dev.new) (D.geometry dev.old) c
-        (contents_bytes_in_blocks (D.blocks dev.old) (D.geometry dev.old).block_size contents) (finished (form_of_contents contents))) }
-    ensures owned { IfOk result (λ c. AreUsedBlocksAmong map.new (blocks_of_contents (D.blocks dev.old) (D.geometry dev.old).block_size contents) (blocks_of_contents (D.blocks dev.new) (D.geometry dev.old).block_size c)) }
+    ensures finished { IfOk result (λ c. HasContentsInStorageForm map.new (D.blocks dev.new) (D.geometry dev.old) c
+        (writer_contents_bytes_in_memory_or_blocks (D.blocks dev.old) (D.geometry dev.old).block_size contents) (storage_form_after_finish (storage_form_of_contents contents))) }
+    ensures owned { IfOk result (λ c. AreUsedBlocksOfListAmongOwnBlocks map.new (blocks_of_contents (D.blocks dev.old) (D.geometry dev.old).block_size contents) (blocks_of_contents (D.blocks dev.new) (D.geometry dev.old).block_size c)) }
     ensures map { KeepsUsedBlocksInMap map.old map.new }
     ensures device { CallKeepsUsedBlocks D.BlockDevice map.old dev.old dev.new }
     ensures reports { ReportsIoOrNoMemory D.BlockDevice dev.old dev.new result }
@@ -40,7 +40,7 @@ pub fn finish<D: BlockDevice>(
         WriterContents::InMemory(list) => Ok(WriterContents::InMemory(list)),
         WriterContents::Finished(stored) => Ok(WriterContents::Finished(stored)),
         WriterContents::InHand(hand) => {
-            let stored = end_list_in_hand(alloc, dev, map, hand)?;
+            let stored = end_unfinished_list(alloc, dev, map, hand)?;
             Ok(WriterContents::Finished(stored))
         }
     }
@@ -48,7 +48,7 @@ pub fn finish<D: BlockDevice>(
 
 /// Releases all blocks in flight. No other file has blocks in flight, so no block is read.
 pub fn release_all_blocks_in_flight(map: &mut BlockMap)
-    ensures none { (b : ℕ) → ¬ (IsInFlight map.new b) }
+    ensures none { (b : ℕ) → ¬ (IsBlockInFlight map.new b) }
     ensures map { KeepsUsedBlocksInMap map.old map.new }
 {
     let block_count = map.block_count();

@@ -1,12 +1,12 @@
 // Extensions of lists in hand, in blocks of the map.
 
 ghost use Rattle.std.specs.Prelude.{◌≡◌, ◌≤◌, ◌<◌, ◌+◌, ◌++◌, ◌^◌, ℕ, length, OnOk};
-ghost use Rattle.lfs_model.specs.BlockSets.{in_flight_count, used_count};
+ghost use Rattle.lfs_model.specs.BlockSets.{in_flight_block_count, used_count};
 ghost use Rattle.lfs_model.specs.SkipLists.{list_block_count_for_size};
 ghost use Rattle.lfs_ctz.specs.Calls.{ReportsIoOrNoMemory};
-ghost use Rattle.lfs_ctz.specs.Growing.{HasGrowingListOnDisk, blocks_kept_when_growing, unwritten_block_of_list, content_of, size_of_growing_list};
+ghost use Rattle.lfs_ctz.specs.Growing.{HasGrowingListOnDisk, blocks_kept_when_growing, unwritten_block_of_list, bytes_of_growing_list, size_of_growing_list};
 ghost use Rattle.lfs_writer.specs.BlocksApart.{HasGrowingListBlocksTaken};
-ghost use Rattle.lfs_writer.specs.Calls.{CallKeepsTakenBlocks};
+ghost use Rattle.lfs_writer.specs.Calls.{CallKeepsTakenBlocksExceptUnwritten};
 ghost use Rattle.lfs_writer.specs.Extensions.{IsGrowingListExtended};
 ghost use Rattle.lfs_writer.specs.TakenBlocks.{ChangesOnlyFreeBlocksInMap};
 
@@ -35,13 +35,13 @@ pub(crate) fn extend_list_in_free_blocks<D: BlockDevice>(
     requires some { 1 ≤ length bytes.now }
     requires small { size_of_growing_list list.old + length bytes.now < 2 ^ 31 }
     requires marked { HasGrowingListBlocksTaken map.old (D.blocks dev.old) list.old }
-    requires room { used_count map.old + in_flight_count map.old + list_block_count_for_size list.old.geometry.block_size (size_of_growing_list list.old + length bytes.now)
+    requires room { used_count map.old + in_flight_block_count map.old + list_block_count_for_size list.old.geometry.block_size (size_of_growing_list list.old + length bytes.now)
         ≤ length map.old + length (blocks_kept_when_growing (D.blocks dev.old) list.old) }
     ensures extended { OnOk result (IsGrowingListExtended map.old (D.blocks dev.old) list.old
-        (content_of (D.blocks dev.old) list.old ++ bytes.now) (size_of_growing_list list.old + length bytes.now) map.new (D.blocks dev.new) list.new) }
+        (bytes_of_growing_list (D.blocks dev.old) list.old ++ bytes.now) (size_of_growing_list list.old + length bytes.now) map.new (D.blocks dev.new) list.new) }
     // No block that was used or in flight changes, except the list's pending one.
     ensures map { ChangesOnlyFreeBlocksInMap map.old map.new }
-    ensures device { CallKeepsTakenBlocks D.BlockDevice map.old (unwritten_block_of_list list.old) dev.old dev.new }
+    ensures device { CallKeepsTakenBlocksExceptUnwritten D.BlockDevice map.old (unwritten_block_of_list list.old) dev.old dev.new }
     ensures reports { ReportsIoOrNoMemory D.BlockDevice dev.old dev.new result }
 {
     let count = list.needed(bytes.len() as u32);

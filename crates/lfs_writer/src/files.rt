@@ -2,13 +2,15 @@
 
 ghost use Rattle.std.specs.Prelude.{◌≡◌, false, is_err, length, take, IfErr, IfOk, OnOk};
 ghost use Rattle.lfs_model.specs.Writers.{contents_after_write, bytes_padded_with_zeros};
-ghost use Rattle.lfs_writer.specs.SettledFiles.{CanSettleStoredList, ChangesOnlyBlockMap, IsStoredListSettled};
-ghost use Rattle.lfs_writer.specs.ThreadContents.{CanFinishContentsOnThread, CanTruncateContentsOnThread, CanWriteContentsOnThread, HasContentsInFormOnThread, LeavesPairsAndUsedBlocks, ReportsFaultOrNoMemory, list_blocks_of_contents};
-ghost use Rattle.lfs_writer.specs.Contents.{contents_bytes_in_blocks, finished, form_of_contents};
-ghost use Rattle.lfs_writer.specs.Form.{truncated, written};
-ghost use Rattle.lfs_writer.specs.BlockOwners.{AreUsedBlocksAmong};
+ghost use Rattle.lfs_writer.specs.SettledFiles.{CanMarkStoredListUsedAndOldFree, ChangesOnlyBlockMap, IsStoredListUsedAndOldListFree};
+ghost use Rattle.lfs_writer.specs.ThreadContents.{CanFinishContentsOnThread, CanTruncateContentsOnThread, CanWriteContentsOnThread, HasContentsInStorageFormOnThread, LeavesPairsAndUsedBlocksUnchanged, ReportsFaultOrNoMemory, list_blocks_of_contents};
+ghost use Rattle.lfs_writer.specs.Contents.{writer_contents_bytes_in_memory_or_blocks, storage_form_after_finish, storage_form_of_contents};
+ghost use Rattle.lfs_writer.specs.Form.{storage_form_after_truncate, storage_form_after_write};
+ghost use Rattle.lfs_writer.specs.BlockOwners.{AreUsedBlocksOfListAmongOwnBlocks};
 
-use crate::{Stored, WriterContents, finish, settle_list, truncate_contents, write_contents};
+use crate::{
+    StoredList, WriterContents, finish_contents, settle_list, truncate_contents, write_contents,
+};
 use lfs_device::{BlockDevice, Error};
 use lfs_thread::Thread;
 use std::alloc::Global;
@@ -30,14 +32,14 @@ pub fn write_file<D: BlockDevice>(
 ) -> Result<WriterContents, Error>
     requires works { thread.old.failed ≡ false }
     requires can { CanWriteContentsOnThread thread.old.kept contents limit place (length bytes.now) }
-    ensures written { IfOk result (λ c. HasContentsInFormOnThread thread.new.kept c (contents_after_write (contents_bytes_in_blocks thread.old.kept.disk.blocks thread.old.kept.disk.block_size contents) place bytes.now)
-        (written limit place (length bytes.now) (form_of_contents contents))) }
-    ensures owned { IfOk result (λ c. AreUsedBlocksAmong thread.new.kept.map (list_blocks_of_contents thread.old.kept contents) (list_blocks_of_contents thread.new.kept c)) }
+    ensures written { IfOk result (λ c. HasContentsInStorageFormOnThread thread.new.kept c (contents_after_write (writer_contents_bytes_in_memory_or_blocks thread.old.kept.disk.blocks thread.old.kept.disk.block_size contents) place bytes.now)
+        (storage_form_after_write limit place (length bytes.now) (storage_form_of_contents contents))) }
+    ensures owned { IfOk result (λ c. AreUsedBlocksOfListAmongOwnBlocks thread.new.kept.map (list_blocks_of_contents thread.old.kept contents) (list_blocks_of_contents thread.new.kept c)) }
     ensures works { thread.new.failed ≡ false }
-    ensures leaves { LeavesPairsAndUsedBlocks thread.old.kept thread.new.kept }
+    ensures leaves { LeavesPairsAndUsedBlocksUnchanged thread.old.kept thread.new.kept }
     ensures reports { ReportsFaultOrNoMemory thread.old.kept thread.new.kept result }
 {
-    thread.beside(|device, map| {
+    thread.run_work_on_device_and_map(|device, map| {
         write_contents(alloc, device, map, contents, limit, place, bytes)
     })
 }
@@ -58,14 +60,16 @@ pub fn truncate_file<D: BlockDevice>(
 ) -> Result<WriterContents, Error>
     requires works { thread.old.failed ≡ false }
     requires can { CanTruncateContentsOnThread thread.old.kept contents limit size }
-    ensures truncated { IfOk result (λ c. HasContentsInFormOnThread thread.new.kept c (take size (bytes_padded_with_zeros size (contents_bytes_in_blocks thread.old.kept.disk.blocks thread.old.kept.disk.block_size contents)))
-        (truncated limit size (form_of_contents contents))) }
-    ensures owned { IfOk result (λ c. AreUsedBlocksAmong thread.new.kept.map (list_blocks_of_contents thread.old.kept contents) (list_blocks_of_contents thread.new.kept c)) }
+    ensures truncated { IfOk result (λ c. HasContentsInStorageFormOnThread thread.new.kept c (take size (bytes_padded_with_zeros size (writer_contents_bytes_in_memory_or_blocks thread.old.kept.disk.blocks thread.old.kept.disk.block_size contents)))
+        (storage_form_after_truncate limit size (storage_form_of_contents contents))) }
+    ensures owned { IfOk result (λ c. AreUsedBlocksOfListAmongOwnBlocks thread.new.kept.map (list_blocks_of_contents thread.old.kept contents) (list_blocks_of_contents thread.new.kept c)) }
     ensures works { thread.new.failed ≡ false }
-    ensures leaves { LeavesPairsAndUsedBlocks thread.old.kept thread.new.kept }
+    ensures leaves { LeavesPairsAndUsedBlocksUnchanged thread.old.kept thread.new.kept }
     ensures reports { ReportsFaultOrNoMemory thread.old.kept thread.new.kept result }
 {
-    thread.beside(|device, map| truncate_contents(alloc, device, map, contents, limit, size))
+    thread.run_work_on_device_and_map(|device, map| truncate_contents(
+        alloc, device, map, contents, limit, size,
+    ))
 }
 
 /// Ends the list in hand of an open writer, where there is one. The contents stay, and so do the
@@ -80,30 +84,30 @@ pub fn finish_file<D: BlockDevice>(
 ) -> Result<WriterContents, Error>
     requires works { thread.old.failed ≡ false }
     requires can { CanFinishContentsOnThread thread.old.kept contents }
-    ensures finished { IfOk result (λ c. HasContentsInFormOnThread thread.new.kept c (contents_bytes_in_blocks thread.old.kept.disk.blocks thread.old.kept.disk.block_size contents) (finished (form_of_contents contents))) }
-    ensures owned { IfOk result (λ c. AreUsedBlocksAmong thread.new.kept.map (list_blocks_of_contents thread.old.kept contents) (list_blocks_of_contents thread.new.kept c)) }
+    ensures finished { IfOk result (λ c. HasContentsInStorageFormOnThread thread.new.kept c (writer_contents_bytes_in_memory_or_blocks thread.old.kept.disk.blocks thread.old.kept.disk.block_size contents) (storage_form_after_finish (storage_form_of_contents contents))) }
+    ensures owned { IfOk result (λ c. AreUsedBlocksOfListAmongOwnBlocks thread.new.kept.map (list_blocks_of_contents thread.old.kept contents) (list_blocks_of_contents thread.new.kept c)) }
     ensures works { thread.new.failed ≡ false }
-    ensures leaves { LeavesPairsAndUsedBlocks thread.old.kept thread.new.kept }
+    ensures leaves { LeavesPairsAndUsedBlocksUnchanged thread.old.kept thread.new.kept }
     ensures reports { ReportsFaultOrNoMemory thread.old.kept thread.new.kept result }
 {
-    thread.beside(|device, map| finish(alloc, device, map, contents))
+    thread.run_work_on_device_and_map(|device, map| finish_contents(alloc, device, map, contents))
 }
 
 // Settles a list in the map of a thread, which works on. After an error the map is of no use.
-fn settle_list_in_thread_map<D: BlockDevice>(
+fn mark_list_used_and_old_free_in_map<D: BlockDevice>(
     thread: &mut Thread<D>,
-    before: Stored,
-    stored: Stored,
+    before: StoredList,
+    stored: StoredList,
 ) -> Result<(), Error>
     requires works { thread.old.failed ≡ false }
-    requires can { CanSettleStoredList thread.old.kept before stored }
-    ensures settled { OnOk result (IsStoredListSettled thread.old.kept before stored thread.new.kept) }
+    requires can { CanMarkStoredListUsedAndOldFree thread.old.kept before stored }
+    ensures settled { OnOk result (IsStoredListUsedAndOldListFree thread.old.kept before stored thread.new.kept) }
     ensures errors { IfErr result (λ e. e ≡ Error.Io) }
     ensures only { ChangesOnlyBlockMap thread.old.kept thread.new.kept }
     ensures works { thread.new.failed ≡ false }
     ensures reports { ReportsFaultOrNoMemory thread.old.kept thread.new.kept result }
 {
-    thread.beside(|device, map| settle_list(device, map, before, stored))
+    thread.run_work_on_device_and_map(|device, map| settle_list(device, map, before, stored))
 }
 
 /// Settles a finished list after a commit that names it. Its blocks are used, and those that only
@@ -114,18 +118,18 @@ fn settle_list_in_thread_map<D: BlockDevice>(
 /// more.
 pub fn settle_file<D: BlockDevice>(
     thread: &mut Thread<D>,
-    before: Stored,
-    stored: Stored,
+    before: StoredList,
+    stored: StoredList,
 ) -> Result<(), Error>
     requires works { thread.old.failed ≡ false }
-    requires can { CanSettleStoredList thread.old.kept before stored }
-    ensures settled { OnOk result (IsStoredListSettled thread.old.kept before stored thread.new.kept) }
+    requires can { CanMarkStoredListUsedAndOldFree thread.old.kept before stored }
+    ensures settled { OnOk result (IsStoredListUsedAndOldListFree thread.old.kept before stored thread.new.kept) }
     ensures errors { IfErr result (λ e. e ≡ Error.Io) }
     ensures only { ChangesOnlyBlockMap thread.old.kept thread.new.kept }
     ensures failed { thread.new.failed ≡ is_err result }
     ensures reports { ReportsFaultOrNoMemory thread.old.kept thread.new.kept result }
 {
-    let result = settle_list_in_thread_map(thread, before, stored);
+    let result = mark_list_used_and_old_free_in_map(thread, before, stored);
     if result.is_err() {
         thread.fail();
     }

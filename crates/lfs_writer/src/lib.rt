@@ -25,12 +25,15 @@ mod taken_blocks;
 mod writes;
 mod zeros;
 
-pub use completion::{finish, release_all_blocks_in_flight};
-pub use contents::{WriterContents, in_memory, write_contents};
+pub use completion::{finish_contents, release_all_blocks_in_flight};
+pub use contents::{WriterContents, make_contents_in_memory, write_contents};
 pub use files::{finish_file, settle_file, truncate_file, write_file};
-pub use laws::{forms_fit_writer, reserved_blocks_suffice_for_calls, settled_map_is_exact};
-pub use memory::load_list_into_memory;
+pub use laws::{
+    contents_forms_fit_writer_after_calls, reserved_blocks_suffice_for_calls,
+    settled_map_has_exactly_image_blocks,
+};
+pub use memory::load_first_bytes_of_list_into_memory;
 pub use named_lists::settle_list;
 pub use new_sizes::truncate_contents;
-pub use stored_list::Stored;
-pub use writes::Hand;
+pub use stored_list::StoredList;
+pub use writes::PendingList;

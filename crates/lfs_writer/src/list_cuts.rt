@@ -3,14 +3,14 @@
 ghost use Rattle.std.specs.Prelude.{◌≡◌, ◌≤◌, take, OnOk, IfOk};
 ghost use Rattle.lfs_device.specs.Calls.{ReadsOnly};
 ghost use Rattle.lfs_ctz.specs.Calls.{ReportsNoErrorButIo};
-ghost use Rattle.lfs_writer.specs.Hand.{IsFinishedListOnDisk, KeepsUsedBlocksInMap, bytes_of_stored_list};
+ghost use Rattle.lfs_writer.specs.Hand.{IsFinishedListConsistentWithMapAndDisk, KeepsUsedBlocksInMap, bytes_of_stored_list};
 ghost use Rattle.lfs_writer.specs.HandWrites.{IsFinishedListOfBytes};
 ghost use Rattle.lfs_writer.specs.BlockOwners.{IsFrontOfStoredList};
 
-use crate::list_ends::release_blocks_of_base;
-use crate::stored_list::Stored;
+use crate::list_ends::release_base_list_blocks_from_index;
+use crate::stored_list::StoredList;
 use lfs_alloc::BlockMap;
-use lfs_ctz::{blocks_for, cut};
+use lfs_ctz::{blocks_for, list_head_for_first_bytes};
 use lfs_device::{BlockDevice, Error};
 
 /// Cuts a finished list to its first bytes, at least one. Both lists share their blocks. Later
@@ -23,10 +23,10 @@ use lfs_device::{BlockDevice, Error};
 pub(crate) fn shorten_stored_list<D: BlockDevice>(
     dev: &mut D,
     map: &mut BlockMap,
-    stored: Stored,
+    stored: StoredList,
     keep: u32,
-) -> Result<Stored, Error>
-    requires stored { IsFinishedListOnDisk map.old (D.blocks dev.old) (D.geometry dev.old).block_size stored }
+) -> Result<StoredList, Error>
+    requires stored { IsFinishedListConsistentWithMapAndDisk map.old (D.blocks dev.old) (D.geometry dev.old).block_size stored }
     requires some { 1 ≤ keep }
     requires within { keep ≤ stored.size }
     ensures cut { IfOk result (λ s. IsFinishedListOfBytes map.new (D.blocks dev.new) (D.geometry dev.old) s keep (take keep (bytes_of_stored_list (D.blocks dev.old) (D.geometry dev.old).block_size stored))) }
@@ -35,10 +35,10 @@ pub(crate) fn shorten_stored_list<D: BlockDevice>(
     ensures device { ReadsOnly D.BlockDevice dev.old dev.new }
     ensures reports { ReportsNoErrorButIo D.BlockDevice dev.old dev.new result }
 {
-    let head = cut(dev, stored.head, stored.size, keep)?;
+    let head = list_head_for_first_bytes(dev, stored.head, stored.size, keep)?;
     let count = blocks_for(dev.geometry().block_size, keep);
-    release_blocks_of_base(dev, map, stored, count)?;
-    Ok(Stored {
+    release_base_list_blocks_from_index(dev, map, stored, count)?;
+    Ok(StoredList {
         head,
         size: keep,
         in_flight: stored.in_flight,

@@ -5,31 +5,31 @@ ghost use Rattle.lfs_device.specs.Calls.{ReadsOnly};
 ghost use Rattle.lfs_model.specs.BlockSets.{used_count};
 ghost use Rattle.lfs_model.specs.SkipLists.{list_block_count_for_size};
 ghost use Rattle.lfs_ctz.specs.Calls.{ReportsNoErrorButIo, ReportsIoOrNoMemory};
-ghost use Rattle.lfs_writer.specs.Bases.{IsListUnlessEmpty, list_blocks_by_head_and_size};
+ghost use Rattle.lfs_writer.specs.Bases.{IsSkipListOnDiskUnlessEmpty, list_blocks_by_head_and_size};
 ghost use Rattle.lfs_writer.specs.Calls.{CallKeepsUsedBlocks};
 ghost use Rattle.lfs_writer.specs.Hand.{KeepsUsedBlocksInMap};
 ghost use Rattle.lfs_writer.specs.Releases.{ReleasesBlocksInFlight};
-ghost use Rattle.lfs_writer.specs.BaseRoom.{blocks_in_flight_of_base};
-ghost use Rattle.lfs_writer.specs.HandWrites.{IsFinishedListOfBytes, IsListInHandWithBytes, bytes_of_contents_in_hand, length_of_contents_in_hand};
-ghost use Rattle.lfs_writer.specs.BlockOwners.{IsListEndedOverBase};
+ghost use Rattle.lfs_writer.specs.BaseRoom.{in_flight_block_limit_of_stored_list};
+ghost use Rattle.lfs_writer.specs.HandWrites.{IsFinishedListOfBytes, IsUnfinishedListWithAtLeastOneByte, contents_bytes_of_unfinished_list, contents_length_of_unfinished_list};
+ghost use Rattle.lfs_writer.specs.BlockOwners.{AreFinishedListUsedBlocksFromBaseList};
 
-use crate::block_copies::copy_rest_of_base;
+use crate::block_copies::append_remaining_bytes_of_base_list;
 use crate::releases::release_list_blocks_from;
-use crate::stored_list::Stored;
-use crate::writes::Hand;
+use crate::stored_list::StoredList;
+use crate::writes::PendingList;
 use lfs_alloc::BlockMap;
 use lfs_ctz::blocks_for;
 use lfs_device::{BlockDevice, Error};
 use std::alloc::Global;
 
 // Releases the blocks of a base from an index on, where some may be in flight.
-pub(crate) fn release_blocks_of_base<D: BlockDevice>(
+pub(crate) fn release_base_list_blocks_from_index<D: BlockDevice>(
     dev: &mut D,
     map: &mut BlockMap,
-    base: Stored,
+    base: StoredList,
     shared: u32,
 ) -> Result<(), Error>
-    requires base { IsListUnlessEmpty (D.blocks dev.old) (D.geometry dev.old).block_size base.head base.size }
+    requires base { IsSkipListOnDiskUnlessEmpty (D.blocks dev.old) (D.geometry dev.old).block_size base.head base.size }
     requires map { length map.old ≡ length (D.blocks dev.old) }
     requires within { shared ≤ list_block_count_for_size (D.geometry dev.old).block_size base.size }
     ensures released { OnOk result (ReleasesBlocksInFlight map.old map.new (if base.in_flight then drop shared (list_blocks_by_head_and_size (D.blocks dev.old) (D.geometry dev.old).block_size base.head base.size) else [])) }
@@ -53,26 +53,26 @@ pub(crate) fn release_blocks_of_base<D: BlockDevice>(
 /// take.
 ///
 /// Errors: `NoMemory` where memory isn't granted. `Io` where the device failed.
-pub(crate) fn end_list_in_hand<D: BlockDevice>(
+pub(crate) fn end_unfinished_list<D: BlockDevice>(
     alloc: Global,
     dev: &mut D,
     map: &mut BlockMap,
-    hand: Hand,
-) -> Result<Stored, Error>
-    requires going { IsListInHandWithBytes map.old (D.blocks dev.old) (D.geometry dev.old) hand }
-    requires room { used_count map.old + blocks_in_flight_of_base (D.geometry dev.old).block_size hand.base + list_block_count_for_size (D.geometry dev.old).block_size hand.base.size ≤ length map.old }
-    ensures ended { IfOk result (λ s. IsFinishedListOfBytes map.new (D.blocks dev.new) (D.geometry dev.old) s (length_of_contents_in_hand hand) (bytes_of_contents_in_hand (D.blocks dev.old) hand)) }
-    ensures own { IfOk result (IsListEndedOverBase map.new (D.geometry dev.old).block_size (D.blocks dev.old) hand.base (D.blocks dev.new)) }
+    hand: PendingList,
+) -> Result<StoredList, Error>
+    requires going { IsUnfinishedListWithAtLeastOneByte map.old (D.blocks dev.old) (D.geometry dev.old) hand }
+    requires room { used_count map.old + in_flight_block_limit_of_stored_list (D.geometry dev.old).block_size hand.base + list_block_count_for_size (D.geometry dev.old).block_size hand.base.size ≤ length map.old }
+    ensures ended { IfOk result (λ s. IsFinishedListOfBytes map.new (D.blocks dev.new) (D.geometry dev.old) s (contents_length_of_unfinished_list hand) (contents_bytes_of_unfinished_list (D.blocks dev.old) hand)) }
+    ensures own { IfOk result (AreFinishedListUsedBlocksFromBaseList map.new (D.geometry dev.old).block_size (D.blocks dev.old) hand.base (D.blocks dev.new)) }
     ensures map { KeepsUsedBlocksInMap map.old map.new }
     ensures device { CallKeepsUsedBlocks D.BlockDevice map.old dev.old dev.new }
     ensures reports { ReportsIoOrNoMemory D.BlockDevice dev.old dev.new result }
 {
-    let Hand { list, base, shared } = hand;
+    let PendingList { list, base, shared } = hand;
     let mut list = list;
-    copy_rest_of_base(alloc, dev, map, &mut list, base.head, base.size)?;
+    append_remaining_bytes_of_base_list(alloc, dev, map, &mut list, base.head, base.size)?;
     let (head, size) = list.finish(dev)?;
-    release_blocks_of_base(dev, map, base, shared)?;
-    Ok(Stored {
+    release_base_list_blocks_from_index(dev, map, base, shared)?;
+    Ok(StoredList {
         head,
         size,
         in_flight: true,

@@ -3,17 +3,17 @@
 ghost use Rattle.std.specs.Prelude.{◌≡◌, ◌≤◌, ◌<◌, ◌+◌, ◌-◌, ◌*◌, ◌∷◌, ◌++◌, ℕ, [], drop, length, OnOk};
 ghost use Rattle.lfs_device.specs.Calls.{ReadsOnly};
 ghost use Rattle.lfs_model.specs.BlockSets.{Used};
-ghost use Rattle.lfs_model.specs.History.{reads};
+ghost use Rattle.lfs_model.specs.History.{read_count_of_history};
 ghost use Rattle.lfs_model.specs.SkipLists.{AreListBlocks, list_blocks_from_head};
 ghost use Rattle.lfs_ctz.specs.Calls.{ReportsNoErrorButIo};
-ghost use Rattle.lfs_writer.specs.Bases.{IsListUnlessEmpty, list_blocks_by_head_and_size};
-ghost use Rattle.lfs_writer.specs.SettledMaps.{IsMapSettled, KeepsStatesOfOtherBlocks, PutsBlocksInState, AreSharedBlocksUsed, state_after_settle};
-ghost use Rattle.lfs_writer.specs.SharedBlocks.{IsCountOfSharedFrontBlocks, count_of_unshared_blocks};
+ghost use Rattle.lfs_writer.specs.Bases.{IsSkipListOnDiskUnlessEmpty, list_blocks_by_head_and_size};
+ghost use Rattle.lfs_writer.specs.SettledMaps.{MarksNewListUsedAndOldFree, KeepsStatesOfOtherBlocks, PutsBlocksInState, AreSharedBlocksUsed, used_or_free_block_state};
+ghost use Rattle.lfs_writer.specs.SharedBlocks.{IsCountOfSharedFrontBlocks, count_of_unshared_blocks_in_both_lists};
 
 use crate::shared_blocks::shared_block_count;
-use crate::stored_list::Stored;
+use crate::stored_list::StoredList;
 use lfs_alloc::BlockMap;
-use lfs_ctz::{blocks_for, head_before};
+use lfs_ctz::{blocks_for, head_of_list_before_block};
 use lfs_device::{BlockDevice, Error};
 
 // Makes a block used, whatever its state.
@@ -31,7 +31,7 @@ fn make_block_used(map: &mut BlockMap, block: u32)
 // Makes a block used, or free.
 fn make_block_used_or_free(map: &mut BlockMap, block: u32, used: bool)
     requires { block < length map.old }
-    ensures { PutsBlocksInState (state_after_settle used) map.old map.new (block ∷ []) }
+    ensures { PutsBlocksInState (used_or_free_block_state used) map.old map.new (block ∷ []) }
 {
     if used {
         make_block_used(map, block);
@@ -41,7 +41,7 @@ fn make_block_used_or_free(map: &mut BlockMap, block: u32, used: bool)
 }
 
 // Makes each block of a list from an index on used, or free, the last one first.
-fn make_list_used_or_free<D: BlockDevice>(
+fn make_list_blocks_from_index_used_or_free<D: BlockDevice>(
     dev: &mut D,
     map: &mut BlockMap,
     head: u32,
@@ -52,18 +52,18 @@ fn make_list_used_or_free<D: BlockDevice>(
     requires chain { AreListBlocks (D.blocks dev.old) count head }
     requires map { length map.old ≡ length (D.blocks dev.old) }
     requires within { from ≤ count }
-    ensures put { OnOk result (PutsBlocksInState (state_after_settle used) map.old map.new (drop from (list_blocks_from_head (D.blocks dev.old) count head))) }
+    ensures put { OnOk result (PutsBlocksInState (used_or_free_block_state used) map.old map.new (drop from (list_blocks_from_head (D.blocks dev.old) count head))) }
     ensures others { KeepsStatesOfOtherBlocks map.old map.new (list_blocks_from_head (D.blocks dev.old) count head) }
     ensures device { ReadsOnly D.BlockDevice dev.old dev.new }
     ensures reports { ReportsNoErrorButIo D.BlockDevice dev.old dev.new result }
-    ensures few { OnOk result (reads (D.history dev.new) ≤ reads (D.history dev.old) + (count - from)) }
+    ensures few { OnOk result (read_count_of_history (D.history dev.new) ≤ read_count_of_history (D.history dev.old) + (count - from)) }
 {
     let mut block = head;
     let mut index = count;
     'putting: while index > from {
         make_block_used_or_free(map, block, used);
         index -= 1;
-        block = head_before(dev, block, index - from)?;
+        block = head_of_list_before_block(dev, block, index - from)?;
     }
     Ok(())
 }
@@ -79,15 +79,15 @@ fn make_list_used_or_free<D: BlockDevice>(
 pub fn settle_list<D: BlockDevice>(
     dev: &mut D,
     map: &mut BlockMap,
-    before: Stored,
-    stored: Stored,
+    before: StoredList,
+    stored: StoredList,
 ) -> Result<(), Error>
-    requires before { IsListUnlessEmpty (D.blocks dev.old) (D.geometry dev.old).block_size before.head before.size }
-    requires stored { IsListUnlessEmpty (D.blocks dev.old) (D.geometry dev.old).block_size stored.head stored.size }
+    requires before { IsSkipListOnDiskUnlessEmpty (D.blocks dev.old) (D.geometry dev.old).block_size before.head before.size }
+    requires stored { IsSkipListOnDiskUnlessEmpty (D.blocks dev.old) (D.geometry dev.old).block_size stored.head stored.size }
     requires map { length map.old ≡ length (D.blocks dev.old) }
     requires shared { AreSharedBlocksUsed map.old (list_blocks_by_head_and_size (D.blocks dev.old) (D.geometry dev.old).block_size before.head before.size)
         (list_blocks_by_head_and_size (D.blocks dev.old) (D.geometry dev.old).block_size stored.head stored.size) }
-    ensures settled { OnOk result (IsMapSettled map.old map.new (list_blocks_by_head_and_size (D.blocks dev.old) (D.geometry dev.old).block_size before.head before.size)
+    ensures settled { OnOk result (MarksNewListUsedAndOldFree map.old map.new (list_blocks_by_head_and_size (D.blocks dev.old) (D.geometry dev.old).block_size before.head before.size)
         (list_blocks_by_head_and_size (D.blocks dev.old) (D.geometry dev.old).block_size stored.head stored.size)) }
     ensures others { KeepsStatesOfOtherBlocks map.old map.new (list_blocks_by_head_and_size (D.blocks dev.old) (D.geometry dev.old).block_size before.head before.size
         ++ list_blocks_by_head_and_size (D.blocks dev.old) (D.geometry dev.old).block_size stored.head stored.size) }
@@ -95,14 +95,14 @@ pub fn settle_list<D: BlockDevice>(
     ensures reports { ReportsNoErrorButIo D.BlockDevice dev.old dev.new result }
     ensures few { (n : ℕ) → IsCountOfSharedFrontBlocks (list_blocks_by_head_and_size (D.blocks dev.old) (D.geometry dev.old).block_size before.head before.size)
         (list_blocks_by_head_and_size (D.blocks dev.old) (D.geometry dev.old).block_size stored.head stored.size) n
-        → OnOk result (reads (D.history dev.new) ≤ reads (D.history dev.old) + 2 * count_of_unshared_blocks (list_blocks_by_head_and_size (D.blocks dev.old) (D.geometry dev.old).block_size before.head before.size)
+        → OnOk result (read_count_of_history (D.history dev.new) ≤ read_count_of_history (D.history dev.old) + 2 * count_of_unshared_blocks_in_both_lists (list_blocks_by_head_and_size (D.blocks dev.old) (D.geometry dev.old).block_size before.head before.size)
         (list_blocks_by_head_and_size (D.blocks dev.old) (D.geometry dev.old).block_size stored.head stored.size) n) }
 {
     let block_size = dev.geometry().block_size;
     let gone = blocks_for(block_size, before.size);
     let kept = blocks_for(block_size, stored.size);
     let shared = shared_block_count(dev, before.head, gone, stored.head, kept)?;
-    make_list_used_or_free(dev, map, before.head, gone, shared, false)?;
-    make_list_used_or_free(dev, map, stored.head, kept, shared, true)?;
+    make_list_blocks_from_index_used_or_free(dev, map, before.head, gone, shared, false)?;
+    make_list_blocks_from_index_used_or_free(dev, map, stored.head, kept, shared, true)?;
     Ok(())
 }

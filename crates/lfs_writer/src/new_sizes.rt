@@ -8,23 +8,23 @@ ghost use Rattle.lfs_model.specs.Writers.{bytes_padded_with_zeros};
 ghost use Rattle.lfs_ctz.specs.Calls.{ReportsIoOrNoMemory};
 ghost use Rattle.lfs_ctz.specs.Growing.{size_of_growing_list};
 ghost use Rattle.lfs_writer.specs.Calls.{CallKeepsUsedBlocks};
-ghost use Rattle.lfs_writer.specs.Contents.{CanTruncateContents, HasContentsInForm, IsInMemoryWithNoneInFlight, contents_bytes_in_blocks, form_of_contents, bytes_in_buffer, block_room_for_truncation};
+ghost use Rattle.lfs_writer.specs.Contents.{CanTruncateContents, HasContentsInStorageForm, IsInMemoryWithNoBlockInFlight, writer_contents_bytes_in_memory_or_blocks, storage_form_of_contents, bytes_in_buffer, block_room_for_truncation};
 ghost use Rattle.lfs_writer.specs.Form as form;
-ghost use Rattle.lfs_writer.specs.Form.{size_of_contents_form, truncated};
-ghost use Rattle.lfs_writer.specs.Hand.{IsFinishedListOnDisk, KeepsUsedBlocksInMap, bytes_of_stored_list};
-ghost use Rattle.lfs_writer.specs.BaseRoom.{blocks_in_flight_of_base};
-ghost use Rattle.lfs_writer.specs.HandWrites.{IsListInHandWrittenUpTo, IsListInHandWithBytes, HasBaseWithOldUsedBlocksForWrite, bytes_of_contents_in_hand, length_of_contents_in_hand};
-ghost use Rattle.lfs_writer.specs.BlockOwners.{AreUsedBlocksAmong, KeepsBlocksOfStoredList, blocks_of_contents};
+ghost use Rattle.lfs_writer.specs.Form.{contents_size_of_storage_form, storage_form_after_truncate};
+ghost use Rattle.lfs_writer.specs.Hand.{IsFinishedListConsistentWithMapAndDisk, KeepsUsedBlocksInMap, bytes_of_stored_list};
+ghost use Rattle.lfs_writer.specs.BaseRoom.{in_flight_block_limit_of_stored_list};
+ghost use Rattle.lfs_writer.specs.HandWrites.{IsWrittenUnfinishedListOfContentsEndingAt, IsUnfinishedListWithAtLeastOneByte, TakesUsedBlocksOfBaseFromOldBase, contents_bytes_of_unfinished_list, contents_length_of_unfinished_list};
+ghost use Rattle.lfs_writer.specs.BlockOwners.{AreUsedBlocksOfListAmongOwnBlocks, KeepsBlocksOfStoredList, blocks_of_contents};
 
 use crate::completion::release_all_blocks_in_flight;
 use crate::contents::WriterContents;
 use crate::list_cuts::shorten_stored_list;
-use crate::list_ends::end_list_in_hand;
-use crate::list_starts::begin_list_over_finished;
-use crate::memory::{list_in_hand_without_base, load_list_into_memory};
-use crate::other_places::restart_list_in_hand_at_place;
-use crate::stored_list::Stored;
-use crate::writes::Hand;
+use crate::list_ends::end_unfinished_list;
+use crate::list_starts::begin_list_over_finished_list;
+use crate::memory::{load_first_bytes_of_list_into_memory, unfinished_list_without_base_list};
+use crate::other_places::restart_unfinished_list_at_position;
+use crate::stored_list::StoredList;
+use crate::writes::PendingList;
 use crate::zeros::write_zeros;
 use lfs_alloc::BlockMap;
 use lfs_ctz::Extender;
@@ -32,25 +32,25 @@ use lfs_device::{BlockDevice, Error};
 use std::alloc::Global;
 
 // Fills contents that were in memory with zeros up to a size, in a list in hand over no base.
-fn fill_up_contents_in_memory<D: BlockDevice>(
+fn fill_up_memory_contents_into_unfinished_list<D: BlockDevice>(
     alloc: Global,
     dev: &mut D,
     map: &mut BlockMap,
     list: Extender,
     size: u32,
-) -> Result<Hand, Error>
-    requires quiet { IsInMemoryWithNoneInFlight map.old (D.blocks dev.old) (D.geometry dev.old) list }
+) -> Result<PendingList, Error>
+    requires quiet { IsInMemoryWithNoBlockInFlight map.old (D.blocks dev.old) (D.geometry dev.old) list }
     requires longer { length (bytes_in_buffer list) < size }
     requires small { size < 2 ^ 31 }
     requires room { used_count map.old + list_block_count_for_size (D.geometry dev.old).block_size size ≤ length map.old }
-    ensures filled { IfOk result (λ h. IsListInHandWrittenUpTo map.new (D.blocks dev.new) (D.geometry dev.old) h size (take size (bytes_padded_with_zeros size (bytes_in_buffer list)))) }
+    ensures filled { IfOk result (λ h. IsWrittenUnfinishedListOfContentsEndingAt map.new (D.blocks dev.new) (D.geometry dev.old) h size (take size (bytes_padded_with_zeros size (bytes_in_buffer list)))) }
     ensures base { IfOk result (λ h. (h.base.size ≡ 0) × (h.base.in_flight ≡ false)) }
     ensures map { KeepsUsedBlocksInMap map.old map.new }
     ensures device { CallKeepsUsedBlocks D.BlockDevice map.old dev.old dev.new }
     ensures reports { ReportsIoOrNoMemory D.BlockDevice dev.old dev.new result }
 {
     let gap = size - list.size();
-    let mut hand = list_in_hand_without_base(list);
+    let mut hand = unfinished_list_without_base_list(list);
     write_zeros(alloc, dev, map, &mut hand, gap)?;
     Ok(hand)
 }
@@ -64,25 +64,25 @@ fn truncate_in_memory<D: BlockDevice>(
     limit: u32,
     size: u32,
 ) -> Result<WriterContents, Error>
-    requires quiet { IsInMemoryWithNoneInFlight map.old (D.blocks dev.old) (D.geometry dev.old) list }
+    requires quiet { IsInMemoryWithNoBlockInFlight map.old (D.blocks dev.old) (D.geometry dev.old) list }
     requires few { length (bytes_in_buffer list) ≤ limit }
     requires short { limit < (D.geometry dev.old).block_size }
     requires small { size < 2 ^ 31 }
     requires room { limit < size → used_count map.old + list_block_count_for_size (D.geometry dev.old).block_size size ≤ length map.old }
-    ensures truncated { IfOk result (λ c. HasContentsInForm map.new (D.blocks dev.new) (D.geometry dev.old) c
-        (take size (bytes_padded_with_zeros size (bytes_in_buffer list))) (truncated limit size (form.InMemory (length (bytes_in_buffer list))))) }
-    ensures owned { IfOk result (λ c. AreUsedBlocksAmong map.new (blocks_of_contents (D.blocks dev.old) (D.geometry dev.old).block_size (WriterContents.InMemory list)) (blocks_of_contents (D.blocks dev.new) (D.geometry dev.old).block_size c)) }
+    ensures truncated { IfOk result (λ c. HasContentsInStorageForm map.new (D.blocks dev.new) (D.geometry dev.old) c
+        (take size (bytes_padded_with_zeros size (bytes_in_buffer list))) (storage_form_after_truncate limit size (form.InMemory (length (bytes_in_buffer list))))) }
+    ensures owned { IfOk result (λ c. AreUsedBlocksOfListAmongOwnBlocks map.new (blocks_of_contents (D.blocks dev.old) (D.geometry dev.old).block_size (WriterContents.InMemory list)) (blocks_of_contents (D.blocks dev.new) (D.geometry dev.old).block_size c)) }
     ensures map { KeepsUsedBlocksInMap map.old map.new }
     ensures device { CallKeepsUsedBlocks D.BlockDevice map.old dev.old dev.new }
     ensures reports { ReportsIoOrNoMemory D.BlockDevice dev.old dev.new result }
 {
     if size > limit {
-        let hand = fill_up_contents_in_memory(alloc, dev, map, list, size)?;
+        let hand = fill_up_memory_contents_into_unfinished_list(alloc, dev, map, list, size)?;
         return Ok(WriterContents::InHand(hand));
     }
     let mut list = list;
-    list.cut(list.size().min(size));
-    list.put(size, &[]);
+    list.truncate_buffered_content(list.size().min(size));
+    list.write_buffered_content_at(size, &[]);
     Ok(WriterContents::InMemory(list))
 }
 
@@ -92,19 +92,19 @@ fn shorten_list_into_memory<D: BlockDevice>(
     alloc: Global,
     dev: &mut D,
     map: &mut BlockMap,
-    stored: Stored,
+    stored: StoredList,
     size: u32,
 ) -> Result<Extender, Error>
-    requires stored { IsFinishedListOnDisk map.old (D.blocks dev.old) (D.geometry dev.old).block_size stored }
+    requires stored { IsFinishedListConsistentWithMapAndDisk map.old (D.blocks dev.old) (D.geometry dev.old).block_size stored }
     requires short { size < (D.geometry dev.old).block_size }
-    ensures quiet { IfOk result (IsInMemoryWithNoneInFlight map.new (D.blocks dev.new) (D.geometry dev.old)) }
+    ensures quiet { IfOk result (IsInMemoryWithNoBlockInFlight map.new (D.blocks dev.new) (D.geometry dev.old)) }
     ensures bytes { IfOk result (λ list. bytes_in_buffer list ≡ take size (bytes_padded_with_zeros size (bytes_of_stored_list (D.blocks dev.old) (D.geometry dev.old).block_size stored))) }
     ensures map { KeepsUsedBlocksInMap map.old map.new }
     ensures device { ReadsOnly D.BlockDevice dev.old dev.new }
     ensures reports { ReportsIoOrNoMemory D.BlockDevice dev.old dev.new result }
 {
-    let mut list = load_list_into_memory(alloc, dev, stored, stored.size.min(size))?;
-    list.put(size, &[]);
+    let mut list = load_first_bytes_of_list_into_memory(alloc, dev, stored, stored.size.min(size))?;
+    list.write_buffered_content_at(size, &[]);
     release_all_blocks_in_flight(map);
     Ok(list)
 }
@@ -114,21 +114,21 @@ fn fill_up_finished_list<D: BlockDevice>(
     alloc: Global,
     dev: &mut D,
     map: &mut BlockMap,
-    stored: Stored,
+    stored: StoredList,
     size: u32,
-) -> Result<Hand, Error>
-    requires stored { IsFinishedListOnDisk map.old (D.blocks dev.old) (D.geometry dev.old).block_size stored }
+) -> Result<PendingList, Error>
+    requires stored { IsFinishedListConsistentWithMapAndDisk map.old (D.blocks dev.old) (D.geometry dev.old).block_size stored }
     requires longer { stored.size < size }
     requires small { size < 2 ^ 31 }
-    requires room { used_count map.old + list_block_count_for_size (D.geometry dev.old).block_size size + blocks_in_flight_of_base (D.geometry dev.old).block_size stored ≤ length map.old }
-    ensures filled { IfOk result (λ h. IsListInHandWrittenUpTo map.new (D.blocks dev.new) (D.geometry dev.old) h size
+    requires room { used_count map.old + list_block_count_for_size (D.geometry dev.old).block_size size + in_flight_block_limit_of_stored_list (D.geometry dev.old).block_size stored ≤ length map.old }
+    ensures filled { IfOk result (λ h. IsWrittenUnfinishedListOfContentsEndingAt map.new (D.blocks dev.new) (D.geometry dev.old) h size
         (take size (bytes_padded_with_zeros size (bytes_of_stored_list (D.blocks dev.old) (D.geometry dev.old).block_size stored)))) }
     ensures base { IfOk result (λ h. KeepsBlocksOfStoredList (D.geometry dev.old).block_size (D.blocks dev.old) stored (D.blocks dev.new) h.base) }
     ensures map { KeepsUsedBlocksInMap map.old map.new }
     ensures device { CallKeepsUsedBlocks D.BlockDevice map.old dev.old dev.new }
     ensures reports { ReportsIoOrNoMemory D.BlockDevice dev.old dev.new result }
 {
-    let begun = begin_list_over_finished(alloc, dev, stored, stored.size)?;
+    let begun = begin_list_over_finished_list(alloc, dev, stored, stored.size)?;
     let mut hand = begun;
     write_zeros(alloc, dev, map, &mut hand, size - stored.size)?;
     Ok(hand)
@@ -139,17 +139,17 @@ fn truncate_finished_list<D: BlockDevice>(
     alloc: Global,
     dev: &mut D,
     map: &mut BlockMap,
-    stored: Stored,
+    stored: StoredList,
     limit: u32,
     size: u32,
 ) -> Result<WriterContents, Error>
-    requires stored { IsFinishedListOnDisk map.old (D.blocks dev.old) (D.geometry dev.old).block_size stored }
+    requires stored { IsFinishedListConsistentWithMapAndDisk map.old (D.blocks dev.old) (D.geometry dev.old).block_size stored }
     requires short { limit < (D.geometry dev.old).block_size }
     requires small { size < 2 ^ 31 }
-    requires room { limit < size → stored.size < size → used_count map.old + list_block_count_for_size (D.geometry dev.old).block_size size + blocks_in_flight_of_base (D.geometry dev.old).block_size stored ≤ length map.old }
-    ensures truncated { IfOk result (λ c. HasContentsInForm map.new (D.blocks dev.new) (D.geometry dev.old) c
-        (take size (bytes_padded_with_zeros size (bytes_of_stored_list (D.blocks dev.old) (D.geometry dev.old).block_size stored))) (truncated limit size (form.Finished stored.size stored.in_flight))) }
-    ensures owned { IfOk result (λ c. AreUsedBlocksAmong map.new (blocks_of_contents (D.blocks dev.old) (D.geometry dev.old).block_size (WriterContents.Finished stored)) (blocks_of_contents (D.blocks dev.new) (D.geometry dev.old).block_size c)) }
+    requires room { limit < size → stored.size < size → used_count map.old + list_block_count_for_size (D.geometry dev.old).block_size size + in_flight_block_limit_of_stored_list (D.geometry dev.old).block_size stored ≤ length map.old }
+    ensures truncated { IfOk result (λ c. HasContentsInStorageForm map.new (D.blocks dev.new) (D.geometry dev.old) c
+        (take size (bytes_padded_with_zeros size (bytes_of_stored_list (D.blocks dev.old) (D.geometry dev.old).block_size stored))) (storage_form_after_truncate limit size (form.Finished stored.size stored.in_flight))) }
+    ensures owned { IfOk result (λ c. AreUsedBlocksOfListAmongOwnBlocks map.new (blocks_of_contents (D.blocks dev.old) (D.geometry dev.old).block_size (WriterContents.Finished stored)) (blocks_of_contents (D.blocks dev.new) (D.geometry dev.old).block_size c)) }
     ensures map { KeepsUsedBlocksInMap map.old map.new }
     ensures device { CallKeepsUsedBlocks D.BlockDevice map.old dev.old dev.new }
     ensures reports { ReportsIoOrNoMemory D.BlockDevice dev.old dev.new result }
@@ -170,77 +170,77 @@ fn truncate_finished_list<D: BlockDevice>(
 }
 
 // Fills contents in hand with zeros up to a size.
-fn lengthen_list_in_hand<D: BlockDevice>(
+fn lengthen_unfinished_list<D: BlockDevice>(
     alloc: Global,
     dev: &mut D,
     map: &mut BlockMap,
-    hand: Hand,
+    hand: PendingList,
     size: u32,
-) -> Result<Hand, Error>
-    requires going { IsListInHandWithBytes map.old (D.blocks dev.old) (D.geometry dev.old) hand }
-    requires longer { length_of_contents_in_hand hand < size }
+) -> Result<PendingList, Error>
+    requires going { IsUnfinishedListWithAtLeastOneByte map.old (D.blocks dev.old) (D.geometry dev.old) hand }
+    requires longer { contents_length_of_unfinished_list hand < size }
     requires small { size < 2 ^ 31 }
-    requires on { size_of_growing_list hand.list ≡ length_of_contents_in_hand hand →
-        used_count map.old + list_block_count_for_size (D.geometry dev.old).block_size size + blocks_in_flight_of_base (D.geometry dev.old).block_size hand.base ≤ length map.old }
-    requires anew { size_of_growing_list hand.list ≢ length_of_contents_in_hand hand →
+    requires on { size_of_growing_list hand.list ≡ contents_length_of_unfinished_list hand →
+        used_count map.old + list_block_count_for_size (D.geometry dev.old).block_size size + in_flight_block_limit_of_stored_list (D.geometry dev.old).block_size hand.base ≤ length map.old }
+    requires anew { size_of_growing_list hand.list ≢ contents_length_of_unfinished_list hand →
         used_count map.old + 2 * list_block_count_for_size (D.geometry dev.old).block_size size ≤ length map.old }
-    ensures lengthened { IfOk result (λ h. IsListInHandWrittenUpTo map.new (D.blocks dev.new) (D.geometry dev.old) h size
-        (take size (bytes_padded_with_zeros size (bytes_of_contents_in_hand (D.blocks dev.old) hand)))) }
-    ensures over { IfOk result (HasBaseWithOldUsedBlocksForWrite map.new (D.geometry dev.old).block_size (D.blocks dev.old) hand (length_of_contents_in_hand hand) (D.blocks dev.new)) }
+    ensures lengthened { IfOk result (λ h. IsWrittenUnfinishedListOfContentsEndingAt map.new (D.blocks dev.new) (D.geometry dev.old) h size
+        (take size (bytes_padded_with_zeros size (contents_bytes_of_unfinished_list (D.blocks dev.old) hand)))) }
+    ensures over { IfOk result (TakesUsedBlocksOfBaseFromOldBase map.new (D.geometry dev.old).block_size (D.blocks dev.old) hand (contents_length_of_unfinished_list hand) (D.blocks dev.new)) }
     ensures map { KeepsUsedBlocksInMap map.old map.new }
     ensures device { CallKeepsUsedBlocks D.BlockDevice map.old dev.old dev.new }
     ensures reports { ReportsIoOrNoMemory D.BlockDevice dev.old dev.new result }
 {
     let length = hand.list.size().max(hand.base.size);
-    let turned = restart_list_in_hand_at_place(alloc, dev, map, hand, length)?;
+    let turned = restart_unfinished_list_at_position(alloc, dev, map, hand, length)?;
     let mut hand = turned;
     write_zeros(alloc, dev, map, &mut hand, size - length)?;
     Ok(hand)
 }
 
 // Ends the list in hand, and cuts it.
-fn shorten_list_in_hand<D: BlockDevice>(
+fn shorten_unfinished_list<D: BlockDevice>(
     alloc: Global,
     dev: &mut D,
     map: &mut BlockMap,
-    hand: Hand,
+    hand: PendingList,
     limit: u32,
     size: u32,
 ) -> Result<WriterContents, Error>
-    requires going { IsListInHandWithBytes map.old (D.blocks dev.old) (D.geometry dev.old) hand }
-    requires shorter { size < length_of_contents_in_hand hand }
+    requires going { IsUnfinishedListWithAtLeastOneByte map.old (D.blocks dev.old) (D.geometry dev.old) hand }
+    requires shorter { size < contents_length_of_unfinished_list hand }
     requires short { limit < (D.geometry dev.old).block_size }
     requires small { size < 2 ^ 31 }
-    requires room { used_count map.old + blocks_in_flight_of_base (D.geometry dev.old).block_size hand.base + list_block_count_for_size (D.geometry dev.old).block_size hand.base.size ≤ length map.old }
-    ensures truncated { IfOk result (λ c. HasContentsInForm map.new (D.blocks dev.new) (D.geometry dev.old) c
-        (take size (bytes_padded_with_zeros size (bytes_of_contents_in_hand (D.blocks dev.old) hand))) (truncated limit size (form.Finished (length_of_contents_in_hand hand) true))) }
-    ensures owned { IfOk result (λ c. AreUsedBlocksAmong map.new (blocks_of_contents (D.blocks dev.old) (D.geometry dev.old).block_size (WriterContents.InHand hand)) (blocks_of_contents (D.blocks dev.new) (D.geometry dev.old).block_size c)) }
+    requires room { used_count map.old + in_flight_block_limit_of_stored_list (D.geometry dev.old).block_size hand.base + list_block_count_for_size (D.geometry dev.old).block_size hand.base.size ≤ length map.old }
+    ensures truncated { IfOk result (λ c. HasContentsInStorageForm map.new (D.blocks dev.new) (D.geometry dev.old) c
+        (take size (bytes_padded_with_zeros size (contents_bytes_of_unfinished_list (D.blocks dev.old) hand))) (storage_form_after_truncate limit size (form.Finished (contents_length_of_unfinished_list hand) true))) }
+    ensures owned { IfOk result (λ c. AreUsedBlocksOfListAmongOwnBlocks map.new (blocks_of_contents (D.blocks dev.old) (D.geometry dev.old).block_size (WriterContents.InHand hand)) (blocks_of_contents (D.blocks dev.new) (D.geometry dev.old).block_size c)) }
     ensures map { KeepsUsedBlocksInMap map.old map.new }
     ensures device { CallKeepsUsedBlocks D.BlockDevice map.old dev.old dev.new }
     ensures reports { ReportsIoOrNoMemory D.BlockDevice dev.old dev.new result }
 {
-    let stored = end_list_in_hand(alloc, dev, map, hand)?;
+    let stored = end_unfinished_list(alloc, dev, map, hand)?;
     let cut = truncate_finished_list(alloc, dev, map, stored, limit, size)?;
     Ok(cut)
 }
 
 // Cuts contents in hand to a size, or fills them up to it.
-fn truncate_list_in_hand<D: BlockDevice>(
+fn truncate_unfinished_list<D: BlockDevice>(
     alloc: Global,
     dev: &mut D,
     map: &mut BlockMap,
-    hand: Hand,
+    hand: PendingList,
     limit: u32,
     size: u32,
 ) -> Result<WriterContents, Error>
-    requires going { IsListInHandWithBytes map.old (D.blocks dev.old) (D.geometry dev.old) hand }
-    requires large { limit < length_of_contents_in_hand hand }
+    requires going { IsUnfinishedListWithAtLeastOneByte map.old (D.blocks dev.old) (D.geometry dev.old) hand }
+    requires large { limit < contents_length_of_unfinished_list hand }
     requires short { limit < (D.geometry dev.old).block_size }
     requires small { size < 2 ^ 31 }
-    requires room { size ≢ length_of_contents_in_hand hand → used_count map.old + block_room_for_truncation (D.geometry dev.old).block_size size (form_of_contents (WriterContents.InHand hand)) ≤ length map.old }
-    ensures truncated { IfOk result (λ c. HasContentsInForm map.new (D.blocks dev.new) (D.geometry dev.old) c
-        (take size (bytes_padded_with_zeros size (bytes_of_contents_in_hand (D.blocks dev.old) hand))) (truncated limit size (form_of_contents (WriterContents.InHand hand)))) }
-    ensures owned { IfOk result (λ c. AreUsedBlocksAmong map.new (blocks_of_contents (D.blocks dev.old) (D.geometry dev.old).block_size (WriterContents.InHand hand)) (blocks_of_contents (D.blocks dev.new) (D.geometry dev.old).block_size c)) }
+    requires room { size ≢ contents_length_of_unfinished_list hand → used_count map.old + block_room_for_truncation (D.geometry dev.old).block_size size (storage_form_of_contents (WriterContents.InHand hand)) ≤ length map.old }
+    ensures truncated { IfOk result (λ c. HasContentsInStorageForm map.new (D.blocks dev.new) (D.geometry dev.old) c
+        (take size (bytes_padded_with_zeros size (contents_bytes_of_unfinished_list (D.blocks dev.old) hand))) (storage_form_after_truncate limit size (storage_form_of_contents (WriterContents.InHand hand)))) }
+    ensures owned { IfOk result (λ c. AreUsedBlocksOfListAmongOwnBlocks map.new (blocks_of_contents (D.blocks dev.old) (D.geometry dev.old).block_size (WriterContents.InHand hand)) (blocks_of_contents (D.blocks dev.new) (D.geometry dev.old).block_size c)) }
     ensures map { KeepsUsedBlocksInMap map.old map.new }
     ensures device { CallKeepsUsedBlocks D.BlockDevice map.old dev.old dev.new }
     ensures reports { ReportsIoOrNoMemory D.BlockDevice dev.old dev.new result }
@@ -250,10 +250,10 @@ fn truncate_list_in_hand<D: BlockDevice>(
         return Ok(WriterContents::InHand(hand));
     }
     if length < size {
-        let hand = lengthen_list_in_hand(alloc, dev, map, hand, size)?;
+        let hand = lengthen_unfinished_list(alloc, dev, map, hand, size)?;
         return Ok(WriterContents::InHand(hand));
     }
-    let cut = shorten_list_in_hand(alloc, dev, map, hand, limit, size)?;
+    let cut = shorten_unfinished_list(alloc, dev, map, hand, limit, size)?;
     Ok(cut)
 }
 
@@ -273,9 +273,9 @@ pub fn truncate_contents<D: BlockDevice>(
     size: u32,
 ) -> Result<WriterContents, Error>
     requires { CanTruncateContents map.old (D.blocks dev.old) (D.geometry dev.old) contents limit size }
-    ensures truncated { IfOk result (λ c. HasContentsInForm map.new (D.blocks dev.new) (D.geometry dev.old) c
-        (take size (bytes_padded_with_zeros size (contents_bytes_in_blocks (D.blocks dev.old) (D.geometry dev.old).block_size contents))) (truncated limit size (form_of_contents contents))) }
-    ensures owned { IfOk result (λ c. AreUsedBlocksAmong map.new (blocks_of_contents (D.blocks dev.old) (D.geometry dev.old).block_size contents) (blocks_of_contents (D.blocks dev.new) (D.geometry dev.old).block_size c)) }
+    ensures truncated { IfOk result (λ c. HasContentsInStorageForm map.new (D.blocks dev.new) (D.geometry dev.old) c
+        (take size (bytes_padded_with_zeros size (writer_contents_bytes_in_memory_or_blocks (D.blocks dev.old) (D.geometry dev.old).block_size contents))) (storage_form_after_truncate limit size (storage_form_of_contents contents))) }
+    ensures owned { IfOk result (λ c. AreUsedBlocksOfListAmongOwnBlocks map.new (blocks_of_contents (D.blocks dev.old) (D.geometry dev.old).block_size contents) (blocks_of_contents (D.blocks dev.new) (D.geometry dev.old).block_size c)) }
     ensures map { KeepsUsedBlocksInMap map.old map.new }
     ensures device { CallKeepsUsedBlocks D.BlockDevice map.old dev.old dev.new }
     ensures reports { ReportsIoOrNoMemory D.BlockDevice dev.old dev.new result }
@@ -285,6 +285,8 @@ pub fn truncate_contents<D: BlockDevice>(
         WriterContents::Finished(stored) => truncate_finished_list(
             alloc, dev, map, stored, limit, size,
         ),
-        WriterContents::InHand(hand) => truncate_list_in_hand(alloc, dev, map, hand, limit, size),
+        WriterContents::InHand(hand) => truncate_unfinished_list(
+            alloc, dev, map, hand, limit, size,
+        ),
     }
 }

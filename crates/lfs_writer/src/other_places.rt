@@ -8,12 +8,12 @@ ghost use Rattle.lfs_ctz.specs.Calls.{ReportsIoOrNoMemory};
 ghost use Rattle.lfs_ctz.specs.Growing.{size_of_growing_list};
 ghost use Rattle.lfs_writer.specs.Calls.{CallKeepsUsedBlocks};
 ghost use Rattle.lfs_writer.specs.Hand.{KeepsUsedBlocksInMap};
-ghost use Rattle.lfs_writer.specs.BaseRoom.{blocks_in_flight_of_base};
-ghost use Rattle.lfs_writer.specs.HandWrites.{IsListInHandWrittenUpTo, IsListInHandBegunUpTo, IsListInHandWithBytes, HasBaseWithOldUsedBlocksForWrite, bytes_of_contents_in_hand, length_of_contents_in_hand};
+ghost use Rattle.lfs_writer.specs.BaseRoom.{in_flight_block_limit_of_stored_list};
+ghost use Rattle.lfs_writer.specs.HandWrites.{IsWrittenUnfinishedListOfContentsEndingAt, IsUnfinishedListOfContentsEndingAt, IsUnfinishedListWithAtLeastOneByte, TakesUsedBlocksOfBaseFromOldBase, contents_bytes_of_unfinished_list, contents_length_of_unfinished_list};
 
-use crate::list_ends::end_list_in_hand;
-use crate::list_starts::begin_list_over_finished;
-use crate::writes::{Hand, write_from_place};
+use crate::list_ends::end_unfinished_list;
+use crate::list_starts::begin_list_over_finished_list;
+use crate::writes::{PendingList, fill_gap_and_write_bytes};
 use lfs_alloc::BlockMap;
 use lfs_device::{BlockDevice, Error};
 use std::alloc::Global;
@@ -25,19 +25,19 @@ use std::alloc::Global;
 /// remaining bytes of its base take.
 ///
 /// Errors: `NoMemory` where memory isn't granted. `Io` where the device failed.
-pub(crate) fn restart_list_in_hand_at_place<D: BlockDevice>(
+pub(crate) fn restart_unfinished_list_at_position<D: BlockDevice>(
     alloc: Global,
     dev: &mut D,
     map: &mut BlockMap,
-    hand: Hand,
+    hand: PendingList,
     place: u32,
-) -> Result<Hand, Error>
-    requires going { IsListInHandWithBytes map.old (D.blocks dev.old) (D.geometry dev.old) hand }
-    requires within { place ≤ length_of_contents_in_hand hand }
+) -> Result<PendingList, Error>
+    requires going { IsUnfinishedListWithAtLeastOneByte map.old (D.blocks dev.old) (D.geometry dev.old) hand }
+    requires within { place ≤ contents_length_of_unfinished_list hand }
     requires room { size_of_growing_list hand.list ≢ place →
-        used_count map.old + blocks_in_flight_of_base (D.geometry dev.old).block_size hand.base + list_block_count_for_size (D.geometry dev.old).block_size hand.base.size ≤ length map.old }
-    ensures turned { IfOk result (λ h. IsListInHandBegunUpTo map.new (D.blocks dev.new) (D.geometry dev.old) h place (bytes_of_contents_in_hand (D.blocks dev.old) hand)) }
-    ensures over { IfOk result (HasBaseWithOldUsedBlocksForWrite map.new (D.geometry dev.old).block_size (D.blocks dev.old) hand place (D.blocks dev.new)) }
+        used_count map.old + in_flight_block_limit_of_stored_list (D.geometry dev.old).block_size hand.base + list_block_count_for_size (D.geometry dev.old).block_size hand.base.size ≤ length map.old }
+    ensures turned { IfOk result (λ h. IsUnfinishedListOfContentsEndingAt map.new (D.blocks dev.new) (D.geometry dev.old) h place (contents_bytes_of_unfinished_list (D.blocks dev.old) hand)) }
+    ensures over { IfOk result (TakesUsedBlocksOfBaseFromOldBase map.new (D.geometry dev.old).block_size (D.blocks dev.old) hand place (D.blocks dev.new)) }
     ensures map { KeepsUsedBlocksInMap map.old map.new }
     ensures device { CallKeepsUsedBlocks D.BlockDevice map.old dev.old dev.new }
     ensures reports { ReportsIoOrNoMemory D.BlockDevice dev.old dev.new result }
@@ -45,8 +45,8 @@ pub(crate) fn restart_list_in_hand_at_place<D: BlockDevice>(
     if hand.list.size() == place {
         return Ok(hand);
     }
-    let base = end_list_in_hand(alloc, dev, map, hand)?;
-    let hand = begin_list_over_finished(alloc, dev, base, place)?;
+    let base = end_unfinished_list(alloc, dev, map, hand)?;
+    let hand = begin_list_over_finished_list(alloc, dev, base, place)?;
     Ok(hand)
 }
 
@@ -57,31 +57,31 @@ pub(crate) fn restart_list_in_hand_at_place<D: BlockDevice>(
 /// the write doesn't continue it.
 ///
 /// Errors: `NoMemory` where memory isn't granted. `Io` where the device failed.
-pub(crate) fn write_nonsequentially<D: BlockDevice>(
+pub(crate) fn write_to_unfinished_list_at_position<D: BlockDevice>(
     alloc: Global,
     dev: &mut D,
     map: &mut BlockMap,
-    hand: Hand,
+    hand: PendingList,
     place: u32,
     bytes: &[u8],
-) -> Result<Hand, Error>
-    requires going { IsListInHandWithBytes map.old (D.blocks dev.old) (D.geometry dev.old) hand }
+) -> Result<PendingList, Error>
+    requires going { IsUnfinishedListWithAtLeastOneByte map.old (D.blocks dev.old) (D.geometry dev.old) hand }
     requires some { 1 ≤ length bytes.now }
     requires small { place + length bytes.now < 2 ^ 31 }
-    requires on { size_of_growing_list hand.list ≡ min place (length_of_contents_in_hand hand) →
-        used_count map.old + list_block_count_for_size (D.geometry dev.old).block_size (place + length bytes.now) + blocks_in_flight_of_base (D.geometry dev.old).block_size hand.base ≤ length map.old }
-    requires anew { size_of_growing_list hand.list ≢ min place (length_of_contents_in_hand hand) →
-        used_count map.old + 2 * list_block_count_for_size (D.geometry dev.old).block_size (max (length_of_contents_in_hand hand) (place + length bytes.now)) ≤ length map.old }
-    ensures written { IfOk result (λ h. IsListInHandWrittenUpTo map.new (D.blocks dev.new) (D.geometry dev.old) h (place + length bytes.now)
-        (contents_after_write (bytes_of_contents_in_hand (D.blocks dev.old) hand) place bytes.now)) }
-    ensures over { IfOk result (HasBaseWithOldUsedBlocksForWrite map.new (D.geometry dev.old).block_size (D.blocks dev.old) hand (min place (length_of_contents_in_hand hand)) (D.blocks dev.new)) }
+    requires on { size_of_growing_list hand.list ≡ min place (contents_length_of_unfinished_list hand) →
+        used_count map.old + list_block_count_for_size (D.geometry dev.old).block_size (place + length bytes.now) + in_flight_block_limit_of_stored_list (D.geometry dev.old).block_size hand.base ≤ length map.old }
+    requires anew { size_of_growing_list hand.list ≢ min place (contents_length_of_unfinished_list hand) →
+        used_count map.old + 2 * list_block_count_for_size (D.geometry dev.old).block_size (max (contents_length_of_unfinished_list hand) (place + length bytes.now)) ≤ length map.old }
+    ensures written { IfOk result (λ h. IsWrittenUnfinishedListOfContentsEndingAt map.new (D.blocks dev.new) (D.geometry dev.old) h (place + length bytes.now)
+        (contents_after_write (contents_bytes_of_unfinished_list (D.blocks dev.old) hand) place bytes.now)) }
+    ensures over { IfOk result (TakesUsedBlocksOfBaseFromOldBase map.new (D.geometry dev.old).block_size (D.blocks dev.old) hand (min place (contents_length_of_unfinished_list hand)) (D.blocks dev.new)) }
     ensures map { KeepsUsedBlocksInMap map.old map.new }
     ensures device { CallKeepsUsedBlocks D.BlockDevice map.old dev.old dev.new }
     ensures reports { ReportsIoOrNoMemory D.BlockDevice dev.old dev.new result }
 {
     let length = hand.list.size().max(hand.base.size);
-    let turned = restart_list_in_hand_at_place(alloc, dev, map, hand, place.min(length))?;
+    let turned = restart_unfinished_list_at_position(alloc, dev, map, hand, place.min(length))?;
     let mut hand = turned;
-    write_from_place(alloc, dev, map, &mut hand, place, bytes)?;
+    fill_gap_and_write_bytes(alloc, dev, map, &mut hand, place, bytes)?;
     Ok(hand)
 }

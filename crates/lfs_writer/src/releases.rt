@@ -8,7 +8,7 @@ ghost use Rattle.lfs_writer.specs.Hand.{KeepsUsedBlocksInMap};
 ghost use Rattle.lfs_writer.specs.Releases.{ReleasesBlocksInFlight};
 
 use lfs_alloc::BlockMap;
-use lfs_ctz::head_before;
+use lfs_ctz::head_of_list_before_block;
 use lfs_device::{BlockDevice, Error};
 
 // Releases a block in flight. A used block stays used.
@@ -46,7 +46,7 @@ pub(crate) fn release_list_blocks_from<D: BlockDevice>(
     'releasing: while index > from {
         release_block_in_flight(map, block);
         index -= 1;
-        block = head_before(dev, block, index)?;
+        block = head_of_list_before_block(dev, block, index)?;
     }
     Ok(())
 }

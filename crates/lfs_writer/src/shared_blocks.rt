@@ -2,16 +2,16 @@
 
 ghost use Rattle.std.specs.Prelude.{◌≡◌, ◌≤◌, ◌<◌, ◌+◌, ◌-◌, slice_index, IfOk, OnOk};
 ghost use Rattle.lfs_device.specs.Calls.{ReadsOnly};
-ghost use Rattle.lfs_model.specs.History.{reads};
+ghost use Rattle.lfs_model.specs.History.{read_count_of_history};
 ghost use Rattle.lfs_model.specs.SkipLists.{AreListBlocks, list_blocks_from_head};
 ghost use Rattle.lfs_ctz.specs.Calls.{ReportsNoErrorButIo};
-ghost use Rattle.lfs_writer.specs.SharedBlocks.{IsCountOfSharedFrontBlocks, count_of_unshared_blocks};
+ghost use Rattle.lfs_writer.specs.SharedBlocks.{IsCountOfSharedFrontBlocks, count_of_unshared_blocks_in_both_lists};
 
-use lfs_ctz::head_before;
+use lfs_ctz::head_of_list_before_block;
 use lfs_device::{BlockDevice, Error};
 
 // Returns the last one of the first `index` blocks of a list.
-fn last_of_first_blocks<D: BlockDevice>(
+fn list_block_before_index<D: BlockDevice>(
     dev: &mut D,
     head: u32,
     count: u32,
@@ -22,13 +22,13 @@ fn last_of_first_blocks<D: BlockDevice>(
     ensures block { IfOk result (λ b. 0 < index → b ≡ slice_index (list_blocks_from_head (D.blocks dev.old) count head) (index - 1)) }
     ensures device { ReadsOnly D.BlockDevice dev.old dev.new }
     ensures reports { ReportsNoErrorButIo D.BlockDevice dev.old dev.new result }
-    ensures few { OnOk result (reads (D.history dev.new) ≤ reads (D.history dev.old) + (count - index)) }
+    ensures few { OnOk result (read_count_of_history (D.history dev.new) ≤ read_count_of_history (D.history dev.old) + (count - index)) }
 {
     let mut block = head;
     let mut at = count;
     'going: while at > index {
         at -= 1;
-        block = head_before(dev, block, at)?;
+        block = head_of_list_before_block(dev, block, at)?;
     }
     Ok(block)
 }
@@ -51,19 +51,19 @@ pub(crate) fn shared_block_count<D: BlockDevice>(
     ensures shared { IfOk result (IsCountOfSharedFrontBlocks (list_blocks_from_head (D.blocks dev.old) count head) (list_blocks_from_head (D.blocks dev.old) other_count other)) }
     ensures device { ReadsOnly D.BlockDevice dev.old dev.new }
     ensures reports { ReportsNoErrorButIo D.BlockDevice dev.old dev.new result }
-    ensures few { IfOk result (λ n. reads (D.history dev.new) ≤ reads (D.history dev.old)
-        + count_of_unshared_blocks (list_blocks_from_head (D.blocks dev.old) count head) (list_blocks_from_head (D.blocks dev.old) other_count other) n) }
+    ensures few { IfOk result (λ n. read_count_of_history (D.history dev.new) ≤ read_count_of_history (D.history dev.old)
+        + count_of_unshared_blocks_in_both_lists (list_blocks_from_head (D.blocks dev.old) count head) (list_blocks_from_head (D.blocks dev.old) other_count other) n) }
 {
     let mut index = count.min(other_count);
-    let mut block = last_of_first_blocks(dev, head, count, index)?;
-    let mut twin = last_of_first_blocks(dev, other, other_count, index)?;
+    let mut block = list_block_before_index(dev, head, count, index)?;
+    let mut twin = list_block_before_index(dev, other, other_count, index)?;
     'sharing: while index > 0 {
         if block == twin {
             return Ok(index);
         }
         index -= 1;
-        block = head_before(dev, block, index)?;
-        twin = head_before(dev, twin, index)?;
+        block = head_of_list_before_block(dev, block, index)?;
+        twin = head_of_list_before_block(dev, twin, index)?;
     }
     Ok(0)
 }

@@ -4,7 +4,7 @@
 ///
 /// A list of no bytes has no block.
 #[derive(Clone, Copy, Debug, PartialEq, Eq)]
-pub struct Stored {
+pub struct StoredList {
     pub head: u32,
     pub size: u32,
     pub in_flight: bool,

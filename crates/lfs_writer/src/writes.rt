@@ -8,12 +8,12 @@ ghost use Rattle.lfs_ctz.specs.Calls.{ReportsIoOrNoMemory};
 ghost use Rattle.lfs_ctz.specs.Growing.{size_of_growing_list};
 ghost use Rattle.lfs_writer.specs.Calls.{CallKeepsUsedBlocks};
 ghost use Rattle.lfs_writer.specs.Hand.{KeepsUsedBlocksInMap};
-ghost use Rattle.lfs_writer.specs.BaseRoom.{blocks_in_flight_of_base};
-ghost use Rattle.lfs_writer.specs.HandWrites.{IsListInHandBegun, IsListInHandWrittenUpTo, bytes_of_contents_in_hand, length_of_contents_in_hand};
+ghost use Rattle.lfs_writer.specs.BaseRoom.{in_flight_block_limit_of_stored_list};
+ghost use Rattle.lfs_writer.specs.HandWrites.{IsUnfinishedListConsistentWithMapAndDisk, IsWrittenUnfinishedListOfContentsEndingAt, contents_bytes_of_unfinished_list, contents_length_of_unfinished_list};
 ghost use Rattle.lfs_writer.specs.BlockOwners.{KeepsBlocksOfStoredList};
 
 use crate::extensions::extend_list_in_free_blocks;
-use crate::stored_list::Stored;
+use crate::stored_list::StoredList;
 use crate::zeros::write_zeros;
 use lfs_alloc::BlockMap;
 use lfs_ctz::Extender;
@@ -24,9 +24,9 @@ use std::alloc::Global;
 ///
 /// Both share their first `shared` blocks. A base of no bytes is none.
 #[derive(Drop)]
-pub struct Hand {
+pub struct PendingList {
     pub list: Extender,
-    pub base: Stored,
+    pub base: StoredList,
     pub shared: u32,
 }
 
@@ -36,20 +36,20 @@ pub struct Hand {
 ///
 /// Errors: `Io` where the device failed. `NoMemory` where memory isn't granted. After either the
 /// list in hand can only be dropped.
-pub(crate) fn write_on_at_list_end<D: BlockDevice>(
+pub(crate) fn append_bytes_to_unfinished_list<D: BlockDevice>(
     alloc: Global,
     dev: &mut D,
     map: &mut BlockMap,
-    hand: &mut Hand,
+    hand: &mut PendingList,
     bytes: &[u8],
 ) -> Result<(), Error>
-    requires begun { IsListInHandBegun map.old (D.blocks dev.old) (D.geometry dev.old) hand.old }
+    requires begun { IsUnfinishedListConsistentWithMapAndDisk map.old (D.blocks dev.old) (D.geometry dev.old) hand.old }
     requires some { 1 ≤ length bytes.now }
     requires small { size_of_growing_list hand.old.list + length bytes.now < 2 ^ 31 }
     requires room { used_count map.old + list_block_count_for_size (D.geometry dev.old).block_size (size_of_growing_list hand.old.list + length bytes.now)
-        + blocks_in_flight_of_base (D.geometry dev.old).block_size hand.old.base ≤ length map.old }
-    ensures written { OnOk result (IsListInHandWrittenUpTo map.new (D.blocks dev.new) (D.geometry dev.old) hand.new (size_of_growing_list hand.old.list + length bytes.now)
-        (contents_after_write (bytes_of_contents_in_hand (D.blocks dev.old) hand.old) (size_of_growing_list hand.old.list) bytes.now)) }
+        + in_flight_block_limit_of_stored_list (D.geometry dev.old).block_size hand.old.base ≤ length map.old }
+    ensures written { OnOk result (IsWrittenUnfinishedListOfContentsEndingAt map.new (D.blocks dev.new) (D.geometry dev.old) hand.new (size_of_growing_list hand.old.list + length bytes.now)
+        (contents_after_write (contents_bytes_of_unfinished_list (D.blocks dev.old) hand.old) (size_of_growing_list hand.old.list) bytes.now)) }
     ensures base { KeepsBlocksOfStoredList (D.geometry dev.old).block_size (D.blocks dev.old) hand.old.base (D.blocks dev.new) hand.new.base }
     ensures map { KeepsUsedBlocksInMap map.old map.new }
     ensures device { CallKeepsUsedBlocks D.BlockDevice map.old dev.old dev.new }
@@ -66,21 +66,21 @@ pub(crate) fn write_on_at_list_end<D: BlockDevice>(
 ///
 /// Errors: `Io` where the device failed. `NoMemory` where memory isn't granted. After either the
 /// list in hand can only be dropped.
-pub(crate) fn write_from_place<D: BlockDevice>(
+pub(crate) fn fill_gap_and_write_bytes<D: BlockDevice>(
     alloc: Global,
     dev: &mut D,
     map: &mut BlockMap,
-    hand: &mut Hand,
+    hand: &mut PendingList,
     place: u32,
     bytes: &[u8],
 ) -> Result<(), Error>
-    requires begun { IsListInHandBegun map.old (D.blocks dev.old) (D.geometry dev.old) hand.old }
-    requires at { size_of_growing_list hand.old.list ≡ min place (length_of_contents_in_hand hand.old) }
+    requires begun { IsUnfinishedListConsistentWithMapAndDisk map.old (D.blocks dev.old) (D.geometry dev.old) hand.old }
+    requires at { size_of_growing_list hand.old.list ≡ min place (contents_length_of_unfinished_list hand.old) }
     requires some { 1 ≤ length bytes.now }
     requires small { place + length bytes.now < 2 ^ 31 }
-    requires room { used_count map.old + list_block_count_for_size (D.geometry dev.old).block_size (place + length bytes.now) + blocks_in_flight_of_base (D.geometry dev.old).block_size hand.old.base ≤ length map.old }
-    ensures written { OnOk result (IsListInHandWrittenUpTo map.new (D.blocks dev.new) (D.geometry dev.old) hand.new (place + length bytes.now)
-        (contents_after_write (bytes_of_contents_in_hand (D.blocks dev.old) hand.old) place bytes.now)) }
+    requires room { used_count map.old + list_block_count_for_size (D.geometry dev.old).block_size (place + length bytes.now) + in_flight_block_limit_of_stored_list (D.geometry dev.old).block_size hand.old.base ≤ length map.old }
+    ensures written { OnOk result (IsWrittenUnfinishedListOfContentsEndingAt map.new (D.blocks dev.new) (D.geometry dev.old) hand.new (place + length bytes.now)
+        (contents_after_write (contents_bytes_of_unfinished_list (D.blocks dev.old) hand.old) place bytes.now)) }
     ensures base { KeepsBlocksOfStoredList (D.geometry dev.old).block_size (D.blocks dev.old) hand.old.base (D.blocks dev.new) hand.new.base }
     ensures map { KeepsUsedBlocksInMap map.old map.new }
     ensures device { CallKeepsUsedBlocks D.BlockDevice map.old dev.old dev.new }
@@ -88,6 +88,6 @@ pub(crate) fn write_from_place<D: BlockDevice>(
 {
     let gap = place - hand.list.size();
     write_zeros(alloc, dev, map, hand, gap)?;
-    write_on_at_list_end(alloc, dev, map, hand, bytes)?;
+    append_bytes_to_unfinished_list(alloc, dev, map, hand, bytes)?;
     Ok(())
 }

@@ -8,11 +8,11 @@ ghost use Rattle.lfs_ctz.specs.Calls.{ReportsIoOrNoMemory};
 ghost use Rattle.lfs_ctz.specs.Growing.{size_of_growing_list};
 ghost use Rattle.lfs_writer.specs.Calls.{CallKeepsUsedBlocks};
 ghost use Rattle.lfs_writer.specs.Hand.{KeepsUsedBlocksInMap};
-ghost use Rattle.lfs_writer.specs.BaseRoom.{blocks_in_flight_of_base};
-ghost use Rattle.lfs_writer.specs.HandWrites.{IsListInHandBegun, HasZerosWrittenAtListEnd, bytes_of_contents_in_hand};
+ghost use Rattle.lfs_writer.specs.BaseRoom.{in_flight_block_limit_of_stored_list};
+ghost use Rattle.lfs_writer.specs.HandWrites.{IsUnfinishedListConsistentWithMapAndDisk, HasZerosWrittenAtListEnd, contents_bytes_of_unfinished_list};
 ghost use Rattle.lfs_writer.specs.BlockOwners.{KeepsBlocksOfStoredList};
 
-use crate::writes::{Hand, write_on_at_list_end};
+use crate::writes::{PendingList, append_bytes_to_unfinished_list};
 use lfs_alloc::BlockMap;
 use lfs_device::{BlockDevice, Error};
 use std::alloc::Global;
@@ -27,15 +27,15 @@ pub(crate) fn write_zeros<D: BlockDevice>(
     alloc: Global,
     dev: &mut D,
     map: &mut BlockMap,
-    hand: &mut Hand,
+    hand: &mut PendingList,
     count: u32,
 ) -> Result<(), Error>
-    requires begun { IsListInHandBegun map.old (D.blocks dev.old) (D.geometry dev.old) hand.old }
+    requires begun { IsUnfinishedListConsistentWithMapAndDisk map.old (D.blocks dev.old) (D.geometry dev.old) hand.old }
     requires small { size_of_growing_list hand.old.list + count < 2 ^ 31 }
     requires room { used_count map.old + list_block_count_for_size (D.geometry dev.old).block_size (size_of_growing_list hand.old.list + count)
-        + blocks_in_flight_of_base (D.geometry dev.old).block_size hand.old.base ≤ length map.old }
+        + in_flight_block_limit_of_stored_list (D.geometry dev.old).block_size hand.old.base ≤ length map.old }
     ensures zeroed { OnOk result (HasZerosWrittenAtListEnd map.new (D.blocks dev.new) (D.geometry dev.old) hand.new count (size_of_growing_list hand.old.list + count)
-        (contents_after_write (bytes_of_contents_in_hand (D.blocks dev.old) hand.old) (size_of_growing_list hand.old.list) (replicate count 0))) }
+        (contents_after_write (contents_bytes_of_unfinished_list (D.blocks dev.old) hand.old) (size_of_growing_list hand.old.list) (replicate count 0))) }
     ensures base { KeepsBlocksOfStoredList (D.geometry dev.old).block_size (D.blocks dev.old) hand.old.base (D.blocks dev.new) hand.new.base }
     ensures map { KeepsUsedBlocksInMap map.old map.new }
     ensures device { CallKeepsUsedBlocks D.BlockDevice map.old dev.old dev.new }
@@ -45,7 +45,7 @@ pub(crate) fn write_zeros<D: BlockDevice>(
     'zeroing: while done < count {
         let zeros = [0; 512];
         let part = (count - done).min(512);
-        write_on_at_list_end(alloc, dev, map, hand, &zeros[..part as usize])?;
+        append_bytes_to_unfinished_list(alloc, dev, map, hand, &zeros[..part as usize])?;
         done += part;
     }
     Ok(())

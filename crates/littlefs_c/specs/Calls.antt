@@ -6,12 +6,12 @@ use Rattle.lfs_model.specs.Operations.{Operation, Reply}
 use Rattle.lfs_model.specs.Run.{AreSessionSteps, IsSessionStep, SystemState}
 use Rattle.lfs_model.specs.Run as run
 use Rattle.lfs_model.specs.Shown.{tree_on_disk}
-use Rattle.lfs_model.specs.State.{Healthy, mounted}
+use Rattle.lfs_model.specs.State.{Healthy, session_after_mount}
 use Rattle.lfs_model.specs.Thread.{Pair}
 use Rattle.lfs_model.specs.View.{IsAcceptedImage}
 use Rattle.lfs_model.specs.declared.order.NameOrder.{NameOrder}
 use Rattle.lfs_model.specs.declared.order.NameOrder.TheVariants.{LongerFirst, ShorterFirst}
-use Rattle.lfs_device.specs.RamDevice.{ram_bytes, geometry_of, history_of}
+use Rattle.lfs_device.specs.RamDevice.{ram_bytes, geometry_of_ram_device, history_of_ram_device}
 use Rattle.lfs_device.specs.declared.error.Error.{Error}
 use Rattle.lfs_device.specs.declared.error.Error.TheVariants.{Corrupt, Invalid, NoMemory}
 use Rattle.lfs_device.specs.declared.ram.RamDevice.{RamDevice}
@@ -22,10 +22,10 @@ use Rattle.lfs_lookup.specs.Refusals.{is_refusal, refusal_of_error}
 -- A device that has the image, and has had no call.
 pub record IsUncalledDeviceWithImage (block_size page : ℕ) (image : List ℕ) (d : RamDevice) : Type 0 where
   pub whole : IsImageOfWholeBlocks block_size page image
-  pub size : (geometry_of d).block_size ≡ block_size
-  pub its_page : (geometry_of d).page ≡ page
+  pub size : (geometry_of_ram_device d).block_size ≡ block_size
+  pub its_page : (geometry_of_ram_device d).page ≡ page
   pub bytes : ram_bytes d ≡ image
-  pub no_call : history_of d ≡ []
+  pub no_call : history_of_ram_device d ≡ []
 
 -- A session as a mount of the image begins it. The image is accepted, in the order with the longer names first where both orders
 -- fit.
@@ -35,7 +35,7 @@ pub record IsSessionMountedOnImage (block_size page : ℕ) (image : List ℕ) (f
   pub longer : from.disk.order ≡ ShorterFirst → (ps : List Pair) → ¬ IsAcceptedImage (disk_of_image block_size page LongerFirst image) ps
   pub pairs : List Pair
   pub accepted : IsAcceptedImage from.disk pairs
-  pub mounts : from.state ≡ Healthy (mounted (tree_on_disk from.disk pairs))
+  pub mounts : from.state ≡ Healthy (session_after_mount (tree_on_disk from.disk pairs))
 
 -- the image is accepted, and a session begins with it
 abbrev pub BeginsSessionOnImage : ℕ → ℕ → List ℕ → Type 0
@@ -43,16 +43,16 @@ BeginsSessionOnImage block_size page image = (from : SystemState) × IsSessionMo
 
 -- What keeps a call from running an operation: the bytes are no image of that geometry, the image isn't accepted, or memory
 -- wasn't granted.
-abbrev pub PreventsSessionOnImage : ℕ → ℕ → List ℕ → Error → Type 0
-PreventsSessionOnImage block_size page image Invalid = ¬ IsImageOfWholeBlocks block_size page image
-PreventsSessionOnImage block_size page image Corrupt = (order : NameOrder) (ps : List Pair) → ¬ IsAcceptedImage (disk_of_image block_size page order image) ps
-PreventsSessionOnImage block_size page image NoMemory = Unit {0}
-PreventsSessionOnImage block_size page image other = ⊥
+abbrev pub IsErrorPreventingSessionOnImage : ℕ → ℕ → List ℕ → Error → Type 0
+IsErrorPreventingSessionOnImage block_size page image Invalid = ¬ IsImageOfWholeBlocks block_size page image
+IsErrorPreventingSessionOnImage block_size page image Corrupt = (order : NameOrder) (ps : List Pair) → ¬ IsAcceptedImage (disk_of_image block_size page order image) ps
+IsErrorPreventingSessionOnImage block_size page image NoMemory = Unit {0}
+IsErrorPreventingSessionOnImage block_size page image other = ⊥
 
 -- the image is accepted, or the error has its cause
-abbrev pub ChecksImage : {X : Type 0} → ℕ → ℕ → List ℕ → Result X Error → Type 0
-ChecksImage block_size page image (Ok x) = BeginsSessionOnImage block_size page image
-ChecksImage block_size page image (Err e) = PreventsSessionOnImage block_size page image e
+abbrev pub AcceptsImageOrReportsCause : {X : Type 0} → ℕ → ℕ → List ℕ → Result X Error → Type 0
+AcceptsImageOrReportsCause block_size page image (Ok x) = BeginsSessionOnImage block_size page image
+AcceptsImageOrReportsCause block_size page image (Err e) = IsErrorPreventingSessionOnImage block_size page image e
 
 -- ---- operations
 
@@ -63,8 +63,8 @@ pub record RunsOperationsWithReplies (block_size page : ℕ) (image : List ℕ) 
   pub session_steps : AreSessionSteps from operations replies to
   pub accepted : All (λ r. run.is_refusal r ≡ false) replies
 
-abbrev pub RunsOperations : ℕ → ℕ → List ℕ → List Operation → SystemState → Type 0
-RunsOperations block_size page image operations to = (replies : List Reply) × RunsOperationsWithReplies block_size page image operations replies to
+abbrev pub RunsOperationsOnImage : ℕ → ℕ → List ℕ → List Operation → SystemState → Type 0
+RunsOperationsOnImage block_size page image operations to = (replies : List Reply) × RunsOperationsWithReplies block_size page image operations replies to
 
 -- One of the operations is refused by that error, after others that were accepted.
 pub record RefusesOperationAfterOthers (block_size page : ℕ) (image : List ℕ) (operations : List Operation) (e : Error) : Type 0 where
@@ -80,7 +80,7 @@ pub record RefusesOperationAfterOthers (block_size page : ℕ) (image : List ℕ
   pub refusal : is_refusal e ≡ true
 
 abbrev pub RefusesImageOrOperation : ℕ → ℕ → List ℕ → List Operation → Error → Type 0
-RefusesImageOrOperation block_size page image operations e = PreventsSessionOnImage block_size page image e ⊎ RefusesOperationAfterOthers block_size page image operations e
+RefusesImageOrOperation block_size page image operations e = IsErrorPreventingSessionOnImage block_size page image e ⊎ RefusesOperationAfterOthers block_size page image operations e
 
 -- ---- results
 
@@ -93,7 +93,7 @@ GivesLastReplyOrRefuses block_size page image operations reply (Err e) = Refuses
 -- The new image is the disk that the operations leave.
 pub record LeavesImageAfterOperations (block_size page : ℕ) (old : List ℕ) (operations : List Operation) (new : List ℕ) : Type 0 where
   pub to : SystemState
-  pub runs : RunsOperations block_size page old operations to
+  pub runs : RunsOperationsOnImage block_size page old operations to
   pub len : length new ≡ length old
   pub disk : to.disk ≡ disk_of_image block_size page to.disk.order new
 

@@ -3,16 +3,18 @@
 ghost use Rattle.std.specs.Prelude.{◌≡◌, ◌∷◌, ◌<◌, ◌^◌, ◌-◌, [], min, length, IfOk};
 ghost use Rattle.lfs_model.specs.Operations as ops;
 ghost use Rattle.lfs_fs.specs.FlagsView.{flags_view};
-ghost use Rattle.littlefs_c.specs.Buffers.{FillsBufferOrRefuses, buffer_with_bytes};
+ghost use Rattle.littlefs_c.specs.Buffers.{FillsBufferIfReplyFitsOrRefusesOperations, buffer_with_bytes_if_they_fit};
 ghost use Rattle.littlefs_c.specs.Codes.{name_order_of_number};
-ghost use Rattle.littlefs_c.specs.Calls.{ChangesImageOrRefuses, ChecksImage};
-ghost use Rattle.littlefs_c.specs.Files.{operations_to_read_file, replacing_flags, operations_to_write_file};
+ghost use Rattle.littlefs_c.specs.Calls.{ChangesImageOrRefuses, AcceptsImageOrReportsCause};
+ghost use Rattle.littlefs_c.specs.Files.{operations_to_open_seek_and_read_file, open_flags_of_replaced_file, operations_to_write_file};
 ghost use Rattle.littlefs_c.specs.Starts.{FormatsImageOrRefuses};
 
-use crate::image::{begin, device};
-use crate::lines::lines_of;
-use crate::operation_runs::change_image;
-use crate::reads::{attribute_at, bytes_at, items_at};
+use crate::image::{device, mount_copy_of_image};
+use crate::lines::lines_of_items;
+use crate::operation_runs::apply_operations_to_image;
+use crate::reads::{
+    attribute_bytes_at_path_in_image, directory_items_of_image, read_part_of_file_in_image,
+};
 use bitflags::Flags;
 use lfs_device::{Error, NameOrder};
 use lfs_fs::{Op, OpenFlags, format_ordered};
@@ -20,7 +22,7 @@ use std::alloc::Global;
 
 // Returns the order of names that a number stands for: 0 for the longer names first, 1 for the
 // shorter ones. `Invalid` for another number.
-fn order_of_number(number: u32) -> Result<NameOrder, Error>
+fn name_order_from_number(number: u32) -> Result<NameOrder, Error>
     ensures { name_order_of_number number ≡ result }
 {
     match number {
@@ -31,7 +33,7 @@ fn order_of_number(number: u32) -> Result<NameOrder, Error>
 }
 
 // Makes the image an empty file system.
-pub(crate) fn format(
+pub(crate) fn format_new_image(
     alloc: Global,
     image: &mut [u8],
     block_size: u32,
@@ -40,7 +42,7 @@ pub(crate) fn format(
 ) -> Result<(), Error>
     ensures { FormatsImageOrRefuses block_size page order image.old result image.new }
 {
-    let order = order_of_number(order)?;
+    let order = name_order_from_number(order)?;
     let device = device(alloc, image, block_size, page)?;
     match format_ordered(alloc, device, order) {
         Ok(session) => {
@@ -53,18 +55,23 @@ pub(crate) fn format(
 }
 
 // Checks that an image is accepted.
-pub(crate) fn check(alloc: Global, image: &[u8], block_size: u32, page: u32) -> Result<(), Error>
-    ensures { ChecksImage block_size page image.now result }
+pub(crate) fn check_image_is_accepted(
+    alloc: Global,
+    image: &[u8],
+    block_size: u32,
+    page: u32,
+) -> Result<(), Error>
+    ensures { AcceptsImageOrReportsCause block_size page image.now result }
 {
-    begin(alloc, image, block_size, page)?;
+    mount_copy_of_image(alloc, image, block_size, page)?;
     Ok(())
 }
 
 // Puts bytes at the beginning of a buffer, if all of them fit. Returns how many they are.
-fn copy_to_buffer(bytes: &[u8], buffer: &mut [u8]) -> usize
+fn copy_to_buffer_if_bytes_fit(bytes: &[u8], buffer: &mut [u8]) -> usize
     ensures room { result ≡ length bytes.now }
     ensures small { result < 2 ^ 63 }
-    ensures buffer { buffer.new ≡ buffer_with_bytes bytes.now buffer.old }
+    ensures buffer { buffer.new ≡ buffer_with_bytes_if_they_fit bytes.now buffer.old }
 {
     if bytes.len() <= buffer.len() {
         buffer[..bytes.len()].copy_from_slice(bytes);
@@ -73,7 +80,7 @@ fn copy_to_buffer(bytes: &[u8], buffer: &mut [u8]) -> usize
 }
 
 // Puts the lines of a directory's entries into a buffer.
-pub(crate) fn list(
+pub(crate) fn list_directory_in_image(
     alloc: Global,
     image: &[u8],
     block_size: u32,
@@ -81,16 +88,16 @@ pub(crate) fn list(
     path: &[u8],
     buffer: &mut [u8],
 ) -> Result<usize, Error>
-    ensures reported { FillsBufferOrRefuses block_size page image.now (ops.ListAll path.now ∷ []) result buffer.old buffer.new }
+    ensures reported { FillsBufferIfReplyFitsOrRefusesOperations block_size page image.now (ops.ListAll path.now ∷ []) result buffer.old buffer.new }
     ensures small { IfOk result (λ n. n < 2 ^ 63) }
 {
-    let items = items_at(alloc, image, block_size, page, path)?;
-    let text = lines_of(alloc, &items)?;
-    Ok(copy_to_buffer(&text, buffer))
+    let items = directory_items_of_image(alloc, image, block_size, page, path)?;
+    let text = lines_of_items(alloc, &items)?;
+    Ok(copy_to_buffer_if_bytes_fit(&text, buffer))
 }
 
 // Puts the bytes of a file from a position on into a buffer, as many as there is room for.
-pub(crate) fn read(
+pub(crate) fn read_part_of_image_file_into_buffer(
     alloc: Global,
     image: &[u8],
     block_size: u32,
@@ -99,16 +106,16 @@ pub(crate) fn read(
     position: u32,
     buffer: &mut [u8],
 ) -> Result<usize, Error>
-    ensures reported { FillsBufferOrRefuses block_size page image.now (operations_to_read_file path.now position (min (length buffer.old) (2 ^ 32 - 1))) result buffer.old buffer.new }
+    ensures reported { FillsBufferIfReplyFitsOrRefusesOperations block_size page image.now (operations_to_open_seek_and_read_file path.now position (min (length buffer.old) (2 ^ 32 - 1))) result buffer.old buffer.new }
     ensures small { IfOk result (λ n. n < 2 ^ 63) }
 {
     let count = buffer.len().min(4_294_967_295) as u32;
-    let bytes = bytes_at(alloc, image, block_size, page, path, position, count)?;
-    Ok(copy_to_buffer(&bytes, buffer))
+    let bytes = read_part_of_file_in_image(alloc, image, block_size, page, path, position, count)?;
+    Ok(copy_to_buffer_if_bytes_fit(&bytes, buffer))
 }
 
 // Puts the bytes of an entry's attribute into a buffer.
-pub(crate) fn get_attr(
+pub(crate) fn get_attribute_in_image(
     alloc: Global,
     image: &[u8],
     block_size: u32,
@@ -117,16 +124,16 @@ pub(crate) fn get_attr(
     kind: u8,
     buffer: &mut [u8],
 ) -> Result<usize, Error>
-    ensures reported { FillsBufferOrRefuses block_size page image.now (ops.GetAttr path.now kind ∷ []) result buffer.old buffer.new }
+    ensures reported { FillsBufferIfReplyFitsOrRefusesOperations block_size page image.now (ops.GetAttr path.now kind ∷ []) result buffer.old buffer.new }
     ensures small { IfOk result (λ n. n < 2 ^ 63) }
 {
-    let bytes = attribute_at(alloc, image, block_size, page, path, kind)?;
-    Ok(copy_to_buffer(&bytes, buffer))
+    let bytes = attribute_bytes_at_path_in_image(alloc, image, block_size, page, path, kind)?;
+    Ok(copy_to_buffer_if_bytes_fit(&bytes, buffer))
 }
 
 // Returns the flags of an open that makes a file, or makes it empty.
-fn replacing() -> OpenFlags
-    ensures { flags_view result ≡ replacing_flags }
+fn flags_to_replace_file() -> OpenFlags
+    ensures { flags_view result ≡ open_flags_of_replaced_file }
 {
     let mut flags = OpenFlags::WRITE;
     flags.insert(OpenFlags::CREATE);
@@ -135,7 +142,7 @@ fn replacing() -> OpenFlags
 }
 
 // Writes a file with these bytes, in place of the file at the path, if there is one.
-pub(crate) fn write<'a>(
+pub(crate) fn write_file_in_image<'a>(
     alloc: Global,
     image: &mut [u8],
     block_size: u32,
@@ -146,15 +153,15 @@ pub(crate) fn write<'a>(
     ensures { ChangesImageOrRefuses block_size page image.old (operations_to_write_file path.now bytes.now) result image.new }
 {
     let ops = [
-        Op::Open(path, replacing()),
+        Op::Open(path, flags_to_replace_file()),
         Op::Write(0, bytes),
         Op::Close(0),
     ];
-    change_image(alloc, image, block_size, page, &ops)
+    apply_operations_to_image(alloc, image, block_size, page, &ops)
 }
 
 // Makes an empty directory.
-pub(crate) fn mkdir(
+pub(crate) fn make_directory_in_image(
     alloc: Global,
     image: &mut [u8],
     block_size: u32,
@@ -163,11 +170,11 @@ pub(crate) fn mkdir(
 ) -> Result<(), Error>
     ensures { ChangesImageOrRefuses block_size page image.old (ops.Mkdir path.now ∷ []) result image.new }
 {
-    change_image(alloc, image, block_size, page, &[Op::Mkdir(path)])
+    apply_operations_to_image(alloc, image, block_size, page, &[Op::Mkdir(path)])
 }
 
 // Removes a file, or a directory without entries.
-pub(crate) fn remove(
+pub(crate) fn remove_entry_in_image(
     alloc: Global,
     image: &mut [u8],
     block_size: u32,
@@ -176,11 +183,11 @@ pub(crate) fn remove(
 ) -> Result<(), Error>
     ensures { ChangesImageOrRefuses block_size page image.old (ops.Remove path.now ∷ []) result image.new }
 {
-    change_image(alloc, image, block_size, page, &[Op::Remove(path)])
+    apply_operations_to_image(alloc, image, block_size, page, &[Op::Remove(path)])
 }
 
 // Renames an entry.
-pub(crate) fn rename<'a>(
+pub(crate) fn rename_entry_in_image<'a>(
     alloc: Global,
     image: &mut [u8],
     block_size: u32,
@@ -190,11 +197,11 @@ pub(crate) fn rename<'a>(
 ) -> Result<(), Error>
     ensures { ChangesImageOrRefuses block_size page image.old (ops.Rename from.now to.now ∷ []) result image.new }
 {
-    change_image(alloc, image, block_size, page, &[Op::Rename(from, to)])
+    apply_operations_to_image(alloc, image, block_size, page, &[Op::Rename(from, to)])
 }
 
 // Sets an attribute of an entry.
-pub(crate) fn set_attr<'a>(
+pub(crate) fn set_attribute_in_image<'a>(
     alloc: Global,
     image: &mut [u8],
     block_size: u32,
@@ -205,7 +212,7 @@ pub(crate) fn set_attr<'a>(
 ) -> Result<(), Error>
     ensures { ChangesImageOrRefuses block_size page image.old (ops.SetAttr path.now kind bytes.now ∷ []) result image.new }
 {
-    change_image(
+    apply_operations_to_image(
         alloc,
         image,
         block_size,
@@ -215,7 +222,7 @@ pub(crate) fn set_attr<'a>(
 }
 
 // Removes an attribute of an entry.
-pub(crate) fn remove_attr(
+pub(crate) fn remove_attribute_in_image(
     alloc: Global,
     image: &mut [u8],
     block_size: u32,
@@ -225,7 +232,7 @@ pub(crate) fn remove_attr(
 ) -> Result<(), Error>
     ensures { ChangesImageOrRefuses block_size page image.old (ops.RemoveAttr path.now kind ∷ []) result image.new }
 {
-    change_image(
+    apply_operations_to_image(
         alloc,
         image,
         block_size,

@@ -1,20 +1,20 @@
 // Results as one number: 0 or more, or minus an error's number.
 
 ghost use Rattle.std.specs.Prelude.{◌≡◌, ◌<◌, ◌^◌, pos, ◌-ℤ◌, IfOk};
-ghost use Rattle.lfs_device.specs.Error.{number_of};
+ghost use Rattle.lfs_device.specs.Error.{number_of_error};
 ghost use Rattle.littlefs_c.specs.Codes.{code_of_result, size_number_of_stat};
 
 use lfs_device::Error;
 use lfs_fs::{Kind, Stat};
 
 fn error_code(error: Error) -> i64
-    ensures { result ≡ pos 0 -ℤ pos (number_of error) }
+    ensures { result ≡ pos 0 -ℤ pos (number_of_error error) }
 {
     -i64::from(error.number())
 }
 
 // Returns 0 where the call was done.
-pub(crate) fn done_code(answer: Result<(), Error>) -> i64
+pub(crate) fn return_code_of_unit(answer: Result<(), Error>) -> i64
     ensures { result ≡ code_of_result (λ _. 0) answer }
 {
     match answer {
@@ -23,7 +23,7 @@ pub(crate) fn done_code(answer: Result<(), Error>) -> i64
     }
 }
 
-pub(crate) fn count_code(answer: Result<u32, Error>) -> i64
+pub(crate) fn return_code_of_count(answer: Result<u32, Error>) -> i64
     ensures { result ≡ code_of_result (λ n. n) answer }
 {
     match answer {
@@ -33,7 +33,7 @@ pub(crate) fn count_code(answer: Result<u32, Error>) -> i64
 }
 
 // Returns a file's size, or 2 to the 32nd for a directory.
-pub(crate) fn size_code(answer: Result<Stat, Error>) -> i64
+pub(crate) fn return_code_of_size(answer: Result<Stat, Error>) -> i64
     ensures { result ≡ code_of_result size_number_of_stat answer }
 {
     match answer {
@@ -46,7 +46,7 @@ pub(crate) fn size_code(answer: Result<Stat, Error>) -> i64
 }
 
 // Returns the room that a reply takes in a buffer.
-pub(crate) fn room_code(answer: Result<usize, Error>) -> i64
+pub(crate) fn return_code_of_needed_buffer_room(answer: Result<usize, Error>) -> i64
     requires { IfOk answer (λ n. n < 2 ^ 63) }
     ensures { result ≡ code_of_result (λ n. n) answer }
 {

@@ -3,8 +3,8 @@ use Rattle.std.proofs.lemmas.Bool.Decides.{nat_tests}
 use Rattle.std.proofs.lemmas.List.{take_at}
 use Rattle.std.proofs.lemmas.Result.{err_from_is_err_and}
 use Rattle.lfs_device.specs.declared.geometry.Geometry.{Geometry}
-use Rattle.lfs_model.specs.Blocks.{Blocks, HasBlocksOfCountAndSize, block_bytes_in}
-use Rattle.lfs_model.specs.SkipLists.{IsPlaceOfByteInList, pointers_of, list_block_count_for_size, list_blocks_from_head, bytes_of, word_at}
+use Rattle.lfs_model.specs.Blocks.{Blocks, HasBlocksOfCountAndSize, block_bytes_by_number}
+use Rattle.lfs_model.specs.SkipLists.{IsPlaceOfByteInList, pointer_count_of_list_block, list_block_count_for_size, list_blocks_from_head, bytes_of_skip_list, word_at_offset}
 use Rattle.lfs_ctz.proofs.Sizes.{blocks_for-last, place-lt, place_unique, place-mono}
 use Rattle.lfs_ctz.proofs.Gathered.{IsPart, IsReadPass, filled, turn_bytes, turn_rest, turn_before, turn_in_range, turn_index}
 use Rattle.lfs_ctz.proofs.Geometries.{last_is, chain, sized, shaped}
@@ -22,8 +22,8 @@ some_room len size pos n empty lt is not_empty e =
     let some : (len ≡ 0) → ⊥ = grind (arith, nat_tests) in
     (omega arith, omega arith)
 
-pub find-requires : goal.find-requires
-find-requires g c =
+pub find_block_at_index-requires : goal.find_block_at_index-requires
+find_block_at_index-requires g c =
     let large = c.geometry-block_size.result.valid.no_smaller in
     let room = some_room (length c.args.buf.now) c.args.size c.args.pos c.min-len.result false (omega arith) c.if-is_empty.ensures refl c.min-len.ensures in
     let lt = place-lt c.geometry-block_size.result.block_size c.args.size _ _ _ large c.place-index.ensures (omega arith) in
@@ -54,28 +54,28 @@ blocks-2-init g c =
           c.in_ok-block.ensures.found (chain old size c.args.head c.args.size c.blocks_for.result large c.blocks_for.ensures ok)
           ∙ ap (λ n. slice_index (list_blocks_from_head old n c.args.head) c.place-index.result.0) (last_is size c.args.size c.blocks_for.result large (omega arith) c.blocks_for.ensures)
           ∙ ap (slice_index (list_blocks_from_head old (list_block_count_for_size size c.args.size) c.args.head)) (place_unique size _ _ _ _ _ c.place-index.ensures is);
-      bytes = λ ok. nothing_yet (bytes_of old size c.args.head c.args.size) c.args.buf.now c.args.pos c.min-len.result _ c.min-len.ensures;
+      bytes = λ ok. nothing_yet (bytes_of_skip_list old size c.args.head c.args.size) c.args.buf.now c.args.pos c.min-len.result _ c.min-len.ensures;
       rest = refl;
-      device = c.find.ensures.reading.device;
+      device = c.find_block_at_index.ensures.reading.device;
       quiet = quiet g.D.BlockDevice c.in_ok-block.ensures.reading.faults;
       few = λ m i last off end le is there.
           let few = c.in_ok-block.ensures.few m (omega (arith, le, c.blocks_for.ensures, (blocks_for-last size c.args.size large (omega arith)).1.0)) in
           omega arith;
     }
 
-pub returns-in_err-read_part_into_buffer-clause-reading : goal.returns-in_err-read_part_into_buffer-clause-reading
-returns-in_err-read_part_into_buffer-clause-reading g c =
+pub returns-in_err-read_block_bytes_into_buffer_range-clause-reading : goal.returns-in_err-read_block_bytes_into_buffer_range-clause-reading
+returns-in_err-read_block_bytes_into_buffer_range-clause-reading g c =
     let inv = c.blocks-2.invariant in
-    let read = c.in_err-read_part_into_buffer.ensures in
-    let p = err_from_is_err_and c.from_residual-in_err-read_part_into_buffer.result c.from_residual-in_err-read_part_into_buffer.ensures.1 in
-    rw (p.1, p.2) (list_io g.D.BlockDevice (read_on g.D.BlockDevice inv.device c.read_part_into_buffer.ensures.device) (reported_on g.D.BlockDevice inv.quiet read.faults) read.errors)
+    let read = c.in_err-read_block_bytes_into_buffer_range.ensures in
+    let p = err_from_is_err_and c.from_residual-in_err-read_block_bytes_into_buffer_range.result c.from_residual-in_err-read_block_bytes_into_buffer_range.ensures.1 in
+    rw (p.1, p.2) (list_io g.D.BlockDevice (read_on g.D.BlockDevice inv.device c.read_block_bytes_into_buffer_range.ensures.device) (reported_on g.D.BlockDevice inv.quiet read.faults) read.errors)
 
 -- what is read at an iteration
-is_part : (block_size pos left n i off k : ℕ) → IsPlaceOfByteInList block_size (pos + left - 1) i off → k ≡ pointers_of i → n ≡ min left (off + 1 - 4 * k) → IsPart block_size pos left n i off
+is_part : (block_size pos left n i off k : ℕ) → IsPlaceOfByteInList block_size (pos + left - 1) i off → k ≡ pointer_count_of_list_block i → n ≡ min left (off + 1 - 4 * k) → IsPart block_size pos left n i off
 is_part block_size pos left n i off k there many is = record { place = there; size = is ∙ ap (λ p. min left (off + 1 - 4 * p)) many }
 
-is_filled : (d same : Blocks) (new buf : List ℕ) (start n off block : ℕ) → same ≡ d → new ≡ take start buf ++ (take n (drop off (block_bytes_in same block)) ++ drop (start + n) buf) → new ≡ filled buf start n off (block_bytes_in d block)
-is_filled d same new buf start n off block e is = is ∙ ap (λ b. filled buf start n off (block_bytes_in b block)) e
+is_filled : (d same : Blocks) (new buf : List ℕ) (start n off block : ℕ) → same ≡ d → new ≡ take start buf ++ (take n (drop off (block_bytes_by_number same block)) ++ drop (start + n) buf) → new ≡ filled buf start n off (block_bytes_by_number d block)
+is_filled d same new buf start n off block e is = is ∙ ap (λ b. filled buf start n off (block_bytes_by_number b block)) e
 
 -- all of it is there
 all_there : (bytes new rest : List ℕ) (pos left len : ℕ) → left ≡ 0 → length new ≡ len + length rest → drop left new ≡ slice_range bytes (pos + left) (pos + len) ++ rest → take len new ≡ slice_range bytes pos (pos + len)
@@ -86,9 +86,9 @@ all_there bytes new rest pos left len none size is =
 
 -- what an iteration knows, as a turn
 turn_of : (d same : Blocks) (geometry made : Geometry) (size pos len left n i off k block : ℕ) (buf new old : List ℕ)
-    → made ≡ geometry → HasBlocksOfCountAndSize geometry.block_size geometry.block_count d → IsPlaceOfByteInList made.block_size (pos + left - 1) i off → k ≡ pointers_of i → n ≡ min left (off + 1 - 4 * k)
+    → made ≡ geometry → HasBlocksOfCountAndSize geometry.block_size geometry.block_count d → IsPlaceOfByteInList made.block_size (pos + left - 1) i off → k ≡ pointer_count_of_list_block i → n ≡ min left (off + 1 - 4 * k)
     → 1 ≤ left → left ≤ len → len ≡ min (length old) (size - pos) → pos < size → length buf ≡ length old → block < geometry.block_count → same ≡ d
-    → new ≡ take (left - n) buf ++ (take n (drop (off + 1 - n) (block_bytes_in same block)) ++ drop (left - n + n) buf)
+    → new ≡ take (left - n) buf ++ (take n (drop (off + 1 - n) (block_bytes_by_number same block)) ++ drop (left - n + n) buf)
     → IsReadPass d made.block_size geometry.block_count size pos len left n i off block buf new
 turn_of d same geometry made size pos len left n i off k block buf new old e shape there many is some le len_is lt room in_range s bytes = record {
   large = made.valid.no_smaller;
@@ -104,34 +104,34 @@ turn_of d same geometry made size pos len left n i off k block buf new old e sha
 
 -- when nothing is left
 at_end : (d : Blocks) (geometry made : Geometry) (head size pos left len n : ℕ) (new buf old : List ℕ) → made ≡ geometry → n ≡ len → left ≡ 0 → length new ≡ length buf → length buf ≡ length old → len ≤ length old
-    → drop left new ≡ slice_range (bytes_of d made.block_size head size) (pos + left) (pos + len) ++ drop len old
-    → take n new ≡ slice_range (bytes_of d geometry.block_size head size) pos (pos + n)
+    → drop left new ≡ slice_range (bytes_of_skip_list d made.block_size head size) (pos + left) (pos + len) ++ drop len old
+    → take n new ≡ slice_range (bytes_of_skip_list d geometry.block_size head size) pos (pos + n)
 at_end d geometry made head size pos left len n new buf old e n_is none kept was room is =
     ap (λ k. take k new) n_is
-    ∙ all_there (bytes_of d made.block_size head size) new (drop len old) pos left len none (omega (arith, length-drop len old)) is
-    ∙ ap (λ (k : Geometry). slice_range (bytes_of d k.block_size head size) pos (pos + len)) e
-    ∙ ap (λ k. slice_range (bytes_of d geometry.block_size head size) pos (pos + k)) (sym n_is)
+    ∙ all_there (bytes_of_skip_list d made.block_size head size) new (drop len old) pos left len none (omega (arith, length-drop len old)) is
+    ∙ ap (λ (k : Geometry). slice_range (bytes_of_skip_list d k.block_size head size) pos (pos + len)) e
+    ∙ ap (λ k. slice_range (bytes_of_skip_list d geometry.block_size head size) pos (pos + k)) (sym n_is)
 
 pub returns-then-left-eq0-clause-bytes : goal.returns-then-left-eq0-clause-bytes
 returns-then-left-eq0-clause-bytes g c listed =
     let inv = c.blocks-2.invariant in
-    let turn = turn_of _ _ _ _ c.args.size c.args.pos _ _ _ _ _ _ _ _ _ c.args.buf.now c.geometry-block_size.ensures (g.met.D.BlockDevice.shape c.args.dev.now) c.place-index-in-blocks-2.ensures c.pointers.ensures c.min-part.ensures
-    inv.some inv.high refl (omega arith) c.blocks-2.auto.buf inv.in_range inv.device.same c.in_ok-read_part_into_buffer.ensures.bytes in
+    let turn = turn_of _ _ _ _ c.args.size c.args.pos _ _ _ _ _ _ _ _ _ c.args.buf.now c.geometry-block_size.ensures (g.met.D.BlockDevice.shape c.args.dev.now) c.place-index-in-blocks-2.ensures c.pointer_count_at_index.ensures c.min-part.ensures
+    inv.some inv.high refl (omega arith) c.blocks-2.auto.buf inv.in_range inv.device.same c.in_ok-read_block_bytes_into_buffer_range.ensures.bytes in
     let ok = sized _ c.args.head c.args.size _ _ c.geometry-block_size.ensures listed in
-    at_end _ _ _ c.args.head c.args.size c.args.pos _ _ _ _ _ _ c.geometry-block_size.ensures c.min-len.ensures c.if-left-eq0.true c.read_part_into_buffer.auto.buf c.blocks-2.auto.buf (omega arith)
+    at_end _ _ _ c.args.head c.args.size c.args.pos _ _ _ _ _ _ c.geometry-block_size.ensures c.min-len.ensures c.if-left-eq0.true c.read_block_bytes_into_buffer_range.auto.buf c.blocks-2.auto.buf (omega arith)
     (turn_bytes turn c.args.head _ ok (inv.found ok _ _ c.place-index-in-blocks-2.ensures) (inv.bytes ok))
 
 pub returns-then-left-eq0-clause-count : goal.returns-then-left-eq0-clause-count
 returns-then-left-eq0-clause-count g c =
     let inv = c.blocks-2.invariant in
-    let turn = turn_of _ _ _ _ c.args.size c.args.pos _ _ _ _ _ _ _ _ _ c.args.buf.now c.geometry-block_size.ensures (g.met.D.BlockDevice.shape c.args.dev.now) c.place-index-in-blocks-2.ensures c.pointers.ensures c.min-part.ensures
-    inv.some inv.high refl (omega arith) c.blocks-2.auto.buf inv.in_range inv.device.same c.in_ok-read_part_into_buffer.ensures.bytes in
-    (c.min-len.ensures, ap (λ k. drop k c.read_part_into_buffer.new.buf) c.min-len.ensures ∙ turn_rest turn ∙ inv.rest ∙ ap (λ k. drop k c.args.buf.now) (sym c.min-len.ensures))
+    let turn = turn_of _ _ _ _ c.args.size c.args.pos _ _ _ _ _ _ _ _ _ c.args.buf.now c.geometry-block_size.ensures (g.met.D.BlockDevice.shape c.args.dev.now) c.place-index-in-blocks-2.ensures c.pointer_count_at_index.ensures c.min-part.ensures
+    inv.some inv.high refl (omega arith) c.blocks-2.auto.buf inv.in_range inv.device.same c.in_ok-read_block_bytes_into_buffer_range.ensures.bytes in
+    (c.min-len.ensures, ap (λ k. drop k c.read_block_bytes_into_buffer_range.new.buf) c.min-len.ensures ∙ turn_rest turn ∙ inv.rest ∙ ap (λ k. drop k c.args.buf.now) (sym c.min-len.ensures))
 
 pub returns-then-left-eq0-clause-reading : goal.returns-then-left-eq0-clause-reading
 returns-then-left-eq0-clause-reading g c =
     let inv = c.blocks-2.invariant in
-    list_ok g.D.BlockDevice (read_on g.D.BlockDevice inv.device c.read_part_into_buffer.ensures.device) (quiet g.D.BlockDevice c.in_ok-read_part_into_buffer.ensures.faults ∙ inv.quiet)
+    list_ok g.D.BlockDevice (read_on g.D.BlockDevice inv.device c.read_block_bytes_into_buffer_range.ensures.device) (quiet g.D.BlockDevice c.in_ok-read_block_bytes_into_buffer_range.ensures.faults ∙ inv.quiet)
 
 -- a place by the geometry of the device
 placed_by : (geometry made : Geometry) (pos i off : ℕ) → made ≡ geometry → IsPlaceOfByteInList geometry.block_size pos i off → IsPlaceOfByteInList made.block_size pos i off
@@ -146,31 +146,31 @@ returns-then-left-eq0-clause-few g c m first last off end le is there =
     let is_last = placed_by _ _ _ last end made there in
     let few = inv.few m _ last _ end (subst (λ (k : Geometry). list_block_count_for_size k.block_size c.args.size ≤ 2 ^ m) (sym made) le) now is_last in
     let low = place-mono _ _ _ _ _ _ _ is_first now (let s = inv.some in omega arith) in
-    let one = c.read_part_into_buffer.ensures.few in
+    let one = c.read_block_bytes_into_buffer_range.ensures.few in
     omega arith
 
-out_of_range : (d same : Blocks) (geometry now : Geometry) (block : ℕ) → same ≡ d → now ≡ geometry → now.block_count ≤ word_at (block_bytes_in same block) 0 → word_at (block_bytes_in d block) 0 < geometry.block_count → ⊥
+out_of_range : (d same : Blocks) (geometry now : Geometry) (block : ℕ) → same ≡ d → now ≡ geometry → now.block_count ≤ word_at_offset (block_bytes_by_number same block) 0 → word_at_offset (block_bytes_by_number d block) 0 < geometry.block_count → ⊥
 out_of_range d same geometry now block e f outside inside =
-    let there = ap (λ b. word_at (block_bytes_in b block) 0) e in
+    let there = ap (λ b. word_at_offset (block_bytes_by_number b block) 0) e in
     let count = ap (λ (k : Geometry). k.block_count) f in
     omega (arith, there, count, outside, inside)
 
 pub returns-in_err-block-2-clause-corrupt : goal.returns-in_err-block-2-clause-corrupt
 returns-in_err-block-2-clause-corrupt g c =
     let inv = c.blocks-2.invariant in
-    let turn = turn_of _ _ _ _ c.args.size c.args.pos _ _ _ _ _ _ _ _ _ c.args.buf.now c.geometry-block_size.ensures (g.met.D.BlockDevice.shape c.args.dev.now) c.place-index-in-blocks-2.ensures c.pointers.ensures c.min-part.ensures
-    inv.some inv.high refl (omega arith) c.blocks-2.auto.buf inv.in_range inv.device.same c.in_ok-read_part_into_buffer.ensures.bytes in
+    let turn = turn_of _ _ _ _ c.args.size c.args.pos _ _ _ _ _ _ _ _ _ c.args.buf.now c.geometry-block_size.ensures (g.met.D.BlockDevice.shape c.args.dev.now) c.place-index-in-blocks-2.ensures c.pointer_count_at_index.ensures c.min-part.ensures
+    inv.some inv.high refl (omega arith) c.blocks-2.auto.buf inv.in_range inv.device.same c.in_ok-read_block_bytes_into_buffer_range.ensures.bytes in
     let p = err_from_is_err_and c.from_residual-in_err-block-2.result c.from_residual-in_err-block-2.ensures.1 in
     rw (p.1, p.2) (λ is listed.
     let ok = sized _ c.args.head c.args.size _ _ c.geometry-block_size.ensures listed in
-    out_of_range _ _ _ _ _ (c.read_part_into_buffer.ensures.device.same ∙ inv.device.same) (c.read_part_into_buffer.ensures.device.geometry ∙ inv.device.geometry) (c.in_err-block-2.ensures.corrupt is)
+    out_of_range _ _ _ _ _ (c.read_block_bytes_into_buffer_range.ensures.device.same ∙ inv.device.same) (c.read_block_bytes_into_buffer_range.ensures.device.geometry ∙ inv.device.geometry) (c.in_err-block-2.ensures.corrupt is)
     (turn_in_range turn c.args.head ok (inv.found ok _ _ c.place-index-in-blocks-2.ensures) (omega arith)))
 
 pub returns-in_err-block-2-clause-reading : goal.returns-in_err-block-2-clause-reading
 returns-in_err-block-2-clause-reading g c =
     let inv = c.blocks-2.invariant in
     let p = err_from_is_err_and c.from_residual-in_err-block-2.result c.from_residual-in_err-block-2.ensures.1 in
-    rw (p.1, p.2) (list_on g.D.BlockDevice (read_on g.D.BlockDevice inv.device c.read_part_into_buffer.ensures.device) (quiet g.D.BlockDevice c.in_ok-read_part_into_buffer.ensures.faults ∙ inv.quiet)
+    rw (p.1, p.2) (list_on g.D.BlockDevice (read_on g.D.BlockDevice inv.device c.read_block_bytes_into_buffer_range.ensures.device) (quiet g.D.BlockDevice c.in_ok-read_block_bytes_into_buffer_range.ensures.faults ∙ inv.quiet)
     (list_as g.D.BlockDevice c.in_err-block-2.ensures.reading))
 
 few_more : (reads_old reads_now reads_part reads_next m last i j : ℕ) → i ≡ suc j → i ≤ last → reads_now ≤ reads_old + 2 * m + 2 * (last - i) → reads_part ≡ reads_now + 1 → reads_next ≤ reads_part + 1
@@ -181,21 +181,21 @@ pub blocks-2-preserved : goal.blocks-2-preserved
 blocks-2-preserved g c =
     let inv = c.blocks-2.invariant in
     let now = c.place-index-in-blocks-2.ensures in
-    let turn = turn_of _ _ _ _ c.args.size c.args.pos _ _ _ _ _ _ _ _ _ c.args.buf.now c.geometry-block_size.ensures (g.met.D.BlockDevice.shape c.args.dev.now) now c.pointers.ensures c.min-part.ensures
-    inv.some inv.high refl (omega arith) c.blocks-2.auto.buf inv.in_range inv.device.same c.in_ok-read_part_into_buffer.ensures.bytes in
+    let turn = turn_of _ _ _ _ c.args.size c.args.pos _ _ _ _ _ _ _ _ _ c.args.buf.now c.geometry-block_size.ensures (g.met.D.BlockDevice.shape c.args.dev.now) now c.pointer_count_at_index.ensures c.min-part.ensures
+    inv.some inv.high refl (omega arith) c.blocks-2.auto.buf inv.in_range inv.device.same c.in_ok-read_block_bytes_into_buffer_range.ensures.bytes in
     let some : 1 ≤ c.blocks-2.left - c.min-part.result = omega arith in
-    let device = read_on g.D.BlockDevice inv.device c.read_part_into_buffer.ensures.device in
+    let device = read_on g.D.BlockDevice inv.device c.read_block_bytes_into_buffer_range.ensures.device in
     record {
       some = some;
       high = (let h = inv.high in omega arith);
       in_range = (let lt = c.in_ok-block-2.ensures.in_range in omega (arith, lt, ap (λ (k : Geometry). k.block_count) device.geometry));
       found = λ ok j end is.
-          c.in_ok-block-2.ensures.word ∙ ap (λ b. word_at (block_bytes_in b c.blocks-2.block) 0) device.same
+          c.in_ok-block-2.ensures.word ∙ ap (λ b. word_at_offset (block_bytes_by_number b c.blocks-2.block) 0) device.same
           ∙ turn_before turn c.args.head ok (inv.found ok _ _ now) some j end is;
       bytes = λ ok. turn_bytes turn c.args.head _ ok (inv.found ok _ _ now) (inv.bytes ok);
       rest = turn_rest turn ∙ inv.rest;
-      device = read_on g.D.BlockDevice device c.before-in-blocks-2.ensures.reading.device;
-      quiet = quiet g.D.BlockDevice c.in_ok-block-2.ensures.reading.faults ∙ quiet g.D.BlockDevice c.in_ok-read_part_into_buffer.ensures.faults ∙ inv.quiet;
+      device = read_on g.D.BlockDevice device c.read_block_before.ensures.reading.device;
+      quiet = quiet g.D.BlockDevice c.in_ok-block-2.ensures.reading.faults ∙ quiet g.D.BlockDevice c.in_ok-read_block_bytes_into_buffer_range.ensures.faults ∙ inv.quiet;
       few = λ m j last off end le is there.
-          few_more _ _ _ _ m last _ j (turn_index turn some j off is) (place-mono _ _ _ _ _ _ _ now there (let h = inv.high in omega arith)) (inv.few m _ last _ end le now there) c.read_part_into_buffer.ensures.few c.before-in-blocks-2.ensures.few;
+          few_more _ _ _ _ m last _ j (turn_index turn some j off is) (place-mono _ _ _ _ _ _ _ now there (let h = inv.high in omega arith)) (inv.few m _ last _ end le now there) c.read_block_bytes_into_buffer_range.ensures.few c.read_block_before.ensures.few;
     }

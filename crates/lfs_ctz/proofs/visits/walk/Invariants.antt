@@ -1,9 +1,9 @@
 use Rattle.std.proofs.Common.{length, ◌≡◌, ◌≤◌, ◌+◌, drop, reverse, slice_index}
 use Rattle.std.specs.List.{FoldsTo}
 use Rattle.lfs_device.specs.Calls.{ReadsOnly}
-use Rattle.lfs_model.specs.History.{faults, reads}
+use Rattle.lfs_model.specs.History.{fault_count_of_history, read_count_of_history}
 use Rattle.lfs_model.specs.SkipLists.{AreListBlocks, list_blocks_from_head}
-use Rattle.lfs_ctz.specs.Way.{count_of_indices_on_way}
+use Rattle.lfs_ctz.specs.Way.{count_of_highest_pointer_visits_up_to_index}
 use Rattle.lfs_ctz.proofs.Walked.{IsChecked}
 use Rattle.lfs_ctz.proofs.visits.walk.Given as goal
 
@@ -21,8 +21,8 @@ invariant-loop-index g l =
       visited : FoldsTo (λ p x q. goal.F-step g p x tt q) l.fn.visit (reverse (drop (l.index + 1) (list_blocks_from_head (blocks old) (l.last + 1) l.fn.head))) l.visit;
       callable : goal.F-IsAlwaysCallable g l.visit;
       device : ReadsOnly g.D.BlockDevice old l.dev;
-      few : AreListBlocks (blocks old) (l.last + 1) l.fn.head → reads (history l.dev) + l.index ≤ reads (history old) + l.last + count_of_indices_on_way l.last l.index;
-      quiet : faults (history l.dev) ≡ faults (history old);
+      few : AreListBlocks (blocks old) (l.last + 1) l.fn.head → read_count_of_history (history l.dev) + l.index ≤ read_count_of_history (history old) + l.last + count_of_highest_pointer_visits_up_to_index l.last l.index;
+      quiet : fault_count_of_history (history l.dev) ≡ fault_count_of_history (history old);
     }
 
 abbrev pub decreases-loop-index : goal.decreases-loop-index

@@ -1,7 +1,7 @@
 use Rattle.std.proofs.Common.{◌≡◌, ◌≤◌, ◌<◌, ◌+◌, length, take, drop, List, ℕ, ◌++◌, ◌∙◌, ap, arith, length-append, length-drop}
 use Rattle.std.specs.Prelude.{slice_set}
 use Rattle.std.proofs.lemmas.Grind.{common_steps}
-use Rattle.lfs_model.specs.Blocks.{Blocks, block_bytes_in, programmed}
+use Rattle.lfs_model.specs.Blocks.{Blocks, block_bytes_by_number, programmed}
 use Rattle.lfs_model.proofs.Overwrites.{overwritten_beginning}
 use Rattle.lfs_device.specs.declared.geometry.Geometry.{Geometry}
 use Rattle.lfs_device.proofs.Partials.{ChangesOnlyPartOfBlock-trans, ChangesOnlyPartOfBlock-wider, ChangesOnlyPartOfBlock-read, ChangesOnlyPartOfBlock-program}
@@ -10,7 +10,7 @@ use Rattle.lfs_device.proofs.partial.program_beginning_of_page.Goals as goal
 pub returns-clause-ok : goal.returns-clause-ok
 returns-clause-ok g c =
     let old : Blocks = g.D.BlockDevice.blocks c.args.device.now in
-    let block : List ℕ = block_bytes_in old c.args.block in
+    let block : List ℕ = block_bytes_by_number old c.args.block in
     let bytes = c.args.bytes.now in
     let known = ap (λ (k : Geometry). k.page) c.geometry.ensures in
     let size = ap (λ (k : Geometry). k.block_size) c.geometry.ensures in
@@ -33,7 +33,7 @@ returns-clause-part g c =
     let shape = g.met.D.BlockDevice.shape c.args.device.now in
     let same = c.read.ensures.same in
     let there : c.args.block < length (g.D.BlockDevice.blocks c.read.new.self) = rw same (omega (arith, shape.count, c.requires.in_device)) in
-    let fits : c.args.off ≤ length (block_bytes_in (g.D.BlockDevice.blocks c.read.new.self) c.args.block) = rw same (omega (arith, shape.sizes c.args.block c.requires.in_device, c.requires.in_block)) in
+    let fits : c.args.off ≤ length (block_bytes_by_number (g.D.BlockDevice.blocks c.read.new.self) c.args.block) = rw same (omega (arith, shape.sizes c.args.block c.requires.in_device, c.requires.in_block)) in
     let read = ChangesOnlyPartOfBlock-read g.D.BlockDevice c.args.block c.args.off (c.args.off + (g.D.BlockDevice.geometry c.args.device.now).page) c.read.ensures.history same c.read.ensures.geometry in
     let program = ChangesOnlyPartOfBlock-program g.D.BlockDevice c.prog.result there fits c.prog.ensures.ok c.prog.ensures.err c.prog.ensures.others c.prog.ensures.geometry c.prog.ensures.history in
     ChangesOnlyPartOfBlock-trans g.D.BlockDevice read (ChangesOnlyPartOfBlock-wider g.D.BlockDevice c.args.off (c.args.off + (g.D.BlockDevice.geometry c.args.device.now).page) program (omega arith) (omega (arith, known, page, behind, joined, front, c.requires.in_page)))

@@ -15,16 +15,16 @@ pub returns-then-place-bytes : goal.returns-then-place-bytes
 returns-then-place-bytes g c =
     (refl, write_too_big c.args.tree.now c.args.files.now c.args.fd c.args.bytes.now c.in-Some.writer.now c.place-place.result c.if-has_failed.ensures (written_at c.args.tree.now c.args.files.now c.args.fd c.in-Some.writer.now (c.requires (sym c.if-has_failed.ensures)).written c.in-Some.ensures) c.in-Some.ensures (some_bytes _ (sym c.is_empty.ensures ∙ c.if-is_empty.false)).0 c.place-place.ensures (above_limit _ c.if-place-bytes.true))
 
-pub returns-then-overfills : goal.returns-then-overfills
-returns-then-overfills g c = (
+pub returns-then-lacks_room_for_writer_blocks : goal.returns-then-lacks_room_for_writer_blocks
+returns-then-lacks_room_for_writer_blocks g c = (
   refl,
-  write_fits c.args.tree.now c.args.files.now c.args.fd c.args.bytes.now c.in-Some.writer.now c.place-place.result c.min.result c.max-size.result c.is_nonsequential_after_change_at.result c.overfills.result c.if-has_failed.ensures (written_at c.args.tree.now c.args.files.now c.args.fd c.in-Some.writer.now (c.requires (sym c.if-has_failed.ensures)).written c.in-Some.ensures) c.in-Some.ensures (some_bytes _ (sym c.is_empty.ensures ∙ c.if-is_empty.false)).0 (some_bytes _ (sym c.is_empty.ensures ∙ c.if-is_empty.false)).1 c.place-place.ensures
-      (within_limit _ (omega (arith, c.if-place-bytes.false))) c.min.ensures c.is_nonsequential_after_change_at.ensures c.max-size.ensures c.overfills.ensures ∙ ap (λ b. refuse_if b ops.NoSpace) c.if-overfills.true,
+  write_fits c.args.tree.now c.args.files.now c.args.fd c.args.bytes.now c.in-Some.writer.now c.place-place.result c.min.result c.max-size.result c.is_nonsequential_after_change_at.result c.lacks_room_for_writer_blocks.result c.if-has_failed.ensures (written_at c.args.tree.now c.args.files.now c.args.fd c.in-Some.writer.now (c.requires (sym c.if-has_failed.ensures)).written c.in-Some.ensures) c.in-Some.ensures (some_bytes _ (sym c.is_empty.ensures ∙ c.if-is_empty.false)).0 (some_bytes _ (sym c.is_empty.ensures ∙ c.if-is_empty.false)).1 c.place-place.ensures
+      (within_limit _ (omega (arith, c.if-place-bytes.false))) c.min.ensures c.is_nonsequential_after_change_at.ensures c.max-size.ensures c.lacks_room_for_writer_blocks.ensures ∙ ap (λ b. refuse_if b ops.NoSpace) c.if-lacks_room_for_writer_blocks.true,
 )
 
 pub returns : goal.returns
 returns g c = (
-  write_fits c.args.tree.now c.args.files.now c.args.fd c.args.bytes.now c.in-Some.writer.now c.place-place.result c.min.result c.max-size.result c.is_nonsequential_after_change_at.result c.overfills.result c.if-has_failed.ensures (written_at c.args.tree.now c.args.files.now c.args.fd c.in-Some.writer.now (c.requires (sym c.if-has_failed.ensures)).written c.in-Some.ensures) c.in-Some.ensures (some_bytes _ (sym c.is_empty.ensures ∙ c.if-is_empty.false)).0 (some_bytes _ (sym c.is_empty.ensures ∙ c.if-is_empty.false)).1 c.place-place.ensures
-      (within_limit _ (omega (arith, c.if-place-bytes.false))) c.min.ensures c.is_nonsequential_after_change_at.ensures c.max-size.ensures c.overfills.ensures ∙ ap (λ b. refuse_if b ops.NoSpace) c.if-overfills.false,
+  write_fits c.args.tree.now c.args.files.now c.args.fd c.args.bytes.now c.in-Some.writer.now c.place-place.result c.min.result c.max-size.result c.is_nonsequential_after_change_at.result c.lacks_room_for_writer_blocks.result c.if-has_failed.ensures (written_at c.args.tree.now c.args.files.now c.args.fd c.in-Some.writer.now (c.requires (sym c.if-has_failed.ensures)).written c.in-Some.ensures) c.in-Some.ensures (some_bytes _ (sym c.is_empty.ensures ∙ c.if-is_empty.false)).0 (some_bytes _ (sym c.is_empty.ensures ∙ c.if-is_empty.false)).1 c.place-place.ensures
+      (within_limit _ (omega (arith, c.if-place-bytes.false))) c.min.ensures c.is_nonsequential_after_change_at.ensures c.max-size.ensures c.lacks_room_for_writer_blocks.ensures ∙ ap (λ b. refuse_if b ops.NoSpace) c.if-lacks_room_for_writer_blocks.false,
   writer_there c.args.files.now c.args.fd c.in-Some.writer.now c.in-Some.ensures,
 )

@@ -1,7 +1,7 @@
 use Rattle.std.proofs.Common.{refl, subst, sym, ap, ◌∙◌}
 use Rattle.lfs_model.specs.Operations as ops
-use Rattle.lfs_model.specs.Thread.{gstate_of}
-use Rattle.lfs_tree.specs.RenamePaths.{HasFoundBothRenamePaths}
+use Rattle.lfs_model.specs.Thread.{gstate_of_pairs}
+use Rattle.lfs_tree.specs.RenamePaths.{AreFindingsAtBothRenamePaths}
 use Rattle.lfs_tree.specs.TreeState.{TreeState, tree_view}
 use Rattle.lfs_fs.specs.SessionView.{session_view_of_tree_and_files}
 use Rattle.lfs_fs.proofs.Answered.{ready_later}
@@ -10,22 +10,22 @@ use Rattle.lfs_fs.proofs.Errors.{given_on}
 use Rattle.lfs_fs.proofs.RenameChecks.{passes_late, passes_later, refused_at_once, rename_checked, renaming_is}
 use Rattle.lfs_fs.proofs.rename_checks.check_rename.Goals as goal
 
-pub refusal_of_found-refusal-requires-clause-ready : goal.refusal_of_found-refusal-requires-clause-ready
-refusal_of_found-refusal-requires-clause-ready g c = ready_later _ _ c.args.files.now (c.requires c.in_ok-paths.ensures.passes.works) c.in_ok-found.ensures.asks.asked
+pub rename_refusal_by_findings-refusal-requires-clause-ready : goal.rename_refusal_by_findings-refusal-requires-clause-ready
+rename_refusal_by_findings-refusal-requires-clause-ready g c = ready_later _ _ c.args.files.now (c.requires c.in_ok-paths.ensures.passes.works) c.in_ok-found.ensures.asks.asked
 
-pub refusal_of_found-refusal-requires-clause-passes : goal.refusal_of_found-refusal-requires-clause-passes
-refusal_of_found-refusal-requires-clause-passes g c = passes_later _ _ c.args.old.now c.args.new.now _ c.in_ok-found.ensures.asks.asked c.in_ok-paths.ensures.passes
+pub rename_refusal_by_findings-refusal-requires-clause-passes : goal.rename_refusal_by_findings-refusal-requires-clause-passes
+rename_refusal_by_findings-refusal-requires-clause-passes g c = passes_later _ _ c.args.old.now c.args.new.now _ c.in_ok-found.ensures.asks.asked c.in_ok-paths.ensures.passes
 
-pub refusal_of_found-refusal-requires-clause-found : goal.refusal_of_found-refusal-requires-clause-found
-refusal_of_found-refusal-requires-clause-found g c =
-    subst (λ t. HasFoundBothRenamePaths (tree_view t) c.in_ok-paths.paths.from c.in_ok-paths.paths.to c.in_ok-found.found) (sym c.in_ok-found.ensures.asks.asked.same) c.in_ok-found.ensures.found
+pub rename_refusal_by_findings-refusal-requires-clause-found : goal.rename_refusal_by_findings-refusal-requires-clause-found
+rename_refusal_by_findings-refusal-requires-clause-found g c =
+    subst (λ t. AreFindingsAtBothRenamePaths (tree_view t) c.in_ok-paths.paths.from c.in_ok-paths.paths.to c.in_ok-found.found) (sym c.in_ok-found.ensures.asks.asked.same) c.in_ok-found.ensures.found
 
 pub returns : goal.returns
 returns g c =
     let asked = c.in_ok-found.ensures.asks.asked in
-    rename_checked c.args.tree.now c.args.files.now c.args.old.now c.args.new.now c.in_ok-paths.paths c.look_up_rename.new.self c.refusal_of_found-refusal.result _ c.value_unless_checks_refuse.result c.in_ok-paths.ensures.passes asked c.refusal_of_found-refusal.ensures
+    rename_checked c.args.tree.now c.args.files.now c.args.old.now c.args.new.now c.in_ok-paths.paths c.look_up_rename.new.self c.rename_refusal_by_findings-refusal.result _ c.value_unless_checks_refuse.result c.in_ok-paths.ensures.passes asked c.rename_refusal_by_findings-refusal.ensures
     (renaming_is c.args.tree.now c.look_up_rename.new.self c.args.old.now c.args.new.now c.in_ok-paths.paths _ c.in_ok-paths.ensures.passes refl refl refl c.in_ok-found.ensures.targets
-    (λ settled. c.in_ok-found.ensures.handed_on (sym (ap (λ (t : TreeState). gstate_of t.pairs) asked.same) ∙ settled)))
+    (λ settled. c.in_ok-found.ensures.handed_on (sym (ap (λ (t : TreeState). gstate_of_pairs t.pairs) asked.same) ∙ settled)))
     c.value_unless_checks_refuse.ensures
 
 pub returns-in_err-paths : goal.returns-in_err-paths

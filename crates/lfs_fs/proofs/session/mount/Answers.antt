@@ -9,8 +9,8 @@ use Rattle.lfs_fs.proofs.session.mount.Goals as goal
 
 pub invariant_of-result : goal.invariant_of-result
 invariant_of-result g c = record {
-  ready = λ works. subst (IsSessionReadyForCalls c.in-Ok.tree) (sym c.none.ensures) (mounted_ready _ _ c.in-Ok.tree c.in-Ok.ensures.mounted);
-  reported = λ works. c.device_meets_laws.ensures;
+  ready = λ works. subst (IsSessionReadyForCalls c.in-Ok.tree) (sym c.without_open_files.ensures) (mounted_ready _ _ c.in-Ok.tree c.in-Ok.ensures.mounted);
+  reported = λ works. c.show_conforming_device_calls_to_proof.ensures;
 }
 
 pub returns-in-Ok-clause-begun : goal.returns-in-Ok-clause-begun
@@ -22,8 +22,8 @@ returns-in-Ok-clause-begun g c =
       accepted = subst (λ (d : Disk). IsAcceptedImage d c.in-Ok.tree.pairs) m.disk_is m.sound.accepted;
       reads = m.reads;
       no_fault = m.no_fault;
-      no_files = ap (open_files_view c.in-Ok.tree) c.none.ensures;
+      no_files = ap (open_files_view c.in-Ok.tree) c.without_open_files.ensures;
     }
 
 pub returns-in-Ok-clause-state : goal.returns-in-Ok-clause-state
-returns-in-Ok-clause-state g c = mount_state _ _ c.in-Ok.tree c.none.result c.in-Ok.ensures.mounted c.none.ensures
+returns-in-Ok-clause-state g c = mount_state _ _ c.in-Ok.tree c.without_open_files.result c.in-Ok.ensures.mounted c.without_open_files.ensures

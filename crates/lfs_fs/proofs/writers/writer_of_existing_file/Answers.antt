@@ -1,7 +1,7 @@
 use Rattle.std.proofs.Common.{◌≡◌, ◌∙◌, ◌&&◌, [], ap, false, nat_lt, refl, sym, subst}
 use Rattle.std.proofs.lemmas.Bool.{le-ltb}
 use Rattle.lfs_model.specs.Operations as ops
-use Rattle.lfs_tree.specs.OpenContents.{AreWriterContentsOverTreeFile, bytes_of_writer_contents, kept_of}
+use Rattle.lfs_tree.specs.OpenContents.{AreWriterContentsOverTreeFile, bytes_of_writer_contents, kept_thread_of_tree_state}
 use Rattle.lfs_tree.specs.TreeState.{IsOperationAppliedToTree, SurvivesStopsInTreeCall, tree_view}
 use Rattle.lfs_fs.specs.FlagsView.{flags_view}
 use Rattle.lfs_fs.proofs.Beginning.{begun_as_is, begun_empty, is_file_there}
@@ -20,12 +20,12 @@ returns-then-size-gt0-clause-begun g c =
     let e = c.in_ok-contents.ensures in
     let done = subst (λ t. IsOperationAppliedToTree t ops.Recover c.recover.new.self) e.same (c.in_ok-recover.ensures.does.done ops.Recover refl) in
     let over = subst (λ t. AreWriterContentsOverTreeFile t c.args.path c.in_ok-contents.contents) e.same (e.over c.args.path (is_file_there c.args.tree.now c.args.path c.args.size _ c.requires)) in
-    let none = subst (λ t. bytes_of_writer_contents (kept_of t) c.in_ok-contents.contents ≡ []) e.same e.bytes in
+    let none = subst (λ t. bytes_of_writer_contents (kept_thread_of_tree_state t) c.in_ok-contents.contents ≡ []) e.same e.bytes in
     begun_empty c.args.tree.now c.recover.new.self c.args.path c.args.size (flags_view c.args.flags) c.contains-appends.result c.in_ok-contents.contents c.requires done
     (c.operations_take_few_blocks.ensures c.args.tree.now c.recover.new.self ops.Recover c.requires.sound c.requires.writable done)
     (sym (c.contains.ensures tt) ∙ c.if-contains.true) c.if-size-gt0.true (c.contains-appends.ensures tt)
-    (c.contents_stay.ensures.over c.args.tree.now c.recover.new.self ops.Recover c.args.path c.in_ok-contents.contents over c.requires.sound done refl)
-    (c.contents_stay.ensures.bytes c.args.tree.now c.recover.new.self ops.Recover c.args.path c.in_ok-contents.contents over c.requires.sound done refl) none e.form
+    (c.operations_leave_writer_contents_alone.ensures.over c.args.tree.now c.recover.new.self ops.Recover c.args.path c.in_ok-contents.contents over c.requires.sound done refl)
+    (c.operations_leave_writer_contents_alone.ensures.bytes c.args.tree.now c.recover.new.self ops.Recover c.args.path c.in_ok-contents.contents over c.requires.sound done refl) none e.form
 
 pub returns-clause-begun : goal.returns-clause-begun
 returns-clause-begun g c =

@@ -1,7 +1,7 @@
 use Rattle.std.proofs.Common.{◌<◌, slice_index_or, ◌∙◌, ◌++◌, ◌∷◌, [], length, nat_eq, take_all, sym, ap, subst, arith}
 use Rattle.std.specs.List.{IsDistinct}
-use Rattle.lfs_thread.specs.Places.{blocks_of_addresses}
-use Rattle.lfs_thread.specs.Steps.{no_pair}
+use Rattle.lfs_thread.specs.Places.{blocks_of_pair_addresses}
+use Rattle.lfs_thread.specs.Steps.{empty_pair_at_anchor}
 use Rattle.lfs_lookup.specs.Walk.{addresses_of_thread_pairs}
 use Rattle.lfs_lookup.proofs.PairAddresses.{next_added, next_apart}
 use Rattle.lfs_lookup.proofs.addresses.pair_addresses_of_thread.Goals as goal
@@ -12,16 +12,16 @@ loop-index-init g c = c.new-addresses.ensures
 pub add-requires : goal.add-requires
 add-requires g c =
     let below : c.loop-index.index < length c.args.thread.now.kept.pairs = subst (λ n. c.loop-index.index < n) c.len-index-end.ensures c.loop-index-test.true in
-    let apart = next_apart c.args.thread.now.kept.pairs c.loop-index.index no_pair below c.requires.thread.distinct in
-    subst (λ at. IsDistinct nat_eq (blocks_of_addresses (c.loop-index.addresses ++ at ∷ []))) (sym c.address.ensures)
-    (subst (λ xs. IsDistinct nat_eq (blocks_of_addresses (xs ++ (slice_index_or c.args.thread.now.kept.pairs c.loop-index.index no_pair).at ∷ []))) (sym c.loop-index.invariant) apart)
+    let apart = next_apart c.args.thread.now.kept.pairs c.loop-index.index empty_pair_at_anchor below c.requires.thread.distinct in
+    subst (λ at. IsDistinct nat_eq (blocks_of_pair_addresses (c.loop-index.addresses ++ at ∷ []))) (sym c.blocks_of_pair.ensures)
+    (subst (λ xs. IsDistinct nat_eq (blocks_of_pair_addresses (xs ++ (slice_index_or c.args.thread.now.kept.pairs c.loop-index.index empty_pair_at_anchor).at ∷ []))) (sym c.loop-index.invariant) apart)
 
 pub loop-index-preserved : goal.loop-index-preserved
 loop-index-preserved g c =
     let below : c.loop-index.index < length c.args.thread.now.kept.pairs = subst (λ n. c.loop-index.index < n) c.len-index-end.ensures c.loop-index-test.true in
-    c.in_ok-add.ensures.added ∙ ap (λ at. c.loop-index.addresses ++ at ∷ []) c.address.ensures
-    ∙ ap (λ xs. xs ++ (slice_index_or c.args.thread.now.kept.pairs c.loop-index.index no_pair).at ∷ []) c.loop-index.invariant
-    ∙ next_added c.args.thread.now.kept.pairs c.loop-index.index no_pair below
+    c.in_ok-add.ensures.added ∙ ap (λ at. c.loop-index.addresses ++ at ∷ []) c.blocks_of_pair.ensures
+    ∙ ap (λ xs. xs ++ (slice_index_or c.args.thread.now.kept.pairs c.loop-index.index empty_pair_at_anchor).at ∷ []) c.loop-index.invariant
+    ∙ next_added c.args.thread.now.kept.pairs c.loop-index.index empty_pair_at_anchor below
 
 pub returns-clause-all : goal.returns-clause-all
 returns-clause-all g c =

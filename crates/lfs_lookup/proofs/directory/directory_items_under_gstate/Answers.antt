@@ -2,8 +2,8 @@ use Rattle.std.proofs.Common.{◌<◌, ◌+◌, ◌∙◌, Err, IfSome, List, No
 use Rattle.std.proofs.lemmas.List.{map-append}
 use Rattle.std.proofs.lemmas.Result.{err_from_is_err_and}
 use Rattle.lfs_model.specs.Thread.{Pair, is_hard_tail}
-use Rattle.lfs_thread.specs.Steps.{no_pair, kept_pair_at_index}
-use Rattle.lfs_lookup.specs.Items.{item_view, items_view}
+use Rattle.lfs_thread.specs.Steps.{empty_pair_at_anchor, thread_pair_at_index}
+use Rattle.lfs_lookup.specs.Items.{directory_item_view, directory_items_view}
 use Rattle.lfs_lookup.proofs.Directories.{length_on, length_some, list_on, run_next}
 use Rattle.lfs_lookup.proofs.Reading.{answered, both, further, lacks_memory, passed}
 use Rattle.lfs_lookup.proofs.RecentBlocks.{keeps_on, none_on}
@@ -18,34 +18,34 @@ pub returns-in_err-more-clause-kept : goal.returns-in_err-more-clause-kept
 returns-in_err-more-clause-kept g c =
     let ps = c.args.thread.now.kept.pairs in
     let inv = c.loop-pair.invariant in
-    let next = cond (is_hard_tail (slice_index_or c.loop-pair.thread.kept.pairs c.in-Some.index no_pair).content.tail) (Some (c.in-Some.index + 1)) None in
+    let next = cond (is_hard_tail (slice_index_or c.loop-pair.thread.kept.pairs c.in-Some.index empty_pair_at_anchor).content.tail) (Some (c.in-Some.index + 1)) None in
     let within = subst (λ o. IfSome o (λ pair. pair < length ps)) c.in-Some.is inv.below in
-    let run = run_next ps c.loop-pair.thread.kept.pairs c.in-Some.index no_pair c.loop-pair.pair next inv.read.only.pairs c.in-Some.is within refl in
-    none_on _ _ _ (kept_pair_at_index c.loop-pair.thread.kept c.in-Some.index) c.args.thread.now c.loop-pair.thread c.items_of_pair_under_gstate.new.thread c.items_of_pair_under_gstate.result inv.along run c.items_of_pair_under_gstate.ensures.loads
+    let run = run_next ps c.loop-pair.thread.kept.pairs c.in-Some.index empty_pair_at_anchor c.loop-pair.pair next inv.read.only.pairs c.in-Some.is within refl in
+    none_on _ _ _ (thread_pair_at_index c.loop-pair.thread.kept c.in-Some.index) c.args.thread.now c.loop-pair.thread c.items_of_pair_under_gstate.new.thread c.items_of_pair_under_gstate.result inv.along run c.items_of_pair_under_gstate.ensures.loads
 
 pub returns-in_err-more-clause-few : goal.returns-in_err-more-clause-few
 returns-in_err-more-clause-few g c =
     let inv = c.loop-pair.invariant in
     let f = inv.few in
     let n = c.items_of_pair_under_gstate.ensures.few in
-    let one = length_some c.args.thread.now.kept.pairs c.in-Some.index no_pair c.loop-pair.pair c.in-Some.is (subst (λ o. IfSome o (λ pair. pair < length c.args.thread.now.kept.pairs)) c.in-Some.is inv.below) in
+    let one = length_some c.args.thread.now.kept.pairs c.in-Some.index empty_pair_at_anchor c.loop-pair.pair c.in-Some.is (subst (λ o. IfSome o (λ pair. pair < length c.args.thread.now.kept.pairs)) c.in-Some.is inv.below) in
     omega (arith, f, n, one)
 
 pub returns-in_err-append-clause-kept : goal.returns-in_err-append-clause-kept
 returns-in_err-append-clause-kept g c =
     let ps = c.args.thread.now.kept.pairs in
     let inv = c.loop-pair.invariant in
-    let next = cond (is_hard_tail (slice_index_or c.loop-pair.thread.kept.pairs c.in-Some.index no_pair).content.tail) (Some (c.in-Some.index + 1)) None in
+    let next = cond (is_hard_tail (slice_index_or c.loop-pair.thread.kept.pairs c.in-Some.index empty_pair_at_anchor).content.tail) (Some (c.in-Some.index + 1)) None in
     let within = subst (λ o. IfSome o (λ pair. pair < length ps)) c.in-Some.is inv.below in
-    let run = run_next ps c.loop-pair.thread.kept.pairs c.in-Some.index no_pair c.loop-pair.pair next inv.read.only.pairs c.in-Some.is within refl in
-    none_on _ _ _ (kept_pair_at_index c.loop-pair.thread.kept c.in-Some.index) c.args.thread.now c.loop-pair.thread c.items_of_pair_under_gstate.new.thread c.items_of_pair_under_gstate.result inv.along run c.items_of_pair_under_gstate.ensures.loads
+    let run = run_next ps c.loop-pair.thread.kept.pairs c.in-Some.index empty_pair_at_anchor c.loop-pair.pair next inv.read.only.pairs c.in-Some.is within refl in
+    none_on _ _ _ (thread_pair_at_index c.loop-pair.thread.kept c.in-Some.index) c.args.thread.now c.loop-pair.thread c.items_of_pair_under_gstate.new.thread c.items_of_pair_under_gstate.result inv.along run c.items_of_pair_under_gstate.ensures.loads
 
 pub returns-in_err-append-clause-few : goal.returns-in_err-append-clause-few
 returns-in_err-append-clause-few g c =
     let inv = c.loop-pair.invariant in
     let f = inv.few in
     let n = c.items_of_pair_under_gstate.ensures.few in
-    let one = length_some c.args.thread.now.kept.pairs c.in-Some.index no_pair c.loop-pair.pair c.in-Some.is (subst (λ o. IfSome o (λ pair. pair < length c.args.thread.now.kept.pairs)) c.in-Some.is inv.below) in
+    let one = length_some c.args.thread.now.kept.pairs c.in-Some.index empty_pair_at_anchor c.loop-pair.pair c.in-Some.is (subst (λ o. IfSome o (λ pair. pair < length c.args.thread.now.kept.pairs)) c.in-Some.is inv.below) in
     omega (arith, f, n, one)
 
 pub returns-in_err-append-clause-reading : goal.returns-in_err-append-clause-reading
@@ -60,20 +60,20 @@ loop-pair-preserved g c =
     let read = both _ _ _ inv.read (answered _ _ c.items_of_pair_under_gstate.result c.in_ok-more.more c.in_ok-more.was c.items_of_pair_under_gstate.ensures.reading) in
     let ps = c.args.thread.now.kept.pairs in
     let within = subst (λ o. IfSome o (λ pair. pair < length ps)) c.in-Some.is inv.below in
-    let next = c.next-pair.ensures.next ∙ ap (λ (ps : List Pair). cond (is_hard_tail (slice_index_or ps c.in-Some.index no_pair).content.tail) (Some (c.in-Some.index + 1)) None) {y = c.loop-pair.thread.kept.pairs} c.items_of_pair_under_gstate.ensures.reading.only.pairs in
+    let next = c.next-pair.ensures.next ∙ ap (λ (ps : List Pair). cond (is_hard_tail (slice_index_or ps c.in-Some.index empty_pair_at_anchor).content.tail) (Some (c.in-Some.index + 1)) None) {y = c.loop-pair.thread.kept.pairs} c.items_of_pair_under_gstate.ensures.reading.only.pairs in
     let f = inv.few in
     let n = c.items_of_pair_under_gstate.ensures.few in
-    let one = length_on ps c.loop-pair.thread.kept.pairs c.in-Some.index no_pair c.loop-pair.pair c.next-pair.result inv.read.only.pairs c.in-Some.is within next in
+    let one = length_on ps c.loop-pair.thread.kept.pairs c.in-Some.index empty_pair_at_anchor c.loop-pair.pair c.next-pair.result inv.read.only.pairs c.in-Some.is within next in
     record {
       read = read;
       few = omega (arith, f, n, one);
-      along = keeps_on _ _ _ (kept_pair_at_index c.loop-pair.thread.kept c.in-Some.index) c.args.thread.now c.loop-pair.thread c.items_of_pair_under_gstate.new.thread c.items_of_pair_under_gstate.result inv.along
-          (run_next ps c.loop-pair.thread.kept.pairs c.in-Some.index no_pair c.loop-pair.pair c.next-pair.result inv.read.only.pairs c.in-Some.is within next) c.items_of_pair_under_gstate.ensures.loads
+      along = keeps_on _ _ _ (thread_pair_at_index c.loop-pair.thread.kept c.in-Some.index) c.args.thread.now c.loop-pair.thread c.items_of_pair_under_gstate.new.thread c.items_of_pair_under_gstate.result inv.along
+          (run_next ps c.loop-pair.thread.kept.pairs c.in-Some.index empty_pair_at_anchor c.loop-pair.pair c.next-pair.result inv.read.only.pairs c.in-Some.is within next) c.items_of_pair_under_gstate.ensures.loads
           c.in_ok-more.more c.in_ok-more.was c.items_of_pair_under_gstate.ensures.reading.only.disk;
       below = subst (λ (ps : List Pair). IfSome c.next-pair.result (λ pair. pair < length ps)) read.only.pairs c.next-pair.ensures.below;
       items =
-          list_on c.args.thread.now.kept.pairs c.loop-pair.thread.kept.pairs c.args.first c.in-Some.index no_pair c.loop-pair.pair c.next-pair.result
-          (items_view c.loop-pair.items.items) (items_view c.in_ok-more.more.items) (items_view c.append.new.self.items) inv.read.only.pairs c.in-Some.is
+          list_on c.args.thread.now.kept.pairs c.loop-pair.thread.kept.pairs c.args.first c.in-Some.index empty_pair_at_anchor c.loop-pair.pair c.next-pair.result
+          (directory_items_view c.loop-pair.items.items) (directory_items_view c.in_ok-more.more.items) (directory_items_view c.append.new.self.items) inv.read.only.pairs c.in-Some.is
           within c.in_ok-more.ensures.items next
-          (ap items_view c.in_ok-append.ensures.items ∙ map-append item_view c.loop-pair.items.items c.in_ok-more.more.items) inv.items;
+          (ap directory_items_view c.in_ok-append.ensures.items ∙ map-append directory_item_view c.loop-pair.items.items c.in_ok-more.more.items) inv.items;
     }

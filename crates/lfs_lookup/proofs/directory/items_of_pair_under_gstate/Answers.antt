@@ -8,4 +8,4 @@ returns-in_err-load_pair-clause-loads g c =
     loads_one c.args.thread.now c.load_pair.new.self c.args.index c.from_residual.result c.load_pair.ensures.no_call (on_err c.from_residual.result p.0 _ p.1)
 
 pub returns-clause-loads : goal.returns-clause-loads
-returns-clause-loads g c = loads_one c.args.thread.now c.load_pair.new.self c.args.index c.items_in.result c.load_pair.ensures.no_call (on_any c.items_in.result _ c.in_ok-load_pair.ensures.recent)
+returns-clause-loads g c = loads_one c.args.thread.now c.load_pair.new.self c.args.index c.items_in_log.result c.load_pair.ensures.no_call (on_any c.items_in_log.result _ c.in_ok-load_pair.ensures.recent)

@@ -18,7 +18,7 @@ unwrap-first-requires g c =
     let a = subst (SearchFindsInDirectory t.disk.order t.pairs c.args.parent c.args.name.now) c.in-Found-default-Directory.is c.in_ok-slot.ensures.answer in
     let (s, shows) = subst (λ e. (s : IsPlaceOfNameInDirectory t.pairs c.args.parent c.args.name.now spot.pair spot.id) × IsEntryOfStruct e s.stands.slot.struct) c.in-Found-default-Directory.field-1-is a in
     let leads = leads_to t c.requires.settled c.requires.reached.0 c.args.parent c.requires.reached.1 c.args.name.now spot.pair spot.id s (pair_address_of_array c.in-Found-default-Directory.at) shows in
-    some_there c.number_of.result _ (c.number_of.ensures.nowhere)
+    some_there c.pair_number_at_address.result _ (c.pair_number_at_address.ensures.nowhere)
     (λ none. is_somewhere t c.requires.settled.accepted (c.requires.reached.0 ++ c.args.name.now ∷ []) (pair_address_of_array c.in-Found-default-Directory.at) leads
     (subst (AllByRecursion (λ p. same_pair p.at (pair_address_of_array c.in-Found-default-Directory.at) ≡ false)) c.find_name.ensures.reading.only.pairs none))
 
@@ -33,7 +33,7 @@ returns-in-Found-default-Directory-clause-answer g c above on =
         at = pair_address_of_array c.in-Found-default-Directory.at;
         leads = leads_to t c.requires.settled above c.args.parent on c.args.name.now spot.pair spot.id s (pair_address_of_array c.in-Found-default-Directory.at) shows;
         begins = subst (λ ps. IsPairAtAddress ps (pair_address_of_array c.in-Found-default-Directory.at) c.unwrap-first.result) c.find_name.ensures.reading.only.pairs
-            (subst (λ (o : Option ℕ). IfSome o (IsPairAtAddress c.find_name.new.thread.kept.pairs (pair_address_of_array c.in-Found-default-Directory.at))) c.unwrap-first.ensures c.number_of.ensures.there);
+            (subst (λ (o : Option ℕ). IfSome o (IsPairAtAddress c.find_name.new.thread.kept.pairs (pair_address_of_array c.in-Found-default-Directory.at))) c.unwrap-first.ensures c.pair_number_at_address.ensures.there);
       },
     )
 

@@ -1,13 +1,13 @@
 use Rattle.std.proofs.Common.{◌≡◌, None, ap, subst, ◌∙◌, [], arith}
 use Rattle.lfs_model.specs.Frame.{pair_count_of_directory_at}
-use Rattle.lfs_lookup.specs.AtPath.{IsNotRefusedByParents}
-use Rattle.lfs_lookup.specs.Paths.{IsParentFoundAlongPath, refusal_of_parent}
+use Rattle.lfs_lookup.specs.AtPath.{IsLookupNotRefusedByParents}
+use Rattle.lfs_lookup.specs.Paths.{IsParentReachedByAllNamesOfPath, refusal_of_parent}
 use Rattle.lfs_lookup.proofs.ReadOnly.{only_read, reported_behind}
 use Rattle.std.proofs.lemmas.Result.{err_from_is_err_and}
 use Rattle.lfs_lookup.proofs.LoadedDown.{down_last, down_short, run_same, stops_none}
 use Rattle.lfs_lookup.proofs.RecentBlocks.{on_ok, passes_none}
 use Rattle.lfs_lookup.proofs.Descended.{hiding_same, names_are, sum_is, showed_in, few_same}
-use Rattle.lfs_model.specs.Session.{refusal_of_parents}
+use Rattle.lfs_model.specs.Session.{refusal_unless_parents_are_directories}
 use Rattle.lfs_model.specs.Shown.{tree_on_disk}
 use Rattle.lfs_lookup.proofs.HalvedDown.{halved_last, halved_short}
 use Rattle.lfs_lookup.proofs.paths.look_up_with_moved_slot_hidden.Goals as goal
@@ -16,113 +16,113 @@ pub returns-in_err-parent-clause-few : goal.returns-in_err-parent-clause-few
 returns-in_err-parent-clause-few g c =
     let is = names_are (λ name. name.now) c.args.path.now _ _ c.in-Some.ensures.cases.0 in
     let s = sum_is (pair_count_of_directory_at c.args.thread.now.kept.pairs) _ _ _ is in
-    let few = c.find_parent_directory_of_path.ensures.few in
+    let few = c.find_directory_that_names_lead_to.ensures.few in
     omega (arith, s, few)
 
 pub returns-in-Directory-clause-answer : goal.returns-in-Directory-clause-answer
 returns-in-Directory-clause-answer g c =
     let t = c.args.thread.now.kept in
     let is = names_are (λ name. name.now) c.args.path.now _ _ c.in-Some.ensures.cases.0 in
-    let d = subst (IsParentFoundAlongPath t _) c.in-Directory.is c.in_ok-parent.ensures.answer in
-    showed_in t c.find_parent_directory_of_path.new.thread.kept c.args.moved c.find_parent_directory_of_path.ensures.reading.only _ _ c.in-Directory.parent c.look_up_shown_in_directory.result d.begins c.look_up_shown_in_directory.ensures.answer _ is (d.fault _)
+    let d = subst (IsParentReachedByAllNamesOfPath t _) c.in-Directory.is c.in_ok-parent.ensures.answer in
+    showed_in t c.find_directory_that_names_lead_to.new.thread.kept c.args.moved c.find_directory_that_names_lead_to.ensures.reading.only _ _ c.in-Directory.parent c.look_up_name_with_slot_hidden.result d.begins c.look_up_name_with_slot_hidden.ensures.answer _ is (d.fault _)
 
 pub returns-in-Directory-clause-few : goal.returns-in-Directory-clause-few
 returns-in-Directory-clause-few g c =
     let t = c.args.thread.now.kept in
     let is = names_are (λ name. name.now) c.args.path.now _ _ c.in-Some.ensures.cases.0 in
-    let d = subst (IsParentFoundAlongPath t _) c.in-Directory.is c.in_ok-parent.ensures.answer in
+    let d = subst (IsParentReachedByAllNamesOfPath t _) c.in-Directory.is c.in_ok-parent.ensures.answer in
     let s = sum_is (pair_count_of_directory_at c.args.thread.now.kept.pairs) _ _ _ is in
-    let few = c.find_parent_directory_of_path.ensures.few in
-    let more = c.look_up_shown_in_directory.ensures.few in
-    let same = few_same t c.find_parent_directory_of_path.new.thread.kept c.requires.hiding.accepted c.find_parent_directory_of_path.ensures.reading.only _ c.in-Directory.parent d.begins in
+    let few = c.find_directory_that_names_lead_to.ensures.few in
+    let more = c.look_up_name_with_slot_hidden.ensures.few in
+    let same = few_same t c.find_directory_that_names_lead_to.new.thread.kept c.requires.hiding.accepted c.find_directory_that_names_lead_to.ensures.reading.only _ c.in-Directory.parent d.begins in
     omega (arith, s, few, more, same)
 
 pub returns-in-Directory-clause-loads : goal.returns-in-Directory-clause-loads
 returns-in-Directory-clause-loads g c =
     let t = c.args.thread.now.kept in
     let is = names_are (λ name. name.now) c.args.path.now _ _ c.in-Some.ensures.cases.0 in
-    let d = subst (IsParentFoundAlongPath t _) c.in-Directory.is c.in_ok-parent.ensures.answer in
-    down_last (λ q. refusal_of_parent q ≡ None) IsNotRefusedByParents c.args.thread.now c.find_parent_directory_of_path.new.thread c.look_up_shown_in_directory.new.thread _ _ _ c.in_ok-parent.field-0 c.look_up_shown_in_directory.result _ is c.in_ok-parent.ensures.loads
-    (ap refusal_of_parent c.in-Directory.is) c.find_parent_directory_of_path.ensures.reading.only.disk
-    (run_same t c.find_parent_directory_of_path.new.thread.kept _ c.in-Directory.parent c.requires.hiding.accepted c.find_parent_directory_of_path.ensures.reading.only d.begins) c.look_up_shown_in_directory.ensures.loads
+    let d = subst (IsParentReachedByAllNamesOfPath t _) c.in-Directory.is c.in_ok-parent.ensures.answer in
+    down_last (λ q. refusal_of_parent q ≡ None) IsLookupNotRefusedByParents c.args.thread.now c.find_directory_that_names_lead_to.new.thread c.look_up_name_with_slot_hidden.new.thread _ _ _ c.in_ok-parent.field-0 c.look_up_name_with_slot_hidden.result _ is c.in_ok-parent.ensures.loads
+    (ap refusal_of_parent c.in-Directory.is) c.find_directory_that_names_lead_to.ensures.reading.only.disk
+    (run_same t c.find_directory_that_names_lead_to.new.thread.kept _ c.in-Directory.parent c.requires.hiding.accepted c.find_directory_that_names_lead_to.ensures.reading.only d.begins) c.look_up_name_with_slot_hidden.ensures.loads
 
 pub returns-in-Directory-clause-reading : goal.returns-in-Directory-clause-reading
 returns-in-Directory-clause-reading g c =
-    let r = c.look_up_shown_in_directory.ensures.reading in
+    let r = c.look_up_name_with_slot_hidden.ensures.reading in
     record {
-      only = only_read _ _ _ c.find_parent_directory_of_path.ensures.reading.only r.only;
+      only = only_read _ _ _ c.find_directory_that_names_lead_to.ensures.reading.only r.only;
       works = r.works;
-      reported = reported_behind _ _ _ c.look_up_shown_in_directory.result c.find_parent_directory_of_path.ensures.reading.only (c.in_ok-parent.ensures.reading.reported.no_fault (λ e. absurd (let k : _ = e in cc))) r.only r.reported;
+      reported = reported_behind _ _ _ c.look_up_name_with_slot_hidden.result c.find_directory_that_names_lead_to.ensures.reading.only (c.in_ok-parent.ensures.reading.reported.no_fault (λ e. absurd (let k : _ = e in cc))) r.only r.reported;
     }
 
 pub returns-in-File-clause-answer : goal.returns-in-File-clause-answer
 returns-in-File-clause-answer g c =
     let t = c.args.thread.now.kept in
     let is = names_are (λ name. name.now) c.args.path.now _ _ c.in-Some.ensures.cases.0 in
-    let d = subst (IsParentFoundAlongPath t _) c.in-File.is c.in_ok-parent.ensures.answer in
-    ap (refusal_of_parents (tree_on_disk t.disk t.pairs) []) is ∙ d.fault _
+    let d = subst (IsParentReachedByAllNamesOfPath t _) c.in-File.is c.in_ok-parent.ensures.answer in
+    ap (refusal_unless_parents_are_directories (tree_on_disk t.disk t.pairs) []) is ∙ d.fault _
 
 pub returns-in-File-clause-few : goal.returns-in-File-clause-few
 returns-in-File-clause-few g c =
     let is = names_are (λ name. name.now) c.args.path.now _ _ c.in-Some.ensures.cases.0 in
     let s = sum_is (pair_count_of_directory_at c.args.thread.now.kept.pairs) _ _ _ is in
-    let few = c.find_parent_directory_of_path.ensures.few in
+    let few = c.find_directory_that_names_lead_to.ensures.few in
     omega (arith, s, few)
 
 pub returns-in-Nothing-clause-answer : goal.returns-in-Nothing-clause-answer
 returns-in-Nothing-clause-answer g c =
     let t = c.args.thread.now.kept in
     let is = names_are (λ name. name.now) c.args.path.now _ _ c.in-Some.ensures.cases.0 in
-    let d = subst (IsParentFoundAlongPath t _) c.in-Nothing.is c.in_ok-parent.ensures.answer in
-    ap (refusal_of_parents (tree_on_disk t.disk t.pairs) []) is ∙ d.fault _
+    let d = subst (IsParentReachedByAllNamesOfPath t _) c.in-Nothing.is c.in_ok-parent.ensures.answer in
+    ap (refusal_unless_parents_are_directories (tree_on_disk t.disk t.pairs) []) is ∙ d.fault _
 
 pub returns-in-Nothing-clause-few : goal.returns-in-Nothing-clause-few
 returns-in-Nothing-clause-few g c =
     let is = names_are (λ name. name.now) c.args.path.now _ _ c.in-Some.ensures.cases.0 in
     let s = sum_is (pair_count_of_directory_at c.args.thread.now.kept.pairs) _ _ _ is in
-    let few = c.find_parent_directory_of_path.ensures.few in
+    let few = c.find_directory_that_names_lead_to.ensures.few in
     omega (arith, s, few)
 
-pub look_up_shown_in_directory-requires-clause-hiding : goal.look_up_shown_in_directory-requires-clause-hiding
-look_up_shown_in_directory-requires-clause-hiding g c = hiding_same c.args.thread.now.kept c.find_parent_directory_of_path.new.thread.kept c.args.moved c.find_parent_directory_of_path.ensures.reading.only c.requires.hiding
+pub look_up_name_with_slot_hidden-requires-clause-hiding : goal.look_up_name_with_slot_hidden-requires-clause-hiding
+look_up_name_with_slot_hidden-requires-clause-hiding g c = hiding_same c.args.thread.now.kept c.find_directory_that_names_lead_to.new.thread.kept c.args.moved c.find_directory_that_names_lead_to.ensures.reading.only c.requires.hiding
 
 pub returns-in_err-parent-clause-loads : goal.returns-in_err-parent-clause-loads
 returns-in_err-parent-clause-loads g c =
     let is = names_are (λ name. name.now) c.args.path.now _ _ c.in-Some.ensures.cases.0 in
     let p = err_from_is_err_and c.from_residual.result c.from_residual.ensures.1 in
-    down_short (λ q. refusal_of_parent q ≡ None) IsNotRefusedByParents c.args.thread.now c.find_parent_directory_of_path.new.thread _ _ _ c.find_parent_directory_of_path.result c.from_residual.result is
-    (passes_none c.find_parent_directory_of_path.result c.from_residual.result p.0 p.1) (stops_none IsNotRefusedByParents c.from_residual.result p.0 p.1) c.find_parent_directory_of_path.ensures.loads
+    down_short (λ q. refusal_of_parent q ≡ None) IsLookupNotRefusedByParents c.args.thread.now c.find_directory_that_names_lead_to.new.thread _ _ _ c.find_directory_that_names_lead_to.result c.from_residual.result is
+    (passes_none c.find_directory_that_names_lead_to.result c.from_residual.result p.0 p.1) (stops_none IsLookupNotRefusedByParents c.from_residual.result p.0 p.1) c.find_directory_that_names_lead_to.ensures.loads
 
 pub returns-in-File-clause-loads : goal.returns-in-File-clause-loads
 returns-in-File-clause-loads g c =
     let is = names_are (λ name. name.now) c.args.path.now _ _ c.in-Some.ensures.cases.0 in
-    down_short (λ q. refusal_of_parent q ≡ None) IsNotRefusedByParents c.args.thread.now c.find_parent_directory_of_path.new.thread _ _ _ c.find_parent_directory_of_path.result _ is
-    (λ P h. on_ok c.find_parent_directory_of_path.result c.in_ok-parent.field-0 P c.in_ok-parent.was h) (λ Q e. absurd (let k : _ = e in cc)) c.find_parent_directory_of_path.ensures.loads
+    down_short (λ q. refusal_of_parent q ≡ None) IsLookupNotRefusedByParents c.args.thread.now c.find_directory_that_names_lead_to.new.thread _ _ _ c.find_directory_that_names_lead_to.result _ is
+    (λ P h. on_ok c.find_directory_that_names_lead_to.result c.in_ok-parent.field-0 P c.in_ok-parent.was h) (λ Q e. absurd (let k : _ = e in cc)) c.find_directory_that_names_lead_to.ensures.loads
 
 pub returns-in-Nothing-clause-loads : goal.returns-in-Nothing-clause-loads
 returns-in-Nothing-clause-loads g c =
     let is = names_are (λ name. name.now) c.args.path.now _ _ c.in-Some.ensures.cases.0 in
-    down_short (λ q. refusal_of_parent q ≡ None) IsNotRefusedByParents c.args.thread.now c.find_parent_directory_of_path.new.thread _ _ _ c.find_parent_directory_of_path.result _ is
-    (λ P h. on_ok c.find_parent_directory_of_path.result c.in_ok-parent.field-0 P c.in_ok-parent.was h) (λ Q e. absurd (let k : _ = e in cc)) c.find_parent_directory_of_path.ensures.loads
+    down_short (λ q. refusal_of_parent q ≡ None) IsLookupNotRefusedByParents c.args.thread.now c.find_directory_that_names_lead_to.new.thread _ _ _ c.find_directory_that_names_lead_to.result _ is
+    (λ P h. on_ok c.find_directory_that_names_lead_to.result c.in_ok-parent.field-0 P c.in_ok-parent.was h) (λ Q e. absurd (let k : _ = e in cc)) c.find_directory_that_names_lead_to.ensures.loads
 
 pub returns-in_err-parent-clause-halves : goal.returns-in_err-parent-clause-halves
 returns-in_err-parent-clause-halves g c none =
     let is = names_are (λ name. name.now) c.args.path.now _ _ c.in-Some.ensures.cases.0 in
-    halved_short c.args.thread.now c.find_parent_directory_of_path.new.thread _ _ _ is (c.find_parent_directory_of_path.ensures.halves none)
+    halved_short c.args.thread.now c.find_directory_that_names_lead_to.new.thread _ _ _ is (c.find_directory_that_names_lead_to.ensures.halves none)
 
 pub returns-in-File-clause-halves : goal.returns-in-File-clause-halves
 returns-in-File-clause-halves g c none =
     let is = names_are (λ name. name.now) c.args.path.now _ _ c.in-Some.ensures.cases.0 in
-    halved_short c.args.thread.now c.find_parent_directory_of_path.new.thread _ _ _ is (c.find_parent_directory_of_path.ensures.halves none)
+    halved_short c.args.thread.now c.find_directory_that_names_lead_to.new.thread _ _ _ is (c.find_directory_that_names_lead_to.ensures.halves none)
 
 pub returns-in-Nothing-clause-halves : goal.returns-in-Nothing-clause-halves
 returns-in-Nothing-clause-halves g c none =
     let is = names_are (λ name. name.now) c.args.path.now _ _ c.in-Some.ensures.cases.0 in
-    halved_short c.args.thread.now c.find_parent_directory_of_path.new.thread _ _ _ is (c.find_parent_directory_of_path.ensures.halves none)
+    halved_short c.args.thread.now c.find_directory_that_names_lead_to.new.thread _ _ _ is (c.find_directory_that_names_lead_to.ensures.halves none)
 
 pub returns-in-Directory-clause-halves : goal.returns-in-Directory-clause-halves
 returns-in-Directory-clause-halves g c none =
     let t = c.args.thread.now.kept in
     let is = names_are (λ name. name.now) c.args.path.now _ _ c.in-Some.ensures.cases.0 in
-    let d = subst (IsParentFoundAlongPath t _) c.in-Directory.is c.in_ok-parent.ensures.answer in
-    halved_last c.args.thread.now c.find_parent_directory_of_path.new.thread _ _ _ is (c.find_parent_directory_of_path.ensures.halves none) c.look_up_shown_in_directory.new.thread c.in-Directory.parent c.requires.hiding.accepted c.find_parent_directory_of_path.ensures.reading.only d.begins (c.look_up_shown_in_directory.ensures.halves none)
+    let d = subst (IsParentReachedByAllNamesOfPath t _) c.in-Directory.is c.in_ok-parent.ensures.answer in
+    halved_last c.args.thread.now c.find_directory_that_names_lead_to.new.thread _ _ _ is (c.find_directory_that_names_lead_to.ensures.halves none) c.look_up_name_with_slot_hidden.new.thread c.in-Directory.parent c.requires.hiding.accepted c.find_directory_that_names_lead_to.ensures.reading.only d.begins (c.look_up_name_with_slot_hidden.ensures.halves none)

@@ -3,7 +3,7 @@ use Rattle.std.proofs.lemmas.Result.{err_from_is_err_and}
 use Rattle.lfs_model.specs.Disk.{Disk}
 use Rattle.lfs_model.specs.Thread.{Pair}
 use Rattle.lfs_device.specs.declared.geometry.Geometry.{Geometry}
-use Rattle.lfs_thread.specs.Steps.{no_pair}
+use Rattle.lfs_thread.specs.Steps.{empty_pair_at_anchor}
 use Rattle.lfs_lookup.specs.Profile.{HasSuperblockStructOf24Bytes}
 use Rattle.lfs_lookup.proofs.Profiled.{EachFits, IsAtPair, as_before, fits_each, fits_more, shaped_all, writable_from}
 use Rattle.lfs_lookup.proofs.ReadOnly.{only_itself}
@@ -18,17 +18,17 @@ loop-index-init g c = record {
   fit = λ i l. absurd (omega (arith, l));
 }
 
-pub fits_at-requires-clause-shaped : goal.fits_at-requires-clause-shaped
-fits_at-requires-clause-shaped g c =
+pub is_pair_at_index_in_profile-requires-clause-shaped : goal.is_pair_at_index_in_profile-requires-clause-shaped
+is_pair_at_index_in_profile-requires-clause-shaped g c =
     let inv = c.loop-index.invariant in
     let n = inv.end in
-    subst (λ (ps : List Pair). All HasSuperblockStructOf24Bytes (slice_index_or ps c.loop-index.index no_pair).content.slots) (sym inv.read.only.pairs)
+    subst (λ (ps : List Pair). All HasSuperblockStructOf24Bytes (slice_index_or ps c.loop-index.index empty_pair_at_anchor).content.slots) (sym inv.read.only.pairs)
     (shaped_all c.args.thread.now.kept.disk c.args.thread.now.kept.pairs c.loop-index.index c.requires.accepted (omega (arith, n, c.loop-index-test.true)))
 
-pub returns-in_err-fits_at-clause-reading : goal.returns-in_err-fits_at-clause-reading
-returns-in_err-fits_at-clause-reading g c =
+pub returns-in_err-is_pair_at_index_in_profile-clause-reading : goal.returns-in_err-is_pair_at_index_in_profile-clause-reading
+returns-in_err-is_pair_at_index_in_profile-clause-reading g c =
     let p = err_from_is_err_and c.from_residual.result c.from_residual.ensures.1 in
-    passed _ _ c.fits_at.result c.from_residual.result _ p.0 c.in_err-fits_at.was p.1 p.2 (further _ _ _ c.fits_at.result c.loop-index.invariant.read c.fits_at.ensures.reading)
+    passed _ _ c.is_pair_at_index_in_profile.result c.from_residual.result _ p.0 c.in_err-is_pair_at_index_in_profile.was p.1 p.2 (further _ _ _ c.is_pair_at_index_in_profile.result c.loop-index.invariant.read c.is_pair_at_index_in_profile.ensures.reading)
 
 pub returns-then-not-branch-clause-is : goal.returns-then-not-branch-clause-is
 returns-then-not-branch-clause-is g c =
@@ -39,7 +39,7 @@ returns-then-not-branch-clause-is g c =
     let size = ap (λ (x : Geometry). x.block_size) c.geometry-geometry.ensures ∙ ap (λ (d : Disk). d.block_size) c.device.ensures.disk in
     let page = ap (λ (x : Geometry). x.page) c.geometry-geometry.ensures ∙ ap (λ (d : Disk). d.page) c.device.ensures.disk in
     let is = as_before disk c.args.root c.loop-index.thread.kept.pairs ps c.loop-index.index c.geometry-geometry.result.block_size c.geometry-geometry.result.page c.is_pair_after_hard_tail-follows.result
-    size page inv.read.only.pairs c.is_pair_after_hard_tail-follows.ensures c.in_ok-fits_at.field-0 c.in_ok-fits_at.ensures.is in (
+    size page inv.read.only.pairs c.is_pair_after_hard_tail-follows.ensures c.in_ok-is_pair_at_index_in_profile.field-0 c.in_ok-is_pair_at_index_in_profile.ensures.is in (
       λ e. absurd (cc),
       λ w.
           let fits = is.1 (subst (λ root. IsAtPair disk root ps c.loop-index.index) (sym c.requires.root) (fits_each disk ps w c.loop-index.index (omega (arith, n, c.loop-index-test.true)))) in
@@ -48,7 +48,7 @@ returns-then-not-branch-clause-is g c =
 
 pub returns-then-not-branch-clause-reading : goal.returns-then-not-branch-clause-reading
 returns-then-not-branch-clause-reading g c =
-    answers _ _ (Ok false) false refl (both _ _ _ c.loop-index.invariant.read (answered _ _ c.fits_at.result c.in_ok-fits_at.field-0 c.in_ok-fits_at.was c.fits_at.ensures.reading))
+    answers _ _ (Ok false) false refl (both _ _ _ c.loop-index.invariant.read (answered _ _ c.is_pair_at_index_in_profile.result c.in_ok-is_pair_at_index_in_profile.field-0 c.in_ok-is_pair_at_index_in_profile.was c.is_pair_at_index_in_profile.ensures.reading))
 
 pub loop-index-preserved : goal.loop-index-preserved
 loop-index-preserved g c =
@@ -58,11 +58,11 @@ loop-index-preserved g c =
     let size = ap (λ (x : Geometry). x.block_size) c.geometry-geometry.ensures ∙ ap (λ (d : Disk). d.block_size) c.device.ensures.disk in
     let page = ap (λ (x : Geometry). x.page) c.geometry-geometry.ensures ∙ ap (λ (d : Disk). d.page) c.device.ensures.disk in
     let is = as_before disk c.args.root c.loop-index.thread.kept.pairs ps c.loop-index.index c.geometry-geometry.result.block_size c.geometry-geometry.result.page c.is_pair_after_hard_tail-follows.result
-    size page inv.read.only.pairs c.is_pair_after_hard_tail-follows.ensures c.in_ok-fits_at.field-0 c.in_ok-fits_at.ensures.is in
+    size page inv.read.only.pairs c.is_pair_after_hard_tail-follows.ensures c.in_ok-is_pair_at_index_in_profile.field-0 c.in_ok-is_pair_at_index_in_profile.ensures.is in
     record {
       end = inv.end;
       within = omega (arith, c.loop-index-test.true);
-      read = both _ _ _ inv.read (answered _ _ c.fits_at.result c.in_ok-fits_at.field-0 c.in_ok-fits_at.was c.fits_at.ensures.reading);
+      read = both _ _ _ inv.read (answered _ _ c.is_pair_at_index_in_profile.result c.in_ok-is_pair_at_index_in_profile.field-0 c.in_ok-is_pair_at_index_in_profile.was c.is_pair_at_index_in_profile.ensures.reading);
       fit = fits_more disk c.args.root ps c.loop-index.index inv.fit (is.0 c.if-not-branch.false);
     }
 

@@ -1,5 +1,5 @@
 use Rattle.std.proofs.Common.{◌≤◌, ◌+◌, ◌-◌, length}
-use Rattle.lfs_model.specs.History.{reads}
+use Rattle.lfs_model.specs.History.{read_count_of_history}
 use Rattle.lfs_lookup.specs.Root.{IsSuperblockInChain}
 use Rattle.lfs_lookup.proofs.Reading.{HasRead}
 use Rattle.lfs_lookup.proofs.root.find_root.Given as goal
@@ -8,7 +8,7 @@ abbrev pub invariant-loop-next : goal.invariant-loop-next
 invariant-loop-next g l = record {
   chained : IsSuperblockInChain l.fn.thread.kept l.root;
   read : HasRead l.fn.thread l.thread;
-  few : reads l.thread.kept.history ≤ reads l.fn.thread.kept.history + l.root;
+  few : read_count_of_history l.thread.kept.history ≤ read_count_of_history l.fn.thread.kept.history + l.root;
 }
 
 abbrev pub decreases-loop-next : goal.decreases-loop-next

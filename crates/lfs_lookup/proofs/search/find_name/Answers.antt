@@ -1,14 +1,14 @@
 use Rattle.std.proofs.Common.{subst₂, ℕ, ◌≡◌, ◌⊎◌, inl, inr, ◌<◌, ◌≤◌, ◌+◌, ◌-◌, ◌/◌, ◌∙◌, ◌∷◌, [], List, slice_index_or, sym, ap, subst, length, drop, arith, refl, None}
 use Rattle.std.proofs.lemmas.Result.{err_from_is_err_and}
 use Rattle.lfs_model.specs.Disk.{Disk}
-use Rattle.lfs_model.specs.History.{reads}
+use Rattle.lfs_model.specs.History.{read_count_of_history}
 use Rattle.lfs_model.specs.InDirectory.{IsIdWhereNameBelongs, HasEntryOfNameAtId, hard_tail_joined_pair_count}
 use Rattle.lfs_model.specs.Thread.{Pair}
-use Rattle.lfs_thread.specs.Steps.{kept_pair_at_index, no_pair}
-use Rattle.lfs_lookup.specs.CachedPairs.{LoadsOnlyUncachedPairs}
+use Rattle.lfs_thread.specs.Steps.{thread_pair_at_index, empty_pair_at_anchor}
+use Rattle.lfs_lookup.specs.CachedPairs.{ReadsNothingAndKeepsPairsWhereAllCached}
 use Rattle.lfs_lookup.specs.Entry.{IsEntryOfStruct}
 use Rattle.lfs_lookup.specs.Halves.{halvings_until_zero}
-use Rattle.lfs_lookup.specs.Listed.{hard_tail_run}
+use Rattle.lfs_lookup.specs.Listed.{hard_tail_joined_pairs}
 use Rattle.lfs_lookup.specs.Search.{SearchFindsInPair}
 use Rattle.lfs_lookup.proofs.Halved.{IsLow, at_run, begun, belongs_between, belongs_inside, ends, exceeds, low_past, passed, passes, run_count, stands_at, starts}
 use Rattle.lfs_lookup.proofs.HalvedReads.{HasHalved, HasLoaded, halved_all, halved_none, halved_on, halved_to_here, has_slot, loaded_nothing, loaded_on, loaded_past, loads_all, loads_here, lower_half, middle_below, upper_half}
@@ -21,20 +21,20 @@ use Rattle.lfs_lookup.proofs.search.find_name.Goals.{else-count-eq0-via-then-cou
 pub loop-low-init : goal.loop-low-init
 loop-low-init g c =
     let ps = c.args.thread.now.kept.pairs in
-    let e = c.end_of-high.ensures.count in
+    let e = c.end_of_directory_pairs-high.ensures.count in
     let one = run_some ps c.args.first c.requires.below in
-    let size : hard_tail_joined_pair_count (drop c.args.first ps) ≡ c.end_of-high.result - c.args.first = omega (arith, e) in
+    let size : hard_tail_joined_pair_count (drop c.args.first ps) ≡ c.end_of_directory_pairs-high.result - c.args.first = omega (arith, e) in
     record {
       read = has_read_nothing c.args.thread.now c.requires.works;
       from = omega arith;
       meets = omega (arith, e);
       end = omega (arith, e);
-      within = c.end_of-high.ensures.within;
-      fits = omega (arith, c.end_of-high.type_inv);
+      within = c.end_of_directory_pairs-high.ensures.within;
+      fits = omega (arith, c.end_of_directory_pairs-high.type_inv);
       few = omega (arith, e);
-      halves = λ slots. subst (λ (n : ℕ). HasHalved (halvings_until_zero (hard_tail_joined_pair_count (drop c.args.first ps))) (reads c.args.thread.now.kept.history) (reads c.args.thread.now.kept.history) n) size
-          (halved_none (reads c.args.thread.now.kept.history) (hard_tail_joined_pair_count (drop c.args.first ps)));
-      loaded = loaded_nothing (hard_tail_run (drop c.args.first ps)) c.args.first c.end_of-high.result c.args.thread.now (omega (arith, e, one));
+      halves = λ slots. subst (λ (n : ℕ). HasHalved (halvings_until_zero (hard_tail_joined_pair_count (drop c.args.first ps))) (read_count_of_history c.args.thread.now.kept.history) (read_count_of_history c.args.thread.now.kept.history) n) size
+          (halved_none (read_count_of_history c.args.thread.now.kept.history) (hard_tail_joined_pair_count (drop c.args.first ps)));
+      loaded = loaded_nothing (hard_tail_joined_pairs (drop c.args.first ps)) c.args.first c.end_of_directory_pairs-high.result c.args.thread.now (omega (arith, e, one));
       lesser = begun refl refl refl;
       greater = ends (e ∙ ap (λ (n : ℕ). c.args.first + n) (sym (run_count (drop c.args.first ps))));
     }
@@ -93,11 +93,11 @@ loop-low-preserved-then-pair-first g c =
     let ps = c.args.thread.now.kept.pairs in
     let w = c.middle_pair_number-pair.ensures.within in
     let some = c.loop-low-test.true in
-    let a = at_run ps c.args.first c.middle_pair_number-pair.result no_pair (let f = inv.from in let l = w.0 in omega (arith, f, l)) (let e = inv.end in let l = w.1 in omega (arith, e, l)) in
+    let a = at_run ps c.args.first c.middle_pair_number-pair.result empty_pair_at_anchor (let f = inv.from in let l = w.0 in omega (arith, f, l)) (let e = inv.end in let l = w.1 in omega (arith, e, l)) in
     let none = c.if-count-eq0.true in
     let is : c.middle_pair_number-pair.result ≡ c.loop-low.low = c.middle_pair_number-pair.ensures.low (sym c.slot_count-count.ensures ∙ none) in
     let later = c.if-pair-first.true in
-    let count = c.slot_count-count.ensures ∙ ap (λ (qs : List Pair). length (slice_index_or qs c.middle_pair_number-pair.result no_pair).content.slots) inv.read.only.pairs in
+    let count = c.slot_count-count.ensures ∙ ap (λ (qs : List Pair). length (slice_index_or qs c.middle_pair_number-pair.result empty_pair_at_anchor).content.slots) inv.read.only.pairs in
     let from = inv.from in
     let few = inv.few in
     let below = w.1 in
@@ -110,10 +110,10 @@ loop-low-preserved-then-pair-first g c =
       fits = inv.fits;
       few = omega (arith, few, is);
       halves = λ slots. absurd (let k = has_slot _ _ _ _ a slots in omega (arith, k, count, none));
-      loaded = subst (λ (n : ℕ). HasLoaded (hard_tail_run (drop c.args.first ps)) c.args.first (n + 1) c.loop-low.high c.args.thread.now c.loop-low.thread) (sym is)
-          (loaded_past (hard_tail_run (drop c.args.first ps)) c.args.first c.loop-low.low c.loop-low.high c.args.thread.now c.loop-low.thread inv.loaded some (omega (arith, later, is)));
-      lesser = low_past c.args.thread.now.kept.disk.order ps c.args.first c.args.name.now c.middle_pair_number-pair.result (slice_index_or ps c.middle_pair_number-pair.result no_pair) a c.loop-low.spot.pair c.loop-low.spot.id
-          (subst (λ (n : ℕ). IsLow c.args.thread.now.kept.disk.order (hard_tail_run (drop c.args.first ps)) c.args.first c.args.name.now c.loop-low.spot.pair c.loop-low.spot.id n) (sym is) inv.lesser) later (omega (arith, count, none));
+      loaded = subst (λ (n : ℕ). HasLoaded (hard_tail_joined_pairs (drop c.args.first ps)) c.args.first (n + 1) c.loop-low.high c.args.thread.now c.loop-low.thread) (sym is)
+          (loaded_past (hard_tail_joined_pairs (drop c.args.first ps)) c.args.first c.loop-low.low c.loop-low.high c.args.thread.now c.loop-low.thread inv.loaded some (omega (arith, later, is)));
+      lesser = low_past c.args.thread.now.kept.disk.order ps c.args.first c.args.name.now c.middle_pair_number-pair.result (slice_index_or ps c.middle_pair_number-pair.result empty_pair_at_anchor) a c.loop-low.spot.pair c.loop-low.spot.id
+          (subst (λ (n : ℕ). IsLow c.args.thread.now.kept.disk.order (hard_tail_joined_pairs (drop c.args.first ps)) c.args.first c.args.name.now c.loop-low.spot.pair c.loop-low.spot.id n) (sym is) inv.lesser) later (omega (arith, count, none));
       greater = inv.greater;
     }
 
@@ -135,10 +135,10 @@ returns-in_err-id-clause-loads g c =
     let ps = c.args.thread.now.kept.pairs in
     let w = c.middle_pair_number-pair.ensures.within in
     let some = c.loop-low-test.true in
-    let a = at_run ps c.args.first c.middle_pair_number-pair.result no_pair (let f = inv.from in let l = w.0 in omega (arith, f, l)) (let e = inv.end in let l = w.1 in omega (arith, e, l)) in
-    let b = subst (λ (qs : List Pair). LoadsOnlyUncachedPairs (slice_index_or qs c.middle_pair_number-pair.result no_pair ∷ []) c.loop-low.thread c.find_name_in_pair.new.thread c.find_name_in_pair.result) inv.read.only.pairs c.find_name_in_pair.ensures.loads in
+    let a = at_run ps c.args.first c.middle_pair_number-pair.result empty_pair_at_anchor (let f = inv.from in let l = w.0 in omega (arith, f, l)) (let e = inv.end in let l = w.1 in omega (arith, e, l)) in
+    let b = subst (λ (qs : List Pair). ReadsNothingAndKeepsPairsWhereAllCached (slice_index_or qs c.middle_pair_number-pair.result empty_pair_at_anchor ∷ []) c.loop-low.thread c.find_name_in_pair.new.thread c.find_name_in_pair.result) inv.read.only.pairs c.find_name_in_pair.ensures.loads in
     let p = err_from_is_err_and c.from_residual.result c.from_residual.ensures.1 in
-    loads_here (hard_tail_run (drop c.args.first ps)) c.args.first c.loop-low.low c.loop-low.high c.middle_pair_number-pair.result (slice_index_or ps c.middle_pair_number-pair.result no_pair) c.args.thread.now c.loop-low.thread c.find_name_in_pair.new.thread c.find_name_in_pair.result a inv.loaded some b c.from_residual.result (passes_none c.find_name_in_pair.result c.from_residual.result p.0 p.1)
+    loads_here (hard_tail_joined_pairs (drop c.args.first ps)) c.args.first c.loop-low.low c.loop-low.high c.middle_pair_number-pair.result (slice_index_or ps c.middle_pair_number-pair.result empty_pair_at_anchor) c.args.thread.now c.loop-low.thread c.find_name_in_pair.new.thread c.find_name_in_pair.result a inv.loaded some b c.from_residual.result (passes_none c.find_name_in_pair.result c.from_residual.result p.0 p.1)
 
 pub returns-in_err-id-clause-reading : goal.returns-in_err-id-clause-reading
 returns-in_err-id-clause-reading g c =
@@ -151,10 +151,10 @@ returns-in-Found-clause-answer g c =
     let ps = c.args.thread.now.kept.pairs in
     let w = c.middle_pair_number-pair.ensures.within in
     let some = c.loop-low-test.true in
-    let a = at_run ps c.args.first c.middle_pair_number-pair.result no_pair (let f = inv.from in let l = w.0 in omega (arith, f, l)) (let e = inv.end in let l = w.1 in omega (arith, e, l)) in
-    let answer = subst (λ o. SearchFindsInPair c.loop-low.thread.kept.disk.order None (kept_pair_at_index c.loop-low.thread.kept c.middle_pair_number-pair.result).content.slots c.args.name.now o) c.in-Found.is c.in_ok-id.ensures.answer in
-    let (s, shows) = subst (λ (qs : List Pair). (s : HasEntryOfNameAtId (slice_index_or qs c.middle_pair_number-pair.result no_pair).content.slots c.args.name.now c.in-Found.id) × IsEntryOfStruct c.in-Found.entry s.slot.struct) inv.read.only.pairs (answer.stands, answer.shows) in
-    stands_at c.args.thread.now.kept.disk.order ps c.args.first c.args.name.now c.middle_pair_number-pair.result (slice_index_or ps c.middle_pair_number-pair.result no_pair) a c.requires.below c.in-Found.id c.in-Found.entry s shows
+    let a = at_run ps c.args.first c.middle_pair_number-pair.result empty_pair_at_anchor (let f = inv.from in let l = w.0 in omega (arith, f, l)) (let e = inv.end in let l = w.1 in omega (arith, e, l)) in
+    let answer = subst (λ o. SearchFindsInPair c.loop-low.thread.kept.disk.order None (thread_pair_at_index c.loop-low.thread.kept c.middle_pair_number-pair.result).content.slots c.args.name.now o) c.in-Found.is c.in_ok-id.ensures.answer in
+    let (s, shows) = subst (λ (qs : List Pair). (s : HasEntryOfNameAtId (slice_index_or qs c.middle_pair_number-pair.result empty_pair_at_anchor).content.slots c.args.name.now c.in-Found.id) × IsEntryOfStruct c.in-Found.entry s.slot.struct) inv.read.only.pairs (answer.stands, answer.shows) in
+    stands_at c.args.thread.now.kept.disk.order ps c.args.first c.args.name.now c.middle_pair_number-pair.result (slice_index_or ps c.middle_pair_number-pair.result empty_pair_at_anchor) a c.requires.below c.in-Found.id c.in-Found.entry s shows
 
 pub returns-in-Found-clause-few : goal.returns-in-Found-clause-few
 returns-in-Found-clause-few g c =
@@ -174,9 +174,9 @@ returns-in-Found-clause-loads g c =
     let ps = c.args.thread.now.kept.pairs in
     let w = c.middle_pair_number-pair.ensures.within in
     let some = c.loop-low-test.true in
-    let a = at_run ps c.args.first c.middle_pair_number-pair.result no_pair (let f = inv.from in let l = w.0 in omega (arith, f, l)) (let e = inv.end in let l = w.1 in omega (arith, e, l)) in
-    let b = subst (λ (qs : List Pair). LoadsOnlyUncachedPairs (slice_index_or qs c.middle_pair_number-pair.result no_pair ∷ []) c.loop-low.thread c.find_name_in_pair.new.thread c.find_name_in_pair.result) inv.read.only.pairs c.find_name_in_pair.ensures.loads in
-    loads_here (hard_tail_run (drop c.args.first ps)) c.args.first c.loop-low.low c.loop-low.high c.middle_pair_number-pair.result (slice_index_or ps c.middle_pair_number-pair.result no_pair) c.args.thread.now c.loop-low.thread c.find_name_in_pair.new.thread c.find_name_in_pair.result a inv.loaded some b _ (λ P h. on_ok c.find_name_in_pair.result c.in_ok-id.field-0 P c.in_ok-id.was h)
+    let a = at_run ps c.args.first c.middle_pair_number-pair.result empty_pair_at_anchor (let f = inv.from in let l = w.0 in omega (arith, f, l)) (let e = inv.end in let l = w.1 in omega (arith, e, l)) in
+    let b = subst (λ (qs : List Pair). ReadsNothingAndKeepsPairsWhereAllCached (slice_index_or qs c.middle_pair_number-pair.result empty_pair_at_anchor ∷ []) c.loop-low.thread c.find_name_in_pair.new.thread c.find_name_in_pair.result) inv.read.only.pairs c.find_name_in_pair.ensures.loads in
+    loads_here (hard_tail_joined_pairs (drop c.args.first ps)) c.args.first c.loop-low.low c.loop-low.high c.middle_pair_number-pair.result (slice_index_or ps c.middle_pair_number-pair.result empty_pair_at_anchor) c.args.thread.now c.loop-low.thread c.find_name_in_pair.new.thread c.find_name_in_pair.result a inv.loaded some b _ (λ P h. on_ok c.find_name_in_pair.result c.in_ok-id.field-0 P c.in_ok-id.was h)
 
 pub returns-in-Found-clause-reading : goal.returns-in-Found-clause-reading
 returns-in-Found-clause-reading g c =
@@ -189,18 +189,18 @@ returns-then-from-count-clause-answer g c =
     let ps = c.args.thread.now.kept.pairs in
     let w = c.middle_pair_number-pair.ensures.within in
     let some = c.loop-low-test.true in
-    let a = at_run ps c.args.first c.middle_pair_number-pair.result no_pair (let f = inv.from in let l = w.0 in omega (arith, f, l)) (let e = inv.end in let l = w.1 in omega (arith, e, l)) in
-    let answer = subst (λ o. SearchFindsInPair c.loop-low.thread.kept.disk.order None (kept_pair_at_index c.loop-low.thread.kept c.middle_pair_number-pair.result).content.slots c.args.name.now o) c.in-Place.is c.in_ok-id.ensures.answer in
-    let place = subst₂ (λ (d : Disk) (qs : List Pair). IsIdWhereNameBelongs d.order (slice_index_or qs c.middle_pair_number-pair.result no_pair).content.slots c.args.name.now c.in-Place.id) inv.read.only.disk inv.read.only.pairs (answer.place refl) in
-    let count = c.slot_count-count.ensures ∙ ap (λ (qs : List Pair). length (slice_index_or qs c.middle_pair_number-pair.result no_pair).content.slots) inv.read.only.pairs in
+    let a = at_run ps c.args.first c.middle_pair_number-pair.result empty_pair_at_anchor (let f = inv.from in let l = w.0 in omega (arith, f, l)) (let e = inv.end in let l = w.1 in omega (arith, e, l)) in
+    let answer = subst (λ o. SearchFindsInPair c.loop-low.thread.kept.disk.order None (thread_pair_at_index c.loop-low.thread.kept c.middle_pair_number-pair.result).content.slots c.args.name.now o) c.in-Place.is c.in_ok-id.ensures.answer in
+    let place = subst₂ (λ (d : Disk) (qs : List Pair). IsIdWhereNameBelongs d.order (slice_index_or qs c.middle_pair_number-pair.result empty_pair_at_anchor).content.slots c.args.name.now c.in-Place.id) inv.read.only.disk inv.read.only.pairs (answer.place refl) in
+    let count = c.slot_count-count.ensures ∙ ap (λ (qs : List Pair). length (slice_index_or qs c.middle_pair_number-pair.result empty_pair_at_anchor).content.slots) inv.read.only.pairs in
     let less = c.if-from-count.true in
     let from = c.from.ensures in
-    let inside : c.in-Place.id < length (slice_index_or ps c.middle_pair_number-pair.result no_pair).content.slots = omega (arith, less, from, count) in
+    let inside : c.in-Place.id < length (slice_index_or ps c.middle_pair_number-pair.result empty_pair_at_anchor).content.slots = omega (arith, less, from, count) in
     let other : 0 < c.in-Place.id = elim c.else-id-eq0.branch [
       | else-id-eq0-via-then-id-eq0+else-count-gt0 v ↦ absurd (let k = v.if-count-gt0.false in omega (arith, k, inside, count))
       | else-id-eq0-via-else-id-eq0 v ↦ (let k = v.if-id-eq0.false in omega (arith, k))
     ] in
-    belongs_inside c.args.thread.now.kept.disk.order ps c.args.first c.args.name.now c.middle_pair_number-pair.result (slice_index_or ps c.middle_pair_number-pair.result no_pair) a c.requires.below c.requires.entries c.in-Place.id place (inr other) inside
+    belongs_inside c.args.thread.now.kept.disk.order ps c.args.first c.args.name.now c.middle_pair_number-pair.result (slice_index_or ps c.middle_pair_number-pair.result empty_pair_at_anchor) a c.requires.below c.requires.entries c.in-Place.id place (inr other) inside
 
 pub returns-then-from-count-clause-few : goal.returns-then-from-count-clause-few
 returns-then-from-count-clause-few g c =
@@ -220,9 +220,9 @@ returns-then-from-count-clause-loads g c =
     let ps = c.args.thread.now.kept.pairs in
     let w = c.middle_pair_number-pair.ensures.within in
     let some = c.loop-low-test.true in
-    let a = at_run ps c.args.first c.middle_pair_number-pair.result no_pair (let f = inv.from in let l = w.0 in omega (arith, f, l)) (let e = inv.end in let l = w.1 in omega (arith, e, l)) in
-    let b = subst (λ (qs : List Pair). LoadsOnlyUncachedPairs (slice_index_or qs c.middle_pair_number-pair.result no_pair ∷ []) c.loop-low.thread c.find_name_in_pair.new.thread c.find_name_in_pair.result) inv.read.only.pairs c.find_name_in_pair.ensures.loads in
-    loads_here (hard_tail_run (drop c.args.first ps)) c.args.first c.loop-low.low c.loop-low.high c.middle_pair_number-pair.result (slice_index_or ps c.middle_pair_number-pair.result no_pair) c.args.thread.now c.loop-low.thread c.find_name_in_pair.new.thread c.find_name_in_pair.result a inv.loaded some b _ (λ P h. on_ok c.find_name_in_pair.result c.in_ok-id.field-0 P c.in_ok-id.was h)
+    let a = at_run ps c.args.first c.middle_pair_number-pair.result empty_pair_at_anchor (let f = inv.from in let l = w.0 in omega (arith, f, l)) (let e = inv.end in let l = w.1 in omega (arith, e, l)) in
+    let b = subst (λ (qs : List Pair). ReadsNothingAndKeepsPairsWhereAllCached (slice_index_or qs c.middle_pair_number-pair.result empty_pair_at_anchor ∷ []) c.loop-low.thread c.find_name_in_pair.new.thread c.find_name_in_pair.result) inv.read.only.pairs c.find_name_in_pair.ensures.loads in
+    loads_here (hard_tail_joined_pairs (drop c.args.first ps)) c.args.first c.loop-low.low c.loop-low.high c.middle_pair_number-pair.result (slice_index_or ps c.middle_pair_number-pair.result empty_pair_at_anchor) c.args.thread.now c.loop-low.thread c.find_name_in_pair.new.thread c.find_name_in_pair.result a inv.loaded some b _ (λ P h. on_ok c.find_name_in_pair.result c.in_ok-id.field-0 P c.in_ok-id.was h)
 
 pub returns-then-from-count-clause-reading : goal.returns-then-from-count-clause-reading
 returns-then-from-count-clause-reading g c =
@@ -235,11 +235,11 @@ loop-low-preserved-then-count-gt0 g c =
     let ps = c.args.thread.now.kept.pairs in
     let w = c.middle_pair_number-pair.ensures.within in
     let some = c.loop-low-test.true in
-    let a = at_run ps c.args.first c.middle_pair_number-pair.result no_pair (let f = inv.from in let l = w.0 in omega (arith, f, l)) (let e = inv.end in let l = w.1 in omega (arith, e, l)) in
-    let b = subst (λ (qs : List Pair). LoadsOnlyUncachedPairs (slice_index_or qs c.middle_pair_number-pair.result no_pair ∷ []) c.loop-low.thread c.find_name_in_pair.new.thread c.find_name_in_pair.result) inv.read.only.pairs c.find_name_in_pair.ensures.loads in
-    let answer = subst (λ o. SearchFindsInPair c.loop-low.thread.kept.disk.order None (kept_pair_at_index c.loop-low.thread.kept c.middle_pair_number-pair.result).content.slots c.args.name.now o) c.in-Place.is c.in_ok-id.ensures.answer in
-    let place = subst₂ (λ (d : Disk) (qs : List Pair). IsIdWhereNameBelongs d.order (slice_index_or qs c.middle_pair_number-pair.result no_pair).content.slots c.args.name.now c.in-Place.id) inv.read.only.disk inv.read.only.pairs (answer.place refl) in
-    let count = c.slot_count-count.ensures ∙ ap (λ (qs : List Pair). length (slice_index_or qs c.middle_pair_number-pair.result no_pair).content.slots) inv.read.only.pairs in
+    let a = at_run ps c.args.first c.middle_pair_number-pair.result empty_pair_at_anchor (let f = inv.from in let l = w.0 in omega (arith, f, l)) (let e = inv.end in let l = w.1 in omega (arith, e, l)) in
+    let b = subst (λ (qs : List Pair). ReadsNothingAndKeepsPairsWhereAllCached (slice_index_or qs c.middle_pair_number-pair.result empty_pair_at_anchor ∷ []) c.loop-low.thread c.find_name_in_pair.new.thread c.find_name_in_pair.result) inv.read.only.pairs c.find_name_in_pair.ensures.loads in
+    let answer = subst (λ o. SearchFindsInPair c.loop-low.thread.kept.disk.order None (thread_pair_at_index c.loop-low.thread.kept c.middle_pair_number-pair.result).content.slots c.args.name.now o) c.in-Place.is c.in_ok-id.ensures.answer in
+    let place = subst₂ (λ (d : Disk) (qs : List Pair). IsIdWhereNameBelongs d.order (slice_index_or qs c.middle_pair_number-pair.result empty_pair_at_anchor).content.slots c.args.name.now c.in-Place.id) inv.read.only.disk inv.read.only.pairs (answer.place refl) in
+    let count = c.slot_count-count.ensures ∙ ap (λ (qs : List Pair). length (slice_index_or qs c.middle_pair_number-pair.result empty_pair_at_anchor).content.slots) inv.read.only.pairs in
     let few = inv.few in
     let once = c.find_name_in_pair.ensures.few in
     let from = inv.from in
@@ -262,12 +262,12 @@ loop-low-preserved-then-count-gt0 g c =
       halves = λ slots. halved_on _ _ _ _ (c.loop-low.high - c.loop-low.low) _ (inv.halves slots) (omega (arith, some))
           (lower_half c.loop-low.low c.loop-low.high c.middle_pair_number-pair.result some
           (c.middle_pair_number-pair.ensures.middle
-          (subst (λ (qs : List Pair). 0 < length (slice_index_or qs (c.loop-low.low + (c.loop-low.high - c.loop-low.low) / 2) no_pair).content.slots) (sym inv.read.only.pairs)
-          (has_slot _ _ _ _ (at_run ps c.args.first (c.loop-low.low + (c.loop-low.high - c.loop-low.low) / 2) no_pair (omega (arith, from)) (let m = middle_below c.loop-low.low c.loop-low.high some in omega (arith, m, end))) slots))))
+          (subst (λ (qs : List Pair). 0 < length (slice_index_or qs (c.loop-low.low + (c.loop-low.high - c.loop-low.low) / 2) empty_pair_at_anchor).content.slots) (sym inv.read.only.pairs)
+          (has_slot _ _ _ _ (at_run ps c.args.first (c.loop-low.low + (c.loop-low.high - c.loop-low.low) / 2) empty_pair_at_anchor (omega (arith, from)) (let m = middle_below c.loop-low.low c.loop-low.high some in omega (arith, m, end))) slots))))
           once;
-      loaded = loaded_on (hard_tail_run (drop c.args.first ps)) c.args.first c.loop-low.low c.loop-low.high c.middle_pair_number-pair.result (slice_index_or ps c.middle_pair_number-pair.result no_pair) c.args.thread.now c.loop-low.thread c.find_name_in_pair.new.thread c.find_name_in_pair.result a inv.loaded some b c.in_ok-id.field-0 c.in_ok-id.was c.find_name_in_pair.ensures.reading.only.disk c.loop-low.low c.middle_pair_number-pair.result (λ e. omega (arith, e, run, end, most, from));
+      loaded = loaded_on (hard_tail_joined_pairs (drop c.args.first ps)) c.args.first c.loop-low.low c.loop-low.high c.middle_pair_number-pair.result (slice_index_or ps c.middle_pair_number-pair.result empty_pair_at_anchor) c.args.thread.now c.loop-low.thread c.find_name_in_pair.new.thread c.find_name_in_pair.result a inv.loaded some b c.in_ok-id.field-0 c.in_ok-id.was c.find_name_in_pair.ensures.reading.only.disk c.loop-low.low c.middle_pair_number-pair.result (λ e. omega (arith, e, run, end, most, from));
       lesser = inv.lesser;
-      greater = starts (exceeds c.args.thread.now.kept.disk.order ps c.args.first c.args.name.now c.middle_pair_number-pair.result (slice_index_or ps c.middle_pair_number-pair.result no_pair) a c.in-Place.id place (omega (arith, none)) (omega (arith, has, count)));
+      greater = starts (exceeds c.args.thread.now.kept.disk.order ps c.args.first c.args.name.now c.middle_pair_number-pair.result (slice_index_or ps c.middle_pair_number-pair.result empty_pair_at_anchor) a c.in-Place.id place (omega (arith, none)) (omega (arith, has, count)));
     }
 
 pub loop-low-preserved : goal.loop-low-preserved
@@ -276,11 +276,11 @@ loop-low-preserved g c =
     let ps = c.args.thread.now.kept.pairs in
     let w = c.middle_pair_number-pair.ensures.within in
     let some = c.loop-low-test.true in
-    let a = at_run ps c.args.first c.middle_pair_number-pair.result no_pair (let f = inv.from in let l = w.0 in omega (arith, f, l)) (let e = inv.end in let l = w.1 in omega (arith, e, l)) in
-    let b = subst (λ (qs : List Pair). LoadsOnlyUncachedPairs (slice_index_or qs c.middle_pair_number-pair.result no_pair ∷ []) c.loop-low.thread c.find_name_in_pair.new.thread c.find_name_in_pair.result) inv.read.only.pairs c.find_name_in_pair.ensures.loads in
-    let answer = subst (λ o. SearchFindsInPair c.loop-low.thread.kept.disk.order None (kept_pair_at_index c.loop-low.thread.kept c.middle_pair_number-pair.result).content.slots c.args.name.now o) c.in-Place.is c.in_ok-id.ensures.answer in
-    let place = subst₂ (λ (d : Disk) (qs : List Pair). IsIdWhereNameBelongs d.order (slice_index_or qs c.middle_pair_number-pair.result no_pair).content.slots c.args.name.now c.in-Place.id) inv.read.only.disk inv.read.only.pairs (answer.place refl) in
-    let count = c.slot_count-count.ensures ∙ ap (λ (qs : List Pair). length (slice_index_or qs c.middle_pair_number-pair.result no_pair).content.slots) inv.read.only.pairs in
+    let a = at_run ps c.args.first c.middle_pair_number-pair.result empty_pair_at_anchor (let f = inv.from in let l = w.0 in omega (arith, f, l)) (let e = inv.end in let l = w.1 in omega (arith, e, l)) in
+    let b = subst (λ (qs : List Pair). ReadsNothingAndKeepsPairsWhereAllCached (slice_index_or qs c.middle_pair_number-pair.result empty_pair_at_anchor ∷ []) c.loop-low.thread c.find_name_in_pair.new.thread c.find_name_in_pair.result) inv.read.only.pairs c.find_name_in_pair.ensures.loads in
+    let answer = subst (λ o. SearchFindsInPair c.loop-low.thread.kept.disk.order None (thread_pair_at_index c.loop-low.thread.kept c.middle_pair_number-pair.result).content.slots c.args.name.now o) c.in-Place.is c.in_ok-id.ensures.answer in
+    let place = subst₂ (λ (d : Disk) (qs : List Pair). IsIdWhereNameBelongs d.order (slice_index_or qs c.middle_pair_number-pair.result empty_pair_at_anchor).content.slots c.args.name.now c.in-Place.id) inv.read.only.disk inv.read.only.pairs (answer.place refl) in
+    let count = c.slot_count-count.ensures ∙ ap (λ (qs : List Pair). length (slice_index_or qs c.middle_pair_number-pair.result empty_pair_at_anchor).content.slots) inv.read.only.pairs in
     let few = inv.few in
     let once = c.find_name_in_pair.ensures.few in
     let from = inv.from in
@@ -290,7 +290,7 @@ loop-low-preserved g c =
     let least = w.0 in
     let most = w.1 in
     let run = run_count (drop c.args.first ps) in
-    let all : length (slice_index_or ps c.middle_pair_number-pair.result no_pair).content.slots ≤ c.in-Place.id = (let t = c.if-from-count.false in let f = c.from.ensures in omega (arith, t, f, count)) in
+    let all : length (slice_index_or ps c.middle_pair_number-pair.result empty_pair_at_anchor).content.slots ≤ c.in-Place.id = (let t = c.if-from-count.false in let f = c.from.ensures in omega (arith, t, f, count)) in
     let why : (c.middle_pair_number-pair.result ≡ c.args.first) ⊎ (0 < c.in-Place.id) = elim c.else-count-eq0.branch [
       | else-count-eq0-via-then-count-eq0+else-pair-first v ↦ inl (let k = v.if-pair-first.false in omega (arith, k, from, least))
       | else-count-eq0-via-else-count-eq0 v ↦ inr (elim c.else-id-eq0.branch [
@@ -309,11 +309,11 @@ loop-low-preserved g c =
       halves = λ slots. halved_on _ _ _ _ (c.loop-low.high - c.loop-low.low) _ (inv.halves slots) (omega (arith, some))
           (upper_half c.loop-low.low c.loop-low.high c.middle_pair_number-pair.result some
           (c.middle_pair_number-pair.ensures.middle
-          (subst (λ (qs : List Pair). 0 < length (slice_index_or qs (c.loop-low.low + (c.loop-low.high - c.loop-low.low) / 2) no_pair).content.slots) (sym inv.read.only.pairs)
-          (has_slot _ _ _ _ (at_run ps c.args.first (c.loop-low.low + (c.loop-low.high - c.loop-low.low) / 2) no_pair (omega (arith, from)) (let m = middle_below c.loop-low.low c.loop-low.high some in omega (arith, m, end))) slots))))
+          (subst (λ (qs : List Pair). 0 < length (slice_index_or qs (c.loop-low.low + (c.loop-low.high - c.loop-low.low) / 2) empty_pair_at_anchor).content.slots) (sym inv.read.only.pairs)
+          (has_slot _ _ _ _ (at_run ps c.args.first (c.loop-low.low + (c.loop-low.high - c.loop-low.low) / 2) empty_pair_at_anchor (omega (arith, from)) (let m = middle_below c.loop-low.low c.loop-low.high some in omega (arith, m, end))) slots))))
           once;
-      loaded = loaded_on (hard_tail_run (drop c.args.first ps)) c.args.first c.loop-low.low c.loop-low.high c.middle_pair_number-pair.result (slice_index_or ps c.middle_pair_number-pair.result no_pair) c.args.thread.now c.loop-low.thread c.find_name_in_pair.new.thread c.find_name_in_pair.result a inv.loaded some b c.in_ok-id.field-0 c.in_ok-id.was c.find_name_in_pair.ensures.reading.only.disk (c.middle_pair_number-pair.result + 1) c.loop-low.high (λ e. omega (arith, e, run, end, least, from));
-      lesser = passed (passes c.args.thread.now.kept.disk.order ps c.args.first c.args.name.now c.middle_pair_number-pair.result (slice_index_or ps c.middle_pair_number-pair.result no_pair) a c.requires.entries c.in-Place.id place why all);
+      loaded = loaded_on (hard_tail_joined_pairs (drop c.args.first ps)) c.args.first c.loop-low.low c.loop-low.high c.middle_pair_number-pair.result (slice_index_or ps c.middle_pair_number-pair.result empty_pair_at_anchor) c.args.thread.now c.loop-low.thread c.find_name_in_pair.new.thread c.find_name_in_pair.result a inv.loaded some b c.in_ok-id.field-0 c.in_ok-id.was c.find_name_in_pair.ensures.reading.only.disk (c.middle_pair_number-pair.result + 1) c.loop-low.high (λ e. omega (arith, e, run, end, least, from));
+      lesser = passed (passes c.args.thread.now.kept.disk.order ps c.args.first c.args.name.now c.middle_pair_number-pair.result (slice_index_or ps c.middle_pair_number-pair.result empty_pair_at_anchor) a c.requires.entries c.in-Place.id place why all);
       greater = inv.greater;
     }
 
@@ -322,7 +322,7 @@ returns-clause-answer g c =
     let inv = c.loop-low.invariant in
     let past = c.loop-low-test.false in
     let meets = inv.meets in
-    belongs_between c.args.thread.now.kept.disk.order c.args.thread.now.kept.pairs c.args.first c.args.name.now c.requires.below c.end_of-high.ensures.soft c.loop-low.spot.pair c.loop-low.spot.id c.loop-low.low c.loop-low.high inv.lesser inv.greater
+    belongs_between c.args.thread.now.kept.disk.order c.args.thread.now.kept.pairs c.args.first c.args.name.now c.requires.below c.end_of_directory_pairs-high.ensures.soft c.loop-low.spot.pair c.loop-low.spot.id c.loop-low.low c.loop-low.high inv.lesser inv.greater
     (omega (arith, past, meets))
 
 pub returns-clause-few : goal.returns-clause-few
@@ -336,7 +336,7 @@ returns-clause-halves g c slots =
 
 pub returns-clause-loads : goal.returns-clause-loads
 returns-clause-loads g c =
-    loads_all (hard_tail_run (drop c.args.first c.args.thread.now.kept.pairs)) c.args.first c.loop-low.low c.loop-low.high c.args.thread.now c.loop-low.thread _ _ refl c.loop-low.invariant.loaded c.loop-low-test.false
+    loads_all (hard_tail_joined_pairs (drop c.args.first c.args.thread.now.kept.pairs)) c.args.first c.loop-low.low c.loop-low.high c.args.thread.now c.loop-low.thread _ _ refl c.loop-low.invariant.loaded c.loop-low-test.false
 
 pub returns-clause-reading : goal.returns-clause-reading
 returns-clause-reading g c = answers _ _ _ _ refl c.loop-low.invariant.read

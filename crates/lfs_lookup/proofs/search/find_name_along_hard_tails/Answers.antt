@@ -2,9 +2,9 @@ use Rattle.std.proofs.Common.{ℕ, ◌≡◌, ◌<◌, ◌+◌, ◌∙◌, ◌�
 use Rattle.std.proofs.lemmas.Result.{err_from_is_err_and}
 use Rattle.lfs_model.specs.InDirectory.{hard_tail_joined_pair_count}
 use Rattle.lfs_model.specs.Thread.{Pair, is_hard_tail}
-use Rattle.lfs_thread.specs.Steps.{kept_pair_at_index, no_pair}
-use Rattle.lfs_lookup.specs.CachedPairs.{LoadsOnlyUncachedPairs}
-use Rattle.lfs_lookup.specs.Listed.{hard_tail_run}
+use Rattle.lfs_thread.specs.Steps.{thread_pair_at_index, empty_pair_at_anchor}
+use Rattle.lfs_lookup.specs.CachedPairs.{ReadsNothingAndKeepsPairsWhereAllCached}
+use Rattle.lfs_lookup.specs.Listed.{hard_tail_joined_pairs}
 use Rattle.lfs_lookup.specs.Search.{SearchFindsInPair, IsNameAbsentAlongHardTails, IsNameAbsentExceptAtId, HasNameAtUnskippedId}
 use Rattle.lfs_lookup.proofs.Directories.{run_hard_on, run_on as run_here_on, run_some_on}
 use Rattle.lfs_lookup.proofs.Reading.{answered, answers, both}
@@ -20,10 +20,10 @@ loop-id-init g c = record {
   no_fault = refl;
   works = c.requires.works;
   few = omega arith;
-  along = loaded_none (hard_tail_run (drop c.args.first c.args.thread.now.kept.pairs)) c.args.thread.now;
+  along = loaded_none (hard_tail_joined_pairs (drop c.args.first c.args.thread.now.kept.pairs)) c.args.thread.now;
   from = omega arith;
   below = c.requires.below;
-  reached = reached_first c.args.thread.now.kept.pairs c.args.first no_pair c.requires.below;
+  reached = reached_first c.args.thread.now.kept.pairs c.args.first empty_pair_at_anchor c.requires.below;
   absent = λ h. h;
 }
 
@@ -40,8 +40,8 @@ returns-in_err-id-clause-loads g c =
     let inv = c.loop-id.invariant in
     let p = err_from_is_err_and c.from_residual.result c.from_residual.ensures.1 in
     let ps = c.args.thread.now.kept.pairs in
-    loads_to_here _ _ _ (slice_index_or ps c.loop-id.pair no_pair) c.args.thread.now c.loop-id.thread c.find_name_in_pair.new.thread c.find_name_in_pair.result inv.along (run_here_on ps c.loop-id.pair no_pair inv.below)
-    (subst (λ (qs : List Pair). LoadsOnlyUncachedPairs (slice_index_or qs c.loop-id.pair no_pair ∷ []) c.loop-id.thread c.find_name_in_pair.new.thread c.find_name_in_pair.result) inv.only.pairs c.find_name_in_pair.ensures.loads)
+    loads_to_here _ _ _ (slice_index_or ps c.loop-id.pair empty_pair_at_anchor) c.args.thread.now c.loop-id.thread c.find_name_in_pair.new.thread c.find_name_in_pair.result inv.along (run_here_on ps c.loop-id.pair empty_pair_at_anchor inv.below)
+    (subst (λ (qs : List Pair). ReadsNothingAndKeepsPairsWhereAllCached (slice_index_or qs c.loop-id.pair empty_pair_at_anchor ∷ []) c.loop-id.thread c.find_name_in_pair.new.thread c.find_name_in_pair.result) inv.only.pairs c.find_name_in_pair.ensures.loads)
     c.from_residual.result (passes_none c.find_name_in_pair.result c.from_residual.result p.0 p.1)
 
 pub returns-in_err-id-clause-reading : goal.returns-in_err-id-clause-reading
@@ -58,17 +58,17 @@ pub returns-in-Found-clause-answer : goal.returns-in-Found-clause-answer
 returns-in-Found-clause-answer g c =
     let inv = c.loop-id.invariant in
     let ps = c.args.thread.now.kept.pairs in
-    let a = subst (λ o. SearchFindsInPair c.loop-id.thread.kept.disk.order c.skipped_id_in-skip.result (kept_pair_at_index c.loop-id.thread.kept c.loop-id.pair).content.slots c.args.name.now o) c.in-Found.is c.in_ok-id.ensures.answer in
-    let b = subst (λ qs. HasNameAtUnskippedId c.skipped_id_in-skip.result (slice_index_or qs c.loop-id.pair no_pair).content.slots c.args.name.now c.in-Found.id c.in-Found.entry) inv.only.pairs a in
-    shown_here ps c.args.moved c.args.first c.args.name.now _ (slice_index_or ps c.loop-id.pair no_pair) c.in-Found.entry inv.reached
-    (subst (λ k. HasNameAtUnskippedId k (slice_index_or ps c.loop-id.pair no_pair).content.slots c.args.name.now c.in-Found.id c.in-Found.entry) c.skipped_id_in-skip.ensures b)
+    let a = subst (λ o. SearchFindsInPair c.loop-id.thread.kept.disk.order c.id_to_skip_in_pair-skip.result (thread_pair_at_index c.loop-id.thread.kept c.loop-id.pair).content.slots c.args.name.now o) c.in-Found.is c.in_ok-id.ensures.answer in
+    let b = subst (λ qs. HasNameAtUnskippedId c.id_to_skip_in_pair-skip.result (slice_index_or qs c.loop-id.pair empty_pair_at_anchor).content.slots c.args.name.now c.in-Found.id c.in-Found.entry) inv.only.pairs a in
+    shown_here ps c.args.moved c.args.first c.args.name.now _ (slice_index_or ps c.loop-id.pair empty_pair_at_anchor) c.in-Found.entry inv.reached
+    (subst (λ k. HasNameAtUnskippedId k (slice_index_or ps c.loop-id.pair empty_pair_at_anchor).content.slots c.args.name.now c.in-Found.id c.in-Found.entry) c.id_to_skip_in_pair-skip.ensures b)
 
 pub returns-in-Found-clause-loads : goal.returns-in-Found-clause-loads
 returns-in-Found-clause-loads g c =
     let inv = c.loop-id.invariant in
     let ps = c.args.thread.now.kept.pairs in
-    loads_to_here _ _ _ (slice_index_or ps c.loop-id.pair no_pair) c.args.thread.now c.loop-id.thread c.find_name_in_pair.new.thread c.find_name_in_pair.result inv.along (run_here_on ps c.loop-id.pair no_pair inv.below)
-    (subst (λ (qs : List Pair). LoadsOnlyUncachedPairs (slice_index_or qs c.loop-id.pair no_pair ∷ []) c.loop-id.thread c.find_name_in_pair.new.thread c.find_name_in_pair.result) inv.only.pairs c.find_name_in_pair.ensures.loads)
+    loads_to_here _ _ _ (slice_index_or ps c.loop-id.pair empty_pair_at_anchor) c.args.thread.now c.loop-id.thread c.find_name_in_pair.new.thread c.find_name_in_pair.result inv.along (run_here_on ps c.loop-id.pair empty_pair_at_anchor inv.below)
+    (subst (λ (qs : List Pair). ReadsNothingAndKeepsPairsWhereAllCached (slice_index_or qs c.loop-id.pair empty_pair_at_anchor ∷ []) c.loop-id.thread c.find_name_in_pair.new.thread c.find_name_in_pair.result) inv.only.pairs c.find_name_in_pair.ensures.loads)
     _ (λ P h. on_ok c.find_name_in_pair.result c.in_ok-id.field-0 P c.in_ok-id.was h)
 
 pub returns-in-Found-clause-reading : goal.returns-in-Found-clause-reading
@@ -80,8 +80,8 @@ pub returns-in-None-clause-loads : goal.returns-in-None-clause-loads
 returns-in-None-clause-loads g c =
     let inv = c.loop-id.invariant in
     let ps = c.args.thread.now.kept.pairs in
-    loads_to_here _ _ _ (slice_index_or ps c.loop-id.pair no_pair) c.args.thread.now c.loop-id.thread c.find_name_in_pair.new.thread c.find_name_in_pair.result inv.along (run_here_on ps c.loop-id.pair no_pair inv.below)
-    (subst (λ (qs : List Pair). LoadsOnlyUncachedPairs (slice_index_or qs c.loop-id.pair no_pair ∷ []) c.loop-id.thread c.find_name_in_pair.new.thread c.find_name_in_pair.result) inv.only.pairs c.find_name_in_pair.ensures.loads)
+    loads_to_here _ _ _ (slice_index_or ps c.loop-id.pair empty_pair_at_anchor) c.args.thread.now c.loop-id.thread c.find_name_in_pair.new.thread c.find_name_in_pair.result inv.along (run_here_on ps c.loop-id.pair empty_pair_at_anchor inv.below)
+    (subst (λ (qs : List Pair). ReadsNothingAndKeepsPairsWhereAllCached (slice_index_or qs c.loop-id.pair empty_pair_at_anchor ∷ []) c.loop-id.thread c.find_name_in_pair.new.thread c.find_name_in_pair.result) inv.only.pairs c.find_name_in_pair.ensures.loads)
     _ (λ P h. on_ok c.find_name_in_pair.result c.in_ok-id.field-0 P c.in_ok-id.was h)
 
 pub returns-in-None-clause-reading : goal.returns-in-None-clause-reading
@@ -93,27 +93,27 @@ pub returns-in-None-clause-answer : goal.returns-in-None-clause-answer
 returns-in-None-clause-answer g c =
     let inv = c.loop-id.invariant in
     let ps = c.args.thread.now.kept.pairs in
-    let a = subst (λ o. SearchFindsInPair c.loop-id.thread.kept.disk.order c.skipped_id_in-skip.result (kept_pair_at_index c.loop-id.thread.kept c.loop-id.pair).content.slots c.args.name.now o) c.in-Place.is c.in_ok-id.ensures.answer in
-    let b = subst (λ k. IsNameAbsentExceptAtId k (slice_index_or ps c.loop-id.pair no_pair).content.slots c.args.name.now) c.skipped_id_in-skip.ensures
-    (subst (λ qs. IsNameAbsentExceptAtId c.skipped_id_in-skip.result (slice_index_or qs c.loop-id.pair no_pair).content.slots c.args.name.now) inv.only.pairs a.absent) in
+    let a = subst (λ o. SearchFindsInPair c.loop-id.thread.kept.disk.order c.id_to_skip_in_pair-skip.result (thread_pair_at_index c.loop-id.thread.kept c.loop-id.pair).content.slots c.args.name.now o) c.in-Place.is c.in_ok-id.ensures.answer in
+    let b = subst (λ k. IsNameAbsentExceptAtId k (slice_index_or ps c.loop-id.pair empty_pair_at_anchor).content.slots c.args.name.now) c.id_to_skip_in_pair-skip.ensures
+    (subst (λ qs. IsNameAbsentExceptAtId c.id_to_skip_in_pair-skip.result (slice_index_or qs c.loop-id.pair empty_pair_at_anchor).content.slots c.args.name.now) inv.only.pairs a.absent) in
     let pairs = c.in_ok-id.ensures.reading.only.pairs ∙ inv.only.pairs in
-    let soft = leads_nowhere (is_hard_tail (kept_pair_at_index c.find_name_in_pair.new.thread.kept c.loop-id.pair).content.tail) (c.loop-id.pair + 1) (sym c.next.ensures.next ∙ c.in-None.is) in
-    absent_end ps c.args.moved c.loop-id.pair c.args.name.now no_pair (IsNameAbsentAlongHardTails c.args.moved c.args.first (drop c.args.first ps) c.args.name.now) inv.below inv.absent b
-    (ap (λ (qs : List Pair). is_hard_tail (slice_index_or qs c.loop-id.pair no_pair).content.tail) (sym pairs) ∙ soft)
+    let soft = leads_nowhere (is_hard_tail (thread_pair_at_index c.find_name_in_pair.new.thread.kept c.loop-id.pair).content.tail) (c.loop-id.pair + 1) (sym c.next.ensures.next ∙ c.in-None.is) in
+    absent_end ps c.args.moved c.loop-id.pair c.args.name.now empty_pair_at_anchor (IsNameAbsentAlongHardTails c.args.moved c.args.first (drop c.args.first ps) c.args.name.now) inv.below inv.absent b
+    (ap (λ (qs : List Pair). is_hard_tail (slice_index_or qs c.loop-id.pair empty_pair_at_anchor).content.tail) (sym pairs) ∙ soft)
 
 pub loop-id-preserved : goal.loop-id-preserved
 loop-id-preserved g c =
     let inv = c.loop-id.invariant in
     let ps = c.args.thread.now.kept.pairs in
-    let a = subst (λ o. SearchFindsInPair c.loop-id.thread.kept.disk.order c.skipped_id_in-skip.result (kept_pair_at_index c.loop-id.thread.kept c.loop-id.pair).content.slots c.args.name.now o) c.in-Place.is c.in_ok-id.ensures.answer in
-    let b = subst (λ k. IsNameAbsentExceptAtId k (slice_index_or ps c.loop-id.pair no_pair).content.slots c.args.name.now) c.skipped_id_in-skip.ensures
-    (subst (λ qs. IsNameAbsentExceptAtId c.skipped_id_in-skip.result (slice_index_or qs c.loop-id.pair no_pair).content.slots c.args.name.now) inv.only.pairs a.absent) in
+    let a = subst (λ o. SearchFindsInPair c.loop-id.thread.kept.disk.order c.id_to_skip_in_pair-skip.result (thread_pair_at_index c.loop-id.thread.kept c.loop-id.pair).content.slots c.args.name.now o) c.in-Place.is c.in_ok-id.ensures.answer in
+    let b = subst (λ k. IsNameAbsentExceptAtId k (slice_index_or ps c.loop-id.pair empty_pair_at_anchor).content.slots c.args.name.now) c.id_to_skip_in_pair-skip.ensures
+    (subst (λ qs. IsNameAbsentExceptAtId c.id_to_skip_in_pair-skip.result (slice_index_or qs c.loop-id.pair empty_pair_at_anchor).content.slots c.args.name.now) inv.only.pairs a.absent) in
     let pairs = c.in_ok-id.ensures.reading.only.pairs ∙ inv.only.pairs in
-    let on = leads_on (is_hard_tail (kept_pair_at_index c.find_name_in_pair.new.thread.kept c.loop-id.pair).content.tail) (c.loop-id.pair + 1) c.in-Some.next (sym c.next.ensures.next ∙ c.in-Some.is) in
-    let hard : is_hard_tail (slice_index_or ps c.loop-id.pair no_pair).content.tail ≡ true = ap (λ (qs : List Pair). is_hard_tail (slice_index_or qs c.loop-id.pair no_pair).content.tail) (sym pairs) ∙ on.0 in
+    let on = leads_on (is_hard_tail (thread_pair_at_index c.find_name_in_pair.new.thread.kept c.loop-id.pair).content.tail) (c.loop-id.pair + 1) c.in-Some.next (sym c.next.ensures.next ∙ c.in-Some.is) in
+    let hard : is_hard_tail (slice_index_or ps c.loop-id.pair empty_pair_at_anchor).content.tail ≡ true = ap (λ (qs : List Pair). is_hard_tail (slice_index_or qs c.loop-id.pair empty_pair_at_anchor).content.tail) (sym pairs) ∙ on.0 in
     let next : c.in-Some.next ≡ c.loop-id.pair + 1 = on.1 in
     let behind : c.in-Some.next < length ps = subst (λ (qs : List Pair). c.in-Some.next < length qs) pairs c.in-Some.ensures.below in
-    let run = run_on ps c.loop-id.pair no_pair inv.below hard ∙ ap (λ (n : ℕ). 1 + hard_tail_joined_pair_count (drop n ps)) (sym next) in
+    let run = run_on ps c.loop-id.pair empty_pair_at_anchor inv.below hard ∙ ap (λ (n : ℕ). 1 + hard_tail_joined_pair_count (drop n ps)) (sym next) in
     let few = inv.few in
     let once = c.in_ok-id.ensures.few in
     let from = inv.from in
@@ -122,14 +122,14 @@ loop-id-preserved g c =
       no_fault = c.in_ok-id.ensures.reading.reported.no_fault (λ e. absurd (let k : _ = e in cc)) ∙ inv.no_fault;
       works = c.in_ok-id.ensures.reading.works;
       few = omega (arith, few, once, run);
-      along = loads_on _ _ _ (slice_index_or ps c.loop-id.pair no_pair) c.args.thread.now c.loop-id.thread c.find_name_in_pair.new.thread c.find_name_in_pair.result inv.along
-          (run_hard_on ps c.loop-id.pair c.in-Some.next no_pair inv.below hard next)
-          (subst (λ (qs : List Pair). LoadsOnlyUncachedPairs (slice_index_or qs c.loop-id.pair no_pair ∷ []) c.loop-id.thread c.find_name_in_pair.new.thread c.find_name_in_pair.result) inv.only.pairs c.find_name_in_pair.ensures.loads)
-          c.in_ok-id.field-0 c.in_ok-id.was c.find_name_in_pair.ensures.reading.only.disk (run_some_on ps c.in-Some.next no_pair behind);
+      along = loads_on _ _ _ (slice_index_or ps c.loop-id.pair empty_pair_at_anchor) c.args.thread.now c.loop-id.thread c.find_name_in_pair.new.thread c.find_name_in_pair.result inv.along
+          (run_hard_on ps c.loop-id.pair c.in-Some.next empty_pair_at_anchor inv.below hard next)
+          (subst (λ (qs : List Pair). ReadsNothingAndKeepsPairsWhereAllCached (slice_index_or qs c.loop-id.pair empty_pair_at_anchor ∷ []) c.loop-id.thread c.find_name_in_pair.new.thread c.find_name_in_pair.result) inv.only.pairs c.find_name_in_pair.ensures.loads)
+          c.in_ok-id.field-0 c.in_ok-id.was c.find_name_in_pair.ensures.reading.only.disk (run_some_on ps c.in-Some.next empty_pair_at_anchor behind);
       from = omega (arith, from, next);
       below = behind;
-      reached = subst (λ (n : ℕ). IsReached ps c.args.first n (slice_index_or ps n no_pair)) (sym next)
-          (reached_next ps c.args.first c.loop-id.pair (slice_index_or ps c.loop-id.pair no_pair) no_pair inv.reached hard (omega (arith, behind, next)));
-      absent = λ rest. absent_on ps c.args.moved c.loop-id.pair c.args.name.now no_pair (IsNameAbsentAlongHardTails c.args.moved c.args.first (drop c.args.first ps) c.args.name.now) inv.below inv.absent b
+      reached = subst (λ (n : ℕ). IsReached ps c.args.first n (slice_index_or ps n empty_pair_at_anchor)) (sym next)
+          (reached_next ps c.args.first c.loop-id.pair (slice_index_or ps c.loop-id.pair empty_pair_at_anchor) empty_pair_at_anchor inv.reached hard (omega (arith, behind, next)));
+      absent = λ rest. absent_on ps c.args.moved c.loop-id.pair c.args.name.now empty_pair_at_anchor (IsNameAbsentAlongHardTails c.args.moved c.args.first (drop c.args.first ps) c.args.name.now) inv.below inv.absent b
           (subst (λ (n : ℕ). IsNameAbsentAlongHardTails c.args.moved n (drop n ps) c.args.name.now) next rest);
     }

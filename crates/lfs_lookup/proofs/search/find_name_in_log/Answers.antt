@@ -1,5 +1,5 @@
 use Rattle.std.proofs.Common.{ℕ, List, sym, ap, ◌∙◌, subst}
-use Rattle.lfs_model.specs.LoggedContent.{IsNameOrStructOfClass}
+use Rattle.lfs_model.specs.LoggedContent.{IsNameOrStructTheFormatAllows}
 use Rattle.lfs_model.specs.Content.{struct_of_type_and_bytes}
 use Rattle.lfs_model.proofs.Logged.{logged}
 use Rattle.lfs_tag.specs.FindView.{IsLookupOfName}
@@ -13,25 +13,25 @@ unwrap-structure-requires c =
     let sound = logged c.args.log.now is.raw is.bytes is.log in
     let s = stands_in c.args.order content c.args.name.now c.args.skip is.raw sound is.complete c.in-Found.id (subst (IsLookupOfName c.args.order c.args.name.now c.args.skip is.raw.slots) c.in-Found.is (c.in_ok-found.ensures is.raw is.log is.short)) in
     let r = read_there c.args.order content c.args.name.now c.args.skip is.raw sound is.complete c.in-Found.id s in
-    some_part c.struct_of.result _ r.part (c.struct_of.ensures.held is.raw is.log) r.is
+    some_part c.find_slot_struct.result _ r.part (c.find_slot_struct.ensures.held is.raw is.log) r.is
 
-pub entry_of-requires : goal.entry_of-requires
-entry_of-requires c =
+pub entry_of_struct-requires : goal.entry_of_struct-requires
+entry_of_struct-requires c =
     let (content, is) = c.requires in
     let sound = logged c.args.log.now is.raw is.bytes is.log in
     let s = stands_in c.args.order content c.args.name.now c.args.skip is.raw sound is.complete c.in-Found.id (subst (IsLookupOfName c.args.order c.args.name.now c.args.skip is.raw.slots) c.in-Found.is (c.in_ok-found.ensures is.raw is.log is.short)) in
     let r = read_there c.args.order content c.args.name.now c.args.skip is.raw sound is.complete c.in-Found.id s in
-    subst (IsNameOrStructOfClass 2) (sym (part_is c.struct_of.result c.unwrap-structure.result _ r.part c.unwrap-structure.ensures (c.struct_of.ensures.held is.raw is.log) r.is)) r.is_part
+    subst (IsNameOrStructTheFormatAllows 2) (sym (part_is c.find_slot_struct.result c.unwrap-structure.result _ r.part c.unwrap-structure.ensures (c.find_slot_struct.ensures.held is.raw is.log) r.is)) r.is_part
 
 pub returns-in-Found : goal.returns-in-Found
 returns-in-Found c content is =
     let sound = logged c.args.log.now is.raw is.bytes is.log in
     let s = stands_in c.args.order content c.args.name.now c.args.skip is.raw sound is.complete c.in-Found.id (subst (IsLookupOfName c.args.order c.args.name.now c.args.skip is.raw.slots) c.in-Found.is (c.in_ok-found.ensures is.raw is.log is.short)) in
     let r = read_there c.args.order content c.args.name.now c.args.skip is.raw sound is.complete c.in-Found.id s in
-    let same = part_is c.struct_of.result c.unwrap-structure.result _ r.part c.unwrap-structure.ensures (c.struct_of.ensures.held is.raw is.log) r.is in
+    let same = part_is c.find_slot_struct.result c.unwrap-structure.result _ r.part c.unwrap-structure.ensures (c.find_slot_struct.ensures.held is.raw is.log) r.is in
     record {
       stands = s;
-      shows = subst (IsEntryOfStruct c.entry_of.result) (ap (λ (p : ℕ × List ℕ). struct_of_type_and_bytes p.0 p.1) same ∙ sym r.struct) c.entry_of.ensures;
+      shows = subst (IsEntryOfStruct c.entry_of_struct.result) (ap (λ (p : ℕ × List ℕ). struct_of_type_and_bytes p.0 p.1) same ∙ sym r.struct) c.entry_of_struct.ensures;
       kept = kept_in c.args.order content c.args.name.now c.args.skip is.raw sound is.complete c.in-Found.id (subst (IsLookupOfName c.args.order c.args.name.now c.args.skip is.raw.slots) c.in-Found.is (c.in_ok-found.ensures is.raw is.log is.short));
     }
 

@@ -1,6 +1,6 @@
 use Rattle.std.proofs.Common.{subst}
 use Rattle.std.proofs.lemmas.Result.{err_from_is_err_and}
-use Rattle.lfs_lookup.specs.Search.{IsPairOfSoughtSlotCached, SearchFindsInDirectory}
+use Rattle.lfs_lookup.specs.Search.{IsPairCachedIfSlotFound, SearchFindsInDirectory}
 use Rattle.lfs_lookup.proofs.InOrder.{found_shown, nothing_shown}
 use Rattle.lfs_lookup.proofs.RecentBlocks.{along_as, on_ok, passes_none}
 use Rattle.lfs_lookup.proofs.search.find_name_with_slot_hidden.Goals as goal
@@ -15,7 +15,7 @@ returns-in-Found-clause-answer g c =
     (subst (SearchFindsInDirectory t.disk.order t.pairs c.args.first c.args.name.now) c.in-Found.is c.in_ok-spot-in-None.ensures.answer)
 
 pub returns-in-Found-clause-cached_log : goal.returns-in-Found-clause-cached_log
-returns-in-Found-clause-cached_log g c = subst (IsPairOfSoughtSlotCached c.find_name.new.thread) c.in-Found.is c.in_ok-spot-in-None.ensures.cached_log
+returns-in-Found-clause-cached_log g c = subst (IsPairCachedIfSlotFound c.find_name.new.thread) c.in-Found.is c.in_ok-spot-in-None.ensures.cached_log
 
 pub returns-in-Place-clause-answer : goal.returns-in-Place-clause-answer
 returns-in-Place-clause-answer g c =

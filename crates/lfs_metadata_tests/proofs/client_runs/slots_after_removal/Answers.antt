@@ -2,8 +2,8 @@ use Rattle.std.proofs.Common.{ℕ, List, ◌∷◌, [], None, Some, refl, ap, �
 use Rattle.std.specs.Prelude.{replicate}
 use Rattle.lfs_device.specs.declared.geometry.Geometry.{Geometry}
 use Rattle.lfs_model.specs.Slots.{zero_gstate}
-use Rattle.lfs_model.specs.Content.{RawSlot, RawContent}
-use Rattle.lfs_model.specs.Changes.{ContentChange, Delete}
+use Rattle.lfs_model.specs.Content.{RawSlot, RawPairContent}
+use Rattle.lfs_model.specs.Changes.{PairContentChange, Delete}
 use Rattle.lfs_pair.proofs.Changed.{some_same}
 use Rattle.lfs_metadata_tests.proofs.Ready.{fresh_ready, split_ready}
 use Rattle.lfs_metadata_tests.proofs.client_runs.slots_after_removal.Goals as goal
@@ -11,13 +11,13 @@ use Rattle.lfs_metadata_tests.proofs.client_runs.slots_after_removal.Goals as go
 abbrev file : ℕ → RawSlot
 file n = record { name = Some (1, 102 ∷ []); struct = Some (0x201, replicate n 0); attributes = [] }
 
-abbrev held : RawContent
+abbrev held : RawPairContent
 held = record { slots = file 300 ∷ file 300 ∷ file 300 ∷ []; tail = None; move = zero_gstate }
 
-abbrev new : RawContent
+abbrev new : RawPairContent
 new = record { slots = file 300 ∷ file 300 ∷ []; tail = None; move = zero_gstate }
 
-abbrev changes : List ContentChange
+abbrev changes : List PairContentChange
 changes = Delete 0 ∷ []
 
 pub fresh-requires : goal.fresh-requires

@@ -5,9 +5,9 @@ use Rattle.lfs_model.specs.Crc.{crc_of, next_bits}
 use Rattle.lfs_model.specs.Log.{chain_of, chain_within, commit_within, entry_at, closes}
 use Rattle.lfs_model.specs.Slots.{Slot, Inline, zero_gstate}
 use Rattle.lfs_model.specs.Thread.{Pair}
-use Rattle.lfs_model.specs.Profile.{FitsSlotLimits}
+use Rattle.lfs_model.specs.Profile.{IsSlotWithinWritableLimits}
 use Rattle.lfs_model.specs.Fresh.{superblock_struct_bytes}
-use Rattle.lfs_model.specs.examples.Images.{superblock_struct_bytes_with}
+use Rattle.lfs_model.specs.examples.Images.{superblock_struct_bytes_with_fields}
 use Rattle.lfs_model.proofs.Examples.{image_shows, pair, file, large_superblock}
 use Rattle.lfs_model.proofs.Refusals.{read_only_with, fails_slot}
 use Rattle.lfs_model.proofs.images.image_outside_profile_is_read_only.Goals as goal
@@ -23,7 +23,7 @@ unfolding chain_of chain_within commit_within entry_at closes crc_of next_bits
 returns-clause-long_entry c = image_shows _ (long_pair ∷ []) (superblock_struct_bytes 4096 16) 2
     (record { links = (refl, refl); contents = (refl, tt); first = refl; named = refl; lists = (tt, (tt, tt)); pass = refl }) _ _ _ refl refl refl
 
-too_long : FitsSlotLimits 4096 256 long → ⊥
+too_long : IsSlotWithinWritableLimits 4096 256 long → ⊥
 too_long fits = let inline : 600 ≤ 512 = (fits.1 refl).inline in omega arith
 
 pub returns-clause-long_entry_read_only : goal.returns-clause-long_entry_read_only
@@ -32,21 +32,21 @@ returns-clause-long_entry_read_only c = read_only_with _ (long_pair ∷ []) (ref
 
 -- the limit of names is 32
 abbrev limited : Slot
-limited = record large_superblock { struct = Inline (superblock_struct_bytes_with 0x00020000 4096 32) }
+limited = record large_superblock { struct = Inline (superblock_struct_bytes_with_fields 0x00020000 4096 32) }
 
 abbrev limited_pair : Pair
 limited_pair = pair (0, 1) (limited ∷ []) None zero_gstate
 
 pub returns-clause-name_limit : goal.returns-clause-name_limit
 unfolding chain_of chain_within commit_within entry_at closes crc_of next_bits
-returns-clause-name_limit c = image_shows _ (limited_pair ∷ []) (superblock_struct_bytes_with 0x00020000 4096 32) 1
+returns-clause-name_limit c = image_shows _ (limited_pair ∷ []) (superblock_struct_bytes_with_fields 0x00020000 4096 32) 1
     (record { links = (refl, refl); contents = (refl, tt); first = refl; named = refl; lists = (tt, tt); pass = refl }) _ _ _ refl refl refl
 
-other_limit : FitsSlotLimits 4096 256 limited → ⊥
+other_limit : IsSlotWithinWritableLimits 4096 256 limited → ⊥
 other_limit fits =
     let limits = fits.0 refl in
-    let same : superblock_struct_bytes_with 0x00020000 4096 32 ≡ limits.0 = cc in
-    let limit : little_number 4 (drop 12 (superblock_struct_bytes_with 0x00020000 4096 32)) ≡ 255 = ap (λ (bytes : List ℕ). little_number 4 (drop 12 bytes)) same ∙ limits.1.1 in
+    let same : superblock_struct_bytes_with_fields 0x00020000 4096 32 ≡ limits.0 = cc in
+    let limit : little_number 4 (drop 12 (superblock_struct_bytes_with_fields 0x00020000 4096 32)) ≡ 255 = ap (λ (bytes : List ℕ). little_number 4 (drop 12 bytes)) same ∙ limits.1.1 in
     omega arith
 
 pub returns-clause-name_limit_read_only : goal.returns-clause-name_limit_read_only

@@ -1,14 +1,14 @@
 use Rattle.std.proofs.Common.{◌≡◌, inl, inr, List, [], ◌∷◌, ◌++◌, refl, sym, ap, ◌∙◌}
 use Rattle.lfs_model.specs.Operations.{Operation}
-use Rattle.lfs_model.specs.RepeatedPowerLoss.{IsRunStoppedAtEnd, IsPowerLossSurvived}
-use Rattle.lfs_model.specs.Performed.{IsRunOfOperations}
+use Rattle.lfs_model.specs.RepeatedPowerLoss.{IsPowerLostAfterRun, IsPowerLossSurvived}
+use Rattle.lfs_model.specs.Performed.{IsRunOfOperationsOrEndedByError}
 use Rattle.lfs_model.specs.Disk.{Disk}
 use Rattle.lfs_model.specs.Run.{SystemState}
 use Rattle.lfs_model.specs.Session.{Session}
 use Rattle.lfs_model.specs.examples.Runs.{fresh_system_state}
 use Rattle.lfs_model.specs.Tree.{Tree}
 use Rattle.lfs_model.specs.Fresh.{empty_tree}
-use Rattle.lfs_model.specs.State.{SessionHealth, HasFailed, Healthy, mounted}
+use Rattle.lfs_model.specs.State.{SessionHealth, HasFailed, Healthy, session_after_mount}
 use Rattle.lfs_model.proofs.Fresh.{shows}
 use Rattle.lfs_model.specs.examples.Images.{small_fresh_image}
 use Rattle.lfs_model.proofs.FreshSession.{pairs, are_accepted, in_profile, tree_is_empty, none_accepted}
@@ -20,7 +20,7 @@ returns-clause-run c = run_survives
 
 pub returns-clause-may : goal.returns-clause-may
 returns-clause-may c = record {
-  agrees = record { session = mounted empty_tree; healthy = refl; shows = (pairs, (are_accepted, sym (shows small_fresh_image))) };
+  agrees = record { session = session_after_mount empty_tree; healthy = refl; shows = (pairs, (are_accepted, sym (shows small_fresh_image))) };
   profile = in_profile;
   cleanly = record { events = []; extends = refl; each = tt };
 }
@@ -43,10 +43,10 @@ none_short : (done : List Operation) (next : Operation) (others : List Operation
 none_short [] next others e = absurd (cc)
 none_short (op ∷ done) next others e = absurd (cc)
 
-at_end : (from at : SystemState) (left : Disk) (tree : Tree) → from.state ≡ Healthy (mounted empty_tree) → from ≡ at → IsRunStoppedAtEnd at left tree → tree ≡ empty_tree
-at_end from at left tree begun same cut = cut.is ∙ sym (ap (λ (s : Session). s.tree) (same_session (mounted empty_tree) cut.session (sym begun ∙ ap (λ (m : SystemState). m.state) same ∙ cut.healthy)))
+at_end : (from at : SystemState) (left : Disk) (tree : Tree) → from.state ≡ Healthy (session_after_mount empty_tree) → from ≡ at → IsPowerLostAfterRun at left tree → tree ≡ empty_tree
+at_end from at left tree begun same cut = cut.is ∙ sym (ap (λ (s : Session). s.tree) (same_session (session_after_mount empty_tree) cut.session (sym begun ∙ ap (λ (m : SystemState). m.state) same ∙ cut.healthy)))
 
-none_begun : (to : SystemState) (run : IsRunOfOperations fresh_system_state [] to) (left : Disk) (s : IsPowerLossSurvived fresh_system_state [] to run left) → s.tree ≡ empty_tree
+none_begun : (to : SystemState) (run : IsRunOfOperationsOrEndedByError fresh_system_state [] to) (left : Disk) (s : IsPowerLossSurvived fresh_system_state [] to run left) → s.tree ≡ empty_tree
 none_begun to (inl ([], same)) left s = at_end fresh_system_state to left s.tree refl same s.cut
 none_begun to (inl (reply ∷ replies, steps)) left s = absurd steps
 none_begun to (inr short) left s = absurd (none_short short.done short.next short.others short.are)

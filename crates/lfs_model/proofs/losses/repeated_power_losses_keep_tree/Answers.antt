@@ -1,11 +1,11 @@
 use Rattle.std.proofs.Common.{inl, false, [], ◌∷◌, None, refl, sym, ◌∙◌, subst, append-nil}
 use Rattle.std.specs.Prelude.{Any, codes}
-use Rattle.lfs_model.specs.History.{Read, call_event_with}
-use Rattle.lfs_model.specs.Stops.{IsLeftByStopIn}
+use Rattle.lfs_model.specs.History.{Read, device_call_event_with_blocks}
+use Rattle.lfs_model.specs.Stops.{AreBlocksLeftByPowerLossInCall}
 use Rattle.lfs_model.proofs.Sites.{any_from, among_from}
 use Rattle.lfs_model.specs.Fresh.{empty_tree}
 use Rattle.lfs_model.specs.Operations as ops
-use Rattle.lfs_model.specs.RepeatedPowerLoss.{IsDiskLeftByPowerLossInRun}
+use Rattle.lfs_model.specs.RepeatedPowerLoss.{IsDiskLeftByPowerLossAfterMount}
 use Rattle.lfs_model.specs.examples.Images.{small_fresh_image}
 use Rattle.lfs_model.specs.examples.Runs.{fresh_system_state, disk_without_blocks}
 use Rattle.lfs_model.proofs.Fresh.{shows}
@@ -16,7 +16,7 @@ use Rattle.lfs_model.proofs.SafeImage.{is_safe}
 use Rattle.lfs_model.proofs.losses.repeated_power_losses_keep_tree.Goals as goal
 
 -- power is lost before the first call of a stat
-once : IsDiskLeftByPowerLossInRun small_fresh_image small_fresh_image
+once : IsDiskLeftByPowerLossAfterMount small_fresh_image small_fresh_image
 once = record {
   other = small_fresh_image;
   same = refl;
@@ -42,10 +42,10 @@ returns-clause-not_all c = λ o.
 
 pub returns-clause-in_a_read : goal.returns-clause-in_a_read
 returns-clause-in_a_read c = λ blocks. record {
-  events = call_event_with (Read 0 0 4) blocks blocks false ∷ [];
+  events = device_call_event_with_blocks (Read 0 0 4) blocks blocks false ∷ [];
   extends = refl;
-  stopped = any_from (λ e. IsLeftByStopIn e blocks) (call_event_with (Read 0 0 4) blocks blocks false ∷ []) (inl refl);
+  stopped = any_from (λ e. AreBlocksLeftByPowerLossInCall e blocks) (device_call_event_with_blocks (Read 0 0 4) blocks blocks false ∷ []) (inl refl);
 }
 
 pub returns-clause-not_in_none : goal.returns-clause-not_in_none
-returns-clause-not_in_none c = λ blocks h. among_from (λ e. IsLeftByStopIn e blocks) [] (subst (λ es. Any (λ e. IsLeftByStopIn e blocks) es) (sym (h.extends ∙ append-nil h.events)) h.stopped)
+returns-clause-not_in_none c = λ blocks h. among_from (λ e. AreBlocksLeftByPowerLossInCall e blocks) [] (subst (λ es. Any (λ e. AreBlocksLeftByPowerLossInCall e blocks) es) (sym (h.extends ∙ append-nil h.events)) h.stopped)

@@ -3,7 +3,7 @@ use Rattle.lfs_model.specs.Crc.{crc_of, next_bits}
 use Rattle.lfs_model.specs.Log.{chain_of, chain_within, commit_within, entry_at, closes}
 use Rattle.lfs_model.specs.Slots.{zero_gstate, Inline}
 use Rattle.lfs_model.specs.Fresh.{superblock_struct_bytes}
-use Rattle.lfs_model.specs.examples.Images.{superblock_struct_bytes_with}
+use Rattle.lfs_model.specs.examples.Images.{superblock_struct_bytes_with_fields}
 use Rattle.lfs_model.proofs.Examples.{pair, large_superblock}
 use Rattle.lfs_model.proofs.Refusals.{no_first, refused_with, fails_superblock}
 use Rattle.lfs_model.proofs.refused.bad_superblock_is_not_accepted.Goals as goal
@@ -18,11 +18,11 @@ returns-clause-lengthened c = refused_with _ (pair (0, 1) (large_superblock ∷ 
 
 pub returns-clause-version : goal.returns-clause-version
 unfolding chain_of chain_within commit_within entry_at closes crc_of next_bits
-returns-clause-version c = refused_with _ (pair (0, 1) (record large_superblock { struct = Inline (superblock_struct_bytes_with 0x00020001 4096 255) } ∷ []) None zero_gstate ∷ []) (refl, refl) (refl, tt) (fails_superblock _ _ _ _ (superblock_struct_bytes_with 0x00020001 4096 255) refl (λ held h. h.1) refl)
+returns-clause-version c = refused_with _ (pair (0, 1) (record large_superblock { struct = Inline (superblock_struct_bytes_with_fields 0x00020001 4096 255) } ∷ []) None zero_gstate ∷ []) (refl, refl) (refl, tt) (fails_superblock _ _ _ _ (superblock_struct_bytes_with_fields 0x00020001 4096 255) refl (λ held h. h.1) refl)
 
 pub returns-clause-block_size : goal.returns-clause-block_size
 unfolding chain_of chain_within commit_within entry_at closes crc_of next_bits
-returns-clause-block_size c = refused_with _ (pair (0, 1) (record large_superblock { struct = Inline (superblock_struct_bytes_with 0x00020000 8192 255) } ∷ []) None zero_gstate ∷ []) (refl, refl) (refl, tt) (fails_superblock _ _ _ _ (superblock_struct_bytes_with 0x00020000 8192 255) refl (λ held h. h.1) refl)
+returns-clause-block_size c = refused_with _ (pair (0, 1) (record large_superblock { struct = Inline (superblock_struct_bytes_with_fields 0x00020000 8192 255) } ∷ []) None zero_gstate ∷ []) (refl, refl) (refl, tt) (fails_superblock _ _ _ _ (superblock_struct_bytes_with_fields 0x00020000 8192 255) refl (λ held h. h.1) refl)
 
 pub returns-clause-unwritten : goal.returns-clause-unwritten
 unfolding chain_of chain_within commit_within entry_at closes crc_of next_bits

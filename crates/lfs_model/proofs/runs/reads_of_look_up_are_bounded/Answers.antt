@@ -2,12 +2,12 @@ use Rattle.std.proofs.Common.{ℕ, ◌≡◌, [], ◌∷◌, refl, arith}
 use Rattle.std.specs.Prelude.{codes, Contains}
 use Rattle.std.proofs.lemmas.List.Elements.{All-from_recursion}
 use Rattle.lfs_model.specs.Operations as ops
-use Rattle.lfs_model.specs.Frame.{IsLookUpOfCachedDirectories, pair_count_of_directory_at, paths_of_searched_directories}
+use Rattle.lfs_model.specs.Frame.{IsLookUpInDirectoriesJustSearched, pair_count_of_directory_at, paths_of_searched_directories}
 use Rattle.lfs_model.specs.examples.Runs.{fresh_system_state, root_and_directory_of_two_pairs}
 use Rattle.lfs_model.proofs.AskedStep.{asked}
 use Rattle.lfs_model.proofs.runs.reads_of_look_up_are_bounded.Goals as goal
 
-kept : IsLookUpOfCachedDirectories root_and_directory_of_two_pairs (ops.Stat (codes "/d")) (ops.Stat (codes "/e"))
+kept : IsLookUpInDirectoriesJustSearched root_and_directory_of_two_pairs (ops.Stat (codes "/d")) (ops.Stat (codes "/e"))
 kept = record {
   path = codes "/d";
   stat = refl;
@@ -18,7 +18,7 @@ kept = record {
   small = All-from_recursion (λ p. pair_count_of_directory_at root_and_directory_of_two_pairs p ≡ 1) ([] ∷ []) (refl, tt);
 }
 
-not_kept : IsLookUpOfCachedDirectories root_and_directory_of_two_pairs (ops.Stat (codes "/d/a")) (ops.ListAll (codes "/d")) → ⊥
+not_kept : IsLookUpInDirectoriesJustSearched root_and_directory_of_two_pairs (ops.Stat (codes "/d/a")) (ops.ListAll (codes "/d")) → ⊥
 not_kept h = apart (pair_count_of_directory_at root_and_directory_of_two_pairs (codes "d" ∷ [])) refl (h.small 1 [] (omega arith))
   where
     apart : (n : ℕ) → n ≡ 2 → n ≡ 1 → ⊥

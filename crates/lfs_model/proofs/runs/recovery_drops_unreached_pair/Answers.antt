@@ -4,27 +4,27 @@ use Rattle.std.proofs.lemmas.Option.{same_Some}
 use Rattle.lfs_model.specs.Disk.{Disk, pair_capacity, slots_per_pair_limit}
 use Rattle.lfs_model.specs.Slots.{Gstate, slot_size, same_pair}
 use Rattle.lfs_model.specs.Thread.{Pair}
-use Rattle.lfs_model.specs.Shown.{IsDirectoryReached}
-use Rattle.lfs_model.specs.Fresh.{fresh_pair, superblock_slot}
+use Rattle.lfs_model.specs.Shown.{IsDirectoryAddressReachedBySomePath}
+use Rattle.lfs_model.specs.Fresh.{only_pair_of_fresh_disk, superblock_slot}
 use Rattle.lfs_model.specs.Operations as ops
-use Rattle.lfs_model.specs.Layout.{IsDirectoryUnreachedOrRemoved, FitsPairOnDisk, ArePairsKeptSplitOrDropped}
+use Rattle.lfs_model.specs.Layout.{IsDirectoryUnreachedOrRemoved, IsContentFittingPairOnDisk, ArePairsKeptSplitOrDropped}
 use Rattle.lfs_model.specs.examples.Images.{large_fresh_image}
-use Rattle.lfs_model.specs.examples.Runs.{root_pair_with_sync_bit, pairs_with_unreached_pair}
+use Rattle.lfs_model.specs.examples.Runs.{root_pair_with_sync_bit, fresh_root_pair_and_unreached_empty_pair}
 use Rattle.lfs_model.proofs.Sites.{among_from}
 use Rattle.lfs_model.proofs.runs.recovery_drops_unreached_pair.Goals as goal
 
-not_reached : IsDirectoryReached pairs_with_unreached_pair (2, 3) → ⊥
+not_reached : IsDirectoryAddressReachedBySomePath fresh_root_pair_and_unreached_empty_pair (2, 3) → ⊥
 not_reached ([], at, (k, s)) = let e = subst (λ x. same_pair (2, 3) x ≡ true) (sym (same_Some (0, 1) at k)) s in absurd (cc)
 not_reached (name ∷ path, at, (k, s)) = absurd (cc)
 
-root_stays : IsDirectoryUnreachedOrRemoved pairs_with_unreached_pair ops.Recover (0, 1) → ⊥
+root_stays : IsDirectoryUnreachedOrRemoved fresh_root_pair_and_unreached_empty_pair ops.Recover (0, 1) → ⊥
 root_stays (inl n) = n ([], (0, 1), (refl, refl))
 root_stays (inr a) = among_from (λ at. same_pair (0, 1) at ≡ true) [] a
 
 abbrev root : Pair
-root = fresh_pair large_fresh_image
+root = only_pair_of_fresh_disk large_fresh_image
 
-fits : (disk : Disk) (p : Pair) → p.content.slots ≡ superblock_slot 4096 16 ∷ [] → disk.block_size ≡ 4096 → disk.page ≡ 256 → FitsPairOnDisk disk p
+fits : (disk : Disk) (p : Pair) → p.content.slots ≡ superblock_slot 4096 16 ∷ [] → disk.block_size ≡ 4096 → disk.page ≡ 256 → IsContentFittingPairOnDisk disk p
 fits disk p e b g = record {
   size = subst (λ slots. sum_by slot_size slots ≤ pair_capacity disk.block_size disk.page) (sym e) (subst (λ x. 40 ≤ pair_capacity x disk.page) (sym b) (subst (λ x. 40 ≤ pair_capacity 4096 x) (sym g) (omega arith)));
   count = subst (λ slots. length slots ≤ slots_per_pair_limit) (sym e) (omega arith);
@@ -32,7 +32,7 @@ fits disk p e b g = record {
 
 pub returns-clause-dropped : goal.returns-clause-dropped
 returns-clause-dropped c = λ disk b g. record {
-  drafts = pairs_with_unreached_pair;
+  drafts = fresh_root_pair_and_unreached_empty_pair;
   parts = (root ∷ []) ∷ [] ∷ [];
   front = root ∷ [];
   fresh = [];
@@ -43,7 +43,7 @@ returns-clause-dropped c = λ disk b g. record {
   is = refl;
 }
 
-two : (disk : Disk) (q f : Pair) → disk.block_size ≡ 4096 → disk.page ≡ 256 → (parts : List (List Pair)) → ArePairsKeptSplitOrDropped disk (IsDirectoryUnreachedOrRemoved pairs_with_unreached_pair ops.Recover) 0 None pairs_with_unreached_pair parts →
+two : (disk : Disk) (q f : Pair) → disk.block_size ≡ 4096 → disk.page ≡ 256 → (parts : List (List Pair)) → ArePairsKeptSplitOrDropped disk (IsDirectoryUnreachedOrRemoved fresh_root_pair_and_unreached_empty_pair ops.Recover) 0 None fresh_root_pair_and_unreached_empty_pair parts →
     flat_map (λ part. part) parts ≡ q ∷ f ∷ [] → ⊥
 two disk q f b g [] h e = h
 two disk q f b g (now ∷ []) h e = h.1
@@ -58,7 +58,7 @@ two disk q f b g ((x ∷ y ∷ z ∷ now) ∷ [] ∷ []) h e = h.0
 
 pub returns-clause-not_left : goal.returns-clause-not_left
 returns-clause-not_left c = λ disk q f b g h.
-    two disk q f b g h.parts (subst (λ ds. ArePairsKeptSplitOrDropped disk (IsDirectoryUnreachedOrRemoved pairs_with_unreached_pair ops.Recover) 0 None ds h.parts) h.edits.1 h.stand)
+    two disk q f b g h.parts (subst (λ ds. ArePairsKeptSplitOrDropped disk (IsDirectoryUnreachedOrRemoved fresh_root_pair_and_unreached_empty_pair ops.Recover) 0 None ds h.parts) h.edits.1 h.stand)
     (h.joined ∙ ap (λ z. h.front ++ (z ++ h.back)) (sym h.edits.0) ∙ sym h.is)
 
 pub returns-clause-unrecovered : goal.returns-clause-unrecovered

@@ -9,7 +9,7 @@ use Rattle.lfs_model.specs.Shown.{entries_by_directory_in_thread}
 use Rattle.lfs_model.specs.Operations as ops
 use Rattle.lfs_model.specs.SlotEdits.{new_file_slot}
 use Rattle.lfs_model.specs.Keeping.{struct_of_path, KeepsStructsOfUntouchedFiles}
-use Rattle.lfs_model.specs.examples.Runs.{root_pair_with_file, session_with_writer_at}
+use Rattle.lfs_model.specs.examples.Runs.{root_pair_with_file, session_with_writer_of_path}
 use Rattle.lfs_model.proofs.Paths.{Names, alike, unlike, names, same_itself}
 use Rattle.lfs_model.proofs.slots.other_files_keep_their_structs.Goals as goal
 
@@ -18,7 +18,7 @@ abbrev below : List ℕ → Path → Bool → Option Struct
 below bytes r b = option_map (λ (u : Slot). u.struct)
     (option_and_then (λ c. slot_at_path (entries_by_directory_in_thread (root_pair_with_file (codes "a") bytes)) c r) (cond b (Some (record (new_file_slot (codes "a")) { struct = Inline bytes })) None))
 
-committed : (disk : Disk) → KeepsStructsOfUntouchedFiles disk (root_pair_with_file (codes "a") []) (session_with_writer_at (codes "a" ∷ []) true (codes "hi")) (ops.Sync 0) (root_pair_with_file (codes "a") (codes "hi"))
+committed : (disk : Disk) → KeepsStructsOfUntouchedFiles disk (root_pair_with_file (codes "a") []) (session_with_writer_of_path (codes "a" ∷ []) true (codes "hi")) (ops.Sync 0) (root_pair_with_file (codes "a") (codes "hi"))
 committed disk [] file off elsewhere = absurd (cc)
 committed disk (n ∷ r) file off elsewhere = go (names n (codes "a")) r elsewhere
   where

@@ -1,15 +1,15 @@
 use Rattle.std.proofs.Common.{◌≡◌, ◌≤◌, ◌-◌, length}
 use Rattle.lfs_mount.specs.DirectoryView.{directory_graph_view}
-use Rattle.lfs_mount.specs.Reaching.{AreMarksOfFoundDirectories, directories_found_after, is_vertex_sound_at}
+use Rattle.lfs_mount.specs.Reaching.{AreMarksOfFoundDirectories, directories_found_after_steps, has_vertex_at_sorted_names_and_known_branches}
 use Rattle.std.specs.Prelude.{All, true, take}
 use Rattle.lfs_mount.proofs.reachability.reached_directories.Given as goal
 
 abbrev pub invariant-loop-next : goal.invariant-loop-next
 invariant-loop-next l = record {
-  found : l.found.items ≡ directories_found_after (directory_graph_view l.order l.directories) l.next;
+  found : l.found.items ≡ directories_found_after_steps (directory_graph_view l.order l.directories) l.next;
   marked : AreMarksOfFoundDirectories l.is_found.items l.found.items;
   len : length l.is_found.items ≡ length l.directories;
-  sound : All (λ v. is_vertex_sound_at (directory_graph_view l.order l.directories) v ≡ true) (take l.next l.found.items);
+  sound : All (λ v. has_vertex_at_sorted_names_and_known_branches (directory_graph_view l.order l.directories) v ≡ true) (take l.next l.found.items);
   passed : l.next ≤ length l.found.items;
 }
 

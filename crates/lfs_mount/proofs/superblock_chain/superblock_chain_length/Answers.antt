@@ -3,7 +3,7 @@ use Rattle.std.proofs.lemmas.List.{get_or_default}
 use Rattle.std.proofs.lemmas.Option.{slice_get_read}
 use Rattle.std.proofs.lemmas.Result.{err_from_is_err_and}
 use Rattle.lfs_device.specs.declared.geometry.Geometry.{Geometry}
-use Rattle.lfs_device.specs.Shown.{ordered}
+use Rattle.lfs_device.specs.Shown.{disk_with_name_order}
 use Rattle.lfs_thread.specs.Kept.{PairHeader, disk_of_device}
 use Rattle.lfs_mount.proofs.Heads.{active_within, begun, ends, fails, halts, head_is, last_is, more, passes, refused_first, refused_none, same_block, step_at, within}
 use Rattle.lfs_mount.proofs.InOrders.{has_headers_in}
@@ -14,10 +14,10 @@ pub returns-in_err-first-clause-corrupt : goal.returns-in_err-first-clause-corru
 returns-in_err-first-clause-corrupt g c = λ is order a.
     let disk = disk_of_device g.D.BlockDevice c.args.dev.now in
     let has = has_headers_in order disk (g.D.BlockDevice.history c.args.dev.now) c.args.pairs.now c.requires in
-    refused_none (ordered order disk) (g.D.BlockDevice.history c.args.dev.now) c.args.pairs.now has c.in_err-first.ensures.corrupt.1 a
+    refused_none (disk_with_name_order order disk) (g.D.BlockDevice.history c.args.dev.now) c.args.pairs.now has c.in_err-first.ensures.corrupt.1 a
 
-pub superblock_at-requires : goal.superblock_at-requires
-superblock_at-requires g c =
+pub read_superblock_struct_from_block-requires : goal.read_superblock_struct_from_block-requires
+read_superblock_struct_from_block-requires g c =
     let low = active_within (disk_of_device g.D.BlockDevice c.args.dev.now) (g.D.BlockDevice.history c.args.dev.now) c.args.pairs.now c.requires c.in_ok-first.first c.in_ok-first.ensures.ok c.index-pairs-first.result c.index-pairs-first.is in
     let count = (g.met.D.BlockDevice.shape c.args.dev.now).count in
     omega (arith, low, count)
@@ -27,7 +27,7 @@ returns-in_err-bytes-clause-corrupt g c = λ is order a.
     let e = err_from_is_err_and c.from_residual-in_err-bytes.result c.from_residual-in_err-bytes.ensures.1 in
     let disk = disk_of_device g.D.BlockDevice c.args.dev.now in
     let has = has_headers_in order disk (g.D.BlockDevice.history c.args.dev.now) c.args.pairs.now c.requires in
-    refused_first (ordered order disk) (g.D.BlockDevice.history c.args.dev.now) c.args.pairs.now has c.in_ok-first.first c.in_ok-first.ensures.ok c.index-pairs-first.result c.index-pairs-first.is
+    refused_first (disk_with_name_order order disk) (g.D.BlockDevice.history c.args.dev.now) c.args.pairs.now has c.in_ok-first.first c.in_ok-first.ensures.ok c.index-pairs-first.result c.index-pairs-first.is
     (λ bytes s. c.in_err-bytes.ensures.corrupt (ap Err (same_error e.1 e.2 is)) bytes (record { begins = s.begins; struct = s.struct })) a
 
 pub loop-index-init : goal.loop-index-init
@@ -39,14 +39,14 @@ loop-index-init g c = record {
   read = (let one = c.in_ok-bytes.ensures.reads in omega (arith, one));
 }
 
-pub returns-then-not-leads_on-clause-head : goal.returns-then-not-leads_on-clause-head
-returns-then-not-leads_on-clause-head g c =
+pub returns-then-not-can_superblock_chain_continue-clause-head : goal.returns-then-not-can_superblock_chain_continue-clause-head
+returns-then-not-can_superblock_chain_continue-clause-head g c =
     let disk = disk_of_device g.D.BlockDevice c.args.dev.now in
     let low = c.loop-index.auto.index in
     let high = c.loop-index-test.true in
     let this = c.index-pairs-index in
     let here = slice_get_read c.args.pairs.now (length c.args.pairs.now) (c.loop-index.index - 1) this.result refl (omega (arith, low, high)) this.is in
-    let stays = sym c.leads_on.ensures ∙ c.if-not-leads_on.true in
+    let stays = sym c.can_superblock_chain_continue.ensures ∙ c.if-not-can_superblock_chain_continue.true in
     head_is disk (g.D.BlockDevice.history c.args.dev.now) c.args.pairs.now c.requires c.in_ok-first.first c.in_ok-first.ensures.ok c.index-pairs-first.result c.index-pairs-first.is c.in_ok-bytes.bytes.items c.loop-index.root (c.loop-index.index - 1)
     c.in_ok-bytes.ensures.found c.loop-index.invariant.walked
     (halts disk (g.D.BlockDevice.history c.args.dev.now) c.args.pairs.now c.requires c.in_ok-bytes.bytes.items c.loop-index.root (c.loop-index.index - 1) this.result here c.loop-index.invariant.walked stays)
@@ -59,14 +59,14 @@ loop-index-preserved-then-pairs-index-eq0 g c =
     let step = step_at c.args.pairs.now c.loop-index.index this.result next.result (omega (arith, low)) c.loop-index-test.true this.is next.is in
     record {
       walked = passes (disk_of_device g.D.BlockDevice c.args.dev.now) (g.D.BlockDevice.history c.args.dev.now) c.args.pairs.now c.requires c.in_ok-bytes.bytes.items c.loop-index.root c.loop-index.index this.result next.result step c.loop-index.invariant.walked
-          (sym c.leads_on.ensures ∙ c.if-not-leads_on.false) (ap (λ (h : PairHeader). h.slot_count) next.is ∙ c.if-pairs-index-eq0.true);
+          (sym c.can_superblock_chain_continue.ensures ∙ c.if-not-can_superblock_chain_continue.false) (ap (λ (h : PairHeader). h.slot_count) next.is ∙ c.if-pairs-index-eq0.true);
       device = c.loop-index.invariant.device;
       no_fault = c.loop-index.invariant.no_fault;
       read = c.loop-index.invariant.read;
     }
 
-pub read_whether_superblock_repeats-requires : goal.read_whether_superblock_repeats-requires
-read_whether_superblock_repeats-requires g c =
+pub read_whether_block_repeats_superblock-requires : goal.read_whether_block_repeats_superblock-requires
+read_whether_block_repeats_superblock-requires g c =
     let low = c.loop-index.auto.index in
     let this = c.index-pairs-index in
     let next = c.index-pairs-index-in-loop-index-2 in
@@ -77,26 +77,26 @@ read_whether_superblock_repeats-requires g c =
     let same = ap (λ (k : Geometry). k.block_count) c.loop-index.invariant.device.geometry in
     omega (arith, small, at, count, same)
 
-pub returns-in_err-read_whether_superblock_repeats-clause-corrupt : goal.returns-in_err-read_whether_superblock_repeats-clause-corrupt
-returns-in_err-read_whether_superblock_repeats-clause-corrupt g c = λ is order a.
+pub returns-in_err-read_whether_block_repeats_superblock-clause-corrupt : goal.returns-in_err-read_whether_block_repeats_superblock-clause-corrupt
+returns-in_err-read_whether_block_repeats_superblock-clause-corrupt g c = λ is order a.
     let disk = disk_of_device g.D.BlockDevice c.args.dev.now in
     let has = has_headers_in order disk (g.D.BlockDevice.history c.args.dev.now) c.args.pairs.now c.requires in
-    let e = err_from_is_err_and c.from_residual-in_err-read_whether_superblock_repeats.result c.from_residual-in_err-read_whether_superblock_repeats.ensures.1 in
+    let e = err_from_is_err_and c.from_residual-in_err-read_whether_block_repeats_superblock.result c.from_residual-in_err-read_whether_block_repeats_superblock.ensures.1 in
     let low = c.loop-index.auto.index in
     let this = c.index-pairs-index in
     let next = c.index-pairs-index-in-loop-index-2 in
     let step = step_at c.args.pairs.now c.loop-index.index this.result next.result (omega (arith, low)) c.loop-index-test.true this.is next.is in
-    let none = same_block _ _ _ _ _ _ None c.loop-index.invariant.device.same c.deref.ensures.value next.is (c.in_err-read_whether_superblock_repeats.ensures.corrupt (ap Err (same_error e.1 e.2 is))) in
-    fails (ordered order disk) (g.D.BlockDevice.history c.args.dev.now) c.args.pairs.now has c.in_ok-bytes.bytes.items c.loop-index.root c.loop-index.index this.result next.result step c.loop-index.invariant.walked
-    (sym c.leads_on.ensures ∙ c.if-not-leads_on.false) none a
+    let none = same_block _ _ _ _ _ _ None c.loop-index.invariant.device.same c.deref.ensures.value next.is (c.in_err-read_whether_block_repeats_superblock.ensures.corrupt (ap Err (same_error e.1 e.2 is))) in
+    fails (disk_with_name_order order disk) (g.D.BlockDevice.history c.args.dev.now) c.args.pairs.now has c.in_ok-bytes.bytes.items c.loop-index.root c.loop-index.index this.result next.result step c.loop-index.invariant.walked
+    (sym c.can_superblock_chain_continue.ensures ∙ c.if-not-can_superblock_chain_continue.false) none a
 
-pub returns-in_err-read_whether_superblock_repeats-clause-device : goal.returns-in_err-read_whether_superblock_repeats-clause-device
-returns-in_err-read_whether_superblock_repeats-clause-device g c = then_reads c.loop-index.invariant.device c.in_err-read_whether_superblock_repeats.ensures.device
+pub returns-in_err-read_whether_block_repeats_superblock-clause-device : goal.returns-in_err-read_whether_block_repeats_superblock-clause-device
+returns-in_err-read_whether_block_repeats_superblock-clause-device g c = then_reads c.loop-index.invariant.device c.in_err-read_whether_block_repeats_superblock.ensures.device
 
-pub returns-in_err-read_whether_superblock_repeats-clause-faults : goal.returns-in_err-read_whether_superblock_repeats-clause-faults
-returns-in_err-read_whether_superblock_repeats-clause-faults g c =
-    let e = err_from_is_err_and c.from_residual-in_err-read_whether_superblock_repeats.result c.from_residual-in_err-read_whether_superblock_repeats.ensures.1 in
-    reports_error e.1 e.2 c.loop-index.invariant.no_fault c.in_err-read_whether_superblock_repeats.ensures.faults
+pub returns-in_err-read_whether_block_repeats_superblock-clause-faults : goal.returns-in_err-read_whether_block_repeats_superblock-clause-faults
+returns-in_err-read_whether_block_repeats_superblock-clause-faults g c =
+    let e = err_from_is_err_and c.from_residual-in_err-read_whether_block_repeats_superblock.result c.from_residual-in_err-read_whether_block_repeats_superblock.ensures.1 in
+    reports_error e.1 e.2 c.loop-index.invariant.no_fault c.in_err-read_whether_block_repeats_superblock.ensures.faults
 
 pub returns-then-not-branch-clause-head : goal.returns-then-not-branch-clause-head
 returns-then-not-branch-clause-head g c =
@@ -106,18 +106,18 @@ returns-then-not-branch-clause-head g c =
     let this = c.index-pairs-index in
     let next = c.index-pairs-index-in-loop-index-2 in
     let step = step_at c.args.pairs.now c.loop-index.index this.result next.result (omega (arith, low)) c.loop-index-test.true this.is next.is in
-    let not_more : c.in_ok-read_whether_superblock_repeats.field-0 ≡ false = search rules in
-    let ended = same_block _ _ _ _ _ _ (Some false) c.loop-index.invariant.device.same c.deref.ensures.value next.is (c.in_ok-read_whether_superblock_repeats.ensures.ok ∙ ap (λ b. Some b) not_more) in
+    let not_more : c.in_ok-read_whether_block_repeats_superblock.field-0 ≡ false = search rules in
+    let ended = same_block _ _ _ _ _ _ (Some false) c.loop-index.invariant.device.same c.deref.ensures.value next.is (c.in_ok-read_whether_block_repeats_superblock.ensures.ok ∙ ap (λ b. Some b) not_more) in
     head_is disk history c.args.pairs.now c.requires c.in_ok-first.first c.in_ok-first.ensures.ok c.index-pairs-first.result c.index-pairs-first.is c.in_ok-bytes.bytes.items c.loop-index.root (c.loop-index.index - 1)
     c.in_ok-bytes.ensures.found c.loop-index.invariant.walked
     (ends disk history c.args.pairs.now c.requires c.in_ok-bytes.bytes.items c.loop-index.root c.loop-index.index this.result next.result step c.loop-index.invariant.walked
-    (sym c.leads_on.ensures ∙ c.if-not-leads_on.false) (λ e. c.if-pairs-index-eq0.false (ap (λ (h : PairHeader). h.slot_count) (get_or_default c.args.pairs.now c.loop-index.index c.index-pairs-index-in-loop-index.result next.result c.loop-index-test.true ∙ sym next.is) ∙ e)) ended)
+    (sym c.can_superblock_chain_continue.ensures ∙ c.if-not-can_superblock_chain_continue.false) (λ e. c.if-pairs-index-eq0.false (ap (λ (h : PairHeader). h.slot_count) (get_or_default c.args.pairs.now c.loop-index.index c.index-pairs-index-in-loop-index.result next.result c.loop-index-test.true ∙ sym next.is) ∙ e)) ended)
 
 pub returns-then-not-branch-clause-device : goal.returns-then-not-branch-clause-device
-returns-then-not-branch-clause-device g c = then_reads c.loop-index.invariant.device c.in_ok-read_whether_superblock_repeats.ensures.device
+returns-then-not-branch-clause-device g c = then_reads c.loop-index.invariant.device c.in_ok-read_whether_block_repeats_superblock.ensures.device
 
 pub returns-then-not-branch-clause-faults : goal.returns-then-not-branch-clause-faults
-returns-then-not-branch-clause-faults g c = reports_ok (c.in_ok-read_whether_superblock_repeats.ensures.faults.no_fault (λ e. absurd (cc)) ∙ c.loop-index.invariant.no_fault)
+returns-then-not-branch-clause-faults g c = reports_ok (c.in_ok-read_whether_block_repeats_superblock.ensures.faults.no_fault (λ e. absurd (cc)) ∙ c.loop-index.invariant.no_fault)
 
 pub loop-index-preserved : goal.loop-index-preserved
 loop-index-preserved g c =
@@ -125,16 +125,16 @@ loop-index-preserved g c =
     let this = c.index-pairs-index in
     let next = c.index-pairs-index-in-loop-index-2 in
     let step = step_at c.args.pairs.now c.loop-index.index this.result next.result (omega (arith, low)) c.loop-index-test.true this.is next.is in
-    let is_more : c.in_ok-read_whether_superblock_repeats.field-0 ≡ true = search rules in
-    let went = same_block _ _ _ _ _ _ (Some true) c.loop-index.invariant.device.same c.deref.ensures.value next.is (c.in_ok-read_whether_superblock_repeats.ensures.ok ∙ ap (λ b. Some b) is_more) in
-    let one = c.in_ok-read_whether_superblock_repeats.ensures.reads in
+    let is_more : c.in_ok-read_whether_block_repeats_superblock.field-0 ≡ true = search rules in
+    let went = same_block _ _ _ _ _ _ (Some true) c.loop-index.invariant.device.same c.deref.ensures.value next.is (c.in_ok-read_whether_block_repeats_superblock.ensures.ok ∙ ap (λ b. Some b) is_more) in
+    let one = c.in_ok-read_whether_block_repeats_superblock.ensures.reads in
     let others = c.loop-index.invariant.read in
     let below = c.loop-index.invariant.walked.below in
     record {
       walked = more (disk_of_device g.D.BlockDevice c.args.dev.now) (g.D.BlockDevice.history c.args.dev.now) c.args.pairs.now c.requires c.in_ok-bytes.bytes.items c.loop-index.root c.loop-index.index this.result next.result step c.loop-index.invariant.walked
-          (sym c.leads_on.ensures ∙ c.if-not-leads_on.false) went;
-      device = then_reads c.loop-index.invariant.device c.in_ok-read_whether_superblock_repeats.ensures.device;
-      no_fault = c.in_ok-read_whether_superblock_repeats.ensures.faults.no_fault (λ e. absurd (cc)) ∙ c.loop-index.invariant.no_fault;
+          (sym c.can_superblock_chain_continue.ensures ∙ c.if-not-can_superblock_chain_continue.false) went;
+      device = then_reads c.loop-index.invariant.device c.in_ok-read_whether_block_repeats_superblock.ensures.device;
+      no_fault = c.in_ok-read_whether_block_repeats_superblock.ensures.faults.no_fault (λ e. absurd (cc)) ∙ c.loop-index.invariant.no_fault;
       read = omega (arith, one, others, below, low);
     }
 

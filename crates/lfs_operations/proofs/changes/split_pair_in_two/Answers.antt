@@ -1,11 +1,11 @@
 use Rattle.std.proofs.Common.{arith, ap, sym, subst, ◌∙◌, Err}
 use Rattle.std.proofs.lemmas.Result.{err_from_is_err_and}
-use Rattle.lfs_model.specs.History.{reads}
+use Rattle.lfs_model.specs.History.{read_count_of_history}
 use Rattle.lfs_model.specs.Slots.{pair_address_of_array}
-use Rattle.lfs_thread.specs.Device.{StopsAfterCleanErasesLeave, blocks_of_two_addresses}
+use Rattle.lfs_thread.specs.Device.{PowerLossLeavesSuchBlocksAfterCleanErases, blocks_of_two_pair_addresses}
 use Rattle.lfs_thread.specs.Kept.{ThreadView}
 use Rattle.lfs_thread.specs.CachedLog.{cached_log}
-use Rattle.lfs_thread.specs.Steps.{CanSplitPairAtIndex, HasReportedIoOrUnwrittenNoMemory, LeavesPairOldOrSplit, IsSplitInTwo, ThreadChangesOnlyTheseBlocks, kept_pair_at_index}
+use Rattle.lfs_thread.specs.Steps.{CanSplitPairAtIndex, IoMeantFaultNoMemoryWroteNothing, PowerLossLeavesPairOldOrSplit, IsPairSplitInTwo, ThreadChangesOnlyTheseBlocks, thread_pair_at_index}
 use Rattle.lfs_pair.specs.ChangeView.{changes_view}
 use Rattle.lfs_operations.specs.Changing.{WritesPairAndTwoFreeBlocks, map_with_two_blocks_in_flight}
 use Rattle.lfs_operations.proofs.Putting.{read_at_most, can_split, cut_in, stops_by_cut, writes_in, writes_none, reports_state}
@@ -24,44 +24,44 @@ pub returns-in_err-split-clause-errors : goal.returns-in_err-split-clause-errors
 returns-in_err-split-clause-errors g c =
     let p = err_from_is_err_and c.from_residual.result c.from_residual.ensures.1 in
     reports_state c.args.thread.now c.split.new.self (map_with_two_blocks_in_flight c.args.thread.now.kept.map (pair_address_of_array c.in-Some.fresh)) p.0 c.split.result c.from_residual.result (c.in_err-split.was ∙ ap Err (sym p.2)) p.1 c.split.ensures.failed
-    (subst (λ (t : ThreadView). HasReportedIoOrUnwrittenNoMemory t.kept c.split.new.self.kept c.split.result) c.in-Some.ensures.taken c.split.ensures.errors)
+    (subst (λ (t : ThreadView). IoMeantFaultNoMemoryWroteNothing t.kept c.split.new.self.kept c.split.result) c.in-Some.ensures.taken c.split.ensures.errors)
 
 pub returns-in_err-split-clause-stops : goal.returns-in_err-split-clause-stops
 returns-in_err-split-clause-stops g c =
     stops_by_cut c.args.thread.now.kept c.args.index (pair_address_of_array c.in-Some.fresh) (changes_view c.args.changes.now) c.in-Some.ensures.were_free c.split.new.self.kept.history
-    (subst (λ (t : ThreadView). StopsAfterCleanErasesLeave t.kept.history c.split.new.self.kept.history (LeavesPairOldOrSplit t.kept c.args.index (pair_address_of_array c.in-Some.fresh) (changes_view c.args.changes.now))) c.in-Some.ensures.taken c.split.ensures.stops)
+    (subst (λ (t : ThreadView). PowerLossLeavesSuchBlocksAfterCleanErases t.kept.history c.split.new.self.kept.history (PowerLossLeavesPairOldOrSplit t.kept c.args.index (pair_address_of_array c.in-Some.fresh) (changes_view c.args.changes.now))) c.in-Some.ensures.taken c.split.ensures.stops)
 
 pub returns-clause-stops : goal.returns-clause-stops
 returns-clause-stops g c =
     stops_by_cut c.args.thread.now.kept c.args.index (pair_address_of_array c.in-Some.fresh) (changes_view c.args.changes.now) c.in-Some.ensures.were_free c.split.new.self.kept.history
-    (subst (λ (t : ThreadView). StopsAfterCleanErasesLeave t.kept.history c.split.new.self.kept.history (LeavesPairOldOrSplit t.kept c.args.index (pair_address_of_array c.in-Some.fresh) (changes_view c.args.changes.now))) c.in-Some.ensures.taken c.split.ensures.stops)
+    (subst (λ (t : ThreadView). PowerLossLeavesSuchBlocksAfterCleanErases t.kept.history c.split.new.self.kept.history (PowerLossLeavesPairOldOrSplit t.kept c.args.index (pair_address_of_array c.in-Some.fresh) (changes_view c.args.changes.now))) c.in-Some.ensures.taken c.split.ensures.stops)
 
 pub returns-clause-device : goal.returns-clause-device
 returns-clause-device g c =
     writes_in c.args.thread.now.kept c.args.index (pair_address_of_array c.in-Some.fresh) (changes_view c.args.changes.now) c.in-Some.ensures.were_free c.split.new.self.kept
-    (subst (λ (t : ThreadView). ThreadChangesOnlyTheseBlocks (blocks_of_two_addresses (kept_pair_at_index t.kept c.args.index).at (pair_address_of_array c.in-Some.fresh)) t.kept c.split.new.self.kept) c.in-Some.ensures.taken c.split.ensures.device.only)
+    (subst (λ (t : ThreadView). ThreadChangesOnlyTheseBlocks (blocks_of_two_pair_addresses (thread_pair_at_index t.kept c.args.index).at (pair_address_of_array c.in-Some.fresh)) t.kept c.split.new.self.kept) c.in-Some.ensures.taken c.split.ensures.device.only)
 
 pub returns-clause-is_cut : goal.returns-clause-is_cut
 returns-clause-is_cut g c = (
   pair_address_of_array c.in-Some.fresh,
   cut_in c.args.thread.now.kept c.args.index (pair_address_of_array c.in-Some.fresh) (changes_view c.args.changes.now) c.in-Some.ensures.were_free c.split.new.self.kept
-      (subst (λ (t : ThreadView). IsSplitInTwo t.kept c.args.index (pair_address_of_array c.in-Some.fresh) (changes_view c.args.changes.now) c.split.new.self.kept) c.in-Some.ensures.taken c.in_ok-split.ensures.done)
-      (subst (λ (t : ThreadView). ThreadChangesOnlyTheseBlocks (blocks_of_two_addresses (kept_pair_at_index t.kept c.args.index).at (pair_address_of_array c.in-Some.fresh)) t.kept c.split.new.self.kept) c.in-Some.ensures.taken c.split.ensures.device.only),
+      (subst (λ (t : ThreadView). IsPairSplitInTwo t.kept c.args.index (pair_address_of_array c.in-Some.fresh) (changes_view c.args.changes.now) c.split.new.self.kept) c.in-Some.ensures.taken c.in_ok-split.ensures.done)
+      (subst (λ (t : ThreadView). ThreadChangesOnlyTheseBlocks (blocks_of_two_pair_addresses (thread_pair_at_index t.kept c.args.index).at (pair_address_of_array c.in-Some.fresh)) t.kept c.split.new.self.kept) c.in-Some.ensures.taken c.split.ensures.device.only),
 )
 
 pub returns-in_default-clause-few : goal.returns-in_default-clause-few
-returns-in_default-clause-few g c = let same = ap (λ (t : ThreadView). reads t.kept.history) c.in_default.ensures.same in omega (arith, same)
+returns-in_default-clause-few g c = let same = ap (λ (t : ThreadView). read_count_of_history t.kept.history) c.in_default.ensures.same in omega (arith, same)
 
 pub returns-in_err-split-clause-few : goal.returns-in_err-split-clause-few
 returns-in_err-split-clause-few g c =
     let few = c.split.ensures.device.few in
     let most = read_at_most (cached_log c.take_two_free_blocks.new.thread c.args.index) in
-    let taken = ap (λ (t : ThreadView). reads t.kept.history) c.in-Some.ensures.taken in
+    let taken = ap (λ (t : ThreadView). read_count_of_history t.kept.history) c.in-Some.ensures.taken in
     omega (arith, few, most, taken)
 
 pub returns-clause-few : goal.returns-clause-few
 returns-clause-few g c =
     let few = c.split.ensures.device.few in
     let most = read_at_most (cached_log c.take_two_free_blocks.new.thread c.args.index) in
-    let taken = ap (λ (t : ThreadView). reads t.kept.history) c.in-Some.ensures.taken in
+    let taken = ap (λ (t : ThreadView). read_count_of_history t.kept.history) c.in-Some.ensures.taken in
     omega (arith, few, most, taken)

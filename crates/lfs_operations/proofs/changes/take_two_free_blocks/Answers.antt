@@ -1,5 +1,5 @@
 use Rattle.std.proofs.Common.{ap, sym, subst, ◌∙◌, set}
-use Rattle.lfs_model.specs.BlockSets.{BlockStateList, IsFree}
+use Rattle.lfs_model.specs.BlockSets.{BlockStateList, IsBlockFree}
 use Rattle.lfs_model.specs.BlockSets.BlockState.{Free, InFlight}
 use Rattle.lfs_thread.specs.Kept.{ThreadView}
 use Rattle.lfs_operations.proofs.Taking.{two_free, not_two, put_back}
@@ -8,7 +8,7 @@ use Rattle.lfs_operations.proofs.changes.take_two_free_blocks.Goals as goal
 pub returns-clause-were_free : goal.returns-clause-were_free
 returns-clause-were_free g c =
     two_free c.args.thread.now.kept.map c.in-Some.first c.in-Some-take.second c.in-Some.ensures.was_free
-    (subst (λ (t : ThreadView). IsFree t.kept.map c.in-Some-take.second) c.in-Some.ensures.taken c.in-Some-take.ensures.was_free)
+    (subst (λ (t : ThreadView). IsBlockFree t.kept.map c.in-Some-take.second) c.in-Some.ensures.taken c.in-Some-take.ensures.was_free)
 
 pub returns-in_default-take-clause-same : goal.returns-in_default-take-clause-same
 returns-in_default-take-clause-same g c =
@@ -20,4 +20,4 @@ returns-in_default-take-clause-same g c =
 pub returns-in_default-take-clause-none : goal.returns-in_default-take-clause-none
 returns-in_default-take-clause-none g c h =
     not_two c.args.thread.now.kept.map c.in-Some.first
-    (λ b f. c.in_default-take.ensures.none b (subst (λ (t : ThreadView). IsFree t.kept.map b) (sym c.in-Some.ensures.taken) f)) h.0 h.1
+    (λ b f. c.in_default-take.ensures.none b (subst (λ (t : ThreadView). IsBlockFree t.kept.map b) (sym c.in-Some.ensures.taken) f)) h.0 h.1

@@ -2,10 +2,10 @@ use Rattle.std.proofs.Common.{ℕ, ◌≡◌, sym, subst, ◌∙◌, ◌-◌, ap
 use Rattle.std.proofs.lemmas.Result.{err_from_is_err_and}
 use Rattle.lfs_model.specs.Slots.{Gstate, zero_gstate}
 use Rattle.lfs_tag.specs.FieldsView.{move_view}
-use Rattle.lfs_thread.specs.Device.{StopsAfterCleanErasesLeave, blocks_of_two_addresses, blocks_of_address}
-use Rattle.lfs_thread.specs.Kept.{Kept}
-use Rattle.lfs_thread.specs.Steps.{ThreadChangesOnlyTheseBlocks, kept_pair_at_index}
-use Rattle.lfs_operations.specs.Dropping.{CanDropPairAt, IsNextPairDropped, IsLeftByStoppedDrop}
+use Rattle.lfs_thread.specs.Device.{PowerLossLeavesSuchBlocksAfterCleanErases, blocks_of_two_pair_addresses, blocks_of_pair_address}
+use Rattle.lfs_thread.specs.Kept.{KeptThread}
+use Rattle.lfs_thread.specs.Steps.{ThreadChangesOnlyTheseBlocks, thread_pair_at_index}
+use Rattle.lfs_operations.specs.Dropping.{CanDropPairAt, IsNextPairDropped, IsLeftByStoppedPairDrop}
 use Rattle.lfs_operations.specs.Unlinking.{pair_number_after_drop}
 use Rattle.lfs_operations.proofs.AlteredDrops.{whole_alters}
 use Rattle.lfs_operations.proofs.Removed.{reports_again}
@@ -14,81 +14,81 @@ use Rattle.lfs_operations.proofs.UnlinkedWhole.{can_drop_entry, can_drop_then, w
 use Rattle.lfs_operations.proofs.UnlinkedSteps.{both_survive_whole, first_survives_whole, steps_from, steps_then, writes_first, writes_whole, written_whole}
 use Rattle.lfs_operations.proofs.directory_removals.remove_directory_with_entry_pair.Goals as goal
 
-then_dropped : (m : Kept) (i j : ℕ) (s : Gstate) (new : Kept) → i ≡ j → s ≡ zero_gstate → IsNextPairDropped m (i - 1) s new → IsNextPairDropped m (j - 1) zero_gstate new
+then_dropped : (m : KeptThread) (i j : ℕ) (s : Gstate) (new : KeptThread) → i ≡ j → s ≡ zero_gstate → IsNextPairDropped m (i - 1) s new → IsNextPairDropped m (j - 1) zero_gstate new
 then_dropped m i j s new e f h = subst (λ (k : ℕ). IsNextPairDropped m (k - 1) zero_gstate new) e (subst (λ z. IsNextPairDropped m (i - 1) z new) f h)
 
-pub drop_at-requires-clause-can : goal.drop_at-requires-clause-can
-drop_at-requires-clause-can g c =
+pub drop_pair_at-requires-clause-can : goal.drop_pair_at-requires-clause-can
+drop_pair_at-requires-clause-can g c =
     subst (CanDropPairAt c.args.thread.now.kept c.args.pair) (sym c.delta_of_sync_bit.ensures) (can_drop_entry c.args.thread.now.kept c.args.pair c.args.id c.args.first c.args.gone c.requires.can (stands_whole c.args.thread.now.kept c.args.pair c.args.id c.args.first c.requires.can.can c.requires.can.begins c.requires.goes))
 
-pub drop_at-requires-2-clause-can : goal.drop_at-requires-2-clause-can
-drop_at-requires-2-clause-can g c =
-    subst (CanDropPairAt c.drop_at.new.thread.kept c.number_of_pair_after_drop.result) (sym c.none.ensures)
-    (subst (λ (i : ℕ). CanDropPairAt c.drop_at.new.thread.kept i zero_gstate) (sym c.number_of_pair_after_drop.ensures)
-    (can_drop_then c.args.thread.now.kept c.args.pair c.args.id c.args.first c.args.gone c.requires.can (stands_whole c.args.thread.now.kept c.args.pair c.args.id c.args.first c.requires.can.can c.requires.can.begins c.requires.goes) c.drop_at.new.thread.kept
-    (subst (λ (s : Gstate). IsNextPairDropped c.args.thread.now.kept (c.args.pair - 1) s c.drop_at.new.thread.kept) c.delta_of_sync_bit.ensures c.in_ok-drop_at.ensures.is_dropped)))
+pub drop_pair_at-requires-2-clause-can : goal.drop_pair_at-requires-2-clause-can
+drop_pair_at-requires-2-clause-can g c =
+    subst (CanDropPairAt c.drop_pair_at.new.thread.kept c.number_of_pair_after_drop.result) (sym c.none.ensures)
+    (subst (λ (i : ℕ). CanDropPairAt c.drop_pair_at.new.thread.kept i zero_gstate) (sym c.number_of_pair_after_drop.ensures)
+    (can_drop_then c.args.thread.now.kept c.args.pair c.args.id c.args.first c.args.gone c.requires.can (stands_whole c.args.thread.now.kept c.args.pair c.args.id c.args.first c.requires.can.can c.requires.can.begins c.requires.goes) c.drop_pair_at.new.thread.kept
+    (subst (λ (s : Gstate). IsNextPairDropped c.args.thread.now.kept (c.args.pair - 1) s c.drop_pair_at.new.thread.kept) c.delta_of_sync_bit.ensures c.in_ok-drop_pair_at.ensures.is_dropped)))
 
-pub returns-in_err-drop_at-clause-errors : goal.returns-in_err-drop_at-clause-errors
-returns-in_err-drop_at-clause-errors g c =
+pub returns-in_err-drop_pair_at-clause-errors : goal.returns-in_err-drop_pair_at-clause-errors
+returns-in_err-drop_pair_at-clause-errors g c =
     let p = err_from_is_err_and c.from_residual.result c.from_residual.ensures.1 in
-    steps_from c.args.thread.now c.drop_at.new.thread c.from_residual.result
-    (reports_again c.args.thread.now c.drop_at.new.thread p.0 c.drop_at.result c.from_residual.result (c.in_err-drop_at.was ∙ ap Err (sym p.2)) p.1 c.drop_at.ensures.errors.failed c.drop_at.ensures.errors.reported)
+    steps_from c.args.thread.now c.drop_pair_at.new.thread c.from_residual.result
+    (reports_again c.args.thread.now c.drop_pair_at.new.thread p.0 c.drop_pair_at.result c.from_residual.result (c.in_err-drop_pair_at.was ∙ ap Err (sym p.2)) p.1 c.drop_pair_at.ensures.errors.failed c.drop_pair_at.ensures.errors.reported)
 
-pub returns-in_err-drop_at-clause-device : goal.returns-in_err-drop_at-clause-device
-returns-in_err-drop_at-clause-device g c =
-    subst (λ at. ThreadChangesOnlyTheseBlocks (blocks_of_two_addresses at (kept_pair_at_index c.args.thread.now.kept (c.args.gone - 1)).at) c.args.thread.now.kept c.drop_at.new.thread.kept) (sym (written_whole c.args.thread.now.kept c.args.pair c.args.first c.requires.goes))
-    (writes_first (kept_pair_at_index c.args.thread.now.kept (c.args.pair - 1)).at (kept_pair_at_index c.args.thread.now.kept (c.args.gone - 1)).at c.drop_at.ensures.device)
+pub returns-in_err-drop_pair_at-clause-device : goal.returns-in_err-drop_pair_at-clause-device
+returns-in_err-drop_pair_at-clause-device g c =
+    subst (λ at. ThreadChangesOnlyTheseBlocks (blocks_of_two_pair_addresses at (thread_pair_at_index c.args.thread.now.kept (c.args.gone - 1)).at) c.args.thread.now.kept c.drop_pair_at.new.thread.kept) (sym (written_whole c.args.thread.now.kept c.args.pair c.args.first c.requires.goes))
+    (writes_first (thread_pair_at_index c.args.thread.now.kept (c.args.pair - 1)).at (thread_pair_at_index c.args.thread.now.kept (c.args.gone - 1)).at c.drop_pair_at.ensures.device)
 
-pub returns-in_err-drop_at-clause-survives : goal.returns-in_err-drop_at-clause-survives
-returns-in_err-drop_at-clause-survives g c take = first_survives_whole c.args.thread.now.kept c.args.pair c.args.id c.args.first c.args.gone take (stands_whole c.args.thread.now.kept c.args.pair c.args.id c.args.first take.can take.begins c.requires.goes) c.drop_at.new.thread.kept.history
-    (subst (λ (s : Gstate). StopsAfterCleanErasesLeave c.args.thread.now.kept.history c.drop_at.new.thread.kept.history (IsLeftByStoppedDrop c.args.thread.now.kept (c.args.pair - 1) s)) c.delta_of_sync_bit.ensures c.drop_at.ensures.stops)
+pub returns-in_err-drop_pair_at-clause-survives : goal.returns-in_err-drop_pair_at-clause-survives
+returns-in_err-drop_pair_at-clause-survives g c take = first_survives_whole c.args.thread.now.kept c.args.pair c.args.id c.args.first c.args.gone take (stands_whole c.args.thread.now.kept c.args.pair c.args.id c.args.first take.can take.begins c.requires.goes) c.drop_pair_at.new.thread.kept.history
+    (subst (λ (s : Gstate). PowerLossLeavesSuchBlocksAfterCleanErases c.args.thread.now.kept.history c.drop_pair_at.new.thread.kept.history (IsLeftByStoppedPairDrop c.args.thread.now.kept (c.args.pair - 1) s)) c.delta_of_sync_bit.ensures c.drop_pair_at.ensures.stops)
 
-pub returns-in_err-drop_at-2-clause-errors : goal.returns-in_err-drop_at-2-clause-errors
-returns-in_err-drop_at-2-clause-errors g c =
-    let r = c.from_residual-in_err-drop_at-2 in
+pub returns-in_err-drop_pair_at-2-clause-errors : goal.returns-in_err-drop_pair_at-2-clause-errors
+returns-in_err-drop_pair_at-2-clause-errors g c =
+    let r = c.from_residual-in_err-drop_pair_at-2 in
     let p = err_from_is_err_and r.result r.ensures.1 in
-    steps_then c.args.thread.now c.drop_at.new.thread c.drop_at-2.new.thread c.in_ok-drop_at.field-0 c.drop_at.result r.result c.in_ok-drop_at.was c.drop_at.ensures.errors
-    (reports_again c.drop_at.new.thread c.drop_at-2.new.thread p.0 c.drop_at-2.result r.result (c.in_err-drop_at-2.was ∙ ap Err (sym p.2)) p.1 c.drop_at-2.ensures.errors.failed c.drop_at-2.ensures.errors.reported)
+    steps_then c.args.thread.now c.drop_pair_at.new.thread c.drop_pair_at-2.new.thread c.in_ok-drop_pair_at.field-0 c.drop_pair_at.result r.result c.in_ok-drop_pair_at.was c.drop_pair_at.ensures.errors
+    (reports_again c.drop_pair_at.new.thread c.drop_pair_at-2.new.thread p.0 c.drop_pair_at-2.result r.result (c.in_err-drop_pair_at-2.was ∙ ap Err (sym p.2)) p.1 c.drop_pair_at-2.ensures.errors.failed c.drop_pair_at-2.ensures.errors.reported)
 
-pub returns-in_err-drop_at-2-clause-device : goal.returns-in_err-drop_at-2-clause-device
-returns-in_err-drop_at-2-clause-device g c =
-    subst (λ at. ThreadChangesOnlyTheseBlocks (blocks_of_two_addresses at (kept_pair_at_index c.args.thread.now.kept (c.args.gone - 1)).at) c.args.thread.now.kept c.drop_at-2.new.thread.kept) (sym (written_whole c.args.thread.now.kept c.args.pair c.args.first c.requires.goes))
-    (writes_whole c.args.thread.now.kept c.args.pair c.args.id c.args.first c.args.gone c.requires.can (stands_whole c.args.thread.now.kept c.args.pair c.args.id c.args.first c.requires.can.can c.requires.can.begins c.requires.goes) c.drop_at.new.thread.kept c.drop_at-2.new.thread.kept
-    (subst (λ (s : Gstate). IsNextPairDropped c.args.thread.now.kept (c.args.pair - 1) s c.drop_at.new.thread.kept) c.delta_of_sync_bit.ensures c.in_ok-drop_at.ensures.is_dropped)
-    c.drop_at.ensures.device (subst (λ (i : ℕ). ThreadChangesOnlyTheseBlocks (blocks_of_address (kept_pair_at_index c.drop_at.new.thread.kept (i - 1)).at) c.drop_at.new.thread.kept c.drop_at-2.new.thread.kept) c.number_of_pair_after_drop.ensures c.drop_at-2.ensures.device))
+pub returns-in_err-drop_pair_at-2-clause-device : goal.returns-in_err-drop_pair_at-2-clause-device
+returns-in_err-drop_pair_at-2-clause-device g c =
+    subst (λ at. ThreadChangesOnlyTheseBlocks (blocks_of_two_pair_addresses at (thread_pair_at_index c.args.thread.now.kept (c.args.gone - 1)).at) c.args.thread.now.kept c.drop_pair_at-2.new.thread.kept) (sym (written_whole c.args.thread.now.kept c.args.pair c.args.first c.requires.goes))
+    (writes_whole c.args.thread.now.kept c.args.pair c.args.id c.args.first c.args.gone c.requires.can (stands_whole c.args.thread.now.kept c.args.pair c.args.id c.args.first c.requires.can.can c.requires.can.begins c.requires.goes) c.drop_pair_at.new.thread.kept c.drop_pair_at-2.new.thread.kept
+    (subst (λ (s : Gstate). IsNextPairDropped c.args.thread.now.kept (c.args.pair - 1) s c.drop_pair_at.new.thread.kept) c.delta_of_sync_bit.ensures c.in_ok-drop_pair_at.ensures.is_dropped)
+    c.drop_pair_at.ensures.device (subst (λ (i : ℕ). ThreadChangesOnlyTheseBlocks (blocks_of_pair_address (thread_pair_at_index c.drop_pair_at.new.thread.kept (i - 1)).at) c.drop_pair_at.new.thread.kept c.drop_pair_at-2.new.thread.kept) c.number_of_pair_after_drop.ensures c.drop_pair_at-2.ensures.device))
 
-pub returns-in_err-drop_at-2-clause-survives : goal.returns-in_err-drop_at-2-clause-survives
-returns-in_err-drop_at-2-clause-survives g c take = both_survive_whole c.args.thread.now.kept c.args.pair c.args.id c.args.first c.args.gone take (stands_whole c.args.thread.now.kept c.args.pair c.args.id c.args.first take.can take.begins c.requires.goes) c.drop_at.new.thread.kept c.drop_at-2.new.thread.kept
-    (blocks_of_address (kept_pair_at_index c.args.thread.now.kept (c.args.pair - 1)).at) (blocks_of_address (kept_pair_at_index c.drop_at.new.thread.kept (pair_number_after_drop c.args.pair c.args.gone - 1)).at)
-    (subst (λ (s : Gstate). IsNextPairDropped c.args.thread.now.kept (c.args.pair - 1) s c.drop_at.new.thread.kept) c.delta_of_sync_bit.ensures c.in_ok-drop_at.ensures.is_dropped)
-    c.drop_at.ensures.device (subst (λ (i : ℕ). ThreadChangesOnlyTheseBlocks (blocks_of_address (kept_pair_at_index c.drop_at.new.thread.kept (i - 1)).at) c.drop_at.new.thread.kept c.drop_at-2.new.thread.kept) c.number_of_pair_after_drop.ensures c.drop_at-2.ensures.device)
-    (subst (λ (s : Gstate). StopsAfterCleanErasesLeave c.args.thread.now.kept.history c.drop_at.new.thread.kept.history (IsLeftByStoppedDrop c.args.thread.now.kept (c.args.pair - 1) s)) c.delta_of_sync_bit.ensures c.drop_at.ensures.stops)
-    (subst (λ (i : ℕ). StopsAfterCleanErasesLeave c.drop_at.new.thread.kept.history c.drop_at-2.new.thread.kept.history (IsLeftByStoppedDrop c.drop_at.new.thread.kept (i - 1) zero_gstate)) c.number_of_pair_after_drop.ensures
-    (subst (λ (s : Gstate). StopsAfterCleanErasesLeave c.drop_at.new.thread.kept.history c.drop_at-2.new.thread.kept.history (IsLeftByStoppedDrop c.drop_at.new.thread.kept (c.number_of_pair_after_drop.result - 1) s)) c.none.ensures c.drop_at-2.ensures.stops))
+pub returns-in_err-drop_pair_at-2-clause-survives : goal.returns-in_err-drop_pair_at-2-clause-survives
+returns-in_err-drop_pair_at-2-clause-survives g c take = both_survive_whole c.args.thread.now.kept c.args.pair c.args.id c.args.first c.args.gone take (stands_whole c.args.thread.now.kept c.args.pair c.args.id c.args.first take.can take.begins c.requires.goes) c.drop_pair_at.new.thread.kept c.drop_pair_at-2.new.thread.kept
+    (blocks_of_pair_address (thread_pair_at_index c.args.thread.now.kept (c.args.pair - 1)).at) (blocks_of_pair_address (thread_pair_at_index c.drop_pair_at.new.thread.kept (pair_number_after_drop c.args.pair c.args.gone - 1)).at)
+    (subst (λ (s : Gstate). IsNextPairDropped c.args.thread.now.kept (c.args.pair - 1) s c.drop_pair_at.new.thread.kept) c.delta_of_sync_bit.ensures c.in_ok-drop_pair_at.ensures.is_dropped)
+    c.drop_pair_at.ensures.device (subst (λ (i : ℕ). ThreadChangesOnlyTheseBlocks (blocks_of_pair_address (thread_pair_at_index c.drop_pair_at.new.thread.kept (i - 1)).at) c.drop_pair_at.new.thread.kept c.drop_pair_at-2.new.thread.kept) c.number_of_pair_after_drop.ensures c.drop_pair_at-2.ensures.device)
+    (subst (λ (s : Gstate). PowerLossLeavesSuchBlocksAfterCleanErases c.args.thread.now.kept.history c.drop_pair_at.new.thread.kept.history (IsLeftByStoppedPairDrop c.args.thread.now.kept (c.args.pair - 1) s)) c.delta_of_sync_bit.ensures c.drop_pair_at.ensures.stops)
+    (subst (λ (i : ℕ). PowerLossLeavesSuchBlocksAfterCleanErases c.drop_pair_at.new.thread.kept.history c.drop_pair_at-2.new.thread.kept.history (IsLeftByStoppedPairDrop c.drop_pair_at.new.thread.kept (i - 1) zero_gstate)) c.number_of_pair_after_drop.ensures
+    (subst (λ (s : Gstate). PowerLossLeavesSuchBlocksAfterCleanErases c.drop_pair_at.new.thread.kept.history c.drop_pair_at-2.new.thread.kept.history (IsLeftByStoppedPairDrop c.drop_pair_at.new.thread.kept (c.number_of_pair_after_drop.result - 1) s)) c.none.ensures c.drop_pair_at-2.ensures.stops))
 
 pub returns-clause-is_removed : goal.returns-clause-is_removed
-returns-clause-is_removed g c take = whole_removed c.args.thread.now.kept c.args.pair c.args.id c.args.first c.args.gone take (stands_whole c.args.thread.now.kept c.args.pair c.args.id c.args.first take.can take.begins c.requires.goes) c.drop_at.new.thread.kept
-    (subst (λ (s : Gstate). IsNextPairDropped c.args.thread.now.kept (c.args.pair - 1) s c.drop_at.new.thread.kept) c.delta_of_sync_bit.ensures c.in_ok-drop_at.ensures.is_dropped)
-    c.drop_at-2.new.thread.kept (then_dropped c.drop_at.new.thread.kept c.number_of_pair_after_drop.result (pair_number_after_drop c.args.pair c.args.gone) (move_view c.none.result) c.drop_at-2.new.thread.kept c.number_of_pair_after_drop.ensures c.none.ensures c.in_ok-drop_at-2.ensures.is_dropped)
+returns-clause-is_removed g c take = whole_removed c.args.thread.now.kept c.args.pair c.args.id c.args.first c.args.gone take (stands_whole c.args.thread.now.kept c.args.pair c.args.id c.args.first take.can take.begins c.requires.goes) c.drop_pair_at.new.thread.kept
+    (subst (λ (s : Gstate). IsNextPairDropped c.args.thread.now.kept (c.args.pair - 1) s c.drop_pair_at.new.thread.kept) c.delta_of_sync_bit.ensures c.in_ok-drop_pair_at.ensures.is_dropped)
+    c.drop_pair_at-2.new.thread.kept (then_dropped c.drop_pair_at.new.thread.kept c.number_of_pair_after_drop.result (pair_number_after_drop c.args.pair c.args.gone) (move_view c.none.result) c.drop_pair_at-2.new.thread.kept c.number_of_pair_after_drop.ensures c.none.ensures c.in_ok-drop_pair_at-2.ensures.is_dropped)
 
 pub returns-clause-device : goal.returns-clause-device
 returns-clause-device g c =
-    subst (λ at. ThreadChangesOnlyTheseBlocks (blocks_of_two_addresses at (kept_pair_at_index c.args.thread.now.kept (c.args.gone - 1)).at) c.args.thread.now.kept c.drop_at-2.new.thread.kept) (sym (written_whole c.args.thread.now.kept c.args.pair c.args.first c.requires.goes))
-    (writes_whole c.args.thread.now.kept c.args.pair c.args.id c.args.first c.args.gone c.requires.can (stands_whole c.args.thread.now.kept c.args.pair c.args.id c.args.first c.requires.can.can c.requires.can.begins c.requires.goes) c.drop_at.new.thread.kept c.drop_at-2.new.thread.kept
-    (subst (λ (s : Gstate). IsNextPairDropped c.args.thread.now.kept (c.args.pair - 1) s c.drop_at.new.thread.kept) c.delta_of_sync_bit.ensures c.in_ok-drop_at.ensures.is_dropped)
-    c.drop_at.ensures.device (subst (λ (i : ℕ). ThreadChangesOnlyTheseBlocks (blocks_of_address (kept_pair_at_index c.drop_at.new.thread.kept (i - 1)).at) c.drop_at.new.thread.kept c.drop_at-2.new.thread.kept) c.number_of_pair_after_drop.ensures c.drop_at-2.ensures.device))
+    subst (λ at. ThreadChangesOnlyTheseBlocks (blocks_of_two_pair_addresses at (thread_pair_at_index c.args.thread.now.kept (c.args.gone - 1)).at) c.args.thread.now.kept c.drop_pair_at-2.new.thread.kept) (sym (written_whole c.args.thread.now.kept c.args.pair c.args.first c.requires.goes))
+    (writes_whole c.args.thread.now.kept c.args.pair c.args.id c.args.first c.args.gone c.requires.can (stands_whole c.args.thread.now.kept c.args.pair c.args.id c.args.first c.requires.can.can c.requires.can.begins c.requires.goes) c.drop_pair_at.new.thread.kept c.drop_pair_at-2.new.thread.kept
+    (subst (λ (s : Gstate). IsNextPairDropped c.args.thread.now.kept (c.args.pair - 1) s c.drop_pair_at.new.thread.kept) c.delta_of_sync_bit.ensures c.in_ok-drop_pair_at.ensures.is_dropped)
+    c.drop_pair_at.ensures.device (subst (λ (i : ℕ). ThreadChangesOnlyTheseBlocks (blocks_of_pair_address (thread_pair_at_index c.drop_pair_at.new.thread.kept (i - 1)).at) c.drop_pair_at.new.thread.kept c.drop_pair_at-2.new.thread.kept) c.number_of_pair_after_drop.ensures c.drop_pair_at-2.ensures.device))
 
 pub returns-clause-survives : goal.returns-clause-survives
-returns-clause-survives g c take = both_survive_whole c.args.thread.now.kept c.args.pair c.args.id c.args.first c.args.gone take (stands_whole c.args.thread.now.kept c.args.pair c.args.id c.args.first take.can take.begins c.requires.goes) c.drop_at.new.thread.kept c.drop_at-2.new.thread.kept
-    (blocks_of_address (kept_pair_at_index c.args.thread.now.kept (c.args.pair - 1)).at) (blocks_of_address (kept_pair_at_index c.drop_at.new.thread.kept (pair_number_after_drop c.args.pair c.args.gone - 1)).at)
-    (subst (λ (s : Gstate). IsNextPairDropped c.args.thread.now.kept (c.args.pair - 1) s c.drop_at.new.thread.kept) c.delta_of_sync_bit.ensures c.in_ok-drop_at.ensures.is_dropped)
-    c.drop_at.ensures.device (subst (λ (i : ℕ). ThreadChangesOnlyTheseBlocks (blocks_of_address (kept_pair_at_index c.drop_at.new.thread.kept (i - 1)).at) c.drop_at.new.thread.kept c.drop_at-2.new.thread.kept) c.number_of_pair_after_drop.ensures c.drop_at-2.ensures.device)
-    (subst (λ (s : Gstate). StopsAfterCleanErasesLeave c.args.thread.now.kept.history c.drop_at.new.thread.kept.history (IsLeftByStoppedDrop c.args.thread.now.kept (c.args.pair - 1) s)) c.delta_of_sync_bit.ensures c.drop_at.ensures.stops)
-    (subst (λ (i : ℕ). StopsAfterCleanErasesLeave c.drop_at.new.thread.kept.history c.drop_at-2.new.thread.kept.history (IsLeftByStoppedDrop c.drop_at.new.thread.kept (i - 1) zero_gstate)) c.number_of_pair_after_drop.ensures
-    (subst (λ (s : Gstate). StopsAfterCleanErasesLeave c.drop_at.new.thread.kept.history c.drop_at-2.new.thread.kept.history (IsLeftByStoppedDrop c.drop_at.new.thread.kept (c.number_of_pair_after_drop.result - 1) s)) c.none.ensures c.drop_at-2.ensures.stops))
+returns-clause-survives g c take = both_survive_whole c.args.thread.now.kept c.args.pair c.args.id c.args.first c.args.gone take (stands_whole c.args.thread.now.kept c.args.pair c.args.id c.args.first take.can take.begins c.requires.goes) c.drop_pair_at.new.thread.kept c.drop_pair_at-2.new.thread.kept
+    (blocks_of_pair_address (thread_pair_at_index c.args.thread.now.kept (c.args.pair - 1)).at) (blocks_of_pair_address (thread_pair_at_index c.drop_pair_at.new.thread.kept (pair_number_after_drop c.args.pair c.args.gone - 1)).at)
+    (subst (λ (s : Gstate). IsNextPairDropped c.args.thread.now.kept (c.args.pair - 1) s c.drop_pair_at.new.thread.kept) c.delta_of_sync_bit.ensures c.in_ok-drop_pair_at.ensures.is_dropped)
+    c.drop_pair_at.ensures.device (subst (λ (i : ℕ). ThreadChangesOnlyTheseBlocks (blocks_of_pair_address (thread_pair_at_index c.drop_pair_at.new.thread.kept (i - 1)).at) c.drop_pair_at.new.thread.kept c.drop_pair_at-2.new.thread.kept) c.number_of_pair_after_drop.ensures c.drop_pair_at-2.ensures.device)
+    (subst (λ (s : Gstate). PowerLossLeavesSuchBlocksAfterCleanErases c.args.thread.now.kept.history c.drop_pair_at.new.thread.kept.history (IsLeftByStoppedPairDrop c.args.thread.now.kept (c.args.pair - 1) s)) c.delta_of_sync_bit.ensures c.drop_pair_at.ensures.stops)
+    (subst (λ (i : ℕ). PowerLossLeavesSuchBlocksAfterCleanErases c.drop_pair_at.new.thread.kept.history c.drop_pair_at-2.new.thread.kept.history (IsLeftByStoppedPairDrop c.drop_pair_at.new.thread.kept (i - 1) zero_gstate)) c.number_of_pair_after_drop.ensures
+    (subst (λ (s : Gstate). PowerLossLeavesSuchBlocksAfterCleanErases c.drop_pair_at.new.thread.kept.history c.drop_pair_at-2.new.thread.kept.history (IsLeftByStoppedPairDrop c.drop_pair_at.new.thread.kept (c.number_of_pair_after_drop.result - 1) s)) c.none.ensures c.drop_pair_at-2.ensures.stops))
 
 pub returns-clause-alters : goal.returns-clause-alters
 returns-clause-alters g c =
-    whole_alters c.args.thread.now.kept c.args.pair c.args.id c.args.first c.args.gone c.requires.can (stands_whole c.args.thread.now.kept c.args.pair c.args.id c.args.first c.requires.can.can c.requires.can.begins c.requires.goes) c.drop_at.new.thread.kept
-    (subst (λ (s : Gstate). IsNextPairDropped c.args.thread.now.kept (c.args.pair - 1) s c.drop_at.new.thread.kept) c.delta_of_sync_bit.ensures c.in_ok-drop_at.ensures.is_dropped)
-    c.drop_at-2.new.thread.kept (then_dropped c.drop_at.new.thread.kept c.number_of_pair_after_drop.result (pair_number_after_drop c.args.pair c.args.gone) (move_view c.none.result) c.drop_at-2.new.thread.kept c.number_of_pair_after_drop.ensures c.none.ensures c.in_ok-drop_at-2.ensures.is_dropped)
+    whole_alters c.args.thread.now.kept c.args.pair c.args.id c.args.first c.args.gone c.requires.can (stands_whole c.args.thread.now.kept c.args.pair c.args.id c.args.first c.requires.can.can c.requires.can.begins c.requires.goes) c.drop_pair_at.new.thread.kept
+    (subst (λ (s : Gstate). IsNextPairDropped c.args.thread.now.kept (c.args.pair - 1) s c.drop_pair_at.new.thread.kept) c.delta_of_sync_bit.ensures c.in_ok-drop_pair_at.ensures.is_dropped)
+    c.drop_pair_at-2.new.thread.kept (then_dropped c.drop_pair_at.new.thread.kept c.number_of_pair_after_drop.result (pair_number_after_drop c.args.pair c.args.gone) (move_view c.none.result) c.drop_pair_at-2.new.thread.kept c.number_of_pair_after_drop.ensures c.none.ensures c.in_ok-drop_pair_at-2.ensures.is_dropped)

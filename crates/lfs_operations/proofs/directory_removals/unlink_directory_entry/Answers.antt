@@ -2,50 +2,50 @@ use Rattle.std.proofs.Common.{ap, ap₂, sym, subst, ◌∙◌, ◌≡◌, ◌�
 use Rattle.std.proofs.lemmas.Result.{err_from_is_err_and}
 use Rattle.lfs_model.specs.Changes.{Delete, PutMove}
 use Rattle.lfs_model.specs.Slots.{Gstate, gstate_xor}
-use Rattle.lfs_model.proofs.Global.{sync_delta}
+use Rattle.lfs_model.proofs.Global.{sync_bit_delta}
 use Rattle.lfs_tag.specs.FieldsView.{move_view}
-use Rattle.lfs_model.proofs.Histories.{IsTrueAfterEachStopSince-weaker}
+use Rattle.lfs_model.proofs.Histories.{IsTrueAfterAnyPowerLossSince-weaker}
 use Rattle.lfs_pair.specs.declared.commits.Outcome.{Outcome}
 use Rattle.lfs_pair.specs.declared.commits.Outcome.TheVariants as outcome
-use Rattle.lfs_thread.specs.Kept.{Kept}
-use Rattle.lfs_thread.specs.Steps.{CanChangePair, IsPairChanged, LeavesPairOldOrChanged, IsCommitRefused, kept_pair_at_index}
+use Rattle.lfs_thread.specs.Kept.{KeptThread}
+use Rattle.lfs_thread.specs.Steps.{CanChangePair, IsPairChanged, PowerLossLeavesPairOldOrChanged, IsCommitRefused, thread_pair_at_index}
 use Rattle.lfs_operations.specs.Unlinking.{IsDirectoryEntryUnlinked, directory_unlink_changes}
 use Rattle.lfs_operations.proofs.Removed.{reports_again}
 use Rattle.lfs_operations.proofs.Unlinked.{can_unlink, has_unlinked, left_by_unlink, unlink_not_refused}
 use Rattle.lfs_operations.proofs.directory_removals.unlink_directory_entry.Goals as goal
 
-changes_are : (t : Kept) (pair id : ℕ) (state delta bit : Gstate) → state ≡ gstate_xor delta bit → delta ≡ (kept_pair_at_index t pair).content.move → bit ≡ sync_delta → Delete id ∷ PutMove state ∷ [] ≡ directory_unlink_changes t pair id
+changes_are : (t : KeptThread) (pair id : ℕ) (state delta bit : Gstate) → state ≡ gstate_xor delta bit → delta ≡ (thread_pair_at_index t pair).content.move → bit ≡ sync_bit_delta → Delete id ∷ PutMove state ∷ [] ≡ directory_unlink_changes t pair id
 changes_are t pair id state delta bit e f h = ap (λ m. Delete id ∷ PutMove m ∷ []) (e ∙ ap₂ gstate_xor f h)
 
-pub change-requires-clause-can : goal.change-requires-clause-can
-change-requires-clause-can g c =
-    subst (CanChangePair c.args.thread.now.kept c.args.pair) (sym (changes_are c.args.thread.now.kept c.args.pair c.args.id _ _ _ c.with_delta-state.ensures c.delta.ensures c.delta_of_sync_bit.ensures))
+pub commit_pair_changes-requires-clause-can : goal.commit_pair_changes-requires-clause-can
+commit_pair_changes-requires-clause-can g c =
+    subst (CanChangePair c.args.thread.now.kept c.args.pair) (sym (changes_are c.args.thread.now.kept c.args.pair c.args.id _ _ _ c.gstate_xor_delta-state.ensures c.delta.ensures c.delta_of_sync_bit.ensures))
     (can_unlink c.args.thread.now.kept c.args.pair c.args.id c.requires.can)
 
-pub returns-in_err-change-clause-errors : goal.returns-in_err-change-clause-errors
-returns-in_err-change-clause-errors g c =
+pub returns-in_err-commit_pair_changes-clause-errors : goal.returns-in_err-commit_pair_changes-clause-errors
+returns-in_err-commit_pair_changes-clause-errors g c =
     let p = err_from_is_err_and c.from_residual.result c.from_residual.ensures.1 in
-    reports_again c.args.thread.now c.change.new.self p.0 c.change.result c.from_residual.result (c.in_err-change.was ∙ ap Err (sym p.2)) p.1 c.change.ensures.failed c.change.ensures.errors
+    reports_again c.args.thread.now c.commit_pair_changes.new.self p.0 c.commit_pair_changes.result c.from_residual.result (c.in_err-commit_pair_changes.was ∙ ap Err (sym p.2)) p.1 c.commit_pair_changes.ensures.failed c.commit_pair_changes.ensures.errors
 
-pub returns-in_err-change-clause-stops : goal.returns-in_err-change-clause-stops
-returns-in_err-change-clause-stops g c clean = IsTrueAfterEachStopSince-weaker (λ left x. left_by_unlink c.args.thread.now.kept c.args.pair c.args.id c.requires.can left
-    (subst (λ changes. LeavesPairOldOrChanged c.args.thread.now.kept c.args.pair changes left) (changes_are c.args.thread.now.kept c.args.pair c.args.id _ _ _ c.with_delta-state.ensures c.delta.ensures c.delta_of_sync_bit.ensures) x))
-    (c.change.ensures.stops clean)
+pub returns-in_err-commit_pair_changes-clause-stops : goal.returns-in_err-commit_pair_changes-clause-stops
+returns-in_err-commit_pair_changes-clause-stops g c clean = IsTrueAfterAnyPowerLossSince-weaker (λ left x. left_by_unlink c.args.thread.now.kept c.args.pair c.args.id c.requires.can left
+    (subst (λ changes. PowerLossLeavesPairOldOrChanged c.args.thread.now.kept c.args.pair changes left) (changes_are c.args.thread.now.kept c.args.pair c.args.id _ _ _ c.gstate_xor_delta-state.ensures c.delta.ensures c.delta_of_sync_bit.ensures) x))
+    (c.commit_pair_changes.ensures.stops clean)
 
 pub returns-clause-is_unlinked : goal.returns-clause-is_unlinked
-returns-clause-is_unlinked g c = by c.in_ok-change.field-0 c.in_ok-change.was
+returns-clause-is_unlinked g c = by c.in_ok-commit_pair_changes.field-0 c.in_ok-commit_pair_changes.was
   where
-    t : Kept
+    t : KeptThread
     t = c.args.thread.now.kept
 
-    same : Delete c.args.id ∷ PutMove (move_view c.with_delta-state.result) ∷ [] ≡ directory_unlink_changes t c.args.pair c.args.id
-    same = changes_are t c.args.pair c.args.id _ _ _ c.with_delta-state.ensures c.delta.ensures c.delta_of_sync_bit.ensures
+    same : Delete c.args.id ∷ PutMove (move_view c.gstate_xor_delta-state.result) ∷ [] ≡ directory_unlink_changes t c.args.pair c.args.id
+    same = changes_are t c.args.pair c.args.id _ _ _ c.gstate_xor_delta-state.ensures c.delta.ensures c.delta_of_sync_bit.ensures
 
-    by : (o : Outcome) → c.change.result ≡ Ok o → IsDirectoryEntryUnlinked t c.args.pair c.args.id c.change.new.self.kept
-    by outcome.Done is = has_unlinked t c.args.pair c.args.id c.requires.can c.change.new.self.kept (subst (λ changes. IsPairChanged t c.args.pair changes c.change.new.self.kept) same (c.change.ensures.done is))
-    by outcome.Full is = absurd (unlink_not_refused t c.args.pair c.args.id c.requires.can c.change.new.self.kept (subst (λ changes. IsCommitRefused t c.args.pair changes c.change.new.self.kept) same (c.change.ensures.full is)))
+    by : (o : Outcome) → c.commit_pair_changes.result ≡ Ok o → IsDirectoryEntryUnlinked t c.args.pair c.args.id c.commit_pair_changes.new.self.kept
+    by outcome.Done is = has_unlinked t c.args.pair c.args.id c.requires.can c.commit_pair_changes.new.self.kept (subst (λ changes. IsPairChanged t c.args.pair changes c.commit_pair_changes.new.self.kept) same (c.commit_pair_changes.ensures.done is))
+    by outcome.Full is = absurd (unlink_not_refused t c.args.pair c.args.id c.requires.can c.commit_pair_changes.new.self.kept (subst (λ changes. IsCommitRefused t c.args.pair changes c.commit_pair_changes.new.self.kept) same (c.commit_pair_changes.ensures.full is)))
 
 pub returns-clause-stops : goal.returns-clause-stops
-returns-clause-stops g c clean = IsTrueAfterEachStopSince-weaker (λ left x. left_by_unlink c.args.thread.now.kept c.args.pair c.args.id c.requires.can left
-    (subst (λ changes. LeavesPairOldOrChanged c.args.thread.now.kept c.args.pair changes left) (changes_are c.args.thread.now.kept c.args.pair c.args.id _ _ _ c.with_delta-state.ensures c.delta.ensures c.delta_of_sync_bit.ensures) x))
-    (c.change.ensures.stops clean)
+returns-clause-stops g c clean = IsTrueAfterAnyPowerLossSince-weaker (λ left x. left_by_unlink c.args.thread.now.kept c.args.pair c.args.id c.requires.can left
+    (subst (λ changes. PowerLossLeavesPairOldOrChanged c.args.thread.now.kept c.args.pair changes left) (changes_are c.args.thread.now.kept c.args.pair c.args.id _ _ _ c.gstate_xor_delta-state.ensures c.delta.ensures c.delta_of_sync_bit.ensures) x))
+    (c.commit_pair_changes.ensures.stops clean)

@@ -2,24 +2,24 @@ use Rattle.std.proofs.Common.{ℕ, ap, ap₂, length, sym, subst, ◌∙◌, ◌
 use Rattle.std.proofs.lemmas.Result.{err_from_is_err_and}
 use Rattle.lfs_pair.specs.ChangeView.{changes_view}
 use Rattle.lfs_operations.specs.MoveEnds.{CanEndMoveAt, HasEndedMoveAt, pair_written_at_move_end}
-use Rattle.lfs_operations.specs.MovingSteps.{ReportsCommitsTakingBlocks, pair_number_after_insertion}
+use Rattle.lfs_operations.specs.MovingSteps.{ReportsErrorsOfCommitsTakingBlocks, pair_number_after_insertion}
 use Rattle.lfs_operations.proofs.MovReporting.{not_io, survives_both, reports_of_end, writes_at_end, writes_first}
 use Rattle.lfs_operations.proofs.OntoWritten.{end_within, put_within}
-use Rattle.lfs_thread.specs.Device.{blocks_of_address}
-use Rattle.lfs_thread.specs.Steps.{ThreadChangesOnlyTheseBlocks, kept_pair_at_index}
+use Rattle.lfs_thread.specs.Device.{blocks_of_pair_address}
+use Rattle.lfs_thread.specs.Steps.{ThreadChangesOnlyTheseBlocks, thread_pair_at_index}
 use Rattle.lfs_operations.proofs.moves.put_changes_and_end_move.Goals as goal
 
-pub returns-in_err-put-clause-device : goal.returns-in_err-put-clause-device
-returns-in_err-put-clause-device g c = writes_first c.args.thread.now.kept c.put.new.thread.kept (pair_written_at_move_end c.args.old_pair c.args.goes) c.args.new_pair c.put.ensures.device
+pub returns-in_err-change_or_split_pair-clause-device : goal.returns-in_err-change_or_split_pair-clause-device
+returns-in_err-change_or_split_pair-clause-device g c = writes_first c.args.thread.now.kept c.change_or_split_pair.new.thread.kept (pair_written_at_move_end c.args.old_pair c.args.goes) c.args.new_pair c.change_or_split_pair.ensures.device
 
 pub overflow_sub-fresh : goal.overflow_sub-fresh
 overflow_sub-fresh g c =
-    let ends = c.requires.ends c.put.new.thread.kept c.in_ok-put.ensures.is_put in
+    let ends = c.requires.ends c.change_or_split_pair.new.thread.kept c.in_ok-change_or_split_pair.ensures.is_put in
     omega (arith, ends.grown, c.len-before.ensures, c.len.ensures)
 
-pub place_after-pair-requires : goal.place_after-pair-requires
-place_after-pair-requires g c =
-    let ends = c.requires.ends c.put.new.thread.kept c.in_ok-put.ensures.is_put in
+pub pair_number_after_inserted_pairs-pair-requires : goal.pair_number_after_inserted_pairs-pair-requires
+pair_number_after_inserted_pairs-pair-requires g c =
+    let ends = c.requires.ends c.change_or_split_pair.new.thread.kept c.in_ok-change_or_split_pair.ensures.is_put in
     let same = ap₂ (λ m n. pair_number_after_insertion c.args.old_pair c.args.new_pair (m - n)) c.len.ensures c.len-before.ensures in
     let below = ends.can.below in
     let fits = c.len.type_inv in
@@ -27,60 +27,60 @@ place_after-pair-requires g c =
 
 pub end_move-requires-clause-can : goal.end_move-requires-clause-can
 end_move-requires-clause-can g c =
-    let ends = c.requires.ends c.put.new.thread.kept c.in_ok-put.ensures.is_put in
-    subst (λ i. CanEndMoveAt c.put.new.thread.kept i c.args.old_id c.args.goes)
-    (sym (c.place_after-pair.ensures ∙ ap₂ (λ m n. pair_number_after_insertion c.args.old_pair c.args.new_pair (m - n)) c.len.ensures c.len-before.ensures)) ends.can
+    let ends = c.requires.ends c.change_or_split_pair.new.thread.kept c.in_ok-change_or_split_pair.ensures.is_put in
+    subst (λ i. CanEndMoveAt c.change_or_split_pair.new.thread.kept i c.args.old_id c.args.goes)
+    (sym (c.pair_number_after_inserted_pairs-pair.ensures ∙ ap₂ (λ m n. pair_number_after_insertion c.args.old_pair c.args.new_pair (m - n)) c.len.ensures c.len-before.ensures)) ends.can
 
 pub returns-in_err-end_move-clause-errors : goal.returns-in_err-end_move-clause-errors
 returns-in_err-end_move-clause-errors g c =
     let from = c.from_residual-in_err-end_move in
     let p = err_from_is_err_and from.result from.ensures.1 in
-    subst (λ r. ReportsCommitsTakingBlocks c.args.thread.now c.end_move.new.thread c.args.new_pair (changes_view c.args.changes.now) r) (c.in_err-end_move.was ∙ ap Err (sym p.2) ∙ sym p.1)
-    (reports_of_end c.args.thread.now c.put.new.thread c.end_move.new.thread c.args.new_pair (changes_view c.args.changes.now) c.end_move.result
-    (c.put.ensures.errors.reports.reports.no_fault (not_io c.put.result c.in_ok-put.field-0 c.in_ok-put.was)) c.end_move.ensures.errors)
+    subst (λ r. ReportsErrorsOfCommitsTakingBlocks c.args.thread.now c.end_move.new.thread c.args.new_pair (changes_view c.args.changes.now) r) (c.in_err-end_move.was ∙ ap Err (sym p.2) ∙ sym p.1)
+    (reports_of_end c.args.thread.now c.change_or_split_pair.new.thread c.end_move.new.thread c.args.new_pair (changes_view c.args.changes.now) c.end_move.result
+    (c.change_or_split_pair.ensures.errors.reports.reports.no_fault (not_io c.change_or_split_pair.result c.in_ok-change_or_split_pair.field-0 c.in_ok-change_or_split_pair.was)) c.end_move.ensures.errors)
 
 pub returns-in_err-end_move-clause-device : goal.returns-in_err-end_move-clause-device
 returns-in_err-end_move-clause-device g c =
-    let index = c.place_after-pair.ensures ∙ ap₂ (λ m n. pair_number_after_insertion c.args.old_pair c.args.new_pair (m - n)) c.len.ensures c.len-before.ensures in
-    writes_at_end c.args.thread.now.kept c.put.new.thread.kept c.end_move.new.thread.kept c.args.old_pair c.args.old_id c.args.goes c.args.new_pair (changes_view c.args.changes.now) c.in_ok-put.ensures.is_put c.requires.can.can.below
-    (c.requires.ends c.put.new.thread.kept c.in_ok-put.ensures.is_put) c.put.ensures.device
-    (subst (λ (i : ℕ). ThreadChangesOnlyTheseBlocks (blocks_of_address (kept_pair_at_index c.put.new.thread.kept (pair_written_at_move_end i c.args.goes)).at) c.put.new.thread.kept c.end_move.new.thread.kept) index c.end_move.ensures.device)
+    let index = c.pair_number_after_inserted_pairs-pair.ensures ∙ ap₂ (λ m n. pair_number_after_insertion c.args.old_pair c.args.new_pair (m - n)) c.len.ensures c.len-before.ensures in
+    writes_at_end c.args.thread.now.kept c.change_or_split_pair.new.thread.kept c.end_move.new.thread.kept c.args.old_pair c.args.old_id c.args.goes c.args.new_pair (changes_view c.args.changes.now) c.in_ok-change_or_split_pair.ensures.is_put c.requires.can.can.below
+    (c.requires.ends c.change_or_split_pair.new.thread.kept c.in_ok-change_or_split_pair.ensures.is_put) c.change_or_split_pair.ensures.device
+    (subst (λ (i : ℕ). ThreadChangesOnlyTheseBlocks (blocks_of_pair_address (thread_pair_at_index c.change_or_split_pair.new.thread.kept (pair_written_at_move_end i c.args.goes)).at) c.change_or_split_pair.new.thread.kept c.end_move.new.thread.kept) index c.end_move.ensures.device)
 
 pub returns-in_err-end_move-clause-survives : goal.returns-in_err-end_move-clause-survives
 returns-in_err-end_move-clause-survives g c =
-    survives_both c.args.thread.now.kept c.put.new.thread.kept c.end_move.new.thread.kept c.args.new_pair (changes_view c.args.changes.now) c.in_ok-put.ensures.is_put c.put.ensures.stops c.put.ensures.device
+    survives_both c.args.thread.now.kept c.change_or_split_pair.new.thread.kept c.end_move.new.thread.kept c.args.new_pair (changes_view c.args.changes.now) c.in_ok-change_or_split_pair.ensures.is_put c.change_or_split_pair.ensures.stops c.change_or_split_pair.ensures.device
     c.end_move.ensures.device.at_worst c.end_move.ensures.survives
 
 pub returns-clause-done : goal.returns-clause-done
 returns-clause-done g c =
-    let index = c.place_after-pair.ensures ∙ ap₂ (λ m n. pair_number_after_insertion c.args.old_pair c.args.new_pair (m - n)) c.len.ensures c.len-before.ensures in
-    let mid = c.put.new.thread.kept in
+    let index = c.pair_number_after_inserted_pairs-pair.ensures ∙ ap₂ (λ m n. pair_number_after_insertion c.args.old_pair c.args.new_pair (m - n)) c.len.ensures c.len-before.ensures in
+    let mid = c.change_or_split_pair.new.thread.kept in
     let new = c.end_move.new.thread.kept in
-    let ends = c.requires.ends mid c.in_ok-put.ensures.is_put in
+    let ends = c.requires.ends mid c.in_ok-change_or_split_pair.ensures.is_put in
     let ended = subst (λ (i : ℕ). HasEndedMoveAt mid i c.args.old_id c.args.goes new) index c.in_ok-end_move.ensures.ended in
     record {
       mid = mid;
-      put = c.in_ok-put.ensures.is_put;
+      put = c.in_ok-change_or_split_pair.ensures.is_put;
       ended = ended;
       blocks = end_within c.args.thread.now.kept mid new (pair_number_after_insertion c.args.old_pair c.args.new_pair (length mid.pairs - length c.args.thread.now.kept.pairs)) c.args.old_id c.args.goes
-          (put_within c.args.thread.now.kept mid c.args.new_pair (changes_view c.args.changes.now) c.requires.can.can.below c.in_ok-put.ensures.is_put c.put.ensures.device) ends.can.below ended
-          (subst (λ (i : ℕ). ThreadChangesOnlyTheseBlocks (blocks_of_address (kept_pair_at_index mid (pair_written_at_move_end i c.args.goes)).at) mid new) index c.end_move.ensures.device);
+          (put_within c.args.thread.now.kept mid c.args.new_pair (changes_view c.args.changes.now) c.requires.can.can.below c.in_ok-change_or_split_pair.ensures.is_put c.change_or_split_pair.ensures.device) ends.can.below ended
+          (subst (λ (i : ℕ). ThreadChangesOnlyTheseBlocks (blocks_of_pair_address (thread_pair_at_index mid (pair_written_at_move_end i c.args.goes)).at) mid new) index c.end_move.ensures.device);
     }
 
 pub returns-clause-errors : goal.returns-clause-errors
 returns-clause-errors g c =
-    subst (λ r. ReportsCommitsTakingBlocks c.args.thread.now c.end_move.new.thread c.args.new_pair (changes_view c.args.changes.now) r) c.in_ok-end_move.was
-    (reports_of_end c.args.thread.now c.put.new.thread c.end_move.new.thread c.args.new_pair (changes_view c.args.changes.now) c.end_move.result
-    (c.put.ensures.errors.reports.reports.no_fault (not_io c.put.result c.in_ok-put.field-0 c.in_ok-put.was)) c.end_move.ensures.errors)
+    subst (λ r. ReportsErrorsOfCommitsTakingBlocks c.args.thread.now c.end_move.new.thread c.args.new_pair (changes_view c.args.changes.now) r) c.in_ok-end_move.was
+    (reports_of_end c.args.thread.now c.change_or_split_pair.new.thread c.end_move.new.thread c.args.new_pair (changes_view c.args.changes.now) c.end_move.result
+    (c.change_or_split_pair.ensures.errors.reports.reports.no_fault (not_io c.change_or_split_pair.result c.in_ok-change_or_split_pair.field-0 c.in_ok-change_or_split_pair.was)) c.end_move.ensures.errors)
 
 pub returns-clause-device : goal.returns-clause-device
 returns-clause-device g c =
-    let index = c.place_after-pair.ensures ∙ ap₂ (λ m n. pair_number_after_insertion c.args.old_pair c.args.new_pair (m - n)) c.len.ensures c.len-before.ensures in
-    writes_at_end c.args.thread.now.kept c.put.new.thread.kept c.end_move.new.thread.kept c.args.old_pair c.args.old_id c.args.goes c.args.new_pair (changes_view c.args.changes.now) c.in_ok-put.ensures.is_put c.requires.can.can.below
-    (c.requires.ends c.put.new.thread.kept c.in_ok-put.ensures.is_put) c.put.ensures.device
-    (subst (λ (i : ℕ). ThreadChangesOnlyTheseBlocks (blocks_of_address (kept_pair_at_index c.put.new.thread.kept (pair_written_at_move_end i c.args.goes)).at) c.put.new.thread.kept c.end_move.new.thread.kept) index c.end_move.ensures.device)
+    let index = c.pair_number_after_inserted_pairs-pair.ensures ∙ ap₂ (λ m n. pair_number_after_insertion c.args.old_pair c.args.new_pair (m - n)) c.len.ensures c.len-before.ensures in
+    writes_at_end c.args.thread.now.kept c.change_or_split_pair.new.thread.kept c.end_move.new.thread.kept c.args.old_pair c.args.old_id c.args.goes c.args.new_pair (changes_view c.args.changes.now) c.in_ok-change_or_split_pair.ensures.is_put c.requires.can.can.below
+    (c.requires.ends c.change_or_split_pair.new.thread.kept c.in_ok-change_or_split_pair.ensures.is_put) c.change_or_split_pair.ensures.device
+    (subst (λ (i : ℕ). ThreadChangesOnlyTheseBlocks (blocks_of_pair_address (thread_pair_at_index c.change_or_split_pair.new.thread.kept (pair_written_at_move_end i c.args.goes)).at) c.change_or_split_pair.new.thread.kept c.end_move.new.thread.kept) index c.end_move.ensures.device)
 
 pub returns-clause-survives : goal.returns-clause-survives
 returns-clause-survives g c =
-    survives_both c.args.thread.now.kept c.put.new.thread.kept c.end_move.new.thread.kept c.args.new_pair (changes_view c.args.changes.now) c.in_ok-put.ensures.is_put c.put.ensures.stops c.put.ensures.device
+    survives_both c.args.thread.now.kept c.change_or_split_pair.new.thread.kept c.end_move.new.thread.kept c.args.new_pair (changes_view c.args.changes.now) c.in_ok-change_or_split_pair.ensures.is_put c.change_or_split_pair.ensures.stops c.change_or_split_pair.ensures.device
     c.end_move.ensures.device.at_worst c.end_move.ensures.survives

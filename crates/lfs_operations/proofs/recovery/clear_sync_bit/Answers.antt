@@ -1,8 +1,8 @@
 use Rattle.std.proofs.Common.{◌≡◌, ◌+◌, ◌-◌, ap, sym, subst, ◌∙◌, length, arith}
 use Rattle.lfs_model.specs.LoggedContent.{Are32BitPairAddresses}
 use Rattle.lfs_model.specs.Slots.{Gstate}
-use Rattle.lfs_thread.specs.Device.{StopsAfterCleanErasesLeave}
-use Rattle.lfs_thread.specs.Steps.{IsPairChanged, LeavesPairOldOrChanged}
+use Rattle.lfs_thread.specs.Device.{PowerLossLeavesSuchBlocksAfterCleanErases}
+use Rattle.lfs_thread.specs.Steps.{IsPairChanged, PowerLossLeavesPairOldOrChanged}
 use Rattle.lfs_operations.specs.Deltas.{gstate_setting_changes, delta_reaching_gstate}
 use Rattle.lfs_operations.proofs.RecoverEnd.{clear_survives, cleared, cleared_already, enough}
 use Rattle.lfs_model.specs.Thread.{blocks_of_pairs}
@@ -16,7 +16,7 @@ returns-in_err-set_gstate_in_pair-clause-survives g c =
     let is : last + 1 ≡ length t.pairs = let e = enough t c.requires.can in let l = c.len-last.ensures in omega arith in
     clear_survives t c.requires.can last is c.set_gstate_in_pair.new.thread.kept.history
     (subst (λ (x : Gstate). Are32BitPairAddresses (delta_reaching_gstate t last x).pair) c.none.ensures c.set_gstate_in_pair.ensures.words)
-    (subst (λ (x : Gstate). StopsAfterCleanErasesLeave t.history c.set_gstate_in_pair.new.thread.kept.history (LeavesPairOldOrChanged t last (gstate_setting_changes t last x))) c.none.ensures c.set_gstate_in_pair.ensures.stops)
+    (subst (λ (x : Gstate). PowerLossLeavesSuchBlocksAfterCleanErases t.history c.set_gstate_in_pair.new.thread.kept.history (PowerLossLeavesPairOldOrChanged t last (gstate_setting_changes t last x))) c.none.ensures c.set_gstate_in_pair.ensures.stops)
 
 pub returns-in_ok-set_gstate_in_pair-clause-is_cleared : goal.returns-in_ok-set_gstate_in_pair-clause-is_cleared
 returns-in_ok-set_gstate_in_pair-clause-is_cleared g c =
@@ -34,7 +34,7 @@ returns-in_ok-set_gstate_in_pair-clause-survives g c =
     let is : last + 1 ≡ length t.pairs = let e = enough t c.requires.can in let l = c.len-last.ensures in omega arith in
     clear_survives t c.requires.can last is c.set_gstate_in_pair.new.thread.kept.history
     (subst (λ (x : Gstate). Are32BitPairAddresses (delta_reaching_gstate t last x).pair) c.none.ensures c.set_gstate_in_pair.ensures.words)
-    (subst (λ (x : Gstate). StopsAfterCleanErasesLeave t.history c.set_gstate_in_pair.new.thread.kept.history (LeavesPairOldOrChanged t last (gstate_setting_changes t last x))) c.none.ensures c.set_gstate_in_pair.ensures.stops)
+    (subst (λ (x : Gstate). PowerLossLeavesSuchBlocksAfterCleanErases t.history c.set_gstate_in_pair.new.thread.kept.history (PowerLossLeavesPairOldOrChanged t last (gstate_setting_changes t last x))) c.none.ensures c.set_gstate_in_pair.ensures.stops)
 
 pub returns-else-state-clause-is_cleared : goal.returns-else-state-clause-is_cleared
 returns-else-state-clause-is_cleared g c = cleared_already c.args.thread.now.kept c.requires.can (ap (λ (x : Gstate). x.sync) (sym c.state.ensures) ∙ c.if-state.false)

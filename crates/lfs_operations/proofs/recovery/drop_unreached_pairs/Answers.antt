@@ -2,8 +2,8 @@ use Rattle.std.proofs.Common.{suc, ◌≡◌, ◌+◌, ◌-◌, ap, sym, subst, 
 use Rattle.std.specs.Prelude.{slice_index_or}
 use Rattle.std.proofs.lemmas.Result.{err_from_is_err_and}
 use Rattle.lfs_tag.specs.FieldsView.{move_view}
-use Rattle.lfs_model.specs.Thread.{blocks_of_pairs, gstate_of}
-use Rattle.lfs_thread.specs.Kept.{Kept}
+use Rattle.lfs_model.specs.Thread.{blocks_of_pairs, gstate_of_pairs}
+use Rattle.lfs_thread.specs.Kept.{KeptThread}
 use Rattle.lfs_operations.proofs.RecoverEnd.{can_end, end_survives, ends, none_reported, reports_steps}
 use Rattle.lfs_operations.proofs.RecoverUnderWay.{IsUnderWay, begins, can_take, drop_all, indexes, moves_on, next_at, stays_by, survives_on, wanted, way_at, writes_on}
 use Rattle.lfs_operations.proofs.RecoverWrites.{writes_fewer}
@@ -30,47 +30,47 @@ overflow_sub-behind-in-loop-dropped g c =
     (indexes c.args.thread.now.kept c.loop-dropped.thread.kept c.loop-dropped.dropped _ _
     (next_at c.args.thread.now.kept c.loop-dropped.thread.kept c.args.unreached.now c.loop-dropped.dropped c.loop-dropped-test.true c.loop-dropped.invariant.way)).some
 
-pub drop_behind-requires-clause-can : goal.drop_behind-requires-clause-can
-drop_behind-requires-clause-can g c =
+pub drop_pair_behind_index-requires-clause-can : goal.drop_pair_behind_index-requires-clause-can
+drop_pair_behind_index-requires-clause-can g c =
     let old = c.args.thread.now.kept in
     let now = c.loop-dropped.thread.kept in
     let xs = c.args.unreached.now in
     let d = c.loop-dropped.dropped in
     let n = next_at old now xs d c.loop-dropped-test.true c.loop-dropped.invariant.way in
     let i = indexes old now d (slice_index_or xs d 0) (drop (suc d) xs) n in
-    can_take old now d (slice_index_or xs d 0) (drop (suc d) xs) n (move_view c.gstate_wanted_after_pair_drop-wanted.result)
-    (wanted now xs d (move_view c.gstate_wanted_after_pair_drop-wanted.result) c.loop-dropped-test.true c.gstate_wanted_after_pair_drop-wanted.ensures)
+    can_take old now d (slice_index_or xs d 0) (drop (suc d) xs) n (move_view c.gstate_zero_after_dropping_last_unreached_pair-wanted.result)
+    (wanted now xs d (move_view c.gstate_zero_after_dropping_last_unreached_pair-wanted.result) c.loop-dropped-test.true c.gstate_zero_after_dropping_last_unreached_pair-wanted.ensures)
     (slice_index_or xs d 0 - d - 1) (slice_index_or xs d 0 - d) i.next i.sum
 
-pub returns-in_err-drop_behind-clause-errors : goal.returns-in_err-drop_behind-clause-errors
-returns-in_err-drop_behind-clause-errors g c =
+pub returns-in_err-drop_pair_behind_index-clause-errors : goal.returns-in_err-drop_pair_behind_index-clause-errors
+returns-in_err-drop_pair_behind_index-clause-errors g c =
     let p = err_from_is_err_and c.from_residual.result c.from_residual.ensures.1 in
-    reports_steps c.args.thread.now c.loop-dropped.thread c.drop_behind.new.thread p.0 c.drop_behind.result c.from_residual.result c.loop-dropped.invariant.no_fault (c.in_err-drop_behind.was ∙ ap Err (sym p.2)) p.1 c.drop_behind.ensures.errors
+    reports_steps c.args.thread.now c.loop-dropped.thread c.drop_pair_behind_index.new.thread p.0 c.drop_pair_behind_index.result c.from_residual.result c.loop-dropped.invariant.no_fault (c.in_err-drop_pair_behind_index.was ∙ ap Err (sym p.2)) p.1 c.drop_pair_behind_index.ensures.errors
 
-pub returns-in_err-drop_behind-clause-device : goal.returns-in_err-drop_behind-clause-device
-returns-in_err-drop_behind-clause-device g c =
+pub returns-in_err-drop_pair_behind_index-clause-device : goal.returns-in_err-drop_pair_behind_index-clause-device
+returns-in_err-drop_pair_behind_index-clause-device g c =
     let old = c.args.thread.now.kept in
     let now = c.loop-dropped.thread.kept in
     let xs = c.args.unreached.now in
     let d = c.loop-dropped.dropped in
     let n = next_at old now xs d c.loop-dropped-test.true c.loop-dropped.invariant.way in
     let i = indexes old now d (slice_index_or xs d 0) (drop (suc d) xs) n in
-    writes_on old now d (slice_index_or xs d 0) (drop (suc d) xs) n (move_view c.gstate_wanted_after_pair_drop-wanted.result)
-    (wanted now xs d (move_view c.gstate_wanted_after_pair_drop-wanted.result) c.loop-dropped-test.true c.gstate_wanted_after_pair_drop-wanted.ensures)
-    (slice_index_or xs d 0 - d - 1) (slice_index_or xs d 0 - d) i.next i.sum c.drop_behind.new.thread.kept (way_at old now xs d c.loop-dropped-test.true c.loop-dropped.invariant.way) c.drop_behind.ensures.device
+    writes_on old now d (slice_index_or xs d 0) (drop (suc d) xs) n (move_view c.gstate_zero_after_dropping_last_unreached_pair-wanted.result)
+    (wanted now xs d (move_view c.gstate_zero_after_dropping_last_unreached_pair-wanted.result) c.loop-dropped-test.true c.gstate_zero_after_dropping_last_unreached_pair-wanted.ensures)
+    (slice_index_or xs d 0 - d - 1) (slice_index_or xs d 0 - d) i.next i.sum c.drop_pair_behind_index.new.thread.kept (way_at old now xs d c.loop-dropped-test.true c.loop-dropped.invariant.way) c.drop_pair_behind_index.ensures.device
 
-pub returns-in_err-drop_behind-clause-survives : goal.returns-in_err-drop_behind-clause-survives
-returns-in_err-drop_behind-clause-survives g c =
+pub returns-in_err-drop_pair_behind_index-clause-survives : goal.returns-in_err-drop_pair_behind_index-clause-survives
+returns-in_err-drop_pair_behind_index-clause-survives g c =
     let old = c.args.thread.now.kept in
     let now = c.loop-dropped.thread.kept in
     let xs = c.args.unreached.now in
     let d = c.loop-dropped.dropped in
     let n = next_at old now xs d c.loop-dropped-test.true c.loop-dropped.invariant.way in
     let i = indexes old now d (slice_index_or xs d 0) (drop (suc d) xs) n in
-    survives_on old now d (slice_index_or xs d 0) (drop (suc d) xs) n (move_view c.gstate_wanted_after_pair_drop-wanted.result)
-    (wanted now xs d (move_view c.gstate_wanted_after_pair_drop-wanted.result) c.loop-dropped-test.true c.gstate_wanted_after_pair_drop-wanted.ensures)
-    (slice_index_or xs d 0 - d - 1) (slice_index_or xs d 0 - d) i.next i.sum c.drop_behind.new.thread.kept (way_at old now xs d c.loop-dropped-test.true c.loop-dropped.invariant.way)
-    c.drop_behind.ensures.words.0 c.drop_behind.ensures.words.1 (stays_by _ now c.drop_behind.new.thread.kept c.drop_behind.ensures.device) c.drop_behind.ensures.stops
+    survives_on old now d (slice_index_or xs d 0) (drop (suc d) xs) n (move_view c.gstate_zero_after_dropping_last_unreached_pair-wanted.result)
+    (wanted now xs d (move_view c.gstate_zero_after_dropping_last_unreached_pair-wanted.result) c.loop-dropped-test.true c.gstate_zero_after_dropping_last_unreached_pair-wanted.ensures)
+    (slice_index_or xs d 0 - d - 1) (slice_index_or xs d 0 - d) i.next i.sum c.drop_pair_behind_index.new.thread.kept (way_at old now xs d c.loop-dropped-test.true c.loop-dropped.invariant.way)
+    c.drop_pair_behind_index.ensures.words.0 c.drop_pair_behind_index.ensures.words.1 (stays_by _ now c.drop_pair_behind_index.new.thread.kept c.drop_pair_behind_index.ensures.device) c.drop_pair_behind_index.ensures.stops
 
 pub loop-dropped-preserved : goal.loop-dropped-preserved
 loop-dropped-preserved g c =
@@ -85,14 +85,14 @@ loop-dropped-preserved g c =
     record {
       end = refl;
       within = omega arith;
-      works = c.in_ok-drop_behind.ensures.errors.failed;
-      no_fault = c.in_ok-drop_behind.ensures.errors.reported.no_fault (λ e. absurd (let k : _ = e in cc)) ∙ c.loop-dropped.invariant.no_fault;
+      works = c.in_ok-drop_pair_behind_index.ensures.errors.failed;
+      no_fault = c.in_ok-drop_pair_behind_index.ensures.errors.reported.no_fault (λ e. absurd (let k : _ = e in cc)) ∙ c.loop-dropped.invariant.no_fault;
       still = λ none. absurd (omega arith);
-      way = subst (λ k. IsUnderWay old c.drop_behind.new.thread.kept k (drop k xs)) one
-          (moves_on old now d (slice_index_or xs d 0) (drop (suc d) xs) n (move_view c.gstate_wanted_after_pair_drop-wanted.result)
-          (wanted now xs d (move_view c.gstate_wanted_after_pair_drop-wanted.result) c.loop-dropped-test.true c.gstate_wanted_after_pair_drop-wanted.ensures)
-          (slice_index_or xs d 0 - d - 1) (slice_index_or xs d 0 - d) i.next i.sum c.drop_behind.new.thread.kept (way_at old now xs d c.loop-dropped-test.true c.loop-dropped.invariant.way)
-          c.drop_behind.ensures.words.0 c.drop_behind.ensures.words.1 c.in_ok-drop_behind.ensures.is_dropped c.drop_behind.ensures.device c.drop_behind.ensures.stops);
+      way = subst (λ k. IsUnderWay old c.drop_pair_behind_index.new.thread.kept k (drop k xs)) one
+          (moves_on old now d (slice_index_or xs d 0) (drop (suc d) xs) n (move_view c.gstate_zero_after_dropping_last_unreached_pair-wanted.result)
+          (wanted now xs d (move_view c.gstate_zero_after_dropping_last_unreached_pair-wanted.result) c.loop-dropped-test.true c.gstate_zero_after_dropping_last_unreached_pair-wanted.ensures)
+          (slice_index_or xs d 0 - d - 1) (slice_index_or xs d 0 - d) i.next i.sum c.drop_pair_behind_index.new.thread.kept (way_at old now xs d c.loop-dropped-test.true c.loop-dropped.invariant.way)
+          c.drop_pair_behind_index.ensures.words.0 c.drop_pair_behind_index.ensures.words.1 c.in_ok-drop_pair_behind_index.ensures.is_dropped c.drop_pair_behind_index.ensures.device c.drop_pair_behind_index.ensures.stops);
     }
 
 pub clear_sync_bit-requires-clause-can : goal.clear_sync_bit-requires-clause-can
@@ -134,8 +134,8 @@ returns-clause-survives g c =
     (subst (IsUnderWay c.args.thread.now.kept c.loop-dropped.thread.kept c.loop-dropped.dropped) (drop_all c.loop-dropped.dropped c.args.unreached.now (omega (arith, past))) c.loop-dropped.invariant.way)
     c.clear_sync_bit.new.thread.kept (stays_by _ c.loop-dropped.thread.kept c.clear_sync_bit.new.thread.kept c.clear_sync_bit.ensures.device) c.clear_sync_bit.ensures.survives
 
-pub returns-in_err-drop_behind-clause-nothing : goal.returns-in_err-drop_behind-clause-nothing
-returns-in_err-drop_behind-clause-nothing g c recovered =
+pub returns-in_err-drop_pair_behind_index-clause-nothing : goal.returns-in_err-drop_pair_behind_index-clause-nothing
+returns-in_err-drop_pair_behind_index-clause-nothing g c recovered =
     let none = ap length (none_reported c.args.thread.now.kept.pairs c.args.unreached.now recovered c.requires.can.reported) in
     let low = c.loop-dropped-test.true in
     absurd (omega arith)
@@ -145,11 +145,11 @@ returns-in_err-clear_sync_bit-clause-nothing g c recovered =
     let none = ap length (none_reported c.args.thread.now.kept.pairs c.args.unreached.now recovered c.requires.can.reported) in
     let in_all = c.loop-dropped.invariant.within in
     let same = c.loop-dropped.invariant.still (omega arith) in
-    c.clear_sync_bit.ensures.nothing (ap (λ (t : Kept). gstate_of t.pairs) same ∙ recovered.gstate) ∙ same
+    c.clear_sync_bit.ensures.nothing (ap (λ (t : KeptThread). gstate_of_pairs t.pairs) same ∙ recovered.gstate) ∙ same
 
 pub returns-clause-nothing : goal.returns-clause-nothing
 returns-clause-nothing g c recovered =
     let none = ap length (none_reported c.args.thread.now.kept.pairs c.args.unreached.now recovered c.requires.can.reported) in
     let in_all = c.loop-dropped.invariant.within in
     let same = c.loop-dropped.invariant.still (omega arith) in
-    c.clear_sync_bit.ensures.nothing (ap (λ (t : Kept). gstate_of t.pairs) same ∙ recovered.gstate) ∙ same
+    c.clear_sync_bit.ensures.nothing (ap (λ (t : KeptThread). gstate_of_pairs t.pairs) same ∙ recovered.gstate) ∙ same

@@ -9,11 +9,11 @@ use Rattle.lfs_operations.proofs.recovery.pair_number_of_moved_slot.Goals as goa
 pub returns-clause-there : goal.returns-clause-there
 returns-clause-there g c =
     let t = c.args.thread.now.kept in
-    found_there t c.number_of.result c.requires.accepted (sym (ap (λ (x : Gstate). x.kind) c.requires.state) ∙ c.if-state-ne-DELETE.false)
-    (subst (λ (at : ℕ × ℕ). IfSome c.number_of.result (IsPairAtAddress t.pairs at)) (ap (λ (x : Gstate). x.pair) c.requires.state) c.number_of.ensures.there)
+    found_there t c.pair_number_at_address.result c.requires.accepted (sym (ap (λ (x : Gstate). x.kind) c.requires.state) ∙ c.if-state-ne-DELETE.false)
+    (subst (λ (at : ℕ × ℕ). IfSome c.pair_number_at_address.result (IsPairAtAddress t.pairs at)) (ap (λ (x : Gstate). x.pair) c.requires.state) c.pair_number_at_address.ensures.there)
 
 pub returns-clause-none : goal.returns-clause-none
 returns-clause-none g c =
     let t = c.args.thread.now.kept in
-    found_none t c.number_of.result c.requires.accepted (sym (ap (λ (x : Gstate). x.kind) c.requires.state) ∙ c.if-state-ne-DELETE.false)
-    (subst (λ (at : ℕ × ℕ). IfNone c.number_of.result (AllByRecursion (λ p. same_pair p.at at ≡ false) t.pairs)) (ap (λ (x : Gstate). x.pair) c.requires.state) c.number_of.ensures.nowhere)
+    found_none t c.pair_number_at_address.result c.requires.accepted (sym (ap (λ (x : Gstate). x.kind) c.requires.state) ∙ c.if-state-ne-DELETE.false)
+    (subst (λ (at : ℕ × ℕ). IfNone c.pair_number_at_address.result (AllByRecursion (λ p. same_pair p.at at ≡ false) t.pairs)) (ap (λ (x : Gstate). x.pair) c.requires.state) c.pair_number_at_address.ensures.nowhere)

@@ -12,30 +12,30 @@ use Rattle.lfs_operations.proofs.RecoverDeltas.{can_set, set_not_refused}
 use Rattle.lfs_operations.proofs.Removed.{reports_again}
 use Rattle.lfs_operations.proofs.recovery.set_gstate_in_pair.Goals as goal
 
-pub change-requires-clause-can : goal.change-requires-clause-can
-change-requires-clause-can g c =
+pub commit_pair_changes-requires-clause-can : goal.commit_pair_changes-requires-clause-can
+commit_pair_changes-requires-clause-can g c =
     let t = c.args.thread.now.kept in
     let w = move_view c.args.wanted.now in
-    let e : move_view c.storable-state.result ≡ delta_reaching_gstate t c.args.index w = c.storable-state.ensures.same ∙ c.delta_for_wanted_gstate.ensures in
+    let e : move_view c.show_gstate_address_to_proof-state.result ≡ delta_reaching_gstate t c.args.index w = c.show_gstate_address_to_proof-state.ensures.same ∙ c.delta_that_reaches_gstate.ensures in
     subst (λ (x : Gstate). CanChangePair t c.args.index (PutMove x ∷ [])) (sym e)
-    (can_set t c.args.index w c.requires.can (subst (λ (x : Gstate). Are32BitPairAddresses x.pair) e c.storable-state.ensures.words))
+    (can_set t c.args.index w c.requires.can (subst (λ (x : Gstate). Are32BitPairAddresses x.pair) e c.show_gstate_address_to_proof-state.ensures.words))
 
-pub returns-in_err-change-clause-errors : goal.returns-in_err-change-clause-errors
-returns-in_err-change-clause-errors g c =
+pub returns-in_err-commit_pair_changes-clause-errors : goal.returns-in_err-commit_pair_changes-clause-errors
+returns-in_err-commit_pair_changes-clause-errors g c =
     let p = err_from_is_err_and c.from_residual.result c.from_residual.ensures.1 in
-    reports_again c.args.thread.now c.change.new.self p.0 c.change.result c.from_residual.result (c.in_err-change.was ∙ ap Err (sym p.2)) p.1 c.change.ensures.failed c.change.ensures.errors
+    reports_again c.args.thread.now c.commit_pair_changes.new.self p.0 c.commit_pair_changes.result c.from_residual.result (c.in_err-commit_pair_changes.was ∙ ap Err (sym p.2)) p.1 c.commit_pair_changes.ensures.failed c.commit_pair_changes.ensures.errors
 
 pub returns-clause-is_set : goal.returns-clause-is_set
-returns-clause-is_set g c = by c.in_ok-change.field-0 c.in_ok-change.was
+returns-clause-is_set g c = by c.in_ok-commit_pair_changes.field-0 c.in_ok-commit_pair_changes.was
   where
-    by : (o : Outcome) → c.change.result ≡ Ok o → IsPairChanged c.args.thread.now.kept c.args.index (gstate_setting_changes c.args.thread.now.kept c.args.index (move_view c.args.wanted.now)) c.change.new.self.kept
-    by outcome.Done is = subst (λ (x : Gstate). IsPairChanged c.args.thread.now.kept c.args.index (PutMove x ∷ []) c.change.new.self.kept) (c.storable-state.ensures.same ∙ c.delta_for_wanted_gstate.ensures) (c.change.ensures.done is)
+    by : (o : Outcome) → c.commit_pair_changes.result ≡ Ok o → IsPairChanged c.args.thread.now.kept c.args.index (gstate_setting_changes c.args.thread.now.kept c.args.index (move_view c.args.wanted.now)) c.commit_pair_changes.new.self.kept
+    by outcome.Done is = subst (λ (x : Gstate). IsPairChanged c.args.thread.now.kept c.args.index (PutMove x ∷ []) c.commit_pair_changes.new.self.kept) (c.show_gstate_address_to_proof-state.ensures.same ∙ c.delta_that_reaches_gstate.ensures) (c.commit_pair_changes.ensures.done is)
     by outcome.Full is = absurd (set_not_refused c.args.thread.now.kept c.args.index (move_view c.args.wanted.now) c.requires.can
-        (subst (λ (x : Gstate). Are32BitPairAddresses x.pair) (c.storable-state.ensures.same ∙ c.delta_for_wanted_gstate.ensures) c.storable-state.ensures.words) c.change.new.self.kept
-        (subst (λ (x : Gstate). IsCommitRefused c.args.thread.now.kept c.args.index (PutMove x ∷ []) c.change.new.self.kept) (c.storable-state.ensures.same ∙ c.delta_for_wanted_gstate.ensures) (c.change.ensures.full is)))
+        (subst (λ (x : Gstate). Are32BitPairAddresses x.pair) (c.show_gstate_address_to_proof-state.ensures.same ∙ c.delta_that_reaches_gstate.ensures) c.show_gstate_address_to_proof-state.ensures.words) c.commit_pair_changes.new.self.kept
+        (subst (λ (x : Gstate). IsCommitRefused c.args.thread.now.kept c.args.index (PutMove x ∷ []) c.commit_pair_changes.new.self.kept) (c.show_gstate_address_to_proof-state.ensures.same ∙ c.delta_that_reaches_gstate.ensures) (c.commit_pair_changes.ensures.full is)))
 
-pub returns-in_err-change-clause-words : goal.returns-in_err-change-clause-words
-returns-in_err-change-clause-words g c = subst (λ (x : Gstate). Are32BitPairAddresses x.pair) (c.storable-state.ensures.same ∙ c.delta_for_wanted_gstate.ensures) c.storable-state.ensures.words
+pub returns-in_err-commit_pair_changes-clause-words : goal.returns-in_err-commit_pair_changes-clause-words
+returns-in_err-commit_pair_changes-clause-words g c = subst (λ (x : Gstate). Are32BitPairAddresses x.pair) (c.show_gstate_address_to_proof-state.ensures.same ∙ c.delta_that_reaches_gstate.ensures) c.show_gstate_address_to_proof-state.ensures.words
 
 pub returns-clause-words : goal.returns-clause-words
-returns-clause-words g c = subst (λ (x : Gstate). Are32BitPairAddresses x.pair) (c.storable-state.ensures.same ∙ c.delta_for_wanted_gstate.ensures) c.storable-state.ensures.words
+returns-clause-words g c = subst (λ (x : Gstate). Are32BitPairAddresses x.pair) (c.show_gstate_address_to_proof-state.ensures.same ∙ c.delta_that_reaches_gstate.ensures) c.show_gstate_address_to_proof-state.ensures.words

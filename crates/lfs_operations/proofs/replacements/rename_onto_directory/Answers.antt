@@ -2,11 +2,11 @@ use Rattle.std.proofs.Common.{ap, sym, subst, ◌∙◌, ◌∷◌, [], ◌++◌
 use Rattle.std.proofs.lemmas.Result.{err_from_is_err_and}
 use Rattle.lfs_model.specs.Slots.{Gstate}
 use Rattle.lfs_model.specs.Shown.{tree_on_disk}
-use Rattle.lfs_thread.specs.Device.{StopsAfterCleanErasesLeave, blocks_of_address}
-use Rattle.lfs_thread.specs.Steps.{kept_pair_at_index}
-use Rattle.lfs_operations.specs.Dropping.{CanDropPairAt, IsNextPairDropped, IsLeftByStoppedDrop}
+use Rattle.lfs_thread.specs.Device.{PowerLossLeavesSuchBlocksAfterCleanErases, blocks_of_pair_address}
+use Rattle.lfs_thread.specs.Steps.{thread_pair_at_index}
+use Rattle.lfs_operations.specs.Dropping.{CanDropPairAt, IsNextPairDropped, IsLeftByStoppedPairDrop}
 use Rattle.lfs_operations.specs.Renaming.{tree_with_renamed_entry}
-use Rattle.lfs_operations.specs.RenamingOver.{ReportsSlotReadThenCommits, replace_directory_in_pair_changes}
+use Rattle.lfs_operations.specs.RenamingOver.{ReportsErrorsOfReadThenCommits, replace_directory_in_pair_changes}
 use Rattle.lfs_operations.proofs.AlteredOnto.{altered_within}
 use Rattle.lfs_operations.proofs.OntoGone.{can_drop_replaced}
 use Rattle.lfs_operations.proofs.OntoReporting.{last_survives, over_from, over_then, writes_over}
@@ -18,65 +18,65 @@ use Rattle.lfs_operations.proofs.replacements.rename_onto_directory.Goals as goa
 pub returns-in_err-rename_over_directory_in_pair-clause-errors : goal.returns-in_err-rename_over_directory_in_pair-clause-errors
 returns-in_err-rename_over_directory_in_pair-clause-errors g c =
     let p = err_from_is_err_and c.from_residual.result c.from_residual.ensures.1 in
-    subst (λ r. ReportsSlotReadThenCommits c.args.thread.now c.rename_over_directory_in_pair.new.thread r) (c.in_err-rename_over_directory_in_pair.was ∙ ap Err (sym p.2) ∙ sym p.1)
+    subst (λ r. ReportsErrorsOfReadThenCommits c.args.thread.now c.rename_over_directory_in_pair.new.thread r) (c.in_err-rename_over_directory_in_pair.was ∙ ap Err (sym p.2) ∙ sym p.1)
     (over_from c.args.thread.now c.rename_over_directory_in_pair.new.thread c.rename_over_directory_in_pair.result c.rename_over_directory_in_pair.ensures.errors)
 
 pub returns-in_err-rename_over_directory_in_pair-clause-device : goal.returns-in_err-rename_over_directory_in_pair-clause-device
-returns-in_err-rename_over_directory_in_pair-clause-device g c = writes_first (kept_pair_at_index c.args.thread.now.kept c.args.pair).at (kept_pair_at_index c.args.thread.now.kept (c.args.gone - 1)).at c.rename_over_directory_in_pair.ensures.device
+returns-in_err-rename_over_directory_in_pair-clause-device g c = writes_first (thread_pair_at_index c.args.thread.now.kept c.args.pair).at (thread_pair_at_index c.args.thread.now.kept (c.args.gone - 1)).at c.rename_over_directory_in_pair.ensures.device
 
 pub returns-in_err-rename_over_directory_in_pair-clause-survives : goal.returns-in_err-rename_over_directory_in_pair-clause-survives
 returns-in_err-rename_over_directory_in_pair-clause-survives g c rename = c.rename_over_directory_in_pair.ensures.survives rename.over
 
-pub drop_at-requires-clause-can : goal.drop_at-requires-clause-can
-drop_at-requires-clause-can g c =
+pub drop_pair_at-requires-clause-can : goal.drop_pair_at-requires-clause-can
+drop_pair_at-requires-clause-can g c =
     let rename = c.requires.can in
     let t = c.args.thread.now.kept in
     subst (CanDropPairAt c.rename_over_directory_in_pair.new.thread.kept c.args.gone) (sym c.none.ensures)
-    (can_drop_replaced t c.rename_over_directory_in_pair.new.thread.kept (rename.over.can.path ++ rename.over.can.name ∷ []) (rename.over.can.path ++ c.args.name.now ∷ []) rename.over.to (kept_pair_at_index t c.args.gone) c.args.gone
+    (can_drop_replaced t c.rename_over_directory_in_pair.new.thread.kept (rename.over.can.path ++ rename.over.can.name ∷ []) (rename.over.can.path ++ c.args.name.now ∷ []) rename.over.to (thread_pair_at_index t c.args.gone) c.args.gone
     (replacing t c.args.pair c.args.id c.args.place c.args.name.now c.args.gone rename c.rename_over_directory_in_pair.new.thread.kept (c.in_ok-rename_over_directory_in_pair.ensures.renamed rename.over).changed))
 
-pub returns-in_err-drop_at-clause-errors : goal.returns-in_err-drop_at-clause-errors
-returns-in_err-drop_at-clause-errors g c =
-    let r = c.from_residual-in_err-drop_at in
+pub returns-in_err-drop_pair_at-clause-errors : goal.returns-in_err-drop_pair_at-clause-errors
+returns-in_err-drop_pair_at-clause-errors g c =
+    let r = c.from_residual-in_err-drop_pair_at in
     let p = err_from_is_err_and r.result r.ensures.1 in
-    over_then c.args.thread.now c.rename_over_directory_in_pair.new.thread c.drop_at.new.thread c.in_ok-rename_over_directory_in_pair.field-0 c.rename_over_directory_in_pair.result r.result c.in_ok-rename_over_directory_in_pair.was c.rename_over_directory_in_pair.ensures.errors
-    (reports_again c.rename_over_directory_in_pair.new.thread c.drop_at.new.thread p.0 c.drop_at.result r.result (c.in_err-drop_at.was ∙ ap Err (sym p.2)) p.1 c.drop_at.ensures.errors.failed c.drop_at.ensures.errors.reported)
+    over_then c.args.thread.now c.rename_over_directory_in_pair.new.thread c.drop_pair_at.new.thread c.in_ok-rename_over_directory_in_pair.field-0 c.rename_over_directory_in_pair.result r.result c.in_ok-rename_over_directory_in_pair.was c.rename_over_directory_in_pair.ensures.errors
+    (reports_again c.rename_over_directory_in_pair.new.thread c.drop_pair_at.new.thread p.0 c.drop_pair_at.result r.result (c.in_err-drop_pair_at.was ∙ ap Err (sym p.2)) p.1 c.drop_pair_at.ensures.errors.failed c.drop_pair_at.ensures.errors.reported)
 
-pub returns-in_err-drop_at-clause-device : goal.returns-in_err-drop_at-clause-device
-returns-in_err-drop_at-clause-device g c =
-    writes_over c.args.thread.now.kept c.rename_over_directory_in_pair.new.thread.kept c.drop_at.new.thread.kept c.args.pair c.args.gone (replace_directory_in_pair_changes c.args.thread.now.kept c.args.pair c.args.id c.args.place c.args.name.now)
-    (c.in_ok-rename_over_directory_in_pair.ensures.renamed c.requires.can.over).changed c.rename_over_directory_in_pair.ensures.device c.drop_at.ensures.device
+pub returns-in_err-drop_pair_at-clause-device : goal.returns-in_err-drop_pair_at-clause-device
+returns-in_err-drop_pair_at-clause-device g c =
+    writes_over c.args.thread.now.kept c.rename_over_directory_in_pair.new.thread.kept c.drop_pair_at.new.thread.kept c.args.pair c.args.gone (replace_directory_in_pair_changes c.args.thread.now.kept c.args.pair c.args.id c.args.place c.args.name.now)
+    (c.in_ok-rename_over_directory_in_pair.ensures.renamed c.requires.can.over).changed c.rename_over_directory_in_pair.ensures.device c.drop_pair_at.ensures.device
 
-pub returns-in_err-drop_at-clause-survives : goal.returns-in_err-drop_at-clause-survives
-returns-in_err-drop_at-clause-survives g c rename =
+pub returns-in_err-drop_pair_at-clause-survives : goal.returns-in_err-drop_pair_at-clause-survives
+returns-in_err-drop_pair_at-clause-survives g c rename =
     let t = c.args.thread.now.kept in
-    last_survives t c.rename_over_directory_in_pair.new.thread.kept c.drop_at.new.thread.kept c.args.gone (blocks_of_address (kept_pair_at_index t c.args.pair).at) (blocks_of_address (kept_pair_at_index c.rename_over_directory_in_pair.new.thread.kept (c.args.gone - 1)).at)
-    (tree_on_disk t.disk t.pairs) (tree_with_renamed_entry t rename.over.can.path rename.over.can.name c.args.name.now) c.rename_over_directory_in_pair.ensures.device c.drop_at.ensures.device (c.rename_over_directory_in_pair.ensures.survives rename.over)
+    last_survives t c.rename_over_directory_in_pair.new.thread.kept c.drop_pair_at.new.thread.kept c.args.gone (blocks_of_pair_address (thread_pair_at_index t c.args.pair).at) (blocks_of_pair_address (thread_pair_at_index c.rename_over_directory_in_pair.new.thread.kept (c.args.gone - 1)).at)
+    (tree_on_disk t.disk t.pairs) (tree_with_renamed_entry t rename.over.can.path rename.over.can.name c.args.name.now) c.rename_over_directory_in_pair.ensures.device c.drop_pair_at.ensures.device (c.rename_over_directory_in_pair.ensures.survives rename.over)
     (left_within t c.args.pair c.args.id c.args.place c.args.name.now c.args.gone rename c.rename_over_directory_in_pair.new.thread.kept (c.in_ok-rename_over_directory_in_pair.ensures.renamed rename.over).changed)
-    (subst (λ (s : Gstate). StopsAfterCleanErasesLeave c.rename_over_directory_in_pair.new.thread.kept.history c.drop_at.new.thread.kept.history (IsLeftByStoppedDrop c.rename_over_directory_in_pair.new.thread.kept (c.args.gone - 1) s)) c.none.ensures c.drop_at.ensures.stops)
+    (subst (λ (s : Gstate). PowerLossLeavesSuchBlocksAfterCleanErases c.rename_over_directory_in_pair.new.thread.kept.history c.drop_pair_at.new.thread.kept.history (IsLeftByStoppedPairDrop c.rename_over_directory_in_pair.new.thread.kept (c.args.gone - 1) s)) c.none.ensures c.drop_pair_at.ensures.stops)
 
 pub returns-clause-renamed : goal.returns-clause-renamed
 returns-clause-renamed g c rename =
-    renamed_onto_directory c.args.thread.now.kept c.args.pair c.args.id c.args.place c.args.name.now c.args.gone rename c.rename_over_directory_in_pair.new.thread.kept (c.in_ok-rename_over_directory_in_pair.ensures.renamed rename.over).changed c.drop_at.new.thread.kept
-    (subst (λ (s : Gstate). IsNextPairDropped c.rename_over_directory_in_pair.new.thread.kept (c.args.gone - 1) s c.drop_at.new.thread.kept) c.none.ensures c.in_ok-drop_at.ensures.is_dropped)
+    renamed_onto_directory c.args.thread.now.kept c.args.pair c.args.id c.args.place c.args.name.now c.args.gone rename c.rename_over_directory_in_pair.new.thread.kept (c.in_ok-rename_over_directory_in_pair.ensures.renamed rename.over).changed c.drop_pair_at.new.thread.kept
+    (subst (λ (s : Gstate). IsNextPairDropped c.rename_over_directory_in_pair.new.thread.kept (c.args.gone - 1) s c.drop_pair_at.new.thread.kept) c.none.ensures c.in_ok-drop_pair_at.ensures.is_dropped)
 
 pub returns-clause-errors : goal.returns-clause-errors
 returns-clause-errors g c =
-    subst (λ r. ReportsSlotReadThenCommits c.args.thread.now c.drop_at.new.thread r) c.in_ok-drop_at.was
-    (over_then c.args.thread.now c.rename_over_directory_in_pair.new.thread c.drop_at.new.thread c.in_ok-rename_over_directory_in_pair.field-0 c.rename_over_directory_in_pair.result c.drop_at.result c.in_ok-rename_over_directory_in_pair.was c.rename_over_directory_in_pair.ensures.errors c.drop_at.ensures.errors)
+    subst (λ r. ReportsErrorsOfReadThenCommits c.args.thread.now c.drop_pair_at.new.thread r) c.in_ok-drop_pair_at.was
+    (over_then c.args.thread.now c.rename_over_directory_in_pair.new.thread c.drop_pair_at.new.thread c.in_ok-rename_over_directory_in_pair.field-0 c.rename_over_directory_in_pair.result c.drop_pair_at.result c.in_ok-rename_over_directory_in_pair.was c.rename_over_directory_in_pair.ensures.errors c.drop_pair_at.ensures.errors)
 
 pub returns-clause-device : goal.returns-clause-device
 returns-clause-device g c =
-    writes_over c.args.thread.now.kept c.rename_over_directory_in_pair.new.thread.kept c.drop_at.new.thread.kept c.args.pair c.args.gone (replace_directory_in_pair_changes c.args.thread.now.kept c.args.pair c.args.id c.args.place c.args.name.now)
-    (c.in_ok-rename_over_directory_in_pair.ensures.renamed c.requires.can.over).changed c.rename_over_directory_in_pair.ensures.device c.drop_at.ensures.device
+    writes_over c.args.thread.now.kept c.rename_over_directory_in_pair.new.thread.kept c.drop_pair_at.new.thread.kept c.args.pair c.args.gone (replace_directory_in_pair_changes c.args.thread.now.kept c.args.pair c.args.id c.args.place c.args.name.now)
+    (c.in_ok-rename_over_directory_in_pair.ensures.renamed c.requires.can.over).changed c.rename_over_directory_in_pair.ensures.device c.drop_pair_at.ensures.device
 
 pub returns-clause-survives : goal.returns-clause-survives
 returns-clause-survives g c rename =
     let t = c.args.thread.now.kept in
-    last_survives t c.rename_over_directory_in_pair.new.thread.kept c.drop_at.new.thread.kept c.args.gone (blocks_of_address (kept_pair_at_index t c.args.pair).at) (blocks_of_address (kept_pair_at_index c.rename_over_directory_in_pair.new.thread.kept (c.args.gone - 1)).at)
-    (tree_on_disk t.disk t.pairs) (tree_with_renamed_entry t rename.over.can.path rename.over.can.name c.args.name.now) c.rename_over_directory_in_pair.ensures.device c.drop_at.ensures.device (c.rename_over_directory_in_pair.ensures.survives rename.over)
+    last_survives t c.rename_over_directory_in_pair.new.thread.kept c.drop_pair_at.new.thread.kept c.args.gone (blocks_of_pair_address (thread_pair_at_index t c.args.pair).at) (blocks_of_pair_address (thread_pair_at_index c.rename_over_directory_in_pair.new.thread.kept (c.args.gone - 1)).at)
+    (tree_on_disk t.disk t.pairs) (tree_with_renamed_entry t rename.over.can.path rename.over.can.name c.args.name.now) c.rename_over_directory_in_pair.ensures.device c.drop_pair_at.ensures.device (c.rename_over_directory_in_pair.ensures.survives rename.over)
     (left_within t c.args.pair c.args.id c.args.place c.args.name.now c.args.gone rename c.rename_over_directory_in_pair.new.thread.kept (c.in_ok-rename_over_directory_in_pair.ensures.renamed rename.over).changed)
-    (subst (λ (s : Gstate). StopsAfterCleanErasesLeave c.rename_over_directory_in_pair.new.thread.kept.history c.drop_at.new.thread.kept.history (IsLeftByStoppedDrop c.rename_over_directory_in_pair.new.thread.kept (c.args.gone - 1) s)) c.none.ensures c.drop_at.ensures.stops)
+    (subst (λ (s : Gstate). PowerLossLeavesSuchBlocksAfterCleanErases c.rename_over_directory_in_pair.new.thread.kept.history c.drop_pair_at.new.thread.kept.history (IsLeftByStoppedPairDrop c.rename_over_directory_in_pair.new.thread.kept (c.args.gone - 1) s)) c.none.ensures c.drop_pair_at.ensures.stops)
 
 pub returns-clause-alters : goal.returns-clause-alters
 returns-clause-alters g c =
@@ -87,6 +87,6 @@ returns-clause-alters g c =
     let to = rename.over.can.path ++ c.args.name.now ∷ [] in
     let changed = (c.in_ok-rename_over_directory_in_pair.ensures.renamed rename.over).changed in
     let k = replacing t c.args.pair c.args.id c.args.place c.args.name.now c.args.gone rename m changed in
-    altered_within t m from to rename.over.to c.args.gone c.args.gone (can_drop_replaced t m from to rename.over.to (kept_pair_at_index t c.args.gone) c.args.gone k).above rename.below k c.drop_at.new.thread.kept
-    (subst (λ (s : Gstate). IsNextPairDropped m (c.args.gone - 1) s c.drop_at.new.thread.kept) c.none.ensures c.in_ok-drop_at.ensures.is_dropped) c.args.pair
-    (writes_over t m c.drop_at.new.thread.kept c.args.pair c.args.gone (replace_directory_in_pair_changes t c.args.pair c.args.id c.args.place c.args.name.now) changed c.rename_over_directory_in_pair.ensures.device c.drop_at.ensures.device)
+    altered_within t m from to rename.over.to c.args.gone c.args.gone (can_drop_replaced t m from to rename.over.to (thread_pair_at_index t c.args.gone) c.args.gone k).above rename.below k c.drop_pair_at.new.thread.kept
+    (subst (λ (s : Gstate). IsNextPairDropped m (c.args.gone - 1) s c.drop_pair_at.new.thread.kept) c.none.ensures c.in_ok-drop_pair_at.ensures.is_dropped) c.args.pair
+    (writes_over t m c.drop_pair_at.new.thread.kept c.args.pair c.args.gone (replace_directory_in_pair_changes t c.args.pair c.args.id c.args.place c.args.name.now) changed c.rename_over_directory_in_pair.ensures.device c.drop_pair_at.ensures.device)

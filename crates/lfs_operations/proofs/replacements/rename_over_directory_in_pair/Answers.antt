@@ -3,13 +3,13 @@ use Rattle.std.proofs.lemmas.Result.{err_from_is_err_and}
 use Rattle.lfs_device.specs.declared.error.Error.TheVariants as Error
 use Rattle.lfs_model.specs.Changes.{Delete, PutMove}
 use Rattle.lfs_model.specs.Slots.{gstate_xor}
-use Rattle.lfs_model.proofs.Global.{sync_delta}
+use Rattle.lfs_model.proofs.Global.{sync_bit_delta}
 use Rattle.lfs_pair.specs.ChangeView.{changes_view}
 use Rattle.lfs_pair.specs.declared.commits.Outcome.{Outcome}
 use Rattle.lfs_pair.specs.declared.commits.Outcome.TheVariants as outcome
-use Rattle.lfs_thread.specs.Device.{StopsAfterCleanErasesLeave, blocks_of_address}
-use Rattle.lfs_thread.specs.Kept.{Kept}
-use Rattle.lfs_thread.specs.Steps.{CanChangePair, IsPairChanged, LeavesPairOldOrChanged, IsCommitRefused, ThreadChangesOnlyTheseBlocks, kept_pair_at_index}
+use Rattle.lfs_thread.specs.Device.{PowerLossLeavesSuchBlocksAfterCleanErases, blocks_of_pair_address}
+use Rattle.lfs_thread.specs.Kept.{KeptThread}
+use Rattle.lfs_thread.specs.Steps.{CanChangePair, IsPairChanged, PowerLossLeavesPairOldOrChanged, IsCommitRefused, ThreadChangesOnlyTheseBlocks, thread_pair_at_index}
 use Rattle.lfs_operations.specs.Renaming.{id_after_slot_removal, tree_with_renamed_entry}
 use Rattle.lfs_operations.specs.RenamingOver.{IsDirectoryReplacedInPair, replace_directory_in_pair_changes}
 use Rattle.lfs_operations.specs.RenamingSlots.{slot_creation_changes}
@@ -28,79 +28,79 @@ returns-in_err-copy-clause-errors g c =
     over_unread c.args.thread.now c.copy_slot_of_pair.new.thread p.0 c.copy_slot_of_pair.result c.from_residual.result (c.in_err-copy.was ∙ ap Err (sym p.2)) p.1 c.copy_slot_of_pair.ensures.works c.copy_slot_of_pair.ensures.only c.copy_slot_of_pair.ensures.errors
 
 pub returns-in_err-copy-clause-device : goal.returns-in_err-copy-clause-device
-returns-in_err-copy-clause-device g c = only_read_writes c.args.thread.now.kept c.copy_slot_of_pair.new.thread.kept (blocks_of_address (kept_pair_at_index c.args.thread.now.kept c.args.pair).at) c.copy_slot_of_pair.ensures.only
+returns-in_err-copy-clause-device g c = only_read_writes c.args.thread.now.kept c.copy_slot_of_pair.new.thread.kept (blocks_of_pair_address (thread_pair_at_index c.args.thread.now.kept c.args.pair).at) c.copy_slot_of_pair.ensures.only
 
 pub returns-in_err-copy-clause-survives : goal.returns-in_err-copy-clause-survives
 returns-in_err-copy-clause-survives g c rename =
     read_survives c.args.thread.now.kept c.copy_slot_of_pair.new.thread.kept.history c.copy_slot_of_pair.ensures.only.reads rename.can.ready (tree_with_renamed_entry c.args.thread.now.kept rename.can.path rename.can.name c.args.name.now)
 
 pub returns-in_err-changes-clause-device : goal.returns-in_err-changes-clause-device
-returns-in_err-changes-clause-device g c = only_read_writes c.args.thread.now.kept c.copy_slot_of_pair.new.thread.kept (blocks_of_address (kept_pair_at_index c.args.thread.now.kept c.args.pair).at) c.copy_slot_of_pair.ensures.only
+returns-in_err-changes-clause-device g c = only_read_writes c.args.thread.now.kept c.copy_slot_of_pair.new.thread.kept (blocks_of_pair_address (thread_pair_at_index c.args.thread.now.kept c.args.pair).at) c.copy_slot_of_pair.ensures.only
 
 pub returns-in_err-changes-clause-survives : goal.returns-in_err-changes-clause-survives
 returns-in_err-changes-clause-survives g c rename =
     read_survives c.args.thread.now.kept c.copy_slot_of_pair.new.thread.kept.history c.copy_slot_of_pair.ensures.only.reads rename.can.ready (tree_with_renamed_entry c.args.thread.now.kept rename.can.path rename.can.name c.args.name.now)
 
-pub change-requires-clause-can : goal.change-requires-clause-can
-change-requires-clause-can g c =
-    let state = c.with_delta-state.ensures ∙ ap₂ gstate_xor c.delta.ensures c.delta_of_sync_bit.ensures ∙ ap (λ (k : Kept). gstate_xor (kept_pair_at_index k c.args.pair).content.move sync_delta) (read_is c.args.thread.now.kept c.copy_slot_of_pair.new.thread.kept c.copy_slot_of_pair.ensures.only) in
+pub commit_pair_changes-requires-clause-can : goal.commit_pair_changes-requires-clause-can
+commit_pair_changes-requires-clause-can g c =
+    let state = c.gstate_xor_delta-state.ensures ∙ ap₂ gstate_xor c.delta.ensures c.delta_of_sync_bit.ensures ∙ ap (λ (k : KeptThread). gstate_xor (thread_pair_at_index k c.args.pair).content.move sync_bit_delta) (read_is c.args.thread.now.kept c.copy_slot_of_pair.new.thread.kept c.copy_slot_of_pair.ensures.only) in
     let are = ap changes_view c.deref.ensures.value ∙ c.in_ok-changes.ensures
     ∙ ap₂ (λ m z. PutMove m ∷ Delete c.args.id ∷ Delete (id_after_slot_removal c.args.id c.args.place) ∷ slot_creation_changes (id_after_slot_removal c.args.id c.args.place) c.args.name.now z) state c.in_ok-copy.ensures.copied in
     subst (CanChangePair c.copy_slot_of_pair.new.thread.kept c.args.pair) (sym are) (can_change_after_read c.args.thread.now.kept c.copy_slot_of_pair.new.thread.kept c.args.pair (replace_directory_in_pair_changes c.args.thread.now.kept c.args.pair c.args.id c.args.place c.args.name.now) c.copy_slot_of_pair.ensures.only (can_over c.args.thread.now.kept c.args.pair c.args.id c.args.place c.args.name.now c.requires.can))
 
-pub returns-in_err-change-clause-errors : goal.returns-in_err-change-clause-errors
-returns-in_err-change-clause-errors g c =
-    let p = err_from_is_err_and c.from_residual-in_err-change.result c.from_residual-in_err-change.ensures.1 in
-    over_failed c.args.thread.now c.copy_slot_of_pair.new.thread c.change.new.self p.0 c.change.result c.from_residual-in_err-change.result (c.in_err-change.was ∙ ap Err (sym p.2)) p.1 c.copy_slot_of_pair.ensures.only
-    (c.copy_slot_of_pair.ensures.errors.no_fault (λ io. not_both c.copy_slot_of_pair.result c.in_ok-copy.copy Error.Io c.in_ok-copy.was io)) c.change.ensures.failed c.change.ensures.errors
+pub returns-in_err-commit_pair_changes-clause-errors : goal.returns-in_err-commit_pair_changes-clause-errors
+returns-in_err-commit_pair_changes-clause-errors g c =
+    let p = err_from_is_err_and c.from_residual-in_err-commit_pair_changes.result c.from_residual-in_err-commit_pair_changes.ensures.1 in
+    over_failed c.args.thread.now c.copy_slot_of_pair.new.thread c.commit_pair_changes.new.self p.0 c.commit_pair_changes.result c.from_residual-in_err-commit_pair_changes.result (c.in_err-commit_pair_changes.was ∙ ap Err (sym p.2)) p.1 c.copy_slot_of_pair.ensures.only
+    (c.copy_slot_of_pair.ensures.errors.no_fault (λ io. not_both c.copy_slot_of_pair.result c.in_ok-copy.copy Error.Io c.in_ok-copy.was io)) c.commit_pair_changes.ensures.failed c.commit_pair_changes.ensures.errors
 
-pub returns-in_err-change-clause-device : goal.returns-in_err-change-clause-device
-returns-in_err-change-clause-device g c =
-    blocks_after_read c.args.thread.now.kept c.copy_slot_of_pair.new.thread.kept c.change.new.self.kept (blocks_of_address (kept_pair_at_index c.args.thread.now.kept c.args.pair).at) c.copy_slot_of_pair.ensures.only
-    (subst (λ (k : Kept). ThreadChangesOnlyTheseBlocks (blocks_of_address (kept_pair_at_index k c.args.pair).at) c.copy_slot_of_pair.new.thread.kept c.change.new.self.kept) (read_is c.args.thread.now.kept c.copy_slot_of_pair.new.thread.kept c.copy_slot_of_pair.ensures.only) c.change.ensures.device.only)
+pub returns-in_err-commit_pair_changes-clause-device : goal.returns-in_err-commit_pair_changes-clause-device
+returns-in_err-commit_pair_changes-clause-device g c =
+    blocks_after_read c.args.thread.now.kept c.copy_slot_of_pair.new.thread.kept c.commit_pair_changes.new.self.kept (blocks_of_pair_address (thread_pair_at_index c.args.thread.now.kept c.args.pair).at) c.copy_slot_of_pair.ensures.only
+    (subst (λ (k : KeptThread). ThreadChangesOnlyTheseBlocks (blocks_of_pair_address (thread_pair_at_index k c.args.pair).at) c.copy_slot_of_pair.new.thread.kept c.commit_pair_changes.new.self.kept) (read_is c.args.thread.now.kept c.copy_slot_of_pair.new.thread.kept c.copy_slot_of_pair.ensures.only) c.commit_pair_changes.ensures.device.only)
 
-pub returns-in_err-change-clause-survives : goal.returns-in_err-change-clause-survives
-returns-in_err-change-clause-survives g c rename =
-    let state = c.with_delta-state.ensures ∙ ap₂ gstate_xor c.delta.ensures c.delta_of_sync_bit.ensures ∙ ap (λ (k : Kept). gstate_xor (kept_pair_at_index k c.args.pair).content.move sync_delta) (read_is c.args.thread.now.kept c.copy_slot_of_pair.new.thread.kept c.copy_slot_of_pair.ensures.only) in
+pub returns-in_err-commit_pair_changes-clause-survives : goal.returns-in_err-commit_pair_changes-clause-survives
+returns-in_err-commit_pair_changes-clause-survives g c rename =
+    let state = c.gstate_xor_delta-state.ensures ∙ ap₂ gstate_xor c.delta.ensures c.delta_of_sync_bit.ensures ∙ ap (λ (k : KeptThread). gstate_xor (thread_pair_at_index k c.args.pair).content.move sync_bit_delta) (read_is c.args.thread.now.kept c.copy_slot_of_pair.new.thread.kept c.copy_slot_of_pair.ensures.only) in
     let are = ap changes_view c.deref.ensures.value ∙ c.in_ok-changes.ensures
     ∙ ap₂ (λ m z. PutMove m ∷ Delete c.args.id ∷ Delete (id_after_slot_removal c.args.id c.args.place) ∷ slot_creation_changes (id_after_slot_removal c.args.id c.args.place) c.args.name.now z) state c.in_ok-copy.ensures.copied in
-    over_survives c.args.thread.now.kept c.args.pair c.args.id c.args.place c.args.name.now rename c.change.new.self.kept.history
-    (change_stops_after_read c.args.thread.now.kept c.copy_slot_of_pair.new.thread.kept c.change.new.self.kept c.args.pair (replace_directory_in_pair_changes c.args.thread.now.kept c.args.pair c.args.id c.args.place c.args.name.now) (blocks_of_address (kept_pair_at_index c.copy_slot_of_pair.new.thread.kept c.args.pair).at) c.copy_slot_of_pair.ensures.only
-    rename.can.ready rename.can.first rename.can.stands.pair rename.can.stands.rest rename.can.stands.place c.change.ensures.device.only
-    (subst (λ z. StopsAfterCleanErasesLeave c.copy_slot_of_pair.new.thread.kept.history c.change.new.self.kept.history (LeavesPairOldOrChanged c.copy_slot_of_pair.new.thread.kept c.args.pair z)) are c.change.ensures.stops))
+    over_survives c.args.thread.now.kept c.args.pair c.args.id c.args.place c.args.name.now rename c.commit_pair_changes.new.self.kept.history
+    (change_stops_after_read c.args.thread.now.kept c.copy_slot_of_pair.new.thread.kept c.commit_pair_changes.new.self.kept c.args.pair (replace_directory_in_pair_changes c.args.thread.now.kept c.args.pair c.args.id c.args.place c.args.name.now) (blocks_of_pair_address (thread_pair_at_index c.copy_slot_of_pair.new.thread.kept c.args.pair).at) c.copy_slot_of_pair.ensures.only
+    rename.can.ready rename.can.first rename.can.stands.pair rename.can.stands.rest rename.can.stands.place c.commit_pair_changes.ensures.device.only
+    (subst (λ z. PowerLossLeavesSuchBlocksAfterCleanErases c.copy_slot_of_pair.new.thread.kept.history c.commit_pair_changes.new.self.kept.history (PowerLossLeavesPairOldOrChanged c.copy_slot_of_pair.new.thread.kept c.args.pair z)) are c.commit_pair_changes.ensures.stops))
 
 pub returns-clause-renamed : goal.returns-clause-renamed
-returns-clause-renamed g c rename = by c.in_ok-change.field-0 c.in_ok-change.was
+returns-clause-renamed g c rename = by c.in_ok-commit_pair_changes.field-0 c.in_ok-commit_pair_changes.was
   where
-    by : (o : Outcome) → c.change.result ≡ Ok o → IsDirectoryReplacedInPair c.args.thread.now.kept c.change.new.self.kept c.args.pair c.args.id c.args.place rename.can.path rename.can.name c.args.name.now
+    by : (o : Outcome) → c.commit_pair_changes.result ≡ Ok o → IsDirectoryReplacedInPair c.args.thread.now.kept c.commit_pair_changes.new.self.kept c.args.pair c.args.id c.args.place rename.can.path rename.can.name c.args.name.now
     by outcome.Done is =
-        let state = c.with_delta-state.ensures ∙ ap₂ gstate_xor c.delta.ensures c.delta_of_sync_bit.ensures ∙ ap (λ (k : Kept). gstate_xor (kept_pair_at_index k c.args.pair).content.move sync_delta) (read_is c.args.thread.now.kept c.copy_slot_of_pair.new.thread.kept c.copy_slot_of_pair.ensures.only) in
+        let state = c.gstate_xor_delta-state.ensures ∙ ap₂ gstate_xor c.delta.ensures c.delta_of_sync_bit.ensures ∙ ap (λ (k : KeptThread). gstate_xor (thread_pair_at_index k c.args.pair).content.move sync_bit_delta) (read_is c.args.thread.now.kept c.copy_slot_of_pair.new.thread.kept c.copy_slot_of_pair.ensures.only) in
         let are = ap changes_view c.deref.ensures.value ∙ c.in_ok-changes.ensures
         ∙ ap₂ (λ m z. PutMove m ∷ Delete c.args.id ∷ Delete (id_after_slot_removal c.args.id c.args.place) ∷ slot_creation_changes (id_after_slot_removal c.args.id c.args.place) c.args.name.now z) state c.in_ok-copy.ensures.copied in
-        renamed_over c.args.thread.now.kept c.args.pair c.args.id c.args.place c.args.name.now rename c.change.new.self.kept (changed_after_read c.args.thread.now.kept c.copy_slot_of_pair.new.thread.kept c.change.new.self.kept c.args.pair (replace_directory_in_pair_changes c.args.thread.now.kept c.args.pair c.args.id c.args.place c.args.name.now) c.copy_slot_of_pair.ensures.only
-        (subst (λ z. IsPairChanged c.copy_slot_of_pair.new.thread.kept c.args.pair z c.change.new.self.kept) are (c.change.ensures.done is)))
+        renamed_over c.args.thread.now.kept c.args.pair c.args.id c.args.place c.args.name.now rename c.commit_pair_changes.new.self.kept (changed_after_read c.args.thread.now.kept c.copy_slot_of_pair.new.thread.kept c.commit_pair_changes.new.self.kept c.args.pair (replace_directory_in_pair_changes c.args.thread.now.kept c.args.pair c.args.id c.args.place c.args.name.now) c.copy_slot_of_pair.ensures.only
+        (subst (λ z. IsPairChanged c.copy_slot_of_pair.new.thread.kept c.args.pair z c.commit_pair_changes.new.self.kept) are (c.commit_pair_changes.ensures.done is)))
     by outcome.Full is =
-        let state = c.with_delta-state.ensures ∙ ap₂ gstate_xor c.delta.ensures c.delta_of_sync_bit.ensures ∙ ap (λ (k : Kept). gstate_xor (kept_pair_at_index k c.args.pair).content.move sync_delta) (read_is c.args.thread.now.kept c.copy_slot_of_pair.new.thread.kept c.copy_slot_of_pair.ensures.only) in
+        let state = c.gstate_xor_delta-state.ensures ∙ ap₂ gstate_xor c.delta.ensures c.delta_of_sync_bit.ensures ∙ ap (λ (k : KeptThread). gstate_xor (thread_pair_at_index k c.args.pair).content.move sync_bit_delta) (read_is c.args.thread.now.kept c.copy_slot_of_pair.new.thread.kept c.copy_slot_of_pair.ensures.only) in
         let are = ap changes_view c.deref.ensures.value ∙ c.in_ok-changes.ensures
         ∙ ap₂ (λ m z. PutMove m ∷ Delete c.args.id ∷ Delete (id_after_slot_removal c.args.id c.args.place) ∷ slot_creation_changes (id_after_slot_removal c.args.id c.args.place) c.args.name.now z) state c.in_ok-copy.ensures.copied in
-        absurd (over_not_refused c.args.thread.now.kept c.args.pair c.args.id c.args.place c.args.name.now rename c.change.new.self.kept (refused_after_read c.args.thread.now.kept c.copy_slot_of_pair.new.thread.kept c.change.new.self.kept c.args.pair (replace_directory_in_pair_changes c.args.thread.now.kept c.args.pair c.args.id c.args.place c.args.name.now) c.copy_slot_of_pair.ensures.only
-        (subst (λ z. IsCommitRefused c.copy_slot_of_pair.new.thread.kept c.args.pair z c.change.new.self.kept) are (c.change.ensures.full is))))
+        absurd (over_not_refused c.args.thread.now.kept c.args.pair c.args.id c.args.place c.args.name.now rename c.commit_pair_changes.new.self.kept (refused_after_read c.args.thread.now.kept c.copy_slot_of_pair.new.thread.kept c.commit_pair_changes.new.self.kept c.args.pair (replace_directory_in_pair_changes c.args.thread.now.kept c.args.pair c.args.id c.args.place c.args.name.now) c.copy_slot_of_pair.ensures.only
+        (subst (λ z. IsCommitRefused c.copy_slot_of_pair.new.thread.kept c.args.pair z c.commit_pair_changes.new.self.kept) are (c.commit_pair_changes.ensures.full is))))
 
 pub returns-clause-errors : goal.returns-clause-errors
-returns-clause-errors g c = over_done c.args.thread.now c.copy_slot_of_pair.new.thread c.change.new.self c.in_ok-change.field-0 tt c.change.result (Ok tt) c.in_ok-change.was refl c.copy_slot_of_pair.ensures.only
-    (c.copy_slot_of_pair.ensures.errors.no_fault (λ io. not_both c.copy_slot_of_pair.result c.in_ok-copy.copy Error.Io c.in_ok-copy.was io)) c.change.ensures.failed c.change.ensures.errors
+returns-clause-errors g c = over_done c.args.thread.now c.copy_slot_of_pair.new.thread c.commit_pair_changes.new.self c.in_ok-commit_pair_changes.field-0 tt c.commit_pair_changes.result (Ok tt) c.in_ok-commit_pair_changes.was refl c.copy_slot_of_pair.ensures.only
+    (c.copy_slot_of_pair.ensures.errors.no_fault (λ io. not_both c.copy_slot_of_pair.result c.in_ok-copy.copy Error.Io c.in_ok-copy.was io)) c.commit_pair_changes.ensures.failed c.commit_pair_changes.ensures.errors
 
 pub returns-clause-device : goal.returns-clause-device
 returns-clause-device g c =
-    blocks_after_read c.args.thread.now.kept c.copy_slot_of_pair.new.thread.kept c.change.new.self.kept (blocks_of_address (kept_pair_at_index c.args.thread.now.kept c.args.pair).at) c.copy_slot_of_pair.ensures.only
-    (subst (λ (k : Kept). ThreadChangesOnlyTheseBlocks (blocks_of_address (kept_pair_at_index k c.args.pair).at) c.copy_slot_of_pair.new.thread.kept c.change.new.self.kept) (read_is c.args.thread.now.kept c.copy_slot_of_pair.new.thread.kept c.copy_slot_of_pair.ensures.only) c.change.ensures.device.only)
+    blocks_after_read c.args.thread.now.kept c.copy_slot_of_pair.new.thread.kept c.commit_pair_changes.new.self.kept (blocks_of_pair_address (thread_pair_at_index c.args.thread.now.kept c.args.pair).at) c.copy_slot_of_pair.ensures.only
+    (subst (λ (k : KeptThread). ThreadChangesOnlyTheseBlocks (blocks_of_pair_address (thread_pair_at_index k c.args.pair).at) c.copy_slot_of_pair.new.thread.kept c.commit_pair_changes.new.self.kept) (read_is c.args.thread.now.kept c.copy_slot_of_pair.new.thread.kept c.copy_slot_of_pair.ensures.only) c.commit_pair_changes.ensures.device.only)
 
 pub returns-clause-survives : goal.returns-clause-survives
 returns-clause-survives g c rename =
-    let state = c.with_delta-state.ensures ∙ ap₂ gstate_xor c.delta.ensures c.delta_of_sync_bit.ensures ∙ ap (λ (k : Kept). gstate_xor (kept_pair_at_index k c.args.pair).content.move sync_delta) (read_is c.args.thread.now.kept c.copy_slot_of_pair.new.thread.kept c.copy_slot_of_pair.ensures.only) in
+    let state = c.gstate_xor_delta-state.ensures ∙ ap₂ gstate_xor c.delta.ensures c.delta_of_sync_bit.ensures ∙ ap (λ (k : KeptThread). gstate_xor (thread_pair_at_index k c.args.pair).content.move sync_bit_delta) (read_is c.args.thread.now.kept c.copy_slot_of_pair.new.thread.kept c.copy_slot_of_pair.ensures.only) in
     let are = ap changes_view c.deref.ensures.value ∙ c.in_ok-changes.ensures
     ∙ ap₂ (λ m z. PutMove m ∷ Delete c.args.id ∷ Delete (id_after_slot_removal c.args.id c.args.place) ∷ slot_creation_changes (id_after_slot_removal c.args.id c.args.place) c.args.name.now z) state c.in_ok-copy.ensures.copied in
-    over_survives c.args.thread.now.kept c.args.pair c.args.id c.args.place c.args.name.now rename c.change.new.self.kept.history
-    (change_stops_after_read c.args.thread.now.kept c.copy_slot_of_pair.new.thread.kept c.change.new.self.kept c.args.pair (replace_directory_in_pair_changes c.args.thread.now.kept c.args.pair c.args.id c.args.place c.args.name.now) (blocks_of_address (kept_pair_at_index c.copy_slot_of_pair.new.thread.kept c.args.pair).at) c.copy_slot_of_pair.ensures.only
-    rename.can.ready rename.can.first rename.can.stands.pair rename.can.stands.rest rename.can.stands.place c.change.ensures.device.only
-    (subst (λ z. StopsAfterCleanErasesLeave c.copy_slot_of_pair.new.thread.kept.history c.change.new.self.kept.history (LeavesPairOldOrChanged c.copy_slot_of_pair.new.thread.kept c.args.pair z)) are c.change.ensures.stops))
+    over_survives c.args.thread.now.kept c.args.pair c.args.id c.args.place c.args.name.now rename c.commit_pair_changes.new.self.kept.history
+    (change_stops_after_read c.args.thread.now.kept c.copy_slot_of_pair.new.thread.kept c.commit_pair_changes.new.self.kept c.args.pair (replace_directory_in_pair_changes c.args.thread.now.kept c.args.pair c.args.id c.args.place c.args.name.now) (blocks_of_pair_address (thread_pair_at_index c.copy_slot_of_pair.new.thread.kept c.args.pair).at) c.copy_slot_of_pair.ensures.only
+    rename.can.ready rename.can.first rename.can.stands.pair rename.can.stands.rest rename.can.stands.place c.commit_pair_changes.ensures.device.only
+    (subst (λ z. PowerLossLeavesSuchBlocksAfterCleanErases c.copy_slot_of_pair.new.thread.kept.history c.commit_pair_changes.new.self.kept.history (PowerLossLeavesPairOldOrChanged c.copy_slot_of_pair.new.thread.kept c.args.pair z)) are c.commit_pair_changes.ensures.stops))

@@ -1,6 +1,6 @@
 use Rattle.std.proofs.Common.{◌∙◌, ◌<◌, ℕ, length, sym, ap, subst}
 use Rattle.std.proofs.lemmas.Option.{same_Some}
-use Rattle.lfs_model.specs.Content.{RawContent, content_after_log_entries, empty_raw_content, slot_of_id}
+use Rattle.lfs_model.specs.Content.{RawPairContent, content_after_log_entries, empty_raw_pair_content, slot_of_id}
 use Rattle.lfs_model.specs.Log.{log_entries_of_block}
 use Rattle.lfs_operations.specs.RenamingSlots.{nameless_slot_of}
 use Rattle.lfs_operations.proofs.RenameCopied.{is_named, is_structured, read_below, there_read}
@@ -28,4 +28,4 @@ returns-clause-copied c raw is =
     let same = same_Some c.requires.1.0.raw raw (sym c.requires.1.0.log ∙ is) in
     c.in_ok-copy.ensures
     ∙ ap nameless_slot_of (sym (there_read c.args.log.now c.requires.0 c.requires.1.0 c.from.result (subst (λ (n : ℕ). n < length c.requires.0.slots) (sym c.from.ensures) c.requires.1.1) c.in_ok-content.content read c.index.result.now c.index.ensures))
-    ∙ ap (λ (i : ℕ). nameless_slot_of (slot_of_id c.requires.1.0.raw.slots i)) c.from.ensures ∙ ap (λ (r : RawContent). nameless_slot_of (slot_of_id r.slots c.args.id)) same
+    ∙ ap (λ (i : ℕ). nameless_slot_of (slot_of_id c.requires.1.0.raw.slots i)) c.from.ensures ∙ ap (λ (r : RawPairContent). nameless_slot_of (slot_of_id r.slots c.args.id)) same

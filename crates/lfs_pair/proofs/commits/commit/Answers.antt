@@ -2,10 +2,10 @@ use Rattle.std.proofs.lemmas.Result.{err_from_is_err_and}
 use Rattle.lfs_pair.proofs.Erring.{fails_on}
 use Rattle.std.proofs.Common.{arith, ap₂, subst}
 use Rattle.lfs_device.specs.Shown.{disk_of_geometry_and_blocks}
-use Rattle.lfs_model.proofs.Histories.{goes_on_by, IsTrueAfterEachStopSince-reads, IsTrueAfterEachStopSince-weaker, IsTrueOfEachCallSince-behind, IsLeftByStopIn-read}
-use Rattle.lfs_pair.specs.Pair.{address_of_header}
+use Rattle.lfs_model.proofs.Histories.{goes_on_by, IsTrueAfterAnyPowerLossSince-read_count_of_history, IsTrueAfterAnyPowerLossSince-weaker, IsTrueOfEachCallSince-behind, AreBlocksLeftByPowerLossInCall-read}
+use Rattle.lfs_pair.specs.Pair.{pair_address_in_header}
 use Rattle.lfs_pair.specs.ChangeView.{changes_view}
-use Rattle.lfs_pair.specs.Commit.{LeavesOldOrChangedContent}
+use Rattle.lfs_pair.specs.Commit.{PowerLossLeavesOldOrChangedContent}
 use Rattle.lfs_pair.proofs.Calls.{few_at_error, few_by_read, reading_by_read, reading_trans}
 use Rattle.lfs_pair.proofs.Changed.{active_below, left_alone}
 use Rattle.lfs_pair.proofs.Behind.{commits_behind, full_behind}
@@ -15,20 +15,20 @@ pub read_block-requires : goal.read_block-requires
 read_block-requires g c = active_below _ _ c.args.pair.now c.requires.held _ c.requires.address c.requires.is_pair (g.met.D.BlockDevice.shape c.args.dev.now).count
 
 pub returns-in_err-block-clause-stops : goal.returns-in_err-block-clause-stops
-returns-in_err-block-clause-stops g c cleanly = IsTrueAfterEachStopSince-reads IsLeftByStopIn-read c.in_err-block.ensures.device.reads (left_alone _ _ _)
+returns-in_err-block-clause-stops g c cleanly = IsTrueAfterAnyPowerLossSince-read_count_of_history AreBlocksLeftByPowerLossInCall-read c.in_err-block.ensures.device.reads (left_alone _ _ _)
 
 pub returns-in_err-outcome-clause-stops : goal.returns-in_err-outcome-clause-stops
 returns-in_err-outcome-clause-stops g c cleanly =
     let same_disk = ap₂ disk_of_geometry_and_blocks c.in_ok-block.ensures.device.geometry c.in_ok-block.ensures.device.same in
-    goes_on_by (IsTrueAfterEachStopSince-reads IsLeftByStopIn-read c.in_ok-block.ensures.device.reads (left_alone _ _ _))
-    (IsTrueAfterEachStopSince-weaker (λ disk left. subst (λ old. LeavesOldOrChangedContent old (address_of_header c.args.pair.now) (changes_view c.args.changes.now) disk) same_disk left)
+    goes_on_by (IsTrueAfterAnyPowerLossSince-read_count_of_history AreBlocksLeftByPowerLossInCall-read c.in_ok-block.ensures.device.reads (left_alone _ _ _))
+    (IsTrueAfterAnyPowerLossSince-weaker (λ disk left. subst (λ old. PowerLossLeavesOldOrChangedContent old (pair_address_in_header c.args.pair.now) (changes_view c.args.changes.now) disk) same_disk left)
     (c.in_err-outcome.ensures.stops (IsTrueOfEachCallSince-behind cleanly c.in_ok-block.ensures.device.reads c.in_err-outcome.ensures.device.only.at_worst)))
 
 pub returns-clause-stops : goal.returns-clause-stops
 returns-clause-stops g c cleanly =
     let same_disk = ap₂ disk_of_geometry_and_blocks c.in_ok-block.ensures.device.geometry c.in_ok-block.ensures.device.same in
-    goes_on_by (IsTrueAfterEachStopSince-reads IsLeftByStopIn-read c.in_ok-block.ensures.device.reads (left_alone _ _ _))
-    (IsTrueAfterEachStopSince-weaker (λ disk left. subst (λ old. LeavesOldOrChangedContent old (address_of_header c.args.pair.now) (changes_view c.args.changes.now) disk) same_disk left)
+    goes_on_by (IsTrueAfterAnyPowerLossSince-read_count_of_history AreBlocksLeftByPowerLossInCall-read c.in_ok-block.ensures.device.reads (left_alone _ _ _))
+    (IsTrueAfterAnyPowerLossSince-weaker (λ disk left. subst (λ old. PowerLossLeavesOldOrChangedContent old (pair_address_in_header c.args.pair.now) (changes_view c.args.changes.now) disk) same_disk left)
     (c.in_ok-outcome.ensures.stops (IsTrueOfEachCallSince-behind cleanly c.in_ok-block.ensures.device.reads c.in_ok-outcome.ensures.device.only.at_worst)))
 
 pub returns-clause-done : goal.returns-clause-done

@@ -1,6 +1,6 @@
 use Rattle.std.proofs.Common.{◌∙◌, ap, sym}
 use Rattle.lfs_model.proofs.Logged.{nothing_logged}
-use Rattle.lfs_model.specs.Content.{empty_raw_content, content_after_log_entries}
+use Rattle.lfs_model.specs.Content.{empty_raw_pair_content, content_after_log_entries}
 use Rattle.lfs_model.specs.Changes.{log_entries_of_changes}
 use Rattle.lfs_tag.specs.ContentView.{content_view}
 use Rattle.lfs_pair.specs.ChangeView.{changes_view}
@@ -9,5 +9,5 @@ use Rattle.lfs_pair.proofs.contents.content_of_changes_to_empty_log.Goals as goa
 
 pub returns-in-Ok-clause-logged : goal.returns-in-Ok-clause-logged
 returns-in-Ok-clause-logged c =
-    logged_made empty_raw_content (changes_view c.args.changes.now) (content_view c.apply_all_changes.new.content) nothing_logged c.requires
-    (ap (λ z. content_after_log_entries z (log_entries_of_changes (changes_view c.args.changes.now))) (sym c.empty-content.ensures) ∙ c.in-Ok.ensures)
+    logged_made empty_raw_pair_content (changes_view c.args.changes.now) (content_view c.apply_all_changes.new.content) nothing_logged c.requires
+    (ap (λ z. content_after_log_entries z (log_entries_of_changes (changes_view c.args.changes.now))) (sym c.empty_content-content.ensures) ∙ c.in-Ok.ensures)

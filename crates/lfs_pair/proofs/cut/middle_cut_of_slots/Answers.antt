@@ -3,10 +3,10 @@ use Rattle.std.proofs.lemmas.Bool.{ltb-false, ltb-true}
 use Rattle.std.proofs.lemmas.List.{length-map}
 use Rattle.lfs_model.specs.Content.{RawSlot}
 use Rattle.lfs_tag.specs.ContentView.{slot_view}
-use Rattle.lfs_pair.specs.Cut.{IsMiddleCutOfSlots}
+use Rattle.lfs_pair.specs.Cut.{IsCutIndexNearHalfOfSlotBytes}
 use Rattle.lfs_pair.proofs.Cutting.{cut_at_end, cut_where_fits, cut_where_full, fits_more, nothing_in_front, passes_where_back, passes_where_small, sums_of, total_is}
 use Rattle.lfs_pair.proofs.cut.middle_cut_of_slots.Goals as goal
-use Rattle.lfs_pair.proofs.cut.middle_cut_of_slots.Goals.{then-not-is_within-via-then-not-is_within, then-not-is_within-via-else-not-is_within+then-longer-total, then-back_fits, else-back_fits}
+use Rattle.lfs_pair.proofs.cut.middle_cut_of_slots.Goals.{then-not-are_slot_count_and_size_within_pair_limits-via-then-not-are_slot_count_and_size_within_pair_limits, then-not-are_slot_count_and_size_within_pair_limits-via-else-not-are_slot_count_and_size_within_pair_limits+then-longer-total, then-back_fits, else-back_fits}
 
 pub loop-slot-init : goal.loop-slot-init
 loop-slot-init c = record {
@@ -22,18 +22,18 @@ overflow_add-longer c = let s = sums_of slot_view c.args.geometry.block_size _ c
 pub overflow_sub-total : goal.overflow_sub-total
 overflow_sub-total c = let s = sums_of slot_view c.args.geometry.block_size _ c.args.slots.now c.loop-slot.slot-index c.slot-item.result c.slot_size.result (omega arith) c.requires c.loop-slot-test.true c.slot-item.is c.slot_size.ensures in omega arith
 
-pub returns-then-not-is_within : goal.returns-then-not-is_within
-returns-then-not-is_within c =
+pub returns-then-not-are_slot_count_and_size_within_pair_limits : goal.returns-then-not-are_slot_count_and_size_within_pair_limits
+returns-then-not-are_slot_count_and_size_within_pair_limits c =
     let s = sums_of slot_view c.args.geometry.block_size _ c.args.slots.now c.loop-slot.slot-index c.slot-item.result c.slot_size.result (omega arith) c.requires c.loop-slot-test.true c.slot-item.is c.slot_size.ensures in
     let slots : List RawSlot = map slot_view c.args.slots.now in
     let count : length slots ≡ length c.args.slots.now = length-map c.args.slots.now slot_view in
-    subst (IsMiddleCutOfSlots c.args.geometry.block_size c.args.geometry.page slots) (sym c.loop-slot.invariant.cut) (elim c.then-not-is_within.branch [
-      | then-not-is_within-via-then-not-is_within w ↦
+    subst (IsCutIndexNearHalfOfSlotBytes c.args.geometry.block_size c.args.geometry.page slots) (sym c.loop-slot.invariant.cut) (elim c.then-not-are_slot_count_and_size_within_pair_limits.branch [
+      | then-not-are_slot_count_and_size_within_pair_limits-via-then-not-are_slot_count_and_size_within_pair_limits w ↦
           cut_where_full c.args.geometry.block_size c.args.geometry.page slots c.loop-slot.slot-index (omega arith) c.loop-slot.invariant.fronts c.requires
-          (λ few small. let fits = c.is_within.ensures.1 (omega arith, omega arith) in cc (w.if-not-is_within.true, fits))
-      | then-not-is_within-via-else-not-is_within+then-longer-total w ↦ elim w.if-back_fits.branch [
+          (λ few small. let fits = c.are_slot_count_and_size_within_pair_limits.ensures.1 (omega arith, omega arith) in cc (w.if-not-are_slot_count_and_size_within_pair_limits.true, fits))
+      | then-not-are_slot_count_and_size_within_pair_limits-via-else-not-are_slot_count_and_size_within_pair_limits+then-longer-total w ↦ elim w.if-back_fits.branch [
         | then-back_fits v ↦
-            let fits = c.is_within-back_fits.ensures.0 v.if-back_fits.true in
+            let fits = c.are_slot_count_and_size_within_pair_limits-back_fits.ensures.0 v.if-back_fits.true in
             cut_where_fits c.args.geometry.block_size c.args.geometry.page slots c.loop-slot.slot-index (omega arith) c.loop-slot.invariant.fronts (omega (arith, fits.1)) (omega (arith, fits.0))
             (omega (arith, ltb-true c.slots_size-total.result (2 * (c.loop-slot.front + c.slot_size.result)) (sym v.value-is ∙ w.if-longer-total.true)))
         | else-back_fits v ↦ absurd (cc (w.if-longer-total.true, v.value-is))
@@ -45,7 +45,7 @@ loop-slot-preserved c =
     let s = sums_of slot_view c.args.geometry.block_size _ c.args.slots.now c.loop-slot.slot-index c.slot-item.result c.slot_size.result (omega arith) c.requires c.loop-slot-test.true c.slot-item.is c.slot_size.ensures in
     let slots : List RawSlot = map slot_view c.args.slots.now in
     let count : length slots ≡ length c.args.slots.now = length-map c.args.slots.now slot_view in
-    let fits = c.is_within.ensures.0 c.if-not-is_within.false in
+    let fits = c.are_slot_count_and_size_within_pair_limits.ensures.0 c.if-not-are_slot_count_and_size_within_pair_limits.false in
     record {
       total = c.loop-slot.invariant.total;
       cut = omega arith;
@@ -57,7 +57,7 @@ loop-slot-preserved c =
               (omega (arith, ltb-false c.slots_size-total.result (2 * (c.loop-slot.front + c.slot_size.result)) (sym v.value-is ∙ c.if-longer-total.false)))
           | else-back_fits v ↦
               passes_where_back c.args.geometry.block_size c.args.geometry.page slots c.loop-slot.slot-index (omega arith) c.loop-slot.invariant.fronts.fits
-              (λ few small. let back = c.is_within-back_fits.ensures.1 (omega arith, omega arith) in cc (v.if-back_fits.false, back))
+              (λ few small. let back = c.are_slot_count_and_size_within_pair_limits-back_fits.ensures.1 (omega arith, omega arith) in cc (v.if-back_fits.false, back))
         ];
       };
     }
@@ -65,5 +65,5 @@ loop-slot-preserved c =
 pub returns : goal.returns
 returns c =
     let slots : List RawSlot = map slot_view c.args.slots.now in
-    subst (IsMiddleCutOfSlots c.args.geometry.block_size c.args.geometry.page slots) (sym c.loop-slot.invariant.cut)
+    subst (IsCutIndexNearHalfOfSlotBytes c.args.geometry.block_size c.args.geometry.page slots) (sym c.loop-slot.invariant.cut)
     (cut_at_end c.args.geometry.block_size c.args.geometry.page slots c.loop-slot.slot-index (omega (arith, length-map c.args.slots.now slot_view)) c.loop-slot.invariant.fronts)

@@ -1,11 +1,11 @@
-use Rattle.lfs_model.specs.Changes.{log_entries_of_change, is_storable_change}
+use Rattle.lfs_model.specs.Changes.{log_entries_of_change, is_storable_pair_content_change}
 use Rattle.lfs_pair.specs.ChangeView.{change_view}
 use Rattle.lfs_pair.proofs.Applied.{all_at}
 use Rattle.lfs_pair.proofs.Pushed.{flat_more}
 use Rattle.lfs_pair.proofs.entries.push_changes.Goals as goal
 
 pub push_change-requires : goal.push_change-requires
-push_change-requires c = all_at is_storable_change change_view c.args.changes.now c.loop-change.change-index _ c.requires c.loop-change-test.true
+push_change-requires c = all_at is_storable_pair_content_change change_view c.args.changes.now c.loop-change.change-index _ c.requires c.loop-change-test.true
 
 pub loop-change-preserved : goal.loop-change-preserved
 loop-change-preserved c =

@@ -1,6 +1,6 @@
 use Rattle.std.proofs.Common.{sym, ap, ap₂, ◌∙◌, rules, ◌≡◌, true, false}
 use Rattle.lfs_device.specs.Shown.{disk_of_geometry_and_blocks}
-use Rattle.lfs_model.specs.Blocks.{block_bytes_in}
+use Rattle.lfs_model.specs.Blocks.{block_bytes_by_number}
 use Rattle.lfs_model.specs.Content.{has_commit}
 use Rattle.lfs_model.specs.Disk.{Disk}
 use Rattle.lfs_model.specs.Slots.{pair_address_of_array}
@@ -27,22 +27,22 @@ pub returns-then-head-clause-ok : goal.returns-then-head-clause-ok
 returns-then-head-clause-ok g c =
     let disk : Disk = disk_of_geometry_and_blocks (g.D.BlockDevice.geometry c.args.dev.now) (g.D.BlockDevice.blocks c.args.dev.now) in
     let order = pair_address_of_array c.in_ok-later.field-0 in
-    let bytes : c.deref.result.now ≡ block_bytes_in disk.blocks order.0 = c.deref.ensures.value ∙ c.in_ok-bytes.ensures.bytes ∙ ap (λ b. block_bytes_in b order.0) c.in_ok-later.ensures.device.same in
-    let again : c.deref-then-head.result.now ≡ block_bytes_in disk.blocks order.0 = c.deref-then-head.ensures.value ∙ c.in_ok-bytes.ensures.bytes ∙ ap (λ b. block_bytes_in b order.0) c.in_ok-later.ensures.device.same in
-    let has : has_commit (block_bytes_in disk.blocks order.0) ≡ true = sym (ap has_commit bytes) ∙ sym c.of-head.ensures.has_commit ∙ c.if-head.true in
-    fetches disk _ c.args.blocks _ order.0 c.header_of.result (later_holds disk (pair_address_of_array c.args.blocks) order c.in_ok-later.ensures.later has) again
-    c.header_of.ensures.describes c.header_of.ensures.blocks c.header_of.ensures.active c.header_of.ensures.fetched
+    let bytes : c.deref.result.now ≡ block_bytes_by_number disk.blocks order.0 = c.deref.ensures.value ∙ c.in_ok-bytes.ensures.bytes ∙ ap (λ b. block_bytes_by_number b order.0) c.in_ok-later.ensures.device.same in
+    let again : c.deref-then-head.result.now ≡ block_bytes_by_number disk.blocks order.0 = c.deref-then-head.ensures.value ∙ c.in_ok-bytes.ensures.bytes ∙ ap (λ b. block_bytes_by_number b order.0) c.in_ok-later.ensures.device.same in
+    let has : has_commit (block_bytes_by_number disk.blocks order.0) ≡ true = sym (ap has_commit bytes) ∙ sym c.of-head.ensures.has_commit ∙ c.if-head.true in
+    fetches disk _ c.args.blocks _ order.0 c.header_of_fetched_pair.result (later_holds disk (pair_address_of_array c.args.blocks) order c.in_ok-later.ensures.later has) again
+    c.header_of_fetched_pair.ensures.describes c.header_of_fetched_pair.ensures.blocks c.header_of_fetched_pair.ensures.active c.header_of_fetched_pair.ensures.fetched
 
 pub returns-clause-ok : goal.returns-clause-ok
 returns-clause-ok g c =
     let disk : Disk = disk_of_geometry_and_blocks (g.D.BlockDevice.geometry c.args.dev.now) (g.D.BlockDevice.blocks c.args.dev.now) in
     let order = pair_address_of_array c.in_ok-later.field-0 in
-    let bytes : c.deref.result.now ≡ block_bytes_in disk.blocks order.0 = c.deref.ensures.value ∙ c.in_ok-bytes.ensures.bytes ∙ ap (λ b. block_bytes_in b order.0) c.in_ok-later.ensures.device.same in
-    let none : has_commit (block_bytes_in disk.blocks order.0) ≡ false = sym (ap has_commit bytes) ∙ sym c.of-head.ensures.has_commit ∙ c.if-head.false in
+    let bytes : c.deref.result.now ≡ block_bytes_by_number disk.blocks order.0 = c.deref.ensures.value ∙ c.in_ok-bytes.ensures.bytes ∙ ap (λ b. block_bytes_by_number b order.0) c.in_ok-later.ensures.device.same in
+    let none : has_commit (block_bytes_by_number disk.blocks order.0) ≡ false = sym (ap has_commit bytes) ∙ sym c.of-head.ensures.has_commit ∙ c.if-head.false in
     let same = c.in_ok-bytes.ensures.device.same ∙ c.in_ok-later.ensures.device.same in
-    let other : c.deref-2.result.now ≡ block_bytes_in disk.blocks order.1 = c.deref-2.ensures.value ∙ c.in_ok-other_bytes.ensures.bytes ∙ ap (λ b. block_bytes_in b order.1) same in
-    let again : c.deref-3.result.now ≡ block_bytes_in disk.blocks order.1 = c.deref-3.ensures.value ∙ c.in_ok-other_bytes.ensures.bytes ∙ ap (λ b. block_bytes_in b order.1) same in
+    let other : c.deref-2.result.now ≡ block_bytes_by_number disk.blocks order.1 = c.deref-2.ensures.value ∙ c.in_ok-other_bytes.ensures.bytes ∙ ap (λ b. block_bytes_by_number b order.1) same in
+    let again : c.deref-3.result.now ≡ block_bytes_by_number disk.blocks order.1 = c.deref-3.ensures.value ∙ c.in_ok-other_bytes.ensures.bytes ∙ ap (λ b. block_bytes_by_number b order.1) same in
     let has_it : c.of-other_head.result.has_commit ≡ true = search rules in
-    let has : has_commit (block_bytes_in disk.blocks order.1) ≡ true = sym (ap has_commit other) ∙ sym c.of-other_head.ensures.has_commit ∙ has_it in
-    fetches disk _ c.args.blocks _ order.1 c.header_of-2.result (other_holds disk (pair_address_of_array c.args.blocks) order c.in_ok-later.ensures.later none has) again
-    c.header_of-2.ensures.describes c.header_of-2.ensures.blocks c.header_of-2.ensures.active c.header_of-2.ensures.fetched
+    let has : has_commit (block_bytes_by_number disk.blocks order.1) ≡ true = sym (ap has_commit other) ∙ sym c.of-other_head.ensures.has_commit ∙ has_it in
+    fetches disk _ c.args.blocks _ order.1 c.header_of_fetched_pair-2.result (other_holds disk (pair_address_of_array c.args.blocks) order c.in_ok-later.ensures.later none has) again
+    c.header_of_fetched_pair-2.ensures.describes c.header_of_fetched_pair-2.ensures.blocks c.header_of_fetched_pair-2.ensures.active c.header_of_fetched_pair-2.ensures.fetched

@@ -1,8 +1,8 @@
 use Rattle.std.proofs.Common.{rules, arith, ◌+◌, ◌≤◌, ap, sym, subst}
 use Rattle.lfs_device.specs.declared.geometry.Geometry.{Geometry}
-use Rattle.lfs_model.specs.Blocks.{block_bytes_in}
-use Rattle.lfs_model.specs.History.{reads}
-use Rattle.lfs_tag.specs.Builder.{padded_end}
+use Rattle.lfs_model.specs.Blocks.{block_bytes_by_number}
+use Rattle.lfs_model.specs.History.{read_count_of_history}
+use Rattle.lfs_tag.specs.Builder.{padded_commit_end}
 use Rattle.lfs_tag.specs.ContentView.{content_view}
 use Rattle.lfs_pair.proofs.Anew.{is_anew, fits_sound, anew_room, anew_within, anew_holds, anew_end, leaves_erase, leaves_anew}
 use Rattle.lfs_pair.proofs.Calls.{block_by_erase, block_trans}
@@ -11,25 +11,25 @@ use Rattle.lfs_pair.proofs.programs.write_block_anew.Goals as goal
 pub returns-in_err-erase-clause-stops : goal.returns-in_err-erase-clause-stops
 returns-in_err-erase-clause-stops g c clean = leaves_erase c.erase.ensures.history
 
-pub program-requires-clause-room : goal.program-requires-clause-room
-program-requires-clause-room g c =
+pub program_commit_at-requires-clause-room : goal.program_commit_at-requires-clause-room
+program_commit_at-requires-clause-room g c =
     anew_room (is_anew (content_view c.args.content.now) c.push_content.ensures c.new-builder.ensures c.requires.buf (ap (λ (k : Geometry). k.page) c.geometry-page.ensures) c.from_bits-before.ensures)
     (g.D.BlockDevice.geometry c.args.dev.now).valid c.requires.fits
 
-pub program-requires-clause-ends : goal.program-requires-clause-ends
-program-requires-clause-ends g c =
-    subst (λ (k : Geometry). 0 + padded_end c.push_content.new.builder ≤ k.block_size) (sym c.erase.ensures.geometry)
+pub program_commit_at-requires-clause-ends : goal.program_commit_at-requires-clause-ends
+program_commit_at-requires-clause-ends g c =
+    subst (λ (k : Geometry). 0 + padded_commit_end c.push_content.new.builder ≤ k.block_size) (sym c.erase.ensures.geometry)
     (anew_within (is_anew (content_view c.args.content.now) c.push_content.ensures c.new-builder.ensures c.requires.buf (ap (λ (k : Geometry). k.page) c.geometry-page.ensures) c.from_bits-before.ensures)
     (g.D.BlockDevice.geometry c.args.dev.now).valid c.requires.fits)
 
 pub returns-in_err-written-clause-stops : goal.returns-in_err-written-clause-stops
 returns-in_err-written-clause-stops g c =
     leaves_anew (is_anew (content_view c.args.content.now) c.push_content.ensures c.new-builder.ensures c.requires.buf (ap (λ (k : Geometry). k.page) c.geometry-page.ensures) c.from_bits-before.ensures)
-    (fits_sound c.requires.logged c.requires.names c.requires.fits) c.erase.ensures.others c.in_ok-erase.ensures.history c.program.ensures.stops
+    (fits_sound c.requires.logged c.requires.names c.requires.fits) c.erase.ensures.others c.in_ok-erase.ensures.history c.program_commit_at.ensures.stops
 
 pub returns-clause-anew : goal.returns-clause-anew
 returns-clause-anew g c =
-    let holds = anew_holds (block_bytes_in (g.D.BlockDevice.blocks c.program.new.dev) c.args.block)
+    let holds = anew_holds (block_bytes_by_number (g.D.BlockDevice.blocks c.program_commit_at.new.dev) c.args.block)
     (is_anew (content_view c.args.content.now) c.push_content.ensures c.new-builder.ensures c.requires.buf (ap (λ (k : Geometry). k.page) c.geometry-page.ensures) c.from_bits-before.ensures)
     (fits_sound c.requires.logged c.requires.names c.requires.fits) c.in_ok-written.ensures.adds.commit in
     record { holds = holds; erases = search rules; programs = search rules }
@@ -37,7 +37,7 @@ returns-clause-anew g c =
 pub returns-clause-stops : goal.returns-clause-stops
 returns-clause-stops g c =
     leaves_anew (is_anew (content_view c.args.content.now) c.push_content.ensures c.new-builder.ensures c.requires.buf (ap (λ (k : Geometry). k.page) c.geometry-page.ensures) c.from_bits-before.ensures)
-    (fits_sound c.requires.logged c.requires.names c.requires.fits) c.erase.ensures.others c.in_ok-erase.ensures.history c.program.ensures.stops
+    (fits_sound c.requires.logged c.requires.names c.requires.fits) c.erase.ensures.others c.in_ok-erase.ensures.history c.program_commit_at.ensures.stops
 
 pub returns-clause-size : goal.returns-clause-size
 returns-clause-size g c =
@@ -47,23 +47,23 @@ returns-clause-size g c =
 pub returns-in_err-erase-clause-writes : goal.returns-in_err-erase-clause-writes
 returns-in_err-erase-clause-writes g c = record {
   device = block_by_erase c.erase.ensures.others c.erase.ensures.geometry c.erase.ensures.history;
-  few = let here = ap reads c.erase.ensures.history in omega (arith, here);
+  few = let here = ap read_count_of_history c.erase.ensures.history in omega (arith, here);
   errors = search rules;
   faults = search rules;
 }
 
 pub returns-in_err-written-clause-writes : goal.returns-in_err-written-clause-writes
 returns-in_err-written-clause-writes g c = record {
-  device = block_trans (block_by_erase c.erase.ensures.others c.erase.ensures.geometry c.erase.ensures.history) c.program.ensures.writes.device;
-  few = let before = ap reads c.erase.ensures.history in let here = c.program.ensures.writes.few in omega (arith, before, here);
+  device = block_trans (block_by_erase c.erase.ensures.others c.erase.ensures.geometry c.erase.ensures.history) c.program_commit_at.ensures.writes.device;
+  few = let before = ap read_count_of_history c.erase.ensures.history in let here = c.program_commit_at.ensures.writes.few in omega (arith, before, here);
   errors = search rules;
   faults = search rules;
 }
 
 pub returns-clause-writes : goal.returns-clause-writes
 returns-clause-writes g c = record {
-  device = block_trans (block_by_erase c.erase.ensures.others c.erase.ensures.geometry c.erase.ensures.history) c.program.ensures.writes.device;
-  few = let before = ap reads c.erase.ensures.history in let here = c.program.ensures.writes.few in omega (arith, before, here);
+  device = block_trans (block_by_erase c.erase.ensures.others c.erase.ensures.geometry c.erase.ensures.history) c.program_commit_at.ensures.writes.device;
+  few = let before = ap read_count_of_history c.erase.ensures.history in let here = c.program_commit_at.ensures.writes.few in omega (arith, before, here);
   errors = search rules;
   faults = search rules;
 }

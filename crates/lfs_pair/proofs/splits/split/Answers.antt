@@ -4,10 +4,10 @@ use Rattle.lfs_pair.proofs.Erring.{fails_on, reports_ok, reports_on}
 use Rattle.std.proofs.Common.{ap₂, sym, subst}
 use Rattle.lfs_device.specs.Shown.{disk_of_geometry_and_blocks}
 use Rattle.lfs_model.specs.Slots.{pair_address_of_array}
-use Rattle.lfs_model.proofs.Histories.{goes_on_by, IsTrueOfEachCallSince-behind, IsTrueAfterEachStopSince-reads, IsTrueAfterEachStopSince-weaker, IsLeftByStopIn-read}
-use Rattle.lfs_pair.specs.Pair.{address_of_header}
+use Rattle.lfs_model.proofs.Histories.{goes_on_by, IsTrueOfEachCallSince-behind, IsTrueAfterAnyPowerLossSince-read_count_of_history, IsTrueAfterAnyPowerLossSince-weaker, AreBlocksLeftByPowerLossInCall-read}
+use Rattle.lfs_pair.specs.Pair.{pair_address_in_header}
 use Rattle.lfs_pair.specs.ChangeView.{changes_view}
-use Rattle.lfs_pair.specs.Split.{CanSplitPair, LeavesOldContentOrParts}
+use Rattle.lfs_pair.specs.Split.{CanSplitPair, PowerLossLeavesOldContentOrSplitPairs}
 use Rattle.lfs_pair.proofs.Behind.{splits_behind}
 use Rattle.lfs_pair.proofs.Calls.{few_at_error, few_by_read, reading_by_read, reading_trans}
 use Rattle.lfs_pair.proofs.Changed.{active_below}
@@ -18,10 +18,10 @@ pub read_block-requires : goal.read_block-requires
 read_block-requires g c = active_below _ _ c.args.pair.now c.requires.commit.held _ c.requires.commit.address c.requires.commit.is_pair (g.met.D.BlockDevice.shape c.args.dev.now).count
 
 pub returns-in_err-block-clause-stops : goal.returns-in_err-block-clause-stops
-returns-in_err-block-clause-stops g c cleanly = IsTrueAfterEachStopSince-reads IsLeftByStopIn-read c.in_err-block.ensures.device.reads (left_before _ _ _ _)
+returns-in_err-block-clause-stops g c cleanly = IsTrueAfterAnyPowerLossSince-read_count_of_history AreBlocksLeftByPowerLossInCall-read c.in_err-block.ensures.device.reads (left_before _ _ _ _)
 
-pub split_in-requires-clause-can : goal.split_in-requires-clause-can
-split_in-requires-clause-can g c =
+pub split_with_block_bytes-requires-clause-can : goal.split_with_block_bytes-requires-clause-can
+split_with_block_bytes-requires-clause-can g c =
     let read = c.in_ok-block.ensures.device in
     subst (λ disk. CanSplitPair disk (g.D.BlockDevice.history c.read_block.new.device) c.args.pair.now (pair_address_of_array c.args.fresh) (changes_view c.args.changes.now)) (sym (ap₂ disk_of_geometry_and_blocks read.geometry read.same))
     (CanSplitPair-reads read.reads c.requires)
@@ -29,15 +29,15 @@ split_in-requires-clause-can g c =
 pub returns-in_err-fresh_pair-clause-stops : goal.returns-in_err-fresh_pair-clause-stops
 returns-in_err-fresh_pair-clause-stops g c cleanly =
     let read = c.in_ok-block.ensures.device in
-    goes_on_by (IsTrueAfterEachStopSince-reads IsLeftByStopIn-read read.reads (left_before _ _ _ _))
-    (IsTrueAfterEachStopSince-weaker (λ disk left. subst (λ old. LeavesOldContentOrParts old (address_of_header c.args.pair.now) (pair_address_of_array c.args.fresh) (changes_view c.args.changes.now) disk) (ap₂ disk_of_geometry_and_blocks read.geometry read.same) left)
+    goes_on_by (IsTrueAfterAnyPowerLossSince-read_count_of_history AreBlocksLeftByPowerLossInCall-read read.reads (left_before _ _ _ _))
+    (IsTrueAfterAnyPowerLossSince-weaker (λ disk left. subst (λ old. PowerLossLeavesOldContentOrSplitPairs old (pair_address_in_header c.args.pair.now) (pair_address_of_array c.args.fresh) (changes_view c.args.changes.now) disk) (ap₂ disk_of_geometry_and_blocks read.geometry read.same) left)
     (c.in_err-fresh_pair.ensures.stops (IsTrueOfEachCallSince-behind cleanly read.reads c.in_err-fresh_pair.ensures.device.only.at_worst)))
 
 pub returns-clause-stops : goal.returns-clause-stops
 returns-clause-stops g c cleanly =
     let read = c.in_ok-block.ensures.device in
-    goes_on_by (IsTrueAfterEachStopSince-reads IsLeftByStopIn-read read.reads (left_before _ _ _ _))
-    (IsTrueAfterEachStopSince-weaker (λ disk left. subst (λ old. LeavesOldContentOrParts old (address_of_header c.args.pair.now) (pair_address_of_array c.args.fresh) (changes_view c.args.changes.now) disk) (ap₂ disk_of_geometry_and_blocks read.geometry read.same) left)
+    goes_on_by (IsTrueAfterAnyPowerLossSince-read_count_of_history AreBlocksLeftByPowerLossInCall-read read.reads (left_before _ _ _ _))
+    (IsTrueAfterAnyPowerLossSince-weaker (λ disk left. subst (λ old. PowerLossLeavesOldContentOrSplitPairs old (pair_address_in_header c.args.pair.now) (pair_address_of_array c.args.fresh) (changes_view c.args.changes.now) disk) (ap₂ disk_of_geometry_and_blocks read.geometry read.same) left)
     (c.in_ok-fresh_pair.ensures.stops (IsTrueOfEachCallSince-behind cleanly read.reads c.in_ok-fresh_pair.ensures.device.only.at_worst)))
 
 pub returns-clause-splits : goal.returns-clause-splits

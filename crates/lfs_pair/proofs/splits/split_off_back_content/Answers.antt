@@ -4,7 +4,7 @@ use Rattle.lfs_model.specs.Slots.{Gstate, pair_address_of_array}
 use Rattle.lfs_tag.specs.FieldsView.{move_view}
 use Rattle.lfs_model.specs.Content.{RawSlot}
 use Rattle.lfs_tag.specs.ContentView.{slot_view, content_view}
-use Rattle.lfs_pair.specs.Cut.{IsCutOfSlots}
+use Rattle.lfs_pair.specs.Cut.{IsFittingSplitOfSlots}
 use Rattle.lfs_pair.proofs.splits.split_off_back_content.Goals as goal
 
 pub returns-clause-parts : goal.returns-clause-parts
@@ -14,7 +14,7 @@ returns-clause-parts c =
     let back = ap (λ s. map slot_view s) c.in_ok-slots.ensures.tail ∙ sym (drop-map slot_view c.middle_cut_of_slots-cut.result slots) in
     record {
       cut = c.middle_cut_of_slots-cut.result;
-      is_cut = subst (λ s. IsCutOfSlots c.args.geometry.block_size c.args.geometry.page (map slot_view s) c.middle_cut_of_slots-cut.result) c.deref.ensures.value c.middle_cut_of_slots-cut.ensures.is_cut;
+      is_cut = subst (λ s. IsFittingSplitOfSlots c.args.geometry.block_size c.args.geometry.page (map slot_view s) c.middle_cut_of_slots-cut.result) c.deref.ensures.value c.middle_cut_of_slots-cut.ensures.is_cut;
       front_is = ap (λ (s : List RawSlot). record { slots = s; tail = Some (record { hard = true; to = pair_address_of_array c.args.fresh }); move = (content_view c.args.content.now).move }) front;
       back_is = ap (λ (s : List RawSlot). record { slots = s; tail = (content_view c.args.content.now).tail; move = move_view c.none.result }) back
           ∙ ap (λ (m : Gstate). record { slots = drop c.middle_cut_of_slots-cut.result (content_view c.args.content.now).slots; tail = (content_view c.args.content.now).tail; move = m }) c.none.ensures;

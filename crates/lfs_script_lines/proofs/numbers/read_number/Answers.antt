@@ -5,7 +5,7 @@ use Rattle.std.specs.Result.{result_ok}
 use Rattle.std.proofs.lemmas.Fmt.{parse-decimal}
 use Rattle.lfs_script_lines.proofs.Decimals.{IsUtf8-decimal, no_plus-decimal}
 use Rattle.lfs_script_lines.proofs.Numerals.{IsUtf8-number, read_unsigned, unsigned-empty, unsigned-number}
-use Rattle.lfs_script_lines.specs.Words.{IsNumberWordBelow}
+use Rattle.lfs_script_lines.specs.Words.{IsNumberWordInBaseBelow}
 use Rattle.lfs_script_lines.proofs.numbers.read_number.Goals as goal
 use Rattle.lfs_script_lines.proofs.numbers.read_number.Goals.{else-not-is_empty-via-then-not-is_empty+else-word-eq43, else-not-is_empty-via-else-not-is_empty}
 
@@ -27,7 +27,7 @@ returns-in-Ok-clause-number c =
       | else-not-is_empty-via-else-not-is_empty w ↦ λ plus. unsigned-empty c.args.word.now w.if-not-is_empty.ensures plus
     ] in
     let read : ParsesUnsigned 32 c.args.base c.args.word.now c.from_str_radix.result = subst (λ (t : List ℕ). ParsesUnsigned 32 c.args.base t c.from_str_radix.result) c.in-Ok.ensures.cases.0 c.from_str_radix.ensures.value in
-    subst (λ r. MatchOption r (¬ IsNumberWordBelow c.args.base (2 ^ 32) c.args.word.now) (λ n. IsNumberWordBelow c.args.base (2 ^ 32) c.args.word.now × (n ≡ digits_value c.args.base c.args.word.now)))
+    subst (λ r. MatchOption r (¬ IsNumberWordInBaseBelow c.args.base (2 ^ 32) c.args.word.now) (λ n. IsNumberWordInBaseBelow c.args.base (2 ^ 32) c.args.word.now × (n ≡ digits_value c.args.base c.args.word.now)))
     (sym c.ok.ensures.value) (read_unsigned c.args.base c.args.word.now c.from_str_radix.result plain read)
 
 pub returns-in-Err-clause-decimal : goal.returns-in-Err-clause-decimal

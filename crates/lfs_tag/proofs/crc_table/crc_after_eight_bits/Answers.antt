@@ -6,4 +6,4 @@ use Rattle.lfs_tag.proofs.crc_table.crc_after_eight_bits.Goals as goal
 pub returns : goal.returns
 returns c =
     let low : bit_and c.args.x 255 ≡ c.args.x % 256 = and_mask c.args.x 8 in
-    rw (c.after.ensures, low) (sym (by_low_byte c.args.x))
+    rw (c.crc_after_byte_and_zero_bytes.ensures, low) (sym (by_low_byte c.args.x))

@@ -21,4 +21,4 @@ returns c =
     let back : crc_of (next_bits 32 x) (take 4 behind) ≡ next_bits 32 (bit_xor (next_bits 32 x) (little_from 0 4 behind)) = crc-number (next_bits 32 x) 0 4 behind they_are (omega (arith, length-drop 4 bytes)) in
     let whole : crc_of c.args.sum (take 8 bytes) ≡ next_bits 32 (bit_xor (next_bits 32 x) (little_from 0 4 behind)) =
     ap (crc_of c.args.sum) (take-add 4 4 bytes) ∙ crc-append c.args.sum (take 4 bytes) (take 4 behind) ∙ rw front back in
-    rw (c.crc_after_word_and_rows.ensures, c.crc_after_word_and_rows-2.ensures, c.read_u32.ensures, second, whole) (ap (λ (y : ℕ). bit_xor y (next_bits 32 (little_from 0 4 behind))) (next_bits-append 32 32 x) ∙ sym (next_bits-sum 32 (next_bits 32 x) (little_from 0 4 behind)))
+    rw (c.crc_after_word_and_zero_bytes.ensures, c.crc_after_word_and_zero_bytes-2.ensures, c.read_u32.ensures, second, whole) (ap (λ (y : ℕ). bit_xor y (next_bits 32 (little_from 0 4 behind))) (next_bits-append 32 32 x) ∙ sym (next_bits-sum 32 (next_bits 32 x) (little_from 0 4 behind)))

@@ -7,5 +7,5 @@ use Rattle.lfs_thread.proofs.deltas.global_state_of_pairs.Goals as goal
 pub loop-pair-preserved : goal.loop-pair-preserved
 loop-pair-preserved c =
     let all = c.args.pairs.now in
-    c.with_delta-state.ensures ∙ ap (λ (g : Gstate). gstate_xor g (move_view c.pair-item.result.move_state)) c.loop-pair.invariant
+    c.gstate_xor_delta-state.ensures ∙ ap (λ (g : Gstate). gstate_xor g (move_view c.pair-item.result.move_state)) c.loop-pair.invariant
     ∙ sym (joined_more all c.loop-pair.pair-index c.pair-item.result c.loop-pair-test.true c.pair-item.is)

@@ -9,7 +9,7 @@ use Rattle.lfs_device.specs.declared.geometry.Geometry.{Geometry}
 use Rattle.lfs_model.specs.Slots.{pair_address_of_array}
 use Rattle.lfs_model.proofs.Histories.{began}
 use Rattle.std.specs.Prelude.{sum_by}
-use Rattle.lfs_pair.specs.Pair.{address_of_header, fetch_reads}
+use Rattle.lfs_pair.specs.Pair.{pair_address_in_header, read_count_of_pair_fetch}
 use Rattle.lfs_thread.proofs.HeaderReads.{more_reads}
 use Rattle.lfs_thread.specs.Begun.{IsBeginningOfThread}
 use Rattle.lfs_thread.proofs.Begun.{begun_first, begun_next, begun_kept, begun_none_in_flight, begun_few, no_thread, read_on, same_error}
@@ -21,7 +21,7 @@ loop-init g c = record {
   device = record { same = refl; geometry = refl; reads = began };
   no_fault = refl;
   count = ap length c.requires.none;
-  few = let none = ap (sum_by (λ h. fetch_reads (disk_of_geometry_and_blocks (g.D.BlockDevice.geometry c.args.device.now) (g.D.BlockDevice.blocks c.args.device.now)) (address_of_header h))) c.requires.none in omega (arith, none);
+  few = let none = ap (sum_by (λ h. read_count_of_pair_fetch (disk_of_geometry_and_blocks (g.D.BlockDevice.geometry c.args.device.now) (g.D.BlockDevice.blocks c.args.device.now)) (pair_address_in_header h))) c.requires.none in omega (arith, none);
 }
 
 pub returns-in-None-clause-kept : goal.returns-in-None-clause-kept

@@ -2,12 +2,12 @@ use Rattle.std.proofs.Common.{◌≤◌, ◌+◌, ◌∙◌, Err, Ok, List, ap, 
 use Rattle.std.proofs.lemmas.Result.{err_from_is_err_and}
 use Rattle.lfs_device.specs.Shown.{disk_of_geometry_and_blocks}
 use Rattle.lfs_model.specs.Blocks.{AreBlocksEqualExceptThese}
-use Rattle.lfs_model.specs.BlockSets.{BlockStateList, IsInFlight, Used}
+use Rattle.lfs_model.specs.BlockSets.{BlockStateList, IsBlockInFlight, Used}
 use Rattle.lfs_model.specs.Slots.{pair_address_of_array}
-use Rattle.lfs_model.proofs.Histories.{faults-since}
+use Rattle.lfs_model.proofs.Histories.{fault_count_of_history-since}
 use Rattle.lfs_pair.specs.ChangeView.{changes_view}
-use Rattle.lfs_pair.specs.Pair.{address_of_header}
-use Rattle.lfs_thread.specs.Device.{ReportsIoOrUnwrittenNoMemory, blocks_of_two_addresses, blocks_of_address}
+use Rattle.lfs_pair.specs.Pair.{pair_address_in_header}
+use Rattle.lfs_thread.specs.Device.{IoMeansFaultNoMemoryWritesNothing, blocks_of_two_pair_addresses, blocks_of_pair_address}
 use Rattle.lfs_thread.specs.Kept.{PairHeader, IsKeptThreadOnDisk, disk_of_device, kept_thread_view, kept_thread_of_device}
 use Rattle.lfs_thread.specs.Steps.{IsThreadingInRefused}
 use Rattle.lfs_thread.proofs.CachedLogs.{current_but_two}
@@ -61,24 +61,24 @@ returns-in_err-outcome-clause-device g c =
     let same = cached_beside disk history c.args.pairs.now.items c.args.map.now c.args.index c.index.result.now a c.requires.kept (pair_address_of_array c.args.fresh) c.requires.can.held c.args.cache.now c.forget_cached_pair.new.cache c.forget_cached_pair.ensures in
     let reads = ap read_count_unless_cached same in
     reading_there disk history c.args.pairs.now.items c.args.map.now c.args.index c.index.result.now a c.requires.kept
-    g.D.BlockDevice c.args.device.now c.commit_with_cache.new.device (λ at. blocks_of_two_addresses at (pair_address_of_array c.args.fresh)) 3 c.args.cache.now
+    g.D.BlockDevice c.args.device.now c.commit_with_cache.new.device (λ at. blocks_of_two_pair_addresses at (pair_address_of_array c.args.fresh)) 3 c.args.cache.now
     (record {
-      only = changes_by_both g.D.BlockDevice (address_of_header c.index.result.now) (pair_address_of_array c.args.fresh) fresh.only commit.only;
+      only = changes_by_both g.D.BlockDevice (pair_address_in_header c.index.result.now) (pair_address_of_array c.args.fresh) fresh.only commit.only;
       few = let first = fresh.few in let second = commit.few in omega (arith, first, second, reads);
     })
 
 pub returns-in_err-outcome-clause-errors : goal.returns-in_err-outcome-clause-errors
 returns-in_err-outcome-clause-errors g c =
     let p = err_from_is_err_and c.from_residual-in_err-outcome.result c.from_residual-in_err-outcome.ensures.1 in
-    let t = subst (λ r. ReportsIoOrUnwrittenNoMemory g.D.BlockDevice c.fresh.new.dev c.commit_with_cache.new.device r) (sym (p.1 ∙ ap Err p.2)) c.in_err-outcome.ensures.errors in
-    let so_far = faults-since c.in_ok-fresh_pair.ensures.device.only.at_worst in
+    let t = subst (λ r. IoMeansFaultNoMemoryWritesNothing g.D.BlockDevice c.fresh.new.dev c.commit_with_cache.new.device r) (sym (p.1 ∙ ap Err p.2)) c.in_err-outcome.ensures.errors in
+    let so_far = fault_count_of_history-since c.in_ok-fresh_pair.ensures.device.only.at_worst in
     record {
       errors = t.errors;
       faults = record {
         fault = λ e. let rose = t.faults.fault e in omega arith;
         no_fault = λ e. t.faults.no_fault e ∙ c.in_ok-fresh_pair.ensures.faults.no_fault (λ gives. absurd (cc));
       };
-      beside = λ e. subst (λ blocks. AreBlocksEqualExceptThese (blocks_of_address (pair_address_of_array c.args.fresh)) (g.D.BlockDevice.blocks c.args.device.now) blocks) (sym (t.unwritten e).same) c.in_ok-fresh_pair.ensures.device.only.others;
+      beside = λ e. subst (λ blocks. AreBlocksEqualExceptThese (blocks_of_pair_address (pair_address_of_array c.args.fresh)) (g.D.BlockDevice.blocks c.args.device.now) blocks) (sym (t.unwritten e).same) c.in_ok-fresh_pair.ensures.device.only.others;
     }
 
 pub returns-in_err-outcome-clause-stops : goal.returns-in_err-outcome-clause-stops
@@ -120,9 +120,9 @@ returns-in-Full-clause-device g c =
     let same = cached_beside disk history c.args.pairs.now.items c.args.map.now c.args.index c.index.result.now a c.requires.kept (pair_address_of_array c.args.fresh) c.requires.can.held c.args.cache.now c.forget_cached_pair.new.cache c.forget_cached_pair.ensures in
     let reads = ap read_count_unless_cached same in
     reading_there disk history c.args.pairs.now.items c.args.map.now c.args.index c.index.result.now a c.requires.kept
-    g.D.BlockDevice c.args.device.now c.commit_with_cache.new.device (λ at. blocks_of_two_addresses at (pair_address_of_array c.args.fresh)) 3 c.args.cache.now
+    g.D.BlockDevice c.args.device.now c.commit_with_cache.new.device (λ at. blocks_of_two_pair_addresses at (pair_address_of_array c.args.fresh)) 3 c.args.cache.now
     (record {
-      only = changes_by_both g.D.BlockDevice (address_of_header c.index.result.now) (pair_address_of_array c.args.fresh) fresh.only commit.only;
+      only = changes_by_both g.D.BlockDevice (pair_address_in_header c.index.result.now) (pair_address_of_array c.args.fresh) fresh.only commit.only;
       few = let first = fresh.few in let second = commit.few in omega (arith, first, second, reads);
     })
 
@@ -137,7 +137,7 @@ returns-in-Full-clause-stops g c =
 
 pub settle-requires-2 : goal.settle-requires-2
 settle-requires-2 g c =
-    subst (λ (s : BlockStateList). IsInFlight s (pair_address_of_array c.args.fresh).1) (sym c.settle.ensures) (second_held _ (pair_address_of_array c.args.fresh) c.requires.can.held)
+    subst (λ (s : BlockStateList). IsBlockInFlight s (pair_address_of_array c.args.fresh).1) (sym c.settle.ensures) (second_held _ (pair_address_of_array c.args.fresh) c.requires.can.held)
 
 pub returns-clause-kept : goal.returns-clause-kept
 returns-clause-kept g c =
@@ -171,9 +171,9 @@ returns-clause-device g c =
     let same = cached_beside disk history c.args.pairs.now.items c.args.map.now c.args.index c.index.result.now a c.requires.kept (pair_address_of_array c.args.fresh) c.requires.can.held c.args.cache.now c.forget_cached_pair.new.cache c.forget_cached_pair.ensures in
     let reads = ap read_count_unless_cached same in
     reading_there disk history c.args.pairs.now.items c.args.map.now c.args.index c.index.result.now a c.requires.kept
-    g.D.BlockDevice c.args.device.now c.commit_with_cache.new.device (λ at. blocks_of_two_addresses at (pair_address_of_array c.args.fresh)) 3 c.args.cache.now
+    g.D.BlockDevice c.args.device.now c.commit_with_cache.new.device (λ at. blocks_of_two_pair_addresses at (pair_address_of_array c.args.fresh)) 3 c.args.cache.now
     (record {
-      only = changes_by_both g.D.BlockDevice (address_of_header c.index.result.now) (pair_address_of_array c.args.fresh) fresh.only commit.only;
+      only = changes_by_both g.D.BlockDevice (pair_address_in_header c.index.result.now) (pair_address_of_array c.args.fresh) fresh.only commit.only;
       few = let first = fresh.few in let second = commit.few in omega (arith, first, second, reads);
     })
 

@@ -1,9 +1,9 @@
 use Rattle.std.proofs.Common.{◌+◌, ◌∙◌, Err, List, ap, refl, subst, sym, set}
 use Rattle.std.proofs.lemmas.Result.{err_from_is_err_and}
-use Rattle.lfs_model.specs.BlockSets.{BlockStateList, IsInFlight, Used}
+use Rattle.lfs_model.specs.BlockSets.{BlockStateList, IsBlockInFlight, Used}
 use Rattle.lfs_model.specs.Slots.{pair_address_of_array}
-use Rattle.lfs_model.proofs.Histories.{IsTrueAfterEachStopSince-weaker}
-use Rattle.lfs_thread.specs.Device.{blocks_of_two_addresses}
+use Rattle.lfs_model.proofs.Histories.{IsTrueAfterAnyPowerLossSince-weaker}
+use Rattle.lfs_thread.specs.Device.{blocks_of_two_pair_addresses}
 use Rattle.lfs_thread.specs.Kept.{PairHeader, disk_of_device}
 use Rattle.lfs_thread.proofs.Changing.{at_there}
 use Rattle.lfs_thread.proofs.Coming.{second_held}
@@ -20,11 +20,11 @@ split_with_cache-requires-clause-can g c =
 pub returns-in_err-fresh_pair-clause-stops : goal.returns-in_err-fresh_pair-clause-stops
 returns-in_err-fresh_pair-clause-stops g c cleanly =
     let a = at_there (disk_of_device g.D.BlockDevice c.args.device.now) c.args.pairs.now.items c.args.index c.index.result.now c.requires.can.can.below c.index.ensures in
-    IsTrueAfterEachStopSince-weaker (λ left l. left_by_split _ _ c.args.pairs.now.items c.args.map.now c.args.index _ (pair_address_of_array c.args.fresh) _ left a c.requires.kept c.requires.can l) (c.in_err-fresh_pair.ensures.stops cleanly)
+    IsTrueAfterAnyPowerLossSince-weaker (λ left l. left_by_split _ _ c.args.pairs.now.items c.args.map.now c.args.index _ (pair_address_of_array c.args.fresh) _ left a c.requires.kept c.requires.can l) (c.in_err-fresh_pair.ensures.stops cleanly)
 
 pub settle-requires-2 : goal.settle-requires-2
 settle-requires-2 g c =
-    subst (λ (s : BlockStateList). IsInFlight s (pair_address_of_array c.args.fresh).1) (sym c.settle.ensures) (second_held _ (pair_address_of_array c.args.fresh) c.requires.can.held)
+    subst (λ (s : BlockStateList). IsBlockInFlight s (pair_address_of_array c.args.fresh).1) (sym c.settle.ensures) (second_held _ (pair_address_of_array c.args.fresh) c.requires.can.held)
 
 pub returns-clause-kept : goal.returns-clause-kept
 returns-clause-kept g c =
@@ -43,7 +43,7 @@ returns-clause-is_split g c =
 pub returns-clause-stops : goal.returns-clause-stops
 returns-clause-stops g c cleanly =
     let a = at_there (disk_of_device g.D.BlockDevice c.args.device.now) c.args.pairs.now.items c.args.index c.index.result.now c.requires.can.can.below c.index.ensures in
-    IsTrueAfterEachStopSince-weaker (λ left l. left_by_split _ _ c.args.pairs.now.items c.args.map.now c.args.index _ (pair_address_of_array c.args.fresh) _ left a c.requires.kept c.requires.can l) (c.in_ok-fresh_pair.ensures.stops cleanly)
+    IsTrueAfterAnyPowerLossSince-weaker (λ left l. left_by_split _ _ c.args.pairs.now.items c.args.map.now c.args.index _ (pair_address_of_array c.args.fresh) _ left a c.requires.kept c.requires.can l) (c.in_ok-fresh_pair.ensures.stops cleanly)
 
 pub returns-in_err-fresh_pair-clause-errors : goal.returns-in_err-fresh_pair-clause-errors
 returns-in_err-fresh_pair-clause-errors g c =
@@ -62,11 +62,11 @@ returns-in_err-fresh_pair-clause-device g c =
     let disk = disk_of_device g.D.BlockDevice c.args.device.now in
     let a = at_there disk c.args.pairs.now.items c.args.index c.index.result.now c.requires.can.can.below c.index.ensures in
     reading_there disk (g.D.BlockDevice.history c.args.device.now) c.args.pairs.now.items c.args.map.now c.args.index c.index.result.now a c.requires.kept
-    g.D.BlockDevice c.args.device.now c.split_with_cache.new.device (λ at. blocks_of_two_addresses at (pair_address_of_array c.args.fresh)) 3 c.args.cache.now c.in_err-fresh_pair.ensures.device
+    g.D.BlockDevice c.args.device.now c.split_with_cache.new.device (λ at. blocks_of_two_pair_addresses at (pair_address_of_array c.args.fresh)) 3 c.args.cache.now c.in_err-fresh_pair.ensures.device
 
 pub returns-clause-device : goal.returns-clause-device
 returns-clause-device g c =
     let disk = disk_of_device g.D.BlockDevice c.args.device.now in
     let a = at_there disk c.args.pairs.now.items c.args.index c.index.result.now c.requires.can.can.below c.index.ensures in
     reading_there disk (g.D.BlockDevice.history c.args.device.now) c.args.pairs.now.items c.args.map.now c.args.index c.index.result.now a c.requires.kept
-    g.D.BlockDevice c.args.device.now c.split_with_cache.new.device (λ at. blocks_of_two_addresses at (pair_address_of_array c.args.fresh)) 3 c.args.cache.now c.in_ok-fresh_pair.ensures.device
+    g.D.BlockDevice c.args.device.now c.split_with_cache.new.device (λ at. blocks_of_two_pair_addresses at (pair_address_of_array c.args.fresh)) 3 c.args.cache.now c.in_ok-fresh_pair.ensures.device

@@ -1,14 +1,14 @@
 use Rattle.std.proofs.Common.{◌≡◌, ◌+◌, ◌-◌, ◌*◌, ◌≤◌, length}
-use Rattle.lfs_tool.specs.ExcerptBlocks.{AreExcerptsOfBlockSize}
-use Rattle.lfs_tool.specs.ExcerptView.{cutter_block_size}
+use Rattle.lfs_tool.specs.ExcerptBlocks.{AreExcerptsOfBlocksWithSize}
+use Rattle.lfs_tool.specs.ExcerptView.{excerpt_maker_block_size}
 use Rattle.lfs_tool.proofs.BlockReads.{HasRead}
 use Rattle.lfs_tool.proofs.blocks.read_block_excerpts.Given as goal
 
 abbrev pub invariant-loop-alloc : goal.invariant-loop-alloc
 invariant-loop-alloc g l = record {
-  cuts : cutter_block_size l.cutter ≡ l.block_size;
+  cuts : excerpt_maker_block_size l.cutter ≡ l.block_size;
   room : length l.block.items ≡ l.block_size;
-  sizes : AreExcerptsOfBlockSize l.block_size l.blocks.items;
+  sizes : AreExcerptsOfBlocksWithSize l.block_size l.blocks.items;
   within : l.block_size * length l.blocks.items ≤ 268435456 + l.block_size;
   same : g.R.ImageInput.faults l.image ≡ g.R.ImageInput.faults l.initial.image;
   read : HasRead l.block_size (g.R.ImageInput.remaining l.initial.image) (g.R.ImageInput.remaining l.image) l.blocks.items;

@@ -1,5 +1,5 @@
 use Rattle.std.proofs.Common.{◌≡◌, Some, None, subst}
-use Rattle.lfs_tool.specs.declared.verdict.Verdict.TheVariants as verdict
+use Rattle.lfs_tool.specs.declared.verdict.ImageVerdict.TheVariants as verdict
 use Rattle.lfs_tool.specs.CheckResults.{IsVerdictOnBytes}
 use Rattle.lfs_tool.proofs.examination.check_result_of_verdict.Goals as goal
 

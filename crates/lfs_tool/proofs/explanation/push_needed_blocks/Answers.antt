@@ -11,5 +11,5 @@ joined t a b c d v w x y p q r s = (s ∙ ap (λ n. n ++ d) (r ∙ ap (λ n. n +
 pub returns : goal.returns
 returns c =
     joined c.args.text.now.items (decimal c.args.needed.blocks) (codes " blocks are too few") (enough_blocks_text c.args.needed.enough) newline
-    c.push_number.new.text.items c.push_text.new.text.items c.push_enough_blocks.new.text.items c.push.new.self.items
-    c.in_ok-push_number.ensures c.in_ok-push_text.ensures c.in_ok-push_enough_blocks.ensures c.in_ok-push.ensures.items
+    c.push_labelled_number.new.text.items c.push_text.new.text.items c.push_enough_blocks.new.text.items c.push.new.self.items
+    c.in_ok-push_labelled_number.ensures c.in_ok-push_text.ensures c.in_ok-push_enough_blocks.ensures c.in_ok-push.ensures.items

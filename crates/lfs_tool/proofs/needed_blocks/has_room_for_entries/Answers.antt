@@ -4,27 +4,27 @@ use Rattle.lfs_device.specs.declared.geometry.Geometry.{Geometry}
 use Rattle.lfs_model.specs.declared.order.NameOrder.TheVariants.{LongerFirst}
 use Rattle.lfs_tool_line.specs.declared.line.Line.{Line}
 use Rattle.lfs_tool.specs.MadeImages.{RefusesCopyOfEntries}
-use Rattle.lfs_tool.specs.Needed.{IsGeometryOfLineWithBlockCount}
+use Rattle.lfs_tool.specs.Needed.{IsGeometryOfCommandLineWithBlockCount}
 use Rattle.lfs_tool.proofs.needed_blocks.has_room_for_entries.Goals as goal
 
 sized : (line : Line) (count : ℕ) (g new : Geometry) → (g.block_size ≡ line.block_size) × (g.page ≡ line.page) × (g.block_count ≡ count) × (g.order ≡ LongerFirst)
-    → new ≡ record g { order = line.order } → IsGeometryOfLineWithBlockCount line count new
-sized line count g new s is = subst (IsGeometryOfLineWithBlockCount line count) (sym is) (record { block_size = s.0; page = s.1; order = refl; block_count = s.2 })
+    → new ≡ record g { order = line.order } → IsGeometryOfCommandLineWithBlockCount line count new
+sized line count g new s is = subst (IsGeometryOfCommandLineWithBlockCount line count) (sym is) (record { block_size = s.0; page = s.1; order = refl; block_count = s.2 })
 
 no_memory : NoSpace ≢ NoMemory
 no_memory = λ e. absurd (cc)
 
 pub returns-in-Ok-clause-room : goal.returns-in-Ok-clause-room
 returns-in-Ok-clause-room c = λ _. record {
-  geometry = c.ordered.result;
-  sizes = sized c.args.line.now c.args.count c.in_ok-geometry.geometry c.ordered.result c.in_ok-geometry.ensures c.ordered.ensures;
+  geometry = c.with_name_order.result;
+  sizes = sized c.args.line.now c.args.count c.in_ok-geometry.geometry c.with_name_order.result c.in_ok-geometry.ensures c.with_name_order.ensures;
   image = c.in-Ok._image.items;
   left = c.in-Ok.ensures.ok;
 }
 
 pub returns-in-Err-NoSpace-clause-small : goal.returns-in-Err-NoSpace-clause-small
 returns-in-Err-NoSpace-clause-small c = λ _. record {
-  geometry = c.ordered.result;
-  sizes = sized c.args.line.now c.args.count c.in_ok-geometry.geometry c.ordered.result c.in_ok-geometry.ensures c.ordered.ensures;
-  refused = subst (λ e. e ≢ NoMemory → RefusesCopyOfEntries c.ordered.result c.args.entries.now e) c.in-Err-NoSpace.field-0-is c.in-Err-NoSpace.ensures.err no_memory;
+  geometry = c.with_name_order.result;
+  sizes = sized c.args.line.now c.args.count c.in_ok-geometry.geometry c.with_name_order.result c.in_ok-geometry.ensures c.with_name_order.ensures;
+  refused = subst (λ e. e ≢ NoMemory → RefusesCopyOfEntries c.with_name_order.result c.args.entries.now e) c.in-Err-NoSpace.field-0-is c.in-Err-NoSpace.ensures.err no_memory;
 }

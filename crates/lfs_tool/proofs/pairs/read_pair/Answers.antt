@@ -15,7 +15,7 @@ pub returns-in-Some-clause-looks : goal.returns-in-Some-clause-looks
 returns-in-Some-clause-looks g c =
     let first = looked g.D.BlockDevice c.args.device.now c.read_block.new.device c.read_block.result c.in_ok-first.first c.in_ok-first.was c.read_block.ensures.device c.read_block.ensures.faults in
     let second = looked g.D.BlockDevice c.read_block.new.device c.read_block-2.new.device c.read_block-2.result c.in_ok-second.second c.in_ok-second.was c.read_block-2.ensures.device c.read_block-2.ensures.faults in
-    quiet g.D.BlockDevice _ _ c.owned_pair_of_block.result c.owned_pair_of_block.ensures.errors (on g.D.BlockDevice _ _ _ first second)
+    quiet g.D.BlockDevice _ _ c.pair_or_finding_of_current_block.result c.pair_or_finding_of_current_block.ensures.errors (on g.D.BlockDevice _ _ _ first second)
 
 pub returns-clause-looks : goal.returns-clause-looks
 returns-clause-looks g c =

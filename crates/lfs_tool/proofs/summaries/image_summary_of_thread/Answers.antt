@@ -2,9 +2,9 @@ use Rattle.std.proofs.Common.{◌∙◌, ap, arith, subst, sym}
 use Rattle.lfs_model.proofs.BlockSets.{used_count-AreExactlyTheUsedBlocks}
 use Rattle.lfs_model.specs.BlockSets.{BlockStateList, used_count}
 use Rattle.lfs_model.specs.Disk.{Disk, block_count}
-use Rattle.lfs_model.specs.Profile.{IsWritable}
+use Rattle.lfs_model.specs.Profile.{IsWritableImage}
 use Rattle.lfs_model.specs.Shown.{used_blocks}
-use Rattle.lfs_model.specs.Thread.{Pair, gstate_of}
+use Rattle.lfs_model.specs.Thread.{Pair, gstate_of_pairs}
 use Rattle.lfs_tool.specs.ImageSummaries.{is_file_item, has_half_done_operation}
 use Rattle.lfs_tool.proofs.Counts.{as_many, files_alike}
 use Rattle.lfs_tool.proofs.Judged.{read_on}
@@ -43,7 +43,7 @@ returns-clause-summary c =
       all = omega (arith, below, same, many, len);
       used = c.used_count.ensures ∙ ap (λ (m : BlockStateList). used_count m) three.map ∙ used_count-AreExactlyTheUsedBlocks c.args.thread.now.kept.map (used_blocks disk pairs) c.requires.accepted.owned_once c.requires.used;
       blocks = c.geometry.ensures.count ∙ ap block_count three.disk;
-      recover = c.is_half_done.ensures ∙ ap has_half_done_operation (c.state-state.ensures ∙ ap gstate_of three.pairs);
-      writable = subst (λ (ps : List Pair). IsTrue c.in_ok-writable.writable ↔ IsWritable disk ps) two.pairs
-          (subst (λ (d : Disk). IsTrue c.in_ok-writable.writable ↔ IsWritable d c.root_index_of_thread.new.thread.kept.pairs) two.disk c.in_ok-writable.ensures.is);
+      recover = c.has_unfinished_operation.ensures ∙ ap has_half_done_operation (c.state-state.ensures ∙ ap gstate_of_pairs three.pairs);
+      writable = subst (λ (ps : List Pair). IsTrue c.in_ok-writable.writable ↔ IsWritableImage disk ps) two.pairs
+          (subst (λ (d : Disk). IsTrue c.in_ok-writable.writable ↔ IsWritableImage d c.root_index_of_thread.new.thread.kept.pairs) two.disk c.in_ok-writable.ensures.is);
     }

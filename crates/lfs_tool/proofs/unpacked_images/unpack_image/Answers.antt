@@ -1,5 +1,5 @@
 use Rattle.std.proofs.lemmas.Result.{IfErr-weaker, on_ok_weaker}
-use Rattle.lfs_device.specs.RamDevice.{ram_blocks, geometry_of}
+use Rattle.lfs_device.specs.RamDevice.{ram_blocks, geometry_of_ram_device}
 use Rattle.lfs_device.specs.Shown.{disk_of_geometry_and_blocks as shown}
 use Rattle.lfs_device.specs.declared.ram.RamDevice.{RamDevice}
 use Rattle.lfs_model.specs.Disk.{Disk}
@@ -8,7 +8,7 @@ use Rattle.lfs_tool.proofs.unpacked_images.unpack_image.Goals as goal
 
 -- the disk that a device in memory shows
 abbrev disk_in : RamDevice → Disk
-disk_in d = shown (geometry_of d) (ram_blocks d)
+disk_in d = shown (geometry_of_ram_device d) (ram_blocks d)
 
 pub returns-in-Ok-clause-done : goal.returns-in-Ok-clause-done
 returns-in-Ok-clause-done g c =

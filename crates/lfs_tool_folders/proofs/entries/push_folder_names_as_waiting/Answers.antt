@@ -1,6 +1,6 @@
 use Rattle.std.proofs.Common.{◌∙◌, ◌++◌, ap, map}
 use Rattle.lfs_tool_folders.specs.SourceTrees.{listed_name_and_kind_view}
-use Rattle.lfs_tool_folders.specs.Entries.{path_and_is_folder_of_waiting}
+use Rattle.lfs_tool_folders.specs.Entries.{path_and_is_folder_of_waiting_entry}
 use Rattle.lfs_tool_folders.proofs.Reading.{places_reversed}
 use Rattle.lfs_tool_folders.proofs.entries.push_folder_names_as_waiting.Goals as goal
 
@@ -10,6 +10,6 @@ returns-clause-within g c = (
   (
     c.in_ok-names.ensures.names,
     c.in_ok-push_names_as_waiting.ensures.places
-        ∙ ap (λ ps. map path_and_is_folder_of_waiting c.args.waiting.now.items ++ ps) (places_reversed c.args.folder.now c.in_ok-names.names.items c.as_slice.result.now (c.as_slice.ensures.value ∙ c.reverse.ensures.items)),
+        ∙ ap (λ ps. map path_and_is_folder_of_waiting_entry c.args.waiting.now.items ++ ps) (places_reversed c.args.folder.now c.in_ok-names.names.items c.as_slice.result.now (c.as_slice.ensures.value ∙ c.reverse.ensures.items)),
   ),
 )

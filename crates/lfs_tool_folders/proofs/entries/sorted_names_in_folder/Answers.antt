@@ -1,18 +1,18 @@
 use Rattle.std.proofs.Common.{inr, map, subst}
-use Rattle.lfs_tool_folders.specs.Entries.{AreNamesInOrder, name_of_listed}
+use Rattle.lfs_tool_folders.specs.Entries.{ArePathComponentsInOrder, name_bytes_of_listed_name}
 use Rattle.lfs_tool_folders.proofs.Order.{bad_given}
 use Rattle.lfs_tool_folders.proofs.Reading.{within_sorted}
 use Rattle.lfs_tool_folders.proofs.entries.sorted_names_in_folder.Goals as goal
 
-pub returns-then-not-are_listed_in_order-clause-fault : goal.returns-then-not-are_listed_in_order-clause-fault
-returns-then-not-are_listed_in_order-clause-fault g c = λ e. inr (
+pub returns-then-not-are_listed_names_path_components_in_order-clause-fault : goal.returns-then-not-are_listed_names_path_components_in_order-clause-fault
+returns-then-not-are_listed_names_path_components_in_order-clause-fault g c = λ e. inr (
   c.in_ok-names.ensures.kept,
   bad_given (g.S.Source.shown c.args.source.now) c.args.folder.now c.in_ok-names.names.items c.sort_names.new.names.items c.as_slice.result.now
-      c.in_ok-names.ensures.names c.sort_names.ensures.permutation c.as_slice.ensures.value (c.are_listed_in_order.ensures.bad c.if-not-are_listed_in_order.true),
+      c.in_ok-names.ensures.names c.sort_names.ensures.permutation c.as_slice.ensures.value (c.are_listed_names_path_components_in_order.ensures.bad c.if-not-are_listed_names_path_components_in_order.true),
 )
 
 pub returns-clause-names : goal.returns-clause-names
 returns-clause-names g c =
-    let good : AreNamesInOrder (map name_of_listed c.sort_names.new.names.items) =
-    subst (λ (xs : _). AreNamesInOrder (map name_of_listed xs)) c.as_slice.ensures.value (c.are_listed_in_order.ensures.good c.if-not-are_listed_in_order.false) in
+    let good : ArePathComponentsInOrder (map name_bytes_of_listed_name c.sort_names.new.names.items) =
+    subst (λ (xs : _). ArePathComponentsInOrder (map name_bytes_of_listed_name xs)) c.as_slice.ensures.value (c.are_listed_names_path_components_in_order.ensures.good c.if-not-are_listed_names_path_components_in_order.false) in
     within_sorted (g.S.Source.shown c.args.source.now) c.args.folder.now c.in_ok-names.names.items c.sort_names.new.names.items c.in_ok-names.ensures.names c.sort_names.ensures.permutation good

@@ -3,8 +3,8 @@ use Rattle.std.specs.Prelude.{OnOk}
 use Rattle.std.proofs.lemmas.Result.{err_from_is_err_and}
 use Rattle.lfs_model.specs.Content.{attributes_without_attribute}
 use Rattle.lfs_operations.specs.Editing.{CanEditEntryOfPair, HasRemovedAttribute, tree_with_attributes_at}
-use Rattle.lfs_thread.specs.Device.{blocks_of_address}
-use Rattle.lfs_thread.specs.Steps.{ThreadChangesOnlyTheseBlocks, kept_pair_at_index}
+use Rattle.lfs_thread.specs.Device.{blocks_of_pair_address}
+use Rattle.lfs_thread.specs.Steps.{ThreadChangesOnlyTheseBlocks, thread_pair_at_index}
 use Rattle.lfs_tree.specs.TreeChanges.{SurvivesWithOldOrNewTree}
 use Rattle.lfs_tree.proofs.Carried.{read_is}
 use Rattle.lfs_tree.proofs.CarryEdited.{can_edit, clear_does, entry_to_clear, slot_for, slot_found}
@@ -41,8 +41,8 @@ returns g c =
     let read = answered t mid c.find_at_path.result c.in_ok-target.target c.in_ok-target.was c.find_at_path.ensures.reading in
     let is = read_is t.kept mid.kept read.only in
     let e = c.remove_attribute.ensures in
-    clear_does t c.args.root c.requires.rests c.args.path.now c.show_block_facts_to_proof.ensures.large c.show_block_facts_to_proof.ensures.bytes s slot mid.kept.history new c.remove_attribute.result c.args.kind c.show_path_bytes_to_proof.ensures.0 c.show_path_bytes_to_proof.ensures.1
-    read.same read.only.reads (subst (λ k. ThreadChangesOnlyTheseBlocks (blocks_of_address (kept_pair_at_index k s.pair).at) k new.kept) is e.device)
+    clear_does t c.args.root c.requires.rests c.args.path.now c.show_block_facts_to_proof.ensures.large c.show_block_facts_to_proof.ensures.bytes s slot mid.kept.history new c.remove_attribute.result c.args.kind c.show_path_comes_from_bytes_to_proof.ensures.0 c.show_path_comes_from_bytes_to_proof.ensures.1
+    read.same read.only.reads (subst (λ k. ThreadChangesOnlyTheseBlocks (blocks_of_pair_address (thread_pair_at_index k s.pair).at) k new.kept) is e.device)
     (subst (λ k. OnOk c.remove_attribute.result ((can : CanEditEntryOfPair k s.pair s.id) → HasRemovedAttribute k new.kept can.path can.name c.args.kind)) is e.is_removed)
     (reported_by_reading mid.kept new.kept c.remove_attribute.result e.errors.reported) (works_reported new c.remove_attribute.result e.errors.failed)
     (subst (λ k. (can : CanEditEntryOfPair k s.pair s.id) → SurvivesWithOldOrNewTree k new.kept (tree_with_attributes_at k can.path can.name (attributes_without_attribute c.args.kind))) is e.survives)

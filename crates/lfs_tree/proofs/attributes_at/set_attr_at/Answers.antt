@@ -5,7 +5,7 @@ use Rattle.lfs_model.specs.Content.{attributes_with_attribute}
 use Rattle.lfs_operations.specs.Changing.{WritesPairAndTwoFreeBlocks}
 use Rattle.lfs_operations.specs.Editing.{CanSetAttribute, HasSetAttribute, tree_with_attributes_at}
 use Rattle.lfs_operations.specs.Making.{HasSoManyFreeBlocks}
-use Rattle.lfs_thread.specs.Kept.{Kept}
+use Rattle.lfs_thread.specs.Kept.{KeptThread}
 use Rattle.lfs_tree.specs.TreeChanges.{SurvivesWithOldOrNewTree}
 use Rattle.lfs_tree.proofs.Carried.{read_is}
 use Rattle.lfs_tree.proofs.CarryEdited.{can_set, entry_to_set, set_does, slot_for, slot_found}
@@ -43,8 +43,8 @@ returns g c =
     let read = answered t mid c.find_at_path.result c.in_ok-target.target c.in_ok-target.was c.find_at_path.ensures.reading in
     let is = read_is t.kept mid.kept read.only in
     let e = c.set_attribute.ensures in
-    set_does t c.args.root c.requires.rests c.args.path.now c.show_block_facts_to_proof.ensures.large c.show_block_facts_to_proof.ensures.bytes s slot mid.kept.history new c.set_attribute.result c.args.kind c.args.bytes.now c.show_path_bytes_to_proof.ensures.0 c.show_path_bytes_to_proof.ensures.1 c.requires.can
+    set_does t c.args.root c.requires.rests c.args.path.now c.show_block_facts_to_proof.ensures.large c.show_block_facts_to_proof.ensures.bytes s slot mid.kept.history new c.set_attribute.result c.args.kind c.args.bytes.now c.show_path_comes_from_bytes_to_proof.ensures.0 c.show_path_comes_from_bytes_to_proof.ensures.1 c.requires.can
     read.same read.only.reads (subst (λ k. WritesPairAndTwoFreeBlocks k s.pair new.kept) is e.device)
     (subst (λ k. OnOk c.set_attribute.result ((set : CanSetAttribute k s.pair s.id c.args.kind c.args.bytes.now) → HasSetAttribute k new.kept set.can.path set.can.name c.args.kind c.args.bytes.now)) is e.is_set)
-    (reported_with_room mid.kept new.kept c.set_attribute.result (subst (λ (k : Kept). HasSoManyFreeBlocks 2 k.map) (sym is) (room_for t.kept 2 c.requires.rests.held.sound c.requires.can.room)) e.errors.reports.reports) (works_put new c.set_attribute.result e.errors.reports.failed)
+    (reported_with_room mid.kept new.kept c.set_attribute.result (subst (λ (k : KeptThread). HasSoManyFreeBlocks 2 k.map) (sym is) (room_for t.kept 2 c.requires.rests.held.sound c.requires.can.room)) e.errors.reports.reports) (works_put new c.set_attribute.result e.errors.reports.failed)
     (subst (λ k. (set : CanSetAttribute k s.pair s.id c.args.kind c.args.bytes.now) → SurvivesWithOldOrNewTree k new.kept (tree_with_attributes_at k set.can.path set.can.name (attributes_with_attribute c.args.kind c.args.bytes.now))) is e.survives)

@@ -1,6 +1,6 @@
 use Rattle.std.proofs.Common.{[], ap, sym, subst, ◌∙◌}
 use Rattle.lfs_thread.specs.Kept.{kept_thread_of_device}
-use Rattle.lfs_thread.specs.Device.{blocks_of_address}
+use Rattle.lfs_thread.specs.Device.{blocks_of_pair_address}
 use Rattle.lfs_thread.specs.Steps.{ThreadChangesOnlyTheseBlocks}
 use Rattle.lfs_model.specs.Thread.{anchor_pair_address}
 use Rattle.lfs_tree.specs.Formats.{IsFreshlyFormatted}
@@ -28,5 +28,5 @@ returns-in-Ok-write_thread_of_root_pair-clause-shows g c = shows_empty c.from_pa
 
 pub returns-in-Ok-write_thread_of_root_pair-clause-writes : goal.returns-in-Ok-write_thread_of_root_pair-clause-writes
 returns-in-Ok-write_thread_of_root_pair-clause-writes g c =
-    subst (ThreadChangesOnlyTheseBlocks (blocks_of_address anchor_pair_address) (kept_thread_of_device g.D.BlockDevice c.args.device [] [])) (sym c.from_parts.ensures.kept)
-    (wrote g.D.BlockDevice _ _ (blocks_of_address anchor_pair_address) c.in-Ok-write_thread_of_root_pair.ensures.device)
+    subst (ThreadChangesOnlyTheseBlocks (blocks_of_pair_address anchor_pair_address) (kept_thread_of_device g.D.BlockDevice c.args.device [] [])) (sym c.from_parts.ensures.kept)
+    (wrote g.D.BlockDevice _ _ (blocks_of_pair_address anchor_pair_address) c.in-Ok-write_thread_of_root_pair.ensures.device)

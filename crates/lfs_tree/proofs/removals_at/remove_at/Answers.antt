@@ -2,7 +2,7 @@ use Rattle.std.proofs.Common.{subst, sym}
 use Rattle.std.proofs.lemmas.Result.{err_from_is_err_and}
 use Rattle.lfs_model.specs.TreeEdits.{tree_after_removal}
 use Rattle.lfs_model.specs.Shown.{tree_on_disk}
-use Rattle.lfs_operations.specs.MovingSteps.{WritesPairsAndFreeBlocks}
+use Rattle.lfs_operations.specs.MovingSteps.{WritesOnlyThreadPairsAndFreeBlocks}
 use Rattle.lfs_tree.specs.TreeChanges.{SurvivesWithOldOrNewTree}
 use Rattle.lfs_tree.specs.Removals.{CanRemoveFoundEntry, HasRemovedEntry, SparesOtherBlocksInRemoval}
 use Rattle.lfs_tree.proofs.Carried.{read_is}
@@ -12,8 +12,8 @@ use Rattle.lfs_tree.proofs.Operated.{only_read_change, works_reported}
 use Rattle.lfs_lookup.proofs.Reading.{answered, passed}
 use Rattle.lfs_tree.proofs.removals_at.remove_at.Goals as goal
 
-pub remove_found-requires-clause-can : goal.remove_found-requires-clause-can
-remove_found-requires-clause-can g c =
+pub remove_found_entry-requires-clause-can : goal.remove_found_entry-requires-clause-can
+remove_found_entry-requires-clause-can g c =
     let t = c.args.thread.now in
     let mid = c.find_at_path.new.thread in
     let found = c.in_ok-target.target.found in
@@ -33,17 +33,17 @@ pub returns : goal.returns
 returns g c =
     let t = c.args.thread.now in
     let mid = c.find_at_path.new.thread in
-    let new = c.remove_found.new.thread in
+    let new = c.remove_found_entry.new.thread in
     let path = c.args.path.now in
     let found = c.in_ok-target.target.found in
     let entry = entry_on t.kept path found (entry_to_remove t.kept path c.requires.can) c.in_ok-target.ensures.target.leads in
     let can = can_go t c.args.root c.requires.rests path c.show_block_facts_to_proof.ensures.large c.show_block_facts_to_proof.ensures.bytes c.requires.can mid.kept.history found entry in
     let read = answered t mid c.find_at_path.result c.in_ok-target.target c.in_ok-target.was c.find_at_path.ensures.reading in
     let is = read_is t.kept mid.kept read.only in
-    let e = c.remove_found.ensures in
+    let e = c.remove_found_entry.ensures in
     let old = subst (λ k. CanRemoveFoundEntry k path found) (sym is) can in
-    let gone = ok_then c.remove_found.result _ _ (λ h. subst (λ k. HasRemovedEntry k path new.kept) is (h path old)) e.gone in
-    let spared = ok_then c.remove_found.result _ _ (λ h. subst (λ k. SparesOtherBlocksInRemoval k path new.kept) is (h path old)) e.alone in
-    remove_does t c.args.root c.requires.rests path mid.kept.history new read.only.reads (subst (λ k. WritesPairsAndFreeBlocks k new.kept) is e.device) c.remove_found.result c.show_path_bytes_to_proof.ensures.0 c.show_path_bytes_to_proof.ensures.1
-    read.same gone spared (record { errors = e.errors.errors; fault = e.errors.fault; no_fault = e.errors.no_fault }) (works_reported new c.remove_found.result e.errors.failed)
+    let gone = ok_then c.remove_found_entry.result _ _ (λ h. subst (λ k. HasRemovedEntry k path new.kept) is (h path old)) e.gone in
+    let spared = ok_then c.remove_found_entry.result _ _ (λ h. subst (λ k. SparesOtherBlocksInRemoval k path new.kept) is (h path old)) e.alone in
+    remove_does t c.args.root c.requires.rests path mid.kept.history new read.only.reads (subst (λ k. WritesOnlyThreadPairsAndFreeBlocks k new.kept) is e.device) c.remove_found_entry.result c.show_path_comes_from_bytes_to_proof.ensures.0 c.show_path_comes_from_bytes_to_proof.ensures.1
+    read.same gone spared (record { errors = e.errors.errors; fault = e.errors.fault; no_fault = e.errors.no_fault }) (works_reported new c.remove_found_entry.result e.errors.failed)
     (subst (λ k. SurvivesWithOldOrNewTree k new.kept (tree_after_removal path (tree_on_disk k.disk k.pairs))) is (e.survives path old))

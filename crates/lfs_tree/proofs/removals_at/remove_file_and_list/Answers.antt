@@ -13,8 +13,8 @@ use Rattle.lfs_tree.proofs.removals_at.remove_file_and_list.Goals as goal
 pub remove_file-requires-clause-can : goal.remove_file-requires-clause-can
 remove_file-requires-clause-can g c = c.requires.can.1.take
 
-pub free_list_of_file-requires-clause-can : goal.free_list_of_file-requires-clause-can
-free_list_of_file-requires-clause-can g c =
+pub free_blocks_of_file_list-requires-clause-can : goal.free_blocks_of_file_list-requires-clause-can
+free_blocks_of_file_list-requires-clause-can g c =
     let t = c.args.thread.now.kept in
     let mid = c.remove_file.new.thread.kept in
     let s = c.args.slot in
@@ -37,29 +37,29 @@ pub returns-clause-gone : goal.returns-clause-gone
 returns-clause-gone g c =
     let t = c.args.thread.now.kept in
     let mid = c.remove_file.new.thread.kept in
-    let new = c.free_list_of_file.new.thread.kept in
-    ok_both c.free_list_of_file.result (IsImageReadyForChange new) (HasSameBlocksInFlight mid.map new.map) ((path : Path) → CanRemoveFile t path c.args.parent c.args.slot c.args.contents → HasRemovedEntry t path new)
-    (λ ready flying path take. file_gone t mid new path take.take.can.path take.take.can.name (slot_of_editable_entry take.take.can).struct take.is (c.in_ok-remove_file.ensures.is_removed take.take) c.free_list_of_file.ensures.only ready flying)
-    c.free_list_of_file.ensures.ready c.free_list_of_file.ensures.flying
+    let new = c.free_blocks_of_file_list.new.thread.kept in
+    ok_both c.free_blocks_of_file_list.result (IsImageReadyForChange new) (HasSameBlocksInFlight mid.map new.map) ((path : Path) → CanRemoveFile t path c.args.parent c.args.slot c.args.contents → HasRemovedEntry t path new)
+    (λ ready flying path take. file_gone t mid new path take.take.can.path take.take.can.name (slot_of_editable_entry take.take.can).struct take.is (c.in_ok-remove_file.ensures.is_removed take.take) c.free_blocks_of_file_list.ensures.only ready flying)
+    c.free_blocks_of_file_list.ensures.ready c.free_blocks_of_file_list.ensures.flying
 
 pub returns-clause-alone : goal.returns-clause-alone
 returns-clause-alone g c =
     let t = c.args.thread.now.kept in
     let mid = c.remove_file.new.thread.kept in
-    let new = c.free_list_of_file.new.thread.kept in
+    let new = c.free_blocks_of_file_list.new.thread.kept in
     let s = c.args.slot in
-    ok_both c.free_list_of_file.result (IsImageReadyForChange new) (HasSameBlocksInFlight mid.map new.map) ((path : Path) → CanRemoveFile t path c.args.parent c.args.slot c.args.contents → SparesOtherBlocksInRemoval t path new)
-    (λ ready flying path take. file_spares t mid new path s.pair s.id c.args.parent take.take take.is c.in_ok-remove_file.ensures.alters c.remove_file.ensures.device c.free_list_of_file.ensures.only)
-    c.free_list_of_file.ensures.ready c.free_list_of_file.ensures.flying
+    ok_both c.free_blocks_of_file_list.result (IsImageReadyForChange new) (HasSameBlocksInFlight mid.map new.map) ((path : Path) → CanRemoveFile t path c.args.parent c.args.slot c.args.contents → SparesOtherBlocksInRemoval t path new)
+    (λ ready flying path take. file_spares t mid new path s.pair s.id c.args.parent take.take take.is c.in_ok-remove_file.ensures.alters c.remove_file.ensures.device c.free_blocks_of_file_list.ensures.only)
+    c.free_blocks_of_file_list.ensures.ready c.free_blocks_of_file_list.ensures.flying
 
 pub returns-clause-errors : goal.returns-clause-errors
-returns-clause-errors g c = steps_both c.args.thread.now c.remove_file.new.thread c.free_list_of_file.new.thread c.in_ok-remove_file.field-0 c.remove_file.result c.free_list_of_file.result c.in_ok-remove_file.was c.remove_file.ensures.errors c.free_list_of_file.ensures.failed c.free_list_of_file.ensures.reports
+returns-clause-errors g c = steps_both c.args.thread.now c.remove_file.new.thread c.free_blocks_of_file_list.new.thread c.in_ok-remove_file.field-0 c.remove_file.result c.free_blocks_of_file_list.result c.in_ok-remove_file.was c.remove_file.ensures.errors c.free_blocks_of_file_list.ensures.failed c.free_blocks_of_file_list.ensures.reports
 
 pub returns-clause-device : goal.returns-clause-device
 returns-clause-device g c =
     let s = c.args.slot in
     let t = c.args.thread.now.kept in
-    file_writes t c.free_list_of_file.new.thread.kept s.pair s.id c.args.parent c.requires.can.1.take.can (writes_then t c.remove_file.new.thread.kept c.free_list_of_file.new.thread.kept _ c.remove_file.ensures.device c.free_list_of_file.ensures.only)
+    file_writes t c.free_blocks_of_file_list.new.thread.kept s.pair s.id c.args.parent c.requires.can.1.take.can (writes_then t c.remove_file.new.thread.kept c.free_blocks_of_file_list.new.thread.kept _ c.remove_file.ensures.device c.free_blocks_of_file_list.ensures.only)
 
 pub returns-in_err-remove_file-clause-survives : goal.returns-in_err-remove_file-clause-survives
 returns-in_err-remove_file-clause-survives g c path take =
@@ -67,5 +67,5 @@ returns-in_err-remove_file-clause-survives g c path take =
 
 pub returns-clause-survives : goal.returns-clause-survives
 returns-clause-survives g c path take =
-    freeing_survives c.args.thread.now.kept c.remove_file.new.thread.kept c.free_list_of_file.new.thread.kept path take.take.can.path take.take.can.name (slot_of_editable_entry take.take.can).struct _ take.is c.remove_file.ensures.device
-    (c.in_ok-remove_file.ensures.is_removed take.take) c.free_list_of_file.ensures.only (c.remove_file.ensures.survives take.take)
+    freeing_survives c.args.thread.now.kept c.remove_file.new.thread.kept c.free_blocks_of_file_list.new.thread.kept path take.take.can.path take.take.can.name (slot_of_editable_entry take.take.can).struct _ take.is c.remove_file.ensures.device
+    (c.in_ok-remove_file.ensures.is_removed take.take) c.free_blocks_of_file_list.ensures.only (c.remove_file.ensures.survives take.take)

@@ -2,5 +2,5 @@ use Rattle.std.proofs.Common.{sym, ◌∙◌}
 use Rattle.lfs_tree.proofs.Recovered.{nothing_set}
 use Rattle.lfs_tree.proofs.rename_paths.look_up_both_rename_paths.Goals as goal
 
-pub find_both_rename_paths-requires : goal.find_both_rename_paths-requires
-find_both_rename_paths-requires g c = record { held = c.requires; settled = sym c.state-state.ensures ∙ nothing_set _ (sym c.is_none.ensures ∙ c.if-is_none.true) }
+pub look_up_rename_without_recovery-requires : goal.look_up_rename_without_recovery-requires
+look_up_rename_without_recovery-requires g c = record { held = c.requires; settled = sym c.state-state.ensures ∙ nothing_set _ (sym c.is_none.ensures ∙ c.if-is_none.true) }

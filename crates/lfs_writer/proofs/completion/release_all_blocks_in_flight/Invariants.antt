@@ -1,12 +1,12 @@
 use Rattle.std.proofs.Common.{◌≤◌, ◌<◌, ◌-◌, ℕ}
-use Rattle.lfs_model.specs.BlockSets.{IsInFlight}
+use Rattle.lfs_model.specs.BlockSets.{IsBlockInFlight}
 use Rattle.lfs_writer.specs.Hand.{KeepsUsedBlocksInMap}
 use Rattle.lfs_writer.proofs.completion.release_all_blocks_in_flight.Given as goal
 
 abbrev pub invariant-abandoning : goal.invariant-abandoning
 invariant-abandoning l = record {
   within : l.block ≤ l.block_count;
-  gone : (b : ℕ) → b < l.block → ¬ (IsInFlight l.map b);
+  gone : (b : ℕ) → b < l.block → ¬ (IsBlockInFlight l.map b);
   kept : KeepsUsedBlocksInMap l.fn.map l.map;
 }
 

@@ -13,10 +13,10 @@ use Rattle.lfs_writer.proofs.Forms.{length-written, written_few}
 use Rattle.lfs_writer.proofs.contents.write_over_finished_list.Goals as goal
 
 pub returns-in_err-list-clause-device : goal.returns-in_err-list-clause-device
-returns-in_err-list-clause-device g c = used_reads g.D.BlockDevice c.args.map.now c.load_list_into_memory.ensures.device
+returns-in_err-list-clause-device g c = used_reads g.D.BlockDevice c.args.map.now c.load_first_bytes_of_list_into_memory.ensures.device
 
 pub returns-then-size-limit-clause-device : goal.returns-then-size-limit-clause-device
-returns-then-size-limit-clause-device g c = used_reads g.D.BlockDevice c.args.map.now c.load_list_into_memory.ensures.device
+returns-then-size-limit-clause-device g c = used_reads g.D.BlockDevice c.args.map.now c.load_first_bytes_of_list_into_memory.ensures.device
 
 pub returns-then-size-limit-clause-written : goal.returns-then-size-limit-clause-written
 returns-then-size-limit-clause-written g c =
@@ -29,15 +29,15 @@ returns-then-size-limit-clause-written g c =
     let test = c.if-size-limit.true in
     let all = length-base d geometry.block_size geometry.block_count stored.head stored.size geometry.valid.no_smaller (g.met.D.BlockDevice.shape c.args.dev.now) c.requires.stored.base in
     let kept : bytes_in_buffer c.in_ok-list.list ≡ old = c.in_ok-list.ensures.bytes ∙ take_all stored.size old (omega arith) in
-    let has : bytes_in_buffer c.put.new.self ≡ contents_after_write old c.args.place c.args.bytes.now = c.put.ensures.rest ∙ ap (λ (l : List ℕ). contents_after_write l c.args.place c.args.bytes.now) kept in
-    let long : length (bytes_in_buffer c.put.new.self) ≡ max stored.size (c.args.place + n) = ap length has ∙ length-written old c.args.place c.args.bytes.now ∙ ap (λ k. max k (c.args.place + n)) all in
+    let has : bytes_in_buffer c.write_buffered_content_at.new.self ≡ contents_after_write old c.args.place c.args.bytes.now = c.write_buffered_content_at.ensures.rest ∙ ap (λ (l : List ℕ). contents_after_write l c.args.place c.args.bytes.now) kept in
+    let long : length (bytes_in_buffer c.write_buffered_content_at.new.self) ≡ max stored.size (c.args.place + n) = ap length has ∙ length-written old c.args.place c.args.bytes.now ∙ ap (λ k. max k (c.args.place + n)) all in
     record {
       stands = record {
         idle = record {
-          count = c.requires.stored.count ∙ sym (ap length c.load_list_into_memory.ensures.device.same);
+          count = c.requires.stored.count ∙ sym (ap length c.load_first_bytes_of_list_into_memory.ensures.device.same);
           none = λ b is. (let large = c.requires.large (c.requires.stored.flying b is).0 in absurd (omega arith));
         };
-        resting = record { geometry = c.in_ok-list.ensures.resting.geometry ∙ sym ((c.put.ensures.holds d).geometry); held = c.put.ensures.held };
+        resting = record { geometry = c.in_ok-list.ensures.resting.geometry ∙ sym ((c.write_buffered_content_at.ensures.holds d).geometry); held = c.write_buffered_content_at.ensures.held };
       };
       has = has;
       form = ap InMemory long ∙ sym (written_few c.args.limit c.args.place n (Finished stored.size stored.in_flight) (omega arith));
@@ -45,4 +45,4 @@ returns-then-size-limit-clause-written g c =
 
 pub returns-clause-owned : goal.returns-clause-owned
 returns-clause-owned g c =
-    hand_owned c.begin_list_with_bytes_over_finished.new.map (g.D.BlockDevice.blocks c.begin_list_with_bytes_over_finished.new.dev) (g.D.BlockDevice.geometry c.args.dev.now) c.in_ok-hand.hand _ c.in_ok-hand.ensures.written.going (owned_is _ c.in_ok-hand.ensures.base.blocks)
+    hand_owned c.begin_list_over_finished_list_with_bytes.new.map (g.D.BlockDevice.blocks c.begin_list_over_finished_list_with_bytes.new.dev) (g.D.BlockDevice.geometry c.args.dev.now) c.in_ok-hand.hand _ c.in_ok-hand.ensures.written.going (owned_is _ c.in_ok-hand.ensures.base.blocks)

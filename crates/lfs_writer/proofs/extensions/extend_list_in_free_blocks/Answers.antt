@@ -1,10 +1,10 @@
 use Rattle.std.proofs.Common.{ℕ, ◌≡◌, ◌+◌, ◌-◌, ◌≤◌, List, length, sym, ap, ◌∙◌, subst, arith, length-append}
 use Rattle.std.proofs.lemmas.Option.{slice_get_within}
 use Rattle.lfs_device.specs.declared.geometry.Geometry.{Geometry}
-use Rattle.lfs_model.specs.BlockSets.{BlockStateList, IsFree}
+use Rattle.lfs_model.specs.BlockSets.{BlockStateList, IsBlockFree}
 use Rattle.lfs_model.specs.BlockSets.BlockState.{Free}
 use Rattle.lfs_model.specs.SkipLists.{list_block_count_for_size}
-use Rattle.lfs_ctz.specs.Growing.{blocks_kept_when_growing, unwritten_block_of_list, list_size_by_block_size}
+use Rattle.lfs_ctz.specs.Growing.{blocks_kept_when_growing, unwritten_block_of_list, growing_list_size_with_block_size}
 use Rattle.lfs_writer.specs.TakenBlocks.{TakesFreeBlocks}
 use Rattle.lfs_writer.proofs.Pushed.{length-kept, leaves_apart, grows, marks}
 use Rattle.lfs_writer.proofs.extensions.extend_list_in_free_blocks.Goals as goal
@@ -34,7 +34,7 @@ push-requires g c =
           let within = slice_get_within c.args.map.now _ Free (takes.free k x l) in
           omega (arith, within, (g.met.D.BlockDevice.shape c.args.dev.now).count, marked.count);
       distinct = takes.distinct;
-      apart = λ k x l j y m e. marked.kept j y m (subst (IsFree c.args.map.now) (sym e) (takes.free k x l));
+      apart = λ k x l j y m e. marked.kept j y m (subst (IsBlockFree c.args.map.now) (sym e) (takes.free k x l));
     }
 
 pub returns-in_err-push-clause-device : goal.returns-in_err-push-clause-device
@@ -67,8 +67,8 @@ returns-clause-extended g c =
     let all = ap length pushed.kept in
     let sum = length-append (blocks_kept_when_growing d was) c.as_slice.result.now in
     let taken = c.in_ok-blocks.ensures.count in
-    let size : list_size_by_block_size now.geometry.block_size now ≡ list_size_by_block_size c.args.list.now.geometry.block_size was + length c.args.bytes.now =
-    ap (λ (k : Geometry). list_size_by_block_size k.block_size now) pushed.geometry ∙ pushed.sum in
+    let size : growing_list_size_with_block_size now.geometry.block_size now ≡ growing_list_size_with_block_size c.args.list.now.geometry.block_size was + length c.args.bytes.now =
+    ap (λ (k : Geometry). growing_list_size_with_block_size k.block_size now) pushed.geometry ∙ pushed.sum in
     record {
       geometry = pushed.geometry;
       growing = pushed.growing;
@@ -76,7 +76,7 @@ returns-clause-extended g c =
       sum = size;
       own = record {
         own = pushed.blocks ∙ sym pushed.kept;
-        many = many c.args.list.now.geometry now.geometry _ (list_size_by_block_size c.args.list.now.geometry.block_size was + length c.args.bytes.now) _ (length (blocks_kept_when_growing d was)) c.needed-count.result (length c.as_slice.result.now)
+        many = many c.args.list.now.geometry now.geometry _ (growing_list_size_with_block_size c.args.list.now.geometry.block_size was + length c.args.bytes.now) _ (length (blocks_kept_when_growing d was)) c.needed-count.result (length c.as_slice.result.now)
             pushed.geometry size (omega arith) (omega arith) (omega arith) (omega arith);
         listed = waits.listed;
       };

@@ -31,20 +31,20 @@ returns-clause-truncated g c =
     let size = c.size.ensures in
     let low = c.min.ensures in
     let keep : c.min.result ≡ min (length old) c.args.size = omega arith in
-    let has = c.put.ensures.rest ∙ ap (λ (l : List ℕ). contents_after_write l c.args.size []) c.cut.ensures.rest ∙ resized old c.min.result c.args.size keep in
+    let has = c.write_buffered_content_at.ensures.rest ∙ ap (λ (l : List ℕ). contents_after_write l c.args.size []) c.truncate_buffered_content.ensures.rest ∙ resized old c.min.result c.args.size keep in
     record {
       stands = record {
         idle = quiet.idle;
-        resting = record { geometry = quiet.resting.geometry ∙ sym ((c.put.ensures.holds d).geometry ∙ (c.cut.ensures.holds d).geometry); held = c.put.ensures.held };
+        resting = record { geometry = quiet.resting.geometry ∙ sym ((c.write_buffered_content_at.ensures.holds d).geometry ∙ (c.truncate_buffered_content.ensures.holds d).geometry); held = c.write_buffered_content_at.ensures.held };
       };
       has = has;
       form = ap InMemory (ap length has ∙ length-resized c.args.size old) ∙ truncated_held c.args.limit c.args.size (length old) (let few = c.if-size-limit.false in omega arith);
     }
 
-pub put-requires-clause-room : goal.put-requires-clause-room
-put-requires-clause-room g c =
+pub write_buffered_content_at-requires-clause-room : goal.write_buffered_content_at-requires-clause-room
+write_buffered_content_at-requires-clause-room g c =
     let d : Blocks = g.D.BlockDevice.blocks c.args.dev.now in
-    let same = ap (λ (k : Geometry). k.block_size) ((c.cut.ensures.holds d).geometry ∙ sym c.requires.quiet.resting.geometry) in
+    let same = ap (λ (k : Geometry). k.block_size) ((c.truncate_buffered_content.ensures.holds d).geometry ∙ sym c.requires.quiet.resting.geometry) in
     let few = c.if-size-limit.false in
     let short = c.requires.short in
     omega arith

@@ -31,7 +31,7 @@ releasing-init g c =
     }
 
 pub returns-in_err-block-clause-device : goal.returns-in_err-block-clause-device
-returns-in_err-block-clause-device g c = read_on g.D.BlockDevice c.releasing.invariant.device c.head_before.ensures.reading.device
+returns-in_err-block-clause-device g c = read_on g.D.BlockDevice c.releasing.invariant.device c.head_of_list_before_block.ensures.reading.device
 
 -- a list's blocks are all there
 never_corrupt : {T : Type 0} (x : Error) → (x ≡ Error.Io) ⊎ (x ≡ Error.Corrupt) → (◌≡◌ {A = Result T Error} (Err x) (Err Error.Corrupt) → ⊥) → x ≡ Error.Io
@@ -72,6 +72,6 @@ releasing-preserved g c =
       here = λ some. next_is d _ count head (index - 1) c.releasing.block _ inv.device.same c.requires.chain some (omega arith) here (c.in_ok-block.ensures.word some);
       released = releases_here c.args.map.now c.releasing.map c.release_block_in_flight.new.map d count head (index - 1) c.releasing.block (omega arith) here
           (subst (λ n. ReleasesBlocksInFlight c.args.map.now c.releasing.map (drop n (list_blocks_from_head d count head))) (sym next) inv.released) c.release_block_in_flight.ensures;
-      device = read_on g.D.BlockDevice inv.device c.head_before.ensures.reading.device;
+      device = read_on g.D.BlockDevice inv.device c.head_of_list_before_block.ensures.reading.device;
       quiet = quiet g.D.BlockDevice c.in_ok-block.ensures.reading.faults ∙ inv.quiet;
     }

@@ -1,6 +1,6 @@
 use Rattle.std.proofs.Common.{◌≡◌, ◌≤◌, ◌<◌, ◌-◌, drop, slice_index}
 use Rattle.lfs_device.specs.Calls.{ReadsOnly}
-use Rattle.lfs_model.specs.History.{faults}
+use Rattle.lfs_model.specs.History.{fault_count_of_history}
 use Rattle.lfs_model.specs.SkipLists.{list_blocks_from_head}
 use Rattle.lfs_writer.specs.Releases.{ReleasesBlocksInFlight}
 use Rattle.lfs_writer.proofs.releases.release_list_blocks_from.Given as goal
@@ -15,7 +15,7 @@ invariant-releasing g l =
       here : 0 < l.index → l.block ≡ slice_index blocks (l.index - 1);
       released : ReleasesBlocksInFlight l.fn.map l.map (drop l.index blocks);
       device : ReadsOnly g.D.BlockDevice old l.dev;
-      quiet : faults (g.D.BlockDevice.history l.dev) ≡ faults (g.D.BlockDevice.history old);
+      quiet : fault_count_of_history (g.D.BlockDevice.history l.dev) ≡ fault_count_of_history (g.D.BlockDevice.history old);
     }
 
 abbrev pub decreases-releasing : goal.decreases-releasing

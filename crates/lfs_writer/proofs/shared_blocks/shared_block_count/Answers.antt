@@ -14,7 +14,7 @@ at_same : (d e : Blocks) (count head index block : ℕ) → e ≡ d → (0 < ind
 at_same d e count head index block same is some = is some ∙ ap (λ (x : Blocks). slice_index (list_blocks_from_head x count head) (index - 1)) same
 
 pub returns-in_err-twin-clause-device : goal.returns-in_err-twin-clause-device
-returns-in_err-twin-clause-device g c = read_on g.D.BlockDevice c.last_of_first_blocks.ensures.device c.last_of_first_blocks-2.ensures.device
+returns-in_err-twin-clause-device g c = read_on g.D.BlockDevice c.list_block_before_index.ensures.device c.list_block_before_index-2.ensures.device
 
 pub sharing-init : goal.sharing-init
 sharing-init g c =
@@ -26,9 +26,9 @@ sharing-init g c =
       within = omega arith;
       below = omega arith;
       here = c.in_ok-block.ensures.block;
-      there = at_same d _ c.args.other_count c.args.other c.min-index.result c.in_ok-twin.twin c.last_of_first_blocks.ensures.device.same c.in_ok-twin.ensures.block;
+      there = at_same d _ c.args.other_count c.args.other c.min-index.result c.in_ok-twin.twin c.list_block_before_index.ensures.device.same c.in_ok-twin.ensures.block;
       most = λ first second. absurd (omega arith);
-      device = read_on g.D.BlockDevice c.last_of_first_blocks.ensures.device c.last_of_first_blocks-2.ensures.device;
+      device = read_on g.D.BlockDevice c.list_block_before_index.ensures.device c.list_block_before_index-2.ensures.device;
       quiet = quiet g.D.BlockDevice c.in_ok-twin.ensures.reports.faults ∙ quiet g.D.BlockDevice c.in_ok-block.ensures.reports.faults;
       few = omega arith;
     }
@@ -48,8 +48,8 @@ returns-then-block-twin-clause-few g c =
     let apart = apart_is (g.D.BlockDevice.blocks c.args.dev.now) c.args.count c.args.head c.args.other_count c.args.other c.sharing.index in
     omega arith
 
-pub head_before-requires : goal.head_before-requires
-head_before-requires g c =
+pub head_of_list_before_block-requires : goal.head_of_list_before_block-requires
+head_of_list_before_block-requires g c =
     let inv = c.sharing.invariant in
     let d : Blocks = g.D.BlockDevice.blocks c.args.dev.now in
     let test = c.sharing-test.true in
@@ -60,8 +60,8 @@ head_before-requires g c =
     let same = ap (λ (k : Geometry). k.block_count) inv.device.geometry in
     omega arith
 
-pub head_before-requires-in-sharing : goal.head_before-requires-in-sharing
-head_before-requires-in-sharing g c =
+pub head_of_list_before_block-requires-in-sharing : goal.head_of_list_before_block-requires-in-sharing
+head_of_list_before_block-requires-in-sharing g c =
     let inv = c.sharing.invariant in
     let d : Blocks = g.D.BlockDevice.blocks c.args.dev.now in
     let test = c.sharing-test.true in
@@ -69,11 +69,11 @@ head_before-requires-in-sharing g c =
     let here = inv.there (omega arith) in
     let there = in_range_at d c.args.other_count c.args.other (c.sharing.index - 1) c.requires.other (omega arith) in
     let shape = (g.met.D.BlockDevice.shape c.args.dev.now).count in
-    let same = ap (λ (k : Geometry). k.block_count) (c.head_before.ensures.reading.device.geometry ∙ inv.device.geometry) in
+    let same = ap (λ (k : Geometry). k.block_count) (c.head_of_list_before_block.ensures.reading.device.geometry ∙ inv.device.geometry) in
     omega arith
 
 pub returns-in_err-block-2-clause-device : goal.returns-in_err-block-2-clause-device
-returns-in_err-block-2-clause-device g c = read_on g.D.BlockDevice c.sharing.invariant.device c.head_before.ensures.reading.device
+returns-in_err-block-2-clause-device g c = read_on g.D.BlockDevice c.sharing.invariant.device c.head_of_list_before_block.ensures.reading.device
 
 pub returns-in_err-block-2-clause-reports : goal.returns-in_err-block-2-clause-reports
 returns-in_err-block-2-clause-reports g c =
@@ -93,14 +93,14 @@ returns-in_err-block-2-clause-reports g c =
 
 pub returns-in_err-twin-2-clause-device : goal.returns-in_err-twin-2-clause-device
 returns-in_err-twin-2-clause-device g c =
-    read_on g.D.BlockDevice (read_on g.D.BlockDevice c.sharing.invariant.device c.head_before.ensures.reading.device) c.head_before-in-sharing.ensures.reading.device
+    read_on g.D.BlockDevice (read_on g.D.BlockDevice c.sharing.invariant.device c.head_of_list_before_block.ensures.reading.device) c.head_of_list_before_block-in-sharing.ensures.reading.device
 
 pub returns-in_err-twin-2-clause-reports : goal.returns-in_err-twin-2-clause-reports
 returns-in_err-twin-2-clause-reports g c =
     let inv = c.sharing.invariant in
     let test = c.sharing-test.true in
     let below = inv.below in
-    let first = c.head_before.ensures.reading.device in
+    let first = c.head_of_list_before_block.ensures.reading.device in
     let shape = (g.met.D.BlockDevice.shape c.args.dev.now).count in
     let same = ap (λ (k : Geometry). k.block_count) (first.geometry ∙ inv.device.geometry) in
     let p = err_from_is_err_and c.from_residual-in_err-twin-2.result c.from_residual-in_err-twin-2.ensures.1 in
@@ -123,14 +123,14 @@ sharing-preserved g c =
     let few = inv.few in
     let one = c.in_ok-block-2.ensures.few in
     let two = c.in_ok-twin-2.ensures.few in
-    let first = c.head_before.ensures.reading.device in
+    let first = c.head_of_list_before_block.ensures.reading.device in
     record {
       within = omega arith;
       below = omega arith;
       here = λ some. next_is d _ c.args.count c.args.head (index - 1) c.sharing.block _ inv.device.same c.requires.chain some (omega arith) (inv.here (omega arith)) (c.in_ok-block-2.ensures.word some);
       there = λ some. next_is d _ c.args.other_count c.args.other (index - 1) c.sharing.twin _ (first.same ∙ inv.device.same) c.requires.other some (omega arith) (inv.there (omega arith)) (c.in_ok-twin-2.ensures.word some);
       most = λ low high same. c.if-block-twin.false (inv.here (omega arith) ∙ same ∙ sym (inv.there (omega arith)));
-      device = read_on g.D.BlockDevice (read_on g.D.BlockDevice inv.device first) c.head_before-in-sharing.ensures.reading.device;
+      device = read_on g.D.BlockDevice (read_on g.D.BlockDevice inv.device first) c.head_of_list_before_block-in-sharing.ensures.reading.device;
       quiet = quiet g.D.BlockDevice c.in_ok-twin-2.ensures.reading.faults ∙ quiet g.D.BlockDevice c.in_ok-block-2.ensures.reading.faults ∙ inv.quiet;
       few = omega arith;
     }

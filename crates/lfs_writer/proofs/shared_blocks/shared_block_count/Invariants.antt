@@ -1,6 +1,6 @@
 use Rattle.std.proofs.Common.{◌≡◌, ◌≢◌, ◌≤◌, ◌<◌, ◌+◌, ◌-◌, slice_index}
 use Rattle.lfs_device.specs.Calls.{ReadsOnly}
-use Rattle.lfs_model.specs.History.{faults, reads}
+use Rattle.lfs_model.specs.History.{fault_count_of_history, read_count_of_history}
 use Rattle.lfs_model.specs.SkipLists.{list_blocks_from_head}
 use Rattle.lfs_writer.proofs.shared_blocks.shared_block_count.Given as goal
 
@@ -16,8 +16,8 @@ invariant-sharing g l =
       there : 0 < l.index → l.twin ≡ slice_index others (l.index - 1);
       most : l.index < l.fn.count → l.index < l.fn.other_count → slice_index blocks l.index ≢ slice_index others l.index;
       device : ReadsOnly g.D.BlockDevice old l.dev;
-      quiet : faults (g.D.BlockDevice.history l.dev) ≡ faults (g.D.BlockDevice.history old);
-      few : reads (g.D.BlockDevice.history l.dev) + (l.index + l.index) ≤ reads (g.D.BlockDevice.history old) + (l.fn.count + l.fn.other_count);
+      quiet : fault_count_of_history (g.D.BlockDevice.history l.dev) ≡ fault_count_of_history (g.D.BlockDevice.history old);
+      few : read_count_of_history (g.D.BlockDevice.history l.dev) + (l.index + l.index) ≤ read_count_of_history (g.D.BlockDevice.history old) + (l.fn.count + l.fn.other_count);
     }
 
 abbrev pub decreases-sharing : goal.decreases-sharing

@@ -1,5 +1,5 @@
 use Rattle.std.proofs.Common.{[]}
 use Rattle.example.proofs.own_device.Chip.new.Given as goal
 
-abbrev pub ghost-from_proof : goal.ghost-from_proof
-ghost-from_proof a = []
+abbrev pub ghost-with_history_chosen_by_proof : goal.ghost-with_history_chosen_by_proof
+ghost-with_history_chosen_by_proof a = []

@@ -25,26 +25,26 @@ invariant_of-self-clause-size c =
     let d = c.args.self.now in
     let size = d.geometry.block_size in
     let room = size_fits size d.geometry.block_count c.args.block (length d.bytes.items) c.requires d.size in
-    ap length c.fill.ensures.filled ∙ length-overwritten d.bytes.items c.position-start.result (replicate size 255) (omega (arith, room, length-replicate {A = ℕ} size 255)) ∙ d.size
+    ap length c.fill_with_erased_bytes.ensures.filled ∙ length-overwritten d.bytes.items c.position-start.result (replicate size 255) (omega (arith, room, length-replicate {A = ℕ} size 255)) ∙ d.size
 
 pub returns-clause-others : goal.returns-clause-others
 returns-clause-others c =
     let d = c.args.self.now in
-    rw (after d.geometry.block_size d.geometry.block_count c.args.block _ d.bytes.items _ d.size c.requires c.fill.ensures.filled c.position-start.ensures)
+    rw (after d.geometry.block_size d.geometry.block_count c.args.block _ d.bytes.items _ d.size c.requires c.fill_with_erased_bytes.ensures.filled c.position-start.ensures)
     (alone d.geometry.block_size d.geometry.block_count c.args.block d.bytes.items d.size c.requires)
 
 pub returns-clause-history : goal.returns-clause-history
 returns-clause-history c =
     let d = c.args.self.now in
-    rw (after d.geometry.block_size d.geometry.block_count c.args.block _ d.bytes.items _ d.size c.requires c.fill.ensures.filled c.position-start.ensures) c.from_proof-trace.ensures
+    rw (after d.geometry.block_size d.geometry.block_count c.args.block _ d.bytes.items _ d.size c.requires c.fill_with_erased_bytes.ensures.filled c.position-start.ensures) c.with_history_chosen_by_proof-trace.ensures
 
 pub invariant_of-self-clause-newest : goal.invariant_of-self-clause-newest
 invariant_of-self-clause-newest c =
     let d = c.args.self.now in
-    newest_call _ _ _ _ _ _ _ c.from_proof-trace.ensures
-    (after d.geometry.block_size d.geometry.block_count c.args.block _ d.bytes.items _ d.size c.requires c.fill.ensures.filled c.position-start.ensures)
+    newest_call _ _ _ _ _ _ _ c.with_history_chosen_by_proof-trace.ensures
+    (after d.geometry.block_size d.geometry.block_count c.args.block _ d.bytes.items _ d.size c.requires c.fill_with_erased_bytes.ensures.filled c.position-start.ensures)
 
 pub invariant_of-self-clause-conforms : goal.invariant_of-self-clause-conforms
 invariant_of-self-clause-conforms c =
     let d = c.args.self.now in
-    conforms_next c.from_proof-trace.ensures (conforms_erase _ _ _ _ (alone d.geometry.block_size d.geometry.block_count c.args.block d.bytes.items d.size c.requires)) d.conforms
+    conforms_next c.with_history_chosen_by_proof-trace.ensures (conforms_erase _ _ _ _ (alone d.geometry.block_size d.geometry.block_count c.args.block d.bytes.items d.size c.requires)) d.conforms

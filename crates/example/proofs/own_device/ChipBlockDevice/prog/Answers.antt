@@ -10,12 +10,12 @@ pub invariant_of-self-clause-size : goal.invariant_of-self-clause-size
 invariant_of-self-clause-size c =
     let d = c.args.self.now in
     let room = size_fits d.geometry.block_size d.geometry.block_count c.args.block (length d.bytes.items) c.requires.in_device d.size in
-    ap length c.overwrite.ensures ∙ length-overwritten d.bytes.items c.position-start.result c.args.bytes.now (omega (arith, room)) ∙ d.size
+    ap length c.overwrite_chip_bytes_at_offset.ensures ∙ length-overwritten d.bytes.items c.position-start.result c.args.bytes.now (omega (arith, room)) ∙ d.size
 
 pub returns-clause-ok : goal.returns-clause-ok
 returns-clause-ok c =
     let d = c.args.self.now in
-    ap (cut d.geometry.block_size d.geometry.block_count) (c.overwrite.ensures ∙ ap (λ at. bytes_after_overwrite_at d.bytes.items at c.args.bytes.now) c.position-start.ensures)
+    ap (cut d.geometry.block_size d.geometry.block_count) (c.overwrite_chip_bytes_at_offset.ensures ∙ ap (λ at. bytes_after_overwrite_at d.bytes.items at c.args.bytes.now) c.position-start.ensures)
     ∙ cut-bytes_after_overwrite_at d.geometry.block_size d.geometry.block_count d.bytes.items c.args.block c.args.off c.args.bytes.now d.size c.requires.in_device c.requires.in_block
 
 pub returns-clause-others : goal.returns-clause-others
@@ -26,13 +26,13 @@ returns-clause-others c =
     rw (returns-clause-ok c) (AreBlocksEqualExceptOne-programmed disk c.args.block c.args.off c.args.bytes.now (omega (arith, shape.count)) (omega (arith, shape.sizes c.args.block c.requires.in_device)))
 
 pub returns-clause-history : goal.returns-clause-history
-returns-clause-history c = rw (returns-clause-ok c) c.from_proof-trace.ensures
+returns-clause-history c = rw (returns-clause-ok c) c.with_history_chosen_by_proof-trace.ensures
 
 pub invariant_of-self-clause-newest : goal.invariant_of-self-clause-newest
 invariant_of-self-clause-newest c =
     let d = c.args.self.now in
-    newest_call _ _ _ _ _ _ _ c.from_proof-trace.ensures
-    (ap (cut d.geometry.block_size d.geometry.block_count) (c.overwrite.ensures ∙ ap (λ at. bytes_after_overwrite_at d.bytes.items at c.args.bytes.now) c.position-start.ensures)
+    newest_call _ _ _ _ _ _ _ c.with_history_chosen_by_proof-trace.ensures
+    (ap (cut d.geometry.block_size d.geometry.block_count) (c.overwrite_chip_bytes_at_offset.ensures ∙ ap (λ at. bytes_after_overwrite_at d.bytes.items at c.args.bytes.now) c.position-start.ensures)
     ∙ cut-bytes_after_overwrite_at d.geometry.block_size d.geometry.block_count d.bytes.items c.args.block c.args.off c.args.bytes.now d.size c.requires.in_device c.requires.in_block)
 
 pub invariant_of-self-clause-conforms : goal.invariant_of-self-clause-conforms
@@ -41,4 +41,4 @@ invariant_of-self-clause-conforms c =
     let disk : Blocks = cut d.geometry.block_size d.geometry.block_count d.bytes.items in
     let shape = HasBlocksOfCountAndSize-cut d.geometry.block_size d.geometry.block_count d.bytes.items d.size in
     let same = AreBlocksEqualExceptOne-programmed disk c.args.block c.args.off c.args.bytes.now (omega (arith, shape.count)) (omega (arith, shape.sizes c.args.block c.requires.in_device)) in
-    conforms_next c.from_proof-trace.ensures (conforms_program _ _ _ _ _ _ (λ ok. refl) same) d.conforms
+    conforms_next c.with_history_chosen_by_proof-trace.ensures (conforms_program _ _ _ _ _ _ (λ ok. refl) same) d.conforms

@@ -1,17 +1,17 @@
 use Rattle.std.specs.Prelude.{All}
 use Rattle.std.proofs.Common.{ap, true, false, ◌≢◌, ℕ, ◌≡◌, ◌≤◌, ◌+◌, ◌++◌, ◌∙◌, List, [], ◌∷◌, length, take, sym, subst, arith}
-use Rattle.lfs_model.specs.History.{CallEvent}
+use Rattle.lfs_model.specs.History.{DeviceCallEvent}
 use Rattle.lfs_device.specs.declared.geometry.Geometry.{Geometry}
 use Rattle.lfs_model.specs.Blocks.{Blocks, HasBlocksOfCountAndSize, AreBlocksEqualExceptOne}
 use Rattle.lfs_model.specs.SkipLists.{list_blocks_from_head, AreListBlocks, data_of_list_block}
 use Rattle.lfs_ctz.specs.declared.extender.Extender.TheInside.{Inside}
 use Rattle.lfs_ctz.specs.declared.rest.RestLocation.TheVariants.{Closed, Shared, Handed, Held}
 use Rattle.lfs_ctz.specs.Fields.{growing_list_view}
-use Rattle.lfs_ctz.specs.Growing.{GrowingList, content_of, blocks_of_growing_list, size_of_growing_list, unwritten_block_of_list, block_of_rest, unwritten_block_of_rest, is_rest_in_buffer, HasGrowingListOnDisk}
+use Rattle.lfs_ctz.specs.Growing.{GrowingList, bytes_of_growing_list, blocks_of_growing_list, size_of_growing_list, unwritten_block_of_list, block_after_full_blocks, unwritten_block_after_full_blocks, are_last_bytes_only_in_buffer, HasGrowingListOnDisk}
 use Rattle.lfs_ctz.proofs.Geometries.{shaped}
 use Rattle.lfs_ctz.proofs.Rests.{IsCounted, counted}
-use Rattle.lfs_ctz.specs.Counts.{WritesBlocksOnceEach}
-use Rattle.lfs_ctz.specs.Finished.{IsEndedList}
+use Rattle.lfs_ctz.specs.Counts.{AddsOneEraseAndProgramPerBlock}
+use Rattle.lfs_ctz.specs.Finished.{IsSkipListWithBytesAndBlocks}
 use Rattle.lfs_ctz.specs.declared.rest.RestLocation.{RestLocation}
 use Rattle.lfs_ctz.proofs.Called.{changes_none, changes_one}
 use Rattle.lfs_ctz.proofs.Filling.{closed_end, shared_end, handed_end}
@@ -24,20 +24,20 @@ module _ (d : Blocks) (v : GrowingList) (size : ℕ) (is_counted : IsCounted v s
   any : 1 ≤ size
   any = omega (arith, some, is_counted.sum)
 
-  in_closed : v.stand ≡ Closed → IsEndedList d v.geometry.block_size v.head size (content_of d v) (blocks_of_growing_list d v)
+  in_closed : v.stand ≡ Closed → IsSkipListWithBytesAndBlocks d v.geometry.block_size v.head size (bytes_of_growing_list d v) (blocks_of_growing_list d v)
   in_closed is =
-      subst (λ t. IsEndedList d v.geometry.block_size v.head size (content_of d v) (list_blocks_from_head d v.full v.head ++ block_of_rest t)) (sym is)
+      subst (λ t. IsSkipListWithBytesAndBlocks d v.geometry.block_size v.head size (bytes_of_growing_list d v) (list_blocks_from_head d v.full v.head ++ block_after_full_blocks t)) (sym is)
       (closed_end d v.geometry.block_size geometry.block_count v.full v.head size v.rest v.geometry.valid.no_smaller divided held.chain (rw is at held.stand) any is_counted.fits is_counted.sum)
 
-  in_shared : (b : ℕ) → v.stand ≡ Shared b → IsEndedList d v.geometry.block_size b size (content_of d v) (blocks_of_growing_list d v)
+  in_shared : (b : ℕ) → v.stand ≡ Shared b → IsSkipListWithBytesAndBlocks d v.geometry.block_size b size (bytes_of_growing_list d v) (blocks_of_growing_list d v)
   in_shared b is =
-      subst (λ t. IsEndedList d v.geometry.block_size b size (content_of d v) (list_blocks_from_head d v.full v.head ++ block_of_rest t)) (sym is)
+      subst (λ t. IsSkipListWithBytesAndBlocks d v.geometry.block_size b size (bytes_of_growing_list d v) (list_blocks_from_head d v.full v.head ++ block_after_full_blocks t)) (sym is)
       (shared_end d v.geometry.block_size geometry.block_count v.full v.head b size v.rest v.geometry.valid.no_smaller divided held.chain (rw is at held.stand) (let r = is_counted.short in omega arith) is_counted.fits is_counted.sum)
 
   in_handed : (new : Blocks) (b : ℕ) → v.stand ≡ Handed b → AreListBlocks new (v.full + 1) b → list_blocks_from_head new (v.full + 1) b ≡ list_blocks_from_head d v.full v.head ++ b ∷ [] → AreBlocksEqualExceptOne b d new
-      → take (length v.rest) (data_of_list_block new (v.full, b)) ≡ v.rest → IsEndedList new v.geometry.block_size b size (content_of d v) (blocks_of_growing_list d v)
+      → take (length v.rest) (data_of_list_block new (v.full, b)) ≡ v.rest → IsSkipListWithBytesAndBlocks new v.geometry.block_size b size (bytes_of_growing_list d v) (blocks_of_growing_list d v)
   in_handed new b is more back but begins =
-      subst (λ t. IsEndedList new v.geometry.block_size b size (content_of d v) (list_blocks_from_head d v.full v.head ++ block_of_rest t)) (sym is)
+      subst (λ t. IsSkipListWithBytesAndBlocks new v.geometry.block_size b size (bytes_of_growing_list d v) (list_blocks_from_head d v.full v.head ++ block_after_full_blocks t)) (sym is)
       (handed_end d new v.geometry.block_size geometry.block_count v.full v.head b size v.rest v.geometry.valid.no_smaller divided held.chain (rw is at held.stand) more back but begins
       (let r = is_counted.short in omega arith) is_counted.fits is_counted.sum)
 
@@ -47,7 +47,7 @@ stood e v t shown is = sym (ap (λ (g : GrowingList). g.stand) shown) ∙ is
 
 pub returns-in-Closed-clause-finished : goal.returns-in-Closed-clause-finished
 returns-in-Closed-clause-finished g c =
-    subst (λ (v : GrowingList). IsEndedList (g.D.BlockDevice.blocks c.args.dev.now) c.args.self.geometry.block_size v.head c.self.inside.size (content_of (g.D.BlockDevice.blocks c.args.dev.now) c.args.self) (blocks_of_growing_list (g.D.BlockDevice.blocks c.args.dev.now) c.args.self)) (sym c.self.view_is)
+    subst (λ (v : GrowingList). IsSkipListWithBytesAndBlocks (g.D.BlockDevice.blocks c.args.dev.now) c.args.self.geometry.block_size v.head c.self.inside.size (bytes_of_growing_list (g.D.BlockDevice.blocks c.args.dev.now) c.args.self) (blocks_of_growing_list (g.D.BlockDevice.blocks c.args.dev.now) c.args.self)) (sym c.self.view_is)
     (in_closed (g.D.BlockDevice.blocks c.args.dev.now) c.args.self c.self.inside.size (counted c.self.inside c.args.self c.self.invariant c.self.view_is) _ c.requires.stands.geometry (g.met.D.BlockDevice.shape c.args.dev.now) c.requires.stands.growing c.requires.some
     (stood c.self.inside c.args.self Closed c.self.view_is c.in-Closed.is))
 
@@ -69,29 +69,29 @@ pub returns-clause-size : goal.returns-clause-size
 returns-clause-size g c = (counted c.self.inside c.args.self c.self.invariant c.self.view_is).sum
 
 -- contents that are in memory alone aren't ended
-never_held : (t : RestLocation) → is_rest_in_buffer t ≡ false → t ≡ Held → ⊥
-never_held t listed is = let other : true ≡ false = subst (λ k. is_rest_in_buffer k ≡ false) is listed in absurd (cc)
+never_held : (t : RestLocation) → are_last_bytes_only_in_buffer t ≡ false → t ≡ Held → ⊥
+never_held t listed is = let other : true ≡ false = subst (λ k. are_last_bytes_only_in_buffer k ≡ false) is listed in absurd (cc)
 
 pub returns-in-Held-clause-finished : goal.returns-in-Held-clause-finished
 returns-in-Held-clause-finished g c = absurd (never_held c.args.self.stand c.requires.listed (stood c.self.inside c.args.self Held c.self.view_is c.in-Held.is))
 
 -- where no block waits, none is written
-none_written : (v : GrowingList) (old : List CallEvent) → unwritten_block_of_list v ≡ [] → WritesBlocksOnceEach 0 (length (unwritten_block_of_list v)) old old
+none_written : (v : GrowingList) (old : List DeviceCallEvent) → unwritten_block_of_list v ≡ [] → AddsOneEraseAndProgramPerBlock 0 (length (unwritten_block_of_list v)) old old
 none_written v old none = record { erased = omega (arith, ap length none); programmed = omega (arith, ap length none) }
 
 pub returns-in-Closed-clause-writes : goal.returns-in-Closed-clause-writes
-returns-in-Closed-clause-writes g c = none_written c.args.self _ (ap unwritten_block_of_rest (stood c.self.inside c.args.self Closed c.self.view_is c.in-Closed.is))
+returns-in-Closed-clause-writes g c = none_written c.args.self _ (ap unwritten_block_after_full_blocks (stood c.self.inside c.args.self Closed c.self.view_is c.in-Closed.is))
 
 pub returns-in-Shared-clause-writes : goal.returns-in-Shared-clause-writes
-returns-in-Shared-clause-writes g c = none_written c.args.self _ (ap unwritten_block_of_rest (stood c.self.inside c.args.self (Shared c.in-Shared.block) c.self.view_is c.in-Shared.is))
+returns-in-Shared-clause-writes g c = none_written c.args.self _ (ap unwritten_block_after_full_blocks (stood c.self.inside c.args.self (Shared c.in-Shared.block) c.self.view_is c.in-Shared.is))
 
 pub returns-in-Held-clause-writes : goal.returns-in-Held-clause-writes
-returns-in-Held-clause-writes g c = none_written c.args.self _ (ap unwritten_block_of_rest (stood c.self.inside c.args.self Held c.self.view_is c.in-Held.is))
+returns-in-Held-clause-writes g c = none_written c.args.self _ (ap unwritten_block_after_full_blocks (stood c.self.inside c.args.self Held c.self.view_is c.in-Held.is))
 
 pub returns-clause-writes : goal.returns-clause-writes
 returns-clause-writes g c =
     let one = c.in_ok-write_last_block-in-Handed.ensures.writes in
-    let count = ap (λ t. length (unwritten_block_of_rest t)) (stood c.self.inside c.args.self (Handed c.in-Handed.block) c.self.view_is c.in-Handed.is) in
+    let count = ap (λ t. length (unwritten_block_after_full_blocks t)) (stood c.self.inside c.args.self (Handed c.in-Handed.block) c.self.view_is c.in-Handed.is) in
     record { erased = omega (arith, one.erased, count); programmed = omega (arith, one.programmed, count) }
 
 pub returns-in-Closed-clause-device : goal.returns-in-Closed-clause-device
@@ -104,8 +104,8 @@ pub returns-in-Held-clause-device : goal.returns-in-Held-clause-device
 returns-in-Held-clause-device g c = changes_none g.D.BlockDevice _ c.args.dev.now
 
 -- the block that waits is written
-written : (t : RestLocation) (b : ℕ) → t ≡ Handed b → (other : ℕ) → All (λ c. c ≢ other) (unwritten_block_of_rest t) → b ≢ other
-written t b is other apart = (subst (λ k. All (λ c. c ≢ other) (unwritten_block_of_rest k)) is apart) 0 0 (omega arith)
+written : (t : RestLocation) (b : ℕ) → t ≡ Handed b → (other : ℕ) → All (λ c. c ≢ other) (unwritten_block_after_full_blocks t) → b ≢ other
+written t b is other apart = (subst (λ k. All (λ c. c ≢ other) (unwritten_block_after_full_blocks k)) is apart) 0 0 (omega arith)
 
 pub returns-in_err-write_last_block-in-Handed-clause-device : goal.returns-in_err-write_last_block-in-Handed-clause-device
 returns-in_err-write_last_block-in-Handed-clause-device g c =

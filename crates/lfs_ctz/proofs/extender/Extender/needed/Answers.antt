@@ -1,16 +1,16 @@
 use Rattle.std.proofs.Common.{ℕ, suc, ◌≡◌, ◌+◌, ◌-◌, ◌*◌, ◌<◌, ◌≤◌, length, drop, ap, subst, arith}
 use Rattle.std.proofs.lemmas.List.{length-take}
-use Rattle.lfs_model.specs.SkipLists.{pointers_of}
-use Rattle.lfs_ctz.proofs.Sizes.{bytes_before-least, list_block_count_for_size-above, list_block_count_for_size-within}
+use Rattle.lfs_model.specs.SkipLists.{pointer_count_of_list_block}
+use Rattle.lfs_ctz.proofs.Sizes.{byte_count_before_list_block-least, list_block_count_for_size-above, list_block_count_for_size-within}
 use Rattle.lfs_ctz.specs.declared.extender.Extender.TheInside.{Inside}
-use Rattle.lfs_ctz.specs.Fields.{HasBufferOfOneBlock, growing_list_view}
+use Rattle.lfs_ctz.specs.Fields.{HasOneBlockBufferAndConsistentNumbers, growing_list_view}
 use Rattle.lfs_ctz.specs.declared.rest.RestLocation.{RestLocation}
 use Rattle.lfs_ctz.specs.declared.rest.RestLocation.TheVariants.{Closed, Shared, Handed, Held}
-use Rattle.lfs_ctz.specs.Growing.{GrowingList, size_of_growing_list, count_of_blocks_to_append, unwritten_block_of_rest}
+use Rattle.lfs_ctz.specs.Growing.{GrowingList, size_of_growing_list, count_of_blocks_to_append, unwritten_block_after_full_blocks}
 use Rattle.lfs_ctz.proofs.extender.Extender.needed.Goals as goal
 use Rattle.lfs_ctz.proofs.extender.Extender.needed.Goals.{in-Handed, in_default}
 
-few_pending : (t : RestLocation) (full all : ℕ) → full < all → full + length (unwritten_block_of_rest t) ≤ all
+few_pending : (t : RestLocation) (full all : ℕ) → full < all → full + length (unwritten_block_after_full_blocks t) ≤ all
 few_pending Closed full all lt = omega arith
 few_pending (Shared b) full all lt = omega arith
 few_pending (Handed b) full all lt = omega arith
@@ -20,7 +20,7 @@ pub overflow_add-result : goal.overflow_add-result
 overflow_add-result c =
     let e = c.self.inside in
     let step = c.self.invariant.in_step in
-    let few = bytes_before-least e.geometry.block_size e.full e.geometry.valid.no_smaller in
+    let few = byte_count_before_list_block-least e.geometry.block_size e.full e.geometry.valid.no_smaller in
     let sum = step.sum in
     let fits = step.fits in
     elim c.match-self.branch [ in-Handed w ↦ omega arith | in_default w ↦ omega arith ]
@@ -38,12 +38,12 @@ returns-clause-within c =
     let v : GrowingList = c.args.self.now in
     few_pending v.stand v.full _ (list_block_count_for_size-above v.geometry.block_size (size_of_growing_list v + c.args.n) v.full v.geometry.valid.no_smaller (let some = c.requires.some in omega arith))
 
-none_needed : (e : Inside) (n : ℕ) → HasBufferOfOneBlock e → length (unwritten_block_of_rest e.stand) ≡ 1 → n ≤ e.geometry.block_size - e.filled → 0 ≡ count_of_blocks_to_append (growing_list_view e) n
+none_needed : (e : Inside) (n : ℕ) → HasOneBlockBufferAndConsistentNumbers e → length (unwritten_block_after_full_blocks e.stand) ≡ 1 → n ≤ e.geometry.block_size - e.filled → 0 ≡ count_of_blocks_to_append (growing_list_view e) n
 none_needed e n has one fits =
     let step = has.in_step in
     let low = step.low in
     let high = step.high in
-    let rest = length-take (e.filled - 4 * pointers_of e.full) (drop (4 * pointers_of e.full) e.buffer.items) in
+    let rest = length-take (e.filled - 4 * pointer_count_of_list_block e.full) (drop (4 * pointer_count_of_list_block e.full) e.buffer.items) in
     let within = list_block_count_for_size-within e.geometry.block_size (size_of_growing_list (growing_list_view e) + n) (suc e.full) e.geometry.valid.no_smaller (omega arith) in
     omega arith
 
@@ -51,7 +51,7 @@ pub returns-then-n-self-clause-count : goal.returns-then-n-self-clause-count
 returns-then-n-self-clause-count c =
     let test = c.if-begun-eq1.true in
     subst (λ (g : GrowingList). 0 ≡ count_of_blocks_to_append g c.args.n) c.self.view_is
-    (none_needed c.self.inside c.args.n c.self.invariant (elim c.match-self.branch [ in-Handed w ↦ ap (λ t. length (unwritten_block_of_rest t)) w.in-Handed.is | in_default w ↦ absurd (omega (arith, w.begun-is)) ]) c.if-n-self.true)
+    (none_needed c.self.inside c.args.n c.self.invariant (elim c.match-self.branch [ in-Handed w ↦ ap (λ t. length (unwritten_block_after_full_blocks t)) w.in-Handed.is | in_default w ↦ absurd (omega (arith, w.begun-is)) ]) c.if-n-self.true)
 
 pub returns-then-n-self-clause-within : goal.returns-then-n-self-clause-within
 returns-then-n-self-clause-within c =

@@ -1,9 +1,9 @@
 use Rattle.std.proofs.Common.{ℕ, false, ◌≡◌, ◌≢◌, ◌≤◌, ◌+◌, ◌-◌, ◌++◌, length, take}
 use Rattle.std.specs.Prelude.{All}
-use Rattle.lfs_ctz.specs.Counts.{WritesBlocksOnceEach}
+use Rattle.lfs_ctz.specs.Counts.{AddsOneEraseAndProgramPerBlock}
 use Rattle.lfs_device.specs.Calls.{ChangesOnlyTheseBlocks}
-use Rattle.lfs_model.specs.History.{faults}
-use Rattle.lfs_ctz.specs.Growing.{HasGrowingListOnDisk, IsRestShorterThanBlock, blocks_of_growing_list, content_of, size_of_growing_list, is_list_only_in_buffer, blocks_kept_when_growing, unwritten_block_of_list}
+use Rattle.lfs_model.specs.History.{fault_count_of_history}
+use Rattle.lfs_ctz.specs.Growing.{HasGrowingListOnDisk, AreLastBytesShorterThanBlock, blocks_of_growing_list, bytes_of_growing_list, size_of_growing_list, are_last_bytes_of_list_only_in_buffer, blocks_kept_when_growing, unwritten_block_of_list}
 use Rattle.lfs_ctz.proofs.extender.Extender.push.Given as goal
 
 abbrev pub invariant-loop-done : goal.invariant-loop-done
@@ -18,15 +18,15 @@ invariant-loop-done g l =
       low : l.done ≤ length l.fn.bytes;
       some : l.used ≤ length l.fn.blocks;
       growing : HasGrowingListOnDisk (blocks l.dev) now;
-      bytes : content_of (blocks l.dev) now ≡ content_of (blocks old) was ++ take l.done l.fn.bytes;
+      bytes : bytes_of_growing_list (blocks l.dev) now ≡ bytes_of_growing_list (blocks old) was ++ take l.done l.fn.bytes;
       sum : size_of_growing_list now ≡ size_of_growing_list was + l.done;
       kept : blocks_kept_when_growing (blocks l.dev) now ≡ blocks_kept_when_growing (blocks old) was ++ take l.used l.fn.blocks;
-      own : 1 ≤ l.done → (blocks_of_growing_list (blocks l.dev) now ≡ blocks_kept_when_growing (blocks l.dev) now) × ((is_list_only_in_buffer now ≡ false) × IsRestShorterThanBlock now.geometry.block_size now);
+      own : 1 ≤ l.done → (blocks_of_growing_list (blocks l.dev) now ≡ blocks_kept_when_growing (blocks l.dev) now) × ((are_last_bytes_of_list_only_in_buffer now ≡ false) × AreLastBytesShorterThanBlock now.geometry.block_size now);
       pending : (other : ℕ) → All (λ b. b ≢ other) handed → All (λ b. b ≢ other) (unwritten_block_of_list now);
       same : now.geometry ≡ was.geometry;
       device : ChangesOnlyTheseBlocks g.D.BlockDevice handed old l.dev;
-      writes : WritesBlocksOnceEach was.full now.full (history old) (history l.dev);
-      quiet : faults (history l.dev) ≡ faults (history old);
+      writes : AddsOneEraseAndProgramPerBlock was.full now.full (history old) (history l.dev);
+      quiet : fault_count_of_history (history l.dev) ≡ fault_count_of_history (history old);
     }
 
 abbrev pub decreases-loop-done : goal.decreases-loop-done

@@ -4,10 +4,10 @@ use Rattle.std.proofs.lemmas.List.{append-nil, length-take, with_items_is}
 use Rattle.std.proofs.lemmas.Result.{err_from_is_err_and}
 use Rattle.lfs_device.specs.declared.error.Error.{Error}
 use Rattle.lfs_device.specs.declared.geometry.Geometry.{Geometry}
-use Rattle.lfs_model.specs.Blocks.{Blocks, HasBlocksOfCountAndSize, block_bytes_in}
-use Rattle.lfs_model.specs.SkipLists.{AreListBlocks, IsSkipList, IsPlaceOfByteInList, pointers_of, bytes_before, list_blocks_from_head, list_block_count_for_size, bytes_of, word_at}
-use Rattle.lfs_ctz.specs.Growing.{data_of_list_blocks, IsRestInSharedBlock}
-use Rattle.lfs_ctz.proofs.Sizes.{blocks_for-last, place-lt, pointers_of-le, place-le}
+use Rattle.lfs_model.specs.Blocks.{Blocks, HasBlocksOfCountAndSize, block_bytes_by_number}
+use Rattle.lfs_model.specs.SkipLists.{AreListBlocks, IsSkipList, IsPlaceOfByteInList, pointer_count_of_list_block, byte_count_before_list_block, list_blocks_from_head, list_block_count_for_size, bytes_of_skip_list, word_at_offset}
+use Rattle.lfs_ctz.specs.Growing.{data_of_list_blocks, AreLastBytesInSharedBlock}
+use Rattle.lfs_ctz.proofs.Sizes.{blocks_for-last, place-lt, pointer_count_of_list_block-le, place-le}
 use Rattle.lfs_ctz.proofs.Chains.{in_range_at, back-pointer0}
 use Rattle.lfs_ctz.proofs.Geometries.{last_is, chain, sized, shaped}
 use Rattle.lfs_ctz.proofs.Called.{quiet, read_on, reported_as, reported_on}
@@ -21,8 +21,8 @@ overflow_sub-blocks_for g c =
     let last = blocks_for-last c.geometry-geometry.result.block_size c.args.size c.geometry-geometry.result.valid.no_smaller c.requires.list.size_low in
     omega (arith, last.1.0, c.blocks_for.ensures)
 
-pub find-requires : goal.find-requires
-find-requires g c =
+pub find_block_at_index-requires : goal.find_block_at_index-requires
+find_block_at_index-requires g c =
     let lt = place-lt c.geometry-geometry.result.block_size c.args.size _ _ _ c.geometry-geometry.result.valid.no_smaller c.place-index.ensures (let s = c.requires.some in let w = c.requires.within in omega arith) in
     omega (arith, lt, c.blocks_for.ensures)
 
@@ -61,10 +61,10 @@ found_at d geometry made head size n i block e is list found =
 -- a front that ends with a block
 record IsFull (d : Blocks) (geometry made : Geometry) (head size keep i block : ℕ) : Type 0 where
   chain_is : AreListBlocks d (i + 1) block
-  content : data_of_list_blocks d (list_blocks_from_head d (i + 1) block) ++ [] ≡ take keep (bytes_of d geometry.block_size head size)
+  content : data_of_list_blocks d (list_blocks_from_head d (i + 1) block) ++ [] ≡ take keep (bytes_of_skip_list d geometry.block_size head size)
   blocks_are : list_blocks_from_head d (i + 1) block ++ [] ≡ take (list_block_count_for_size geometry.block_size keep) (list_blocks_from_head d (list_block_count_for_size geometry.block_size size) head)
   kept : list_blocks_from_head d (i + 1) block ++ [] ≡ take (i + 1) (list_blocks_from_head d (list_block_count_for_size geometry.block_size size) head)
-  sum : keep ≡ bytes_before made.block_size (i + 1)
+  sum : keep ≡ byte_count_before_list_block made.block_size (i + 1)
 
 is_full : (d : Blocks) (geometry made : Geometry) (head size keep n i off block : ℕ) → made ≡ geometry → n ≡ list_block_count_for_size made.block_size size → HasBlocksOfCountAndSize geometry.block_size geometry.block_count d
     → IsSkipList d geometry.block_size head size → 1 ≤ keep → keep ≤ size → IsPlaceOfByteInList made.block_size (keep - 1) i off → (AreListBlocks d (n - 1 + 1) head → block ≡ slice_index (list_blocks_from_head d (n - 1 + 1) head) i)
@@ -76,7 +76,7 @@ is_full d geometry made head size keep n i off block e is shape list some within
     let same = sized d head size geometry made e list in
     record {
       chain_is = front_chain d made.block_size geometry.block_count head size keep i off block large parts same some within place here;
-      content = full_content d made.block_size geometry.block_count head size keep i off block large parts same some within place here ends ∙ ap (λ (k : Geometry). take keep (bytes_of d k.block_size head size)) e;
+      content = full_content d made.block_size geometry.block_count head size keep i off block large parts same some within place here ends ∙ ap (λ (k : Geometry). take keep (bytes_of_skip_list d k.block_size head size)) e;
       blocks_are = full_blocks d made.block_size geometry.block_count head size keep i off block large parts same some within place here ends
           ∙ ap (λ (k : Geometry). take (list_block_count_for_size k.block_size keep) (list_blocks_from_head d (list_block_count_for_size k.block_size size) head)) e;
       kept = append-nil (list_blocks_from_head d (i + 1) block) ∙ front_back d made.block_size geometry.block_count head size keep i off block large parts same some within place here
@@ -87,16 +87,16 @@ is_full d geometry made head size keep n i off block e is shape list some within
 -- a front that ends in one
 record IsOpen (d : Blocks) (geometry made : Geometry) (head size keep i off block before : ℕ) (rest : List ℕ) : Type 0 where
   chain_is : AreListBlocks d i before
-  shared : IsRestInSharedBlock d i before rest block
+  shared : AreLastBytesInSharedBlock d i before rest block
   kept : list_blocks_from_head d i before ++ [] ≡ take i (list_blocks_from_head d (list_block_count_for_size geometry.block_size size) head)
-  content : data_of_list_blocks d (list_blocks_from_head d i before) ++ rest ≡ take keep (bytes_of d geometry.block_size head size)
+  content : data_of_list_blocks d (list_blocks_from_head d i before) ++ rest ≡ take keep (bytes_of_skip_list d geometry.block_size head size)
   blocks_are : list_blocks_from_head d i before ++ block ∷ [] ≡ take (list_block_count_for_size geometry.block_size keep) (list_blocks_from_head d (list_block_count_for_size geometry.block_size size) head)
-  sum : keep ≡ bytes_before made.block_size i + length rest
+  sum : keep ≡ byte_count_before_list_block made.block_size i + length rest
 
 is_open : (d : Blocks) (geometry made : Geometry) (head size keep n i off block before : ℕ) (rest : List ℕ) → made ≡ geometry → n ≡ list_block_count_for_size made.block_size size
     → HasBlocksOfCountAndSize geometry.block_size geometry.block_count d → IsSkipList d geometry.block_size head size → 1 ≤ keep → keep ≤ size → IsPlaceOfByteInList made.block_size (keep - 1) i off
-    → (AreListBlocks d (n - 1 + 1) head → block ≡ slice_index (list_blocks_from_head d (n - 1 + 1) head) i) → off + 1 < made.block_size → (0 < i → before ≡ word_at (block_bytes_in d block) 0)
-    → rest ≡ take (off + 1 - 4 * pointers_of i) (drop (4 * pointers_of i) (block_bytes_in d block)) → IsOpen d geometry made head size keep i off block before rest
+    → (AreListBlocks d (n - 1 + 1) head → block ≡ slice_index (list_blocks_from_head d (n - 1 + 1) head) i) → off + 1 < made.block_size → (0 < i → before ≡ word_at_offset (block_bytes_by_number d block) 0)
+    → rest ≡ take (off + 1 - 4 * pointer_count_of_list_block i) (drop (4 * pointer_count_of_list_block i) (block_bytes_by_number d block)) → IsOpen d geometry made head size keep i off block before rest
 is_open d geometry made head size keep n i off block before rest e is shape list some within place found short named rest_is =
     let here = found_at d geometry made head size n i block e is list found in
     let large = made.valid.no_smaller in
@@ -107,7 +107,7 @@ is_open d geometry made head size keep n i off block before rest e is shape list
       shared = open_shared d made.block_size geometry.block_count head size keep i off block large parts same some within place here before named short rest rest_is;
       kept = append-nil (list_blocks_from_head d i before) ∙ before_front d made.block_size geometry.block_count head size keep i off block large parts same some within place here before named short
           ∙ ap (λ (k : Geometry). take i (list_blocks_from_head d (list_block_count_for_size k.block_size size) head)) e;
-      content = open_content d made.block_size geometry.block_count head size keep i off block large parts same some within place here before named short rest rest_is ∙ ap (λ (k : Geometry). take keep (bytes_of d k.block_size head size)) e;
+      content = open_content d made.block_size geometry.block_count head size keep i off block large parts same some within place here before named short rest rest_is ∙ ap (λ (k : Geometry). take keep (bytes_of_skip_list d k.block_size head size)) e;
       blocks_are = open_blocks d made.block_size geometry.block_count head size keep i off block large parts same some within place here before named short
           ∙ ap (λ (k : Geometry). take (list_block_count_for_size k.block_size keep) (list_blocks_from_head d (list_block_count_for_size k.block_size size) head)) e;
       sum = (let long = rest_long d made.block_size geometry.block_count head size keep i off block large parts same some within place here before named short rest rest_is in omega (arith, long.0, long.2));
@@ -119,37 +119,37 @@ short_of block_size keep i off large place other =
     let at = place.at in
     let from = place.from in
     let below = place.below in
-    let few = pointers_of-le i in
+    let few = pointer_count_of_list_block-le i in
     omega arith
 
 -- the block that its pointer 0 names is there
 before_there : (d : Blocks) (geometry made : Geometry) (head size keep n i off block : ℕ) → made ≡ geometry → n ≡ list_block_count_for_size made.block_size size → HasBlocksOfCountAndSize geometry.block_size geometry.block_count d
     → IsSkipList d geometry.block_size head size → 1 ≤ keep → keep ≤ size → IsPlaceOfByteInList made.block_size (keep - 1) i off → (AreListBlocks d (n - 1 + 1) head → block ≡ slice_index (list_blocks_from_head d (n - 1 + 1) head) i)
-    → 0 < i → word_at (block_bytes_in d block) 0 < geometry.block_count
+    → 0 < i → word_at_offset (block_bytes_by_number d block) 0 < geometry.block_count
 before_there d geometry made head size keep n i off block e is shape list some within place found more =
     let here = found_at d geometry made head size n i block e is list found in
     let same = sized d head size geometry made e list in
     let low = place-lt made.block_size size (keep - 1) i off made.valid.no_smaller place (omega arith) in
     let next : suc (i - 1) ≡ i = omega arith in
     let bs : List ℕ = list_blocks_from_head d (list_block_count_for_size made.block_size size) head in
-    let to : word_at (block_bytes_in d block) 0 ≡ slice_index bs (i - 1) =
-    ap (λ b. word_at (block_bytes_in d b) 0) (here ∙ ap (slice_index bs) (sym next)) ∙ back-pointer0 d (list_block_count_for_size made.block_size size) head (i - 1) (omega arith) in
+    let to : word_at_offset (block_bytes_by_number d block) 0 ≡ slice_index bs (i - 1) =
+    ap (λ b. word_at_offset (block_bytes_by_number d b) 0) (here ∙ ap (slice_index bs) (sym next)) ∙ back-pointer0 d (list_block_count_for_size made.block_size size) head (i - 1) (omega arith) in
     let lt = in_range_at d (list_block_count_for_size made.block_size size) head (i - 1) same.blocks (omega arith) in
     omega (arith, lt, to, shape.count)
 
 -- what the buffer holds of the block then
-read_rest : (d same : Blocks) (old new items : List ℕ) (block off p block_size : ℕ) → same ≡ d → items ≡ new → new ≡ take 0 old ++ (take (off + 1) (drop 0 (block_bytes_in same block)) ++ drop (0 + (off + 1)) old)
-    → length (block_bytes_in d block) ≡ block_size → off + 1 ≤ block_size → p ≤ off + 1 → take (off + 1 - p) (drop p items) ≡ take (off + 1 - p) (drop p (block_bytes_in d block))
+read_rest : (d same : Blocks) (old new items : List ℕ) (block off p block_size : ℕ) → same ≡ d → items ≡ new → new ≡ take 0 old ++ (take (off + 1) (drop 0 (block_bytes_by_number same block)) ++ drop (0 + (off + 1)) old)
+    → length (block_bytes_by_number d block) ≡ block_size → off + 1 ≤ block_size → p ≤ off + 1 → take (off + 1 - p) (drop p items) ≡ take (off + 1 - p) (drop p (block_bytes_by_number d block))
 read_rest d same old new items block off p block_size e is read long within low =
-    ap (λ (l : List ℕ). take (off + 1 - p) (drop p l)) (is ∙ read ∙ ap (λ b. take (off + 1) (block_bytes_in b block) ++ drop (0 + (off + 1)) old) e)
-    ∙ data-written (block_bytes_in d block) (drop (0 + (off + 1)) old) (off + 1) p (omega arith) low
+    ap (λ (l : List ℕ). take (off + 1 - p) (drop p l)) (is ∙ read ∙ ap (λ b. take (off + 1) (block_bytes_by_number b block) ++ drop (0 + (off + 1)) old) e)
+    ∙ data-written (block_bytes_by_number d block) (drop (0 + (off + 1)) old) (off + 1) p (omega arith) low
 
 pub invariant_of-result : goal.invariant_of-result
 invariant_of-result g c =
     let full = is_full _ _ _ _ _ _ _ _ _ _ c.geometry-geometry.ensures c.blocks_for.ensures (g.met.D.BlockDevice.shape c.args.dev.now) c.requires.list c.requires.some c.requires.within c.place-index.ensures c.in_ok-block.ensures.found c.if-off-block_size.true in
-    let few = pointers_of-le (c.place-index.result.0 + 1) in
+    let few = pointer_count_of_list_block-le (c.place-index.result.0 + 1) in
     let large = c.geometry-geometry.result.valid.no_smaller in
-    let many = c.pointers.ensures in
+    let many = c.pointer_count_at_index.ensures in
     let high = c.requires.list.size_high in
     let within = c.requires.within in
     let sum = full.sum in
@@ -161,21 +161,21 @@ returns-then-off-block_size-clause-resumed g c =
     let made = c.geometry-geometry.ensures in
     let full = is_full _ _ _ _ _ _ _ _ _ _ made c.blocks_for.ensures (g.met.D.BlockDevice.shape c.args.dev.now) c.requires.list c.requires.some c.requires.within c.place-index.ensures c.in_ok-block.ensures.found c.if-off-block_size.true in
     let i : ℕ = c.place-index.result.0 in
-    let rest : take (4 * c.pointers.result - 4 * pointers_of (i + 1)) (drop (4 * pointers_of (i + 1)) c.in_ok-buffer.buffer.items) ≡ [] =
-    ap (λ k. take k (drop (4 * pointers_of (i + 1)) c.in_ok-buffer.buffer.items)) (let none : 4 * c.pointers.result - 4 * pointers_of (i + 1) ≡ 0 = omega (arith, c.pointers.ensures) in none) in
+    let rest : take (4 * c.pointer_count_at_index.result - 4 * pointer_count_of_list_block (i + 1)) (drop (4 * pointer_count_of_list_block (i + 1)) c.in_ok-buffer.buffer.items) ≡ [] =
+    ap (λ k. take k (drop (4 * pointer_count_of_list_block (i + 1)) c.in_ok-buffer.buffer.items)) (let none : 4 * c.pointer_count_at_index.result - 4 * pointer_count_of_list_block (i + 1) ≡ 0 = omega (arith, c.pointer_count_at_index.ensures) in none) in
     record {
       grown =
           is_grown _ old _ _ _ _ _ _ (g.met.D.BlockDevice.shape c.args.dev.now) made
-          (omega (arith, ap length rest, pointers_of-le (i + 1), c.geometry-geometry.result.valid.no_smaller))
+          (omega (arith, ap length rest, pointer_count_of_list_block-le (i + 1), c.geometry-geometry.result.valid.no_smaller))
           (record { chain = full.chain_is; stand = rest })
           (ap (λ (l : List ℕ). data_of_list_blocks old (list_blocks_from_head old (i + 1) c.in_ok-block.block) ++ l) rest ∙ full.content)
-          (omega (arith, ap length rest, full.sum, ap (λ (k : Geometry). bytes_before k.block_size (i + 1)) made))
+          (omega (arith, ap length rest, full.sum, ap (λ (k : Geometry). byte_count_before_list_block k.block_size (i + 1)) made))
           full.kept full.blocks_are;
       waits = record { listed = refl; pending = λ other apart. apart };
     }
 
 pub returns-in_err-head-clause-device : goal.returns-in_err-head-clause-device
-returns-in_err-head-clause-device g c = read_on g.D.BlockDevice c.find.ensures.reading.device c.head_before.ensures.reading.device
+returns-in_err-head-clause-device g c = read_on g.D.BlockDevice c.find_block_at_index.ensures.reading.device c.head_of_list_before_block.ensures.reading.device
 
 pub returns-in_err-head-clause-reports : goal.returns-in_err-head-clause-reports
 returns-in_err-head-clause-reports g c =
@@ -185,39 +185,39 @@ returns-in_err-head-clause-reports g c =
       faults = reported_on g.D.BlockDevice (quiet g.D.BlockDevice c.in_ok-block.ensures.reading.faults) (reported_as g.D.BlockDevice reported.faults);
       errors = never_corrupt {T = ℕ} _ reported.errors (λ is.
           let some = (c.in_err-head.ensures.corrupt is).0 in
-          let refused = rw (c.find.ensures.reading.device.same, c.find.ensures.reading.device.geometry) at c.in_err-head.ensures.corrupt in
+          let refused = rw (c.find_block_at_index.ensures.reading.device.same, c.find_block_at_index.ensures.reading.device.geometry) at c.in_err-head.ensures.corrupt in
           let out = (refused is).1 in
           let inside = before_there _ _ _ _ _ c.args.keep _ _ _ _ c.geometry-geometry.ensures c.blocks_for.ensures (g.met.D.BlockDevice.shape c.args.dev.now) c.requires.list c.requires.some c.requires.within c.place-index.ensures c.in_ok-block.ensures.found some in
           omega (arith, out, inside));
     })
 
-pub returns-in_err-read_part_into_buffer-clause-device : goal.returns-in_err-read_part_into_buffer-clause-device
-returns-in_err-read_part_into_buffer-clause-device g c = read_on g.D.BlockDevice (read_on g.D.BlockDevice c.find.ensures.reading.device c.head_before.ensures.reading.device) c.read_part_into_buffer.ensures.device
+pub returns-in_err-read_block_bytes_into_buffer_range-clause-device : goal.returns-in_err-read_block_bytes_into_buffer_range-clause-device
+returns-in_err-read_block_bytes_into_buffer_range-clause-device g c = read_on g.D.BlockDevice (read_on g.D.BlockDevice c.find_block_at_index.ensures.reading.device c.head_of_list_before_block.ensures.reading.device) c.read_block_bytes_into_buffer_range.ensures.device
 
 pub returns-clause-device : goal.returns-clause-device
-returns-clause-device g c = read_on g.D.BlockDevice (read_on g.D.BlockDevice c.find.ensures.reading.device c.head_before.ensures.reading.device) c.read_part_into_buffer.ensures.device
+returns-clause-device g c = read_on g.D.BlockDevice (read_on g.D.BlockDevice c.find_block_at_index.ensures.reading.device c.head_of_list_before_block.ensures.reading.device) c.read_block_bytes_into_buffer_range.ensures.device
 
 -- the bytes of the block that are kept
-rest_is : (g : _) (c : goal.In_ok-read_part_into_buffer g) → take (c.place-index.result.1 + 1 - 4 * pointers_of c.place-index.result.0) (drop (4 * pointers_of c.place-index.result.0) (with_items c.in_ok-buffer.buffer c.read_part_into_buffer.new.buf).items)
-    ≡ take (c.place-index.result.1 + 1 - 4 * pointers_of c.place-index.result.0) (drop (4 * pointers_of c.place-index.result.0) (block_bytes_in (g.D.BlockDevice.blocks c.args.dev.now) c.in_ok-block.block))
+rest_is : (g : _) (c : goal.In_ok-read_block_bytes_into_buffer_range g) → take (c.place-index.result.1 + 1 - 4 * pointer_count_of_list_block c.place-index.result.0) (drop (4 * pointer_count_of_list_block c.place-index.result.0) (with_items c.in_ok-buffer.buffer c.read_block_bytes_into_buffer_range.new.buf).items)
+    ≡ take (c.place-index.result.1 + 1 - 4 * pointer_count_of_list_block c.place-index.result.0) (drop (4 * pointer_count_of_list_block c.place-index.result.0) (block_bytes_by_number (g.D.BlockDevice.blocks c.args.dev.now) c.in_ok-block.block))
 rest_is g c =
     let made = c.geometry-geometry.ensures in
     let shape = g.met.D.BlockDevice.shape c.args.dev.now in
     let in_range = c.in_ok-block.ensures.in_range in
     let place = c.place-index.ensures in
     let short = short_of c.geometry-geometry.result.block_size c.args.keep c.place-index.result.0 c.place-index.result.1 c.geometry-geometry.result.valid.no_smaller place c.if-off-block_size.false in
-    read_rest _ _ _ c.read_part_into_buffer.new.buf _ c.in_ok-block.block c.place-index.result.1 (4 * pointers_of c.place-index.result.0) c.geometry-geometry.result.block_size (c.head_before.ensures.reading.device.same ∙ c.find.ensures.reading.device.same)
-    (with_items_is c.in_ok-buffer.buffer c.read_part_into_buffer.new.buf (omega (arith, c.read_part_into_buffer.auto.buf, c.as_mut_slice.ensures.len, c.in_ok-buffer.buffer.ok.0)))
-    c.in_ok-read_part_into_buffer.ensures.bytes
+    read_rest _ _ _ c.read_block_bytes_into_buffer_range.new.buf _ c.in_ok-block.block c.place-index.result.1 (4 * pointer_count_of_list_block c.place-index.result.0) c.geometry-geometry.result.block_size (c.head_of_list_before_block.ensures.reading.device.same ∙ c.find_block_at_index.ensures.reading.device.same)
+    (with_items_is c.in_ok-buffer.buffer c.read_block_bytes_into_buffer_range.new.buf (omega (arith, c.read_block_bytes_into_buffer_range.auto.buf, c.as_mut_slice.ensures.len, c.in_ok-buffer.buffer.ok.0)))
+    c.in_ok-read_block_bytes_into_buffer_range.ensures.bytes
     (omega (arith, shape.sizes c.in_ok-block.block in_range, ap (λ (k : Geometry). k.block_size) made))
     (omega arith) (let at = place.at in omega arith)
 
-opened : (g : _) (c : goal.In_ok-read_part_into_buffer g) → IsOpen (g.D.BlockDevice.blocks c.args.dev.now) (g.D.BlockDevice.geometry c.args.dev.now) c.geometry-geometry.result c.args.head c.args.size c.args.keep c.place-index.result.0 c.place-index.result.1
-    c.in_ok-block.block c.in_ok-head.head (take (c.place-index.result.1 + 1 - 4 * pointers_of c.place-index.result.0) (drop (4 * pointers_of c.place-index.result.0) (with_items c.in_ok-buffer.buffer c.read_part_into_buffer.new.buf).items))
+opened : (g : _) (c : goal.In_ok-read_block_bytes_into_buffer_range g) → IsOpen (g.D.BlockDevice.blocks c.args.dev.now) (g.D.BlockDevice.geometry c.args.dev.now) c.geometry-geometry.result c.args.head c.args.size c.args.keep c.place-index.result.0 c.place-index.result.1
+    c.in_ok-block.block c.in_ok-head.head (take (c.place-index.result.1 + 1 - 4 * pointer_count_of_list_block c.place-index.result.0) (drop (4 * pointer_count_of_list_block c.place-index.result.0) (with_items c.in_ok-buffer.buffer c.read_block_bytes_into_buffer_range.new.buf).items))
 opened g c =
     is_open _ _ _ _ _ _ _ _ _ _ _ _ c.geometry-geometry.ensures c.blocks_for.ensures (g.met.D.BlockDevice.shape c.args.dev.now) c.requires.list c.requires.some c.requires.within c.place-index.ensures c.in_ok-block.ensures.found
     (short_of c.geometry-geometry.result.block_size c.args.keep c.place-index.result.0 c.place-index.result.1 c.geometry-geometry.result.valid.no_smaller c.place-index.ensures c.if-off-block_size.false)
-    (λ more. c.in_ok-head.ensures.word more ∙ ap (λ d. word_at (block_bytes_in d c.in_ok-block.block) 0) c.find.ensures.reading.device.same)
+    (λ more. c.in_ok-head.ensures.word more ∙ ap (λ d. word_at_offset (block_bytes_by_number d c.in_ok-block.block) 0) c.find_block_at_index.ensures.reading.device.same)
     (rest_is g c)
 
 pub returns-clause-resumed : goal.returns-clause-resumed
@@ -229,11 +229,11 @@ returns-clause-resumed g c =
           is_grown _ (g.D.BlockDevice.blocks c.args.dev.now) _ _ _ _ _ _ (g.met.D.BlockDevice.shape c.args.dev.now) made
           (omega (
             arith,
-            length-take (c.place-index.result.1 + 1 - 4 * pointers_of c.place-index.result.0) (drop (4 * pointers_of c.place-index.result.0) (with_items c.in_ok-buffer.buffer c.read_part_into_buffer.new.buf).items),
+            length-take (c.place-index.result.1 + 1 - 4 * pointer_count_of_list_block c.place-index.result.0) (drop (4 * pointer_count_of_list_block c.place-index.result.0) (with_items c.in_ok-buffer.buffer c.read_block_bytes_into_buffer_range.new.buf).items),
             short_of c.geometry-geometry.result.block_size c.args.keep c.place-index.result.0 c.place-index.result.1 c.geometry-geometry.result.valid.no_smaller c.place-index.ensures c.if-off-block_size.false,
-            pointers_of-le c.place-index.result.0,
+            pointer_count_of_list_block-le c.place-index.result.0,
             c.geometry-geometry.result.valid.no_smaller,
           ))
-          (record { chain = o.chain_is; stand = o.shared }) o.content (omega (arith, o.sum, ap (λ (k : Geometry). bytes_before k.block_size c.place-index.result.0) made)) o.kept o.blocks_are;
+          (record { chain = o.chain_is; stand = o.shared }) o.content (omega (arith, o.sum, ap (λ (k : Geometry). byte_count_before_list_block k.block_size c.place-index.result.0) made)) o.kept o.blocks_are;
       waits = record { listed = refl; pending = λ other apart. apart };
     }

@@ -1,11 +1,11 @@
 use Rattle.std.proofs.Common.{◌∙◌, ap}
 use Rattle.lfs_model.specs.TreeEdits.{same_path}
 use Rattle.lfs_model.specs.Names.{same_name}
-use Rattle.lfs_model.specs.Refusals.{path_or_root}
+use Rattle.lfs_model.specs.Refusals.{path_of_bytes_or_root}
 use Rattle.lfs_fs.proofs.SamePaths.{same_bytes}
 use Rattle.lfs_fs.proofs.owned_path.OwnedPath.is_path_of_bytes.Goals as goal
 
 pub returns : goal.returns
 returns c =
-    c.is_same.ensures ∙ ap (λ xs. same_name xs c.args.bytes.now) c.as_slice.ensures.value
-    ∙ same_bytes c.self.inside.bytes.items c.args.bytes.now c.self.invariant c.requires ∙ ap (same_path (path_or_root c.args.bytes.now)) c.self.view_is
+    c.are_same_path_bytes.ensures ∙ ap (λ xs. same_name xs c.args.bytes.now) c.as_slice.ensures.value
+    ∙ same_bytes c.self.inside.bytes.items c.args.bytes.now c.self.invariant c.requires ∙ ap (same_path (path_of_bytes_or_root c.args.bytes.now)) c.self.view_is

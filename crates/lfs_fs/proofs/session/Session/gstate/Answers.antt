@@ -20,4 +20,4 @@ returns g c =
     kept_asking c.self.inside.tree c.self.inside.files _ ops.AskGstate _ c.self.view_is c.self.invariant.ready (λ s. refl) refl
     (kept_ends (session_view_of_tree_and_files c.self.inside.tree c.self.inside.files) _ ops.AskGstate _ c.self.view_is (works_by (session_view_of_tree_and_files c.self.inside.tree c.self.inside.files) ops.AskGstate None c.if-has_failed.ensures refl))
     (question_kept (session_view_of_tree_and_files c.self.inside.tree c.self.inside.files) _ ops.AskGstate _ c.self.view_is (sound_by c.self.inside.tree c.self.inside.files c.self.invariant.ready) refl (works_by (session_view_of_tree_and_files c.self.inside.tree c.self.inside.files) ops.AskGstate None c.if-has_failed.ensures refl)
-    (c.gstate_of.ensures ∙ ap reply_of_disk_gstate c.gstate.ensures))
+    (c.gstate_from_move_state.ensures ∙ ap reply_of_disk_gstate c.gstate.ensures))

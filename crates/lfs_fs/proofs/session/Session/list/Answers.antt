@@ -13,12 +13,12 @@ use Rattle.lfs_fs.proofs.session.Session.list.Goals as goal
 pub returns : goal.returns
 returns g c =
     asking_call c.self.inside.tree c.self.inside.files _ (ops.ListAll c.args.path.now) _ _ c.self.view_is c.self.invariant.ready (λ s. refl) (λ k. absurd (cc))
-    (record { few = λ l. c.check_list.ensures.few; none = λ l. c.check_list.ensures.kept; hand = λ path reply is same accepted s at ps a small. absurd (cc) })
-    (checked_ends c.self.inside.tree c.self.inside.files _ (ops.ListAll c.args.path.now) (λ items. ops.Items (map list_item_view items.items)) _ c.check_list.result c.check_list.new.tree c.self.view_is refl c.check_list.ensures.checks)
-    (files_asked c.args.self.now (ops.ListAll c.args.path.now) (reply_from_result (λ items. ops.Items (map list_item_view items.items)) c.check_list.result) c.self.inside.tree c.check_list.new.tree c.self.inside.files (asked_by_checks c.self.inside.tree c.self.inside.files (ops.ListAll c.args.path.now) _ c.check_list.result c.check_list.new.tree c.check_list.ensures.checks)
-    (question_call (session_view_of_tree_and_files c.self.inside.tree c.self.inside.files) _ (ops.ListAll c.args.path.now) (λ items. ops.Items (map list_item_view items.items)) _ c.check_list.result c.check_list.new.tree c.self.view_is
-    (sound_by c.self.inside.tree c.self.inside.files c.self.invariant.ready) refl refl (λ x p. ap ops.Items (sym p)) c.check_list.ensures.checks))
-    (only_read (session_view_of_tree_and_files c.self.inside.tree c.self.inside.files) _ (ops.ListAll c.args.path.now) c.check_list.new.tree c.self.view_is (sound_by c.self.inside.tree c.self.inside.files c.self.invariant.ready) (reads_of_checks (session_view_of_tree_and_files c.self.inside.tree c.self.inside.files) (ops.ListAll c.args.path.now) _ c.check_list.result c.check_list.new.tree c.check_list.ensures.checks))
+    (record { few = λ l. c.check_and_list.ensures.few; none = λ l. c.check_and_list.ensures.kept; hand = λ path reply is same accepted s at ps a small. absurd (cc) })
+    (checked_ends c.self.inside.tree c.self.inside.files _ (ops.ListAll c.args.path.now) (λ items. ops.Items (map list_item_view items.items)) _ c.check_and_list.result c.check_and_list.new.tree c.self.view_is refl c.check_and_list.ensures.checks)
+    (files_asked c.args.self.now (ops.ListAll c.args.path.now) (reply_from_result (λ items. ops.Items (map list_item_view items.items)) c.check_and_list.result) c.self.inside.tree c.check_and_list.new.tree c.self.inside.files (asked_by_checks c.self.inside.tree c.self.inside.files (ops.ListAll c.args.path.now) _ c.check_and_list.result c.check_and_list.new.tree c.check_and_list.ensures.checks)
+    (question_call (session_view_of_tree_and_files c.self.inside.tree c.self.inside.files) _ (ops.ListAll c.args.path.now) (λ items. ops.Items (map list_item_view items.items)) _ c.check_and_list.result c.check_and_list.new.tree c.self.view_is
+    (sound_by c.self.inside.tree c.self.inside.files c.self.invariant.ready) refl refl (λ x p. ap ops.Items (sym p)) c.check_and_list.ensures.checks))
+    (only_read (session_view_of_tree_and_files c.self.inside.tree c.self.inside.files) _ (ops.ListAll c.args.path.now) c.check_and_list.new.tree c.self.view_is (sound_by c.self.inside.tree c.self.inside.files c.self.invariant.ready) (reads_of_checks (session_view_of_tree_and_files c.self.inside.tree c.self.inside.files) (ops.ListAll c.args.path.now) _ c.check_and_list.result c.check_and_list.new.tree c.check_and_list.ensures.checks))
 
 pub invariant_of-self : goal.invariant_of-self
-invariant_of-self g c = between_checked c.self.inside.tree c.self.inside.files (ops.ListAll c.args.path.now) _ c.check_list.result c.check_list.new.tree c.self.invariant c.check_list.ensures.checks
+invariant_of-self g c = between_checked c.self.inside.tree c.self.inside.files (ops.ListAll c.args.path.now) _ c.check_and_list.result c.check_and_list.new.tree c.self.invariant c.check_and_list.ensures.checks

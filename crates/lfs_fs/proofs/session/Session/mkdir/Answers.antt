@@ -13,7 +13,7 @@ use Rattle.lfs_fs.proofs.session.Session.mkdir.Goals as goal
 
 pub mkdir-answer-requires : goal.mkdir-answer-requires
 mkdir-answer-requires g c =
-    mkdir_can (session_view_of_tree_and_files c.self.inside.tree c.self.inside.files) c.args.path.now _ _ (λ works. c.open_files_stay.ensures.few c.self.inside.tree c.self.inside.files (c.self.invariant.ready works)) c.in_ok-path.ensures
+    mkdir_can (session_view_of_tree_and_files c.self.inside.tree c.self.inside.files) c.args.path.now _ _ (λ works. c.tree_changes_spare_open_files.ensures.few c.self.inside.tree c.self.inside.files (c.self.invariant.ready works)) c.in_ok-path.ensures
 
 pub check_mkdir-requires : goal.check_mkdir-requires
 check_mkdir-requires g c = c.self.invariant.ready
@@ -25,8 +25,8 @@ pub invariant_of-self-2 : goal.invariant_of-self-2
 invariant_of-self-2 g c =
     let h = c.in_ok-path.ensures in
     record {
-      ready = λ works. (mkdir_left _ c.self.inside.tree c.check_mkdir.new.tree c.mkdir-answer.new.self c.self.inside.files c.args.path.now _ c.mkdir-answer.result c.open_files_stay.ensures.stay c.self.invariant.ready h.0 h.1 h.2 (mkdir_can (session_view_of_tree_and_files c.self.inside.tree c.self.inside.files) c.args.path.now _ _ (λ works. c.open_files_stay.ensures.few c.self.inside.tree c.self.inside.files (c.self.invariant.ready works)) h) c.mkdir-answer.ensures.done (λ f. f (ops.Mkdir c.args.path.now) (c.args.path.now, (refl, sym h.2))) c.mkdir-answer.ensures.broken works).ready;
-      reported = λ works. c.device_meets_laws.ensures;
+      ready = λ works. (mkdir_left _ c.self.inside.tree c.check_mkdir.new.tree c.mkdir-answer.new.self c.self.inside.files c.args.path.now _ c.mkdir-answer.result c.tree_changes_spare_open_files.ensures.stay c.self.invariant.ready h.0 h.1 h.2 (mkdir_can (session_view_of_tree_and_files c.self.inside.tree c.self.inside.files) c.args.path.now _ _ (λ works. c.tree_changes_spare_open_files.ensures.few c.self.inside.tree c.self.inside.files (c.self.invariant.ready works)) h) c.mkdir-answer.ensures.done (λ f. f (ops.Mkdir c.args.path.now) (c.args.path.now, (refl, sym h.2))) c.mkdir-answer.ensures.broken works).ready;
+      reported = λ works. c.show_conforming_device_calls_to_proof.ensures;
     }
 
 -- a check ends it
@@ -40,6 +40,6 @@ returns g c =
     let h = c.in_ok-path.ensures in
     done_call _ _ c.self.inside.tree c.check_mkdir.new.tree c.mkdir-answer.new.self c.self.inside.files _ (ops.Mkdir c.args.path.now) c.mkdir-answer.result _ c.self.view_is c.self.invariant h.0 h.1 refl refl refl refl refl refl refl refl refl refl refl
     (passed_writable (session_view_of_tree_and_files c.self.inside.tree c.self.inside.files) (ops.Mkdir c.args.path.now) _ refl h.1)
-    (mkdir_left _ c.self.inside.tree c.check_mkdir.new.tree c.mkdir-answer.new.self c.self.inside.files c.args.path.now _ c.mkdir-answer.result c.open_files_stay.ensures.stay c.self.invariant.ready h.0 h.1 h.2 (mkdir_can (session_view_of_tree_and_files c.self.inside.tree c.self.inside.files) c.args.path.now _ _ (λ works. c.open_files_stay.ensures.few c.self.inside.tree c.self.inside.files (c.self.invariant.ready works)) h) c.mkdir-answer.ensures.done (λ f. f (ops.Mkdir c.args.path.now) (c.args.path.now, (refl, sym h.2))) c.mkdir-answer.ensures.broken) c.device_meets_laws.ensures
+    (mkdir_left _ c.self.inside.tree c.check_mkdir.new.tree c.mkdir-answer.new.self c.self.inside.files c.args.path.now _ c.mkdir-answer.result c.tree_changes_spare_open_files.ensures.stay c.self.invariant.ready h.0 h.1 h.2 (mkdir_can (session_view_of_tree_and_files c.self.inside.tree c.self.inside.files) c.args.path.now _ _ (λ works. c.tree_changes_spare_open_files.ensures.few c.self.inside.tree c.self.inside.files (c.self.invariant.ready works)) h) c.mkdir-answer.ensures.done (λ f. f (ops.Mkdir c.args.path.now) (c.args.path.now, (refl, sym h.2))) c.mkdir-answer.ensures.broken) c.show_conforming_device_calls_to_proof.ensures
     c.mkdir-answer.ensures.done (λ f. f (ops.Mkdir c.args.path.now) (c.args.path.now, (refl, sym h.2))) c.mkdir-answer.ensures.alone (λ f. f (ops.Mkdir c.args.path.now) (c.args.path.now, (refl, sym h.2))) c.mkdir-answer.ensures.broken c.mkdir-answer.ensures.errors c.mkdir-answer.ensures.survives
     (ap₂ (λ p t. tree_after_creation p (DirectoryNode [] []) t) h.2 (ap tree_view h.0.same))

@@ -2,10 +2,10 @@ use Rattle.std.proofs.Common.{◌∙◌, ◌+◌, refl, sym, ap, arith}
 use Rattle.std.specs.Option.{option_map}
 use Rattle.lfs_device.specs.declared.error.Error.TheVariants as error
 use Rattle.lfs_model.specs.Operations as ops
-use Rattle.lfs_model.specs.Session.{open_file_of, put_file}
+use Rattle.lfs_model.specs.Session.{open_file_with_number, open_files_with_file_at_number}
 use Rattle.lfs_model.specs.Effects.{open_file_at_position}
 use Rattle.lfs_fs.specs.FileView.{open_file_at, open_files_view, reader_view, paths_of_writers}
-use Rattle.lfs_fs.specs.SessionView.{IsReaderApartFromWriters, session_view_of_tree_and_files}
+use Rattle.lfs_fs.specs.SessionView.{IsReaderOfCurrentContentsWithoutWriter, session_view_of_tree_and_files}
 use Rattle.lfs_fs.specs.Replies.{reply_from_result}
 use Rattle.lfs_fs.proofs.OpenReaders.{one_of_all}
 use Rattle.lfs_fs.proofs.Answered.{asked_ready, files_asked, sound_by}
@@ -23,7 +23,7 @@ use Rattle.lfs_fs.proofs.session.Session.read.Goals as goal
 pub bytes_for_reader-requires-clause-kept : goal.bytes_for_reader-requires-clause-kept
 bytes_for_reader-requires-clause-kept g c =
     let fs = c.self.inside.files in
-    (paths_of_writers fs, one_of_all (IsReaderApartFromWriters c.self.inside.tree.pairs (paths_of_writers fs)) fs c.args.fd c.in-Some.reader.now c.in-Some.ensures (c.self.invariant.ready (sym c.if-has_failed.ensures)).read)
+    (paths_of_writers fs, one_of_all (IsReaderOfCurrentContentsWithoutWriter c.self.inside.tree.pairs (paths_of_writers fs)) fs c.args.fd c.in-Some.reader.now c.in-Some.ensures (c.self.invariant.ready (sym c.if-has_failed.ensures)).read)
 
 pub returns-then-has_failed : goal.returns-then-has_failed
 returns-then-has_failed g c =
@@ -66,5 +66,5 @@ returns g c =
     c.in_ok-bytes.ensures.bytes
     (omega (arith, c.len.ensures, c.in_ok-bytes.bytes.ok.0))
     (ap (open_files_view c.bytes_for_reader.new.tree) c.seek.ensures ∙ moved_is c.bytes_for_reader.new.tree c.self.inside.files c.args.fd (c.in-Some.reader.now.position + c.len.result) (reader_there (open_file_at c.self.inside.files c.args.fd) c.in-Some.reader.now c.in-Some.ensures)
-    ∙ ap (λ z. put_file (open_files_view z c.self.inside.files) c.args.fd (option_map (open_file_at_position (c.in-Some.reader.now.position + c.len.result)) (open_file_of (open_files_view z c.self.inside.files) c.args.fd))) c.in_ok-bytes.ensures.asked.same))
+    ∙ ap (λ z. open_files_with_file_at_number (open_files_view z c.self.inside.files) c.args.fd (option_map (open_file_at_position (c.in-Some.reader.now.position + c.len.result)) (open_file_with_number (open_files_view z c.self.inside.files) c.args.fd))) c.in_ok-bytes.ensures.asked.same))
     (only_read (session_view_of_tree_and_files c.self.inside.tree c.self.inside.files) _ (ops.Read c.args.fd c.args.count) c.bytes_for_reader.new.tree c.self.view_is (sound_by c.self.inside.tree c.self.inside.files c.self.invariant.ready) (c.in_ok-bytes.ensures.asked.reads))

@@ -19,5 +19,5 @@ returns g c =
 pub invariant_of-self : goal.invariant_of-self
 invariant_of-self g c = record {
   ready = remount_ready c.self.inside.tree c.remount-answer.new.self c.clear.new.self c.remount-answer.result c.clear.ensures c.remount-answer.ensures.mounted c.remount-answer.ensures.broken;
-  reported = λ works. c.device_meets_laws.ensures;
+  reported = λ works. c.show_conforming_device_calls_to_proof.ensures;
 }

@@ -21,8 +21,8 @@ pub invariant_of-self-2 : goal.invariant_of-self-2
 invariant_of-self-2 g c =
     let h = c.in_ok-path.ensures in
     record {
-      ready = λ works. (removed_left _ c.self.inside.tree c.check_remove.new.tree c.remove-answer.new.self c.self.inside.files c.args.path.now c.remove-answer.result c.open_files_stay.ensures.stay c.self.invariant.ready h.0 h.1 c.remove-answer.ensures.done (λ f. f (ops.Remove c.args.path.now) (c.args.path.now, (refl, sym h.2))) c.remove-answer.ensures.broken works).ready;
-      reported = λ works. c.device_meets_laws.ensures;
+      ready = λ works. (removed_left _ c.self.inside.tree c.check_remove.new.tree c.remove-answer.new.self c.self.inside.files c.args.path.now c.remove-answer.result c.tree_changes_spare_open_files.ensures.stay c.self.invariant.ready h.0 h.1 c.remove-answer.ensures.done (λ f. f (ops.Remove c.args.path.now) (c.args.path.now, (refl, sym h.2))) c.remove-answer.ensures.broken works).ready;
+      reported = λ works. c.show_conforming_device_calls_to_proof.ensures;
     }
 
 -- a check ends it
@@ -36,6 +36,6 @@ returns g c =
     let h = c.in_ok-path.ensures in
     done_call _ _ c.self.inside.tree c.check_remove.new.tree c.remove-answer.new.self c.self.inside.files _ (ops.Remove c.args.path.now) c.remove-answer.result _ c.self.view_is c.self.invariant h.0 h.1 refl refl refl refl refl refl refl refl refl refl refl
     (passed_writable (session_view_of_tree_and_files c.self.inside.tree c.self.inside.files) (ops.Remove c.args.path.now) _ refl h.1)
-    (removed_left _ c.self.inside.tree c.check_remove.new.tree c.remove-answer.new.self c.self.inside.files c.args.path.now c.remove-answer.result c.open_files_stay.ensures.stay c.self.invariant.ready h.0 h.1 c.remove-answer.ensures.done (λ f. f (ops.Remove c.args.path.now) (c.args.path.now, (refl, sym h.2))) c.remove-answer.ensures.broken) c.device_meets_laws.ensures
+    (removed_left _ c.self.inside.tree c.check_remove.new.tree c.remove-answer.new.self c.self.inside.files c.args.path.now c.remove-answer.result c.tree_changes_spare_open_files.ensures.stay c.self.invariant.ready h.0 h.1 c.remove-answer.ensures.done (λ f. f (ops.Remove c.args.path.now) (c.args.path.now, (refl, sym h.2))) c.remove-answer.ensures.broken) c.show_conforming_device_calls_to_proof.ensures
     c.remove-answer.ensures.done (λ f. f (ops.Remove c.args.path.now) (c.args.path.now, (refl, sym h.2))) c.remove-answer.ensures.alone (λ f. f (ops.Remove c.args.path.now) (c.args.path.now, (refl, sym h.2))) c.remove-answer.ensures.broken c.remove-answer.ensures.errors c.remove-answer.ensures.survives
     (ap₂ (λ p t. tree_after_removal p t) h.2 (ap tree_view h.0.same))

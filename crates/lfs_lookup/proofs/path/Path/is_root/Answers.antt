@@ -1,9 +1,9 @@
 use Rattle.std.proofs.Common.{◌∙◌, ap, arith, sym}
-use Rattle.lfs_model.specs.Refusals.{is_root}
+use Rattle.lfs_model.specs.Refusals.{is_root_path}
 use Rattle.lfs_lookup.proofs.LastNames.{long_root}
 use Rattle.lfs_lookup.proofs.path.Path.is_root.Goals as goal
 
 pub returns-in_default : goal.returns-in_default
 returns-in_default c =
     let l = c.in_default.len_at_least in
-    sym (long_root c.self.inside.bytes.now c.self.invariant (omega (arith, l))) ∙ ap is_root c.self.view_is
+    sym (long_root c.self.inside.bytes.now c.self.invariant (omega (arith, l))) ∙ ap is_root_path c.self.view_is

@@ -1,8 +1,8 @@
 use Rattle.std.proofs.Common.{◌≡◌, ℕ, ◌+◌, ◌-◌, ap, ◌∙◌, arith}
 use Rattle.lfs_model.specs.Tag.{tag_of_type_id_and_length}
 use Rattle.lfs_model.specs.EntryTypes.{no_id}
-use Rattle.lfs_model.specs.Commit.{checksum_type_before_bytes}
-use Rattle.lfs_tag.specs.Builder.{checksum_start, padded_end}
+use Rattle.lfs_model.specs.Commit.{checksum_tag_type_for_following_bytes}
+use Rattle.lfs_tag.specs.Builder.{checksum_start, padded_commit_end}
 use Rattle.lfs_tag.proofs.BuilderChecksums.{padded}
 use Rattle.lfs_tag.proofs.BuilderPages.{committed}
 use Rattle.lfs_tag.proofs.BuilderEnds.{Sealed, are_pages}
@@ -23,6 +23,6 @@ returns-clause-commit c =
       bytes = c.write_checksum_and_padding.ensures.bytes;
     } in
     let low = (padded c.args.self sealed.kept.power).low in
-    let size : end - (s.len + 4) ≡ padded_end c.args.self - checksum_start c.args.self - 4 = omega (arith, c.padded_end-end.ensures, c.if-buf-end.false, sealed.kept.len_is, low) in
-    let tag = c.checksum_tag-tag.ensures.tag ∙ ap (λ (n : ℕ). tag_of_type_id_and_length (checksum_type_before_bytes c.args.next) no_id n) size in
+    let size : end - (s.len + 4) ≡ padded_commit_end c.args.self - checksum_start c.args.self - 4 = omega (arith, c.padded_end-end.ensures, c.if-buf-end.false, sealed.kept.len_is, low) in
+    let tag = c.checksum_tag-tag.ensures.tag ∙ ap (λ (n : ℕ). tag_of_type_id_and_length (checksum_tag_type_for_following_bytes c.args.next) no_id n) size in
     committed c.args.self c.args.next _ _ _ (are_pages _ _ _ _ _ _ _ _ _ sealed c.args.next c.checksum_tag-tag.ensures.bytes tag)

@@ -13,8 +13,8 @@ loop-commit-preserved c = record {
   same = sym (chain_follows c.args.block.now c.loop-commit.start c.loop-commit.end c.loop-commit.last c.in-Some.commit c.in-Some.ensures.value) ∙ c.loop-commit.invariant.same;
 }
 
-pub known-requires-clause-end : goal.known-requires-clause-end
-known-requires-clause-end c = ap (λ (s : ℕ × ℕ). s.0) (sym (chain_stops c.args.block.now c.loop-commit.start c.loop-commit.end c.loop-commit.last c.in_default.ensures.value) ∙ c.loop-commit.invariant.same)
+pub with_known_end-requires-clause-end : goal.with_known_end-requires-clause-end
+with_known_end-requires-clause-end c = ap (λ (s : ℕ × ℕ). s.0) (sym (chain_stops c.args.block.now c.loop-commit.start c.loop-commit.end c.loop-commit.last c.in_default.ensures.value) ∙ c.loop-commit.invariant.same)
 
-pub known-requires-clause-last : goal.known-requires-clause-last
-known-requires-clause-last c = ap (λ (s : ℕ × ℕ). s.1) (sym (chain_stops c.args.block.now c.loop-commit.start c.loop-commit.end c.loop-commit.last c.in_default.ensures.value) ∙ c.loop-commit.invariant.same)
+pub with_known_end-requires-clause-last : goal.with_known_end-requires-clause-last
+with_known_end-requires-clause-last c = ap (λ (s : ℕ × ℕ). s.1) (sym (chain_stops c.args.block.now c.loop-commit.start c.loop-commit.end c.loop-commit.last c.in_default.ensures.value) ∙ c.loop-commit.invariant.same)

@@ -4,7 +4,7 @@ use Rattle.std.specs.List.{IsDistinct}
 use Rattle.std.specs.BTreeMap.{get}
 use Rattle.std.proofs.lemmas.List.{length-map, map-append}
 use Rattle.lfs_model.specs.Slots.{pair_address_of_array}
-use Rattle.lfs_thread.specs.Places.{IsIndexByLesserBlock, blocks_of_addresses, lesser_block_of}
+use Rattle.lfs_thread.specs.Places.{FindsPairAddressesByLesserBlock, blocks_of_pair_addresses, lesser_block_of}
 use Rattle.lfs_thread.proofs.ByBlocks.{few_places, one_more_place, put_at}
 use Rattle.lfs_thread.proofs.places.PairAddressList.add.Goals as goal
 
@@ -16,8 +16,8 @@ pub overflow_cast-place : goal.overflow_cast-place
 overflow_cast-place c =
     let addresses = map pair_address_of_array c.self.inside.addresses.items in
     let at = pair_address_of_array c.args.pair in
-    let here : lesser_block_of at < 2 ^ 32 = let e = c.lesser-block.ensures in omega (arith, e) in
-    let few : length addresses < 2 ^ 32 = few_places addresses at (subst (λ (xs : List (ℕ × ℕ)). IsDistinct nat_eq (blocks_of_addresses (xs ++ at ∷ []))) (sym c.self.view_is) c.requires) c.self.invariant.small here in
+    let here : lesser_block_of at < 2 ^ 32 = let e = c.lesser_block-block.ensures in omega (arith, e) in
+    let few : length addresses < 2 ^ 32 = few_places addresses at (subst (λ (xs : List (ℕ × ℕ)). IsDistinct nat_eq (blocks_of_pair_addresses (xs ++ at ∷ []))) (sym c.self.view_is) c.requires) c.self.invariant.small here in
     omega (arith, few, c.len-place.ensures, length-map c.self.inside.addresses.items pair_address_of_array)
 
 pub invariant_of-self-else-is_err : goal.invariant_of-self-else-is_err
@@ -29,7 +29,7 @@ invariant_of-self-else-is_err c =
     let up = ok_of c.insert.result c.insert.ensures.updates (sym c.is_err.ensures.value ∙ c.if-is_err.false) in
     let count : c.len-place.result ≡ length addresses = omega (arith, c.len-place.ensures, length-map c.self.inside.addresses.items pair_address_of_array) in
     let put : (q : ℕ) → new q ≡ put_at place (lesser_block_of at) (length addresses) q =
-    λ q. up.0 q ∙ ap (λ key. put_at place key c.len-place.result q) c.lesser-block.ensures ∙ ap (λ value. put_at place (lesser_block_of at) value q) count in
-    let here : lesser_block_of at < 2 ^ 32 = let e = c.lesser-block.ensures in omega (arith, e) in
-    subst (λ xs. IsIndexByLesserBlock xs new) (sym (ap (map pair_address_of_array) c.in_ok-push.ensures.items ∙ map-append pair_address_of_array c.self.inside.addresses.items (c.args.pair ∷ [])))
-    (one_more_place addresses place new c.self.invariant at (subst (λ (xs : List (ℕ × ℕ)). IsDistinct nat_eq (blocks_of_addresses (xs ++ at ∷ []))) (sym c.self.view_is) c.requires) here put)
+    λ q. up.0 q ∙ ap (λ key. put_at place key c.len-place.result q) c.lesser_block-block.ensures ∙ ap (λ value. put_at place (lesser_block_of at) value q) count in
+    let here : lesser_block_of at < 2 ^ 32 = let e = c.lesser_block-block.ensures in omega (arith, e) in
+    subst (λ xs. FindsPairAddressesByLesserBlock xs new) (sym (ap (map pair_address_of_array) c.in_ok-push.ensures.items ∙ map-append pair_address_of_array c.self.inside.addresses.items (c.args.pair ∷ [])))
+    (one_more_place addresses place new c.self.invariant at (subst (λ (xs : List (ℕ × ℕ)). IsDistinct nat_eq (blocks_of_pair_addresses (xs ++ at ∷ []))) (sym c.self.view_is) c.requires) here put)

@@ -6,8 +6,8 @@ use Rattle.lfs_thread.specs.Kept.{IsCacheCurrent, IsKeptThreadOnDisk, ThreadView
 use Rattle.lfs_thread.specs.CachedLog.{cached_log, cache_after_load}
 use Rattle.lfs_thread.proofs.CachedLogs.{current_filled, filled_front, filled_there}
 use Rattle.lfs_thread.proofs.Changing.{at_there, kept_read}
-use Rattle.lfs_model.specs.History.{reads}
-use Rattle.lfs_thread.specs.Steps.{HasReportedIoOrUnwrittenNoMemory}
+use Rattle.lfs_model.specs.History.{read_count_of_history}
+use Rattle.lfs_thread.specs.Steps.{IoMeantFaultNoMemoryWroteNothing}
 use Rattle.lfs_thread.proofs.Reported.{reported_from}
 use Rattle.lfs_thread.proofs.CachedPair.{active_is, active_there, few_reads}
 use Rattle.lfs_thread.proofs.thread.Thread.load_pair.Goals as goal
@@ -55,13 +55,13 @@ returns-clause-no_call g c there =
 
 pub returns-clause-few : goal.returns-clause-few
 returns-clause-few g c =
-    subst (λ (v : ThreadView). reads (g.D.BlockDevice.history c.fill.new.device) ≤ reads v.kept.history + 1) c.self.view_is
+    subst (λ (v : ThreadView). read_count_of_history (g.D.BlockDevice.history c.fill.new.device) ≤ read_count_of_history v.kept.history + 1) c.self.view_is
     (few_reads g.D.BlockDevice _ _ c.self.inside.device c.fill.new.device c.fill.result c.fill.ensures.calls c.fill.ensures.errors)
 
 pub returns-clause-errors : goal.returns-clause-errors
 returns-clause-errors g c =
     let e = c.fill.ensures in
-    subst (λ (v : ThreadView). HasReportedIoOrUnwrittenNoMemory v.kept (kept_thread_of_device g.D.BlockDevice c.fill.new.device c.self.inside.pairs.items c.self.inside.map) c.fill.result) c.self.view_is
+    subst (λ (v : ThreadView). IoMeantFaultNoMemoryWroteNothing v.kept (kept_thread_of_device g.D.BlockDevice c.fill.new.device c.self.inside.pairs.items c.self.inside.map) c.fill.result) c.self.view_is
     (reported_from g.D.BlockDevice c.self.inside.device c.fill.new.device c.self.inside.pairs.items c.self.inside.pairs.items c.self.inside.map c.self.inside.map c.fill.result (record { errors = e.errors; faults = e.faults; unwritten = λ no. e.device }))
 
 pub returns-clause-recent : goal.returns-clause-recent

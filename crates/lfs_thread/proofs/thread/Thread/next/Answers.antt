@@ -1,42 +1,42 @@
 use Rattle.std.proofs.Common.{ℕ, ap, sym, subst, ◌∙◌, ◌+◌, ◌<◌, length, Bool, Option, None, Some, if◌then◌else◌}
 use Rattle.lfs_model.specs.Thread.{is_hard_tail}
 use Rattle.lfs_thread.specs.Kept.{ThreadView, disk_of_device}
-use Rattle.lfs_thread.specs.Steps.{kept_pair_at_index}
+use Rattle.lfs_thread.specs.Steps.{thread_pair_at_index}
 use Rattle.lfs_thread.proofs.Changing.{at_there}
 use Rattle.lfs_thread.proofs.CachedPair.{next_there, tail_there}
 use Rattle.lfs_thread.proofs.thread.Thread.next.Goals as goal
 
-pub returns-then-is_hard-clause-next : goal.returns-then-is_hard-clause-next
-returns-then-is_hard-clause-next g c =
+pub returns-then-has_hard_tail-clause-next : goal.returns-then-has_hard_tail-clause-next
+returns-then-has_hard_tail-clause-next g c =
     let works = ap (λ (v : ThreadView). v.failed) c.self.view_is ∙ c.requires.works in
     let below = subst (λ (v : ThreadView). c.args.index < length v.kept.pairs) (sym c.self.view_is) c.requires.below in
     let disk = disk_of_device g.D.BlockDevice c.self.inside.device in
     let a = at_there disk c.self.inside.pairs.items c.args.index c.index.result.now below c.index.ensures in
-    let is = c.is_hard.ensures
+    let is = c.has_hard_tail.ensures
     ∙ ap is_hard_tail (tail_there disk (g.D.BlockDevice.history c.self.inside.device) c.self.inside.pairs.items c.self.inside.map c.args.index c.index.result.now a (c.self.invariant works).0)
-    ∙ ap (λ (v : ThreadView). is_hard_tail (kept_pair_at_index v.kept c.args.index).content.tail) c.self.view_is in
+    ∙ ap (λ (v : ThreadView). is_hard_tail (thread_pair_at_index v.kept c.args.index).content.tail) c.self.view_is in
     let none : Option ℕ = None in
-    ap (λ (b : Bool). if b then Some (c.args.index + 1) else none) (sym c.if-is_hard.true ∙ is)
+    ap (λ (b : Bool). if b then Some (c.args.index + 1) else none) (sym c.if-has_hard_tail.true ∙ is)
 
-pub returns-then-is_hard-clause-below : goal.returns-then-is_hard-clause-below
-returns-then-is_hard-clause-below g c =
+pub returns-then-has_hard_tail-clause-below : goal.returns-then-has_hard_tail-clause-below
+returns-then-has_hard_tail-clause-below g c =
     let works = ap (λ (v : ThreadView). v.failed) c.self.view_is ∙ c.requires.works in
     let below = subst (λ (v : ThreadView). c.args.index < length v.kept.pairs) (sym c.self.view_is) c.requires.below in
     let disk = disk_of_device g.D.BlockDevice c.self.inside.device in
     let a = at_there disk c.self.inside.pairs.items c.args.index c.index.result.now below c.index.ensures in
-    let is = c.is_hard.ensures
+    let is = c.has_hard_tail.ensures
     ∙ ap is_hard_tail (tail_there disk (g.D.BlockDevice.history c.self.inside.device) c.self.inside.pairs.items c.self.inside.map c.args.index c.index.result.now a (c.self.invariant works).0) in
     subst (λ (v : ThreadView). c.args.index + 1 < length v.kept.pairs) c.self.view_is
-    (next_there disk (g.D.BlockDevice.history c.self.inside.device) c.self.inside.pairs.items c.self.inside.map c.args.index c.index.result.now a (c.self.invariant works).0 (sym is ∙ c.if-is_hard.true))
+    (next_there disk (g.D.BlockDevice.history c.self.inside.device) c.self.inside.pairs.items c.self.inside.map c.args.index c.index.result.now a (c.self.invariant works).0 (sym is ∙ c.if-has_hard_tail.true))
 
-pub returns-else-is_hard-clause-next : goal.returns-else-is_hard-clause-next
-returns-else-is_hard-clause-next g c =
+pub returns-else-has_hard_tail-clause-next : goal.returns-else-has_hard_tail-clause-next
+returns-else-has_hard_tail-clause-next g c =
     let works = ap (λ (v : ThreadView). v.failed) c.self.view_is ∙ c.requires.works in
     let below = subst (λ (v : ThreadView). c.args.index < length v.kept.pairs) (sym c.self.view_is) c.requires.below in
     let disk = disk_of_device g.D.BlockDevice c.self.inside.device in
     let a = at_there disk c.self.inside.pairs.items c.args.index c.index.result.now below c.index.ensures in
-    let is = c.is_hard.ensures
+    let is = c.has_hard_tail.ensures
     ∙ ap is_hard_tail (tail_there disk (g.D.BlockDevice.history c.self.inside.device) c.self.inside.pairs.items c.self.inside.map c.args.index c.index.result.now a (c.self.invariant works).0)
-    ∙ ap (λ (v : ThreadView). is_hard_tail (kept_pair_at_index v.kept c.args.index).content.tail) c.self.view_is in
+    ∙ ap (λ (v : ThreadView). is_hard_tail (thread_pair_at_index v.kept c.args.index).content.tail) c.self.view_is in
     let none : Option ℕ = None in
-    ap (λ (b : Bool). if b then Some (c.args.index + 1) else none) (sym c.if-is_hard.false ∙ is)
+    ap (λ (b : Bool). if b then Some (c.args.index + 1) else none) (sym c.if-has_hard_tail.false ∙ is)

@@ -2,7 +2,7 @@ use Rattle.std.proofs.Common.{List, ap, map, ◌∙◌}
 use Rattle.std.specs.List.{fold}
 use Rattle.lfs_model.specs.Slots.{gstate_xor, zero_gstate}
 use Rattle.lfs_tag.specs.FieldsView.{move_view}
-use Rattle.lfs_model.specs.Thread.{gstate_of}
+use Rattle.lfs_model.specs.Thread.{gstate_of_pairs}
 use Rattle.lfs_thread.specs.Kept.{PairHeader, ThreadView, disk_of_device}
 use Rattle.lfs_thread.proofs.GlobalState.{state_is}
 use Rattle.lfs_thread.proofs.thread.Thread.state.Goals as goal
@@ -13,4 +13,4 @@ returns g c =
     let kept = (c.self.invariant works).0 in
     c.global_state_of_pairs.ensures ∙ ap (λ (hs : List PairHeader). fold gstate_xor zero_gstate (map (λ (p : PairHeader). move_view p.move_state) hs)) c.deref.ensures.value
     ∙ state_is (disk_of_device g.D.BlockDevice c.self.inside.device) (g.D.BlockDevice.history c.self.inside.device) c.self.inside.pairs.items kept.each
-    ∙ ap (λ (v : ThreadView). gstate_of v.kept.pairs) c.self.view_is
+    ∙ ap (λ (v : ThreadView). gstate_of_pairs v.kept.pairs) c.self.view_is

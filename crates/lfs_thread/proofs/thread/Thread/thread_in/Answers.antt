@@ -1,20 +1,20 @@
 use Rattle.std.proofs.Common.{◌+◌, subst}
 use Rattle.lfs_model.specs.Slots.{pair_address_of_array}
-use Rattle.lfs_thread.specs.Device.{blocks_of_two_addresses, blocks_of_address}
+use Rattle.lfs_thread.specs.Device.{blocks_of_two_pair_addresses, blocks_of_pair_address}
 use Rattle.lfs_thread.specs.Kept.{ThreadView, kept_thread_of_device}
 use Rattle.lfs_thread.specs.CachedLog.{cached_log, read_count_unless_cached}
-use Rattle.lfs_thread.specs.Steps.{HasReportedIoOrNoMemoryBesideBlocks, ThreadChangesWithFewReads, kept_pair_at_index}
+use Rattle.lfs_thread.specs.Steps.{IoMeantFaultNoMemoryKeptOtherBlocks, ThreadChangesOnlyBlocksWithinReadLimit, thread_pair_at_index}
 use Rattle.lfs_thread.proofs.Reported.{reported_beside_from, reading_from}
 use Rattle.lfs_thread.proofs.thread.Thread.thread_in.Goals as goal
 
 pub returns-clause-errors : goal.returns-clause-errors
 returns-clause-errors g c =
     let new = c.thread_in_fresh_pair-outcome.new in
-    subst (λ (v : ThreadView). HasReportedIoOrNoMemoryBesideBlocks (blocks_of_address (pair_address_of_array c.args.fresh)) v.kept (kept_thread_of_device g.D.BlockDevice new.device new.pairs.items new.map) c.thread_in_fresh_pair-outcome.result) c.self.view_is
-    (reported_beside_from g.D.BlockDevice c.self.inside.device new.device c.self.inside.pairs.items new.pairs.items c.self.inside.map new.map (blocks_of_address (pair_address_of_array c.args.fresh)) c.thread_in_fresh_pair-outcome.result c.thread_in_fresh_pair-outcome.ensures.errors)
+    subst (λ (v : ThreadView). IoMeantFaultNoMemoryKeptOtherBlocks (blocks_of_pair_address (pair_address_of_array c.args.fresh)) v.kept (kept_thread_of_device g.D.BlockDevice new.device new.pairs.items new.map) c.thread_in_fresh_pair-outcome.result) c.self.view_is
+    (reported_beside_from g.D.BlockDevice c.self.inside.device new.device c.self.inside.pairs.items new.pairs.items c.self.inside.map new.map (blocks_of_pair_address (pair_address_of_array c.args.fresh)) c.thread_in_fresh_pair-outcome.result c.thread_in_fresh_pair-outcome.ensures.errors)
 
 pub returns-clause-device : goal.returns-clause-device
 returns-clause-device g c =
     let new = c.thread_in_fresh_pair-outcome.new in
-    subst (λ (v : ThreadView). ThreadChangesWithFewReads (3 + read_count_unless_cached (cached_log v c.args.index)) (blocks_of_two_addresses (kept_pair_at_index v.kept c.args.index).at (pair_address_of_array c.args.fresh)) v.kept (kept_thread_of_device g.D.BlockDevice new.device new.pairs.items new.map)) c.self.view_is
+    subst (λ (v : ThreadView). ThreadChangesOnlyBlocksWithinReadLimit (3 + read_count_unless_cached (cached_log v c.args.index)) (blocks_of_two_pair_addresses (thread_pair_at_index v.kept c.args.index).at (pair_address_of_array c.args.fresh)) v.kept (kept_thread_of_device g.D.BlockDevice new.device new.pairs.items new.map)) c.self.view_is
     (reading_from g.D.BlockDevice c.self.inside.device new.device c.self.inside.pairs.items new.pairs.items c.self.inside.map new.map _ c.thread_in_fresh_pair-outcome.ensures.device)

@@ -5,7 +5,7 @@ use Rattle.lfs_tool.proofs.ExcerptCalls.{has_read_next}
 use Rattle.lfs_tool.proofs.excerpt.ExcerptBlockDevice.erase.Goals as goal
 
 pub invariant_of-self-clause-has_read : goal.invariant_of-self-clause-has_read
-invariant_of-self-clause-has_read c = has_read_next c.from_proof-self.ensures (λ is. absurd (cc)) c.args.self.now.has_read
+invariant_of-self-clause-has_read c = has_read_next c.with_history_chosen_by_proof-self.ensures (λ is. absurd (cc)) c.args.self.now.has_read
 
 pub invariant_of-self-clause-conforms : goal.invariant_of-self-clause-conforms
-invariant_of-self-clause-conforms c = conforms_next c.from_proof-self.ensures (conforms_erase _ _ _ _ (AreBlocksEqualExceptOne-refl c.args.block (excerpt_blocks c.args.self.now))) c.args.self.now.conforms
+invariant_of-self-clause-conforms c = conforms_next c.with_history_chosen_by_proof-self.ensures (conforms_erase _ _ _ _ (AreBlocksEqualExceptOne-refl c.args.block (excerpt_blocks c.args.self.now))) c.args.self.now.conforms

@@ -1,9 +1,9 @@
 use Rattle.std.proofs.Common.{◌≡◌, None, subst, sym}
 use Rattle.std.specs.Prelude.{IfOk}
 use Rattle.lfs_model.specs.Cache.{cached_block_limit}
-use Rattle.lfs_model.specs.Frame.{parents}
-use Rattle.lfs_lookup.specs.CachedPairs.{AreDirectoriesAmongLastUsed, AreFewDirectoriesOfOnePairEach}
-use Rattle.lfs_tree.specs.Reads.{ReadsEachPairOnce}
+use Rattle.lfs_model.specs.Frame.{ancestor_paths_of_path}
+use Rattle.lfs_lookup.specs.CachedPairs.{AreDirectoriesAtThesePathsAmongLastUsed, AreFewDirectoriesOfOnePairEach}
+use Rattle.lfs_tree.specs.Reads.{ReadsDirectoryPairsAtMostOnce}
 use Rattle.lfs_tree.specs.TreeState.{TreeState}
 use Rattle.lfs_lookup.proofs.LoadedDown.{hand_after}
 use Rattle.lfs_thread.specs.Kept.{ThreadView}
@@ -20,11 +20,11 @@ returns-clause-asks g c =
 
 pub returns-clause-few : goal.returns-clause-few
 returns-clause-few g c =
-    subst (λ (t : ThreadView). ReadsEachPairOnce (parents c.args.path.now) c.args.self.now t.kept.history) (sym c.mark_thread_failed_on_error.ensures)
-    (subst (λ (s : TreeState). ReadsEachPairOnce (parents c.args.path.now) s c.find_node_at_path-found.new.thread.kept.history) c.self.view_is (record { few = c.find_node_at_path-found.ensures.few; none = c.find_node_at_path-found.ensures.loads.none }))
+    subst (λ (t : ThreadView). ReadsDirectoryPairsAtMostOnce (ancestor_paths_of_path c.args.path.now) c.args.self.now t.kept.history) (sym c.mark_thread_failed_on_error.ensures)
+    (subst (λ (s : TreeState). ReadsDirectoryPairsAtMostOnce (ancestor_paths_of_path c.args.path.now) s c.find_node_at_path-found.new.thread.kept.history) c.self.view_is (record { few = c.find_node_at_path-found.ensures.few; none = c.find_node_at_path-found.ensures.loads.none }))
 
 pub returns-clause-hand : goal.returns-clause-hand
 returns-clause-hand g c = λ small.
-    subst (λ (t : ThreadView). IfOk c.find_node_at_path-found.result (λ found. found.fault ≡ None → AreDirectoriesAmongLastUsed cached_block_limit t.kept.disk t.cache t.kept.pairs (parents c.args.path.now))) (sym c.mark_thread_failed_on_error.ensures)
-    (hand_after c.self.inside.thread c.find_node_at_path-found.new.thread (λ found. found.fault ≡ None) (parents c.args.path.now) c.find_node_at_path-found.result c.find_node_at_path-found.ensures.loads c.find_node_at_path-found.ensures.reading.only
-    (subst (λ (s : TreeState). AreFewDirectoriesOfOnePairEach s.pairs (parents c.args.path.now)) (sym c.self.view_is) small))
+    subst (λ (t : ThreadView). IfOk c.find_node_at_path-found.result (λ found. found.fault ≡ None → AreDirectoriesAtThesePathsAmongLastUsed cached_block_limit t.kept.disk t.cache t.kept.pairs (ancestor_paths_of_path c.args.path.now))) (sym c.mark_thread_failed_on_error.ensures)
+    (hand_after c.self.inside.thread c.find_node_at_path-found.new.thread (λ found. found.fault ≡ None) (ancestor_paths_of_path c.args.path.now) c.find_node_at_path-found.result c.find_node_at_path-found.ensures.loads c.find_node_at_path-found.ensures.reading.only
+    (subst (λ (s : TreeState). AreFewDirectoriesOfOnePairEach s.pairs (ancestor_paths_of_path c.args.path.now)) (sym c.self.view_is) small))

@@ -1,11 +1,11 @@
 use Rattle.std.proofs.Common.{◌≤◌, ◌+◌, ap, subst, sym, ◌∙◌}
 use Rattle.std.specs.Prelude.{IfOk, IfSome, sum_by}
 use Rattle.lfs_model.specs.Frame.{pair_count_of_directory_at}
-use Rattle.lfs_model.specs.History.{reads}
-use Rattle.lfs_model.specs.Thread.{gstate_of}
+use Rattle.lfs_model.specs.History.{read_count_of_history}
+use Rattle.lfs_model.specs.Thread.{gstate_of_pairs}
 use Rattle.lfs_thread.specs.Kept.{ThreadView}
-use Rattle.lfs_tree.specs.RootedThreads.{IsSoundThreadWithRoot}
-use Rattle.lfs_tree.specs.RenamePaths.{AreRenameTargets, directories_of_rename}
+use Rattle.lfs_tree.specs.RootedThreads.{IsSoundThreadWithRootAtPairNumber}
+use Rattle.lfs_tree.specs.RenamePaths.{AreRenameTargets, directories_searched_for_rename}
 use Rattle.lfs_tree.specs.TreeState.{TreeState}
 use Rattle.lfs_tree.proofs.Asking.{asking, held, rooted_held}
 use Rattle.lfs_tree.proofs.RenamePaths.{found_since}
@@ -13,7 +13,7 @@ use Rattle.lfs_tree.proofs.tree.Tree.look_up_rename.Goals as goal
 
 pub look_up_both_rename_paths-found-requires : goal.look_up_both_rename_paths-found-requires
 look_up_both_rename_paths-found-requires g c =
-    subst (λ a. IsSoundThreadWithRoot c.self.inside.thread c.self.inside.root a) (ap (λ (s : TreeState). s.writable) c.self.view_is ∙ c.requires.writable)
+    subst (λ a. IsSoundThreadWithRootAtPairNumber c.self.inside.thread c.self.inside.root a) (ap (λ (s : TreeState). s.writable) c.self.view_is ∙ c.requires.writable)
     (rooted_held c.self.inside.thread c.self.inside.root c.self.inside.is_writable c.args.self.now c.self.invariant c.self.view_is c.requires.works)
 
 pub invariant_of-self : goal.invariant_of-self
@@ -30,9 +30,9 @@ returns-clause-targets g c =
     (found_since c.self.inside.thread.kept c.look_up_both_rename_paths-found.new.thread.kept c.args.from.now c.args.to.now c.look_up_both_rename_paths-found.result c.look_up_both_rename_paths-found.ensures.reading.only c.look_up_both_rename_paths-found.ensures.targets)
 
 pub returns-clause-handed_on : goal.returns-clause-handed_on
-returns-clause-handed_on g c = λ settled. c.look_up_both_rename_paths-found.ensures.handed_on (ap (λ (s : TreeState). gstate_of s.pairs) c.self.view_is ∙ settled)
+returns-clause-handed_on g c = λ settled. c.look_up_both_rename_paths-found.ensures.handed_on (ap (λ (s : TreeState). gstate_of_pairs s.pairs) c.self.view_is ∙ settled)
 
 pub returns-clause-few : goal.returns-clause-few
 returns-clause-few g c =
-    subst (λ (t : ThreadView). reads t.kept.history ≤ reads c.args.self.now.history + sum_by (pair_count_of_directory_at c.args.self.now.pairs) (directories_of_rename c.args.from.now c.args.to.now)) (sym c.mark_thread_failed_on_error.ensures)
-    (subst (λ (s : TreeState). reads c.look_up_both_rename_paths-found.new.thread.kept.history ≤ reads s.history + sum_by (pair_count_of_directory_at s.pairs) (directories_of_rename c.args.from.now c.args.to.now)) c.self.view_is c.look_up_both_rename_paths-found.ensures.few)
+    subst (λ (t : ThreadView). read_count_of_history t.kept.history ≤ read_count_of_history c.args.self.now.history + sum_by (pair_count_of_directory_at c.args.self.now.pairs) (directories_searched_for_rename c.args.from.now c.args.to.now)) (sym c.mark_thread_failed_on_error.ensures)
+    (subst (λ (s : TreeState). read_count_of_history c.look_up_both_rename_paths-found.new.thread.kept.history ≤ read_count_of_history s.history + sum_by (pair_count_of_directory_at s.pairs) (directories_searched_for_rename c.args.from.now c.args.to.now)) c.self.view_is c.look_up_both_rename_paths-found.ensures.few)

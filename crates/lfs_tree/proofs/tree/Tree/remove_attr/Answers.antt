@@ -3,7 +3,7 @@ use Rattle.std.proofs.lemmas.Result.{err_from_is_err_and}
 use Rattle.lfs_model.specs.Operations as ops
 use Rattle.lfs_tree.specs.Permissions.{CanRemoveAttrInImage}
 use Rattle.lfs_tree.specs.Calls as call
-use Rattle.lfs_tree.specs.TreeState.{kept_of}
+use Rattle.lfs_tree.specs.TreeState.{kept_thread_of_tree_state}
 use Rattle.lfs_tree.proofs.Operated.{plain_clear}
 use Rattle.lfs_tree.proofs.RecoveredFirst.{remove_attr_after}
 use Rattle.lfs_tree.proofs.TreeCalls.{allowed, held_noted, operates_noted, recovery_failed, rests_behind, settled_here}
@@ -19,7 +19,7 @@ remove_attr_at-removed-requires-clause-rests g c = rests_behind c.args.self.now 
 
 pub remove_attr_at-removed-requires-clause-can : goal.remove_attr_at-removed-requires-clause-can
 remove_attr_at-removed-requires-clause-can g c =
-    remove_attr_after (kept_of c.args.self.now) c.self.inside.thread.kept (settled_here c.args.self.now c.recover.new.self c.requires.works c.requires.writable (c.in_ok-recover.ensures.does.done ops.Recover refl) c.in_ok-recover.ensures.settled c.self.inside.thread c.self.inside.root c.self.inside.is_writable c.self.invariant c.self.view_is) c.args.path.now c.args.kind
+    remove_attr_after (kept_thread_of_tree_state c.args.self.now) c.self.inside.thread.kept (settled_here c.args.self.now c.recover.new.self c.requires.works c.requires.writable (c.in_ok-recover.ensures.does.done ops.Recover refl) c.in_ok-recover.ensures.settled c.self.inside.thread c.self.inside.root c.self.inside.is_writable c.self.invariant c.self.view_is) c.args.path.now c.args.kind
     (allowed c.args.self.now c.recover.new.self c.requires.works c.requires.writable (c.in_ok-recover.ensures.does.done ops.Recover refl) c.in_ok-recover.ensures.settled c.self.inside.thread c.self.inside.root c.self.inside.is_writable c.self.invariant c.self.view_is (λ s. CanRemoveAttrInImage s c.args.path.now c.args.kind) c.requires)
 
 pub invariant_of-self : goal.invariant_of-self

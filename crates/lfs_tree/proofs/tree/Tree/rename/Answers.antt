@@ -3,7 +3,7 @@ use Rattle.std.proofs.lemmas.Result.{err_from_is_err_and}
 use Rattle.lfs_model.specs.Operations as ops
 use Rattle.lfs_tree.specs.Permissions.{CanRenameInImage}
 use Rattle.lfs_tree.specs.Calls as call
-use Rattle.lfs_tree.specs.TreeState.{kept_of}
+use Rattle.lfs_tree.specs.TreeState.{kept_thread_of_tree_state}
 use Rattle.lfs_tree.proofs.Operated.{plain_rename}
 use Rattle.lfs_tree.proofs.RecoveredFirst.{rename_after}
 use Rattle.lfs_tree.proofs.RenamePaths.{known_behind}
@@ -20,11 +20,11 @@ rename_at-renamed-requires-clause-rests g c = rests_behind c.args.self.now c.rec
 
 pub rename_at-renamed-requires-clause-can : goal.rename_at-renamed-requires-clause-can
 rename_at-renamed-requires-clause-can g c =
-    rename_after (kept_of c.args.self.now) c.self.inside.thread.kept (settled_here c.args.self.now c.recover.new.self c.requires.can.works c.requires.can.writable (c.in_ok-recover.ensures.does.done ops.Recover refl) c.in_ok-recover.ensures.settled c.self.inside.thread c.self.inside.root c.self.inside.is_writable c.self.invariant c.self.view_is) c.args.from.now c.args.to.now
+    rename_after (kept_thread_of_tree_state c.args.self.now) c.self.inside.thread.kept (settled_here c.args.self.now c.recover.new.self c.requires.can.works c.requires.can.writable (c.in_ok-recover.ensures.does.done ops.Recover refl) c.in_ok-recover.ensures.settled c.self.inside.thread c.self.inside.root c.self.inside.is_writable c.self.invariant c.self.view_is) c.args.from.now c.args.to.now
     (allowed c.args.self.now c.recover.new.self c.requires.can.works c.requires.can.writable (c.in_ok-recover.ensures.does.done ops.Recover refl) c.in_ok-recover.ensures.settled c.self.inside.thread c.self.inside.root c.self.inside.is_writable c.self.invariant c.self.view_is (λ s. CanRenameInImage s c.args.from.now c.args.to.now) c.requires.can)
 
 pub rename_at-renamed-requires-clause-known : goal.rename_at-renamed-requires-clause-known
-rename_at-renamed-requires-clause-known g c = known_behind c.args.self.now c.recover.new.self c.self.inside.thread c.args.from.now c.args.to.now c.args.known c.recover.ensures.idle (ap kept_of c.self.view_is) c.requires.known
+rename_at-renamed-requires-clause-known g c = known_behind c.args.self.now c.recover.new.self c.self.inside.thread c.args.from.now c.args.to.now c.args.known c.recover.ensures.idle (ap kept_thread_of_tree_state c.self.view_is) c.requires.known
 
 pub invariant_of-self : goal.invariant_of-self
 invariant_of-self g c =

@@ -1,7 +1,7 @@
 use Rattle.std.proofs.Common.{◌∙◌, ◌≤◌, sym, ap, subst}
 use Rattle.std.specs.Prelude.{IfOk}
 use Rattle.lfs_model.specs.Disk.{inline_limit}
-use Rattle.lfs_tree.specs.OpenContents.{CanTruncateWriterContents, AreWriterContentsOverTreeFile, AreWriterContentsOverKeptFile}
+use Rattle.lfs_tree.specs.OpenContents.{CanTruncateWriterContents, AreWriterContentsOverTreeFile, AreWriterContentsOverFileOnThread}
 use Rattle.lfs_tree.specs.TreeState.{TreeState}
 use Rattle.lfs_thread.specs.Kept.{ThreadView}
 use Rattle.lfs_tree.proofs.Asking.{rooted_held}
@@ -23,7 +23,7 @@ invariant_of-self g c =
 pub returns-clause-over : goal.returns-clause-over
 returns-clause-over g c path over =
     let held = rooted_held c.self.inside.thread c.self.inside.root c.self.inside.is_writable c.args.self.now c.self.invariant c.self.view_is c.requires.works in
-    subst (λ (t : ThreadView). IfOk c.truncate_file-truncated.result (AreWriterContentsOverKeptFile t.kept path)) (sym c.mark_thread_failed_on_error.ensures)
+    subst (λ (t : ThreadView). IfOk c.truncate_file-truncated.result (AreWriterContentsOverFileOnThread t.kept path)) (sym c.mark_thread_failed_on_error.ensures)
     (all_over c.self.inside.thread c.truncate_file-truncated.new.thread c.self.inside.root c.self.inside.is_writable held c.truncate_file-truncated.ensures.works c.truncate_file-truncated.ensures.leaves
     path c.args.contents _ _ c.truncate_file-truncated.result (subst (λ (s : TreeState). AreWriterContentsOverTreeFile s path c.args.contents) (sym c.self.view_is) over) c.truncate_file-truncated.ensures.truncated c.truncate_file-truncated.ensures.owned)
 

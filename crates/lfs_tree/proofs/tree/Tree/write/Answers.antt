@@ -1,7 +1,7 @@
 use Rattle.std.proofs.Common.{◌∙◌, ◌≤◌, sym, ap, subst}
 use Rattle.std.specs.Prelude.{IfOk, length}
 use Rattle.lfs_model.specs.Disk.{inline_limit}
-use Rattle.lfs_tree.specs.OpenContents.{CanWriteWriterContents, AreWriterContentsOverTreeFile, AreWriterContentsOverKeptFile}
+use Rattle.lfs_tree.specs.OpenContents.{CanWriteWriterContents, AreWriterContentsOverTreeFile, AreWriterContentsOverFileOnThread}
 use Rattle.lfs_tree.specs.TreeState.{TreeState}
 use Rattle.lfs_thread.specs.Kept.{ThreadView}
 use Rattle.lfs_tree.proofs.Asking.{rooted_held}
@@ -23,7 +23,7 @@ invariant_of-self g c =
 pub returns-clause-over : goal.returns-clause-over
 returns-clause-over g c path over =
     let held = rooted_held c.self.inside.thread c.self.inside.root c.self.inside.is_writable c.args.self.now c.self.invariant c.self.view_is c.requires.works in
-    subst (λ (t : ThreadView). IfOk c.write_file-written.result (AreWriterContentsOverKeptFile t.kept path)) (sym c.mark_thread_failed_on_error.ensures)
+    subst (λ (t : ThreadView). IfOk c.write_file-written.result (AreWriterContentsOverFileOnThread t.kept path)) (sym c.mark_thread_failed_on_error.ensures)
     (all_over c.self.inside.thread c.write_file-written.new.thread c.self.inside.root c.self.inside.is_writable held c.write_file-written.ensures.works c.write_file-written.ensures.leaves
     path c.args.contents _ _ c.write_file-written.result (subst (λ (s : TreeState). AreWriterContentsOverTreeFile s path c.args.contents) (sym c.self.view_is) over) c.write_file-written.ensures.written c.write_file-written.ensures.owned)
 

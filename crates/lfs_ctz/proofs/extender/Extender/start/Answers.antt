@@ -1,6 +1,0 @@
-use Rattle.std.proofs.Common.{refl, arith}
-use Rattle.lfs_ctz.proofs.Stands.{grown_closed}
-use Rattle.lfs_ctz.proofs.extender.Extender.start.Goals as goal
-
-pub returns-clause-started : goal.returns-clause-started
-returns-clause-started c = record { grown = grown_closed _ _ _ _ refl refl (omega (arith, c.args.geometry.valid.no_smaller)) refl refl refl refl; listed = refl }

@@ -1,0 +1,30 @@
+use Rattle.std.proofs.Common.{◌∙◌, List, map, sym, ap, subst, arith}
+use Rattle.std.proofs.lemmas.Option.{same_Some}
+use Rattle.lfs_model.specs.Log.{log_entries_of_block}
+use Rattle.lfs_model.specs.Content.{RawPairContent, RawSlot, content_after_log_entries, empty_raw_pair_content, slot_of_id}
+use Rattle.lfs_model.specs.LoggedContent.{AreAttributesInTypeOrder, AreWellFormedRawSlots}
+use Rattle.lfs_model.specs.Slots.{attributes_size}
+use Rattle.lfs_model.proofs.Logged.{logged}
+use Rattle.lfs_model.proofs.Completed.{completed_parts}
+use Rattle.lfs_tag.specs.ContentView.{content_view, slot_view}
+use Rattle.lfs_lookup.proofs.AttributeAtSlots.{parts_of_id, same_attributes}
+use Rattle.lfs_lookup.proofs.AttributesPut.{sized}
+use Rattle.lfs_lookup.proofs.BytesAtSlots.{raw_slot}
+use Rattle.lfs_lookup.proofs.attribute_sizes.attributes_size_of_id_in_log.Goals as goal
+
+pub attributes_size_of_id_in_slots-requires : goal.attributes_size_of_id_in_slots-requires
+attributes_size_of_id_in_slots-requires c =
+    let (content, is) = c.requires in
+    let read = c.in_ok-content.ensures.content in
+    let sound = logged c.args.log.now (content_view c.in_ok-content.content) is.bytes read in
+    subst AreWellFormedRawSlots (sym (ap (map slot_view) c.deref.ensures.value)) sound.slots
+
+pub returns-clause-is : goal.returns-clause-is
+returns-clause-is c content slot is at =
+    let read = c.in_ok-content.ensures.content in
+    let sound = logged c.args.log.now (content_view c.in_ok-content.content) is.bytes read in
+    let same = ap (λ (r : RawPairContent). r.slots) (same_Some (content_view c.in_ok-content.content) is.raw (sym read ∙ is.log)) in
+    let held = same_attributes (slot_of_id is.raw.slots c.args.id) slot (raw_slot is.raw.slots content.slots c.args.id slot (completed_parts is.raw content is.complete).slots at) in
+    let whole = ap (λ (raw : List RawSlot). (slot_of_id raw c.args.id).attributes) same ∙ held in
+    sized slot.attributes c.attributes_size_of_id_in_slots.result (subst (AreAttributesInTypeOrder 0) whole (parts_of_id (content_view c.in_ok-content.content).slots c.args.id sound.slots).attributes)
+    (c.attributes_size_of_id_in_slots.ensures ∙ ap (λ (raw : List RawSlot). attributes_size (slot_of_id raw c.args.id).attributes) (ap (map slot_view) c.deref.ensures.value) ∙ ap attributes_size whole)

@@ -1,0 +1,58 @@
+use Rattle.std.proofs.Common.{◌≡◌, ◌<◌, ◌∙◌, List, Some, ap, arith, length, slice_get, slice_index_or, subst, sym}
+use Rattle.std.specs.Prelude.{IfOk}
+use Rattle.lfs_model.specs.History.{read_count_of_history}
+use Rattle.lfs_model.specs.Thread.{Pair}
+use Rattle.lfs_lookup.specs.AttributeAt.{IsAttributesSize}
+use Rattle.lfs_thread.specs.Kept.{KeptThread}
+use Rattle.lfs_thread.specs.Steps.{empty_pair_at_anchor}
+use Rattle.lfs_lookup.proofs.AttributeAtSlots.{no_slot, slot_is_cached, slot_for}
+use Rattle.lfs_lookup.proofs.AttributesPut.{none_sized}
+use Rattle.lfs_lookup.proofs.Reading.{answered, further}
+use Rattle.lfs_lookup.proofs.attribute_sizes.find_total_size_of_attributes_at_path.Goals as goal
+
+pub attributes_size_of_slot-requires-clause-below : goal.attributes_size_of_slot-requires-clause-below
+attributes_size_of_slot-requires-clause-below g c =
+    let t = c.args.thread.now.kept in
+    let f = slot_for t c.args.path.now c.in_ok-shown.shown c.in-Some.slot c.in_ok-shown.ensures.shown (sym c.spot_of_entry_if_found.ensures ∙ c.in-Some.is) in
+    subst (λ (ps : List Pair). c.in-Some.slot.pair < length ps) (sym c.lookup_result_at_path.ensures.reading.only.pairs) f.below
+
+pub attributes_size_of_slot-requires-clause-cached_log : goal.attributes_size_of_slot-requires-clause-cached_log
+attributes_size_of_slot-requires-clause-cached_log g c =
+    slot_is_cached c.lookup_result_at_path.new.thread c.in_ok-shown.shown (Some c.in-Some.slot) c.in_ok-shown.ensures.cached_log (sym (sym c.spot_of_entry_if_found.ensures ∙ c.in-Some.is))
+
+pub returns-clause-is : goal.returns-clause-is
+returns-clause-is g c =
+    let t = c.args.thread.now.kept in
+    let f = slot_for t c.args.path.now c.in_ok-shown.shown c.in-Some.slot c.in_ok-shown.ensures.shown (sym c.spot_of_entry_if_found.ensures ∙ c.in-Some.is) in
+    subst (λ a. IfOk c.attributes_size_of_slot.result (IsAttributesSize a)) f.attributes
+    (c.attributes_size_of_slot.ensures.is f.held
+    (subst (λ (ps : List Pair). slice_get (slice_index_or ps c.in-Some.slot.pair empty_pair_at_anchor).content.slots c.in-Some.slot.id ≡ Some f.held) (sym c.lookup_result_at_path.ensures.reading.only.pairs) f.there))
+
+pub returns-clause-reading : goal.returns-clause-reading
+returns-clause-reading g c =
+    further _ _ _ c.attributes_size_of_slot.result (answered _ _ c.lookup_result_at_path.result c.in_ok-shown.shown c.in_ok-shown.was c.lookup_result_at_path.ensures.reading) c.attributes_size_of_slot.ensures.reading
+
+pub returns-in_default-clause-is : goal.returns-in_default-clause-is
+returns-in_default-clause-is g c =
+    subst (λ a. IsAttributesSize a 0) (sym (no_slot c.args.thread.now.kept c.args.path.now c.in_ok-shown.shown c.in_ok-shown.ensures.shown (sym c.spot_of_entry_if_found.ensures ∙ c.in_default.is))) none_sized
+
+pub returns-clause-few : goal.returns-clause-few
+returns-clause-few g c =
+    let f = c.lookup_result_at_path.ensures.few in
+    let e = ap (λ (t : KeptThread). read_count_of_history t.history) c.attributes_size_of_slot.ensures.no_call in
+    omega (arith, f, e)
+
+pub returns-in_err-shown-clause-kept : goal.returns-in_err-shown-clause-kept
+returns-in_err-shown-clause-kept g c = c.lookup_result_at_path.ensures.loads.none
+
+pub returns-in_default-clause-kept : goal.returns-in_default-clause-kept
+returns-in_default-clause-kept g c = c.lookup_result_at_path.ensures.loads.none
+
+pub returns-clause-kept : goal.returns-clause-kept
+returns-clause-kept g c = λ there. ap (λ (t : KeptThread). read_count_of_history t.history) c.attributes_size_of_slot.ensures.no_call ∙ c.lookup_result_at_path.ensures.loads.none there
+
+pub returns-clause-halves : goal.returns-clause-halves
+returns-clause-halves g c settled slots =
+    let k = c.lookup_result_at_path.ensures.halves settled slots in
+    let e = ap (λ (t : KeptThread). read_count_of_history t.history) c.attributes_size_of_slot.ensures.no_call in
+    omega (arith, k, e)

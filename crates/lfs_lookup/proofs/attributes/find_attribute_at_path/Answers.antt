@@ -1,0 +1,80 @@
+use Rattle.std.proofs.Common.{◌∙◌, ap, refl, arith}
+use Rattle.std.proofs.lemmas.Result.{err_from_is_err_and}
+use Rattle.lfs_model.specs.History.{read_count_of_history}
+use Rattle.lfs_model.specs.TreeEdits.{attributes_of_node}
+use Rattle.lfs_model.specs.Shown.{tree_on_disk}
+use Rattle.lfs_thread.specs.Kept.{KeptThread}
+use Rattle.lfs_lookup.proofs.AtPaths.{sized_on}
+use Rattle.lfs_lookup.proofs.AttributeAtSlots.{are_held, held_later, slot_is_cached, slot_within}
+use Rattle.lfs_lookup.proofs.Reading.{answered, answers, both, further, passed}
+use Rattle.lfs_lookup.proofs.ShownFindings.{found_shown, in_entry}
+use Rattle.lfs_lookup.proofs.attributes.find_attribute_at_path.Goals as goal
+
+pub attribute_of_optional_slot-requires-clause-below : goal.attribute_of_optional_slot-requires-clause-below
+attribute_of_optional_slot-requires-clause-below g c =
+    slot_within c.args.thread.now.kept c.args.path.now c.in_ok-shown.shown c.spot_of_entry_if_found.result c.lookup_result_at_path.new.thread.kept.pairs c.in_ok-shown.ensures.shown c.spot_of_entry_if_found.ensures c.lookup_result_at_path.ensures.reading.only.pairs
+
+pub attribute_of_optional_slot-requires-clause-cached_log : goal.attribute_of_optional_slot-requires-clause-cached_log
+attribute_of_optional_slot-requires-clause-cached_log g c = slot_is_cached c.lookup_result_at_path.new.thread c.in_ok-shown.shown c.spot_of_entry_if_found.result c.in_ok-shown.ensures.cached_log c.spot_of_entry_if_found.ensures
+
+pub returns-in_err-bytes-clause-reading : goal.returns-in_err-bytes-clause-reading
+returns-in_err-bytes-clause-reading g c =
+    let p = err_from_is_err_and c.from_residual-in_err-bytes.result c.from_residual-in_err-bytes.ensures.1 in
+    passed _ _ c.attribute_of_optional_slot.result c.from_residual-in_err-bytes.result _ p.0 c.in_err-bytes.was p.1 p.2
+    (further _ _ _ c.attribute_of_optional_slot.result (answered _ _ c.lookup_result_at_path.result c.in_ok-shown.shown c.in_ok-shown.was c.lookup_result_at_path.ensures.reading) c.attribute_of_optional_slot.ensures.reading)
+
+pub returns-in_err-bytes-clause-few : goal.returns-in_err-bytes-clause-few
+returns-in_err-bytes-clause-few g c =
+    let f = c.lookup_result_at_path.ensures.few in
+    let e = ap (λ (t : KeptThread). read_count_of_history t.history) c.attribute_of_optional_slot.ensures.no_call in
+    omega (arith, f, e)
+
+pub found_node_from_lookup_result-requires : goal.found_node_from_lookup_result-requires
+found_node_from_lookup_result-requires g c = in_entry c.args.thread.now.kept c.args.path.now c.in_ok-shown.shown c.in_ok-shown.ensures.shown
+
+pub returns-clause-found : goal.returns-clause-found
+returns-clause-found g c =
+    let t = c.args.thread.now.kept in
+    let device = c.device-device.result.now in
+    found_shown t c.args.path.now c.requires.accepted c.args.root c.in_ok-shown.shown c.found_node_from_lookup_result.result c.requires.root
+    (sized_on g.D.BlockDevice device t.disk (g.D.BlockDevice.geometry device).block_count (c.device-device.ensures.disk ∙ c.attribute_of_optional_slot.ensures.reading.only.disk ∙ c.lookup_result_at_path.ensures.reading.only.disk)
+    (g.D.BlockDevice.geometry device).valid.no_smaller (g.met.D.BlockDevice.shape device))
+    c.in_ok-shown.ensures.shown c.found_node_from_lookup_result.ensures
+
+pub returns-clause-is : goal.returns-clause-is
+returns-clause-is g c =
+    let t = c.args.thread.now.kept in
+    let held = are_held t c.args.path.now c.in_ok-shown.shown c.spot_of_entry_if_found.result c.in_ok-shown.ensures.shown c.spot_of_entry_if_found.ensures in
+    c.in_ok-bytes.ensures.is (attributes_of_node (tree_on_disk t.disk t.pairs c.args.path.now)) (held_later t c.lookup_result_at_path.new.thread.kept c.spot_of_entry_if_found.result _ c.lookup_result_at_path.ensures.reading.only.pairs held)
+
+pub returns-clause-few : goal.returns-clause-few
+returns-clause-few g c =
+    let f = c.lookup_result_at_path.ensures.few in
+    let e = ap (λ (t : KeptThread). read_count_of_history t.history) c.attribute_of_optional_slot.ensures.no_call in
+    omega (arith, f, e)
+
+pub returns-clause-reading : goal.returns-clause-reading
+returns-clause-reading g c =
+    answers _ _ _ _ refl (both _ _ _ (answered _ _ c.lookup_result_at_path.result c.in_ok-shown.shown c.in_ok-shown.was c.lookup_result_at_path.ensures.reading)
+    (answered _ _ c.attribute_of_optional_slot.result c.in_ok-bytes.bytes c.in_ok-bytes.was c.attribute_of_optional_slot.ensures.reading))
+
+pub returns-in_err-shown-clause-kept : goal.returns-in_err-shown-clause-kept
+returns-in_err-shown-clause-kept g c = c.lookup_result_at_path.ensures.loads.none
+
+pub returns-in_err-bytes-clause-kept : goal.returns-in_err-bytes-clause-kept
+returns-in_err-bytes-clause-kept g c = λ there. ap (λ (t : KeptThread). read_count_of_history t.history) c.attribute_of_optional_slot.ensures.no_call ∙ c.lookup_result_at_path.ensures.loads.none there
+
+pub returns-clause-kept : goal.returns-clause-kept
+returns-clause-kept g c = λ there. ap (λ (t : KeptThread). read_count_of_history t.history) c.attribute_of_optional_slot.ensures.no_call ∙ c.lookup_result_at_path.ensures.loads.none there
+
+pub returns-clause-halves : goal.returns-clause-halves
+returns-clause-halves g c settled slots =
+    let k = c.lookup_result_at_path.ensures.halves settled slots in
+    let e = ap (λ (t : KeptThread). read_count_of_history t.history) c.attribute_of_optional_slot.ensures.no_call in
+    omega (arith, k, e)
+
+pub returns-in_err-bytes-clause-halves : goal.returns-in_err-bytes-clause-halves
+returns-in_err-bytes-clause-halves g c settled slots =
+    let k = c.lookup_result_at_path.ensures.halves settled slots in
+    let e = ap (λ (t : KeptThread). read_count_of_history t.history) c.attribute_of_optional_slot.ensures.no_call in
+    omega (arith, k, e)

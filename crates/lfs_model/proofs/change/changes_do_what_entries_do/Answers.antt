@@ -1,9 +1,0 @@
-use Rattle.std.proofs.Common.{refl}
-use Rattle.lfs_model.proofs.WrittenAnew.{entries_of-reads}
-use Rattle.lfs_model.proofs.change.changes_do_what_entries_do.Goals as goal
-
-pub returns-clause-none : goal.returns-clause-none
-returns-clause-none c = λ content. refl
-
-pub returns-clause-written : goal.returns-clause-written
-returns-clause-written c = entries_of-reads

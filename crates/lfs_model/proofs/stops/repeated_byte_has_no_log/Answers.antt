@@ -1,5 +1,0 @@
-use Rattle.lfs_model.proofs.RepeatedBytes.{no_log-repeated}
-use Rattle.lfs_model.proofs.stops.repeated_byte_has_no_log.Goals as goal
-
-pub returns : goal.returns
-returns c = no_log-repeated

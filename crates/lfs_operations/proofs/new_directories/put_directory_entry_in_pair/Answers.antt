@@ -1,0 +1,22 @@
+use Rattle.std.proofs.Common.{ap, sym, subst, ◌∙◌, ◌∷◌, [], Err}
+use Rattle.std.proofs.lemmas.Result.{err_from_is_err_and}
+use Rattle.lfs_model.specs.Changes.{Create, PutMove, PutStruct}
+use Rattle.lfs_model.specs.EntryTypes.{directory_name_type, directory_struct_type}
+use Rattle.lfs_model.specs.Slots.{Gstate}
+use Rattle.lfs_model.proofs.Global.{gstate_with_inverted_sync_bit}
+use Rattle.lfs_tag.specs.FieldsView.{move_view}
+use Rattle.lfs_operations.specs.Changing.{IsPairChangedOrSplit, ReportsErrorsOfChangeOrSplit}
+use Rattle.lfs_operations.proofs.new_directories.put_directory_entry_in_pair.Goals as goal
+
+pub returns-in_err-change_or_split_pair-clause-errors : goal.returns-in_err-change_or_split_pair-clause-errors
+returns-in_err-change_or_split_pair-clause-errors g c =
+    let p = err_from_is_err_and c.from_residual.result c.from_residual.ensures.1 in
+    subst (λ (m : Gstate). ReportsErrorsOfChangeOrSplit c.args.thread.now c.change_or_split_pair.new.thread c.args.pair (Create c.args.id directory_name_type c.args.name.now ∷ PutStruct c.args.id directory_struct_type c.args.branch.now ∷ PutMove m ∷ []) c.from_residual.result)
+    (c.delta_with_sync_bit_turned.ensures ∙ ap gstate_with_inverted_sync_bit c.delta.ensures)
+    (subst (λ r. ReportsErrorsOfChangeOrSplit c.args.thread.now c.change_or_split_pair.new.thread c.args.pair (Create c.args.id directory_name_type c.args.name.now ∷ PutStruct c.args.id directory_struct_type c.args.branch.now ∷ PutMove (move_view c.delta_with_sync_bit_turned.result) ∷ []) r)
+    (c.in_err-change_or_split_pair.was ∙ ap Err (sym p.2) ∙ sym p.1) c.change_or_split_pair.ensures.errors)
+
+pub returns-clause-is_put : goal.returns-clause-is_put
+returns-clause-is_put g c =
+    subst (λ (m : Gstate). IsPairChangedOrSplit c.args.thread.now.kept c.args.pair (Create c.args.id directory_name_type c.args.name.now ∷ PutStruct c.args.id directory_struct_type c.args.branch.now ∷ PutMove m ∷ []) c.change_or_split_pair.new.thread.kept)
+    (c.delta_with_sync_bit_turned.ensures ∙ ap gstate_with_inverted_sync_bit c.delta.ensures) c.in_ok-change_or_split_pair.ensures.is_put

@@ -1,0 +1,43 @@
+use Rattle.std.proofs.Common.{refl, sym, ap, subst, ◌∙◌}
+use Rattle.lfs_thread.specs.Kept.{ThreadView}
+use Rattle.lfs_thread.specs.Beside.{LeavesUsedBlocksOfPairsUnchangedAndUsed}
+use Rattle.lfs_thread.proofs.Beside.{kept_left, none_is_cached, pairs_left}
+use Rattle.lfs_thread.proofs.thread.Thread.run_work_on_device_and_map.Goals as goal
+
+pub work-requires : goal.work-requires
+work-requires g c =
+    (c.requires.can c.self.inside.device c.self.inside.map
+    (record { disk = ap (λ (v : ThreadView). v.kept.disk) c.self.view_is; history = ap (λ (v : ThreadView). v.kept.history) c.self.view_is; map = ap (λ (v : ThreadView). v.kept.map) c.self.view_is })).can
+    _ _ refl refl
+
+pub invariant_of-self : goal.invariant_of-self
+invariant_of-self g c _ =
+    let works = ap (λ (v : ThreadView). v.failed) c.self.view_is ∙ c.requires.works in
+    let leaves = c.requires.leaves c.self.inside.device c.self.inside.map c.work.result c.work.new.arg2 c.work.new.arg3
+    (record { disk = ap (λ (v : ThreadView). v.kept.disk) c.self.view_is; history = ap (λ (v : ThreadView). v.kept.history) c.self.view_is; map = ap (λ (v : ThreadView). v.kept.map) c.self.view_is })
+    (record { shown = _; shows = refl; shown_map = _; shows_map = refl; left = _; left_map = _; met = c.work.ensures; leaves = refl; leaves_map = refl }) in
+    let here = subst (λ (v : ThreadView). LeavesUsedBlocksOfPairsUnchangedAndUsed g.D.BlockDevice v.kept c.self.inside.device c.self.inside.map c.work.new.arg2 c.work.new.arg3) (sym c.self.view_is) leaves in (
+      kept_left g.D.BlockDevice c.self.inside.device c.self.inside.map c.work.new.arg2 c.work.new.arg3 c.self.inside.pairs.items (c.self.invariant works).0 here,
+      none_is_cached (g.D.BlockDevice.blocks c.work.new.arg2) c.clear.new.self c.clear.ensures,
+    )
+
+pub returns-clause-ran : goal.returns-clause-ran
+returns-clause-ran g c = record {
+  device = c.self.inside.device;
+  map = c.self.inside.map;
+  later = c.work.new.arg2;
+  later_map = c.work.new.arg3;
+  before = record { disk = ap (λ (v : ThreadView). v.kept.disk) c.self.view_is; history = ap (λ (v : ThreadView). v.kept.history) c.self.view_is; map = ap (λ (v : ThreadView). v.kept.map) c.self.view_is };
+  after = record { disk = refl; history = refl; map = refl };
+  run = record { shown = _; shows = refl; shown_map = _; shows_map = refl; left = _; left_map = _; met = c.work.ensures; leaves = refl; leaves_map = refl };
+}
+
+pub returns-clause-pairs : goal.returns-clause-pairs
+returns-clause-pairs g c =
+    let works = ap (λ (v : ThreadView). v.failed) c.self.view_is ∙ c.requires.works in
+    let leaves = c.requires.leaves c.self.inside.device c.self.inside.map c.work.result c.work.new.arg2 c.work.new.arg3
+    (record { disk = ap (λ (v : ThreadView). v.kept.disk) c.self.view_is; history = ap (λ (v : ThreadView). v.kept.history) c.self.view_is; map = ap (λ (v : ThreadView). v.kept.map) c.self.view_is })
+    (record { shown = _; shows = refl; shown_map = _; shows_map = refl; left = _; left_map = _; met = c.work.ensures; leaves = refl; leaves_map = refl }) in
+    let here = subst (λ (v : ThreadView). LeavesUsedBlocksOfPairsUnchangedAndUsed g.D.BlockDevice v.kept c.self.inside.device c.self.inside.map c.work.new.arg2 c.work.new.arg3) (sym c.self.view_is) leaves in
+    pairs_left g.D.BlockDevice c.self.inside.device c.self.inside.map c.work.new.arg2 c.work.new.arg3 c.self.inside.pairs.items (c.self.invariant works).0 here
+    ∙ ap (λ (v : ThreadView). v.kept.pairs) c.self.view_is

@@ -1,0 +1,16 @@
+use Rattle.std.proofs.Common.{refl}
+use Rattle.std.proofs.KnownBytes.{Keeps-refl, Keeps-trans}
+use Rattle.lfs_tool.proofs.KnownBytes.{consumes_behind}
+use Rattle.lfs_tool.proofs.watched_stream.WatchedStreamImageInput.read.Goals as goal
+
+pub loop-init : goal.loop-init
+loop-init g c = record { kept = Keeps-refl _; same = refl }
+
+pub returns-in-Err-2-clause-bytes : goal.returns-in-Err-2-clause-bytes
+returns-in-Err-2-clause-bytes g c = Keeps-trans _ _ _ c.loop.invariant.kept c.in-Err-2.ensures.bytes
+
+pub returns-in-Ok-clause-bytes : goal.returns-in-Ok-clause-bytes
+returns-in-Ok-clause-bytes g c = (consumes_behind _ _ _ _ c.loop.invariant.kept c.in-Ok.ensures.bytes.0, c.in-Ok.ensures.bytes.1)
+
+pub loop-preserved : goal.loop-preserved
+loop-preserved g c = record { kept = Keeps-trans _ _ _ c.loop.invariant.kept c.in-Err.ensures.bytes; same = c.loop.invariant.same }

@@ -1,0 +1,10 @@
+use Rattle.std.proofs.Common.{◌≡◌}
+use Rattle.std.specs.Io.KnownBytes.{Keeps}
+use Rattle.lfs_tool.proofs.watched_stream.WatchedStreamToolOutput.write.Given as goal
+
+abbrev pub invariant-loop : goal.invariant-loop
+invariant-loop g l = record {
+  kept : Keeps (g.W.Write.contents l.initial.self.inner) (g.W.Write.contents l.self.inner);
+  pending : l.self.pending.count ≡ l.initial.self.pending.count;
+  same : l.self.faults.count ≡ l.initial.self.faults.count;
+}

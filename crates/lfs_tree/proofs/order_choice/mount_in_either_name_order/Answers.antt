@@ -1,0 +1,37 @@
+use Rattle.std.proofs.Common.{sym, ap, subst, ◌∙◌}
+use Rattle.lfs_device.specs.Shown.{disk_with_name_order}
+use Rattle.lfs_model.specs.Disk.{Disk}
+use Rattle.lfs_model.specs.declared.order.NameOrder.{NameOrder}
+use Rattle.lfs_thread.specs.Kept.{disk_of_device}
+use Rattle.lfs_mount.specs.Either.{ReturnsUnchangedDeviceWithError}
+use Rattle.lfs_tree.specs.RootedThreads.{tree_state_of_thread}
+use Rattle.lfs_tree.specs.TreeState.{IsMountedTree}
+use Rattle.lfs_tree.proofs.Mounting.{given_back_either, mounted_rooted, mounted_tree}
+use Rattle.lfs_lookup.proofs.Reading.{answered}
+use Rattle.lfs_tree.proofs.order_choice.mount_in_either_name_order.Goals as goal
+
+pub invariant_of-result : goal.invariant_of-result
+invariant_of-result g c = λ e.
+    mounted_rooted (disk_with_name_order c.in_ok-thread.thread.kept.disk.order (disk_of_device g.D.BlockDevice c.args.device)) (g.D.BlockDevice.history c.args.device) c.in_ok-thread.thread c.find_root_and_writing_profile.new.thread c.in-Ok.root c.in-Ok.is_writable
+    c.in_ok-thread.ensures.mounted (answered _ _ c.find_root_and_writing_profile.result _ c.in-Ok.is c.find_root_and_writing_profile.ensures.reading) c.in-Ok.ensures.root c.in-Ok.ensures.writable
+
+pub returns-in-Ok-clause-mounted : goal.returns-in-Ok-clause-mounted
+returns-in-Ok-clause-mounted g c =
+    let disk : Disk = disk_of_device g.D.BlockDevice c.args.device in
+    let read = answered _ _ c.find_root_and_writing_profile.result _ c.in-Ok.is c.find_root_and_writing_profile.ensures.reading in
+    let was = c.in_ok-thread.thread in
+    subst (λ (o : NameOrder). IsMountedTree (disk_with_name_order o disk) (g.D.BlockDevice.history c.args.device) (tree_state_of_thread c.find_root_and_writing_profile.new.thread c.in-Ok.is_writable))
+    (sym (ap (λ (d : Disk). d.order) read.only.disk))
+    (mounted_tree (disk_with_name_order was.kept.disk.order disk) (g.D.BlockDevice.history c.args.device) was c.find_root_and_writing_profile.new.thread c.in-Ok.root c.in-Ok.is_writable
+    c.in_ok-thread.ensures.mounted read c.in-Ok.ensures.root c.in-Ok.ensures.writable c.in_ok-thread.ensures.few.called)
+
+pub returns-in-Ok-clause-longer : goal.returns-in-Ok-clause-longer
+returns-in-Ok-clause-longer g c = λ shorter.
+    let read = answered _ _ c.find_root_and_writing_profile.result _ c.in-Ok.is c.find_root_and_writing_profile.ensures.reading in
+    c.in_ok-thread.ensures.longer (sym (ap (λ (d : Disk). d.order) read.only.disk) ∙ shorter)
+
+pub returns-in-Err-clause-back : goal.returns-in-Err-clause-back
+returns-in-Err-clause-back g c =
+    subst (λ back. ReturnsUnchangedDeviceWithError g.D.BlockDevice c.args.device back c.in-Err.error) (sym c.into_inner.ensures)
+    (given_back_either g.D.BlockDevice c.args.device c.into_device.result.inner c.into_device.result.order c.in_ok-thread.thread c.find_root_and_writing_profile.new.thread c.find_root_and_writing_profile.result c.in-Err.error
+    c.in_ok-thread.ensures.mounted c.in-Err.is c.find_root_and_writing_profile.ensures.reading c.into_device.ensures.disk c.into_device.ensures.history)

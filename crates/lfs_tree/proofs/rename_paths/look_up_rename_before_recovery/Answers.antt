@@ -1,0 +1,102 @@
+use Rattle.std.proofs.Common.{◌++◌, ◌∷◌, [], arith, refl, subst, true, ◌≡◌}
+use Rattle.std.proofs.lemmas.List.Sums.{sum_by-append, sum_by-cons}
+use Rattle.std.proofs.lemmas.Result.{err_from_is_err_and}
+use Rattle.lfs_model.specs.Frame.{pair_count_of_directory_at, ancestor_paths_of_path}
+use Rattle.lfs_model.specs.TreeEdits.{attributes_of_node}
+use Rattle.lfs_model.specs.Tree.{Tree}
+use Rattle.lfs_lookup.specs.AttributeAt.{IsAttributesSize}
+use Rattle.lfs_lookup.specs.Finds.{IsFoundNodeAtPath, has_entry_beneath_path}
+use Rattle.lfs_lookup.proofs.ReadOnly.{only_read}
+use Rattle.lfs_lookup.proofs.Reading.{answered, answers, both, further, passed}
+use Rattle.lfs_tree.proofs.Asking.{rooted}
+use Rattle.lfs_tree.proofs.RenamePaths.{few_since, same_tree, sum_of_rename}
+use Rattle.lfs_tree.proofs.rename_paths.look_up_rename_before_recovery.Goals as goal
+
+pub find_if_path_has_entries-requires-clause-accepted : goal.find_if_path_has_entries-requires-clause-accepted
+find_if_path_has_entries-requires-clause-accepted g c = (rooted c.args.thread.now c.find_node_at_path.new.thread c.args.root true c.requires c.find_node_at_path.result c.find_node_at_path.ensures.reading).sound.accepted
+
+pub find_if_path_has_entries-requires-clause-root : goal.find_if_path_has_entries-requires-clause-root
+find_if_path_has_entries-requires-clause-root g c = (rooted c.args.thread.now c.find_node_at_path.new.thread c.args.root true c.requires c.find_node_at_path.result c.find_node_at_path.ensures.reading).root_is
+
+pub find_total_size_of_attributes_at_path-requires-clause-accepted : goal.find_total_size_of_attributes_at_path-requires-clause-accepted
+find_total_size_of_attributes_at_path-requires-clause-accepted g c =
+    (rooted c.find_node_at_path.new.thread c.find_if_path_has_entries.new.thread c.args.root true (rooted c.args.thread.now c.find_node_at_path.new.thread c.args.root true c.requires c.find_node_at_path.result c.find_node_at_path.ensures.reading) c.find_if_path_has_entries.result c.find_if_path_has_entries.ensures.reading).sound.accepted
+
+pub find_total_size_of_attributes_at_path-requires-clause-root : goal.find_total_size_of_attributes_at_path-requires-clause-root
+find_total_size_of_attributes_at_path-requires-clause-root g c =
+    (rooted c.find_node_at_path.new.thread c.find_if_path_has_entries.new.thread c.args.root true (rooted c.args.thread.now c.find_node_at_path.new.thread c.args.root true c.requires c.find_node_at_path.result c.find_node_at_path.ensures.reading) c.find_if_path_has_entries.result c.find_if_path_has_entries.ensures.reading).root_is
+
+pub returns-in_err-entry-clause-few : goal.returns-in_err-entry-clause-few
+returns-in_err-entry-clause-few g c =
+    let one = c.find_node_at_path.ensures.few in
+    let k = sum_of_rename (pair_count_of_directory_at c.args.thread.now.kept.pairs) c.args.from.now c.args.to.now in
+    omega (arith, one, k)
+
+pub returns-in_err-target-clause-few : goal.returns-in_err-target-clause-few
+returns-in_err-target-clause-few g c =
+    let t = c.args.thread.now.kept in
+    let count = pair_count_of_directory_at t.pairs in
+    let one = c.find_node_at_path.ensures.few in
+    let two = few_since t c.find_node_at_path.new.thread.kept (ancestor_paths_of_path c.args.to.now ++ c.args.to.now ∷ []) _ c.find_node_at_path.ensures.reading.only c.find_if_path_has_entries.ensures.few in
+    let s = sum_by-append count (ancestor_paths_of_path c.args.to.now) (c.args.to.now ∷ []) in
+    let own = sum_by-cons count c.args.to.now [] in
+    let k = sum_of_rename count c.args.from.now c.args.to.now in
+    omega (arith, one, two, s, own, k)
+
+pub returns-in_err-attributes_size-clause-few : goal.returns-in_err-attributes_size-clause-few
+returns-in_err-attributes_size-clause-few g c =
+    let t = c.args.thread.now.kept in
+    let count = pair_count_of_directory_at t.pairs in
+    let one = c.find_node_at_path.ensures.few in
+    let two = few_since t c.find_node_at_path.new.thread.kept (ancestor_paths_of_path c.args.to.now ++ c.args.to.now ∷ []) _ c.find_node_at_path.ensures.reading.only c.find_if_path_has_entries.ensures.few in
+    let three = few_since t c.find_if_path_has_entries.new.thread.kept (ancestor_paths_of_path c.args.from.now) _ (only_read t c.find_node_at_path.new.thread.kept c.find_if_path_has_entries.new.thread.kept c.find_node_at_path.ensures.reading.only c.find_if_path_has_entries.ensures.reading.only) c.find_total_size_of_attributes_at_path.ensures.few in
+    let s = sum_by-append count (ancestor_paths_of_path c.args.to.now) (c.args.to.now ∷ []) in
+    let own = sum_by-cons count c.args.to.now [] in
+    let k = sum_of_rename count c.args.from.now c.args.to.now in
+    omega (arith, one, two, three, s, own, k)
+
+pub returns-in_err-target-clause-reading : goal.returns-in_err-target-clause-reading
+returns-in_err-target-clause-reading g c =
+    let p = err_from_is_err_and c.from_residual-in_err-target.result c.from_residual-in_err-target.ensures.1 in
+    passed _ _ c.find_if_path_has_entries.result c.from_residual-in_err-target.result _ p.0 c.in_err-target.was p.1 p.2
+    (further _ _ _ c.find_if_path_has_entries.result (answered _ _ c.find_node_at_path.result c.in_ok-entry.entry c.in_ok-entry.was c.find_node_at_path.ensures.reading) c.find_if_path_has_entries.ensures.reading)
+
+pub returns-in_err-attributes_size-clause-reading : goal.returns-in_err-attributes_size-clause-reading
+returns-in_err-attributes_size-clause-reading g c =
+    let p = err_from_is_err_and c.from_residual-in_err-attributes_size.result c.from_residual-in_err-attributes_size.ensures.1 in
+    passed _ _ c.find_total_size_of_attributes_at_path.result c.from_residual-in_err-attributes_size.result _ p.0 c.in_err-attributes_size.was p.1 p.2
+    (further _ _ _ c.find_total_size_of_attributes_at_path.result
+    (both _ _ _ (answered _ _ c.find_node_at_path.result c.in_ok-entry.entry c.in_ok-entry.was c.find_node_at_path.ensures.reading) (answered _ _ c.find_if_path_has_entries.result c.in_ok-target.target c.in_ok-target.was c.find_if_path_has_entries.ensures.reading))
+    c.find_total_size_of_attributes_at_path.ensures.reading)
+
+pub returns-clause-found : goal.returns-clause-found
+returns-clause-found g c =
+    let t = c.args.thread.now.kept in
+    let one = c.find_node_at_path.new.thread.kept in
+    let two = c.find_if_path_has_entries.new.thread.kept in
+    let first = c.find_node_at_path.ensures.reading.only in
+    let second = only_read t one two first c.find_if_path_has_entries.ensures.reading.only in
+    record {
+      entry = c.in_ok-entry.ensures.found;
+      target = subst (λ (z : Tree). IsFoundNodeAtPath z c.args.to.now c.in_ok-target.target.finding) (same_tree t one first) c.in_ok-target.ensures.found;
+      has = subst (λ (z : Tree). c.in_ok-target.target.has_entries ≡ has_entry_beneath_path z c.args.to.now) (same_tree t one first) c.in_ok-target.ensures.has;
+      size = subst (λ (z : Tree). IsAttributesSize (attributes_of_node (z c.args.from.now)) c.in_ok-attributes_size.attributes_size) (same_tree t two second) c.in_ok-attributes_size.ensures.is;
+    }
+
+pub returns-clause-few : goal.returns-clause-few
+returns-clause-few g c =
+    let t = c.args.thread.now.kept in
+    let count = pair_count_of_directory_at t.pairs in
+    let one = c.find_node_at_path.ensures.few in
+    let two = few_since t c.find_node_at_path.new.thread.kept (ancestor_paths_of_path c.args.to.now ++ c.args.to.now ∷ []) _ c.find_node_at_path.ensures.reading.only c.find_if_path_has_entries.ensures.few in
+    let three = few_since t c.find_if_path_has_entries.new.thread.kept (ancestor_paths_of_path c.args.from.now) _ (only_read t c.find_node_at_path.new.thread.kept c.find_if_path_has_entries.new.thread.kept c.find_node_at_path.ensures.reading.only c.find_if_path_has_entries.ensures.reading.only) c.find_total_size_of_attributes_at_path.ensures.few in
+    let s = sum_by-append count (ancestor_paths_of_path c.args.to.now) (c.args.to.now ∷ []) in
+    let own = sum_by-cons count c.args.to.now [] in
+    let k = sum_of_rename count c.args.from.now c.args.to.now in
+    omega (arith, one, two, three, s, own, k)
+
+pub returns-clause-reading : goal.returns-clause-reading
+returns-clause-reading g c =
+    answers _ _ _ _ refl
+    (both _ _ _ (both _ _ _ (answered _ _ c.find_node_at_path.result c.in_ok-entry.entry c.in_ok-entry.was c.find_node_at_path.ensures.reading) (answered _ _ c.find_if_path_has_entries.result c.in_ok-target.target c.in_ok-target.was c.find_if_path_has_entries.ensures.reading))
+    (answered _ _ c.find_total_size_of_attributes_at_path.result c.in_ok-attributes_size.attributes_size c.in_ok-attributes_size.was c.find_total_size_of_attributes_at_path.ensures.reading))

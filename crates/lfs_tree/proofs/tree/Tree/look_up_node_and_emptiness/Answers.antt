@@ -1,0 +1,21 @@
+use Rattle.std.proofs.Common.{◌≤◌, ◌+◌, ◌++◌, ◌∷◌, [], subst, sym}
+use Rattle.std.specs.Prelude.{sum_by}
+use Rattle.lfs_model.specs.Frame.{pair_count_of_directory_at, ancestor_paths_of_path}
+use Rattle.lfs_model.specs.History.{read_count_of_history}
+use Rattle.lfs_tree.specs.TreeState.{TreeState}
+use Rattle.lfs_thread.specs.Kept.{ThreadView}
+use Rattle.lfs_tree.proofs.Asking.{asking, held, rooted_held}
+use Rattle.lfs_tree.proofs.tree.Tree.look_up_node_and_emptiness.Goals as goal
+
+pub invariant_of-self : goal.invariant_of-self
+invariant_of-self g c =
+    held c.self.inside.thread c.find_if_path_has_entries-inside.new.thread c.self.inside.root c.self.inside.is_writable (rooted_held c.self.inside.thread c.self.inside.root c.self.inside.is_writable c.args.self.now c.self.invariant c.self.view_is c.requires) c.find_if_path_has_entries-inside.result c.mark_thread_failed_on_error.new.thread c.mark_thread_failed_on_error.ensures c.find_if_path_has_entries-inside.ensures.reading
+
+pub returns-clause-asks : goal.returns-clause-asks
+returns-clause-asks g c =
+    asking c.self.inside.thread c.find_if_path_has_entries-inside.new.thread c.self.inside.root c.self.inside.is_writable (rooted_held c.self.inside.thread c.self.inside.root c.self.inside.is_writable c.args.self.now c.self.invariant c.self.view_is c.requires) c.args.self.now c.find_if_path_has_entries-inside.result c.mark_thread_failed_on_error.new.thread c.self.view_is c.mark_thread_failed_on_error.ensures c.find_if_path_has_entries-inside.ensures.reading
+
+pub returns-clause-few : goal.returns-clause-few
+returns-clause-few g c =
+    subst (λ (t : ThreadView). read_count_of_history t.kept.history ≤ read_count_of_history c.args.self.now.history + sum_by (pair_count_of_directory_at c.args.self.now.pairs) (ancestor_paths_of_path c.args.path.now ++ c.args.path.now ∷ [])) (sym c.mark_thread_failed_on_error.ensures)
+    (subst (λ (s : TreeState). read_count_of_history c.find_if_path_has_entries-inside.new.thread.kept.history ≤ read_count_of_history s.history + sum_by (pair_count_of_directory_at s.pairs) (ancestor_paths_of_path c.args.path.now ++ c.args.path.now ∷ [])) c.self.view_is c.find_if_path_has_entries-inside.ensures.few)

@@ -8,11 +8,10 @@ use Rattle.lfs_model.specs.Operations.{Operation}
 use Rattle.lfs_model.specs.Session.{Session}
 use Rattle.lfs_model.specs.Shown.{all_slots_not_moved, skip_list_blocks_of_struct, used_blocks}
 use Rattle.lfs_model.specs.Slots.{Slot}
-use Rattle.lfs_model.specs.Thread.{Pair, blocks_of_pairs}
+use Rattle.lfs_model.specs.Thread.{Pair, blocks_of_pairs, blocks_of_pair_address}
 use Rattle.lfs_model.proofs.BlockSets.{Contains-occurrence_count_of_number}
 use Rattle.lfs_model.proofs.Counts.{Each, occurrence_count_of_number, count_append, count_here, each_from_counted, each_pieces, each_weaker}
 use Rattle.lfs_model.proofs.Splices.{file_blocks_of_slots}
-use Rattle.lfs_thread.specs.Device.{blocks_of_pair_address}
 
 owner_counted : (b : ℕ) (p : Pair) (zs : List Pair) → Contains zs p → 1 ≤ occurrence_count_of_number b (blocks_of_pair_address p.at) → 1 ≤ occurrence_count_of_number b (blocks_of_pairs zs)
 owner_counted b p [] (k, l, e) some = absurd (omega arith)

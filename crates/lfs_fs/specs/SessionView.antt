@@ -7,6 +7,7 @@ use Rattle.lfs_model.specs.Frame.{refusal_needs_no_look_up}
 use Rattle.lfs_model.specs.History.{DeviceCallEvent, AreCallsSinceOnlyReads, fault_count_of_history}
 use Rattle.lfs_model.specs.Disk.{Disk, block_count, inline_limit}
 use Rattle.lfs_model.specs.View.{IsAcceptedImage}
+use Rattle.lfs_model.specs.Operations as ops
 use Rattle.lfs_model.specs.Operations.{Operation, Refusal, Reply, Failed, path_of_bytes}
 use Rattle.lfs_model.specs.Slots.{zero_gstate}
 use Rattle.lfs_model.specs.Thread.{Pair, gstate_of_pairs}
@@ -99,6 +100,11 @@ pub record SessionFailsByError (e : Error) (from : SystemState) (op : Operation)
   pub errors : (e ≡ Io) ⊎ ((e ≡ NoMemory) ⊎ ((e ≡ Corrupt) × (is_remount_operation op ≡ true) × IsTreeOfDiskOrNone from.disk None))
   pub fault : e ≡ Io → fault_count_of_history from.calls < fault_count_of_history to.calls
   pub no_fault : e ≢ Io → fault_count_of_history to.calls ≡ fault_count_of_history from.calls
+
+-- an operation that ends in an error: a refusal, or the session failed by it
+abbrev pub EndsOperationWithError : Bool → Error → SystemState → Operation → SystemState → Type 0
+EndsOperationWithError true e from op to = IsSessionStep from op (ops.Refused (refusal_of_error e)) to
+EndsOperationWithError false e from op to = SessionFailsByError e from op to
 
 -- The call is a session step with that reply. Where an error takes the reply's place, the session has failed by it.
 abbrev pub IsSessionStepOrFailure : SessionView → Operation → Result Reply Error → SessionView → Type 0

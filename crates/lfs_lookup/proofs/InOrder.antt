@@ -10,7 +10,7 @@ use Rattle.lfs_model.specs.declared.order.NameOrder.{NameOrder}
 use Rattle.lfs_model.specs.InDirectory.{HasFirstSlotGreaterName, IsPlaceWhereNameBelongs, HasHardTail, HaveHardTailsButLast, slots_without_superblock, last_pair_has_hard_tail, slots_of_pairs_in_order}
 use Rattle.lfs_model.specs.Names.{Name, name_cmp}
 use Rattle.lfs_model.specs.Slots.{Gstate, Slot, is_superblock, same_pair}
-use Rattle.lfs_model.specs.Thread.{Pair, gstate_of_pairs, is_hard_tail, entries_not_moved}
+use Rattle.lfs_model.specs.Thread.{Pair, gstate_of_pairs, is_hard_tail, entries_not_moved, id_of_moved_slot_in_pair}
 use Rattle.lfs_model.specs.Tree.{Path}
 use Rattle.lfs_model.proofs.Counts.{Each, each_append, each_left, each_right, each_weaker}
 use Rattle.lfs_model.proofs.Indexes.{greater_behind, less_before, rise_right}
@@ -20,7 +20,7 @@ use Rattle.lfs_model.proofs.Searches.{begins_directory, plain_behind}
 use Rattle.lfs_thread.specs.Kept.{KeptThread}
 use Rattle.lfs_lookup.specs.Listed.{hard_tail_joined_pairs}
 use Rattle.lfs_lookup.specs.Paths.{PathLeadsToFirstPair, HidesOnlyMovedSlot}
-use Rattle.lfs_lookup.specs.Search.{HidesMovedSlotInPairsFromIndex, IsNameAbsentAlongHardTails, AreDirectoryNamesInOrder, IsUnhiddenNameAtSpot, SearchFindsInDirectory, hidden_slot_id_in_pair, skipped_id_in_pair}
+use Rattle.lfs_lookup.specs.Search.{HidesMovedSlotInPairsFromIndex, IsNameAbsentAlongHardTails, AreDirectoryNamesInOrder, IsUnhiddenNameAtSpot, SearchFindsInDirectory, skipped_id_in_pair}
 use Rattle.lfs_lookup.specs.declared.entry.FileOrDirectory.{FileOrDirectory}
 use Rattle.lfs_lookup.specs.declared.search.NamePositionInDirectory.TheVariants.{Found, Place}
 use Rattle.lfs_lookup.specs.declared.search.SlotPosition.{SlotPosition}
@@ -156,11 +156,11 @@ nothing_shown by ps moved first name spot none h found = subst (λ m. IsNameAbse
 
 -- ---- in an accepted image
 
-hides_each : (g : Gstate) (index : ℕ) (ps : List Pair) → HidesMovedSlotInPairsFromIndex g None index ps → Each (λ p. hidden_slot_id_in_pair g p ≡ None) ps
+hides_each : (g : Gstate) (index : ℕ) (ps : List Pair) → HidesMovedSlotInPairsFromIndex g None index ps → Each (λ p. id_of_moved_slot_in_pair g p ≡ None) ps
 hides_each g index [] h = tt
 hides_each g index (p ∷ ps) h = (sym h.0, hides_each g (index + 1) ps h.1)
 
-shown_whole : (g : Gstate) (ps : List Pair) → Each (λ p. hidden_slot_id_in_pair g p ≡ None) ps → flat_map (entries_not_moved g) ps ≡ slots_without_superblock (slots_of_pairs_in_order ps)
+shown_whole : (g : Gstate) (ps : List Pair) → Each (λ p. id_of_moved_slot_in_pair g p ≡ None) ps → flat_map (entries_not_moved g) ps ≡ slots_without_superblock (slots_of_pairs_in_order ps)
 shown_whole g [] h = refl
 shown_whole g (p ∷ ps) h =
     ap (λ z. entries_not_moved g p ++ z) (shown_whole g ps h.1)
@@ -176,9 +176,9 @@ module _ (t : KeptThread) (path : Path) (first : ℕ) (h : HidesOnlyMovedSlot t 
   here =
       let part = run_part (drop first t.pairs) in
       let all = hides_each (gstate_of_pairs t.pairs) 0 t.pairs h.hides in
-      let some = each_right (λ p. hidden_slot_id_in_pair (gstate_of_pairs t.pairs) p ≡ None) (take first t.pairs) (drop first t.pairs) (subst (Each (λ p. hidden_slot_id_in_pair (gstate_of_pairs t.pairs) p ≡ None)) (sym (take-append-drop first t.pairs)) all) in
+      let some = each_right (λ p. id_of_moved_slot_in_pair (gstate_of_pairs t.pairs) p ≡ None) (take first t.pairs) (drop first t.pairs) (subst (Each (λ p. id_of_moved_slot_in_pair (gstate_of_pairs t.pairs) p ≡ None)) (sym (take-append-drop first t.pairs)) all) in
       shown_whole (gstate_of_pairs t.pairs) (hard_tail_joined_pairs (drop first t.pairs))
-      (each_left (λ p. hidden_slot_id_in_pair (gstate_of_pairs t.pairs) p ≡ None) (hard_tail_joined_pairs (drop first t.pairs)) part.0 (subst (Each (λ p. hidden_slot_id_in_pair (gstate_of_pairs t.pairs) p ≡ None)) part.1 some))
+      (each_left (λ p. id_of_moved_slot_in_pair (gstate_of_pairs t.pairs) p ≡ None) (hard_tail_joined_pairs (drop first t.pairs)) part.0 (subst (Each (λ p. id_of_moved_slot_in_pair (gstate_of_pairs t.pairs) p ≡ None)) part.1 some))
 
   pub in_order_on : AreDirectoryNamesInOrder t.disk.order t.pairs first
   in_order_on =

@@ -8,7 +8,7 @@ use Rattle.lfs_model.specs.InDirectory.{IsPairAtAddress, IsPairOfDirectory}
 use Rattle.lfs_model.specs.Names.{Name}
 use Rattle.lfs_model.specs.SlotEdits.{slot_of_path}
 use Rattle.lfs_model.specs.Slots.{Slot, Gstate, is_superblock, same_pair}
-use Rattle.lfs_model.specs.Thread.{Pair, gstate_of_pairs, entries_not_moved, blocks_of_pairs, directories_of_pairs, pairs_from_root_directory_on, entries_of_directory, root_directory_address_of_pairs, pair_count_before_root}
+use Rattle.lfs_model.specs.Thread.{Pair, gstate_of_pairs, entries_not_moved, blocks_of_pairs, directories_of_pairs, pairs_from_root_directory_on, entries_of_directory, root_directory_address_of_pairs, pair_count_before_root, id_of_moved_slot_in_pair}
 use Rattle.lfs_model.specs.Tree.{Path, entry_of_name, root_slot}
 use Rattle.lfs_model.specs.View.{IsAcceptedImage}
 use Rattle.lfs_model.specs.Shown.{IsPathToDirectory, entries_by_directory_in_thread}
@@ -22,7 +22,7 @@ use Rattle.lfs_model.proofs.Found.{HasDirectory, chain_of_thread}
 use Rattle.lfs_model.proofs.Sites.{Site, dirs_at, thread_at, IsSite, begin_of, shown_at, site_directories}
 use Rattle.lfs_model.proofs.Superblocks.{pairs_behind}
 use Rattle.lfs_model.proofs.Walks.{walk_below}
-use Rattle.lfs_lookup.specs.Search.{HidesMovedSlotInPairsFromIndex, IsNameAbsentAlongHardTails, IsNameAbsentExceptAtId, IsUnhiddenNameAtSpot, hidden_slot_id_in_pair, skipped_id_in_pair}
+use Rattle.lfs_lookup.specs.Search.{HidesMovedSlotInPairsFromIndex, IsNameAbsentAlongHardTails, IsNameAbsentExceptAtId, IsUnhiddenNameAtSpot, skipped_id_in_pair}
 use Rattle.lfs_lookup.specs.declared.entry.FileOrDirectory.{FileOrDirectory}
 use Rattle.lfs_lookup.specs.declared.search.SlotPosition.{SlotPosition}
 
@@ -83,7 +83,7 @@ each_kept P (x ∷ xs) h = go (is_superblock x) refl (each_kept P xs (λ i. h (s
 
 -- ---- in one pair
 
-visible_has : (g : Gstate) (p : Pair) (u : Slot) (id : ℕ) → slice_get p.content.slots id ≡ Some u → is_superblock u ≡ false → (hidden_slot_id_in_pair g p ≡ Some id → ⊥) → Has (entries_not_moved g p) u
+visible_has : (g : Gstate) (p : Pair) (u : Slot) (id : ℕ) → slice_get p.content.slots id ≡ Some u → is_superblock u ≡ false → (id_of_moved_slot_in_pair g p ≡ Some id → ⊥) → Has (entries_not_moved g p) u
 visible_has g p u id e entry kept = go (g.kind == 0x4ff && same_pair g.pair p.at) refl
   where
     other : (xs : List Slot) (i : ℕ) → slice_get xs i ≡ Some u → Has (filter (λ s. not (is_superblock s)) xs) u
@@ -98,7 +98,7 @@ visible_has g p u id e entry kept = go (g.kind == 0x4ff && same_pair g.pair p.at
 abbrev IsOther : Name → Slot → Type 0
 IsOther name s = s.name ≡ name → ⊥
 
-visible_absent : (g : Gstate) (p : Pair) (name : Name) → IsNameAbsentExceptAtId (hidden_slot_id_in_pair g p) p.content.slots name → Each (IsOther name) (entries_not_moved g p)
+visible_absent : (g : Gstate) (p : Pair) (name : Name) → IsNameAbsentExceptAtId (id_of_moved_slot_in_pair g p) p.content.slots name → Each (IsOther name) (entries_not_moved g p)
 visible_absent g p name h = go (g.kind == 0x4ff && same_pair g.pair p.at) refl
   where
     go : (b : Bool) → (g.kind == 0x4ff && same_pair g.pair p.at) ≡ b → Each (IsOther name) (filter (λ s. not (is_superblock s)) (cond b (remove p.content.slots g.id) p.content.slots))
@@ -161,14 +161,14 @@ shown_is disk ps path a moved first name spot entry ok hides leads begins s =
     is : ps ≡ thread_at w (pair ∷ [])
     is = searches.thread_is disk ps path a ok leads first spot.pair s.stands.pair s.stands.rest s.stands.place begins
 
-    hidden : skipped_id_in_pair moved spot.pair ≡ hidden_slot_id_in_pair (gstate_of_pairs ps) pair
+    hidden : skipped_id_in_pair moved spot.pair ≡ id_of_moved_slot_in_pair (gstate_of_pairs ps) pair
     hidden =
         let whole : ps ≡ (b.front ++ b.left) ++ pair ∷ s.stands.rest = b.parts ∙ sym (append_assoc b.front b.left (pair ∷ s.stands.rest)) in
         let behind = hides_behind (gstate_of_pairs ps) moved 0 (b.front ++ b.left) (pair ∷ s.stands.rest) (subst (HidesMovedSlotInPairsFromIndex (gstate_of_pairs ps) moved 0) whole hides) in
         let n = b.number in
         let l = length-append b.front b.left in
         let count : 0 + length (b.front ++ b.left) ≡ spot.pair = omega (arith, n, l) in
-        subst (λ (i : ℕ). skipped_id_in_pair moved i ≡ hidden_slot_id_in_pair (gstate_of_pairs ps) pair) count behind.0
+        subst (λ (i : ℕ). skipped_id_in_pair moved i ≡ id_of_moved_slot_in_pair (gstate_of_pairs ps) pair) count behind.0
 
     here : Has (entries_not_moved (gstate_of_pairs ps) pair) u
     here =

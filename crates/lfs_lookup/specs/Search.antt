@@ -4,7 +4,7 @@ use Rattle.std.specs.declared.cmp.Ordering.TheVariants.{Less}
 use Rattle.lfs_model.specs.declared.order.NameOrder.{NameOrder}
 use Rattle.lfs_model.specs.Names.{Name, name_cmp}
 use Rattle.lfs_model.specs.Slots.{Slot, PairContent, Gstate, is_superblock, same_pair}
-use Rattle.lfs_model.specs.Thread.{Pair, is_hard_tail}
+use Rattle.lfs_model.specs.Thread.{Pair, is_hard_tail, id_of_moved_slot_in_pair}
 use Rattle.lfs_model.specs.InDirectory.{HasEntryOfNameAtId, IsIdWhereNameBelongs, IsPlaceOfNameInDirectory, IsPlaceWhereNameBelongs, ArePairsWithoutSuperblock, slots_without_superblock, slots_of_pairs_in_order}
 use Rattle.lfs_thread.specs.CachedLog.{IsLogBlockOfContent, cached_log}
 use Rattle.lfs_thread.specs.Kept.{ThreadView}
@@ -78,11 +78,7 @@ abbrev pub SearchFindsWithSlotHidden : List Pair → Option SlotPosition → ℕ
 SearchFindsWithSlotHidden ps moved first name (Some found) = IsUnhiddenNameAtSpot ps moved first name found.0 found.1
 SearchFindsWithSlotHidden ps moved first name None = IsNameAbsentAlongHardTails moved first (drop first ps) name
 
--- the id of the slot that a set move names, if it is in this pair
-abbrev pub hidden_slot_id_in_pair : Gstate → Pair → Option ℕ
-hidden_slot_id_in_pair g p = if g.kind == 0x4ff && same_pair g.pair p.at then Some g.id else None
-
 -- in these pairs, from number `index` on, that slot and no other counts as deleted
 abbrev pub HidesMovedSlotInPairsFromIndex : Gstate → Option SlotPosition → ℕ → List Pair → Type 0
 HidesMovedSlotInPairsFromIndex g moved index [] = Unit {0}
-HidesMovedSlotInPairsFromIndex g moved index (p ∷ ps) = (skipped_id_in_pair moved index ≡ hidden_slot_id_in_pair g p) × HidesMovedSlotInPairsFromIndex g moved (index + 1) ps
+HidesMovedSlotInPairsFromIndex g moved index (p ∷ ps) = (skipped_id_in_pair moved index ≡ id_of_moved_slot_in_pair g p) × HidesMovedSlotInPairsFromIndex g moved (index + 1) ps

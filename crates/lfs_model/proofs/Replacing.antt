@@ -11,7 +11,7 @@ use Rattle.lfs_model.specs.TreeEdits.{path_without_prefix, tree_after_subtree_re
 use Rattle.lfs_model.specs.Shown.{IsDirectoryAddressReachedBySomePath, directories_in_thread, entries_by_directory_in_thread, tree_on_disk}
 use Rattle.lfs_model.specs.PowerLoss.{HasTreeBeforeOrAfterOperation}
 use Rattle.lfs_model.proofs.LeftFiles.{ends_same}
-use Rattle.lfs_model.proofs.Paths.{RestLocation, beyond, aside, rest, rest_itself}
+use Rattle.lfs_model.proofs.Paths.{IsBelowOrAside, beyond, aside, rest, rest_itself}
 use Rattle.lfs_model.proofs.Pairs.{pair_back, pair_on}
 use Rattle.lfs_model.proofs.Edits.{planted_off, planted_on}
 use Rattle.lfs_model.proofs.Counts.{each_weaker}
@@ -37,25 +37,25 @@ module _ (was : Path → Option (ℕ × ℕ)) (old new : Path) (d : ℕ × ℕ) 
   pub replaced_unled : (path : Path) (x : ℕ × ℕ) → directory_addresses_after_rename old new was path ≡ Some x → same_pair d x ≡ true → ⊥
   replaced_unled path x h s = at_new (rest new path)
     where
-      at_new : RestLocation new path → ⊥
+      at_new : IsBelowOrAside new path → ⊥
       at_new (beyond t e f) = not_old t (c.once (old ++ t) new x d (sym (planted_on new (λ t. was (old ++ t)) (tree_after_subtree_replacement old (λ t. None) was) path t f) ∙ h) c.there (pair_back d x s))
       at_new (aside n f) = at_old (rest old path)
         where
           left : tree_after_subtree_replacement old (λ t. None) was path ≡ Some x
           left = sym (planted_off new (λ t. was (old ++ t)) (tree_after_subtree_replacement old (λ t. None) was) path f) ∙ h
 
-          at_old : RestLocation old path → ⊥
+          at_old : IsBelowOrAside old path → ⊥
           at_old (beyond t e g) = absurd (let k = sym (planted_on old (λ t. None) was path t g) ∙ left in cc)
           at_old (aside m g) = n [] (c.once path new x d (sym (planted_off old (λ t. None) was path g) ∙ left) c.there (pair_back d x s) ∙ sym (append-nil new))
 
   pub replaced_reached : (x : ℕ × ℕ) → IsLedTo was x → IsLedTo (directory_addresses_after_rename old new was) x ⊎ (same_pair x d ≡ true)
   replaced_reached x (path, at, (k, s)) = at_old (rest old path)
     where
-      at_old : RestLocation old path → IsLedTo (directory_addresses_after_rename old new was) x ⊎ (same_pair x d ≡ true)
+      at_old : IsBelowOrAside old path → IsLedTo (directory_addresses_after_rename old new was) x ⊎ (same_pair x d ≡ true)
       at_old (beyond t e f) = inl (new ++ t, at, (planted_on new (λ t. was (old ++ t)) (tree_after_subtree_replacement old (λ t. None) was) (new ++ t) t (rest_itself new t) ∙ ap was (sym e) ∙ k, s))
       at_old (aside n f) = at_new (rest new path)
         where
-          at_new : RestLocation new path → IsLedTo (directory_addresses_after_rename old new was) x ⊎ (same_pair x d ≡ true)
+          at_new : IsBelowOrAside new path → IsLedTo (directory_addresses_after_rename old new was) x ⊎ (same_pair x d ≡ true)
           at_new (aside m g) = inl (path, at, (planted_off new (λ t. was (old ++ t)) (tree_after_subtree_replacement old (λ t. None) was) path g ∙ planted_off old (λ t. None) was path f ∙ k, s))
           at_new (beyond t e g) =
               let none : t ≡ [] = c.alone t at (ap was (sym e) ∙ k) in

@@ -9,16 +9,16 @@ use Rattle.lfs_model.specs.Content.{content_of_pair_at}
 use Rattle.lfs_model.specs.Disk.{Disk, block_count}
 use Rattle.lfs_model.specs.SkipLists.{IsSkipList}
 use Rattle.lfs_model.specs.Slots.{Slot, Gstate}
-use Rattle.lfs_model.specs.Thread.{Pair, IsThreadOfMetadataPairs, blocks_of_pairs, gstate_of_pairs, slots_not_moved, entries_not_moved}
+use Rattle.lfs_model.specs.Thread.{Pair, IsThreadOfMetadataPairs, blocks_of_pairs, gstate_of_pairs, slots_not_moved, entries_not_moved, id_of_moved_slot_in_pair}
 use Rattle.lfs_model.specs.View.{IsFileOrDirectoryEntry, IsSuperblockThenEntries, IsSuperblockThenEntriesIfAnySlot, HasInlineStruct, IsSkipListIfCtzStruct, HasValidMoveOrNone, IsAcceptedImage}
 use Rattle.lfs_model.specs.Shown.{skip_list_blocks_of_struct, all_slots_not_moved, used_blocks, directories_in_thread}
 use Rattle.lfs_model.proofs.Counts.{Each, each_append, each_weaker, occurrence_count_of_number, count_append, once_from_distinct, distinct_from_once}
 use Rattle.lfs_model.proofs.Superblocks.{IsChain, pairs_behind, Mark, StructMark, HoldSlots, root_rule, superblock_rule, slots_rule}
 use Rattle.lfs_mount.specs.Reaching.{DirectoryGraph}
 use Rattle.lfs_mount.specs.Directories.{IsTreeOfDirectories, IsGraphOfThreadDirectories}
-use Rattle.lfs_mount.specs.Entries.{first_pair_addresses_of_directories, empty_directory_scan}
+use Rattle.lfs_mount.specs.Entries.{empty_directory_scan}
 use Rattle.lfs_mount.specs.Marking.{HasExactlyTheseUsedBlocks, MarksFreeBlocksOfLists, skip_list_blocks_from_last_to_first}
-use Rattle.lfs_mount.specs.Described.{id_of_moved_slot_in_pair, AreDescriptionsOfPairsOnDisk}
+use Rattle.lfs_mount.specs.Described.{AreDescriptionsOfPairsOnDisk}
 use Rattle.lfs_mount.specs.Checked.{BeginsWithSuperblockSlot, HasSuperblockSlotAlone, HasAtMostSuperblockSlot, HasSuperblockChain, IsThreadMatchingMapAndPairDescriptions}
 use Rattle.lfs_mount.specs.Moves.{IsEntryAtIdIfSome, HasEntryAtSlotNamedBySetMove}
 use Rattle.lfs_mount.specs.Passed.{ScansPairsIntoDirectoryGraph}
@@ -27,6 +27,7 @@ use Rattle.lfs_mount.specs.Accepted.{MapUsesExactlyTheseBlocks}
 use Rattle.lfs_mount.proofs.Owned.{owned_more, has_only}
 use Rattle.lfs_mount.proofs.Rules.{behind, without, unmoved-without, IsMovedEntry, lists_of, HaveEntries, passed_rules, thread_shows}
 use Rattle.lfs_mount.proofs.Accepts.{IsInline, Starting, starts_so, slots_right, no_blocks, no_lists, counted, listed}
+use Rattle.lfs_model.specs.Steps.{addresses_of_first_pairs_of_directories}
 
 bare_headed : (bytes : List ℕ) (chain : List Pair) → Each (HasAtMostSuperblockSlot bytes) chain → Each (λ q. IsSuperblockThenEntriesIfAnySlot (HasInlineStruct bytes) q.content.slots) chain
 bare_headed bytes [] h = tt
@@ -127,17 +128,17 @@ module _ (disk : Disk) (chain : List Pair) (p : Pair) (rest : List Pair) (bytes 
 
   -- Ok of the pass: the map has the blocks of the image
   pub has_blocks : (ms : List DirectoryPair) (sets end : BlockStateList) (graph : DirectoryGraph) → HasExactlyTheseUsedBlocks sets (blocks_of_pairs ps)
-      → AreDescriptionsOfPairsOnDisk disk g true dirs ms → ScansPairsIntoDirectoryGraph disk (first_pair_addresses_of_directories (directories_in_thread ps)) empty_directory_scan sets ms graph end → MapUsesExactlyTheseBlocks sets end (used_blocks disk ps)
+      → AreDescriptionsOfPairsOnDisk disk g true dirs ms → ScansPairsIntoDirectoryGraph disk (addresses_of_first_pairs_of_directories (directories_in_thread ps)) empty_directory_scan sets ms graph end → MapUsesExactlyTheseBlocks sets end (used_blocks disk ps)
   has_blocks ms sets end graph owns members passes =
-      let h = passed_rules disk (first_pair_addresses_of_directories (directories_in_thread ps)) g true dirs ms empty_directory_scan sets graph end members passes in
+      let h = passed_rules disk (addresses_of_first_pairs_of_directories (directories_in_thread ps)) g true dirs ms empty_directory_scan sets graph end members passes in
       let marked : List ℕ = flat_map (skip_list_blocks_from_last_to_first disk) (flat_map (λ q. lists_of (entries_not_moved g q)) dirs) in
       has_only sets end (blocks_of_pairs ps) marked (used_blocks disk ps) owns h.lists.marked (used_counted h.kept h.moved)
 
   -- Ok of the pass and of the search
   pub is_accepted : (ms : List DirectoryPair) (sets end : BlockStateList) (graph : DirectoryGraph) → IsThreadOfMetadataPairs (content_of_pair_at disk) (block_count disk) ps → HasValidMoveOrNone ps g → HasExactlyTheseUsedBlocks sets (blocks_of_pairs ps)
-      → AreDescriptionsOfPairsOnDisk disk g true dirs ms → ScansPairsIntoDirectoryGraph disk (first_pair_addresses_of_directories (directories_in_thread ps)) empty_directory_scan sets ms graph end → IsTreeOfDirectories disk.order ps → IsAcceptedImage disk ps
+      → AreDescriptionsOfPairsOnDisk disk g true dirs ms → ScansPairsIntoDirectoryGraph disk (addresses_of_first_pairs_of_directories (directories_in_thread ps)) empty_directory_scan sets ms graph end → IsTreeOfDirectories disk.order ps → IsAcceptedImage disk ps
   is_accepted ms sets end graph thread move owns members passes right =
-      let h = passed_rules disk (first_pair_addresses_of_directories (directories_in_thread ps)) g true dirs ms empty_directory_scan sets graph end members passes in
+      let h = passed_rules disk (addresses_of_first_pairs_of_directories (directories_in_thread ps)) g true dirs ms empty_directory_scan sets graph end members passes in
       let hold : HoldSlots (StructMark bytes) true dirs =
       (headed bytes p.content.slots head.start (slots_right g true p h.moved.0 (λ e. starts_so bytes p.content.slots head.start) h.kept.0), others_hold g (StructMark bytes) rest h.kept.1 h.moved.1) in
       record {

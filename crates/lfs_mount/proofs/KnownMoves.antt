@@ -5,7 +5,7 @@ use Rattle.std.proofs.lemmas.List.{drop-map, length-map}
 use Rattle.lfs_model.specs.Disk.{Disk}
 use Rattle.lfs_model.specs.History.{DeviceCallEvent}
 use Rattle.lfs_model.specs.Slots.{Gstate, Slot, gstate_xor, zero_gstate, same_pair}
-use Rattle.lfs_model.specs.Thread.{Pair, gstate_of_pairs, has_no_slot_or_only_superblock, is_hard_tail, may_superblock_chain_continue_after_pair, has_superblock_in_first_nonempty_pair, pair_count_before_root}
+use Rattle.lfs_model.specs.Thread.{Pair, gstate_of_pairs, has_no_slot_or_only_superblock, is_hard_tail, may_superblock_chain_continue_after_pair, has_superblock_in_first_nonempty_pair, pair_count_before_root, id_of_moved_slot_in_pair}
 use Rattle.lfs_model.specs.View.{IsAcceptedImage, IsFileOrDirectoryEntry, HasValidMoveOrNone, IsSomeSlotButNotSuperblock}
 use Rattle.lfs_model.proofs.Counts.{Each}
 use Rattle.lfs_model.proofs.Sites.{IsTrueOfSomeElement, among_from, among_parts, among_right, any_from}
@@ -13,7 +13,6 @@ use Rattle.lfs_model.proofs.Superblocks.{IsChain, entry_is_other}
 use Rattle.lfs_tag.specs.FieldsView.{move_view}
 use Rattle.lfs_pair.specs.Pair.{pair_address_in_header}
 use Rattle.lfs_thread.specs.Kept.{ArePairHeadersOnDisk, PairHeader, pairs_of_headers}
-use Rattle.lfs_mount.specs.Described.{id_of_moved_slot_in_pair}
 use Rattle.lfs_mount.specs.SuperblockChain.{AreHeadersOfDiskThread, HasSuperblockChainOfLength}
 use Rattle.lfs_mount.specs.Moves.{AreDirectoryHeadersWithGstate, IsEntryAtIdIfSome, HasEntryAtSlotNamedBySetMove, gstate_of_headers, is_move_none_or_at_addresses, is_pair_among_addresses}
 use Rattle.lfs_mount.proofs.Headers.{pair_of, seen_from}

@@ -18,7 +18,6 @@ use Rattle.lfs_model.proofs.Superblocks.{pairs_behind}
 use Rattle.lfs_pair.specs.Pair.{pair_address_in_header}
 use Rattle.lfs_thread.specs.Kept.{ArePairHeadersOnDisk, PairHeader, pairs_of_headers}
 use Rattle.lfs_mount.specs.Described.{AreDescriptionsOfPairsOnDisk, IsDescriptionOfPairOnDisk}
-use Rattle.lfs_mount.specs.Entries.{first_pair_addresses_of_directories}
 use Rattle.lfs_mount.specs.SuperblockChain.{HasSuperblockChainOfLength}
 use Rattle.lfs_mount.specs.Marking.{HasExactlyTheseUsedBlocks}
 use Rattle.lfs_mount.specs.Members.{AreDirectoryHeadersOfThread, IsThreadReadFromDisk, IsThreadMatchingMapAndDirectoryHeaders, directory_addresses_in_headers, header_has_hard_tail, pair_description_of_header, pair_descriptions_of_headers}
@@ -26,6 +25,7 @@ use Rattle.lfs_mount.proofs.Accepts.{starts_so}
 use Rattle.lfs_mount.proofs.Begins.{begins_distinct}
 use Rattle.lfs_mount.proofs.Headers.{pair_of, seen_from}
 use Rattle.lfs_mount.proofs.Owned.{counted_place, placed_count}
+use Rattle.lfs_model.specs.Steps.{addresses_of_first_pairs_of_directories}
 
 -- ---- members
 
@@ -64,7 +64,7 @@ begins_seen disk history begins (h ∷ hs) are =
     let next = begins_seen disk history (not (header_has_hard_tail h)) hs are.1 ∙ ap (λ (b : Bool). begins_of (not b) (pairs_of_headers disk hs)) (seen_from disk history h are.0).hard in
     ap (λ (xs : List (ℕ × ℕ)). cond begins (pair_address_in_header h ∷ xs) xs) next
 
-begins_listed : (g : Gstate) (ps : List Pair) → first_pair_addresses_of_directories (directories_of_pairs g ps) ≡ begins_of true ps
+begins_listed : (g : Gstate) (ps : List Pair) → addresses_of_first_pairs_of_directories (directories_of_pairs g ps) ≡ begins_of true ps
 begins_listed g [] = refl
 begins_listed g (p ∷ []) = refl
 begins_listed g (p ∷ q ∷ qs) = go (is_hard_tail p.content.tail) (directories_of_pairs g (q ∷ qs)) (begins_listed g (q ∷ qs))
@@ -72,7 +72,7 @@ begins_listed g (p ∷ q ∷ qs) = go (is_hard_tail p.content.tail) (directories
     more : List (ℕ × ℕ)
     more = begins_of (not (is_hard_tail q.content.tail)) qs
 
-    go : (hard : Bool) (ds : List ThreadDirectory) → first_pair_addresses_of_directories ds ≡ q.at ∷ more → first_pair_addresses_of_directories (directories_with_pair_prepended p.at hard (entries_not_moved g p) ds) ≡ p.at ∷ begins_of (not hard) (q ∷ qs)
+    go : (hard : Bool) (ds : List ThreadDirectory) → addresses_of_first_pairs_of_directories ds ≡ q.at ∷ more → addresses_of_first_pairs_of_directories (directories_with_pair_prepended p.at hard (entries_not_moved g p) ds) ≡ p.at ∷ begins_of (not hard) (q ∷ qs)
     go hard [] e = absurd (cc)
     go true (d ∷ ds) e = ap (λ (xs : List (ℕ × ℕ)). p.at ∷ drop 1 xs) e
     go false (d ∷ ds) e = ap (λ (xs : List (ℕ × ℕ)). p.at ∷ xs) e
@@ -112,11 +112,11 @@ module _ (disk : Disk) (history : List DeviceCallEvent) (hs : List PairHeader) (
   chain_behind : pair_count_before_root (head.chain ++ head.p ∷ head.rest) ≡ length head.chain
   chain_behind = ap pair_count_before_root (sym head.parts) ∙ head.before ∙ sym head.chain_is
 
-  places : directory_addresses_in_headers true dirs ≡ first_pair_addresses_of_directories (directories_in_thread (head.chain ++ head.p ∷ head.rest))
+  places : directory_addresses_in_headers true dirs ≡ addresses_of_first_pairs_of_directories (directories_in_thread (head.chain ++ head.p ∷ head.rest))
   places =
       begins_seen disk history true dirs are ∙ ap (begins_of true) (sym behind)
       ∙ sym (begins_listed (gstate_of_pairs (head.chain ++ head.p ∷ head.rest)) (head.p ∷ head.rest))
-      ∙ ap (λ (qs : List Pair). first_pair_addresses_of_directories (directories_of_pairs (gstate_of_pairs (head.chain ++ head.p ∷ head.rest)) qs)) (sym (pairs_behind head.chain (head.p ∷ head.rest) chain_behind))
+      ∙ ap (λ (qs : List Pair). addresses_of_first_pairs_of_directories (directories_of_pairs (gstate_of_pairs (head.chain ++ head.p ∷ head.rest)) qs)) (sym (pairs_behind head.chain (head.p ∷ head.rest) chain_behind))
 
   global : g ≡ gstate_of_pairs (head.chain ++ head.p ∷ head.rest)
   global = r.global ∙ ap gstate_of_pairs head.parts

@@ -12,12 +12,12 @@ use Rattle.lfs_model.specs.Disk.{Disk, block_bytes_on_disk}
 use Rattle.lfs_model.specs.History.{DeviceCallEvent}
 use Rattle.lfs_model.specs.Names.{Name}
 use Rattle.lfs_model.specs.Slots.{Branch, Ctz, Gstate, Inline, Slot, Struct, is_superblock}
-use Rattle.lfs_model.specs.Thread.{AreLinkedByTails, Pair, anchor_pair_address, gstate_of_pairs, slots_not_moved, entries_not_moved}
+use Rattle.lfs_model.specs.Thread.{AreLinkedByTails, Pair, anchor_pair_address, gstate_of_pairs, slots_not_moved, entries_not_moved, id_of_moved_slot_in_pair}
 use Rattle.lfs_model.specs.View.{IsAcceptedImage, IsFileOrDirectoryEntry}
 use Rattle.lfs_pair.specs.Pair.{read_count_of_pair_fetch, pair_blocks_later_revision_first}
 use Rattle.lfs_thread.specs.Kept.{PairHeader, pairs_of_headers}
 use Rattle.lfs_thread.specs.Reading.{read_count_of_thread_headers}
-use Rattle.lfs_mount.specs.Described.{AreDescriptionsOfPairsOnDisk, IsDescriptionOfPairOnDisk, id_of_moved_slot_in_pair}
+use Rattle.lfs_mount.specs.Described.{AreDescriptionsOfPairsOnDisk, IsDescriptionOfPairOnDisk}
 use Rattle.lfs_mount.specs.Entries.{empty_directory_scan, entry_reference_of_struct}
 use Rattle.lfs_mount.specs.SuperblockChain.{HasSuperblockChainOfLength}
 use Rattle.lfs_mount.specs.Marking.{skip_list_of_entry}

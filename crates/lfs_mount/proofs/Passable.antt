@@ -10,7 +10,7 @@ use Rattle.lfs_model.specs.BlockSets.{BlockStateList}
 use Rattle.lfs_model.specs.Content.{RawSlot, RawPairContent, slots_if_names_and_structs_present, pair_content_if_slots_complete, content_after_log_entries, empty_raw_pair_content, raw_content_of_pair_at}
 use Rattle.lfs_model.specs.LoggedContent.{AreWellFormedRawSlots}
 use Rattle.lfs_model.specs.Slots.{Slot, Gstate, is_superblock}
-use Rattle.lfs_model.specs.Thread.{Pair, starts_with_superblock, slots_not_moved, entries_not_moved}
+use Rattle.lfs_model.specs.Thread.{Pair, starts_with_superblock, slots_not_moved, entries_not_moved, id_of_moved_slot_in_pair}
 use Rattle.lfs_model.specs.View.{IsFileOrDirectoryEntry}
 use Rattle.lfs_model.proofs.Completed.{complete_parts}
 use Rattle.lfs_model.proofs.Counts.{Each}
@@ -20,7 +20,7 @@ use Rattle.lfs_mount.specs.Entries.{EntryNameAndReference, directory_entry_of_ra
 use Rattle.lfs_mount.specs.Scanned.{directory_scan_after_slots}
 use Rattle.lfs_mount.specs.Marking.{MarksFreeBlocksOfLists}
 use Rattle.lfs_mount.specs.Taken.{AddsPairToDirectoryScan, raw_slots_not_moved, slots_after_superblock}
-use Rattle.lfs_mount.specs.Described.{id_of_moved_slot_in_pair, IsDescriptionOfPairOnDisk, AreDescriptionsOfPairsOnDisk}
+use Rattle.lfs_mount.specs.Described.{IsDescriptionOfPairOnDisk, AreDescriptionsOfPairsOnDisk}
 use Rattle.lfs_device.specs.Bytes.{AreAllBlockElementsBelow256}
 use Rattle.lfs_mount.specs.Passed.{directory_scan_kept_only_after_hard_tail, graph_with_ended_directory, ScansPairsIntoDirectoryGraph}
 use Rattle.lfs_mount.specs.declared.pass.DirectoryPair.{DirectoryPair}

@@ -10,7 +10,7 @@ use Rattle.lfs_model.specs.BlockSets.{BlockStateList}
 use Rattle.lfs_model.specs.Disk.{Disk, block_count}
 use Rattle.lfs_model.specs.SkipLists.{IsSkipList, list_blocks_from_head, list_block_count_for_size}
 use Rattle.lfs_model.specs.Slots.{Slot, Struct, Inline, Ctz, Branch, Gstate, is_superblock, same_pair}
-use Rattle.lfs_model.specs.Thread.{Pair, blocks_of_pairs, gstate_of_pairs, slots_not_moved, entries_not_moved}
+use Rattle.lfs_model.specs.Thread.{Pair, blocks_of_pairs, gstate_of_pairs, slots_not_moved, entries_not_moved, id_of_moved_slot_in_pair}
 use Rattle.lfs_model.specs.View.{IsFileOrDirectoryEntry, IsSuperblockThenEntries, HasInlineStruct, IsSkipListIfCtzStruct, HasValidMoveOrNone, IsSomeSlotButNotSuperblock, IsAcceptedImage}
 use Rattle.lfs_model.specs.Shown.{skip_list_blocks_of_struct, all_slots_not_moved, used_blocks}
 use Rattle.lfs_model.proofs.Counts.{Each, each_append, each_left, each_right, occurrence_count_of_number, count_append, each_counted, each_from_counted, once_from_distinct, distinct_from_once}
@@ -20,7 +20,6 @@ use Rattle.lfs_model.proofs.Sites.{IsTrueOfSomeElement, among_from}
 use Rattle.lfs_model.proofs.Superblocks.{StructMark, HoldSlots, SlotsAs, entry_is_other}
 use Rattle.lfs_mount.specs.Reaching.{DirectoryGraph}
 use Rattle.lfs_mount.specs.Marking.{HasExactlyTheseUsedBlocks, skip_list_blocks_from_last_to_first}
-use Rattle.lfs_mount.specs.Described.{id_of_moved_slot_in_pair}
 use Rattle.std.specs.List.{cons_option}
 use Rattle.lfs_model.proofs.Superblocks.{IsChain, hold_from_rules}
 use Rattle.lfs_mount.specs.Entries.{entry_reference_of_struct, empty_directory_scan}

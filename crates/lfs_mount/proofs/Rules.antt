@@ -11,7 +11,7 @@ use Rattle.lfs_model.specs.Names.{Name}
 use Rattle.lfs_model.specs.BlockSets.{BlockStateList}
 use Rattle.lfs_model.specs.Content.{RawSlot, RawPairContent, slots_if_names_and_structs_present, pair_content_if_slots_complete, content_after_log_entries, empty_raw_pair_content}
 use Rattle.lfs_model.specs.Slots.{Slot, Gstate, is_superblock, same_pair}
-use Rattle.lfs_model.specs.Thread.{Pair, starts_with_superblock, slots_not_moved, entries_not_moved, is_hard_tail}
+use Rattle.lfs_model.specs.Thread.{Pair, starts_with_superblock, slots_not_moved, entries_not_moved, is_hard_tail, id_of_moved_slot_in_pair}
 use Rattle.lfs_model.specs.View.{IsFileOrDirectoryEntry}
 use Rattle.lfs_model.proofs.Completed.{AreComplete, complete_parts, complete_remove, completed_parts}
 use Rattle.lfs_model.proofs.Counts.{Each}
@@ -21,7 +21,7 @@ use Rattle.lfs_mount.specs.Entries.{EntryNameAndReference, name_and_reference_of
 use Rattle.lfs_mount.specs.Scanned.{directory_scan_after_slots}
 use Rattle.lfs_mount.specs.Marking.{MarksFreeBlocksOfLists, skip_list_of_entry, file_lists_of_raw_slots}
 use Rattle.lfs_mount.specs.Taken.{AddsPairToDirectoryScan, raw_slots_not_moved, slots_after_superblock, entries_of_described_pair}
-use Rattle.lfs_mount.specs.Described.{id_of_moved_slot_in_pair, IsDescriptionOfPairOnDisk, AreDescriptionsOfPairsOnDisk}
+use Rattle.lfs_mount.specs.Described.{IsDescriptionOfPairOnDisk, AreDescriptionsOfPairsOnDisk}
 use Rattle.lfs_mount.specs.Passed.{directory_scan_kept_only_after_hard_tail, graph_with_ended_directory, ScansPairsIntoDirectoryGraph}
 use Rattle.lfs_mount.specs.declared.pass.DirectoryPair.{DirectoryPair}
 use Rattle.std.proofs.Math.Seq.{drop-nil}
@@ -34,10 +34,10 @@ use Rattle.lfs_model.specs.Shown.{directories_in_thread}
 use Rattle.lfs_model.proofs.Listings.{Ends}
 use Rattle.lfs_mount.specs.Places.{IsGraphOfDirectories}
 use Rattle.lfs_mount.specs.Directories.{IsGraphOfThreadDirectories}
-use Rattle.lfs_mount.specs.Entries.{first_pair_addresses_of_directories}
 use Rattle.lfs_mount.proofs.Runs.{shown_in, vertices, entries_of, Named, thread_drawn}
 use Rattle.lfs_mount.proofs.MarkedLists.{lists_joined}
 use Rattle.lfs_mount.proofs.Scans.{entry_some, scan_some}
+use Rattle.lfs_model.specs.Steps.{addresses_of_first_pairs_of_directories}
 
 -- ---- complete slots, some of them taken away
 
@@ -235,9 +235,9 @@ named_all g [] h = tt
 named_all g (p ∷ ps) h = ((λ k d lt. (h.0 k d lt).name), named_all g ps h.1)
 
 pub passed_draws : (disk : Disk) (g : Gstate) (ps : List Pair) (ms : List DirectoryPair) (sets : BlockStateList) (graph : DirectoryGraph) (end : BlockStateList) → Ends ps → AreDescriptionsOfPairsOnDisk disk g true ps ms
-    → ScansPairsIntoDirectoryGraph disk (first_pair_addresses_of_directories (directories_of_pairs g ps)) empty_directory_scan sets ms graph end → IsGraphOfDirectories disk.order (directories_of_pairs g ps) graph
+    → ScansPairsIntoDirectoryGraph disk (addresses_of_first_pairs_of_directories (directories_of_pairs g ps)) empty_directory_scan sets ms graph end → IsGraphOfDirectories disk.order (directories_of_pairs g ps) graph
 passed_draws disk g ps ms sets graph end ends members passes =
-    let h = passed_rules disk (first_pair_addresses_of_directories (directories_of_pairs g ps)) g true ps ms empty_directory_scan sets graph end members passes in
+    let h = passed_rules disk (addresses_of_first_pairs_of_directories (directories_of_pairs g ps)) g true ps ms empty_directory_scan sets graph end members passes in
     subst (IsGraphOfDirectories disk.order (directories_of_pairs g ps)) (sym h.graph_is) (thread_drawn disk.order g ps ends (named_all g ps h.entries))
 
 -- the last pair of a thread has no tail
@@ -257,7 +257,7 @@ ends_behind (suc n) (p ∷ []) h = subst Ends (sym (drop-nil n)) tt
 ends_behind (suc n) (p ∷ q ∷ ps) h = ends_behind n (q ∷ ps) h
 
 pub thread_shows : (disk : Disk) (ps : List Pair) (ms : List DirectoryPair) (sets : BlockStateList) (graph : DirectoryGraph) (end : BlockStateList) → IsThreadOfMetadataPairs (content_of_pair_at disk) (block_count disk) ps
-    → AreDescriptionsOfPairsOnDisk disk (gstate_of_pairs ps) true (pairs_from_root_directory_on ps) ms → ScansPairsIntoDirectoryGraph disk (first_pair_addresses_of_directories (directories_in_thread ps)) empty_directory_scan sets ms graph end → IsGraphOfThreadDirectories disk.order graph (gstate_of_pairs ps).sync ps
+    → AreDescriptionsOfPairsOnDisk disk (gstate_of_pairs ps) true (pairs_from_root_directory_on ps) ms → ScansPairsIntoDirectoryGraph disk (addresses_of_first_pairs_of_directories (directories_in_thread ps)) empty_directory_scan sets ms graph end → IsGraphOfThreadDirectories disk.order graph (gstate_of_pairs ps).sync ps
 thread_shows disk ps ms sets graph end thread members passes = record {
   distinct = thread.distinct;
   draws = passed_draws disk (gstate_of_pairs ps) (pairs_from_root_directory_on ps) ms sets graph end (ends_behind (pair_count_before_root ps) ps (links_end (Some anchor_pair_address) ps thread.links)) members passes;

@@ -11,8 +11,9 @@ use Rattle.lfs_model.proofs.Counts.{Each}
 use Rattle.lfs_model.proofs.Listings.{Ends}
 use Rattle.lfs_mount.specs.Reaching.{DirectoryVertexWithSoundnessAndBranches, DirectoryGraph}
 use Rattle.lfs_mount.specs.Places.{HasSoundnessAndBranchesOfDirectorySlots, IsGraphOfDirectories}
-use Rattle.lfs_mount.specs.Entries.{EntryNameAndReference, name_and_reference_of_slot, first_pair_addresses_of_directories, directory_scan_with_entries, empty_directory_scan}
+use Rattle.lfs_mount.specs.Entries.{EntryNameAndReference, name_and_reference_of_slot, directory_scan_with_entries, empty_directory_scan}
 use Rattle.lfs_mount.proofs.Drawn.{IsKnown, known_more, nothing_drawn}
+use Rattle.lfs_model.specs.Steps.{addresses_of_first_pairs_of_directories}
 
 -- ---- the run of pairs in hand, and the pairs to come
 
@@ -86,10 +87,10 @@ abbrev pub Named : Shown → Type 0
 Named p = All (λ s. is_valid_name s.name ≡ true) p.1
 
 pub runs_drawn : {by : NameOrder} (ds : List ThreadDirectory) (ps : List Shown) (hand : List Slot) (known : Name × DirectoryVertexWithSoundnessAndBranches) → Each Named ps → IsKnown by ds hand known
-    → AreDrawn by ds (runs hand ps) (vertices by (first_pair_addresses_of_directories ds) known (map entries_of ps))
+    → AreDrawn by ds (runs hand ps) (vertices by (addresses_of_first_pairs_of_directories ds) known (map entries_of ps))
 runs_drawn {by} ds [] hand known named h = tt
 runs_drawn {by} ds ((true, slots) ∷ ps) hand known named h =
-    runs_drawn ds ps (hand ++ slots) (directory_scan_with_entries by (first_pair_addresses_of_directories ds) known (map name_and_reference_of_slot slots)) named.1 (known_more ds hand slots known named.0 h)
+    runs_drawn ds ps (hand ++ slots) (directory_scan_with_entries by (addresses_of_first_pairs_of_directories ds) known (map name_and_reference_of_slot slots)) named.1 (known_more ds hand slots known named.0 h)
 runs_drawn {by} ds ((false, slots) ∷ ps) hand known named h =
     ((known_more ds hand slots known named.0 h).drawn, runs_drawn ds ps [] empty_directory_scan named.1 (nothing_drawn by ds))
 
@@ -116,9 +117,9 @@ draws_from by ds graph h = record {
 
 -- pairs taken from the front draw the directories
 pub thread_drawn : (by : NameOrder) (g : Gstate) (ps : List Pair) → Ends ps → Each Named (shown_in g ps)
-    → IsGraphOfDirectories by (directories_of_pairs g ps) (vertices by (first_pair_addresses_of_directories (directories_of_pairs g ps)) empty_directory_scan (map entries_of (shown_in g ps)))
+    → IsGraphOfDirectories by (directories_of_pairs g ps) (vertices by (addresses_of_first_pairs_of_directories (directories_of_pairs g ps)) empty_directory_scan (map entries_of (shown_in g ps)))
 thread_drawn by g ps ends named =
-    draws_from by (directories_of_pairs g ps) (vertices by (first_pair_addresses_of_directories (directories_of_pairs g ps)) empty_directory_scan (map entries_of (shown_in g ps)))
-    (subst (λ ss. AreDrawn by (directories_of_pairs g ps) ss (vertices by (first_pair_addresses_of_directories (directories_of_pairs g ps)) empty_directory_scan (map entries_of (shown_in g ps))))
+    draws_from by (directories_of_pairs g ps) (vertices by (addresses_of_first_pairs_of_directories (directories_of_pairs g ps)) empty_directory_scan (map entries_of (shown_in g ps)))
+    (subst (λ ss. AreDrawn by (directories_of_pairs g ps) ss (vertices by (addresses_of_first_pairs_of_directories (directories_of_pairs g ps)) empty_directory_scan (map entries_of (shown_in g ps))))
     (directories_from_front g ps ends)
     (runs_drawn (directories_of_pairs g ps) (shown_in g ps) [] empty_directory_scan named (nothing_drawn by (directories_of_pairs g ps))))

@@ -8,10 +8,10 @@ use Rattle.lfs_model.specs.Slots.{Slot, is_superblock}
 use Rattle.lfs_model.specs.Thread.{Pair, IsThreadOfMetadataPairs, blocks_of_pairs, first_pair_address, pairs_from_first_with_slots, gstate_of_pairs, pair_count_before_root}
 use Rattle.lfs_model.specs.View.{HasInlineStruct, BeginsWithLogEntry, superblock_name_log_entry, IsSuperblockStruct, first_slot_name}
 use Rattle.lfs_model.specs.Shown.{directories_in_thread}
-use Rattle.lfs_mount.specs.Entries.{first_pair_addresses_of_directories}
 use Rattle.lfs_mount.specs.Marking.{HasExactlyTheseUsedBlocks}
 use Rattle.lfs_mount.specs.Described.{AreDescriptionsOfPairsOnDisk}
 use Rattle.lfs_mount.specs.declared.pass.DirectoryPair.{DirectoryPair}
+use Rattle.lfs_model.specs.Steps.{addresses_of_first_pairs_of_directories}
 
 abbrev pub BeginsWithSuperblockSlot : List ℕ → List Slot → Type 0
 BeginsWithSuperblockSlot bytes [] = ⊥
@@ -44,7 +44,7 @@ pub record IsThreadMatchingMapAndPairDescriptions (disk : Disk) (sets : BlockSta
   pub sets_len : length sets ≡ block_count disk
   pub owns : HasExactlyTheseUsedBlocks sets (blocks_of_pairs (chain ++ p ∷ rest))
   pub described : AreDescriptionsOfPairsOnDisk disk (gstate_of_pairs (chain ++ p ∷ rest)) true (p ∷ rest) members
-  pub places : firsts ≡ first_pair_addresses_of_directories (directories_in_thread (chain ++ p ∷ rest))
+  pub places : firsts ≡ addresses_of_first_pairs_of_directories (directories_in_thread (chain ++ p ∷ rest))
   pub sync_is : (gstate_of_pairs (chain ++ p ∷ rest)).sync ≡ sync
 
 abbrev pub HasThreadMatchingMapAndPairDescriptions : Disk → BlockStateList → List (ℕ × ℕ) → List DirectoryPair → Bool → Type 0

@@ -3,12 +3,8 @@ use Rattle.std.specs.Prelude.{ℕ, ◌≡◌, ◌<◌, Bool, true, false, ◌==�
 use Rattle.lfs_model.specs.Disk.{Disk, block_bytes_on_disk, block_count}
 use Rattle.lfs_model.specs.Content.{current_block_of_pair_at, content_of_pair_at}
 use Rattle.lfs_model.specs.Slots.{Gstate, same_pair}
-use Rattle.lfs_model.specs.Thread.{Pair, is_hard_tail, starts_with_superblock}
+use Rattle.lfs_model.specs.Thread.{Pair, is_hard_tail, starts_with_superblock, id_of_moved_slot_in_pair}
 use Rattle.lfs_mount.specs.declared.pass.DirectoryPair.{DirectoryPair}
-
--- the id of the slot that a set move names in the pair
-abbrev pub id_of_moved_slot_in_pair : Gstate → Pair → Option ℕ
-id_of_moved_slot_in_pair g p = if g.kind == 0x4ff && same_pair g.pair p.at then Some g.id else None
 
 -- The pair is on the disk, and this is what is known of it. The first pair has the superblock.
 pub record IsDescriptionOfPairOnDisk (disk : Disk) (g : Gstate) (is_first : Bool) (p : Pair) (m : DirectoryPair) : Type 0 where

@@ -43,9 +43,6 @@ directory_entry_of_raw_slot s = option_and_then (λ name. option_and_then (λ st
 
 -- ---- directories by their addresses
 
-abbrev pub first_pair_addresses_of_directories : List ThreadDirectory → List (ℕ × ℕ)
-first_pair_addresses_of_directories ds = map (λ d. d.at) ds
-
 -- ---- one entry more
 
 abbrev pub directory_vertex_with_branch : DirectoryVertexWithSoundnessAndBranches → Option ℕ → DirectoryVertexWithSoundnessAndBranches

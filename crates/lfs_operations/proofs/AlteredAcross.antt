@@ -7,7 +7,7 @@ use Rattle.lfs_model.specs.Changes.{PairContentChange}
 use Rattle.lfs_model.specs.Names.{Name}
 use Rattle.lfs_model.specs.SlotEdits.{pair_with_slots}
 use Rattle.lfs_model.specs.Slots.{Slot, gstate_xor}
-use Rattle.lfs_model.specs.Thread.{Pair, blocks_of_pairs}
+use Rattle.lfs_model.specs.Thread.{Pair, blocks_of_pairs, blocks_of_pair_address}
 use Rattle.lfs_model.specs.Tree.{Path}
 use Rattle.lfs_model.specs.View.{IsAcceptedImage}
 use Rattle.lfs_model.specs.Shown.{all_slots_not_moved, used_blocks}
@@ -17,7 +17,6 @@ use Rattle.lfs_model.proofs.Counts.{Each, occurrence_count_of_number, count_appe
 use Rattle.lfs_model.proofs.Sites.{IsTrueOfSomeElement, Site, among_right, dirs_at}
 use Rattle.lfs_model.proofs.Splices.{file_blocks_of_slots}
 use Rattle.lfs_model.proofs.TwoPlaces.{two}
-use Rattle.lfs_thread.specs.Device.{blocks_of_pair_address}
 use Rattle.lfs_thread.specs.Kept.{KeptThread}
 use Rattle.lfs_thread.specs.Steps.{thread_pair_at_index}
 use Rattle.lfs_operations.specs.Altering.{IsBlockOfAlteredPair}

@@ -5,7 +5,7 @@ use Rattle.std.specs.List.{IsDistinct}
 use Rattle.std.proofs.lemmas.Option.{same_Some}
 use Rattle.lfs_model.specs.Disk.{Disk}
 use Rattle.lfs_model.specs.Slots.{Slot}
-use Rattle.lfs_model.specs.Thread.{AreLinkedByTails, Pair, anchor_pair_address, blocks_of_pairs, pair_address_named_by_tail}
+use Rattle.lfs_model.specs.Thread.{AreLinkedByTails, Pair, anchor_pair_address, blocks_of_pairs, pair_address_named_by_tail, blocks_of_pair_address}
 use Rattle.lfs_model.specs.View.{IsAcceptedImage}
 use Rattle.lfs_model.proofs.Alike.{ArePairsWithSameAddressesAndSlots}
 use Rattle.lfs_model.proofs.Became.{Became}
@@ -15,7 +15,6 @@ use Rattle.lfs_model.proofs.Splices.{slots_of_pairs_in_order}
 use Rattle.lfs_operations.specs.Changing.{IsPairAltered}
 use Rattle.lfs_operations.proofs.Altered.{among_contains, links_behind, only_there}
 use Rattle.lfs_operations.proofs.DroppedTails.{TwoAt, front_is, gone_is, two_at}
-use Rattle.lfs_thread.specs.Device.{blocks_of_pair_address}
 use Rattle.lfs_thread.specs.Kept.{KeptThread}
 use Rattle.lfs_thread.specs.Steps.{thread_pair_at_index}
 

@@ -1,7 +1,7 @@
 -- An empty directory goes: the pairs in front of those that go don't stay with what they held.
 use Rattle.std.proofs.Common.{ℕ, ◌≡◌, ◌+◌, ◌-◌, ◌<◌, ◌≤◌, false, [], ◌∷◌, length, Some, sym, ap, ◌∙◌, arith}
 use Rattle.lfs_model.specs.Slots.{Gstate, zero_gstate}
-use Rattle.lfs_model.specs.Thread.{AreLinkedByTails, Pair, anchor_pair_address, blocks_of_pairs}
+use Rattle.lfs_model.specs.Thread.{AreLinkedByTails, Pair, anchor_pair_address, blocks_of_pairs, blocks_of_pair_address}
 use Rattle.lfs_model.proofs.Counts.{occurrence_count_of_number, count_here, once_from_distinct}
 use Rattle.lfs_model.proofs.Global.{sync_bit_delta}
 use Rattle.lfs_operations.specs.Changing.{IsPairAltered}
@@ -15,7 +15,6 @@ use Rattle.lfs_operations.proofs.RemovedWhole.{StandsWhole}
 use Rattle.lfs_operations.proofs.RmdirThread.{can_drop_gone}
 use Rattle.lfs_operations.proofs.UnlinkedSteps.{at_there}
 use Rattle.lfs_operations.proofs.UnlinkedWhole.{above_gone, can_drop_entry, can_drop_then, o_there}
-use Rattle.lfs_thread.specs.Device.{blocks_of_pair_address}
 use Rattle.lfs_thread.specs.Kept.{KeptThread}
 use Rattle.lfs_thread.specs.Steps.{thread_pair_at_index}
 

@@ -10,7 +10,7 @@ use Rattle.lfs_model.specs.BlockSets.BlockState.{Free, InFlight, Used}
 use Rattle.lfs_model.specs.Content.{content_of_pair_at, current_block_of_pair_at}
 use Rattle.lfs_model.specs.Disk.{Disk}
 use Rattle.lfs_model.specs.Slots.{PairContent, IsContentFittingPair, Slot}
-use Rattle.lfs_model.specs.Thread.{Pair, blocks_of_pairs, gstate_of_pairs}
+use Rattle.lfs_model.specs.Thread.{Pair, blocks_of_pairs, gstate_of_pairs, blocks_of_pair_address}
 use Rattle.lfs_model.specs.View.{BeginsWithLogEntry, IsAcceptedImage, superblock_name_log_entry}
 use Rattle.lfs_model.specs.Profile.{IsSlotWithinWritableLimits, IsWritableImage}
 use Rattle.lfs_model.specs.Shown.{all_slots_not_moved, skip_list_blocks_of_struct, used_blocks}
@@ -22,7 +22,6 @@ use Rattle.lfs_model.proofs.Global.{HasNoMove}
 use Rattle.lfs_model.proofs.Sites.{Site}
 use Rattle.lfs_model.proofs.Splices.{IsDevice, count_files, file_blocks_of_slots, slots_of_pairs_in_order, unmoved_in}
 use Rattle.lfs_pair.specs.Commit.{KeepsBlocksOutsidePair}
-use Rattle.lfs_thread.specs.Device.{blocks_of_pair_address}
 use Rattle.lfs_thread.specs.Kept.{KeptThread}
 use Rattle.lfs_thread.specs.Steps.{IsPairWrittenOnDisk, SlotsBeginWithSuperblock, thread_pair_at_index, block_map_with_freed_pair}
 use Rattle.lfs_operations.specs.Dropping.{HasSameBlocksInFlight}

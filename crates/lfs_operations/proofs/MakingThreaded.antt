@@ -10,7 +10,7 @@ use Rattle.lfs_model.specs.Content.{content_of_pair_at, current_block_of_two, cu
 use Rattle.lfs_model.specs.Disk.{Disk, block_bytes_on_disk, block_count}
 use Rattle.lfs_model.specs.PowerLoss.{HasTreeBeforeOrAfterOperation, disk_with_blocks}
 use Rattle.lfs_model.specs.Slots.{PairContent, IsContentFittingPair, Gstate, zero_gstate, gstate_xor, same_pair}
-use Rattle.lfs_model.specs.Thread.{Pair, blocks_of_pairs, gstate_of_pairs, is_hard_tail}
+use Rattle.lfs_model.specs.Thread.{Pair, blocks_of_pairs, gstate_of_pairs, is_hard_tail, blocks_of_pair_address, blocks_of_two_pair_addresses}
 use Rattle.lfs_model.specs.Tree.{Path, Tree}
 use Rattle.lfs_model.specs.View.{BeginsWithLogEntry, superblock_name_log_entry, IsAcceptedImage}
 use Rattle.lfs_model.specs.Profile.{AreNoEmptyPairsAfterHardTails, IsWritableImage}
@@ -28,7 +28,6 @@ use Rattle.lfs_model.proofs.StepsTaken.{IsPutBeside, IsWritableImageAfterTreeCha
 use Rattle.lfs_model.proofs.Superblocks.{pairs_behind}
 use Rattle.lfs_model.proofs.Writable.{ends_in_hard_tail}
 use Rattle.lfs_pair.specs.Split.{KeepsBlocksOutsideBothPairs}
-use Rattle.lfs_thread.specs.Device.{blocks_of_two_pair_addresses, blocks_of_pair_address}
 use Rattle.lfs_thread.specs.Kept.{KeptThread}
 use Rattle.lfs_thread.specs.Steps.{HasSameGeometry, HasPairOldContentOnDisk, IsFreshPairThreadedIn, IsFreshPairThreadedInOnDisk, PowerLossLeavesPairOldOrThreadedIn, KeepsSuperblockEntryFirstInLog, ThreadChangesOnlyTheseBlocks, fresh_pair_with_tail, complete_content_after_changes, thread_pair_at_index, block_map_with_used_pair}
 use Rattle.lfs_operations.specs.Changing.{AreTwoFreeBlocks, map_with_two_blocks_in_flight}

@@ -11,13 +11,14 @@ use Rattle.lfs_model.specs.Disk.{Disk}
 use Rattle.lfs_model.proofs.AfterStops.{survives_then}
 use Rattle.lfs_model.proofs.Counts.{each_weaker}
 use Rattle.lfs_model.proofs.Histories.{IsTrueAfterAnyPowerLossSince-trans, IsTrueAfterAnyPowerLossSince-weaker, AreBytesStillUnprogrammed-trans, AreBytesStillUnprogrammed-wider}
-use Rattle.lfs_thread.specs.Device.{PowerLossLeavesSuchBlocksAfterCleanErases, blocks_of_two_pair_addresses}
+use Rattle.lfs_thread.specs.Device.{PowerLossLeavesSuchBlocksAfterCleanErases}
 use Rattle.lfs_thread.specs.Kept.{KeptThread}
 use Rattle.lfs_thread.specs.Steps.{ThreadChangesOnlyTheseBlocks, thread_pair_at_index, block_map_with_used_pair}
 use Rattle.lfs_operations.specs.Changing.{AreTwoFreeBlocks, WritesPairAndTwoFreeBlocks, map_with_two_blocks_in_flight}
 use Rattle.lfs_operations.specs.Making.{IsLastPairOfHardTailRun, WritesPairLastPairAndFourFreeBlocks}
 use Rattle.lfs_operations.proofs.MakingCounts.{freed}
 use Rattle.lfs_operations.proofs.Putting.{with_map}
+use Rattle.lfs_model.specs.Thread.{blocks_of_two_pair_addresses}
 
 -- of more blocks
 abbrev Covers : List ℕ → List ℕ → Type 0

@@ -17,7 +17,7 @@ use Rattle.lfs_model.specs.Operations as ops
 use Rattle.lfs_model.specs.PowerLoss.{HasTreeBeforeOrAfterOperation as IsLeftOf, disk_with_blocks}
 use Rattle.lfs_model.specs.Slots.{PairContent, IsContentFittingPair, Gstate, Slot, entry_charge_with_longest_inline_contents, zero_gstate, gstate_xor, same_pair}
 use Rattle.lfs_model.specs.SlotEdits.{new_directory_slot, pair_with_slots}
-use Rattle.lfs_model.specs.Thread.{Pair, blocks_of_pairs, gstate_of_pairs, is_hard_tail, pair_address_named_by_tail, pair_count_before_root}
+use Rattle.lfs_model.specs.Thread.{Pair, blocks_of_pairs, gstate_of_pairs, is_hard_tail, pair_address_named_by_tail, pair_count_before_root, blocks_of_pair_address, blocks_of_two_pair_addresses}
 use Rattle.lfs_model.specs.Tree.{DirectoryNode}
 use Rattle.lfs_model.specs.Profile.{IsEntryWithinWritableLimits, IsWritableImage}
 use Rattle.lfs_model.specs.View.{IsAcceptedImage}
@@ -37,7 +37,6 @@ use Rattle.lfs_model.proofs.Searches.{site, thread_is, is_site, same, number_is,
 use Rattle.lfs_model.proofs.Sites.{IsTrueOfSomeElement, Site, among_left, among_right, begin_of, dirs_at, thread_at, IsSite}
 use Rattle.lfs_model.proofs.StepsTaken as taken
 use Rattle.lfs_model.proofs.Superblocks.{IsChain}
-use Rattle.lfs_thread.specs.Device.{blocks_of_two_pair_addresses, blocks_of_pair_address}
 use Rattle.lfs_thread.specs.Kept.{KeptThread}
 use Rattle.lfs_thread.specs.Steps.{CanThreadInFreshPair, IsFreshPairThreadedIn, PowerLossLeavesPairOldOrThreadedIn, ThreadChangesOnlyTheseBlocks, thread_pair_at_index, complete_content_after_changes}
 use Rattle.lfs_operations.specs.Changing.{IsPairAltered, AreTwoFreeBlocks, CanChangeOrSplitPair, HasTwoFreeBlocks, IsLeftByStoppedChangeOrSplit, IsPairChangedOrSplit, map_with_two_blocks_in_flight}

@@ -26,12 +26,13 @@ use Rattle.lfs_model.proofs.Sites.{Site, dirs_at, thread_at, IsSite}
 use Rattle.lfs_model.proofs.Splices.{slots_of_pairs_in_order, file_blocks_of_slots, unmoved_in}
 use Rattle.lfs_model.proofs.StepsTaken.{IsWritableImageAfterTreeChange, IsPut, end_taken}
 use Rattle.lfs_model.proofs.Writable.{ends_in_hard_tail}
-use Rattle.lfs_operations.specs.MoveEnds.{gstate_without_sync, gstate_of_sync_alone}
+use Rattle.lfs_operations.specs.MoveEnds.{gstate_without_sync}
 use Rattle.lfs_operations.proofs.MovSet.{HasTurned}
 use Rattle.lfs_operations.proofs.MovFirsts.{end_firsts}
 use Rattle.lfs_model.proofs.MoveSets.{addresses_of_first_pairs_of_directories}
+use Rattle.lfs_operations.specs.EndingMove.{gstate_without_move}
 
-pub move_out : (g : Gstate) → gstate_xor (gstate_without_sync g) g ≡ gstate_of_sync_alone g
+pub move_out : (g : Gstate) → gstate_xor (gstate_without_sync g) g ≡ gstate_without_move g
 move_out g = λ j. record { sync = g.sync; kind = xor_self g.kind j; id = xor_self g.id j; pair = (xor_self g.pair.0 j, xor_self g.pair.1 j) }
 
 -- The move hides the slot u of the pair at the site, which keeps another where a hard tail leads to it.
@@ -88,7 +89,7 @@ module _ (disk : Disk) (w : Site) (p : Pair) (l : List Slot) (u : Slot) (r : Lis
     abbrev qs : List Pair
     qs = thread_at w (q ∷ [])
 
-    pub ended_state : gstate_of_pairs qs ≡ gstate_of_sync_alone (gstate_of_pairs ps)
+    pub ended_state : gstate_of_pairs qs ≡ gstate_without_move (gstate_of_pairs ps)
     ended_state = site_gstate_moved (gstate_without_sync g) w (p ∷ []) (q ∷ [])
         (x.delta ∙ ap (gstate_xor (gstate_without_sync g)) (sym (gstate_cons p [] ∙ gstate_right p.content.move)))
         ∙ move_out g

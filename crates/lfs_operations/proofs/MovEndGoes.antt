@@ -26,7 +26,7 @@ use Rattle.lfs_thread.specs.Device.{PowerLossLeavesSuchBlocksAfterCleanErases}
 use Rattle.lfs_thread.specs.Kept.{KeptThread}
 use Rattle.lfs_thread.specs.Steps.{IsPairWrittenOnDisk, empty_pair_at_anchor, thread_pair_at_index, block_map_with_freed_pair}
 use Rattle.lfs_operations.specs.Dropping.{CanDropPairAt, IsNextPairDropped, IsLeftByStoppedPairDrop, tail_over_dropped_pair, content_after_next_pair_drop}
-use Rattle.lfs_operations.specs.MoveEnds.{CanEndMoveAt, HasEndedMoveAt, is_pair_named_by_hard_tail, gstate_of_sync_alone}
+use Rattle.lfs_operations.specs.MoveEnds.{CanEndMoveAt, HasEndedMoveAt, is_pair_named_by_hard_tail}
 use Rattle.lfs_operations.proofs.Dropped.{device_dropped, device_kept, profile_same}
 use Rattle.lfs_operations.proofs.DroppedTails.{front_is, gone_is, gstate_is, remove_next, without_is}
 use Rattle.lfs_operations.proofs.MovEnding.{get_from, led_is}
@@ -34,8 +34,9 @@ use Rattle.lfs_operations.proofs.MovEndWhole.{HasTakenOver, IsEndingWhole, whole
 use Rattle.lfs_operations.proofs.Placing.{nothing_came}
 use Rattle.lfs_operations.proofs.Removed.{flag_ends}
 use Rattle.lfs_operations.proofs.RemovedWhole.{LastPair, last_pair, only_slot, over_hard, run_hard}
+use Rattle.lfs_operations.specs.EndingMove.{gstate_without_move}
 
-sync_state : (g : Gstate) → AreMoveStateFieldsWithinBitWidths (gstate_of_sync_alone g)
+sync_state : (g : Gstate) → AreMoveStateFieldsWithinBitWidths (gstate_without_move g)
 sync_state g = record { kind = omega arith; id = omega arith; pair = (omega arith, omega arith) }
 
 module _ (t : KeptThread) (index id : ℕ) (can : CanEndMoveAt t index id true) where
@@ -139,9 +140,9 @@ module _ (t : KeptThread) (index id : ℕ) (can : CanEndMoveAt t index id true) 
   gone_there = gone_is t (index - 1) ahead x o back is number
 
   abbrev state : Gstate
-  state = gstate_of_sync_alone (gstate_of_pairs t.pairs)
+  state = gstate_without_move (gstate_of_pairs t.pairs)
 
-  pub can_drop_moved : CanDropPairAt t index (gstate_of_sync_alone (gstate_of_pairs t.pairs))
+  pub can_drop_moved : CanDropPairAt t index (gstate_without_move (gstate_of_pairs t.pairs))
   can_drop_moved = record {
     above = let e = place in omega arith;
     below = can.below;
@@ -155,7 +156,7 @@ module _ (t : KeptThread) (index id : ℕ) (can : CanEndMoveAt t index id true) 
   -- ---- what it leaves
 
   abbrev c : PairContent
-  c = content_after_next_pair_drop t (index - 1) (gstate_of_sync_alone (gstate_of_pairs t.pairs))
+  c = content_after_next_pair_drop t (index - 1) (gstate_without_move (gstate_of_pairs t.pairs))
 
   abbrev q : Pair
   q = record { at = x.at; content = c }
@@ -180,7 +181,7 @@ module _ (t : KeptThread) (index id : ℕ) (can : CanEndMoveAt t index id true) 
     at = refl;
     slots = slots_same;
     tail = ap₂ (λ (y z : Pair). tail_over_dropped_pair y.content.tail z.content.tail) front_there gone_there ∙ over_hard x.content.tail o.content.tail hard;
-    state = ap gstate_of_pairs (grouped (q ∷ [])) ∙ gstate_is t (index - 1) ahead x o back is number (gstate_of_sync_alone (gstate_of_pairs t.pairs)) q refl ∙ ap (λ z. gstate_of_sync_alone (gstate_of_pairs z)) there;
+    state = ap gstate_of_pairs (grouped (q ∷ [])) ∙ gstate_is t (index - 1) ahead x o back is number (gstate_without_move (gstate_of_pairs t.pairs)) q refl ∙ ap (λ z. gstate_without_move (gstate_of_pairs z)) there;
     device = subst (λ z. IsDevice t.disk disk z (thread_at w (q ∷ []))) (sym (grouped (x ∷ o ∷ [])))
         (subst (IsDevice t.disk disk (ahead ++ x ∷ o ∷ back)) (sym (grouped (q ∷ []))) (device_dropped t (index - 1) ahead x o back is number (subst (IsAcceptedImage t.disk) is can.accepted) disk c slots_same written));
   }
@@ -201,7 +202,7 @@ module _ (t : KeptThread) (index id : ℕ) (can : CanEndMoveAt t index id true) 
       go (inl a) = among_left (λ y. y ≡ z) ahead (q ∷ back) a
       go (inr a) = among_right (λ y. y ≡ z) ahead (q ∷ back) (behind a)
 
-  pub has_gone : (new : KeptThread) → IsNextPairDropped t (index - 1) (gstate_of_sync_alone (gstate_of_pairs t.pairs)) new → HasEndedMoveAt t index id true new
+  pub has_gone : (new : KeptThread) → IsNextPairDropped t (index - 1) (gstate_without_move (gstate_of_pairs t.pairs)) new → HasEndedMoveAt t index id true new
   has_gone new d =
       let pairs : new.pairs ≡ thread_at w (q ∷ []) = d.pairs ∙ without_is t (index - 1) ahead x o back is number c ∙ sym (grouped (q ∷ [])) in
       let taken = goes_on new.disk d.written in
@@ -225,10 +226,10 @@ module _ (t : KeptThread) (index id : ℕ) (can : CanEndMoveAt t index id true) 
 
   -- ---- at a stop
 
-  left_tree : (left : Blocks) → IsLeftByStoppedPairDrop t (index - 1) (gstate_of_sync_alone (gstate_of_pairs t.pairs)) left → IsLeftOf (disk_with_blocks left t.disk) (tree_on_disk t.disk t.pairs) (tree_on_disk t.disk t.pairs)
+  left_tree : (left : Blocks) → IsLeftByStoppedPairDrop t (index - 1) (gstate_without_move (gstate_of_pairs t.pairs)) left → IsLeftOf (disk_with_blocks left t.disk) (tree_on_disk t.disk t.pairs) (tree_on_disk t.disk t.pairs)
   left_tree left l = go l.is
     where
-      go : (l.content ≡ (thread_pair_at_index t (index - 1)).content) ⊎ (l.content ≡ content_after_next_pair_drop t (index - 1) (gstate_of_sync_alone (gstate_of_pairs t.pairs))) → IsLeftOf (disk_with_blocks left t.disk) (tree_on_disk t.disk t.pairs) (tree_on_disk t.disk t.pairs)
+      go : (l.content ≡ (thread_pair_at_index t (index - 1)).content) ⊎ (l.content ≡ content_after_next_pair_drop t (index - 1) (gstate_without_move (gstate_of_pairs t.pairs))) → IsLeftOf (disk_with_blocks left t.disk) (tree_on_disk t.disk t.pairs) (tree_on_disk t.disk t.pairs)
       go (inl e) =
           let same = e ∙ ap (λ (z : Pair). z.content) front_there in
           let d = device_kept t (index - 1) ahead x o back is number (subst (IsAcceptedImage t.disk) is can.accepted) (disk_with_blocks left t.disk) x.content refl
@@ -250,5 +251,5 @@ module _ (t : KeptThread) (index id : ℕ) (can : CanEndMoveAt t index id true) 
             tree = inl (k.follows.shows ∙ ap (tree_on_disk t.disk) (sym there));
           }
 
-  pub goes_survives : (new : List DeviceCallEvent) → PowerLossLeavesSuchBlocksAfterCleanErases t.history new (IsLeftByStoppedPairDrop t (index - 1) (gstate_of_sync_alone (gstate_of_pairs t.pairs))) → SurvivesPowerLossInCallsSince t.disk t.history new (tree_on_disk t.disk t.pairs) (tree_on_disk t.disk t.pairs)
+  pub goes_survives : (new : List DeviceCallEvent) → PowerLossLeavesSuchBlocksAfterCleanErases t.history new (IsLeftByStoppedPairDrop t (index - 1) (gstate_without_move (gstate_of_pairs t.pairs))) → SurvivesPowerLossInCallsSince t.disk t.history new (tree_on_disk t.disk t.pairs) (tree_on_disk t.disk t.pairs)
   goes_survives new stops clean = IsTrueAfterAnyPowerLossSince-weaker left_tree (stops clean)

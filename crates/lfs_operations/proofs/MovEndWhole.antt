@@ -22,8 +22,8 @@ use Rattle.lfs_model.proofs.Sites.{Site, dirs_at, thread_at, IsSite}
 use Rattle.lfs_model.proofs.Splices.{drop_shape, file_blocks_of_slots, slots_of_pairs_in_order, unmoved_in, IsDevice}
 use Rattle.lfs_model.proofs.StepsTaken.{IsWritableImageAfterTreeChange, end_drop_taken}
 use Rattle.lfs_model.proofs.MoveSets.{addresses_of_first_pairs_of_directories}
-use Rattle.lfs_operations.specs.MoveEnds.{gstate_of_sync_alone}
 use Rattle.lfs_operations.proofs.MovFirsts.{end_firsts}
+use Rattle.lfs_operations.specs.EndingMove.{gstate_without_move}
 
 -- At the site stand p and o behind it, joined by a hard tail, and the move hides o's only slot u.
 pub record IsEndingWhole (disk : Disk) (w : Site) (p o : Pair) (u : Slot) : Type 0 where
@@ -41,7 +41,7 @@ pub record HasTakenOver (disk : Disk) (w : Site) (p o : Pair) (new : Disk) (q : 
   pub at : q.at ≡ p.at
   pub slots : q.content.slots ≡ p.content.slots
   pub tail : q.content.tail ≡ o.content.tail
-  pub state : gstate_of_pairs (thread_at w (q ∷ [])) ≡ gstate_of_sync_alone (gstate_of_pairs (thread_at w (p ∷ o ∷ [])))
+  pub state : gstate_of_pairs (thread_at w (q ∷ [])) ≡ gstate_without_move (gstate_of_pairs (thread_at w (p ∷ o ∷ [])))
   pub device : IsDevice disk new (thread_at w (p ∷ o ∷ [])) (thread_at w (q ∷ []))
 
 module _ (disk : Disk) (w : Site) (p o : Pair) (u : Slot) (k : IsEndingWhole disk w p o u) where

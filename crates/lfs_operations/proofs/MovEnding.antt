@@ -33,12 +33,13 @@ use Rattle.lfs_model.proofs.Writable.{ends_in_hard_tail}
 use Rattle.lfs_thread.specs.Device.{PowerLossLeavesSuchBlocksAfterCleanErases}
 use Rattle.lfs_thread.specs.Kept.{KeptThread}
 use Rattle.lfs_thread.specs.Steps.{CanChangePair, IsPairChanged, PowerLossLeavesPairOldOrChanged, IsCommitRefused, SlotsBeginWithSuperblock, complete_content_after_changes, empty_pair_at_anchor, thread_pair_at_index, thread_pairs_with_content_replaced_at_index}
-use Rattle.lfs_operations.specs.MoveEnds.{CanEndMoveAt, HasEndedMoveAt, content_after_move_ends, end_move_changes, is_pair_named_by_hard_tail, gstate_without_sync, delta_without_move, gstate_of_sync_alone}
+use Rattle.lfs_operations.specs.MoveEnds.{CanEndMoveAt, HasEndedMoveAt, content_after_move_ends, end_move_changes, is_pair_named_by_hard_tail, gstate_without_sync, delta_without_move}
 use Rattle.lfs_operations.proofs.Held.{CompletesTo, completes_to}
 use Rattle.lfs_operations.proofs.MovEnd.{IsEnding, ended, ended_count, ended_firsts, ended_state}
 use Rattle.lfs_operations.proofs.MovSet.{HasTurned}
 use Rattle.lfs_operations.proofs.MovTurned.{ChangedOne, IsTurn, Stays, changed_one, content_with, left_alone}
 use Rattle.lfs_operations.proofs.Placing.{nothing_came}
+use Rattle.lfs_operations.specs.EndingMove.{gstate_without_move}
 
 pub writable_same : (disk new : Disk) (ps : List Pair) → new.block_size ≡ disk.block_size → new.page ≡ disk.page → IsWritableImage disk ps → IsWritableImage new ps
 writable_same disk new ps e f h = record {
@@ -252,7 +253,7 @@ module _ (t : KeptThread) (pair id : ℕ) (can : CanEndMoveAt t pair id false) (
           let y = subst (λ m. HasTurned t.disk w p (l ++ r) m new.disk q_of []) move_is x.turned in
           record {
             taken = subst (λ z. IsWritableImageAfterTreeChange t.disk z new.disk new.pairs (λ t. t) (λ d. d)) (sym h.is) (subst (λ z. IsWritableImageAfterTreeChange t.disk (thread_at w (p ∷ [])) new.disk z (λ t. t) (λ d. d)) (sym x.pairs) taken);
-            state = ap gstate_of_pairs x.pairs ∙ ended_state t.disk w p l u r ending new.disk q_of y ∙ ap (λ z. gstate_of_sync_alone (gstate_of_pairs z)) (sym h.is);
+            state = ap gstate_of_pairs x.pairs ∙ ended_state t.disk w p l u r ending new.disk q_of y ∙ ap (λ z. gstate_without_move (gstate_of_pairs z)) (sym h.is);
             alike = subst (ArePairsWithSameAddressesAndSlots (thread_pairs_with_content_replaced_at_index t pair (content_after_move_ends t pair id))) (sym (x.is ∙ ap (λ d. thread_pairs_with_content_replaced_at_index t pair d) (ap₂ (λ s (z : Pair). record { slots = s; tail = z.content.tail; move = move })
                 (sym slots_now ∙ ap (λ (z : Pair). remove z.content.slots id) (sym here)) (sym here)))) (alike_itself (thread_pairs_with_content_replaced_at_index t pair (content_after_move_ends t pair id)));
             map = x.map;

@@ -10,13 +10,13 @@ use Rattle.lfs_model.specs.Disk.{Disk}
 use Rattle.lfs_model.specs.History.{DeviceCallEvent, IsTrueOfEachCallSince, fault_count_of_history}
 use Rattle.lfs_model.specs.Blocks.{Blocks}
 use Rattle.lfs_model.specs.PowerLoss.{HasTreeBeforeOrAfterOperation as IsLeftOf, SurvivesPowerLossInCallsSince, disk_with_blocks}
-use Rattle.lfs_model.specs.Thread.{Pair, pairs_from_root_directory_on, pair_count_before_root}
+use Rattle.lfs_model.specs.Thread.{Pair, pairs_from_root_directory_on, pair_count_before_root, blocks_of_pair_address, blocks_of_two_pair_addresses}
 use Rattle.lfs_model.specs.Shown.{tree_on_disk}
 use Rattle.lfs_model.proofs.AfterStops.{survives_then}
 use Rattle.lfs_model.proofs.Histories.{IsTrueAfterAnyPowerLossSince-trans, IsTrueAfterAnyPowerLossSince-weaker, AreBytesStillUnprogrammed-trans, AreBytesStillUnprogrammed-wider}
 use Rattle.lfs_model.proofs.Overwrites.{AreBlocksEqualExceptThese-trans, AreBlocksEqualExceptThese-wider}
 use Rattle.lfs_model.proofs.Writable.{ends_in_hard_tail}
-use Rattle.lfs_thread.specs.Device.{PowerLossLeavesSuchBlocksAfterCleanErases, blocks_of_two_pair_addresses, blocks_of_pair_address}
+use Rattle.lfs_thread.specs.Device.{PowerLossLeavesSuchBlocksAfterCleanErases}
 use Rattle.lfs_thread.specs.Kept.{KeptThread, ThreadView}
 use Rattle.lfs_thread.specs.Steps.{HasSameGeometry, IsPairChanged, ThreadChangesOnlyTheseBlocks, back_pair_of_split, front_pair_of_split, empty_pair_at_anchor, thread_pair_at_index}
 use Rattle.lfs_operations.specs.Changing.{AreTwoFreeBlocks, IsPairSplitInto, IsLeftByStoppedChangeOrSplit, IsPairChangedOrSplit, ReportsErrorsOfChangeOrSplit, WritesPairAndTwoFreeBlocks, has_thread_failed_after_result}

@@ -14,7 +14,7 @@ use Rattle.lfs_model.specs.Names.{Name}
 use Rattle.lfs_model.specs.PowerLoss.{HasTreeBeforeOrAfterOperation as IsLeftOf, SurvivesPowerLossInCallsSince, disk_with_blocks}
 use Rattle.lfs_model.specs.Slots.{Slot, Gstate, gstate_xor, zero_gstate, same_pair}
 use Rattle.lfs_model.specs.SlotEdits.{slot_of_path}
-use Rattle.lfs_model.specs.Thread.{Pair, blocks_of_pairs, gstate_of_pairs, is_hard_tail, pair_count_before_root}
+use Rattle.lfs_model.specs.Thread.{Pair, blocks_of_pairs, gstate_of_pairs, is_hard_tail, pair_count_before_root, blocks_of_pair_address}
 use Rattle.lfs_model.specs.Tree.{Path, Tree}
 use Rattle.lfs_model.specs.TreeEdits.{last_name_of_path, tree_after_rename}
 use Rattle.lfs_model.specs.Operations as ops
@@ -40,12 +40,12 @@ use Rattle.lfs_model.proofs.StepsTaken.{IsWritableImageAfterTreeChange, taken_th
 use Rattle.lfs_model.proofs.Superblocks.{IsChain, pairs_behind}
 use Rattle.lfs_model.proofs.TwoPlaces.{OldStays, from_old, two}
 use Rattle.lfs_model.proofs.Writable.{ends_in_hard_tail}
-use Rattle.lfs_thread.specs.Device.{PowerLossLeavesSuchBlocksAfterCleanErases, blocks_of_pair_address}
+use Rattle.lfs_thread.specs.Device.{PowerLossLeavesSuchBlocksAfterCleanErases}
 use Rattle.lfs_thread.specs.Kept.{KeptThread}
 use Rattle.lfs_thread.specs.Steps.{HasSameGeometry, empty_pair_at_anchor, thread_pair_at_index, block_map_with_freed_pair}
 use Rattle.lfs_operations.specs.Changing.{IsLeftByStoppedChangeOrSplit, IsPairChangedOrSplit}
 use Rattle.lfs_operations.specs.Dropping.{ShowsTreeAfterPairDrops, HasSameBlocksInFlight}
-use Rattle.lfs_operations.specs.MoveEnds.{CanEndMoveAt, HasEndedMoveAt, blocks_dropped_at_move_end, content_after_move_ends, is_pair_named_by_hard_tail, map_after_move_ends, gstate_naming_moved_slot, pairs_after_move_ends, gstate_of_sync_alone}
+use Rattle.lfs_operations.specs.MoveEnds.{CanEndMoveAt, HasEndedMoveAt, blocks_dropped_at_move_end, content_after_move_ends, is_pair_named_by_hard_tail, map_after_move_ends, gstate_naming_moved_slot, pairs_after_move_ends}
 use Rattle.lfs_operations.specs.MovingSteps.{pair_number_after_insertion}
 use Rattle.lfs_operations.specs.Ready.{IsRawPairContentWellFormed, IsImageReadyForChange, KeepsPairCountBeforeRoot}
 use Rattle.lfs_operations.proofs.Dropped.{flying_same, length_fewer, used_fewer}
@@ -57,6 +57,7 @@ use Rattle.lfs_operations.proofs.Owning.{used_same}
 use Rattle.lfs_operations.proofs.MovTurned.{IsTurn, Stays, TurnedOn, TurnedTo, left_put, mapped, put_turned}
 use Rattle.lfs_operations.proofs.Placing.{blocks_append, nothing_came}
 use Rattle.lfs_operations.proofs.RootStays.{move_end_stays}
+use Rattle.lfs_operations.specs.EndingMove.{gstate_without_move}
 
 -- ---- lists
 
@@ -321,7 +322,7 @@ module _ (t : KeptThread) (sync : Bool) (old_pair : ℕ) (goes : Bool) (new_pair
       slots_left = ap (λ (z : Pair). remove z.content.slots (length lo)) here ∙ ap (λ z. remove z (length lo)) k.setting.held ∙ remove_here lo ro u
 
       pub last_state : gstate_of_pairs last.pairs ≡ record zero_gstate { sync = sync }
-      last_state = e.state ∙ ap gstate_of_sync_alone mid_state
+      last_state = e.state ∙ ap gstate_without_move mid_state
 
       settled_last : sync ≡ false → gstate_of_pairs last.pairs ≡ zero_gstate
       settled_last plain = last_state ∙ ap (λ b. record zero_gstate { sync = b }) plain

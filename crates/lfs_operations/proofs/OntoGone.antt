@@ -10,7 +10,7 @@ use Rattle.lfs_model.specs.BlockSets.{AreExactlyTheUsedBlocks}
 use Rattle.lfs_model.specs.Disk.{Disk, block_count}
 use Rattle.lfs_model.specs.PowerLoss.{HasTreeBeforeOrAfterOperation as IsLeftOf, disk_with_blocks}
 use Rattle.lfs_model.specs.Slots.{Branch, PairContent, IsContentFittingPair, Slot, zero_gstate, same_pair}
-use Rattle.lfs_model.specs.Thread.{Pair, blocks_of_pairs, gstate_of_pairs, is_hard_tail, root_directory_address_of_pairs, pair_count_before_root}
+use Rattle.lfs_model.specs.Thread.{Pair, blocks_of_pairs, gstate_of_pairs, is_hard_tail, root_directory_address_of_pairs, pair_count_before_root, blocks_of_pair_address}
 use Rattle.lfs_model.specs.Tree.{Path, branch_address_of_struct, directory_address_at_path, directory_address_at_path_from_slot, root_slot}
 use Rattle.lfs_model.specs.View.{IsAcceptedImage}
 use Rattle.lfs_model.specs.Profile.{IsWritableImage}
@@ -32,7 +32,6 @@ use Rattle.lfs_model.proofs.StepsTaken.{IsWritableImageAfterTreeChange}
 use Rattle.lfs_model.proofs.Superblocks.{IsChain}
 use Rattle.lfs_model.proofs.Uses.{accepted_sound}
 use Rattle.lfs_model.proofs.Walks.{leaf_leads, leads_below}
-use Rattle.lfs_thread.specs.Device.{blocks_of_pair_address}
 use Rattle.lfs_thread.specs.Kept.{KeptThread}
 use Rattle.lfs_thread.specs.Steps.{HasSameGeometry, IsPairWrittenOnDisk, thread_pair_at_index, block_map_with_freed_pair}
 use Rattle.lfs_operations.specs.Dropping.{CanDropPairAt, IsNextPairDropped, ShowsTreeAfterPairDrops, IsLeftByStoppedPairDrop, HasSameBlocksInFlight, tail_over_dropped_pair, content_after_next_pair_drop}

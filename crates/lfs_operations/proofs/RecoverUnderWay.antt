@@ -11,7 +11,7 @@ use Rattle.lfs_model.specs.History.{IsTrueOfEachCallSince}
 use Rattle.lfs_model.specs.LoggedContent.{Are32BitPairAddresses}
 use Rattle.lfs_model.specs.PowerLoss.{HasTreeBeforeOrAfterOperation as IsLeftOf, SurvivesPowerLossInCallsSince, disk_with_blocks}
 use Rattle.lfs_model.specs.Slots.{Gstate, Slot, zero_gstate, same_pair}
-use Rattle.lfs_model.specs.Thread.{Pair, blocks_of_pairs, pairs_from_root_directory_on, first_pair_address, gstate_of_pairs, pair_count_before_root}
+use Rattle.lfs_model.specs.Thread.{Pair, blocks_of_pairs, pairs_from_root_directory_on, first_pair_address, gstate_of_pairs, pair_count_before_root, blocks_of_pair_address}
 use Rattle.lfs_model.specs.View.{IsAcceptedImage}
 use Rattle.lfs_model.specs.Shown.{IsDirectoryAddressReachedBySomePath, all_slots_not_moved, tree_on_disk, used_blocks}
 use Rattle.lfs_model.specs.Profile.{IsWritableImage}
@@ -29,7 +29,7 @@ use Rattle.lfs_model.proofs.Recovering.{recovery_begins}
 use Rattle.lfs_model.proofs.Searches.{same_number}
 use Rattle.lfs_model.proofs.Splices.{file_blocks_of_slots, slots_of_pairs_in_order}
 use Rattle.lfs_model.proofs.Unthreaded.{IsReady, IsUnthreaded, same_parts}
-use Rattle.lfs_thread.specs.Device.{PowerLossLeavesSuchBlocksAfterCleanErases, blocks_of_pair_address}
+use Rattle.lfs_thread.specs.Device.{PowerLossLeavesSuchBlocksAfterCleanErases}
 use Rattle.lfs_thread.specs.Kept.{KeptThread}
 use Rattle.lfs_thread.specs.Steps.{HasSameGeometry, IsPairAfterIndexDropped, PowerLossLeavesPairOldOrChanged, IsPairWrittenOnDisk, ThreadChangesOnlyTheseBlocks, empty_pair_at_anchor, thread_pair_at_index, thread_pairs_with_content_replaced_at_index, block_map_with_freed_pair}
 use Rattle.lfs_operations.specs.Deltas.{CanTakeOverNextPair, FitsGstateFields, Is32BitPairAddressIfSome, delta_after_taking_over_next_pair, next_pair_takeover_changes, pair_named_by_optional_tail}

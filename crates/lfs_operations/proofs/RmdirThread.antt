@@ -11,7 +11,7 @@ use Rattle.lfs_model.specs.Operations as ops
 use Rattle.lfs_model.specs.PowerLoss.{HasTreeBeforeOrAfterOperation as IsLeftOf, disk_with_blocks}
 use Rattle.lfs_model.specs.SlotEdits.{pair_with_slots}
 use Rattle.lfs_model.specs.Slots.{PairContent, Gstate, Slot, gstate_xor, zero_gstate, same_pair}
-use Rattle.lfs_model.specs.Thread.{Pair, blocks_of_pairs, gstate_of_pairs, is_hard_tail, starts_with_superblock, pair_count_before_root}
+use Rattle.lfs_model.specs.Thread.{Pair, blocks_of_pairs, gstate_of_pairs, is_hard_tail, starts_with_superblock, pair_count_before_root, blocks_of_pair_address}
 use Rattle.lfs_model.specs.View.{BeginsWithLogEntry, IsAcceptedImage, superblock_name_log_entry}
 use Rattle.lfs_model.specs.Profile.{IsWritableImage}
 use Rattle.lfs_model.specs.Shown.{IsPathToDirectory, entries_by_directory_in_thread, tree_on_disk, used_blocks}
@@ -29,7 +29,6 @@ use Rattle.lfs_model.proofs.StepsTaken.{IsWritableImageAfterTreeChange, commit_t
 use Rattle.lfs_model.proofs.Unchanged.{HasFirst}
 use Rattle.lfs_model.proofs.Writable.{ends_in_hard_tail}
 use Rattle.lfs_pair.specs.Commit.{KeepsBlocksOutsidePair}
-use Rattle.lfs_thread.specs.Device.{blocks_of_pair_address}
 use Rattle.lfs_thread.specs.Kept.{KeptThread}
 use Rattle.lfs_thread.specs.Steps.{IsPairWrittenOnDisk, SlotsBeginWithSuperblock, empty_pair_at_anchor, thread_pair_at_index, block_map_with_freed_pair}
 use Rattle.lfs_operations.specs.Dropping.{CanDropPairAt, IsNextPairDropped, IsLeftByStoppedPairDrop, HasSameBlocksInFlight, content_after_next_pair_drop}

@@ -6,11 +6,11 @@ use Rattle.lfs_device.specs.declared.error.Error.{Error}
 use Rattle.lfs_model.specs.History.{DeviceCallEvent, fault_count_of_history}
 use Rattle.lfs_model.specs.PowerLoss.{SurvivesPowerLossInCallsSince}
 use Rattle.lfs_model.specs.Slots.{PairContent, zero_gstate}
-use Rattle.lfs_model.specs.Thread.{Pair}
+use Rattle.lfs_model.specs.Thread.{Pair, blocks_of_pair_address, blocks_of_two_pair_addresses}
 use Rattle.lfs_model.specs.Shown.{tree_on_disk}
 use Rattle.lfs_model.proofs.Histories.{IsTrueOfEachCallSince-behind, IsTrueOfEachCallSince-until, IsTrueAfterAnyPowerLossSince-trans, IsTrueAfterAnyPowerLossSince-weaker, AreBytesStillUnprogrammed-trans, AreBytesStillUnprogrammed-wider}
 use Rattle.lfs_model.proofs.Overwrites.{AreBlocksEqualExceptThese-trans, AreBlocksEqualExceptThese-wider}
-use Rattle.lfs_thread.specs.Device.{PowerLossLeavesSuchBlocksAfterCleanErases, blocks_of_two_pair_addresses, blocks_of_pair_address}
+use Rattle.lfs_thread.specs.Device.{PowerLossLeavesSuchBlocksAfterCleanErases}
 use Rattle.lfs_thread.specs.Kept.{KeptThread, ThreadView}
 use Rattle.lfs_thread.specs.Steps.{ThreadChangesOnlyTheseBlocks, empty_pair_at_anchor, thread_pair_at_index}
 use Rattle.lfs_operations.specs.Dropping.{IsNextPairDropped, IsLeftByStoppedPairDrop}

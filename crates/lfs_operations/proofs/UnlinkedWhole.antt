@@ -11,7 +11,7 @@ use Rattle.lfs_model.specs.Disk.{Disk}
 use Rattle.lfs_model.specs.Operations as ops
 use Rattle.lfs_model.specs.PowerLoss.{HasTreeBeforeOrAfterOperation as IsLeftOf, disk_with_blocks}
 use Rattle.lfs_model.specs.Slots.{PairContent, IsContentFittingPair, Gstate, Slot, zero_gstate}
-use Rattle.lfs_model.specs.Thread.{Pair, gstate_of_pairs, is_hard_tail, starts_with_superblock, pair_count_before_root}
+use Rattle.lfs_model.specs.Thread.{Pair, gstate_of_pairs, is_hard_tail, starts_with_superblock, pair_count_before_root, blocks_of_pair_address}
 use Rattle.lfs_model.specs.Tree.{branch_address_of_struct}
 use Rattle.lfs_model.specs.View.{IsAcceptedImage}
 use Rattle.lfs_model.specs.Profile.{IsWritableImage}
@@ -25,7 +25,6 @@ use Rattle.lfs_model.proofs.Searches.{slot_of_stands}
 use Rattle.lfs_model.proofs.Sites.{IsSite, Site, dirs_at, run_changed, thread_at}
 use Rattle.lfs_model.proofs.Splices.{IsDevice, drop_shape, file_blocks_of_slots}
 use Rattle.lfs_model.proofs.StepsTaken.{IsWritableImageAfterTreeChange, drop_taken}
-use Rattle.lfs_thread.specs.Device.{blocks_of_pair_address}
 use Rattle.lfs_thread.specs.Kept.{KeptThread}
 use Rattle.lfs_thread.specs.Steps.{IsPairWrittenOnDisk, empty_pair_at_anchor, thread_pair_at_index, block_map_with_freed_pair}
 use Rattle.lfs_operations.specs.Dropping.{CanDropPairAt, IsNextPairDropped, IsLeftByStoppedPairDrop, HasSameBlocksInFlight, tail_over_dropped_pair, content_after_next_pair_drop}

@@ -2,10 +2,10 @@
 use Rattle.std.specs.Prelude.{Contains, ℕ, ◌⊎◌, ◌<◌, List, length}
 use Rattle.std.specs.List.{AllByRecursion}
 use Rattle.lfs_model.specs.BlockSets.{IsBlockFree}
-use Rattle.lfs_thread.specs.Device.{blocks_of_pair_address}
 use Rattle.lfs_thread.specs.Kept.{KeptThread}
 use Rattle.lfs_thread.specs.Steps.{ThreadChangesOnlyTheseBlocks, thread_pair_at_index}
 use Rattle.lfs_operations.specs.Changing.{IsPairAltered}
+use Rattle.lfs_model.specs.Thread.{blocks_of_pair_address}
 
 -- the block is one of a pair that doesn't stay with what it held
 pub record IsBlockOfAlteredPair (old new : KeptThread) (b : ℕ) : Type 0 where

@@ -11,11 +11,10 @@ use Rattle.lfs_model.specs.Content.{RawPairContent, content_of_pair_at}
 use Rattle.lfs_model.specs.Disk.{block_count}
 use Rattle.lfs_model.specs.History.{fault_count_of_history}
 use Rattle.lfs_model.specs.Slots.{PairContent, IsContentFittingPair}
-use Rattle.lfs_model.specs.Thread.{IsThreadOfMetadataPairs, blocks_of_pairs}
+use Rattle.lfs_model.specs.Thread.{IsThreadOfMetadataPairs, blocks_of_pairs, blocks_of_two_pair_addresses}
 use Rattle.lfs_model.specs.Cut.{CanSplitSlotsIntoTwoPairs}
 use Rattle.lfs_pair.specs.Commit.{pair_content_after_changes}
 use Rattle.lfs_pair.specs.Split.{KeepsBlocksOutsideBothPairs}
-use Rattle.lfs_thread.specs.Device.{blocks_of_two_pair_addresses}
 use Rattle.lfs_thread.specs.Kept.{KeptThread, ThreadView}
 use Rattle.lfs_thread.specs.Steps.{thread_pair_at_index, complete_content_after_changes, CanChangePair, HasSameGeometry, IsPairChanged, PowerLossLeavesPairOldOrChanged, PowerLossLeavesPairOldOrSplit, IsThreadOnlyRead, IsDeviceOnlyRead, SplitPartsFitPairs, ThreadChangesOnlyTheseBlocks, front_pair_of_split, back_pair_of_split, block_map_with_used_pair, pairs_with_one_replaced_by_two}
 

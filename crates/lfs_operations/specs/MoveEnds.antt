@@ -6,16 +6,16 @@ use Rattle.lfs_model.specs.Changes.{PairContentChange, Delete, PutMove}
 use Rattle.lfs_model.specs.InDirectory.{HasEntryOfNameAtId}
 use Rattle.lfs_model.specs.Names.{Name}
 use Rattle.lfs_model.specs.Slots.{PairContent, Gstate, zero_gstate, gstate_xor, same_pair}
-use Rattle.lfs_model.specs.Thread.{Pair, pairs_from_root_directory_on, gstate_of_pairs, is_hard_tail, pair_count_before_root}
+use Rattle.lfs_model.specs.Thread.{Pair, pairs_from_root_directory_on, gstate_of_pairs, is_hard_tail, pair_count_before_root, blocks_of_pair_address}
 use Rattle.lfs_model.specs.Profile.{IsWritableImage}
 use Rattle.lfs_model.specs.Shown.{directories_in_thread, used_blocks}
 use Rattle.lfs_model.specs.View.{IsAcceptedImage}
 use Rattle.lfs_model.specs.Slots.{gstate_kind_of_set_move}
 use Rattle.lfs_model.specs.Steps.{ArePairsWithSameAddressesAndSlots, occurrence_count_of_number, addresses_of_first_pairs_of_directories, IsTrueOfSomeElement, IsWritableImageAfterTreeChange, ends_in_hard_tail}
 use Rattle.lfs_thread.specs.Kept.{KeptThread}
-use Rattle.lfs_thread.specs.Device.{blocks_of_pair_address}
 use Rattle.lfs_thread.specs.Steps.{HasSameGeometry, thread_pair_at_index, thread_pairs_with_content_replaced_at_index, block_map_with_freed_pair}
 use Rattle.lfs_operations.specs.Ready.{IsRawPairContentWellFormed}
+use Rattle.lfs_operations.specs.EndingMove.{gstate_without_move}
 
 -- a move that names the slot at an id of a pair, with the sync bit set or not
 abbrev pub gstate_naming_moved_slot : Bool → ℕ × ℕ → ℕ → Gstate
@@ -24,9 +24,6 @@ gstate_naming_moved_slot sync at id = record { sync = sync; kind = gstate_kind_o
 -- a global state without its sync bit, and its sync bit alone
 abbrev pub gstate_without_sync : Gstate → Gstate
 gstate_without_sync g = record g { sync = false }
-
-abbrev pub gstate_of_sync_alone : Gstate → Gstate
-gstate_of_sync_alone g = record zero_gstate { sync = g.sync }
 
 -- whether a hard tail names the pair, so that it continues a directory
 abbrev pub is_pair_named_by_hard_tail : List Pair → ℕ → Bool
@@ -80,7 +77,7 @@ map_after_move_ends t pair goes = if goes then block_map_with_freed_pair t.map (
 -- pair's, and the slots of every other pair are as they were. The image is accepted and in the writing profile.
 pub record HasEndedMoveAt (old : KeptThread) (pair id : ℕ) (goes : Bool) (new : KeptThread) : Type 0 where
   pub taken : IsWritableImageAfterTreeChange old.disk old.pairs new.disk new.pairs (λ t. t) (λ d. d)
-  pub state : gstate_of_pairs new.pairs ≡ gstate_of_sync_alone (gstate_of_pairs old.pairs)
+  pub state : gstate_of_pairs new.pairs ≡ gstate_without_move (gstate_of_pairs old.pairs)
   pub alike : ArePairsWithSameAddressesAndSlots (pairs_after_move_ends old pair id goes) new.pairs
   pub map : new.map ≡ map_after_move_ends old pair goes
   pub blocks : (b : ℕ) → occurrence_count_of_number b (used_blocks new.disk new.pairs) + occurrence_count_of_number b (blocks_dropped_at_move_end old pair goes) ≡ occurrence_count_of_number b (used_blocks old.disk old.pairs)

@@ -5,11 +5,11 @@ ghost use Rattle.lfs_model.specs.Changes.{PutAttribute};
 ghost use Rattle.lfs_model.specs.Content.{attributes_with_attribute, attributes_without_attribute};
 ghost use Rattle.lfs_model.specs.PowerLoss.{SurvivesPowerLossInCallsSince};
 ghost use Rattle.lfs_model.specs.Shown.{tree_on_disk};
-ghost use Rattle.lfs_thread.specs.Device.{blocks_of_pair_address};
 ghost use Rattle.lfs_thread.specs.Steps.{ThreadChangesOnlyTheseBlocks, thread_pair_at_index};
 ghost use Rattle.lfs_operations.specs.Changing.{ReportsErrorsOfChangeOrSplit, WritesPairAndTwoFreeBlocks};
 ghost use Rattle.lfs_operations.specs.Editing.{CanEditEntryOfPair, CanSetAttribute, HasRemovedAttribute, HasSetAttribute, tree_with_attributes_at};
 ghost use Rattle.lfs_operations.specs.Removing.{ReportsErrorsOfCommitTakingNoBlock};
+ghost use Rattle.lfs_model.specs.Thread.{blocks_of_pair_address};
 
 use crate::changes::change_or_split_pair;
 use lfs_device::{BlockDevice, Error};

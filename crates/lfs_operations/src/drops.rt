@@ -2,11 +2,11 @@
 
 ghost use Rattle.std.specs.Prelude.{◌≡◌, ◌<◌, ◌-◌, Some, length, false, OnOk};
 ghost use Rattle.std.specs.Option.{option_map};
-ghost use Rattle.lfs_model.specs.Thread.{is_hard_tail};
+ghost use Rattle.lfs_model.specs.Thread.{is_hard_tail, blocks_of_pair_address};
 ghost use Rattle.lfs_pair.specs.ChangeView.{change_view, changes_view};
 ghost use Rattle.lfs_tag.specs.ContentView.{tail_view};
 ghost use Rattle.lfs_tag.specs.FieldsView.{move_view};
-ghost use Rattle.lfs_thread.specs.Device.{PowerLossLeavesSuchBlocksAfterCleanErases, blocks_of_pair_address};
+ghost use Rattle.lfs_thread.specs.Device.{PowerLossLeavesSuchBlocksAfterCleanErases};
 ghost use Rattle.lfs_thread.specs.Steps.{ThreadChangesOnlyTheseBlocks, complete_content_after_changes, thread_pair_at_index, change_that_sets_tail};
 ghost use Rattle.lfs_operations.specs.Dropping.{CanDropPairAt, IsNextPairDropped, IsLeftByStoppedPairDrop, delta_after_next_pair_drop, tail_over_dropped_pair, drop_next_pair_changes, content_after_next_pair_drop};
 ghost use Rattle.lfs_operations.specs.Removing.{ReportsErrorsOfCommitTakingNoBlock};

@@ -7,20 +7,20 @@ ghost use Rattle.lfs_operations.specs.RenamingView.{slot_copy_view};
 ghost use Rattle.lfs_operations.specs.RenamingSlots.{slot_creation_changes};
 ghost use Rattle.lfs_model.specs.LoggedContent.{Are32BitPairAddresses};
 ghost use Rattle.lfs_model.specs.PowerLoss.{SurvivesPowerLossInCallsSince};
-ghost use Rattle.lfs_model.specs.Thread.{gstate_of_pairs};
+ghost use Rattle.lfs_model.specs.Thread.{gstate_of_pairs, blocks_of_pair_address, blocks_of_two_pair_addresses};
 ghost use Rattle.lfs_model.specs.Shown.{tree_on_disk};
 ghost use Rattle.lfs_tag.specs.FieldsView.{move_view};
-ghost use Rattle.lfs_thread.specs.Device.{blocks_of_two_pair_addresses, blocks_of_pair_address};
 ghost use Rattle.lfs_thread.specs.Kept.{KeptThread};
 ghost use Rattle.lfs_thread.specs.Steps.{ThreadChangesOnlyTheseBlocks, thread_pair_at_index};
 ghost use Rattle.lfs_pair.specs.ChangeView.{changes_view};
 ghost use Rattle.lfs_operations.specs.Altering.{ChangesOnlyGivenAlteredOrFreeBlocks};
 ghost use Rattle.lfs_operations.specs.Changing.{CanChangeOrSplitPair, IsPairChangedOrSplit, WritesOnlyThreadPairsAndTwoFreeBlocks};
-ghost use Rattle.lfs_operations.specs.MoveEnds.{CanEndMoveAt, HasEndedMoveAt, pair_written_at_move_end, gstate_naming_moved_slot, delta_without_move, gstate_of_sync_alone};
+ghost use Rattle.lfs_operations.specs.MoveEnds.{CanEndMoveAt, HasEndedMoveAt, pair_written_at_move_end, gstate_naming_moved_slot, delta_without_move};
 ghost use Rattle.lfs_operations.specs.MovingSteps.{CanEndMoveAfterFirstCommit, IsSlotPutAndMoveEnded, SurvivesBothMoveCommits, ReportsErrorsOfCommitsTakingBlocks, WritesTwoPairsAndTwoFreeBlocks, pair_written_by_second_move_commit, pair_number_after_insertion};
 ghost use Rattle.lfs_operations.specs.MovingAcross.{CanRenameAcrossPairs, IsEntryRenamedAcrossPairs, rename_across_pairs_changes, tree_with_moved_entry};
 ghost use Rattle.lfs_operations.specs.MovingOnto.{CanReplaceEntryAcrossPairs, CanReplaceFileAcrossPairs, CanReplaceDirectoryAcrossPairs, IsEntryReplacedAcrossPairs, IsFileReplacedAcrossPairs, replace_entry_across_pairs_changes, replace_file_across_pairs_changes};
 ghost use Rattle.lfs_operations.specs.Removing.{ReportsErrorsOfCommitTakingNoBlock};
+ghost use Rattle.lfs_operations.specs.EndingMove.{gstate_without_move};
 
 use crate::changes::change_or_split_pair;
 use crate::drops::drop_pair_at;
@@ -74,7 +74,7 @@ fn end_move_keeping_pair<D: BlockDevice>(
 // Returns the global state without the move that is set.
 fn thread_gstate_without_move<D: BlockDevice>(thread: &Thread<D>) -> MoveState
     requires { thread.now.failed ≡ false }
-    ensures { move_view result ≡ gstate_of_sync_alone (gstate_of_pairs thread.now.kept.pairs) }
+    ensures { move_view result ≡ gstate_without_move (gstate_of_pairs thread.now.kept.pairs) }
 {
     let mut state = MoveState::none();
     state.sync = thread.state().sync;

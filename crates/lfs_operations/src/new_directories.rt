@@ -8,10 +8,11 @@ ghost use Rattle.lfs_model.specs.Slots.{pair_address_of_array};
 ghost use Rattle.lfs_model.specs.Shown.{tree_on_disk};
 ghost use Rattle.lfs_model.specs.Steps.{gstate_with_inverted_sync_bit};
 ghost use Rattle.lfs_tag.specs.FieldsView.{move_view};
-ghost use Rattle.lfs_thread.specs.Device.{PowerLossLeavesSuchBlocksAfterCleanErases, blocks_of_two_pair_addresses, blocks_of_pair_address};
+ghost use Rattle.lfs_thread.specs.Device.{PowerLossLeavesSuchBlocksAfterCleanErases};
 ghost use Rattle.lfs_thread.specs.Steps.{CanThreadInFreshPair, IoMeantFaultNoMemoryKeptOtherBlocks, IsFreshPairThreadedIn, PowerLossLeavesPairOldOrThreadedIn, ThreadChangesOnlyTheseBlocks, thread_pair_at_index};
 ghost use Rattle.lfs_operations.specs.Changing.{CanChangeOrSplitPair, IsLeftByStoppedChangeOrSplit, IsPairChangedOrSplit, ReportsErrorsOfChangeOrSplit, WritesPairAndTwoFreeBlocks};
 ghost use Rattle.lfs_operations.specs.Making.{ArePairAndLastPairOfDirectoryAltered, CanMakeDirectoryAt, FitsPairWithTailToNewPair, IsLastPairOfHardTailRun, IsDirectoryMade, ReportsErrorsOfMakingDirectory, WritesPairLastPairAndFourFreeBlocks, directory_entry_changes, changes_adding_entry_for_directory_pair, changes_threading_new_pair, tree_with_new_directory};
+ghost use Rattle.lfs_model.specs.Thread.{blocks_of_pair_address, blocks_of_two_pair_addresses};
 
 use crate::changes::{change_or_split_pair, take_two_free_blocks};
 use lfs_device::{BlockDevice, Error};

@@ -3,11 +3,11 @@
 ghost use Rattle.std.specs.Prelude.{◌≡◌, ◌<◌, ◌-◌, length, false, true, OnOk};
 ghost use Rattle.lfs_model.specs.PowerLoss.{SurvivesPowerLossInCallsSince};
 ghost use Rattle.lfs_model.specs.Shown.{tree_on_disk};
-ghost use Rattle.lfs_thread.specs.Device.{blocks_of_pair_address};
 ghost use Rattle.lfs_thread.specs.Steps.{ThreadChangesOnlyTheseBlocks};
 ghost use Rattle.lfs_operations.specs.Changing.{IsPairAltered};
 ghost use Rattle.lfs_operations.specs.Editing.{slot_of_editable_entry};
 ghost use Rattle.lfs_operations.specs.Removing.{CanRemoveFileInPair, IsFileRemoved, ReportsErrorsOfCommitTakingNoBlock, is_pair_dropped_with_slot, tree_without_named_entry, pair_address_written_by_removal};
+ghost use Rattle.lfs_model.specs.Thread.{blocks_of_pair_address};
 
 use crate::drops::drop_pair_at;
 use lfs_device::{BlockDevice, Error};

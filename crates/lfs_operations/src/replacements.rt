@@ -6,13 +6,13 @@ ghost use Rattle.lfs_model.specs.PowerLoss.{SurvivesPowerLossInCallsSince};
 ghost use Rattle.lfs_model.specs.Shown.{tree_on_disk};
 ghost use Rattle.lfs_tag.specs.FieldsView.{move_view};
 ghost use Rattle.lfs_pair.specs.ChangeView.{changes_view};
-ghost use Rattle.lfs_thread.specs.Device.{blocks_of_two_pair_addresses, blocks_of_pair_address};
 ghost use Rattle.lfs_thread.specs.Steps.{ThreadChangesOnlyTheseBlocks, thread_pair_at_index};
 ghost use Rattle.lfs_operations.specs.Altering.{ChangesOnlyGivenAlteredOrFreeBlocks};
 ghost use Rattle.lfs_operations.specs.Renaming.{id_after_slot_removal, tree_with_renamed_entry};
 ghost use Rattle.lfs_operations.specs.RenamingOver.{CanRenameOntoDirectoryInPair, CanReplaceDirectoryInPair, IsEntryRenamedOntoDirectory, IsDirectoryReplacedInPair, ReportsErrorsOfReadThenCommit, ReportsErrorsOfReadThenCommits};
 ghost use Rattle.lfs_operations.specs.RenamingView.{slot_copy_view};
 ghost use Rattle.lfs_operations.specs.RenamingSlots.{slot_creation_changes};
+ghost use Rattle.lfs_model.specs.Thread.{blocks_of_pair_address, blocks_of_two_pair_addresses};
 
 use crate::directory_removals::delta_of_sync_bit;
 use crate::drops::drop_pair_at;

@@ -9,10 +9,10 @@ use Rattle.lfs_model.specs.Blocks.{Blocks, AreBlocksEqualExceptOne, AreBlocksEqu
 use Rattle.lfs_model.specs.History.{DeviceCallEvent, Read, Program, Erase, device_call_event_with_blocks, read_count_of_history}
 use Rattle.lfs_model.proofs.Histories.{began, goes_on, goes_on_by, ArePossibleBlocksAfterPowerLossInCall-read, IsTrueAfterAnyPowerLossSince-read_count_of_history, IsTrueAfterAnyPowerLossSince-weaker, AreCallsSinceOnlyReads-read, AreCallsSinceOnlyReads-trans, AreBytesStillUnprogrammed-erase, AreBytesStillUnprogrammed-program, AreBytesStillUnprogrammed-read_count_of_history, AreBytesStillUnprogrammed-trans, AreBytesStillUnprogrammed-wider}
 use Rattle.lfs_model.proofs.Overwrites.{AreBlocksEqualExceptOne-refl, AreBlocksEqualExceptOne-trans, AreBlocksEqualExceptThese-refl, AreBlocksEqualExceptThese-trans, AreBlocksEqualExceptThese-wider}
-use Rattle.lfs_pair.specs.Commit.{both_block_numbers_of_pair}
 use Rattle.lfs_pair.specs.Writing.{ChangesOnlyBlocksWithinReadLimit}
 use Rattle.lfs_pair.proofs.Changed.{stays_outside}
 use Rattle.lfs_pair.proofs.TwoBlocks.{outside_one}
+use Rattle.lfs_model.specs.Thread.{blocks_of_pair_address}
 
 -- ---- reads
 
@@ -93,7 +93,7 @@ only_wider cs among only = record {
 }
 
 -- one block of a pair
-pub only_block : {D : Type 0} {g : Ghosts D} {b : ℕ} {old new : D} (at : ℕ × ℕ) → (b ≡ at.0) ⊎ (b ≡ at.1) → ChangesOnlyThisBlock g b old new → ChangesOnlyTheseBlocks g (both_block_numbers_of_pair at) old new
+pub only_block : {D : Type 0} {g : Ghosts D} {b : ℕ} {old new : D} (at : ℕ × ℕ) → (b ≡ at.0) ⊎ (b ≡ at.1) → ChangesOnlyThisBlock g b old new → ChangesOnlyTheseBlocks g (blocks_of_pair_address at) old new
 only_block {b = b} at is block = record {
   others = outside_one at b _ _ is block.others;
   elsewhere = stays_outside at b _ _ is block.elsewhere;

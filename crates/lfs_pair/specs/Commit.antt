@@ -21,6 +21,7 @@ use Rattle.lfs_model.specs.Tag.{abstract_type_of_tag}
 use Rattle.lfs_pair.specs.Writing.{IsBlockWrittenAnew}
 use Rattle.lfs_pair.specs.declared.pair.Pair.{Pair}
 use Rattle.lfs_pair.specs.Pair.{IsPairOnDiskAsHeaderSays, active_block_at, pair_address_in_header}
+use Rattle.lfs_model.specs.Thread.{blocks_of_pair_address}
 
 -- the content is there, and its entries begin with that one when it is written anew
 abbrev pub BeginsWithGivenEntryWhenCompacted : Option RawPairContent → LogEntry → Type 0
@@ -155,17 +156,13 @@ pub record CommitFailsKeepingHeader {D : Type 0} (g : Ghosts D) (old new : D) (w
   pub pair : now ≡ was
   pub no_memory : e ≡ NoMemory → ReadsOnly g old new
 
--- both blocks of a pair
-abbrev pub both_block_numbers_of_pair : ℕ × ℕ → List ℕ
-both_block_numbers_of_pair at = at.0 ∷ at.1 ∷ []
-
 -- no block changes but the pair's
 abbrev pub KeepsBlocksOutsidePair : ℕ × ℕ → Blocks → Blocks → Type 0
-KeepsBlocksOutsidePair at old new = AreBlocksEqualExceptThese (both_block_numbers_of_pair at) old new
+KeepsBlocksOutsidePair at old new = AreBlocksEqualExceptThese (blocks_of_pair_address at) old new
 
 -- bytes of other blocks that were unprogrammed still are
 abbrev pub KeepsUnprogrammedBytesOutsidePair : ℕ × ℕ → List DeviceCallEvent → List DeviceCallEvent → Type 0
-KeepsUnprogrammedBytesOutsidePair at old new = AreBytesStillUnprogrammed (both_block_numbers_of_pair at) old new
+KeepsUnprogrammedBytesOutsidePair at old new = AreBytesStillUnprogrammed (blocks_of_pair_address at) old new
 
 -- What a stop leaves: other blocks as they were, and the pair with its old content or with that new one.
 pub record PowerLossLeavesOldOrNewContent (old : Disk) (at : ℕ × ℕ) (new : RawPairContent) (left : Blocks) : Type 0 where

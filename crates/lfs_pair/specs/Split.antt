@@ -14,6 +14,7 @@ use Rattle.lfs_pair.specs.Pair.{pair_address_in_header}
 use Rattle.lfs_pair.specs.Commit.{IsPairAddressOnDisk, CanCommit, HasPairNewContent, HasPairContentAsBefore, KeepsFirstEntryOfPairLog, PairHasContent, pair_content_after_changes}
 use Rattle.lfs_pair.specs.Writing.{HasContentInOneCommit}
 use Rattle.lfs_pair.specs.Cut.{CanSplitSlotsIntoTwoPairs, IsFittingSplitOfSlots}
+use Rattle.lfs_model.specs.Thread.{blocks_of_two_pair_addresses}
 
 -- two pairs have no block in common
 pub record HaveNoCommonBlock (at fresh : ℕ × ℕ) : Type 0 where
@@ -79,17 +80,13 @@ pub record PairsHavePartsOfSplit (old : Disk) (at fresh : ℕ × ℕ) (changes :
   pub front : HasPairNewContent old at (front_content_of_split new cut fresh) disk
   pub back : raw_content_of_pair_at disk fresh ≡ Some (back_content_of_split new cut)
 
--- the blocks of both pairs
-abbrev pub blocks_of_both_pairs : ℕ × ℕ → ℕ × ℕ → List ℕ
-blocks_of_both_pairs at fresh = at.0 ∷ at.1 ∷ fresh.0 ∷ fresh.1 ∷ []
-
 -- no block changes but those of the two pairs
 abbrev pub KeepsBlocksOutsideBothPairs : ℕ × ℕ → ℕ × ℕ → Blocks → Blocks → Type 0
-KeepsBlocksOutsideBothPairs at fresh old new = AreBlocksEqualExceptThese (blocks_of_both_pairs at fresh) old new
+KeepsBlocksOutsideBothPairs at fresh old new = AreBlocksEqualExceptThese (blocks_of_two_pair_addresses at fresh) old new
 
 -- bytes of other blocks that were unprogrammed still are
 abbrev pub KeepsUnprogrammedBytesOutsideBothPairs : ℕ × ℕ → ℕ × ℕ → List DeviceCallEvent → List DeviceCallEvent → Type 0
-KeepsUnprogrammedBytesOutsideBothPairs at fresh old new = AreBytesStillUnprogrammed (blocks_of_both_pairs at fresh) old new
+KeepsUnprogrammedBytesOutsideBothPairs at fresh old new = AreBytesStillUnprogrammed (blocks_of_two_pair_addresses at fresh) old new
 
 -- What a stop leaves of a split: the old pair with its old content, or both pairs with their parts.
 pub record PowerLossLeavesOldContentOrSplitPairs (old : Disk) (at fresh : ℕ × ℕ) (changes : List PairContentChange) (left : Blocks) : Type 0 where

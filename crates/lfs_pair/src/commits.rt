@@ -11,8 +11,9 @@ ghost use Rattle.lfs_model.specs.LoggedContent.{AreNamedSlots, IsWellFormedRawPa
 ghost use Rattle.lfs_tag.specs.ContentView.{content_view};
 ghost use Rattle.lfs_pair.specs.Pair.{pair_address_in_header};
 ghost use Rattle.lfs_pair.specs.ChangeView.{changes_view};
-ghost use Rattle.lfs_pair.specs.Commit.{pair_content_after_changes, both_block_numbers_of_pair, AppendsChanges, CanCommit, CommitsChangesToPair, CompactsToContent, CommitFailsKeepingHeader, CannotAppendAndLeavesDeviceUnchanged, RefusesCommit, IsPairAddressOnDisk, HeaderSaysActiveBlock, PowerLossLeavesOldOrChangedContent, PowerLossLeavesOldOrNewContent};
+ghost use Rattle.lfs_pair.specs.Commit.{pair_content_after_changes, AppendsChanges, CanCommit, CommitsChangesToPair, CompactsToContent, CommitFailsKeepingHeader, CannotAppendAndLeavesDeviceUnchanged, RefusesCommit, IsPairAddressOnDisk, HeaderSaysActiveBlock, PowerLossLeavesOldOrChangedContent, PowerLossLeavesOldOrNewContent};
 ghost use Rattle.lfs_pair.specs.Writing.{ChangesOnlyBlocksWithinReadLimit, WritesOnlyTheseBlocks};
+ghost use Rattle.lfs_model.specs.Thread.{blocks_of_pair_address};
 
 use crate::change::Change;
 use crate::contents::read_content_and_apply_changes;
@@ -66,7 +67,7 @@ pub fn commit<D: BlockDevice>(
         → CommitsChangesToPair (disk_of_geometry_and_blocks (D.geometry dev.old) (D.blocks dev.old)) (D.history dev.old) (changes_view changes.now) pair.old (disk_of_geometry_and_blocks (D.geometry dev.new) (D.blocks dev.new)) (D.history dev.new) pair.new }
     ensures full { result ≡ Ok Outcome.Full → RefusesCommit D.BlockDevice (changes_view changes.now) dev.old dev.new pair.old pair.new }
     ensures error { IfErr result (λ e. CommitFailsKeepingHeader D.BlockDevice dev.old dev.new pair.old pair.new e) }
-    ensures device { ChangesOnlyBlocksWithinReadLimit D.BlockDevice 2 (both_block_numbers_of_pair (pair_address_in_header pair.old)) dev.old dev.new }
+    ensures device { ChangesOnlyBlocksWithinReadLimit D.BlockDevice 2 (blocks_of_pair_address (pair_address_in_header pair.old)) dev.old dev.new }
     ensures faults { ReportsFaults D.BlockDevice dev.old dev.new result }
     ensures stops { IsTrueOfEachCallSince LeavesNoNewLogIfSuccessfulErase (D.history dev.old) (D.history dev.new)
         → IsTrueAfterAnyPowerLossSince AreBlocksLeftByPowerLossInCall (D.history dev.old) (D.history dev.new) (PowerLossLeavesOldOrChangedContent (disk_of_geometry_and_blocks (D.geometry dev.old) (D.blocks dev.old)) (pair_address_in_header pair.old) (changes_view changes.now)) }
@@ -95,7 +96,7 @@ pub fn commit_with_block_bytes<'a, 'b: 'a, D: BlockDevice>(
         → CommitsChangesToPair (disk_of_geometry_and_blocks (D.geometry dev.old) (D.blocks dev.old)) (D.history dev.old) (changes_view changes.now) pair.old (disk_of_geometry_and_blocks (D.geometry dev.new) (D.blocks dev.new)) (D.history dev.new) pair.new }
     ensures full { result ≡ Ok Outcome.Full → RefusesCommit D.BlockDevice (changes_view changes.now) dev.old dev.new pair.old pair.new }
     ensures error { IfErr result (λ e. CommitFailsKeepingHeader D.BlockDevice dev.old dev.new pair.old pair.new e) }
-    ensures device { ChangesOnlyBlocksWithinReadLimit D.BlockDevice 1 (both_block_numbers_of_pair (pair_address_in_header pair.old)) dev.old dev.new }
+    ensures device { ChangesOnlyBlocksWithinReadLimit D.BlockDevice 1 (blocks_of_pair_address (pair_address_in_header pair.old)) dev.old dev.new }
     ensures faults { ReportsFaults D.BlockDevice dev.old dev.new result }
     ensures stops { IsTrueOfEachCallSince LeavesNoNewLogIfSuccessfulErase (D.history dev.old) (D.history dev.new)
         → IsTrueAfterAnyPowerLossSince AreBlocksLeftByPowerLossInCall (D.history dev.old) (D.history dev.new) (PowerLossLeavesOldOrChangedContent (disk_of_geometry_and_blocks (D.geometry dev.old) (D.blocks dev.old)) (pair_address_in_header pair.old) (changes_view changes.now)) }
@@ -132,7 +133,7 @@ fn append_changes_to_log<D: BlockDevice>(
     ensures no_room { result ≡ Ok false → CannotAppendAndLeavesDeviceUnchanged D.BlockDevice (changes_view changes.now) dev.old dev.new pair.old pair.new }
     ensures buf { length buf.new ≡ length buf.old }
     ensures err_pair { OnErr result (pair.new ≡ pair.old) }
-    ensures writes { WritesOnlyTheseBlocks D.BlockDevice 1 (both_block_numbers_of_pair (pair_address_in_header pair.old)) dev.old dev.new result }
+    ensures writes { WritesOnlyTheseBlocks D.BlockDevice 1 (blocks_of_pair_address (pair_address_in_header pair.old)) dev.old dev.new result }
     ensures stops { IsTrueAfterAnyPowerLossSince AreBlocksLeftByPowerLossInCall (D.history dev.old) (D.history dev.new) (PowerLossLeavesOldOrNewContent (disk_of_geometry_and_blocks (D.geometry dev.old) (D.blocks dev.old)) (pair_address_in_header pair.old) (content_view content.now)) }
 {
     let geometry = dev.geometry();
@@ -165,7 +166,7 @@ pub(crate) fn compact<D: BlockDevice>(
     ensures done { OnOk result (CompactsToContent (disk_of_geometry_and_blocks (D.geometry dev.old) (D.blocks dev.old)) (D.history dev.old) pair.old (content_view content.now)
         (disk_of_geometry_and_blocks (D.geometry dev.new) (D.blocks dev.new)) (D.history dev.new) pair.new) }
     ensures err_pair { OnErr result (pair.new ≡ pair.old) }
-    ensures writes { WritesOnlyTheseBlocks D.BlockDevice 1 (both_block_numbers_of_pair (pair_address_in_header pair.old)) dev.old dev.new result }
+    ensures writes { WritesOnlyTheseBlocks D.BlockDevice 1 (blocks_of_pair_address (pair_address_in_header pair.old)) dev.old dev.new result }
     ensures stops { IsTrueOfEachCallSince LeavesNoNewLogIfSuccessfulErase (D.history dev.old) (D.history dev.new)
         → IsTrueAfterAnyPowerLossSince AreBlocksLeftByPowerLossInCall (D.history dev.old) (D.history dev.new) (PowerLossLeavesOldOrNewContent (disk_of_geometry_and_blocks (D.geometry dev.old) (D.blocks dev.old)) (pair_address_in_header pair.old) (content_view content.now)) }
 {

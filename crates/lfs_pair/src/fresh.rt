@@ -10,9 +10,10 @@ ghost use Rattle.lfs_model.specs.Slots.{pair_address_of_array};
 ghost use Rattle.lfs_model.specs.WrittenContent.{IsRawContentFittingPair};
 ghost use Rattle.lfs_tag.specs.ContentView.{content_view};
 ghost use Rattle.lfs_pair.specs.ChangeView.{changes_view};
-ghost use Rattle.lfs_pair.specs.Commit.{IsPairAddressOnDisk, PairHasContent, both_block_numbers_of_pair};
+ghost use Rattle.lfs_pair.specs.Commit.{IsPairAddressOnDisk, PairHasContent};
 ghost use Rattle.lfs_pair.specs.Writing.{ChangesOnlyBlocksWithinReadLimit, WritesOnlyThisBlock, WritesOnlyTheseBlocks};
 ghost use Rattle.lfs_pair.specs.Fresh.{CanWriteFreshPair, HasErasedOneMoreBlockThanProgrammed, LeavesDeviceUntouchedAtNoMemory, HasContentWithRevisionOne, IsFreshPair};
+ghost use Rattle.lfs_model.specs.Thread.{blocks_of_pair_address};
 
 use crate::change::Change;
 use crate::contents::content_of_changes_to_empty_log;
@@ -68,7 +69,7 @@ pub(crate) fn write_fresh_pair<D: BlockDevice>(
     ensures fresh { IfOk result (λ pair. HasContentWithRevisionOne (content_view content.now) (disk_of_geometry_and_blocks (D.geometry dev.new) (D.blocks dev.new)) (pair_address_of_array blocks) pair) }
     ensures buf { length buf.new ≡ length buf.old }
     ensures clears { OnOk result (HasErasedOneMoreBlockThanProgrammed 1 (D.history dev.old) (D.history dev.new)) }
-    ensures writes { WritesOnlyTheseBlocks D.BlockDevice 2 (both_block_numbers_of_pair (pair_address_of_array blocks)) dev.old dev.new result }
+    ensures writes { WritesOnlyTheseBlocks D.BlockDevice 2 (blocks_of_pair_address (pair_address_of_array blocks)) dev.old dev.new result }
 {
     let [first, second] = blocks;
     erase_block_leaving_no_log(dev, second, buf)?;
@@ -101,7 +102,7 @@ impl Pair {
 
         ensures fresh { IfOk result (λ pair. IsFreshPair (D.history dev.old) (changes_view changes.now) (disk_of_geometry_and_blocks (D.geometry dev.new) (D.blocks dev.new)) (D.history dev.new) (pair_address_of_array blocks) pair) }
         ensures error { IfErr result (λ e. LeavesDeviceUntouchedAtNoMemory dev.old dev.new e) }
-        ensures device { ChangesOnlyBlocksWithinReadLimit D.BlockDevice 2 (both_block_numbers_of_pair (pair_address_of_array blocks)) dev.old dev.new }
+        ensures device { ChangesOnlyBlocksWithinReadLimit D.BlockDevice 2 (blocks_of_pair_address (pair_address_of_array blocks)) dev.old dev.new }
         ensures faults { ReportsFaults D.BlockDevice dev.old dev.new result }
     {
         let content = content_of_changes_to_empty_log(alloc, changes)?;

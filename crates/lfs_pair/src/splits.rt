@@ -13,7 +13,8 @@ ghost use Rattle.lfs_pair.specs.Commit.{CommitFailsKeepingHeader};
 ghost use Rattle.lfs_pair.specs.ChangeView.{changes_view};
 ghost use Rattle.lfs_pair.specs.Cut.{CanSplitSlotsIntoTwoPairs};
 ghost use Rattle.lfs_pair.specs.Writing.{ChangesOnlyBlocksWithinReadLimit};
-ghost use Rattle.lfs_pair.specs.Split.{blocks_of_both_pairs, CanSplitPair, SplitsPairWithChanges, PowerLossLeavesOldContentOrSplitPairs, IsContentCutIntoFrontAndBack};
+ghost use Rattle.lfs_pair.specs.Split.{CanSplitPair, SplitsPairWithChanges, PowerLossLeavesOldContentOrSplitPairs, IsContentCutIntoFrontAndBack};
+ghost use Rattle.lfs_model.specs.Thread.{blocks_of_two_pair_addresses};
 
 use crate::change::Change;
 use crate::commits::compact;
@@ -54,7 +55,7 @@ pub fn split<D: BlockDevice>(
     ensures splits { IfOk result (λ fresh_pair. SplitsPairWithChanges (disk_of_geometry_and_blocks (D.geometry dev.old) (D.blocks dev.old)) (D.history dev.old) (changes_view changes.now) pair.old (pair_address_of_array fresh)
         (disk_of_geometry_and_blocks (D.geometry dev.new) (D.blocks dev.new)) (D.history dev.new) pair.new fresh_pair) }
     ensures error { IfErr result (λ e. CommitFailsKeepingHeader D.BlockDevice dev.old dev.new pair.old pair.new e) }
-    ensures device { ChangesOnlyBlocksWithinReadLimit D.BlockDevice 4 (blocks_of_both_pairs (pair_address_in_header pair.old) (pair_address_of_array fresh)) dev.old dev.new }
+    ensures device { ChangesOnlyBlocksWithinReadLimit D.BlockDevice 4 (blocks_of_two_pair_addresses (pair_address_in_header pair.old) (pair_address_of_array fresh)) dev.old dev.new }
     ensures faults { ReportsFaults D.BlockDevice dev.old dev.new result }
     ensures stops { IsTrueOfEachCallSince LeavesNoNewLogIfSuccessfulErase (D.history dev.old) (D.history dev.new)
         → IsTrueAfterAnyPowerLossSince AreBlocksLeftByPowerLossInCall (D.history dev.old) (D.history dev.new) (PowerLossLeavesOldContentOrSplitPairs (disk_of_geometry_and_blocks (D.geometry dev.old) (D.blocks dev.old)) (pair_address_in_header pair.old) (pair_address_of_array fresh) (changes_view changes.now)) }
@@ -83,7 +84,7 @@ pub fn split_with_block_bytes<'a, 'b: 'a, D: BlockDevice>(
     ensures splits { IfOk result (λ fresh_pair. SplitsPairWithChanges (disk_of_geometry_and_blocks (D.geometry dev.old) (D.blocks dev.old)) (D.history dev.old) (changes_view changes.now) pair.old (pair_address_of_array fresh)
         (disk_of_geometry_and_blocks (D.geometry dev.new) (D.blocks dev.new)) (D.history dev.new) pair.new fresh_pair) }
     ensures error { IfErr result (λ e. CommitFailsKeepingHeader D.BlockDevice dev.old dev.new pair.old pair.new e) }
-    ensures device { ChangesOnlyBlocksWithinReadLimit D.BlockDevice 3 (blocks_of_both_pairs (pair_address_in_header pair.old) (pair_address_of_array fresh)) dev.old dev.new }
+    ensures device { ChangesOnlyBlocksWithinReadLimit D.BlockDevice 3 (blocks_of_two_pair_addresses (pair_address_in_header pair.old) (pair_address_of_array fresh)) dev.old dev.new }
     ensures faults { ReportsFaults D.BlockDevice dev.old dev.new result }
     ensures stops { IsTrueOfEachCallSince LeavesNoNewLogIfSuccessfulErase (D.history dev.old) (D.history dev.new)
         → IsTrueAfterAnyPowerLossSince AreBlocksLeftByPowerLossInCall (D.history dev.old) (D.history dev.new) (PowerLossLeavesOldContentOrSplitPairs (disk_of_geometry_and_blocks (D.geometry dev.old) (D.blocks dev.old)) (pair_address_in_header pair.old) (pair_address_of_array fresh) (changes_view changes.now)) }

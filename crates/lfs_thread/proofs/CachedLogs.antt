@@ -8,8 +8,8 @@ use Rattle.std.proofs.lemmas.List.Elements.{All-from_recursion}
 use Rattle.lfs_model.specs.Blocks.{Blocks, AreBlocksEqualExceptThese, block_bytes_by_number}
 use Rattle.lfs_model.specs.Cache.{CachedBlocks, cached_bytes_of_block, cache_with_block_first, cache_without_block}
 use Rattle.lfs_model.proofs.Cache.{cached_bytes_of_block-put_first_other, cached_bytes_of_block-put_first_same, cached_bytes_of_block-without_same, cached_bytes_of_block-without_other}
-use Rattle.lfs_thread.specs.Device.{blocks_of_pair_address, blocks_of_two_pair_addresses}
 use Rattle.lfs_thread.specs.Kept.{IsCacheCurrent}
+use Rattle.lfs_model.specs.Thread.{blocks_of_pair_address, blocks_of_two_pair_addresses}
 
 -- a block that is still cached isn't the one that went
 pub record IsAnother (cache : CachedBlocks) (gone b : ℕ) (bytes : List ℕ) : Type 0 where

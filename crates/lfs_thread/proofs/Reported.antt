@@ -15,9 +15,10 @@ use Rattle.lfs_model.proofs.Overwrites.{AreBlocksEqualExceptThese-trans, AreBloc
 use Rattle.lfs_pair.specs.declared.pair.Pair.{Pair}
 use Rattle.lfs_pair.specs.Commit.{CommitFailsKeepingHeader}
 use Rattle.lfs_pair.specs.Writing.{ChangesOnlyBlocksWithinReadLimit}
-use Rattle.lfs_thread.specs.Device.{IoMeansFaultNoMemoryWritesNothing, IoMeansFaultNoMemoryKeepsOtherBlocks, blocks_of_two_pair_addresses, blocks_of_pair_address}
+use Rattle.lfs_thread.specs.Device.{IoMeansFaultNoMemoryWritesNothing, IoMeansFaultNoMemoryKeepsOtherBlocks}
 use Rattle.lfs_thread.specs.Kept.{PairHeader, kept_thread_of_device}
 use Rattle.lfs_thread.specs.Steps.{IoMeantFaultNoMemoryWroteNothing, IoMeantFaultNoMemoryKeptOtherBlocks, IsDeviceOnlyRead, ThreadChangesOnlyTheseBlocks, ThreadChangesOnlyBlocksWithinReadLimit}
+use Rattle.lfs_model.specs.Thread.{blocks_of_pair_address, blocks_of_two_pair_addresses}
 
 module _ {D : Type 0} (g : Ghosts D) (old new : D) (hs now_hs : List PairHeader) (sets now_sets : BlockStateList) where
   pub unwritten_from : ReadsOnly g old new → IsDeviceOnlyRead (kept_thread_of_device g old hs sets) (kept_thread_of_device g new now_hs now_sets)

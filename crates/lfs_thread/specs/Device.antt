@@ -9,13 +9,6 @@ use Rattle.lfs_model.specs.Blocks.{Blocks, AreBlocksEqualExceptThese}
 use Rattle.lfs_model.specs.History.{DeviceCallEvent, IsTrueOfEachCallSince, IsTrueAfterAnyPowerLossSince, AreCallsSinceOnlyReads, fault_count_of_history}
 use Rattle.lfs_model.specs.Stops.{LeavesNoNewLogIfSuccessfulErase, AreBlocksLeftByPowerLossInCall}
 
--- the blocks of one pair, and of two pairs
-abbrev pub blocks_of_pair_address : ℕ × ℕ → List ℕ
-blocks_of_pair_address at = at.0 ∷ at.1 ∷ []
-
-abbrev pub blocks_of_two_pair_addresses : ℕ × ℕ → ℕ × ℕ → List ℕ
-blocks_of_two_pair_addresses at fresh = at.0 ∷ at.1 ∷ fresh.0 ∷ fresh.1 ∷ []
-
 -- `Io` comes with a fault of the device, and any other result with none. At `NoMemory` nothing was written.
 pub record IoMeansFaultNoMemoryWritesNothing {D X : Type 0} (g : Ghosts D) (old new : D) (result : Result X Error) : Type 0 where
   pub errors : IfErr result (λ e. (e ≡ Io) ⊎ (e ≡ NoMemory))

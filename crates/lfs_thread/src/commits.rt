@@ -10,7 +10,8 @@ ghost use Rattle.lfs_pair.specs.Split.{CanSplitPair, PowerLossLeavesOldContentOr
 ghost use Rattle.lfs_pair.specs.Writing.{ChangesOnlyBlocksWithinReadLimit};
 ghost use Rattle.lfs_thread.specs.Kept.{IsCacheCurrent, disk_of_device};
 ghost use Rattle.lfs_thread.specs.CachedLog.{read_count_unless_cached};
-ghost use Rattle.lfs_thread.specs.Device.{PowerLossLeavesSuchBlocksAfterCleanErases, IoMeansFaultNoMemoryWritesNothing, blocks_of_two_pair_addresses, blocks_of_pair_address};
+ghost use Rattle.lfs_thread.specs.Device.{PowerLossLeavesSuchBlocksAfterCleanErases, IoMeansFaultNoMemoryWritesNothing};
+ghost use Rattle.lfs_model.specs.Thread.{blocks_of_pair_address, blocks_of_two_pair_addresses};
 
 use lfs_cache::Cache;
 use lfs_device::{BlockDevice, Error};

@@ -4,10 +4,11 @@ ghost use Rattle.std.specs.Prelude.{◌≡◌, ◌+◌, OnOk};
 ghost use Rattle.lfs_model.specs.Slots.{pair_address_of_array};
 ghost use Rattle.lfs_pair.specs.Writing.{ChangesOnlyBlocksWithinReadLimit};
 ghost use Rattle.lfs_pair.specs.ChangeView.{changes_view};
-ghost use Rattle.lfs_thread.specs.Device.{PowerLossLeavesSuchBlocksAfterCleanErases, IoMeansFaultNoMemoryWritesNothing, blocks_of_two_pair_addresses};
+ghost use Rattle.lfs_thread.specs.Device.{PowerLossLeavesSuchBlocksAfterCleanErases, IoMeansFaultNoMemoryWritesNothing};
 ghost use Rattle.lfs_thread.specs.Kept.{IsCacheCurrent, IsKeptThreadOnDevice, kept_thread_of_device};
 ghost use Rattle.lfs_thread.specs.CachedLog.{log_among_cached_blocks, read_count_unless_cached};
 ghost use Rattle.lfs_thread.specs.Steps.{CanSplitPairAtIndex, PowerLossLeavesPairOldOrSplit, IsPairSplitInTwo, thread_pair_at_index};
+ghost use Rattle.lfs_model.specs.Thread.{blocks_of_two_pair_addresses};
 
 use crate::commits::split_with_cache;
 use lfs_alloc::BlockMap;

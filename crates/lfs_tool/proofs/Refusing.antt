@@ -16,11 +16,11 @@ use Rattle.lfs_model.specs.Slots.{zero_gstate}
 use Rattle.lfs_model.specs.State.{Healthy, is_remount_operation, session_after_mount}
 use Rattle.lfs_model.proofs.Counts.{Each, each_right}
 use Rattle.lfs_model.proofs.Kept.{fresh_defined}
-use Rattle.lfs_fs.specs.SessionView.{SessionFailsByError}
+use Rattle.lfs_fs.specs.SessionView.{SessionFailsByError, EndsOperationWithError}
 use Rattle.lfs_lookup.specs.Refusals as refusals
 use Rattle.lfs_tool_folders.specs.MemorySources.{optional_bytes_view}
 use Rattle.lfs_tool_folders.specs.declared.entries.SourceEntry.{SourceEntry}
-use Rattle.lfs_tool.specs.AppliedOperations.{AreOperationsApplied, IsRunOfOperationsEndedByError, EndsOperationWithError, IsHealthyWithoutOpenFile, IsFirstRefusalAmongOperations, file_or_directory_node_of_optional_bytes, copying_operations_of_entry}
+use Rattle.lfs_tool.specs.AppliedOperations.{AreOperationsApplied, IsRunOfOperationsEndedByError, IsHealthyWithoutOpenFile, IsFirstRefusalAmongOperations, file_or_directory_node_of_optional_bytes, copying_operations_of_entry}
 use Rattle.lfs_tool.proofs.Runs.{ended_before, ended_on}
 use Rattle.lfs_tool.proofs.Stepping.{HasCarried, carried_from}
 

@@ -12,12 +12,12 @@ use Rattle.lfs_model.specs.Tree.{FileNode}
 use Rattle.lfs_model.specs.Run.{IsSessionStep, SystemState, is_refusal}
 use Rattle.lfs_model.proofs.Counts.{each_append}
 use Rattle.lfs_model.proofs.SessionSteps.{session_steps_joined}
-use Rattle.lfs_fs.specs.SessionView.{IsSessionStepOrFailure, SessionView, system_state_of_session_view}
+use Rattle.lfs_fs.specs.SessionView.{IsSessionStepOrFailure, SessionView, system_state_of_session_view, EndsOperationWithError}
 use Rattle.lfs_fs.specs.Replies.{reply_from_result}
 use Rattle.lfs_lookup.specs.Refusals as refusals
 use Rattle.lfs_lookup.specs.Refusals.{refusal_of_error}
 use Rattle.lfs_tool_folders.specs.declared.entries.SourceEntry.{SourceEntry}
-use Rattle.lfs_tool.specs.AppliedOperations.{AreOperationsApplied, IsRunOfOperationsEndedByError, AppliesOperationsUntilError, EndsOperationWithError, IsHealthyWithoutOpenFile, copying_operations_of_entry}
+use Rattle.lfs_tool.specs.AppliedOperations.{AreOperationsApplied, IsRunOfOperationsEndedByError, AppliesOperationsUntilError, IsHealthyWithoutOpenFile, copying_operations_of_entry}
 use Rattle.lfs_tool.proofs.Stepping.{opened_first}
 
 abbrev IsAccepted : Reply → Type 0

@@ -8,7 +8,8 @@ use Rattle.lfs_model.specs.Tree.{Node}
 use Rattle.lfs_model.specs.View.{HasDiskView, DiskView, view_of_disk}
 use Rattle.lfs_model.proofs.ListSizes.{length-bytes_of_skip_list}
 use Rattle.lfs_lookup.specs.Walk.{ArePathsAndStructsOfTreeEntries, PathAndStruct, IsPathAndStructOfTreeEntry, IsNodeOfStruct}
-use Rattle.lfs_tool.specs.Listings.{IsListingTextOfDisk, listing_line_of_tree_entry, listing_line_of_path, listing_lines_of_tree_entries, file_size_of_struct}
+use Rattle.lfs_tool.specs.Listings.{IsListingTextOfDisk, listing_line_of_tree_entry, listing_line_of_path, listing_lines_of_tree_entries}
+use Rattle.lfs_lookup.specs.ListAt.{listed_size_of_struct_if_file}
 
 pub record HasSizes (disk : Disk) : Type 0 where
   pub enough : 1024 ≤ disk.block_size
@@ -18,7 +19,7 @@ pub record HasSizes (disk : Disk) : Type 0 where
 abbrev line_for : List ℕ → Node → List ℕ
 line_for path node = beginning_of_listing_line_before_path node ++ escaped_text path ++ newline
 
-line_node : (disk : Disk) → HasSizes disk → (path : List ℕ) (struct : Struct) (node : Node) → IsNodeOfStruct disk struct node → listing_line_of_path (file_size_of_struct struct) path ≡ line_for path node
+line_node : (disk : Disk) → HasSizes disk → (path : List ℕ) (struct : Struct) (node : Node) → IsNodeOfStruct disk struct node → listing_line_of_path (listed_size_of_struct_if_file struct) path ≡ line_for path node
 line_node disk sizes path (Inline bytes) node (attributes, is) = ap (line_for path) (sym is)
 line_node disk sizes path (Ctz head size) node (attributes, (is, list)) =
     ap (λ k. listing_line_of_path (Some k) path) (sym (length-bytes_of_skip_list disk.blocks disk.block_size sizes.count head size sizes.enough sizes.divided list)) ∙ ap (line_for path) (sym is)

@@ -10,7 +10,7 @@ use Rattle.lfs_model.specs.Run as run
 use Rattle.lfs_model.specs.Session.{OpenFilesByNumber, Session}
 use Rattle.lfs_model.specs.State.{Healthy}
 use Rattle.lfs_model.specs.Tree.{Node, FileNode, DirectoryNode}
-use Rattle.lfs_fs.specs.SessionView.{SessionFailsByError}
+use Rattle.lfs_fs.specs.SessionView.{SessionFailsByError, EndsOperationWithError}
 use Rattle.lfs_lookup.specs.Refusals.{is_refusal, refusal_of_error}
 use Rattle.lfs_tool_folders.specs.MemorySources.{optional_bytes_view}
 use Rattle.lfs_tool_folders.specs.declared.entries.SourceEntry.{SourceEntry}
@@ -50,11 +50,6 @@ pub record AreOperationsApplied (from : SystemState) (operations : List Operatio
   pub replies : List Reply
   pub session_steps : AreSessionSteps from operations replies to
   pub accepted : All (λ r. run.is_refusal r ≡ false) replies
-
--- an operation that ends in an error: a refusal, or the session failed by it
-abbrev pub EndsOperationWithError : Bool → Error → SystemState → Operation → SystemState → Type 0
-EndsOperationWithError true e from op to = IsSessionStep from op (ops.Refused (refusal_of_error e)) to
-EndsOperationWithError false e from op to = SessionFailsByError e from op to
 
 -- Some of the operations are applied, and the next one ends in that error.
 pub record IsRunOfOperationsEndedByError (e : Error) (from : SystemState) (operations : List Operation) (to : SystemState) : Type 0 where

@@ -14,6 +14,7 @@ use Rattle.lfs_lookup.specs.Walk.{ArePathsAndStructsOfWalk, PathAndStruct}
 use Rattle.lfs_device.specs.declared.error.Error.{Error}
 use Rattle.lfs_device.specs.declared.error.Error.TheVariants.{Invalid, Corrupt, NoMemory}
 use Rattle.lfs_tool.specs.EitherOrder.{IsViewOfImageInSomeNameOrder}
+use Rattle.lfs_lookup.specs.ListAt.{listed_size_of_struct_if_file}
 
 -- the bytes are an image that this text lists
 abbrev pub IsListingTextOfImage : ℕ → ℕ → List ℕ → List ℕ → Type 0
@@ -35,14 +36,8 @@ abbrev pub listing_line_of_path : Option ℕ → List ℕ → List ℕ
 listing_line_of_path (Some size) path = (codes "f " ++ decimal size ++ codes " ") ++ escaped_text path ++ newline
 listing_line_of_path None path = codes "d 0 " ++ escaped_text path ++ newline
 
--- a file's size, by its entry
-abbrev pub file_size_of_struct : Struct → Option ℕ
-file_size_of_struct (Inline bytes) = Some (length bytes)
-file_size_of_struct (Ctz head size) = Some size
-file_size_of_struct (Branch to) = None
-
 abbrev pub listing_line_of_tree_entry : PathAndStruct → List ℕ
-listing_line_of_tree_entry p = listing_line_of_path (file_size_of_struct p.struct) p.path
+listing_line_of_tree_entry p = listing_line_of_path (listed_size_of_struct_if_file p.struct) p.path
 
 abbrev pub listing_lines_of_tree_entries : List PathAndStruct → List ℕ
 listing_lines_of_tree_entries places = flat_map listing_line_of_tree_entry places

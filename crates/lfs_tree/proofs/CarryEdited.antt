@@ -21,7 +21,7 @@ use Rattle.lfs_model.specs.Run.{is_recover_operation, renames_to_itself}
 use Rattle.lfs_model.specs.SlotEdits.{slot_of_path}
 use Rattle.lfs_model.specs.Slots.{Attributes, Slot, Struct, Inline, Ctz, Branch, entry_charge_with_longest_inline_contents}
 use Rattle.lfs_model.specs.Refusals.{path_of_bytes_or_root, is_root_path}
-use Rattle.lfs_model.specs.Thread.{Pair}
+use Rattle.lfs_model.specs.Thread.{Pair, blocks_of_pair_address}
 use Rattle.lfs_model.specs.Tree.{Path, Tree, node_of_struct_and_attributes}
 use Rattle.lfs_model.specs.Profile.{IsSlotWithinWritableLimits, HasInlineBytesWithinLimit}
 use Rattle.lfs_model.specs.Shown.{skip_list_bytes_on_disk, entries_by_directory_in_thread, tree_on_disk}
@@ -30,7 +30,6 @@ use Rattle.lfs_model.proofs.Paths.{last_is}
 use Rattle.lfs_operations.proofs.Held.{here}
 use Rattle.lfs_operations.specs.Changing.{WritesPairAndTwoFreeBlocks}
 use Rattle.lfs_operations.specs.Editing.{CanEditEntryOfPair, CanSetAttribute, HasRemovedAttribute, HasSetAttribute, HasAttributesChanged, tree_with_attributes_at}
-use Rattle.lfs_thread.specs.Device.{blocks_of_pair_address}
 use Rattle.lfs_thread.specs.Kept.{KeptThread, ThreadView}
 use Rattle.lfs_thread.specs.Steps.{ThreadChangesOnlyTheseBlocks, thread_pair_at_index}
 use Rattle.lfs_tree.proofs.LeftAlone.{about_one, holds_slot, rest_left_alone}

@@ -11,7 +11,7 @@ use Rattle.lfs_model.specs.BlockSets.BlockState.{Free, InFlight, Used}
 use Rattle.lfs_model.specs.Disk.{Disk, SameGeometry, block_bytes_on_disk}
 use Rattle.lfs_model.specs.History.{DeviceCallEvent}
 use Rattle.lfs_model.specs.Slots.{Slot, Struct}
-use Rattle.lfs_model.specs.Thread.{Pair, blocks_of_pairs, gstate_of_pairs}
+use Rattle.lfs_model.specs.Thread.{Pair, blocks_of_pairs, gstate_of_pairs, blocks_of_pair_address}
 use Rattle.lfs_model.specs.View.{IsSkipListIfCtzStruct}
 use Rattle.lfs_model.specs.Shown.{all_slots_not_moved, skip_list_blocks_of_struct, used_blocks}
 use Rattle.lfs_model.proofs.BlockSets.{Contains-occurrence_count_of_number, occurrence_count_of_number-Contains}
@@ -24,18 +24,18 @@ use Rattle.lfs_operations.specs.Dropping.{HasSameBlocksInFlight}
 use Rattle.lfs_operations.specs.Editing.{CanEditEntryOfPair, slot_of_editable_entry}
 use Rattle.lfs_operations.specs.Ready.{IsImageReadyForChange, IsImageReadyOnceMapIsUpdated}
 use Rattle.lfs_operations.specs.Removing.{is_pair_dropped_with_slot, pair_address_written_by_removal}
-use Rattle.lfs_thread.specs.Device.{blocks_of_pair_address}
 use Rattle.lfs_thread.specs.Kept.{KeptThread}
 use Rattle.lfs_thread.specs.Steps.{HasSameGeometry, ThreadChangesOnlyTheseBlocks, thread_pair_at_index}
 use Rattle.lfs_operations.specs.MovingSteps.{WritesOnlyThreadPairsAndFreeBlocks}
 use Rattle.lfs_lookup.specs.Entry.{IsStorageOfStruct}
-use Rattle.lfs_tree.specs.Removals.{CanFreeListOfFile, skip_list_named_by_file_storage, empty_skip_list_for_inline_contents}
+use Rattle.lfs_tree.specs.Removals.{CanFreeListOfFile, skip_list_named_by_file_storage}
 use Rattle.lfs_lookup.specs.declared.entry.FileStorage.{FileStorage}
 use Rattle.lfs_lookup.specs.declared.entry.FileStorage.TheVariants as shown
 use Rattle.lfs_tree.proofs.Carried.{behind_below, pair_blocks}
 use Rattle.lfs_tree.proofs.KeptFiles.{among_files}
 use Rattle.lfs_writer.specs.Bases.{IsSkipListOnDiskUnlessEmpty}
 use Rattle.lfs_writer.specs.SettledMaps.{MarksNewListUsedAndOldFree}
+use Rattle.lfs_tree.specs.Stores.{empty_stored_skip_list}
 
 -- a number that isn't in a list
 pub none_there : (b : ℕ) (xs : List ℕ) → occurrence_count_of_number b xs ≤ 0 → Each (λ x. x ≢ b) xs
@@ -157,7 +157,7 @@ beside_is a b r =
     ∙ ap (λ (ps : List Pair). let k : KeptThread = record { disk = a.disk; history = b.history; pairs = ps; map = b.map } in k) r.pairs
 
 module _ (t : KeptThread) (contents : FileStorage) (can : CanFreeListOfFile t contents) where
-  pub can_settle : CanMarkStoredListUsedAndOldFree t (skip_list_named_by_file_storage contents) empty_skip_list_for_inline_contents
+  pub can_settle : CanMarkStoredListUsedAndOldFree t (skip_list_named_by_file_storage contents) empty_stored_skip_list
   can_settle = record {
     was = can.list;
     list = inl refl;
@@ -185,11 +185,11 @@ module _ (t : KeptThread) (contents : FileStorage) (can : CanFreeListOfFile t co
     large = can.ready.large;
   }
 
-  module _ (history : List DeviceCallEvent) (map : BlockStateList) (settled : IsStoredListUsedAndOldListFree t (skip_list_named_by_file_storage contents) empty_skip_list_for_inline_contents (with_map t history map))
+  module _ (history : List DeviceCallEvent) (map : BlockStateList) (settled : IsStoredListUsedAndOldListFree t (skip_list_named_by_file_storage contents) empty_stored_skip_list (with_map t history map))
       (law : (sets later : BlockStateList) (owned used before now gone come : List ℕ) → AreExactlyTheUsedBlocks sets owned → ((b : ℕ) → occurrence_count_of_number b owned ≤ 1) → ((b : ℕ) → occurrence_count_of_number b owned + occurrence_count_of_number b come ≡ occurrence_count_of_number b used + occurrence_count_of_number b gone)
       → ((b : ℕ) → occurrence_count_of_number b now + occurrence_count_of_number b gone ≡ occurrence_count_of_number b come + occurrence_count_of_number b before) → ((b : ℕ) → Contains now b → Contains used b) → MarksNewListUsedAndOldFree sets later before now → AreExactlyTheUsedBlocks later used) where
     used_now : AreExactlyTheUsedBlocks map (used_blocks t.disk t.pairs)
-    used_now = law t.map map can.ready.used.owned (used_blocks t.disk t.pairs) (blocks_of_list_on_thread t (skip_list_named_by_file_storage contents)) (blocks_of_list_on_thread t empty_skip_list_for_inline_contents) can.gone []
+    used_now = law t.map map can.ready.used.owned (used_blocks t.disk t.pairs) (blocks_of_list_on_thread t (skip_list_named_by_file_storage contents)) (blocks_of_list_on_thread t empty_stored_skip_list) can.gone []
         can.ready.used.are (λ b. let e = can.ready.used.same b in let o = can.once b in omega arith) can.ready.used.same
         (λ b. let e = ap (occurrence_count_of_number b) can.are in omega arith) (λ b h. let k = occurrence_count_of_number-Contains [] b h in absurd (omega arith)) settled
 
@@ -217,7 +217,7 @@ module _ (t : KeptThread) (contents : FileStorage) (can : CanFreeListOfFile t co
             let same = settled.others b (All-from_recursion (λ x. x ≢ b) (blocks_of_list_on_thread t (skip_list_named_by_file_storage contents)) (subst (Each (λ x. x ≢ b)) (sym can.are) (none_there b can.gone never))) (All-from_recursion (λ x. x ≢ b) [] tt) in
             ((λ flies. sym same ∙ flies), (λ flies. same ∙ flies))
 
-  module _ (new : KeptThread) (only : ChangesOnlyBlockMap t new) (settled : IsStoredListUsedAndOldListFree t (skip_list_named_by_file_storage contents) empty_skip_list_for_inline_contents new)
+  module _ (new : KeptThread) (only : ChangesOnlyBlockMap t new) (settled : IsStoredListUsedAndOldListFree t (skip_list_named_by_file_storage contents) empty_stored_skip_list new)
       (law : (sets later : BlockStateList) (owned used before now gone come : List ℕ) → AreExactlyTheUsedBlocks sets owned → ((b : ℕ) → occurrence_count_of_number b owned ≤ 1) → ((b : ℕ) → occurrence_count_of_number b owned + occurrence_count_of_number b come ≡ occurrence_count_of_number b used + occurrence_count_of_number b gone)
       → ((b : ℕ) → occurrence_count_of_number b now + occurrence_count_of_number b gone ≡ occurrence_count_of_number b come + occurrence_count_of_number b before) → ((b : ℕ) → Contains now b → Contains used b) → MarksNewListUsedAndOldFree sets later before now → AreExactlyTheUsedBlocks later used) where
     pub freed_ready : IsImageReadyForChange new

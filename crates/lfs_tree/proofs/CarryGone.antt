@@ -18,7 +18,7 @@ use Rattle.lfs_model.specs.History.{DeviceCallEvent, AreCallsSinceOnlyReads, fau
 use Rattle.lfs_model.specs.Operations as ops
 use Rattle.lfs_model.specs.Slots.{Slot, Struct, Inline, Ctz, Branch}
 use Rattle.lfs_model.specs.Refusals.{path_of_bytes_or_root}
-use Rattle.lfs_model.specs.Thread.{Pair, pair_count_before_root}
+use Rattle.lfs_model.specs.Thread.{Pair, pair_count_before_root, blocks_of_two_pair_addresses}
 use Rattle.lfs_model.specs.Tree.{names_of_directory_at_address, Path, Tree, branch_address_of_struct}
 use Rattle.lfs_model.specs.Shown.{IsPathToDirectory, entries_by_directory_in_thread, tree_on_disk, used_blocks}
 use Rattle.lfs_model.proofs.BlockSets.{Contains-occurrence_count_of_number, occurrence_count_of_number-Contains}
@@ -27,7 +27,6 @@ use Rattle.lfs_operations.specs.Dropping.{HasSameBlocksInFlight}
 use Rattle.lfs_operations.specs.Ready.{IsImageReadyForChange, IsImageReadyOnceMapIsUpdated}
 use Rattle.lfs_operations.specs.Removing.{IsFileRemoved, ReportsErrorsOfCommitTakingNoBlock, pair_address_written_by_removal}
 use Rattle.lfs_operations.specs.Unlinking.{CanRemoveDirectory, IsDirectoryRemoved, ReportsErrorsOfCommitsTakingNoBlock}
-use Rattle.lfs_thread.specs.Device.{blocks_of_two_pair_addresses}
 use Rattle.lfs_thread.specs.Kept.{KeptThread, ThreadView}
 use Rattle.lfs_thread.specs.Steps.{ThreadChangesOnlyTheseBlocks, thread_pair_at_index}
 use Rattle.lfs_operations.specs.MovingSteps.{WritesOnlyThreadPairsAndFreeBlocks}

@@ -5,14 +5,13 @@ use Rattle.lfs_writer.specs.SettledFiles.{ChangesOnlyBlockMap}
 use Rattle.lfs_model.specs.Frame.{IsPairWithSlotOfPath}
 use Rattle.lfs_model.specs.Operations as ops
 use Rattle.lfs_model.specs.Refusals.{path_of_bytes_or_root}
-use Rattle.lfs_model.specs.Thread.{Pair}
+use Rattle.lfs_model.specs.Thread.{Pair, blocks_of_pair_address, blocks_of_two_pair_addresses}
 use Rattle.lfs_model.specs.Tree.{Path}
 use Rattle.lfs_operations.proofs.Held.{here}
 use Rattle.lfs_operations.specs.Changing.{IsPairAltered}
 use Rattle.lfs_operations.specs.Editing.{CanEditEntryOfPair}
 use Rattle.lfs_operations.specs.Removing.{CanRemoveFileInPair, is_pair_dropped_with_slot, pair_address_written_by_removal}
 use Rattle.lfs_operations.specs.Unlinking.{ArePairsBeforeDroppedPairsAltered, CanRemoveDirectory}
-use Rattle.lfs_thread.specs.Device.{blocks_of_two_pair_addresses, blocks_of_pair_address}
 use Rattle.lfs_thread.specs.Kept.{KeptThread}
 use Rattle.lfs_thread.specs.Steps.{ThreadChangesOnlyTheseBlocks, thread_pair_at_index}
 use Rattle.lfs_tree.proofs.Carried.{behind_below}

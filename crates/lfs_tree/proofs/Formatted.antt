@@ -21,7 +21,7 @@ use Rattle.lfs_model.specs.Geometry.{IsValidGeometry}
 use Rattle.lfs_model.specs.History.{DeviceCallEvent}
 use Rattle.lfs_model.specs.Log.{revision_of_block}
 use Rattle.lfs_model.specs.Slots.{zero_gstate}
-use Rattle.lfs_model.specs.Thread.{AreLinkedByTails, anchor_pair_address, blocks_of_pairs}
+use Rattle.lfs_model.specs.Thread.{AreLinkedByTails, anchor_pair_address, blocks_of_pairs, blocks_of_pair_address}
 use Rattle.lfs_model.specs.View.{BeginsWithLogEntry, IsAcceptedImage, superblock_name_log_entry, view_of_disk}
 use Rattle.lfs_model.specs.Profile.{IsWritableImage}
 use Rattle.lfs_model.specs.WrittenContent.{log_entries_of_content}
@@ -31,7 +31,6 @@ use Rattle.lfs_model.proofs.BlockSets.{Contains-cons, Contains-head, Contains-ta
 use Rattle.lfs_pair.specs.Commit.{IsPairAddressOnDisk}
 use Rattle.lfs_pair.specs.Fresh as pair
 use Rattle.lfs_pair.specs.Writing.{HasContentInOneCommit}
-use Rattle.lfs_thread.specs.Device.{blocks_of_pair_address}
 use Rattle.lfs_thread.specs.Kept.{AreAllBlocksUsed, PairHeader, KeptThread, WasKeptThreadOnDisk, pair_on_disk_at, pairs_of_headers, kept_thread_view, kept_thread_of_device}
 use Rattle.lfs_thread.specs.Steps.{ThreadChangesOnlyTheseBlocks}
 use Rattle.lfs_tree.specs.Formats.{IsBlockMapAfterFormat, IsHeaderOfEmptyRoot, IsThreadOfEmptyRoot, IsFreshlyFormatted, IsWritableImageWithEmptyRoot, superblock_slot_changes, content_with_superblock_only}

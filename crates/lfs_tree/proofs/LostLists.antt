@@ -31,12 +31,12 @@ use Rattle.lfs_operations.specs.Recovering.{HasDroppedUnreachedPairsAndRecovered
 use Rattle.lfs_operations.proofs.RecoverLists.{each_at}
 use Rattle.lfs_thread.specs.Kept.{KeptThread}
 use Rattle.lfs_thread.specs.Steps.{empty_pair_at_anchor}
-use Rattle.lfs_tree.specs.Removals.{empty_skip_list_for_inline_contents}
 use Rattle.lfs_tree.specs.LostLists.{CanFreeListsOfDroppedSlots, blocks_of_stored_skip_lists, skip_lists_named_by_struct, skip_lists_named_by_raw_struct, skip_lists_named_by_slots, skip_lists_named_by_raw_slots}
 use Rattle.lfs_tree.proofs.CarryFreed.{beside_is, none_there, not_both, not_free, with_map}
 use Rattle.lfs_writer.specs.Bases.{IsSkipListOnDiskUnlessEmpty}
 use Rattle.lfs_writer.specs.SettledMaps.{MarksNewListUsedAndOldFree}
 use Rattle.lfs_writer.specs.declared.stored_list.StoredList.{StoredList}
+use Rattle.lfs_tree.specs.Stores.{empty_stored_skip_list}
 
 -- ---- which lists
 
@@ -164,7 +164,7 @@ module _ (t : KeptThread) (list : StoredList) (rest : List StoredList) (can : Ca
   both : (b : ℕ) → occurrence_count_of_number b (blocks_of_stored_skip_lists t (list ∷ rest)) ≡ occurrence_count_of_number b (blocks_of_list_on_thread t list) + occurrence_count_of_number b (blocks_of_stored_skip_lists t rest)
   both b = count_append b (blocks_of_list_on_thread t list) (blocks_of_stored_skip_lists t rest)
 
-  pub can_settle_first : CanMarkStoredListUsedAndOldFree t list empty_skip_list_for_inline_contents
+  pub can_settle_first : CanMarkStoredListUsedAndOldFree t list empty_stored_skip_list
   can_settle_first = record {
     was = can.stand.0;
     list = inl refl;
@@ -179,9 +179,9 @@ module _ (t : KeptThread) (list : StoredList) (rest : List StoredList) (can : Ca
     shared = record { used = λ b has none. let k = occurrence_count_of_number-Contains [] b none in absurd (omega arith) };
   }
 
-  module _ (history : List DeviceCallEvent) (map : BlockStateList) (settled : IsStoredListUsedAndOldListFree t list empty_skip_list_for_inline_contents (with_map t history map)) (law : IsExact) where
+  module _ (history : List DeviceCallEvent) (map : BlockStateList) (settled : IsStoredListUsedAndOldListFree t list empty_stored_skip_list (with_map t history map)) (law : IsExact) where
     used_now : AreExactlyTheUsedBlocks map (used_blocks t.disk t.pairs ++ blocks_of_stored_skip_lists t rest)
-    used_now = law t.map map can.ready.used.owned (used_blocks t.disk t.pairs ++ blocks_of_stored_skip_lists t rest) (blocks_of_list_on_thread t list) (blocks_of_list_on_thread t empty_skip_list_for_inline_contents) (blocks_of_list_on_thread t list) []
+    used_now = law t.map map can.ready.used.owned (used_blocks t.disk t.pairs ++ blocks_of_stored_skip_lists t rest) (blocks_of_list_on_thread t list) (blocks_of_list_on_thread t empty_stored_skip_list) (blocks_of_list_on_thread t list) []
         can.ready.used.are (λ b. let e = can.ready.used.same b in let o = can.once b in omega arith)
         (λ b. let e = can.ready.used.same b in let k = both b in let c = count_append b (used_blocks t.disk t.pairs) (blocks_of_stored_skip_lists t rest) in omega arith)
         (λ b. omega arith) (λ b h. let k = occurrence_count_of_number-Contains [] b h in absurd (omega arith)) settled
@@ -219,8 +219,8 @@ module _ (t : KeptThread) (list : StoredList) (rest : List StoredList) (can : Ca
             let same = settled.others b (All-from_recursion (λ x. x ≢ b) (blocks_of_list_on_thread t list) (none_there b (blocks_of_list_on_thread t list) never)) (All-from_recursion (λ x. x ≢ b) [] tt) in
             ((λ flies. sym same ∙ flies), (λ flies. same ∙ flies))
 
-  module _ (new : KeptThread) (only : ChangesOnlyBlockMap t new) (settled : IsStoredListUsedAndOldListFree t list empty_skip_list_for_inline_contents new) (law : IsExact) where
-    here : IsStoredListUsedAndOldListFree t list empty_skip_list_for_inline_contents (with_map t new.history new.map)
+  module _ (new : KeptThread) (only : ChangesOnlyBlockMap t new) (settled : IsStoredListUsedAndOldListFree t list empty_stored_skip_list new) (law : IsExact) where
+    here : IsStoredListUsedAndOldListFree t list empty_stored_skip_list (with_map t new.history new.map)
     here = settled
 
     pub rest_left : CanFreeListsOfDroppedSlots new rest

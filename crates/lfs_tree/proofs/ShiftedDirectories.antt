@@ -14,7 +14,6 @@ use Rattle.lfs_operations.specs.MovingAcross.{IsEntryRenamedAcrossPairs, tree_wi
 use Rattle.lfs_operations.specs.MovingOnto.{CanReplaceDirectoryAcrossPairs}
 use Rattle.lfs_operations.specs.Renaming.{tree_with_renamed_entry}
 use Rattle.lfs_operations.specs.RenamingOver.{CanRenameOntoDirectoryInPair, IsEntryRenamedOntoDirectory, ReportsErrorsOfReadThenCommits}
-use Rattle.lfs_thread.specs.Device.{blocks_of_two_pair_addresses, blocks_of_pair_address}
 use Rattle.lfs_thread.specs.Kept.{KeptThread, ThreadView}
 use Rattle.lfs_thread.specs.Steps.{IsThreadOnlyRead, ThreadChangesOnlyTheseBlocks, thread_pair_at_index}
 use Rattle.lfs_tree.specs.TreeChanges.{SurvivesWithOldOrNewTree}
@@ -25,6 +24,7 @@ use Rattle.lfs_tree.proofs.Carried.{among_two, behind_below}
 use Rattle.lfs_tree.proofs.ShiftedAlone.{spares_one, spares_two}
 use Rattle.lfs_tree.proofs.ShiftedPlaces.{one_place, other_name, target_path}
 use Rattle.lfs_tree.proofs.ShiftedSlots.{none_gone, survives_at}
+use Rattle.lfs_model.specs.Thread.{blocks_of_pair_address, blocks_of_two_pair_addresses}
 
 -- what stands there, seen in the directory of another number
 record IsDirectoryAt (t : KeptThread) (first index id : ℕ) (name : Name) (at : ℕ × ℕ) : Type 0 where

@@ -6,7 +6,7 @@ use Rattle.lfs_device.specs.declared.error.Error.TheVariants.{Io, NoMemory}
 use Rattle.lfs_writer.specs.SettledFiles.{ChangesOnlyBlockMap}
 use Rattle.lfs_writer.specs.ThreadContents.{ReportsFaultOrNoMemory}
 use Rattle.lfs_model.specs.Frame.{LeavesUnrelatedBlocksUnchanged}
-use Rattle.lfs_model.specs.Thread.{pair_count_before_root}
+use Rattle.lfs_model.specs.Thread.{pair_count_before_root, blocks_of_two_pair_addresses}
 use Rattle.lfs_model.specs.TreeEdits.{tree_after_rename, path_without_prefix}
 use Rattle.lfs_model.specs.InDirectory.{IsPlaceOfNameInDirectory}
 use Rattle.lfs_model.specs.Names.{Name}
@@ -24,7 +24,6 @@ use Rattle.lfs_operations.specs.MovingAcross.{tree_with_moved_entry}
 use Rattle.lfs_operations.specs.MovingOnto.{CanReplaceFileAcrossPairs, IsFileReplacedAcrossPairs}
 use Rattle.lfs_operations.specs.Ready.{IsImageReadyForChange}
 use Rattle.lfs_operations.specs.Renaming.{CanRenameOntoFileInPair, IsEntryRenamedOntoFileInPair, tree_with_renamed_entry}
-use Rattle.lfs_thread.specs.Device.{blocks_of_two_pair_addresses}
 use Rattle.lfs_thread.specs.Kept.{KeptThread, ThreadView}
 use Rattle.lfs_thread.specs.Steps.{thread_pair_at_index}
 use Rattle.lfs_tree.specs.TreeChanges.{SurvivesWithOldOrNewTree}

@@ -14,7 +14,7 @@ use Rattle.lfs_model.specs.Disk.{block_bytes_on_disk}
 use Rattle.lfs_model.specs.InDirectory.{IsPlaceWhereNameBelongs, IsPairOfDirectory}
 use Rattle.lfs_model.specs.Names.{Name}
 use Rattle.lfs_model.specs.Slots.{Slot}
-use Rattle.lfs_model.specs.Thread.{blocks_of_pairs}
+use Rattle.lfs_model.specs.Thread.{blocks_of_pairs, blocks_of_pair_address}
 use Rattle.lfs_model.specs.Tree.{Path}
 use Rattle.lfs_model.specs.Shown.{all_slots_not_moved, skip_list_blocks_of_struct, tree_on_disk, used_blocks}
 use Rattle.lfs_model.proofs.BlockSets.{Contains-occurrence_count_of_number, occurrence_count_of_number-Contains}
@@ -31,7 +31,6 @@ use Rattle.lfs_operations.specs.MovingAcross.{CanRenameAcrossPairs, IsEntryRenam
 use Rattle.lfs_operations.specs.Ready.{IsImageReadyForChange, IsImageReadyOnceMapIsUpdated}
 use Rattle.lfs_operations.specs.Removing.{is_pair_dropped_with_slot}
 use Rattle.lfs_operations.specs.Renaming.{CanRenameWithinPair, IsEntryRenamedInPair, ReportsErrorsOfReadThenChangeOrSplit, tree_with_renamed_entry}
-use Rattle.lfs_thread.specs.Device.{blocks_of_pair_address}
 use Rattle.lfs_thread.specs.Kept.{KeptThread, ThreadView}
 use Rattle.lfs_thread.specs.Steps.{ThreadChangesOnlyTheseBlocks, thread_pair_at_index}
 use Rattle.lfs_tree.specs.TreeChanges.{SurvivesWithOldOrNewTree}

@@ -15,12 +15,11 @@ use Rattle.lfs_model.specs.Disk.{Disk, SameGeometry, block_bytes_on_disk, block_
 use Rattle.lfs_model.specs.Fresh.{IsFreshDisk, empty_tree, only_pair_of_fresh_disk, superblock_struct_bytes}
 use Rattle.lfs_model.specs.History.{ArePossibleBlocksAfterPowerLossInCall, DeviceCallEvent, IsTrueAfterAnyPowerLossSince, AreBytesStillUnprogrammed, erase_count_of_history, fault_count_of_history}
 use Rattle.lfs_model.specs.Slots.{zero_gstate}
-use Rattle.lfs_model.specs.Thread.{anchor_pair_address}
+use Rattle.lfs_model.specs.Thread.{anchor_pair_address, blocks_of_pair_address}
 use Rattle.lfs_model.specs.View.{IsAcceptedImage, view_of_disk}
 use Rattle.lfs_model.specs.Profile.{IsWritableImage}
 use Rattle.lfs_pair.specs.Pair.{pair_address_in_header}
 use Rattle.lfs_pair.specs.Writing.{HasContentInOneCommit}
-use Rattle.lfs_thread.specs.Device.{blocks_of_pair_address}
 use Rattle.lfs_thread.specs.Kept.{PairHeader, IsPairHeaderOnDisk, KeptThread, disk_of_device}
 use Rattle.lfs_thread.specs.Steps.{ThreadChangesOnlyTheseBlocks}
 

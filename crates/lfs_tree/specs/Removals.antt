@@ -26,6 +26,7 @@ use Rattle.lfs_lookup.specs.declared.paths.PathLookup.TheVariants as found
 use Rattle.lfs_lookup.specs.declared.search.SlotPosition.{SlotPosition}
 use Rattle.lfs_writer.specs.Bases.{IsSkipListOnDiskUnlessEmpty}
 use Rattle.lfs_writer.specs.declared.stored_list.StoredList.{StoredList}
+use Rattle.lfs_tree.specs.Stores.{empty_stored_skip_list}
 
 -- an entry is found for the path
 pub record IsEntryFoundForPath (order : NameOrder) (ps : List Pair) (path : Path) (found : PathLookup) : Type 0 where
@@ -34,12 +35,9 @@ pub record IsEntryFoundForPath (order : NameOrder) (ps : List Pair) (path : Path
 
 -- ---- the list of a file
 
-abbrev pub empty_skip_list_for_inline_contents : StoredList
-empty_skip_list_for_inline_contents = record { head = 0; size = 0; in_flight = false }
-
 -- inline contents have no list
 abbrev pub skip_list_named_by_file_storage : FileStorage → StoredList
-skip_list_named_by_file_storage (contents.Inline len) = empty_skip_list_for_inline_contents
+skip_list_named_by_file_storage (contents.Inline len) = empty_stored_skip_list
 skip_list_named_by_file_storage (contents.List head size) = record { head = head; size = size; in_flight = false }
 
 -- The image hasn't the file of these contents any more; the blocks of its list are still used.

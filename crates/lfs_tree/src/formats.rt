@@ -3,10 +3,9 @@
 ghost use Rattle.std.specs.Prelude.{◌≡◌, ◌≤◌, ◌+◌, [], false, IfErr, IfOk, OnOk};
 ghost use Rattle.lfs_device.specs.Calls.{ChangesOnlyTheseBlocks, ReportsFaults};
 ghost use Rattle.lfs_model.specs.History.{erase_count_of_history};
-ghost use Rattle.lfs_model.specs.Thread.{anchor_pair_address};
+ghost use Rattle.lfs_model.specs.Thread.{anchor_pair_address, blocks_of_pair_address};
 ghost use Rattle.lfs_pair.specs.ChangeView.{changes_view};
 ghost use Rattle.lfs_pair.specs.Fresh.{LeavesDeviceUntouchedAtNoMemory};
-ghost use Rattle.lfs_thread.specs.Device.{blocks_of_pair_address};
 ghost use Rattle.lfs_thread.specs.Kept.{disk_of_device, kept_thread_of_device};
 ghost use Rattle.lfs_thread.specs.Steps.{ThreadChangesOnlyTheseBlocks};
 ghost use Rattle.lfs_tree.specs.Formats.{FailedFormatSparesOtherBlocks, ErasesTwoBlocks, IsBlockMapAfterFormat, IsHeaderOfEmptyRoot, IsThreadOfEmptyRoot, IsFreshlyFormatted, IsWritableImageWithEmptyRoot, superblock_slot_changes};

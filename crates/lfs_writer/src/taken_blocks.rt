@@ -18,7 +18,7 @@ pub(crate) fn take_blocks(alloc: Global, map: &mut BlockMap, count: u32) -> Resu
     ensures error { IfErr result (λ e. e ≡ Error.NoMemory) }
 {
     let mut blocks = Vec::with_capacity(alloc, count as usize)?;
-    'changes_to_drop_next: while blocks.len() < count as usize {
+    'take_next: while blocks.len() < count as usize {
         let block = map.take().unwrap();
         blocks.push(block)?;
     }

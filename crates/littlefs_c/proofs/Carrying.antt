@@ -11,7 +11,7 @@ use Rattle.lfs_model.specs.Run.{AreSessionSteps, IsSessionStep, SystemState, IsT
 use Rattle.lfs_model.specs.State.{is_remount_operation}
 use Rattle.lfs_model.proofs.Counts.{Each, each_append, each_right}
 use Rattle.lfs_model.proofs.SessionSteps.{session_steps_joined}
-use Rattle.lfs_fs.specs.SessionView.{IsSessionStepOrFailure, SessionFailsByError, SessionView, EndsRunByError, system_state_of_session_view}
+use Rattle.lfs_fs.specs.SessionView.{IsSessionStepOrFailure, SessionFailsByError, SessionView, EndsRunByError, system_state_of_session_view, EndsOperationWithError}
 use Rattle.lfs_fs.specs.Replies.{reply_from_result}
 use Rattle.lfs_fs.specs.OpView.{op_view, reply_view}
 use Rattle.lfs_fs.specs.declared.run.Op.{Op}
@@ -19,7 +19,7 @@ use Rattle.lfs_fs.specs.declared.run.Reply as given
 use Rattle.lfs_lookup.specs.Refusals as refusals
 use Rattle.lfs_lookup.specs.Refusals.{refusal_of_error}
 use Rattle.littlefs_c.specs.Calls.{GivesLastReplyOrRefuses, RefusesOperationAfterOthers, IsSessionMountedOnImage, IsErrorPreventingSessionOnImage, RefusesImageOrOperation, RunsOperationsWithReplies, RunsOperationsOnImage}
-use Rattle.littlefs_c.specs.Files.{AreOperationsAppliedWithReplies, EndsOperationsWithErrorAfterReplies, AppliesOperationsWithLastReplyOrError, RefusesOrFailsOperation, operations_to_open_seek_and_read_file, open_flags_of_read_file}
+use Rattle.littlefs_c.specs.Files.{AreOperationsAppliedWithReplies, EndsOperationsWithErrorAfterReplies, AppliesOperationsWithLastReplyOrError, operations_to_open_seek_and_read_file, open_flags_of_read_file}
 use Rattle.littlefs_c.specs.FirstRefusals.{IsErrorOfFirstRefusedReply}
 
 abbrev IsPassed : Reply → Type 0
@@ -33,10 +33,10 @@ none_carried a = record { session_steps = refl; accepted = All-from_recursion Is
 pub one_carried : (a b : SystemState) (op : Operation) (reply : Reply) → IsSessionStep a op reply b → is_refusal reply ≡ false → AreOperationsAppliedWithReplies a (op ∷ []) (reply ∷ []) b
 one_carried a b op reply turn accepted = record { session_steps = (b, (turn, refl)); accepted = All-from_recursion IsPassed (reply ∷ []) (accepted, tt) }
 
-pub one_ends : {X : Type 0} (old new : SessionView) (op : Operation) (reply : X → Reply) (e : Error) → IsSessionStepOrFailure old op (reply_from_result reply (Err e)) new → RefusesOrFailsOperation (refusals.is_refusal e) e (system_state_of_session_view old) op (system_state_of_session_view new)
+pub one_ends : {X : Type 0} (old new : SessionView) (op : Operation) (reply : X → Reply) (e : Error) → IsSessionStepOrFailure old op (reply_from_result reply (Err e)) new → EndsOperationWithError (refusals.is_refusal e) e (system_state_of_session_view old) op (system_state_of_session_view new)
 one_ends old new op reply e = go (refusals.is_refusal e)
   where
-    go : (b : Bool) → IsSessionStepOrFailure old op (cond b (Ok (ops.Refused (refusal_of_error e))) (Err e)) new → RefusesOrFailsOperation b e (system_state_of_session_view old) op (system_state_of_session_view new)
+    go : (b : Bool) → IsSessionStepOrFailure old op (cond b (Ok (ops.Refused (refusal_of_error e))) (Err e)) new → EndsOperationWithError b e (system_state_of_session_view old) op (system_state_of_session_view new)
     go true h = h
     go false h = h
 
@@ -48,7 +48,7 @@ carried_on xs ys rs ss a b c h k = record {
   accepted = All-from_recursion IsPassed (rs ++ ss) (each_append IsPassed rs ss (recursion_from_All IsPassed rs h.accepted) (recursion_from_All IsPassed ss k.accepted));
 }
 
-pub ended_at : (e : Error) (xs : List Operation) (rs : List Reply) (op : Operation) (more : List Operation) (a b c : SystemState) → AreOperationsAppliedWithReplies a xs rs b → RefusesOrFailsOperation (refusals.is_refusal e) e b op c → EndsOperationsWithErrorAfterReplies e a (xs ++ op ∷ more) c
+pub ended_at : (e : Error) (xs : List Operation) (rs : List Reply) (op : Operation) (more : List Operation) (a b c : SystemState) → AreOperationsAppliedWithReplies a xs rs b → EndsOperationWithError (refusals.is_refusal e) e b op c → EndsOperationsWithErrorAfterReplies e a (xs ++ op ∷ more) c
 ended_at e xs rs op more a b c h ends = record { done = xs; next = op; others = more; are = refl; replies = rs; at = b; carried = h; ends = ends }
 
 -- a call of one operation
@@ -101,13 +101,13 @@ refused block_size page image e from to operations m k none others = go (refusal
       at = k.at;
       runs = record { from = from; mounts = m; session_steps = k.carried.session_steps; accepted = k.carried.accepted };
       to = to;
-      refused = subst (λ b. RefusesOrFailsOperation b e k.at k.next to) is k.ends;
+      refused = subst (λ b. EndsOperationWithError b e k.at k.next to) is k.ends;
       refusal = is;
     }
 
     go : (b : Bool) → refusals.is_refusal e ≡ b → RefusesImageOrOperation block_size page image operations e
     go true is = inr (refusal is)
-    go false is = inl (by_memory block_size page image e (only_memory e k.at to k.next (subst (λ b. RefusesOrFailsOperation b e k.at k.next to) is k.ends) (next_other operations k.done k.next k.others k.are others) none))
+    go false is = inl (by_memory block_size page image e (only_memory e k.at to k.next (subst (λ b. EndsOperationWithError b e k.at k.next to) is k.ends) (next_other operations k.done k.next k.others k.are others) none))
 
 -- what is asked of an image, by what a session of it answers
 pub asks : {X : Type 0} (block_size page : ℕ) (image : List ℕ) (from to : SystemState) (operations : List Operation) (reply : X → Reply) (r : Result X Error) → IsSessionMountedOnImage block_size page image from → AppliesOperationsWithLastReplyOrError from operations reply r to

@@ -5,7 +5,7 @@ use Rattle.lfs_model.specs.Operations as ops
 use Rattle.lfs_model.specs.Operations.{FlagsOfOpen, Operation, Reply}
 use Rattle.lfs_model.specs.Run.{AreSessionSteps, IsSessionStep, SystemState}
 use Rattle.lfs_model.specs.Run as run
-use Rattle.lfs_fs.specs.SessionView.{SessionFailsByError}
+use Rattle.lfs_fs.specs.SessionView.{SessionFailsByError, EndsOperationWithError}
 use Rattle.lfs_lookup.specs.Refusals.{is_refusal, refusal_of_error}
 
 abbrev pub open_flags_of_read_file : FlagsOfOpen
@@ -24,11 +24,6 @@ operations_to_write_file path bytes = ops.Open path open_flags_of_replaced_file 
 
 -- ---- how operations end
 
--- an operation that ends in an error: it is refused, or the session fails by it
-abbrev pub RefusesOrFailsOperation : Bool → Error → SystemState → Operation → SystemState → Type 0
-RefusesOrFailsOperation true e from op to = IsSessionStep from op (ops.Refused (refusal_of_error e)) to
-RefusesOrFailsOperation false e from op to = SessionFailsByError e from op to
-
 -- The operations are applied one after another, and none is refused.
 pub record AreOperationsAppliedWithReplies (from : SystemState) (operations : List Operation) (replies : List Reply) (to : SystemState) : Type 0 where
   pub session_steps : AreSessionSteps from operations replies to
@@ -43,7 +38,7 @@ pub record EndsOperationsWithErrorAfterReplies (e : Error) (from : SystemState) 
   pub replies : List Reply
   pub at : SystemState
   pub carried : AreOperationsAppliedWithReplies from done replies at
-  pub ends : RefusesOrFailsOperation (is_refusal e) e at next to
+  pub ends : EndsOperationWithError (is_refusal e) e at next to
 
 -- the operations are applied, with this reply to the last one, or end in an error
 abbrev pub AppliesOperationsWithLastReplyOrError : {X : Type 0} → SystemState → List Operation → (X → Reply) → Result X Error → SystemState → Type 0

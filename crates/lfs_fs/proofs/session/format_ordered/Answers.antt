@@ -2,8 +2,7 @@ use Rattle.lfs_fs.specs.SessionView.{session_view_of_tree_and_files}
 use Rattle.std.proofs.Common.{refl, sym, ap, subst}
 use Rattle.lfs_device.specs.declared.geometry.Geometry.{Geometry}
 use Rattle.lfs_device.specs.declared.ordered.Ordered.{Ordered}
-use Rattle.lfs_model.specs.Thread.{anchor_pair_address}
-use Rattle.lfs_thread.specs.Device.{blocks_of_pair_address}
+use Rattle.lfs_model.specs.Thread.{anchor_pair_address, blocks_of_pair_address}
 use Rattle.lfs_tree.specs.Formats.{FailedFormatSparesOtherBlocksInBothOrders}
 use Rattle.lfs_fs.specs.FileView.{open_files_view}
 use Rattle.lfs_fs.proofs.FreshBegun.{fresh_state}

@@ -4,11 +4,11 @@ use Rattle.std.proofs.lemmas.Option.{same_Some}
 use Rattle.lfs_model.specs.Slots.{Slot, Struct, Inline}
 use Rattle.lfs_model.specs.Fresh.{superblock_slot}
 use Rattle.lfs_model.specs.SlotEdits.{new_file_slot, new_directory_slot, MovesSlotToPath}
-use Rattle.lfs_model.specs.Layout.{joined_slots_of_pairs}
 use Rattle.lfs_model.specs.examples.Runs.{root_and_directory_with_slots, root_pair_with_file}
 use Rattle.lfs_model.proofs.Sites.{IsTrueOfSomeElement}
 use Rattle.lfs_model.proofs.Spliced.{comes}
 use Rattle.lfs_model.proofs.slots.operations_edit_slots.Goals as goal
+use Rattle.lfs_model.specs.InDirectory.{slots_of_pairs_in_order}
 
 abbrev root : List Slot
 root = superblock_slot 4096 16 ∷ new_directory_slot (codes "d") (4, 5) ∷ []
@@ -65,7 +65,7 @@ other_bytes (u, left, cleared, (at, out, clear, into)) = go (comes (record u { n
     says : first_byte u ≡ 120
     says = sym (ap first_byte (same_Some (record (new_file_slot (codes "a")) { struct = Inline (codes "x") }) u at))
 
-    go : IsTrueOfSomeElement (λ s. s ≡ record u { name = codes "b" }) (joined_slots_of_pairs (root_pair_with_file (codes "b") (codes "y"))) → ⊥
+    go : IsTrueOfSomeElement (λ s. s ≡ record u { name = codes "b" }) (slots_of_pairs_in_order (root_pair_with_file (codes "b") (codes "y"))) → ⊥
     go (inl e) = absurd (let k : 0 ≡ first_byte u = ap first_byte e in omega (arith, says))
     go (inr (inl e)) = absurd (let k : 121 ≡ first_byte u = ap first_byte e in omega (arith, says))
     go (inr (inr e)) = e

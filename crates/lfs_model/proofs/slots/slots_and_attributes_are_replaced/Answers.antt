@@ -6,12 +6,12 @@ use Rattle.lfs_model.specs.Content.{attributes_with_attribute}
 use Rattle.lfs_model.specs.Fresh.{superblock_slot}
 use Rattle.lfs_model.specs.Session.{open_file_with_number}
 use Rattle.lfs_model.specs.SlotEdits.{new_file_slot, new_directory_slot, ReplacesSlotOfPath, IsStructStoringBytes, StoresDirtyWriter}
-use Rattle.lfs_model.specs.Layout.{joined_slots_of_pairs}
 use Rattle.lfs_model.specs.examples.Images.{large_fresh_image}
 use Rattle.lfs_model.specs.examples.Runs.{root_and_directory_with_slots, root_and_directory_of_two_pairs, root_pair_with_file, file_slot_with_long_attribute, session_with_writer_of_path}
 use Rattle.lfs_model.proofs.Sites.{IsTrueOfSomeElement}
 use Rattle.lfs_model.proofs.Spliced.{comes}
 use Rattle.lfs_model.proofs.slots.slots_and_attributes_are_replaced.Goals as goal
+use Rattle.lfs_model.specs.InDirectory.{slots_of_pairs_in_order}
 
 abbrev root : List Slot
 root = superblock_slot 4096 16 ∷ new_directory_slot (codes "d") (4, 5) ∷ []
@@ -51,7 +51,7 @@ unset (u, v, (at, is, spliced)) = go (comes v (u ∷ []) root_and_directory_of_t
     none : (s : Slot) → length s.attributes ≡ 0 → s ≡ v → ⊥
     none s e f = absurd (let k = ap (λ (t : Slot). length t.attributes) f in omega (arith, some))
 
-    go : IsTrueOfSomeElement (λ s. s ≡ v) (joined_slots_of_pairs root_and_directory_of_two_pairs) → ⊥
+    go : IsTrueOfSomeElement (λ s. s ≡ v) (slots_of_pairs_in_order root_and_directory_of_two_pairs) → ⊥
     go (inl e) = none (superblock_slot 4096 16) refl e
     go (inr (inl e)) = none (new_directory_slot (codes "d") (4, 5)) refl e
     go (inr (inr (inl e))) = none (new_file_slot (codes "a")) refl e
@@ -82,7 +82,7 @@ uncommitted (u, v, (at, (is, said), spliced)) = go (comes v (u ∷ []) (root_pai
     other : (s : Slot) (n : ℕ) → size s.struct ≡ n → s ≡ v → n ≡ 2
     other s n e f = sym e ∙ ap (λ (t : Slot). size t.struct) f ∙ two
 
-    go : IsTrueOfSomeElement (λ s. s ≡ v) (joined_slots_of_pairs (root_pair_with_file (codes "a") [])) → ⊥
+    go : IsTrueOfSomeElement (λ s. s ≡ v) (slots_of_pairs_in_order (root_pair_with_file (codes "a") [])) → ⊥
     go (inl e) = absurd (let k : 24 ≡ 2 = other (superblock_slot 4096 16) 24 refl e in omega arith)
     go (inr (inl e)) = absurd (let k : 0 ≡ 2 = other (new_file_slot (codes "a")) 0 refl e in omega arith)
     go (inr (inr e)) = e

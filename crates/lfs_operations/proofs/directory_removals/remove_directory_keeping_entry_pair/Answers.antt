@@ -1,7 +1,7 @@
 use Rattle.std.proofs.Common.{ap, sym, subst, ◌∙◌, ◌-◌, Err}
 use Rattle.std.proofs.lemmas.Result.{err_from_is_err_and}
 use Rattle.lfs_model.specs.Slots.{Gstate}
-use Rattle.lfs_thread.specs.Device.{PowerLossLeavesSuchBlocksAfterCleanErases, blocks_of_two_pair_addresses, blocks_of_pair_address}
+use Rattle.lfs_thread.specs.Device.{PowerLossLeavesSuchBlocksAfterCleanErases}
 use Rattle.lfs_thread.specs.Steps.{ThreadChangesOnlyTheseBlocks, thread_pair_at_index}
 use Rattle.lfs_operations.specs.Dropping.{CanDropPairAt, IsNextPairDropped, IsLeftByStoppedPairDrop}
 use Rattle.lfs_operations.proofs.AlteredDrops.{beside_alters}
@@ -9,6 +9,7 @@ use Rattle.lfs_operations.proofs.Removed.{reports_again}
 use Rattle.lfs_operations.proofs.RmdirThread.{can_drop_gone, directory_removed}
 use Rattle.lfs_operations.proofs.UnlinkedSteps.{both_survive, first_survives, steps_from, steps_then, writes_first, writes_two, written_beside}
 use Rattle.lfs_operations.proofs.directory_removals.remove_directory_keeping_entry_pair.Goals as goal
+use Rattle.lfs_model.specs.Thread.{blocks_of_pair_address, blocks_of_two_pair_addresses}
 
 pub drop_pair_at-requires-clause-can : goal.drop_pair_at-requires-clause-can
 drop_pair_at-requires-clause-can g c =

@@ -6,11 +6,11 @@ use Rattle.lfs_model.proofs.Global.{gstate_with_inverted_sync_bit}
 use Rattle.lfs_pair.specs.declared.commits.Outcome.{Outcome}
 use Rattle.lfs_pair.specs.declared.commits.Outcome.TheVariants as outcome
 use Rattle.lfs_tag.specs.FieldsView.{move_view}
-use Rattle.lfs_thread.specs.Device.{blocks_of_pair_address}
 use Rattle.lfs_thread.specs.Steps.{IsFreshPairThreadedIn, complete_content_after_changes, thread_pair_at_index}
 use Rattle.lfs_operations.specs.Making.{changes_threading_new_pair}
 use Rattle.lfs_operations.proofs.MakingReported.{reported_again}
 use Rattle.lfs_operations.proofs.new_directories.link_new_pair_into_thread_after.Goals as goal
+use Rattle.lfs_model.specs.Thread.{blocks_of_pair_address}
 
 pub returns-in_err-thread_in-clause-errors : goal.returns-in_err-thread_in-clause-errors
 returns-in_err-thread_in-clause-errors g c =

@@ -2,7 +2,7 @@ use Rattle.std.proofs.Common.{ap, sym, subst, ◌∙◌, ◌∷◌, [], ◌++◌
 use Rattle.std.proofs.lemmas.Result.{err_from_is_err_and}
 use Rattle.lfs_model.specs.Slots.{Gstate}
 use Rattle.lfs_model.specs.Shown.{tree_on_disk}
-use Rattle.lfs_thread.specs.Device.{PowerLossLeavesSuchBlocksAfterCleanErases, blocks_of_pair_address}
+use Rattle.lfs_thread.specs.Device.{PowerLossLeavesSuchBlocksAfterCleanErases}
 use Rattle.lfs_thread.specs.Steps.{thread_pair_at_index}
 use Rattle.lfs_operations.specs.Dropping.{CanDropPairAt, IsNextPairDropped, IsLeftByStoppedPairDrop}
 use Rattle.lfs_operations.specs.Renaming.{tree_with_renamed_entry}
@@ -14,6 +14,7 @@ use Rattle.lfs_operations.proofs.OntoWithin.{left_within, renamed_onto_directory
 use Rattle.lfs_operations.proofs.UnlinkedSteps.{writes_first}
 use Rattle.lfs_operations.proofs.Removed.{reports_again}
 use Rattle.lfs_operations.proofs.replacements.rename_onto_directory.Goals as goal
+use Rattle.lfs_model.specs.Thread.{blocks_of_pair_address}
 
 pub returns-in_err-rename_over_directory_in_pair-clause-errors : goal.returns-in_err-rename_over_directory_in_pair-clause-errors
 returns-in_err-rename_over_directory_in_pair-clause-errors g c =

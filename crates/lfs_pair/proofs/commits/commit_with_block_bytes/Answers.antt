@@ -14,9 +14,10 @@ use Rattle.lfs_tag.specs.ContentView.{content_view}
 use Rattle.lfs_pair.specs.Pair.{pair_address_in_header}
 use Rattle.lfs_pair.specs.ChangeView.{changes_view}
 use Rattle.lfs_pair.specs.Writing.{ChangesOnlyBlocksWithinReadLimit}
-use Rattle.lfs_pair.specs.Commit.{both_block_numbers_of_pair, KeepsFirstEntryOfPairLog, IsCompacted, PairHasContent, PowerLossLeavesOldOrNewContent}
+use Rattle.lfs_pair.specs.Commit.{KeepsFirstEntryOfPairLog, IsCompacted, PairHasContent, PowerLossLeavesOldOrNewContent}
 use Rattle.lfs_pair.proofs.Changed.{ends_here, left_by_change, made_here}
 use Rattle.lfs_pair.proofs.commits.commit_with_block_bytes.Goals as goal
+use Rattle.lfs_model.specs.Thread.{blocks_of_pair_address}
 
 pub returns-in_err-compact-clause-stops : goal.returns-in_err-compact-clause-stops
 returns-in_err-compact-clause-stops g c =
@@ -97,13 +98,13 @@ returns-clause-done g c done =
 
 pub returns-clause-device : goal.returns-clause-device
 returns-clause-device g c =
-    let moved = subst (λ p. ChangesOnlyBlocksWithinReadLimit g.D.BlockDevice 1 (both_block_numbers_of_pair (pair_address_in_header p)) c.append_changes_to_log.new.dev c.compact.new.dev) (c.in_ok-append_changes_to_log.ensures.no_room (ap Ok c.if-branch.false)).pair (record { only = c.in_ok-compact.ensures.writes.device; few = c.in_ok-compact.ensures.writes.few }) in
-    subst (λ d. ChangesOnlyBlocksWithinReadLimit g.D.BlockDevice 1 (both_block_numbers_of_pair (pair_address_in_header c.args.pair.now)) d c.compact.new.dev) (c.in_ok-append_changes_to_log.ensures.no_room (ap Ok c.if-branch.false)).device moved
+    let moved = subst (λ p. ChangesOnlyBlocksWithinReadLimit g.D.BlockDevice 1 (blocks_of_pair_address (pair_address_in_header p)) c.append_changes_to_log.new.dev c.compact.new.dev) (c.in_ok-append_changes_to_log.ensures.no_room (ap Ok c.if-branch.false)).pair (record { only = c.in_ok-compact.ensures.writes.device; few = c.in_ok-compact.ensures.writes.few }) in
+    subst (λ d. ChangesOnlyBlocksWithinReadLimit g.D.BlockDevice 1 (blocks_of_pair_address (pair_address_in_header c.args.pair.now)) d c.compact.new.dev) (c.in_ok-append_changes_to_log.ensures.no_room (ap Ok c.if-branch.false)).device moved
 
 pub returns-in_err-compact-clause-device : goal.returns-in_err-compact-clause-device
 returns-in_err-compact-clause-device g c =
-    let moved = subst (λ p. ChangesOnlyBlocksWithinReadLimit g.D.BlockDevice 1 (both_block_numbers_of_pair (pair_address_in_header p)) c.append_changes_to_log.new.dev c.compact.new.dev) (c.in_ok-append_changes_to_log.ensures.no_room (ap Ok c.if-branch.false)).pair (record { only = c.in_err-compact.ensures.writes.device; few = c.in_err-compact.ensures.writes.few }) in
-    subst (λ d. ChangesOnlyBlocksWithinReadLimit g.D.BlockDevice 1 (both_block_numbers_of_pair (pair_address_in_header c.args.pair.now)) d c.compact.new.dev) (c.in_ok-append_changes_to_log.ensures.no_room (ap Ok c.if-branch.false)).device moved
+    let moved = subst (λ p. ChangesOnlyBlocksWithinReadLimit g.D.BlockDevice 1 (blocks_of_pair_address (pair_address_in_header p)) c.append_changes_to_log.new.dev c.compact.new.dev) (c.in_ok-append_changes_to_log.ensures.no_room (ap Ok c.if-branch.false)).pair (record { only = c.in_err-compact.ensures.writes.device; few = c.in_err-compact.ensures.writes.few }) in
+    subst (λ d. ChangesOnlyBlocksWithinReadLimit g.D.BlockDevice 1 (blocks_of_pair_address (pair_address_in_header c.args.pair.now)) d c.compact.new.dev) (c.in_ok-append_changes_to_log.ensures.no_room (ap Ok c.if-branch.false)).device moved
 
 pub returns-then-not-is_content_within_pair_limits-clause-full : goal.returns-then-not-is_content_within_pair_limits-clause-full
 returns-then-not-is_content_within_pair_limits-clause-full g c is =

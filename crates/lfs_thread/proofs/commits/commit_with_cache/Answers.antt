@@ -2,12 +2,12 @@ use Rattle.std.proofs.Common.{ℕ, ◌+◌, ◌∙◌, ap, sym, subst, Vec}
 use Rattle.std.specs.Prelude.{option_map}
 use Rattle.std.specs.declared.alloc.Global.{Global}
 use Rattle.lfs_pair.specs.Writing.{ChangesOnlyBlocksWithinReadLimit}
-use Rattle.lfs_thread.specs.Device.{blocks_of_pair_address}
 use Rattle.lfs_thread.specs.CachedLog.{read_count_unless_cached}
 use Rattle.lfs_pair.specs.Pair.{pair_address_in_header}
 use Rattle.lfs_thread.proofs.Reported.{errors_of}
 use Rattle.lfs_thread.proofs.CachedLogs.{current_but_two, current_without}
 use Rattle.lfs_thread.proofs.commits.commit_with_cache.Goals as goal
+use Rattle.lfs_model.specs.Thread.{blocks_of_pair_address}
 
 pub returns-in-Some-clause-current : goal.returns-in-Some-clause-current
 returns-in-Some-clause-current g c = current_but_two _ _ _ _ (pair_address_in_header c.args.pair.now) (current_without _ _ c.args.pair.now.active c.requires.current) c.take_pair_blocks_from_cache.ensures.gone c.commit_with_block_bytes.ensures.device.only.others

@@ -2,13 +2,13 @@ use Rattle.std.proofs.Common.{ℕ, ◌+◌, ◌∙◌, ap, sym, subst, Vec}
 use Rattle.std.specs.Prelude.{option_map}
 use Rattle.std.specs.declared.alloc.Global.{Global}
 use Rattle.lfs_pair.specs.Writing.{ChangesOnlyBlocksWithinReadLimit}
-use Rattle.lfs_thread.specs.Device.{blocks_of_two_pair_addresses}
 use Rattle.lfs_thread.specs.CachedLog.{read_count_unless_cached}
 use Rattle.lfs_model.specs.Slots.{pair_address_of_array}
 use Rattle.lfs_pair.specs.Pair.{pair_address_in_header}
 use Rattle.lfs_thread.proofs.Reported.{errors_of}
 use Rattle.lfs_thread.proofs.CachedLogs.{current_but_four, current_without}
 use Rattle.lfs_thread.proofs.commits.split_with_cache.Goals as goal
+use Rattle.lfs_model.specs.Thread.{blocks_of_two_pair_addresses}
 
 pub returns-in-Some-clause-current : goal.returns-in-Some-clause-current
 returns-in-Some-clause-current g c = current_but_four _ _ _ _ _ (pair_address_in_header c.args.pair.now) (pair_address_of_array c.args.fresh) (current_without _ _ c.args.pair.now.active c.requires.current)

@@ -5,12 +5,12 @@ use Rattle.lfs_model.specs.BlockSets.{BlockStateList, Free}
 use Rattle.lfs_model.proofs.Histories.{IsTrueAfterAnyPowerLossSince-weaker}
 use Rattle.lfs_pair.specs.Pair.{pair_address_in_header}
 use Rattle.lfs_thread.specs.Kept.{PairHeader}
-use Rattle.lfs_thread.specs.Device.{blocks_of_pair_address}
 use Rattle.lfs_thread.specs.Steps.{block_map_with_freed_pair}
 use Rattle.lfs_thread.proofs.CachedPair.{reading_there}
 use Rattle.lfs_thread.proofs.Changing.{can_commit, left_in_thread, full_kept, refused}
 use Rattle.lfs_thread.proofs.Dropped.{next_there, here_at, gone_is, next_used, device_dropped, device_is_dropped}
 use Rattle.lfs_thread.proofs.drops.drop_next_pair.Goals as goal
+use Rattle.lfs_model.specs.Thread.{blocks_of_pair_address}
 
 pub commit_with_cache-requires-clause-can : goal.commit_with_cache-requires-clause-can
 commit_with_cache-requires-clause-can g c =

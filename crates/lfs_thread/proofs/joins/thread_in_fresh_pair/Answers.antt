@@ -7,7 +7,7 @@ use Rattle.lfs_model.specs.Slots.{pair_address_of_array}
 use Rattle.lfs_model.proofs.Histories.{fault_count_of_history-since}
 use Rattle.lfs_pair.specs.ChangeView.{changes_view}
 use Rattle.lfs_pair.specs.Pair.{pair_address_in_header}
-use Rattle.lfs_thread.specs.Device.{IoMeansFaultNoMemoryWritesNothing, blocks_of_two_pair_addresses, blocks_of_pair_address}
+use Rattle.lfs_thread.specs.Device.{IoMeansFaultNoMemoryWritesNothing}
 use Rattle.lfs_thread.specs.Kept.{PairHeader, IsKeptThreadOnDisk, disk_of_device, kept_thread_view, kept_thread_of_device}
 use Rattle.lfs_thread.specs.Steps.{IsThreadingInRefused}
 use Rattle.lfs_thread.proofs.CachedLogs.{current_but_two}
@@ -20,6 +20,7 @@ use Rattle.lfs_thread.proofs.Threaded.{device_can, device_left_beside, device_st
 use Rattle.lfs_thread.proofs.Parting.{placed}
 use Rattle.lfs_thread.proofs.Reported.{changes_by_fresh, changes_by_both}
 use Rattle.lfs_thread.proofs.joins.thread_in_fresh_pair.Goals as goal
+use Rattle.lfs_model.specs.Thread.{blocks_of_pair_address, blocks_of_two_pair_addresses}
 
 pub fresh-requires : goal.fresh-requires
 fresh-requires g c =

@@ -3,7 +3,6 @@ use Rattle.std.proofs.lemmas.Result.{err_from_is_err_and}
 use Rattle.lfs_model.specs.BlockSets.{BlockStateList, IsBlockInFlight, Used}
 use Rattle.lfs_model.specs.Slots.{pair_address_of_array}
 use Rattle.lfs_model.proofs.Histories.{IsTrueAfterAnyPowerLossSince-weaker}
-use Rattle.lfs_thread.specs.Device.{blocks_of_two_pair_addresses}
 use Rattle.lfs_thread.specs.Kept.{PairHeader, disk_of_device}
 use Rattle.lfs_thread.proofs.Changing.{at_there}
 use Rattle.lfs_thread.proofs.Coming.{second_held}
@@ -11,6 +10,7 @@ use Rattle.lfs_thread.proofs.CachedPair.{reading_there}
 use Rattle.lfs_thread.proofs.Parting.{can_split, device_split, device_is_split, left_by_split, placed}
 use Rattle.lfs_thread.proofs.Reported.{errors_again}
 use Rattle.lfs_thread.proofs.splits.split_pair.Goals as goal
+use Rattle.lfs_model.specs.Thread.{blocks_of_two_pair_addresses}
 
 pub split_with_cache-requires-clause-can : goal.split_with_cache-requires-clause-can
 split_with_cache-requires-clause-can g c =

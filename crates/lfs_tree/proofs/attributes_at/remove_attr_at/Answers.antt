@@ -3,7 +3,6 @@ use Rattle.std.specs.Prelude.{OnOk}
 use Rattle.std.proofs.lemmas.Result.{err_from_is_err_and}
 use Rattle.lfs_model.specs.Content.{attributes_without_attribute}
 use Rattle.lfs_operations.specs.Editing.{CanEditEntryOfPair, HasRemovedAttribute, tree_with_attributes_at}
-use Rattle.lfs_thread.specs.Device.{blocks_of_pair_address}
 use Rattle.lfs_thread.specs.Steps.{ThreadChangesOnlyTheseBlocks, thread_pair_at_index}
 use Rattle.lfs_tree.specs.TreeChanges.{SurvivesWithOldOrNewTree}
 use Rattle.lfs_tree.proofs.Carried.{read_is}
@@ -12,6 +11,7 @@ use Rattle.lfs_tree.proofs.ReportedFaults.{reported_by_reading}
 use Rattle.lfs_tree.proofs.Operated.{only_read_change, works_reported}
 use Rattle.lfs_lookup.proofs.Reading.{answered, passed}
 use Rattle.lfs_tree.proofs.attributes_at.remove_attr_at.Goals as goal
+use Rattle.lfs_model.specs.Thread.{blocks_of_pair_address}
 
 pub spot_of_found_entry-slot-requires : goal.spot_of_found_entry-slot-requires
 spot_of_found_entry-slot-requires g c = slot_found c.args.thread.now.kept c.args.path.now c.in_ok-target.target.found (entry_to_clear c.args.thread.now.kept c.args.path.now c.args.kind c.requires.can) c.in_ok-target.ensures.target.leads

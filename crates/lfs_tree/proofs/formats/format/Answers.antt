@@ -1,8 +1,7 @@
 use Rattle.std.proofs.Common.{[], ap, sym, subst, ◌∙◌}
 use Rattle.lfs_thread.specs.Kept.{kept_thread_of_device}
-use Rattle.lfs_thread.specs.Device.{blocks_of_pair_address}
 use Rattle.lfs_thread.specs.Steps.{ThreadChangesOnlyTheseBlocks}
-use Rattle.lfs_model.specs.Thread.{anchor_pair_address}
+use Rattle.lfs_model.specs.Thread.{anchor_pair_address, blocks_of_pair_address}
 use Rattle.lfs_tree.specs.Formats.{IsFreshlyFormatted}
 use Rattle.lfs_tree.proofs.Formatted.{shows_empty, empty_formatted, empty_kept, wrote}
 use Rattle.lfs_tree.proofs.formats.format.Goals as goal

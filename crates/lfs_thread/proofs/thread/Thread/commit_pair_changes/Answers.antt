@@ -2,7 +2,7 @@ use Rattle.std.proofs.Common.{◌+◌, sym, ap, ap₂, subst, ◌∙◌, inl, in
 use Rattle.lfs_device.specs.Shown.{disk_of_geometry_and_blocks}
 use Rattle.lfs_pair.specs.ChangeView.{changes_view}
 use Rattle.lfs_model.proofs.Histories.{IsTrueAfterAnyPowerLossSince-weaker}
-use Rattle.lfs_thread.specs.Device.{PowerLossLeavesSuchBlocksAfterCleanErases, blocks_of_pair_address}
+use Rattle.lfs_thread.specs.Device.{PowerLossLeavesSuchBlocksAfterCleanErases}
 use Rattle.lfs_thread.specs.Kept.{ThreadView, disk_of_device, kept_thread_of_device}
 use Rattle.lfs_thread.specs.CachedLog.{cached_log, read_count_unless_cached}
 use Rattle.lfs_thread.specs.Steps.{CanChangePair, IoMeantFaultNoMemoryWroteNothing, IsPairChanged, PowerLossLeavesPairOldOrChanged, IsCommitRefused, ThreadChangesOnlyBlocksWithinReadLimit, thread_pair_at_index}
@@ -10,6 +10,7 @@ use Rattle.lfs_thread.proofs.Changing.{at_there, can_commit, device_kept, device
 use Rattle.lfs_thread.proofs.CachedPair.{reading_there}
 use Rattle.lfs_thread.proofs.Reported.{reported_from, reading_from}
 use Rattle.lfs_thread.proofs.thread.Thread.commit_pair_changes.Goals as goal
+use Rattle.lfs_model.specs.Thread.{blocks_of_pair_address}
 
 pub commit_with_cache-outcome-requires-clause-can : goal.commit_with_cache-outcome-requires-clause-can
 commit_with_cache-outcome-requires-clause-can g c =

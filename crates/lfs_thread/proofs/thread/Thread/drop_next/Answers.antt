@@ -1,11 +1,12 @@
 use Rattle.std.proofs.Common.{◌+◌, subst}
 use Rattle.lfs_pair.specs.ChangeView.{changes_view}
-use Rattle.lfs_thread.specs.Device.{PowerLossLeavesSuchBlocksAfterCleanErases, blocks_of_pair_address}
+use Rattle.lfs_thread.specs.Device.{PowerLossLeavesSuchBlocksAfterCleanErases}
 use Rattle.lfs_thread.specs.Kept.{ThreadView, kept_thread_of_device}
 use Rattle.lfs_thread.specs.CachedLog.{cached_log, read_count_unless_cached}
 use Rattle.lfs_thread.specs.Steps.{IoMeantFaultNoMemoryWroteNothing, PowerLossLeavesPairOldOrChanged, ThreadChangesOnlyBlocksWithinReadLimit, thread_pair_at_index}
 use Rattle.lfs_thread.proofs.Reported.{reported_from, reading_from}
 use Rattle.lfs_thread.proofs.thread.Thread.drop_next.Goals as goal
+use Rattle.lfs_model.specs.Thread.{blocks_of_pair_address}
 
 pub returns-clause-errors : goal.returns-clause-errors
 returns-clause-errors g c =

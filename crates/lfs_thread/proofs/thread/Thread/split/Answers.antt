@@ -1,11 +1,11 @@
 use Rattle.std.proofs.Common.{◌+◌, subst}
 use Rattle.lfs_model.specs.Slots.{pair_address_of_array}
-use Rattle.lfs_thread.specs.Device.{blocks_of_two_pair_addresses}
 use Rattle.lfs_thread.specs.Kept.{ThreadView, kept_thread_of_device}
 use Rattle.lfs_thread.specs.CachedLog.{cached_log, read_count_unless_cached}
 use Rattle.lfs_thread.specs.Steps.{IoMeantFaultNoMemoryWroteNothing, ThreadChangesOnlyBlocksWithinReadLimit, thread_pair_at_index}
 use Rattle.lfs_thread.proofs.Reported.{reported_from, reading_from}
 use Rattle.lfs_thread.proofs.thread.Thread.split.Goals as goal
+use Rattle.lfs_model.specs.Thread.{blocks_of_two_pair_addresses}
 
 pub returns-clause-errors : goal.returns-clause-errors
 returns-clause-errors g c =

@@ -1,12 +1,12 @@
 -- What a list that grows shows on a disk, and on one where the same bytes are in its blocks.
-use Rattle.std.proofs.Common.{ℕ, true, ◌≡◌, ◌≢◌, ◌+◌, ◌*◌, ◌-◌, ◌^◌, ◌<◌, List, [], ◌∷◌, ◌++◌, length, take, drop, slice_index, refl, sym, ap, ap₂, subst, ◌∙◌, arith, length-append}
+use Rattle.std.proofs.Common.{ℕ, true, ◌≡◌, ◌≢◌, ◌+◌, ◌*◌, ◌-◌, ◌^◌, ◌<◌, List, [], ◌∷◌, ◌++◌, length, take, drop, refl, sym, ap, ap₂, subst, ◌∙◌, arith, length-append}
 use Rattle.std.specs.Prelude.{All}
-use Rattle.std.proofs.lemmas.List.Elements.{All-from_recursion, recursion_from_All}
+use Rattle.std.proofs.lemmas.List.Elements.{recursion_from_All}
 use Rattle.lfs_device.specs.declared.geometry.Geometry.{Geometry}
 use Rattle.lfs_model.proofs.Counts.{each_left, each_right}
 use Rattle.lfs_model.proofs.Files.{Same, back_same, chain_same, data_same}
 use Rattle.lfs_model.specs.Blocks.{Blocks, HasBlocksOfCountAndSize, block_bytes_by_number}
-use Rattle.lfs_model.specs.SkipLists.{AreListBlocks, byte_count_before_list_block, list_blocks_from_head, pointer_count_of_list_block, word_at_offset}
+use Rattle.lfs_model.specs.SkipLists.{AreListBlocks, byte_count_before_list_block, list_blocks_from_head, pointer_count_of_list_block}
 use Rattle.lfs_ctz.specs.declared.rest.RestLocation.{RestLocation}
 use Rattle.lfs_ctz.specs.declared.rest.RestLocation.TheVariants.{Closed, Shared, Handed, Held}
 use Rattle.lfs_ctz.specs.Extended.{GrowingListHasBytesAndBlocks}

@@ -1,4 +1,4 @@
-ghost use Rattle.std.specs.Prelude.{[], ◌∷◌, ◌≡◌, ◌≢◌, ◌≤◌, ◌<◌, ◌+◌, ◌-◌, ◌*◌, ◌%◌, ◌^◌, ◌++◌, ◌⊎◌, ℕ, All, length, take, drop, OnOk, IfErr, IsErrOf, slice_index};
+ghost use Rattle.std.specs.Prelude.{[], ◌∷◌, ◌≡◌, ◌≢◌, ◌≤◌, ◌<◌, ◌+◌, ◌-◌, ◌*◌, ◌%◌, ◌^◌, ◌++◌, ◌⊎◌, ℕ, length, take, drop, OnOk, IfErr, slice_index};
 ghost use Rattle.byteorder.specs.Endian.{little_bytes};
 ghost use Rattle.lfs_ctz.specs.Appended.{IsBlockAppendedToList};
 ghost use Rattle.lfs_ctz.specs.Calls.{ReportsNoErrorButIo};

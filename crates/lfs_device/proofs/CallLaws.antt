@@ -1,9 +1,8 @@
 -- What calls do to a device together, from what each of them does.
-use Rattle.std.proofs.Common.{◌≡◌, ◌≢◌, ℕ, Bool, List, [], ◌∷◌, All, refl, sym, ◌∙◌, subst, arith}
-use Rattle.std.proofs.lemmas.List.Elements.{All-cons}
+use Rattle.std.proofs.Common.{◌≡◌, ◌≢◌, ℕ, Bool, List, [], ◌∷◌, refl, sym, ◌∙◌, subst}
 use Rattle.lfs_device.specs.declared.device.BlockDevice.{Ghosts}
-use Rattle.lfs_device.specs.Calls.{ReadsOnly, ChangesOnlyThisBlock, ChangesOnlyTheseBlocks}
-use Rattle.lfs_model.specs.Blocks.{Blocks, AreBlocksEqualExceptOne, AreBlocksEqualExceptThese}
+use Rattle.lfs_device.specs.Calls.{ReadsOnly, ChangesOnlyThisBlock}
+use Rattle.lfs_model.specs.Blocks.{AreBlocksEqualExceptOne}
 use Rattle.lfs_model.specs.History.{device_call_event_with_blocks}
 use Rattle.lfs_model.specs.History.DeviceCall.{Read, Program, Erase}
 use Rattle.lfs_model.proofs.Histories.{began, goes_on, goes_on_by, IsTrueAfterAnyPowerLossSince-weaker, IsTrueAfterAnyPowerLossSince-read_count_of_history, ArePossibleBlocksAfterPowerLossInCall-read, AreCallsSinceOnlyReads-read, AreBytesStillUnprogrammed-trans, AreBytesStillUnprogrammed-read_count_of_history, AreBytesStillUnprogrammed-erase, AreBytesStillUnprogrammed-program}

@@ -1,5 +1,5 @@
 ghost use Rattle.std.specs.Prelude.{◌≡◌, ◌≤◌, ◌<◌, ◌+◌, ◌%◌, ℕ, true, length, take, slice_range, is_err, IfSome, IfErr, OnOk, OnErr, Some};
-ghost use Rattle.lfs_model.specs.Blocks.{AreBlocksEqualExceptOne, AreBytesEqualOutsideRange, block_bytes_by_number, programmed};
+ghost use Rattle.lfs_model.specs.Blocks.{AreBlocksEqualExceptOne, block_bytes_by_number, programmed};
 ghost use Rattle.lfs_model.specs.History.{fault_count_of_history, is_byte_unprogrammed, is_byte_unprogrammed_after_call, AreBytesUnprogrammed};
 ghost use Rattle.lfs_model.specs.History.DeviceCall.{Read, Program, Erase};
 ghost use Rattle.lfs_device.specs.Calls.{ReadsOnly};

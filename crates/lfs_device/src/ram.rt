@@ -1,4 +1,4 @@
-ghost use Rattle.std.specs.Prelude.{◌≡◌, ◌≤◌, ◌<◌, ◌+◌, ◌*◌, ◌%◌, [], ◌∷◌, false, length, replicate, slice_range, IsOk, IfOk, IfErr, OnErr, MatchResult};
+ghost use Rattle.std.specs.Prelude.{◌≡◌, ◌≤◌, ◌<◌, ◌+◌, ◌*◌, ◌%◌, [], ◌∷◌, false, length, replicate, slice_range, IsOk, IfOk, OnErr, MatchResult};
 ghost use Rattle.lfs_model.specs.Blocks.{AreBlocksEqualExceptOne, block_bytes_by_number, cut, bytes_after_overwrite_at, programmed};
 ghost use Rattle.lfs_model.specs.History.{device_call_event_with_blocks, fault_count_of_history, AreBytesUnprogrammed, AreBlocksLeftByNewestCall};
 ghost use Rattle.lfs_model.specs.History.DeviceCall.{Read, Program, Erase};

@@ -1,4 +1,4 @@
-ghost use Rattle.std.specs.Prelude.{◌≡◌, length, OnOk};
+ghost use Rattle.std.specs.Prelude.{◌≡◌, OnOk};
 ghost use Rattle.lfs_model.specs.SkipLists.{IsSkipList};
 
 use lfs_alloc::BlockMap;

@@ -9,7 +9,7 @@ use Rattle.lfs_model.specs.TreeEdits.{attributes_of_node}
 use Rattle.lfs_model.specs.Content.{attribute_bytes_of_type}
 use Rattle.lfs_model.specs.Effects.{directory_items_at_path}
 use Rattle.lfs_model.specs.Operations as ops
-use Rattle.lfs_model.specs.Operations.{Operation, Refusal, path_of_bytes}
+use Rattle.lfs_model.specs.Operations.{Refusal, path_of_bytes}
 use Rattle.lfs_model.specs.Session.{first_refusal_in_list, refuse_if}
 use Rattle.lfs_model.specs.Refusals.{path_of_bytes_or_root, is_root_or_invalid_path, is_root_path}
 use Rattle.lfs_model.specs.Tree.{Path}

@@ -15,7 +15,7 @@ use Rattle.std.proofs.lemmas.Option.{slice_get-map}
 use Rattle.lfs_model.specs.TreeEdits.{same_path}
 use Rattle.lfs_model.specs.Tree.{Path}
 use Rattle.lfs_model.specs.Session as session
-use Rattle.lfs_model.specs.Session.{has_open_file_with_path_satisfying, OpenFilesByNumber, Reading, open_file_with_number, free_file_number, reserved_block_count_of_writers, reserved_block_count_of_writer, open_files_with_file_at_number, reader_of_open_file, readers_of_open_files, writers_of_open_files, skip_list_block_count_unless_inline}
+use Rattle.lfs_model.specs.Session.{has_open_file_with_path_satisfying, Reading, open_file_with_number, free_file_number, reserved_block_count_of_writers, reserved_block_count_of_writer, open_files_with_file_at_number, reader_of_open_file, readers_of_open_files, writers_of_open_files}
 use Rattle.lfs_model.specs.Refusals.{path_of_bytes_or_root}
 use Rattle.lfs_model.specs.Effects.{open_file_at_position}
 use Rattle.lfs_model.specs.Operations.{path_of_bytes}

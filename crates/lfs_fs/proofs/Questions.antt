@@ -1,28 +1,22 @@
 -- Questions, and what is answered without a call.
-use Rattle.std.proofs.Common.{◌≡◌, ◌<◌, ◌≤◌, Bool, not, nat_le, arith, true, false, cond, ℕ, List, map, Option, Some, None, Result, Ok, Err, refl, sym, ap, ap₂, subst, ◌∙◌}
-use Rattle.std.specs.Prelude.{OnOk, OnErr, IfOk, IfErr}
+use Rattle.std.proofs.Common.{◌≡◌, ◌<◌, ◌≤◌, Bool, not, nat_le, arith, true, false, cond, ℕ, Option, Some, None, Result, Ok, Err, refl, sym, ap, subst, ◌∙◌}
+use Rattle.std.specs.Prelude.{IfErr}
 use Rattle.lfs_device.specs.declared.error.Error.{Error}
 use Rattle.lfs_model.specs.History.{fault_count_of_history}
 use Rattle.lfs_model.specs.Operations as ops
 use Rattle.lfs_model.specs.Operations.{Operation, Reply, Failed}
-use Rattle.lfs_model.specs.Refusals.{path_of_bytes_or_root, refusal_of_operation}
-use Rattle.lfs_model.specs.Effects.{effect_of_operation, directory_items_at_path}
+use Rattle.lfs_model.specs.Refusals.{refusal_of_operation}
+use Rattle.lfs_model.specs.Effects.{effect_of_operation}
 use Rattle.std.proofs.lemmas.Bool.{le-leb, leb-true}
-use Rattle.lfs_model.specs.TreeEdits.{is_directory}
 use Rattle.lfs_model.specs.Session.{refuse_if}
-use Rattle.lfs_model.specs.Tree.{Path}
 use Rattle.lfs_model.specs.State.{is_remount_operation}
-use Rattle.lfs_model.specs.Run.{IsSessionStep, needs_no_device_call}
+use Rattle.lfs_model.specs.Run.{IsSessionStep}
 use Rattle.lfs_model.specs.Headline.{is_query_needing_no_open_file}
 use Rattle.lfs_model.proofs.Histories.{AreCallsSinceOnlyReads-trans}
 use Rattle.lfs_model.proofs.SessionSteps.{not_remount}
-use Rattle.lfs_lookup.specs.Finds.{list_item_view}
-use Rattle.lfs_lookup.specs.declared.kinds.ListItem.{ListItem}
 use Rattle.lfs_lookup.specs.Refusals.{refusal_of_error}
-use Rattle.lfs_tree.specs.TreeState.{TreeState, IsSoundTreeState, tree_view, disk_summary_of_tree, WasTreeOnlyRead, IsTreeFailedByRead, IsIoWithFaultOrNoMemory}
-use Rattle.lfs_fs.specs.Replies.{reply_from_result}
-use Rattle.lfs_fs.specs.FileView.{RuntimeOpenFilesByNumber}
-use Rattle.lfs_fs.specs.SessionView.{SessionView, IsSessionReadyForCalls, session_view_of_tree_and_files_view, session_of_session_view, system_state_of_session_view, refusal_by_checks, IsSessionStepOrFailure}
+use Rattle.lfs_tree.specs.TreeState.{TreeState, IsSoundTreeState, disk_summary_of_tree, WasTreeOnlyRead, IsTreeFailedByRead, IsIoWithFaultOrNoMemory}
+use Rattle.lfs_fs.specs.SessionView.{SessionView, session_of_session_view, system_state_of_session_view, refusal_by_checks, IsSessionStepOrFailure}
 use Rattle.lfs_fs.proofs.Answered.{refused_answer, asked_answer, nothing_asked, question_only_asks, question_keeps, question_recovers_nothing, question_lays_nothing}
 
 -- ---- without a call

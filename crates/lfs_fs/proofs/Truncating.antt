@@ -7,11 +7,11 @@ use Rattle.std.proofs.lemmas.Bool.{eq-eqb, lt-ltb, ltb-false}
 use Rattle.std.proofs.lemmas.List.{map-set}
 use Rattle.lfs_model.specs.Disk.{file_size_limit}
 use Rattle.lfs_model.specs.Operations as ops
-use Rattle.lfs_model.specs.Operations.{Operation, Reply}
+use Rattle.lfs_model.specs.Operations.{Operation}
 use Rattle.lfs_model.specs.Frame.{needs_no_device_or_memory}
 use Rattle.lfs_model.specs.Run.{IsSessionStep, writer_has_size}
 use Rattle.lfs_model.specs.Session as session
-use Rattle.lfs_model.specs.Session.{OpenFilesByNumber, Session, DiskSummary, Writing, open_file_with_number, first_refusal_in_list, reserved_block_count_of_writer, overfills_disk, open_files_with_file_at_number, refuse_if, writer_of_open_file}
+use Rattle.lfs_model.specs.Session.{Session, DiskSummary, Writing, open_file_with_number, first_refusal_in_list, overfills_disk, open_files_with_file_at_number, refuse_if, writer_of_open_file}
 use Rattle.lfs_model.specs.Writers.{writer_after_truncate}
 use Rattle.lfs_model.specs.State.{Healthy}
 use Rattle.lfs_model.specs.Effects.{effect_of_operation}

@@ -9,7 +9,7 @@ use Rattle.lfs_model.specs.Disk.{block_count, file_size_limit}
 use Rattle.lfs_model.specs.Operations as ops
 use Rattle.lfs_model.specs.Session as session
 use Rattle.lfs_model.specs.Writers.{writer_after_truncate, writer_after_write, contents_after_write, bytes_padded_with_zeros, is_nonsequential_write, write_position}
-use Rattle.lfs_model.specs.Session.{open_file_with_number, first_refusal_in_list, reserved_block_count_of_writer, overfills_disk, refuse_if, writer_of_open_file}
+use Rattle.lfs_model.specs.Session.{open_file_with_number, first_refusal_in_list, overfills_disk, refuse_if, writer_of_open_file}
 use Rattle.lfs_tree.specs.TreeState.{TreeState, disk_summary_of_tree}
 use Rattle.lfs_fs.specs.FileView.{RuntimeOpenFilesByNumber, unsaved_or_tree_bytes_of_writer, last_change_end_of_unsaved, open_file_at, open_files_view, blocks_reserved_for_size, is_unsaved_nonsequential, open_file_as_writer, writer_view, writers_among}
 use Rattle.lfs_fs.specs.SessionView.{IsWriterOverWritableImage, session_view_of_tree_and_files, refusal_by_checks}

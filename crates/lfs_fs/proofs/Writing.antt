@@ -21,7 +21,7 @@ use Rattle.lfs_writer.specs.Contents.{ExceedsInlineLimitIfInFlight, block_room_f
 use Rattle.lfs_writer.specs.Form as shape_of
 use Rattle.lfs_writer.specs.Form.{StorageFormFitsWriter, ContentsStorageForm, IsStorageFormOfWriterContents, contents_size_of_storage_form, storage_form_after_write_beginning_within_contents, storage_form_after_shortening, storage_form_after_truncate, storage_form_after_write}
 use Rattle.lfs_writer.specs.declared.contents.WriterContents.{WriterContents}
-use Rattle.lfs_fs.specs.WriterChanges.{CanChangeWriter, CanSaveWriter, IsSavedWriterSeenAs, CanTruncateByWriter, CanWriteByWriter, HasFileUnderUnsavedContents, HasRoomForWriter, IsStorageFormOfOptionalUnsavedContents, IsChangedWriterSeenAs}
+use Rattle.lfs_fs.specs.WriterChanges.{CanChangeWriter, CanSaveWriter, IsSavedWriterSeenAs, CanTruncateByWriter, CanWriteByWriter, HasRoomForWriter, IsStorageFormOfOptionalUnsavedContents, IsChangedWriterSeenAs}
 use Rattle.lfs_fs.specs.FileView.{unsaved_or_tree_bytes_of_writer, last_change_end_of_unsaved, blocks_reserved_by_writer, blocks_reserved_for_size, is_unsaved_nonsequential, writer_view}
 use Rattle.lfs_fs.specs.SessionView.{AreUnsavedContentsOfWriter, AreOptionalUnsavedContentsOfWriter, IsWriterOverWritableImage}
 use Rattle.lfs_fs.specs.declared.files.UnsavedContents.{UnsavedContents}

@@ -1,6 +1,6 @@
 -- What a mount and a recovery make of what a stop left.
 use Rattle.std.specs.Prelude.{Result, Ok, Err}
-use Rattle.std.proofs.Common.{◌≡◌, ◌≢◌, ◌⊎◌, inl, inr, Bool, true, false, not, List, ◌++◌, Option, Some, None, refl, sym, ap, subst, ◌∙◌}
+use Rattle.std.proofs.Common.{◌≡◌, ◌≢◌, ◌⊎◌, inl, inr, Bool, true, false, not, List, ◌++◌, Option, None, refl, sym, ap, subst, ◌∙◌}
 use Rattle.lfs_device.specs.declared.error.Error.{Error}
 use Rattle.lfs_device.specs.declared.error.Error.TheVariants.{Io, NoMemory, Corrupt}
 use Rattle.lfs_fs.specs.SessionView.{SessionView, IsSessionStepOrFailure, system_state_of_session_view}

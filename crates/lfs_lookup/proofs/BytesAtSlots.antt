@@ -1,8 +1,8 @@
 -- What a file's slot says of its bytes.
-use Rattle.std.proofs.Common.{ℕ, zero, suc, ◌≡◌, ◌+◌, ◌^◌, ◌<◌, ◌==◌, ◌∙◌, Bool, true, false, cond, List, [], ◌∷◌, ◌++◌, length, length-append, take, drop, Option, Some, None, Result, Ok, Err, Vec, Global, refl, sym, ap, ap₂, subst, slice_get, get_or, arith, append_assoc}
+use Rattle.std.proofs.Common.{ℕ, zero, suc, ◌≡◌, ◌+◌, ◌^◌, ◌<◌, ◌==◌, ◌∙◌, Bool, true, false, cond, List, [], ◌∷◌, ◌++◌, length, length-append, take, Option, Some, None, refl, sym, ap, ap₂, subst, slice_get, get_or, arith, append_assoc}
 use Rattle.std.specs.List.{enumerate_from, flat_map}
 use Rattle.std.specs.Option.{option_and_then, option_map}
-use Rattle.std.proofs.lemmas.List.{length-take, length-drop}
+use Rattle.std.proofs.lemmas.List.{length-take}
 use Rattle.std.proofs.lemmas.Option.{same_Some}
 use Rattle.lfs_model.specs.TreeEdits.{file_bytes_of_node, is_file}
 use Rattle.lfs_model.specs.Content.{RawSlot, slot_if_name_and_struct_present, slots_if_names_and_structs_present, kind_of_name_type, slot_of_id, struct_of_type_and_bytes}
@@ -17,14 +17,12 @@ use Rattle.lfs_model.specs.SlotEdits.{slot_of_path}
 use Rattle.lfs_model.specs.Thread.{Pair}
 use Rattle.lfs_model.specs.Tree.{Path, node_of_struct_and_attributes}
 use Rattle.lfs_model.specs.Operations as ops
-use Rattle.lfs_model.specs.Session.{refusal_unless_parents_are_directories}
-use Rattle.lfs_device.specs.declared.error.Error.{Error}
-use Rattle.std.specs.Prelude.{All, IfOk}
+use Rattle.std.specs.Prelude.{All}
 use Rattle.std.proofs.lemmas.List.Elements.{recursion_from_All}
 use Rattle.lfs_model.proofs.Counts.{Each, each_right}
 use Rattle.lfs_model.specs.Profile.{IsSlotWithinWritableLimits, HasInlineBytesWithinLimit, IsWritableImage}
 use Rattle.lfs_model.specs.View.{IsAcceptedImage, IsSkipListIfCtzStruct}
-use Rattle.lfs_model.specs.Shown.{IsPathToDirectory, skip_list_bytes_on_disk, entries_by_directory_in_thread, tree_on_disk}
+use Rattle.lfs_model.specs.Shown.{skip_list_bytes_on_disk, entries_by_directory_in_thread, tree_on_disk}
 use Rattle.lfs_model.proofs.Completed.{complete_parts}
 use Rattle.lfs_thread.specs.Kept.{KeptThread}
 use Rattle.lfs_thread.specs.Steps.{empty_pair_at_anchor}

@@ -1,8 +1,7 @@
 -- The pairs of a directory, by the number of the first, show what stands in it.
-use Rattle.std.proofs.Common.{ℕ, zero, suc, ◌≡◌, ◌<◌, ◌≤◌, ◌+◌, ◌∙◌, Bool, true, false, cond, List, [], ◌∷◌, ◌++◌, length, map, flat_map, take, drop, get_or, slice_get, Option, Some, None, refl, sym, ap, ap₂, subst, arith, append_assoc, length-append, nat_eq}
+use Rattle.std.proofs.Common.{ℕ, zero, suc, ◌≡◌, ◌<◌, ◌≤◌, ◌+◌, ◌∙◌, Bool, true, false, cond, List, [], ◌∷◌, ◌++◌, length, map, flat_map, take, drop, get_or, slice_get, Option, Some, None, refl, sym, ap, ap₂, subst, arith, append_assoc, nat_eq}
 use Rattle.std.specs.Prelude.{IfNone, IfSome, IsSome}
 use Rattle.std.specs.List.{IsDistinct}
-use Rattle.std.proofs.lemmas.Bool.{lt-ltb}
 use Rattle.std.proofs.lemmas.List.{map-append}
 use Rattle.std.proofs.Math.Seq.{drop-append_seam}
 use Rattle.std.proofs.lemmas.Option.{same_Some, slice_get_within}
@@ -19,7 +18,6 @@ use Rattle.lfs_model.proofs.Pairs.{pair_back, pair_on}
 use Rattle.lfs_model.proofs.Listings.{Apart, IsRun, distinct_apart, distinct_right, entries_own, listing, run_directories}
 use Rattle.lfs_model.proofs.Searches.{directory_pairs_at, same_number}
 use Rattle.lfs_model.proofs.Found.{HasDirectory, chain_of_thread, led_directory}
-use Rattle.lfs_lookup.specs.AtPath.{directory_from_pair_has_entries}
 use Rattle.lfs_lookup.specs.Items.{NameAndStruct, name_and_struct_of_slot}
 use Rattle.lfs_lookup.specs.Listed.{hard_tail_joined_pairs, hard_tail_joined_pair_count_from, hard_tail_joined_pairs_from, entries_of_directory_from_pair}
 

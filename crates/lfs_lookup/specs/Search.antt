@@ -3,7 +3,7 @@ use Rattle.std.specs.Prelude.{ℕ, ◌≡◌, ◌+◌, ◌==◌, ◌&&◌, if◌
 use Rattle.std.specs.declared.cmp.Ordering.TheVariants.{Less}
 use Rattle.lfs_model.specs.declared.order.NameOrder.{NameOrder}
 use Rattle.lfs_model.specs.Names.{Name, name_cmp}
-use Rattle.lfs_model.specs.Slots.{Slot, PairContent, Gstate, is_superblock, same_pair}
+use Rattle.lfs_model.specs.Slots.{Slot, PairContent, Gstate, is_superblock}
 use Rattle.lfs_model.specs.Thread.{Pair, is_hard_tail, id_of_moved_slot_in_pair}
 use Rattle.lfs_model.specs.InDirectory.{HasEntryOfNameAtId, IsIdWhereNameBelongs, IsPlaceOfNameInDirectory, IsPlaceWhereNameBelongs, ArePairsWithoutSuperblock, slots_without_superblock, slots_of_pairs_in_order}
 use Rattle.lfs_thread.specs.CachedLog.{IsLogBlockOfContent, cached_log}

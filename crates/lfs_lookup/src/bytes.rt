@@ -2,16 +2,12 @@
 
 ghost use Rattle.std.specs.Prelude.{◌≡◌, ◌≤◌, ◌<◌, ◌+◌, ◌^◌, List, ℕ, IfOk, IfErr, IsSome, Some, drop, false, length, slice_get, take};
 ghost use Rattle.std.specs.Option.{option_copied};
-ghost use Rattle.lfs_model.specs.TreeEdits.{file_bytes_of_node};
 ghost use Rattle.lfs_model.specs.History.{read_count_of_history};
 ghost use Rattle.lfs_model.specs.SkipLists.{IsSkipList};
 ghost use Rattle.lfs_model.specs.Slots.{PairContent as ModelContent, Inline, Slot};
-ghost use Rattle.lfs_model.specs.Thread.{pair_count_before_root};
-ghost use Rattle.lfs_model.specs.View.{IsAcceptedImage};
-ghost use Rattle.lfs_model.specs.Shown.{skip_list_bytes_on_disk, tree_on_disk};
+ghost use Rattle.lfs_model.specs.Shown.{skip_list_bytes_on_disk};
 ghost use Rattle.lfs_thread.specs.CachedLog.{IsLogBlockOfContent, cached_log};
-ghost use Rattle.lfs_lookup.specs.BytesAt.{IsFileSlotAtSpot, IsSlotAtSpot, spot_and_storage_of_found_file};
-ghost use Rattle.lfs_lookup.specs.FileBytes.{file_bytes_of_struct};
+ghost use Rattle.lfs_lookup.specs.BytesAt.{IsSlotAtSpot, spot_and_storage_of_found_file};
 ghost use Rattle.lfs_lookup.specs.Reading.{OnlyReadsThreadAndReportsErrors};
 
 use crate::by_path::lookup_result_at_path;

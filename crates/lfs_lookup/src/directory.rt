@@ -1,10 +1,9 @@
 // The entries of a pair and of a directory, and where a directory begins.
 
-ghost use Rattle.std.specs.Prelude.{◌≡◌, ◌<◌, ◌≤◌, ◌+◌, ◌∷◌, [], ℕ, Some, IfNone, IfOk, IfSome, drop, false, length, map};
-ghost use Rattle.lfs_model.specs.Slots.{pair_address_of_array, same_pair};
+ghost use Rattle.std.specs.Prelude.{◌≡◌, ◌<◌, ◌≤◌, ◌+◌, ◌∷◌, [], ℕ, Some, IfOk, IfSome, drop, false, length, map};
+ghost use Rattle.lfs_model.specs.Slots.{pair_address_of_array};
 ghost use Rattle.lfs_model.specs.Thread.{gstate_of_pairs, entries_not_moved};
 ghost use Rattle.lfs_model.specs.History.{read_count_of_history};
-ghost use Rattle.lfs_model.specs.InDirectory.{IsPairAtAddress};
 ghost use Rattle.lfs_tag.specs.FieldsView.{move_view};
 ghost use Rattle.lfs_thread.specs.Steps.{thread_pair_at_index};
 ghost use Rattle.lfs_lookup.specs.CachedPairs.{AreLogBlocksOfPairsCached, ReadsNothingAndKeepsPairsWhereAllCached};

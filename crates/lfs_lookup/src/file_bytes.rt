@@ -1,8 +1,7 @@
 // The bytes of a file.
 
-ghost use Rattle.std.specs.Prelude.{◌≡◌, IfOk, OnOk, false, length};
+ghost use Rattle.std.specs.Prelude.{◌≡◌, IfOk, false, length};
 ghost use Rattle.lfs_model.specs.View.{IsSkipListIfCtzStruct};
-ghost use Rattle.lfs_model.specs.Shown.{skip_list_bytes_on_disk};
 ghost use Rattle.lfs_lookup.specs.FileBytes.{file_bytes_of_struct};
 ghost use Rattle.lfs_lookup.specs.Items.{owned_struct_view};
 ghost use Rattle.lfs_lookup.specs.Reading.{OnlyReadsThreadAndReportsErrors};

@@ -5,7 +5,7 @@ ghost use Rattle.lfs_model.specs.History.{read_count_of_history};
 ghost use Rattle.lfs_model.specs.InDirectory.{ArePairsWithoutSuperblock, hard_tail_joined_pair_count};
 ghost use Rattle.lfs_model.specs.Slots.{PairContent};
 ghost use Rattle.lfs_thread.specs.CachedLog.{IsLogBlockOfContent, cached_log};
-ghost use Rattle.lfs_thread.specs.Steps.{IoMeantFaultNoMemoryWroteNothing, IsThreadOnlyRead, thread_pair_at_index};
+ghost use Rattle.lfs_thread.specs.Steps.{thread_pair_at_index};
 ghost use Rattle.lfs_lookup.specs.CachedPairs.{ReadsNothingAndKeepsPairsWhereAllCached};
 ghost use Rattle.lfs_lookup.specs.Listed.{hard_tail_joined_pairs};
 ghost use Rattle.lfs_lookup.specs.Reading.{OnlyReadsThreadAndReportsErrors};

@@ -1,7 +1,7 @@
 // What is found out of a pair of a thread before changes are made to it: tests don't know what it
 // holds.
 
-ghost use Rattle.std.specs.Prelude.{◌≡◌, true, false, IfOk, IsTrue, is_some, map};
+ghost use Rattle.std.specs.Prelude.{◌≡◌, true, false, IfOk, is_some, map};
 ghost use Rattle.std.specs.Option.{option_map};
 ghost use Rattle.lfs_model.specs.Content.{slots_if_names_and_structs_present};
 ghost use Rattle.lfs_model.specs.Cut.{CanSplitSlotsIntoTwoPairs};

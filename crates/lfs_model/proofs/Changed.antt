@@ -3,10 +3,9 @@ use Rattle.std.specs.Prelude.{ℕ, ◌≡◌, true, false, List, [], ◌∷◌, 
 use Rattle.std.proofs.Common.{refl, replicate}
 use Rattle.lfs_model.specs.Slots.{zero_gstate}
 use Rattle.lfs_model.specs.Log.{LogEntry}
-use Rattle.lfs_model.specs.Content.{RawSlot, RawPairContent, empty_raw_pair_content, content_after_log_entries}
+use Rattle.lfs_model.specs.Content.{RawSlot, RawPairContent}
 use Rattle.lfs_model.specs.EntryTypes.{file_name_type, superblock_name_type, inline_struct_type}
-use Rattle.lfs_model.specs.WrittenContent.{log_entries_of_content}
-use Rattle.lfs_model.specs.Changes.{PairContentChange, Create, Delete, PutStruct, PutAttribute, PutTail, PutMove, log_entries_of_changes, raw_pair_content_after_changes}
+use Rattle.lfs_model.specs.Changes.{PairContentChange, Create, Delete, PutStruct, PutAttribute, log_entries_of_changes, raw_pair_content_after_changes}
 
 abbrev empty_file : ℕ → List ℕ → List PairContentChange
 empty_file id name = Create id file_name_type name ∷ PutStruct id inline_struct_type [] ∷ []

@@ -1,7 +1,7 @@
 -- A block has a commit exactly where its chain ends past its beginning.
-use Rattle.std.proofs.Common.{ℕ, ◌≡◌, ◌+◌, ◌-◌, ◌<◌, ◌≤◌, Bool, List, [], ◌∷◌, length, IsTrue, refl, sym, ◌∙◌, arith}
+use Rattle.std.proofs.Common.{ℕ, ◌≡◌, ◌+◌, ◌-◌, ◌<◌, ◌≤◌, List, [], ◌∷◌, length, refl, sym, ◌∙◌, arith}
 use Rattle.std.specs.Prelude.{◌↔◌, nat_lt}
-use Rattle.std.proofs.lemmas.Bool.{lt-ltb, le-ltb, ltb_from_iff}
+use Rattle.std.proofs.lemmas.Bool.{lt-ltb, le-ltb}
 use Rattle.lfs_model.specs.Log.{LogEntry, AreAdjacentCommitsInBlock, chain_of}
 use Rattle.lfs_model.specs.Content.{has_commit}
 use Rattle.lfs_model.proofs.Chains.{chain_sound, commit_space}

@@ -5,8 +5,7 @@ use Rattle.std.proofs.lemmas.Fmt.{decimal_digit}
 use Rattle.lfs_model.specs.Tree.{Path, Node, FileNode, DirectoryNode, Tree}
 use Rattle.lfs_model.specs.TreeEdits.{same_path}
 use Rattle.lfs_model.specs.Operations as ops
-use Rattle.lfs_model.specs.Operations.{Operation}
-use Rattle.lfs_model.specs.Listing.{PathAndNode, IsWalkOfTree, listing_lines_of_entries, IsListingOfTree, MakeDirectory, PutFile, AreActionsUnpackingTree, new_file_flags, AreOperationsCopyingTree}
+use Rattle.lfs_model.specs.Listing.{PathAndNode, IsWalkOfTree, listing_lines_of_entries, IsListingOfTree, MakeDirectory, PutFile, AreActionsUnpackingTree}
 
 -- file `a` with `hello`, and directory `d` with an empty file `x`
 abbrev nodes : List PathAndNode

@@ -4,7 +4,7 @@ use Rattle.lfs_model.specs.Disk.{Disk}
 use Rattle.lfs_model.specs.Names.{Name}
 use Rattle.lfs_model.specs.Slots.{Slot, zero_gstate, same_pair, IsContentFittingPair}
 use Rattle.lfs_model.specs.Thread.{Pair, first_pair_address, gstate_of_pairs, pair_count_before_root}
-use Rattle.lfs_model.specs.Tree.{Path, Tree, DirectoryNode, directory_address_at_path_from_slot}
+use Rattle.lfs_model.specs.Tree.{Path, DirectoryNode, directory_address_at_path_from_slot}
 use Rattle.lfs_model.specs.View.{IsAcceptedImage}
 use Rattle.lfs_model.specs.Profile.{IsWritableImage}
 use Rattle.lfs_model.specs.Shown.{IsPathToDirectory, entries_by_directory_in_thread, tree_on_disk}
@@ -14,7 +14,6 @@ use Rattle.lfs_model.specs.Session.{Session}
 use Rattle.lfs_model.specs.Refusals.{path_of_bytes_or_root}
 use Rattle.lfs_model.specs.SlotEdits.{pair_with_slots, new_directory_slot}
 use Rattle.lfs_model.specs.Layout.{IsContentFittingPairOnDisk}
-use Rattle.lfs_model.specs.PowerLoss.{HasTreeBeforeOrAfterOperation}
 use Rattle.lfs_model.proofs.Names.{IsPlace}
 use Rattle.lfs_model.proofs.Sites.{Site, thread_at, begin_of}
 use Rattle.lfs_model.proofs.Moves.{IsStep, place_at}

@@ -1,5 +1,5 @@
 -- How a recovery begins where a move is set: the slot that it names goes, with its pair where that holds no other and a hard tail leads there.
-use Rattle.std.proofs.Common.{ℕ, ◌≡◌, true, false, List, [], ◌∷◌, ◌++◌, Option, None, refl, sym, ap₂, subst, ◌∙◌, append-nil}
+use Rattle.std.proofs.Common.{ℕ, ◌≡◌, true, false, List, [], ◌∷◌, ◌++◌, Option, None, refl, sym, ap₂, subst, ◌∙◌}
 use Rattle.lfs_model.specs.Disk.{Disk}
 use Rattle.lfs_model.specs.Slots.{Slot, same_pair}
 use Rattle.lfs_model.specs.Thread.{Pair, is_hard_tail, gstate_of_pairs, slots_not_moved}

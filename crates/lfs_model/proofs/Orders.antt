@@ -1,5 +1,5 @@
 -- The orders of names are total, and names put in order.
-use Rattle.std.proofs.Common.{ℕ, zero, suc, ◌≡◌, ◌⊎◌, inl, inr, Bool, true, false, not, cond, List, [], ◌∷◌, length, refl, sym, ap, ap₂, subst, ◌∙◌, nat_cmp, Ordering, Less, Equal, Greater, AllPairs, Contains, arith, insert}
+use Rattle.std.proofs.Common.{ℕ, zero, suc, ◌≡◌, ◌⊎◌, inl, inr, Bool, true, false, not, cond, List, [], ◌∷◌, length, refl, sym, ap, ap₂, subst, ◌∙◌, nat_cmp, Ordering, Less, Equal, Greater, Contains, arith, insert}
 use Rattle.std.specs.Ordering.{ordering_reverse, ordering_then}
 use Rattle.std.proofs.lemmas.Cmp.{ranked, nat_list_cmp_total, nat_cmp_total, tied_itself}
 use Rattle.std.specs.Cmp.{IsTotalOrder}

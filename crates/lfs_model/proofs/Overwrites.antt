@@ -4,7 +4,7 @@ use Rattle.std.proofs.Common.{◌≡◌, ◌≢◌, ℕ, ◌+◌, ◌-◌, ◌<�
 use Rattle.std.proofs.Math.Seq.{drop-append-add}
 use Rattle.std.proofs.lemmas.List.{append-nil, take_at, take-take, drop-take, drop_all, take_all, take-append-drop, drop-append-le, drop-drop, length-take-le, length-set, get_or-set_other, get_or-set_same, ext_get_or, set-get_or}
 use Rattle.std.proofs.lemmas.Bool.{cases_eq}
-use Rattle.lfs_model.specs.Blocks.{Blocks, block_bytes_by_number, HasBlocksOfCountAndSize, bytes_after_overwrite_at, programmed, AreBlocksEqualExceptOne, AreBlocksEqualExceptThese, AreBytesEqualOutsideRange}
+use Rattle.lfs_model.specs.Blocks.{Blocks, block_bytes_by_number, bytes_after_overwrite_at, programmed, AreBlocksEqualExceptOne, AreBlocksEqualExceptThese, AreBytesEqualOutsideRange}
 
 -- Bytes of one block.
 

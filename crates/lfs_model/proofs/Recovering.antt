@@ -1,16 +1,14 @@
 -- A recovery, pair by pair in the thread's order: a pair whose directory a path leads to is kept, any other is dropped. It may drop any number.
-use Rattle.std.proofs.Common.{ℕ, ◌≡◌, ◌≢◌, inl, inr, true, List, [], ◌∷◌, ◌++◌, length, take, Option, None, refl, sym, ap, subst, ◌∙◌, append_assoc, append-nil, subst₂}
+use Rattle.std.proofs.Common.{ℕ, ◌≡◌, ◌≢◌, inl, true, List, [], ◌∷◌, ◌++◌, length, take, Option, None, refl, sym, ap, subst, ◌∙◌, append_assoc, append-nil, subst₂}
 use Rattle.std.specs.Prelude.{is_some}
 use Rattle.lfs_model.specs.Disk.{Disk}
 use Rattle.lfs_model.specs.Slots.{zero_gstate}
 use Rattle.lfs_model.specs.Thread.{Pair, gstate_of_pairs, slots_not_moved, pair_count_before_root, pairs_from_root_directory_on}
-use Rattle.lfs_model.specs.Tree.{Tree}
 use Rattle.lfs_model.specs.View.{IsAcceptedImage}
 use Rattle.lfs_model.specs.Shown.{IsDirectoryAddressReachedBySomePath, tree_on_disk}
 use Rattle.lfs_model.specs.Profile.{IsWritableImage}
 use Rattle.lfs_model.specs.Operations as ops
 use Rattle.lfs_model.specs.Session.{Session}
-use Rattle.lfs_model.specs.PowerLoss.{HasTreeBeforeOrAfterOperation}
 use Rattle.lfs_model.specs.Layout.{directory_address_of_pair, directory_address_continued_by_hard_tail}
 use Rattle.lfs_model.proofs.Changes.{follows_itself}
 use Rattle.lfs_model.proofs.LeftFiles.{ends_same}

@@ -6,10 +6,9 @@ use Rattle.std.proofs.lemmas.Option.{same_Some}
 use Rattle.lfs_model.specs.Disk.{Disk}
 use Rattle.lfs_model.specs.Slots.{same_pair}
 use Rattle.lfs_model.specs.Thread.{Pair, ThreadDirectory, is_hard_tail, root_directory_address_of_pairs}
-use Rattle.lfs_model.specs.Tree.{Path, Tree, directory_address_at_path}
+use Rattle.lfs_model.specs.Tree.{Path, directory_address_at_path}
 use Rattle.lfs_model.specs.TreeEdits.{path_without_prefix, tree_after_subtree_replacement, tree_after_rename}
-use Rattle.lfs_model.specs.Shown.{IsDirectoryAddressReachedBySomePath, directories_in_thread, entries_by_directory_in_thread, tree_on_disk}
-use Rattle.lfs_model.specs.PowerLoss.{HasTreeBeforeOrAfterOperation}
+use Rattle.lfs_model.specs.Shown.{IsDirectoryAddressReachedBySomePath, directories_in_thread, entries_by_directory_in_thread}
 use Rattle.lfs_model.proofs.LeftFiles.{ends_same}
 use Rattle.lfs_model.proofs.Paths.{IsBelowOrAside, beyond, aside, rest, rest_itself}
 use Rattle.lfs_model.proofs.Pairs.{pair_back, pair_on}

@@ -1,13 +1,13 @@
 -- An empty directory is removed by the steps themselves: its entry goes with the sync bit set, and then its pair goes from the thread.
 use Rattle.std.proofs.Common.{ℕ, ◌≡◌, ◌≢◌, ◌⊎◌, inl, inr, true, false, cond, List, [], ◌∷◌, ◌++◌, Option, Some, None, refl, sym, ap, subst, ◌∙◌, append_assoc, subst₂}
-use Rattle.std.specs.Prelude.{All, is_some, slice_get}
+use Rattle.std.specs.Prelude.{All, is_some}
 use Rattle.std.specs.List.{IsDistinct}
 use Rattle.std.proofs.Common.{nat_eq}
 use Rattle.std.proofs.lemmas.List.Elements.{All-from_recursion, recursion_from_All}
 use Rattle.lfs_model.specs.Disk.{Disk}
 use Rattle.lfs_model.specs.Slots.{Slot, Tail, Branch, zero_gstate, is_superblock, same_pair}
 use Rattle.lfs_model.specs.Thread.{Pair, ThreadDirectory, blocks_of_pairs, gstate_of_pairs, is_hard_tail, pair_count_before_root}
-use Rattle.lfs_model.specs.Tree.{Path, Tree}
+use Rattle.lfs_model.specs.Tree.{Path}
 use Rattle.lfs_model.specs.View.{IsAcceptedImage}
 use Rattle.lfs_model.specs.Shown.{IsDirectoryAddressReachedBySomePath, IsPathToDirectory, directories_in_thread, entries_by_directory_in_thread, tree_on_disk}
 use Rattle.lfs_model.specs.Profile.{IsWritableImage, IsSlotWithinWritableLimits, AreNoEmptyPairsAfterHardTails}
@@ -17,7 +17,6 @@ use Rattle.lfs_model.specs.Session.{Session}
 use Rattle.lfs_model.specs.Refusals.{path_of_bytes_or_root}
 use Rattle.lfs_model.specs.SlotEdits.{pair_with_slots, slot_of_path}
 use Rattle.lfs_model.specs.Layout.{directory_address_of_pair, directory_address_continued_by_hard_tail}
-use Rattle.lfs_model.specs.PowerLoss.{HasTreeBeforeOrAfterOperation}
 use Rattle.lfs_model.proofs.LeftFiles.{ends_same}
 use Rattle.lfs_model.proofs.Counts.{Each, each_append, each_left, each_right, each_weaker}
 use Rattle.lfs_model.proofs.Pairs.{pair_back, pair_on}

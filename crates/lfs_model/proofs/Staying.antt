@@ -6,8 +6,8 @@ use Rattle.std.proofs.lemmas.List.Elements.{recursion_from_All}
 use Rattle.lfs_model.specs.Blocks.{Blocks, AreBlocksEqualExceptThese, block_bytes_by_number}
 use Rattle.lfs_model.specs.Disk.{Disk, block_bytes_on_disk}
 use Rattle.lfs_model.specs.Log.{log_entries_of_block}
-use Rattle.lfs_model.specs.Content.{current_block_of_two, current_block_of_pair_at, raw_content_of_pair_at, content_of_pair_at, content_after_log_entries, empty_raw_pair_content}
-use Rattle.lfs_model.specs.SkipLists.{list_block_count_for_size, list_blocks_from_head, AreListBlocks, IsSkipList, bytes_of_skip_list}
+use Rattle.lfs_model.specs.Content.{current_block_of_two, current_block_of_pair_at, raw_content_of_pair_at, content_after_log_entries, empty_raw_pair_content}
+use Rattle.lfs_model.specs.SkipLists.{list_block_count_for_size, list_blocks_from_head, IsSkipList, bytes_of_skip_list}
 use Rattle.lfs_model.proofs.Files.{Same, list_same, bytes_same}
 
 -- ---- at an address

@@ -1,12 +1,12 @@
 -- What a stop leaves: the disk before the call always, what a whole call makes, and a commit that was torn.
 use Rattle.std.specs.Prelude.{ℕ, ◌≡◌, ◌+◌, ◌≤◌, ◌<◌, take, drop}
-use Rattle.std.proofs.Common.{List, [], ◌∷◌, ◌++◌, true, length, inl, inr, refl, ap, ◌∙◌, arith, replicate, length-append}
+use Rattle.std.proofs.Common.{List, [], ◌∷◌, ◌++◌, length, inl, inr, refl, ap, ◌∙◌, arith, replicate, length-append}
 use Rattle.std.proofs.lemmas.List.{length-set, length-take-le, length-drop, get_or-set_same, get_or-set_other}
 use Rattle.lfs_model.specs.Blocks.{Blocks, block_bytes_by_number, bytes_after_overwrite_at, programmed, AreBlocksEqualExceptOne}
 use Rattle.lfs_model.specs.Crc.{crc_of, next_bits}
 use Rattle.lfs_model.specs.Log.{log_of_block, chain_of, chain_within, commit_within, entry_at, closes}
-use Rattle.lfs_model.specs.History.{DeviceCall, Read, Program, Erase, device_call_event_with_blocks}
-use Rattle.lfs_model.specs.Stops.{are_blocks_after_stopped_call, AreBlocksLeftByPowerLossInCall}
+use Rattle.lfs_model.specs.History.{DeviceCall, Read, Program, Erase}
+use Rattle.lfs_model.specs.Stops.{are_blocks_after_stopped_call}
 use Rattle.lfs_model.specs.examples.Images.{fresh_commit_of_small_image}
 
 same_but_nothing : (b : ℕ) (blocks : Blocks) → AreBlocksEqualExceptOne b blocks blocks

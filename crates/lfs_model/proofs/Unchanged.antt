@@ -5,7 +5,7 @@ use Rattle.std.specs.Option.{option_map}
 use Rattle.std.proofs.lemmas.List.Elements.{All-from_recursion, recursion_from_All}
 use Rattle.std.proofs.lemmas.List.Concat.{flat_map-append}
 use Rattle.lfs_model.specs.Disk.{Disk, block_count}
-use Rattle.lfs_model.specs.Slots.{Slot, gstate_xor}
+use Rattle.lfs_model.specs.Slots.{Slot}
 use Rattle.lfs_model.specs.Thread.{Pair, blocks_of_pairs, pairs_from_first_with_slots, gstate_of_pairs, starts_with_superblock, slots_not_moved}
 use Rattle.lfs_model.specs.View.{IsSkipListIfCtzStruct, IsAcceptedImage, first_slot_name}
 use Rattle.lfs_model.specs.Shown.{all_slots_not_moved, used_blocks}

@@ -1,11 +1,10 @@
 -- Changes to what a pair holds. Each change is some entries of the pair's log.
 use Rattle.std.specs.Prelude.{ℕ, ◌+◌, ◌^◌, ◌&&◌, nat_le, nat_lt, if◌then◌else◌, Bool, List, [], ◌∷◌, length, Option, None}
 use Rattle.std.specs.List.{flat_map, list_all}
-use Rattle.std.specs.Option.{option_and_then}
-use Rattle.lfs_model.specs.Slots.{Gstate, PairContent}
+use Rattle.lfs_model.specs.Slots.{Gstate}
 use Rattle.lfs_model.specs.Tag.{tag_of_type_id_and_length, tag_data_limit, attribute_removal_length}
 use Rattle.lfs_model.specs.Log.{LogEntry}
-use Rattle.lfs_model.specs.Content.{RawPairContent, content_after_log_entries, pair_content_if_slots_complete}
+use Rattle.lfs_model.specs.Content.{RawPairContent, content_after_log_entries}
 use Rattle.lfs_model.specs.EntryTypes.{create_tag_type, delete_tag_type, no_id}
 use Rattle.lfs_model.specs.WrittenContent.{log_entry_of_type_id_and_bytes, lowest_attribute_type, tail_log_entry, move_state_log_entry, tail_pair_or_null}
 

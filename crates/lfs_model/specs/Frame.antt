@@ -9,7 +9,7 @@ use Rattle.lfs_model.specs.TreeEdits.{parent_path_of, last_name_of_path}
 use Rattle.lfs_model.specs.Shown.{entries_by_directory_in_thread, all_slots_not_moved, skip_list_blocks_of_struct, IsPathToDirectory}
 use Rattle.lfs_model.specs.History.{DeviceCallEvent, read_count_of_history}
 use Rattle.lfs_model.specs.Operations as ops
-use Rattle.lfs_model.specs.Operations.{Operation, Refusal, Reply, BadFile, Invalid, ReadOnly, Failed}
+use Rattle.lfs_model.specs.Operations.{Operation, Refusal, BadFile, Invalid, ReadOnly, Failed}
 use Rattle.lfs_model.specs.Session.{Session, OpenFile, path_of_open_file, open_file_with_number}
 use Rattle.lfs_model.specs.Refusals.{path_of_bytes_or_root, is_root_path}
 use Rattle.lfs_model.specs.State.{is_remount_operation}

@@ -1,10 +1,10 @@
 // What the history of a device's calls shows.
 
-ghost use Rattle.std.specs.Prelude.{◌≡◌, ℕ, true, false, List, [], ◌∷◌, map};
+ghost use Rattle.std.specs.Prelude.{◌≡◌, ℕ, true, false, [], ◌∷◌, map};
 ghost use Rattle.lfs_model.specs.Blocks.{Blocks, block_bytes_by_number};
 ghost use Rattle.lfs_model.specs.History.{DeviceCallEvent, Erase, device_call_event_with_blocks, read_count_of_history, program_count_of_history, erase_count_of_history, fault_count_of_history, is_byte_unprogrammed, AreBytesUnprogrammed, AreBytesStillUnprogrammed, IsTrueOfEachCallSince, AreCallsSinceOnlyReads, ArePossibleBlocksAfterPowerLossInCall, IsTrueAfterAnyPowerLossSince};
 ghost use Rattle.lfs_model.specs.Conformance.{AreConformingDeviceCalls};
-ghost use Rattle.lfs_model.specs.examples.Histories.{two_blocks_before_erase, two_blocks_after_erase, two_blocks_after_program, history_after_erase, history_after_program, history_after_read, program_event_without_effect, erase_event_of_other_block};
+ghost use Rattle.lfs_model.specs.examples.Histories.{two_blocks_after_erase, two_blocks_after_program, history_after_erase, history_after_program, history_after_read, program_event_without_effect, erase_event_of_other_block};
 
 /// How many reads, programs, erases and faults there were.
 pub fn history_counts_device_calls()

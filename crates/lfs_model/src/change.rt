@@ -1,13 +1,12 @@
 // What changes make of what a pair holds.
 
-ghost use Rattle.std.specs.Prelude.{◌≡◌, ℕ, false, true, List, [], ◌∷◌, ◌++◌, map, replicate, Some, None, codes};
+ghost use Rattle.std.specs.Prelude.{◌≡◌, ℕ, false, true, [], ◌∷◌, ◌++◌, map, replicate, Some, None, codes};
 ghost use Rattle.lfs_model.specs.Slots.{Slot, IsContentFittingPair, zero_gstate};
 ghost use Rattle.lfs_model.specs.Log.{LogEntry};
-ghost use Rattle.lfs_model.specs.Content.{RawSlot, RawPairContent, empty_raw_pair_content, content_after_log_entries};
-ghost use Rattle.lfs_model.specs.EntryTypes.{file_name_type, superblock_name_type, inline_struct_type};
+ghost use Rattle.lfs_model.specs.Content.{RawPairContent, empty_raw_pair_content, content_after_log_entries};
 ghost use Rattle.lfs_model.specs.WrittenContent.{log_entries_of_content};
 ghost use Rattle.lfs_model.specs.LoggedContent.{IsStorableRawPairContent};
-ghost use Rattle.lfs_model.specs.Changes.{Create, Delete, PutStruct, PutAttribute, RemoveAttribute, PutTail, PutMove, log_entries_of_changes, raw_pair_content_after_changes};
+ghost use Rattle.lfs_model.specs.Changes.{Delete, PutAttribute, RemoveAttribute, PutTail, PutMove, log_entries_of_changes, raw_pair_content_after_changes};
 ghost use Rattle.lfs_model.specs.examples.Images.{raw_slot_of_superblock, raw_slot_of_empty_file, raw_pair_content_of_slots, changes_that_shift_slots};
 
 /// Changes do what their entries do, in order.

@@ -1,6 +1,6 @@
 // What each operation checks, in which order, and what it queries of the disk.
 
-ghost use Rattle.std.specs.Prelude.{◌≡◌, true, false, List, [], ◌∷◌, ◌++◌, filter, Some, None, replicate, codes};
+ghost use Rattle.std.specs.Prelude.{◌≡◌, true, false, [], ◌∷◌, ◌++◌, filter, Some, None, replicate, codes};
 ghost use Rattle.lfs_model.specs.Slots.{zero_gstate};
 ghost use Rattle.lfs_model.specs.Operations as ops;
 ghost use Rattle.lfs_model.specs.Operations.{NoEnt, BadFile, Exist, NotDir, IsDir, Invalid, NoSpace, ReadOnly, NameTooLong, NotEmpty, NoAttr, EntryFull};

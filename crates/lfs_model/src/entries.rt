@@ -1,12 +1,12 @@
 // What the entries of a log mean.
 
-ghost use Rattle.std.specs.Prelude.{◌≡◌, ℕ, ◌<◌, ◌^◌, true, false, List, [], ◌∷◌, ◌++◌, Some, None, codes};
+ghost use Rattle.std.specs.Prelude.{◌≡◌, ℕ, ◌<◌, ◌^◌, true, false, [], ◌∷◌, ◌++◌, Some, None, codes};
 ghost use Rattle.std.specs.declared.cmp.Ordering.TheVariants.{Less};
 ghost use Rattle.lfs_model.specs.Names.{name_cmp};
 ghost use Rattle.lfs_model.specs.declared.order.NameOrder.TheVariants.{ShorterFirst, LongerFirst};
 ghost use Rattle.lfs_model.specs.Tag.{IsValidTag, tag_of_type_id_and_length, type_of_tag, id_of_tag, length_of_tag};
 ghost use Rattle.lfs_model.specs.Slots.{Gstate, zero_gstate, gstate_xor};
-ghost use Rattle.lfs_model.specs.Content.{RawSlot, RawPairContent, empty_raw_pair_content, empty_slot, content_after_log_entries};
+ghost use Rattle.lfs_model.specs.Content.{empty_raw_pair_content, empty_slot, content_after_log_entries};
 ghost use Rattle.lfs_model.specs.EntryTypes.{gstate_of_word_and_pair, create_tag_type, delete_tag_type, file_name_type, superblock_name_type, inline_struct_type, directory_struct_type, ctz_struct_type, soft_tail_type, hard_tail_type, move_state_type, no_id};
 ghost use Rattle.lfs_model.specs.Lookup.{IsLeastIdOfName, IsIdForNewName, slot_bytes_of_type_at_id};
 ghost use Rattle.lfs_model.specs.examples.Images.{raw_slot_of_superblock, raw_slot_of_empty_file};

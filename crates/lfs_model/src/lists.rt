@@ -1,7 +1,6 @@
 // Skip lists, in blocks of 1,024 bytes.
 
-ghost use Rattle.std.specs.Prelude.{◌≡◌, ℕ, List, [], ◌∷◌, ◌++◌, map, replicate};
-ghost use Rattle.byteorder.specs.Endian.{little_bytes};
+ghost use Rattle.std.specs.Prelude.{◌≡◌, ℕ, [], ◌∷◌, ◌++◌, map, replicate};
 ghost use Rattle.lfs_model.specs.SkipLists.{IsPlaceOfByteInList, IsSkipList, list_block_count_for_size, list_blocks_from_head, bytes_of_skip_list, pointer_count_of_list_block, data_capacity_of_list_block};
 ghost use Rattle.lfs_model.specs.Session.{skip_list_block_count_unless_inline};
 ghost use Rattle.lfs_model.specs.examples.Images.{three_block_skip_list, three_block_skip_list_with_pointer, blocks_of_endless_skip_list};

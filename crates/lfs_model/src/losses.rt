@@ -1,6 +1,6 @@
 // Where an error ends a run, and where power is lost.
 
-ghost use Rattle.std.specs.Prelude.{◌≡◌, ◌⊎◌, ◌≢◌, ℕ, false, List, [], ◌∷◌, ◌++◌, Some, None, codes};
+ghost use Rattle.std.specs.Prelude.{◌≡◌, ◌⊎◌, ◌≢◌, ℕ, false, List, [], ◌∷◌, ◌++◌, None, codes};
 ghost use Rattle.lfs_model.specs.Blocks.{Blocks};
 ghost use Rattle.lfs_model.specs.History.{DeviceCallEvent, Read, device_call_event_with_blocks, IsTrueOfEachCallSince, AreBlocksLeftByNewestCall};
 ghost use Rattle.lfs_model.specs.Disk.{Disk};

@@ -1,8 +1,8 @@
 // Further rules of accepted images and of the writing profile.
 
-ghost use Rattle.std.specs.Prelude.{◌≡◌, true, false, List, [], ◌∷◌, ◌++◌, Some, replicate, codes};
+ghost use Rattle.std.specs.Prelude.{◌≡◌, true, false, [], ◌∷◌, ◌++◌, Some, replicate, codes};
 ghost use Rattle.lfs_model.specs.Slots.{zero_gstate};
-ghost use Rattle.lfs_model.specs.Tree.{FileNode, DirectoryNode};
+ghost use Rattle.lfs_model.specs.Tree.{DirectoryNode};
 ghost use Rattle.lfs_model.specs.EntryTypes.{create_tag_type, file_name_type, directory_name_type, superblock_name_type, directory_struct_type, inline_struct_type};
 ghost use Rattle.lfs_model.specs.View.{HasDiskView, superblock_name_log_entry};
 ghost use Rattle.lfs_model.specs.Fresh.{superblock_struct_bytes};

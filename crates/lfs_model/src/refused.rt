@@ -1,6 +1,6 @@
 // Which images are refused. Their checksums are right, except where a clause says otherwise.
 
-ghost use Rattle.std.specs.Prelude.{true, false, List, [], ◌∷◌, ◌++◌, Some, replicate, codes};
+ghost use Rattle.std.specs.Prelude.{true, false, [], ◌∷◌, ◌++◌, Some, replicate, codes};
 ghost use Rattle.byteorder.specs.Endian.{little_bytes};
 ghost use Rattle.lfs_model.specs.WrittenContent.{tail_log_entry};
 ghost use Rattle.lfs_model.specs.BlockBytes.{unwritten_storage_bytes, bytes_padded_to_block_size, inline_file_name_and_struct_entries, ctz_file_name_and_struct_entries, directory_name_and_struct_entries, move_state_entry_with_first_word};

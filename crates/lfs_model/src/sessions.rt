@@ -1,6 +1,6 @@
 // What sessions on a fresh disk reply.
 
-ghost use Rattle.std.specs.Prelude.{◌≡◌, true, false, List, [], ◌∷◌, ◌++◌, Some, None, replicate, codes};
+ghost use Rattle.std.specs.Prelude.{◌≡◌, true, [], ◌∷◌, ◌++◌, Some, None, replicate, codes};
 ghost use Rattle.lfs_model.specs.Operations as ops;
 ghost use Rattle.lfs_model.specs.Operations.{NoEnt, BadFile, Busy, Exist, NotDir, IsDir, Invalid, TooBig, NoSpace, NameTooLong, NotEmpty, NoAttr, EntryFull, Failed};
 ghost use Rattle.lfs_model.specs.State.{SessionHealth, HasFailed, Healthy, session_after_mount, reply_and_session_health_after_operation};

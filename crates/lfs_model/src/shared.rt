@@ -1,11 +1,11 @@
 // Laws of the definitions that the layers above share.
 
-ghost use Rattle.std.specs.Prelude.{◌≡◌, ◌≤◌, ◌<◌, ◌⊎◌, ℕ, ◌+◌, true, List, [], ◌∷◌, ◌++◌, length, drop, sum_by, slice_get, Option, Some, None, All, Contains, codes};
+ghost use Rattle.std.specs.Prelude.{◌≡◌, ◌≤◌, ◌<◌, ◌⊎◌, ℕ, ◌+◌, true, List, [], ◌∷◌, ◌++◌, length, drop, sum_by, slice_get, Some, None, All, Contains, codes};
 ghost use Rattle.std.specs.List.{insert};
 ghost use Rattle.std.specs.Option.{option_map};
 ghost use Rattle.lfs_model.specs.Blocks.{Blocks, HasBlocksOfCountAndSize, AreBlocksEqualExceptThese};
 ghost use Rattle.lfs_model.specs.BlockSets.{BlockStateList, IsBlockInFlight, IsBlockUsed, in_flight_block_count, used_count};
-ghost use Rattle.lfs_model.specs.Content.{RawSlot, RawPairContent, pair_content_if_slots_complete, content_of_pair_at};
+ghost use Rattle.lfs_model.specs.Content.{RawSlot, RawPairContent, pair_content_if_slots_complete};
 ghost use Rattle.lfs_model.specs.EntryTypes.{file_name_type, directory_name_type, superblock_name_type};
 ghost use Rattle.lfs_model.specs.Cut.{CanSplitSlotsIntoTwoPairs, IsFittingSplitOfSlots};
 ghost use Rattle.lfs_model.specs.Frame.{pair_count_of_directory_at};
@@ -18,7 +18,7 @@ ghost use Rattle.lfs_model.specs.LoggedContent.{IsNameOrStructTheFormatAllows, A
 ghost use Rattle.lfs_model.specs.Names.{Name};
 ghost use Rattle.lfs_model.specs.PowerLoss.{HasTreeBeforeOrAfterOperation, SurvivesPowerLossInCallsSince, disk_with_blocks};
 ghost use Rattle.lfs_model.specs.SlotEdits.{slot_of_path};
-ghost use Rattle.lfs_model.specs.Slots.{Slot, PairContent, IsContentFittingPair, zero_gstate, same_pair};
+ghost use Rattle.lfs_model.specs.Slots.{Slot, PairContent, IsContentFittingPair, zero_gstate};
 ghost use Rattle.lfs_model.specs.Stops.{AreBlocksLeftByPowerLossInCall, LeavesNoNewLogIfSuccessfulErase};
 ghost use Rattle.lfs_model.specs.Thread.{Pair, gstate_of_pairs, starts_with_superblock};
 ghost use Rattle.lfs_model.specs.Tree.{Path, Tree};

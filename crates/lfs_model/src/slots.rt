@@ -10,7 +10,7 @@ ghost use Rattle.lfs_model.specs.Fresh.{empty_tree};
 ghost use Rattle.lfs_model.specs.Recovery.{operation_recovers_first};
 ghost use Rattle.lfs_model.specs.SlotEdits.{new_file_slot, new_directory_slot, IsStructStoringBytes, AreSlotEditsOfOperation};
 ghost use Rattle.lfs_model.specs.Layout.{addresses_of_removed_directories, IsPairKeptSplitOrDropped};
-ghost use Rattle.lfs_model.specs.Frame.{is_answered_from_memory, is_look_up_operation};
+ghost use Rattle.lfs_model.specs.Frame.{is_answered_from_memory};
 ghost use Rattle.lfs_model.specs.Keeping.{removes_or_moves_path_or_ancestor, may_store_contents_at_path, struct_of_path, KeepsStructsOfUntouchedFiles};
 ghost use Rattle.lfs_model.specs.Run.{is_read_only_operation, is_write_or_truncate, needs_no_device_call, renames_to_itself, edits_slots_in_pairs};
 ghost use Rattle.lfs_model.specs.examples.Sessions.{flags_to_open_new_file, read_flags};

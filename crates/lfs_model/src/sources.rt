@@ -1,6 +1,6 @@
 // What a tree of files is made from.
 
-ghost use Rattle.std.specs.Prelude.{◌≡◌, List, [], ◌∷◌, map, Some, None, codes};
+ghost use Rattle.std.specs.Prelude.{◌≡◌, [], ◌∷◌, map, Some, None, codes};
 ghost use Rattle.lfs_model.specs.Tree.{FileNode, DirectoryNode};
 ghost use Rattle.lfs_model.specs.Fresh.{empty_tree};
 ghost use Rattle.lfs_model.specs.Source.{HaveBadOrRepeatedName, AFile, AFolder, source_node_at_path_from_folder, IsTreeMadeFromSource};

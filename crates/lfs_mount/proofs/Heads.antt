@@ -5,12 +5,12 @@ use Rattle.std.proofs.lemmas.List.{length-map}
 use Rattle.std.proofs.lemmas.List.Elements.{recursion_from_All}
 use Rattle.std.proofs.lemmas.Option.{same_Some, slice_get_read, slice_get_within}
 use Rattle.lfs_model.specs.Blocks.{Blocks, block_bytes_by_number}
-use Rattle.lfs_model.specs.Content.{content_of_pair_at, current_block_of_pair_at}
+use Rattle.lfs_model.specs.Content.{current_block_of_pair_at}
 use Rattle.lfs_model.specs.Disk.{Disk, block_bytes_on_disk, block_count}
 use Rattle.lfs_model.specs.History.{DeviceCallEvent}
 use Rattle.lfs_model.specs.Slots.{Slot, Inline}
 use Rattle.lfs_model.specs.Thread as Thread
-use Rattle.lfs_model.specs.Thread.{Pair, anchor_pair_address, IsThreadOfMetadataPairs, first_pair_address, pairs_from_first_with_slots, has_slots, has_no_slot_or_only_superblock, is_hard_tail, has_superblock_in_first_nonempty_pair, starts_with_superblock, starts_with_superblock_or_default_without_slots, pair_count_before_root}
+use Rattle.lfs_model.specs.Thread.{Pair, first_pair_address, pairs_from_first_with_slots, has_slots, has_no_slot_or_only_superblock, is_hard_tail, has_superblock_in_first_nonempty_pair, starts_with_superblock, starts_with_superblock_or_default_without_slots, pair_count_before_root}
 use Rattle.lfs_model.specs.View.{BeginsWithLogEntry, HasSuperblockWithInlineBytesIfAnySlot, IsAcceptedImage, first_slot_name, superblock_name_log_entry, pairs_of_superblock_chain}
 use Rattle.lfs_model.proofs.Counts.{Each}
 use Rattle.lfs_model.proofs.Superblocks.{meets_first, meets_from, meets_starting}

@@ -1,8 +1,8 @@
 -- What the code knows of the directories' pairs before it reads their slots.
-use Rattle.std.specs.Prelude.{ℕ, ◌≡◌, ◌<◌, Bool, true, false, ◌==◌, ◌&&◌, if◌then◌else◌, List, [], ◌∷◌, Option, Some, None}
+use Rattle.std.specs.Prelude.{ℕ, ◌≡◌, ◌<◌, Bool, true, false, ◌==◌, ◌&&◌, if◌then◌else◌, List, [], ◌∷◌, Some}
 use Rattle.lfs_model.specs.Disk.{Disk, block_bytes_on_disk, block_count}
 use Rattle.lfs_model.specs.Content.{current_block_of_pair_at, content_of_pair_at}
-use Rattle.lfs_model.specs.Slots.{Gstate, same_pair}
+use Rattle.lfs_model.specs.Slots.{Gstate}
 use Rattle.lfs_model.specs.Thread.{Pair, is_hard_tail, starts_with_superblock, id_of_moved_slot_in_pair}
 use Rattle.lfs_mount.specs.declared.pass.DirectoryPair.{DirectoryPair}
 

@@ -1,12 +1,11 @@
 -- The entries in the slots of a pair, and what they add to what is known of a directory.
-use Rattle.std.specs.Prelude.{ℕ, ◌==◌, ◌&&◌, Bool, true, false, if◌then◌else◌, List, [], ◌∷◌, ◌++◌, length, map, Option, Some, None}
+use Rattle.std.specs.Prelude.{ℕ, ◌==◌, ◌&&◌, Bool, true, false, if◌then◌else◌, List, [], ◌∷◌, ◌++◌, length, Option, Some, None}
 use Rattle.std.specs.Option.{option_and_then, option_map}
 use Rattle.lfs_model.specs.declared.order.NameOrder.{NameOrder}
 use Rattle.lfs_model.specs.Names.{Name, name_cmp, is_less_ordering, is_valid_name}
 use Rattle.lfs_model.specs.Slots.{Slot, Struct, Inline, Ctz, Branch}
 use Rattle.lfs_model.specs.Content.{RawSlot}
 use Rattle.lfs_model.specs.EntryTypes.{file_name_type, directory_name_type, inline_struct_type, ctz_struct_type, directory_struct_type, pair_address_of_bytes}
-use Rattle.lfs_model.specs.Thread.{ThreadDirectory}
 use Rattle.lfs_thread.specs.Places.{index_of_pair_address}
 use Rattle.lfs_mount.specs.Reaching.{DirectoryVertexWithSoundnessAndBranches}
 

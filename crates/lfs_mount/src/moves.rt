@@ -2,14 +2,12 @@
 
 ghost use Rattle.std.specs.Prelude.{◌≡◌, ◌++◌, ◌∷◌, IfErr, List, OnErr, OnOk, false, map, true};
 ghost use Rattle.lfs_model.specs.Disk.{Disk};
-ghost use Rattle.lfs_model.specs.History.{DeviceCallEvent};
-ghost use Rattle.lfs_model.specs.Slots.{pair_address_of_array, gstate_xor};
-ghost use Rattle.lfs_model.specs.Thread.{Pair as ThreadPair, gstate_of_pairs};
+ghost use Rattle.lfs_model.specs.Slots.{pair_address_of_array};
+ghost use Rattle.lfs_model.specs.Thread.{Pair as ThreadPair};
 ghost use Rattle.lfs_model.specs.View.{IsAcceptedImage, HasValidMoveOrNone};
 ghost use Rattle.lfs_pair.specs.Pair.{pair_address_in_header};
 ghost use Rattle.lfs_tag.specs.FieldsView.{move_view};
-ghost use Rattle.lfs_thread.specs.Kept.{ArePairHeadersOnDisk, pairs_of_headers};
-ghost use Rattle.lfs_mount.specs.Moves.{AreDirectoryHeadersWithGstate, HasEntryAtSlotNamedBySetMove, gstate_of_headers, is_move_none_or_at_addresses, is_pair_among_addresses};
+ghost use Rattle.lfs_mount.specs.Moves.{AreDirectoryHeadersWithGstate, HasEntryAtSlotNamedBySetMove, is_move_none_or_at_addresses, is_pair_among_addresses};
 
 use lfs_device::Error;
 use lfs_pair::{Pair, is_same_pair};

@@ -1,6 +1,6 @@
 // The superblock's pairs, which come before the root's first pair.
 
-ghost use Rattle.std.specs.Prelude.{ℕ, List, ◌≡◌, ◌↔◌, ◌⊎◌, ◌<◌, ◌≤◌, ◌+◌, length, IsTrue, IfOk, IfErr, IsErrOf, OnOk, None, Some, codes, map};
+ghost use Rattle.std.specs.Prelude.{ℕ, List, ◌≡◌, ◌↔◌, ◌⊎◌, ◌<◌, ◌≤◌, ◌+◌, length, IsTrue, IfOk, IfErr, IsErrOf, OnOk, None, Some, map};
 ghost use Rattle.std.specs.Option.{option_map};
 ghost use Rattle.lfs_device.specs.Calls.{ReadsOnly, ReportsFaults};
 ghost use Rattle.lfs_device.specs.Shown.{disk_with_name_order};
@@ -8,7 +8,7 @@ ghost use Rattle.lfs_model.specs.Blocks.{block_bytes_by_number};
 ghost use Rattle.lfs_model.specs.History.{read_count_of_history};
 ghost use Rattle.lfs_model.specs.View.{BeginsWithLogEntry, IsAcceptedImage, superblock_name_log_entry};
 ghost use Rattle.lfs_model.specs.declared.order.NameOrder.{NameOrder};
-ghost use Rattle.lfs_tag.specs.ContentView.{name_or_struct_view, slot_view};
+ghost use Rattle.lfs_tag.specs.ContentView.{slot_view};
 ghost use Rattle.lfs_thread.specs.Kept.{disk_of_device, pairs_of_headers};
 ghost use Rattle.lfs_mount.specs.SuperblockChain.{AreHeadersOfDiskThread, HasSuperblockChainOfLength, IsSuperblockStructInBlock, is_superblock_struct_of_geometry, number_of_first_pair_with_nonzero_slot_count, inline_struct_bytes, has_name_bytes, superblock_chain_may_continue_after, first_slot_repeats_superblock, block_repeats_superblock, superblock_struct_in_first_slot, superblock_struct_in_block_log};
 

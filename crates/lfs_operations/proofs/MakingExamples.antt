@@ -1,9 +1,9 @@
 -- A directory of two pairs in front of another one, and a map of six blocks of which four are free.
-use Rattle.std.proofs.Common.{true, false, [], ◌∷◌, Some, refl, arith}
+use Rattle.std.proofs.Common.{true, false, [], ◌∷◌, Some, arith}
 use Rattle.lfs_model.specs.BlockSets.BlockState.{Free, InFlight, Used}
 use Rattle.lfs_model.specs.Slots.{zero_gstate}
 use Rattle.lfs_model.specs.Thread.{Pair}
-use Rattle.lfs_operations.specs.Making.{HasSoManyFreeBlocks, IsLastPairOfHardTailRun}
+use Rattle.lfs_operations.specs.Making.{HasSoManyFreeBlocks}
 
 abbrev goes_on : Pair
 goes_on = record { at = (0, 1); content = record { slots = []; tail = Some (record { hard = true; to = (2, 3) }); move = zero_gstate } }

@@ -13,7 +13,7 @@ use Rattle.lfs_model.specs.LoggedContent.{Are32BitPairAddresses}
 use Rattle.lfs_model.proofs.AfterStops.{survives_then}
 use Rattle.lfs_model.proofs.Histories.{ArePossibleBlocksAfterPowerLossInCall-read, IsTrueAfterAnyPowerLossSince-read_count_of_history, IsTrueAfterAnyPowerLossSince-trans, AreCallsSinceOnlyReads-trans, AreBytesStillUnprogrammed-read_count_of_history, AreBytesStillUnprogrammed-trans}
 use Rattle.lfs_thread.specs.Kept.{KeptThread, ThreadView}
-use Rattle.lfs_thread.specs.Steps.{IoMeantFaultNoMemoryWroteNothing, IsThreadOnlyRead, thread_pair_at_index}
+use Rattle.lfs_thread.specs.Steps.{IsThreadOnlyRead, thread_pair_at_index}
 use Rattle.lfs_operations.specs.Changing.{CanChangeOrSplitPair, IsPairChangedOrSplit, IsChangedContentTooLarge, HasTwoFreeBlocks, has_thread_failed_after_result}
 use Rattle.lfs_operations.specs.Editing.{CanEditEntryOfPair}
 use Rattle.lfs_operations.specs.MovingSteps.{CanEndMoveAfterFirstCommit, IsSlotPutAndMoveEnded, SurvivesBothMoveCommits, ReportsErrorsOfCommitsTakingBlocks, WritesTwoPairsAndTwoFreeBlocks}

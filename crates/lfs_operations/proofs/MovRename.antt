@@ -46,7 +46,7 @@ use Rattle.lfs_operations.specs.MovingSteps.{CanEndMoveAfterFirstCommit, IsSlotP
 use Rattle.lfs_operations.specs.MovingAcross.{CanRenameAcrossPairs, IsEntryRenamedAcrossPairs, rename_across_pairs_changes, tree_with_moved_entry}
 use Rattle.lfs_operations.specs.Ready.{IsRawPairContentWellFormed}
 use Rattle.lfs_operations.specs.Removing.{is_pair_dropped_with_slot}
-use Rattle.lfs_operations.specs.RenamingSlots.{HasSlotOfId, NamelessSlot, nameless_slot_at, nameless_slot_of, slot_creation_changes}
+use Rattle.lfs_operations.specs.RenamingSlots.{NamelessSlot, nameless_slot_at, nameless_slot_of, slot_creation_changes}
 use Rattle.lfs_operations.proofs.AlteredAcross.{moved_alters}
 use Rattle.lfs_operations.proofs.Held.{CompletesTo, IsEntryIfOther, below, each_pair, fits_there, here, other_entries, raw_there}
 use Rattle.lfs_operations.proofs.MovSet.{HasTurned, IsSetting, chain_same, set_new, walk_by}

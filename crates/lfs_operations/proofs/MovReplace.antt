@@ -37,7 +37,6 @@ use Rattle.lfs_operations.specs.MovingOnto.{CanReplaceEntryAcrossPairs, CanRepla
 use Rattle.lfs_operations.specs.Dropping.{ShowsTreeAfterPairDrops}
 use Rattle.lfs_operations.specs.Ready.{IsRawPairContentWellFormed}
 use Rattle.lfs_operations.specs.Removing.{is_pair_dropped_with_slot}
-use Rattle.lfs_operations.specs.RenamingSlots.{HasSlotOfId}
 use Rattle.lfs_operations.proofs.Held.{IsEntryIfOther, each_pair, fits_there, here, other_entries}
 use Rattle.lfs_operations.proofs.MovSet.{HasTurned, IsSetting, chain_same, set_onto, walk_by}
 use Rattle.lfs_operations.proofs.MovStep.{IsFirst, first_survives, first_turned, grown, mid_ends, mid_shows, rename_becomes, rename_completed, rename_once, same_at}

@@ -1,5 +1,5 @@
 -- A set move that was ended: the map, and what is known of the thread.
-use Rattle.std.proofs.Common.{ℕ, ◌≡◌, ◌+◌, ◌-◌, true, false, List, [], ◌∷◌, length, sym, ap, subst, subst₂, ◌∙◌, arith, length-append, remove, refl}
+use Rattle.std.proofs.Common.{ℕ, ◌≡◌, ◌+◌, ◌-◌, true, false, List, [], ◌∷◌, length, sym, ap, subst, subst₂, ◌∙◌, arith, length-append, remove}
 use Rattle.std.proofs.lemmas.Option.{same_Some}
 use Rattle.lfs_model.specs.BlockSets.{AreExactlyTheUsedBlocks}
 use Rattle.lfs_model.specs.History.{DeviceCallEvent}

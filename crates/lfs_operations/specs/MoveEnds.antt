@@ -5,7 +5,7 @@ use Rattle.lfs_model.specs.BlockSets.{BlockStateList}
 use Rattle.lfs_model.specs.Changes.{PairContentChange, Delete, PutMove}
 use Rattle.lfs_model.specs.InDirectory.{HasEntryOfNameAtId}
 use Rattle.lfs_model.specs.Names.{Name}
-use Rattle.lfs_model.specs.Slots.{PairContent, Gstate, zero_gstate, gstate_xor, same_pair}
+use Rattle.lfs_model.specs.Slots.{PairContent, Gstate, gstate_xor, same_pair}
 use Rattle.lfs_model.specs.Thread.{Pair, pairs_from_root_directory_on, gstate_of_pairs, is_hard_tail, pair_count_before_root, blocks_of_pair_address}
 use Rattle.lfs_model.specs.Profile.{IsWritableImage}
 use Rattle.lfs_model.specs.Shown.{directories_in_thread, used_blocks}

@@ -2,7 +2,7 @@
 
 ghost use Rattle.std.specs.Prelude.{◌≡◌, ◌<◌, ◌-◌, Some, length, false, OnOk};
 ghost use Rattle.std.specs.Option.{option_map};
-ghost use Rattle.lfs_model.specs.Thread.{is_hard_tail, blocks_of_pair_address};
+ghost use Rattle.lfs_model.specs.Thread.{blocks_of_pair_address};
 ghost use Rattle.lfs_pair.specs.ChangeView.{change_view, changes_view};
 ghost use Rattle.lfs_tag.specs.ContentView.{tail_view};
 ghost use Rattle.lfs_tag.specs.FieldsView.{move_view};

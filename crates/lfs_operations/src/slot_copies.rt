@@ -1,14 +1,13 @@
 // Copies of slots, which are written elsewhere.
 
 ghost use Rattle.std.specs.Prelude.{◌≡◌, ◌<◌, ◌++◌, Some, IfErr, IfOk, IsSome, OnOk, false, length, map};
-ghost use Rattle.lfs_model.specs.Changes.{PairContentChange as ModelChange};
 ghost use Rattle.lfs_model.specs.Content.{RawPairContent, content_after_log_entries, empty_raw_pair_content, slot_of_id};
 ghost use Rattle.lfs_model.specs.Log.{log_entries_of_block};
 ghost use Rattle.lfs_model.specs.Slots.{PairContent as ModelContent};
 ghost use Rattle.lfs_pair.specs.ChangeView.{changes_view};
 ghost use Rattle.lfs_tag.specs.ContentView.{attribute_view, name_or_struct_view, slot_view};
 ghost use Rattle.lfs_thread.specs.CachedLog.{IsLogBlockOfContent};
-ghost use Rattle.lfs_thread.specs.Steps.{IoMeantFaultNoMemoryWroteNothing, IsThreadOnlyRead, thread_pair_at_index};
+ghost use Rattle.lfs_thread.specs.Steps.{IoMeantFaultNoMemoryWroteNothing, IsThreadOnlyRead};
 ghost use Rattle.lfs_operations.specs.RenamingSlots.{HasSlotOfId, put_attribute_changes, nameless_slot_at, nameless_slot_of, slot_creation_changes};
 ghost use Rattle.lfs_operations.specs.RenamingView.{attribute_copy_view, slot_copy_view, struct_copy_view};
 

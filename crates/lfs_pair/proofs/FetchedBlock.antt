@@ -1,6 +1,6 @@
 -- Which block of a pair a fetch takes, after it has read both revisions.
-use Rattle.std.proofs.Common.{ℕ, ◌≡◌, Bool, true, false, cond, not, ◌&&◌, ◌||◌, List, None, Some, refl, sym, ap, ◌∙◌, ap₂, subst, Ok, Err}
-use Rattle.std.specs.Prelude.{IfErr, IfOk, Result}
+use Rattle.std.proofs.Common.{ℕ, ◌≡◌, Bool, true, false, cond, ◌&&◌, ◌||◌, List, None, Some, refl, sym, ap, ◌∙◌, subst, Ok, Err}
+use Rattle.std.specs.Prelude.{IfOk, Result}
 use Rattle.std.specs.Option.{option_and_then}
 use Rattle.lfs_device.specs.declared.error.Error.{Error}
 use Rattle.lfs_model.specs.Content.{RawPairContent, has_commit, is_later_revision, current_block_of_pair_at, content_after_log_entries, empty_raw_pair_content, raw_content_of_pair_at}
@@ -8,7 +8,7 @@ use Rattle.lfs_model.specs.Disk.{Disk, block_bytes_on_disk}
 use Rattle.lfs_model.specs.History.{DeviceCallEvent}
 use Rattle.lfs_model.specs.Log.{log_entries_of_block, revision_of_block}
 use Rattle.lfs_model.specs.Slots.{pair_address_of_array}
-use Rattle.lfs_pair.specs.Pair.{HeaderDescribesLog, FetchFindsPair, active_block_at, read_count_of_pair_fetch, pair_blocks_later_revision_first, is_second_block_active}
+use Rattle.lfs_pair.specs.Pair.{HeaderDescribesLog, FetchFindsPair, active_block_at, pair_blocks_later_revision_first}
 use Rattle.lfs_pair.specs.declared.pair.Pair.{Pair}
 
 -- that block of the pair is the one that holds

@@ -1,6 +1,6 @@
 // What changes make of a pair's content.
 
-ghost use Rattle.std.specs.Prelude.{◌≡◌, true, is_some, IfOk, IfErr, Some, length, None};
+ghost use Rattle.std.specs.Prelude.{◌≡◌, true, is_some, IfOk, IfErr, Some, None};
 ghost use Rattle.lfs_model.specs.Content.{empty_raw_pair_content};
 ghost use Rattle.lfs_model.specs.Log.{chain_of};
 ghost use Rattle.lfs_model.specs.LoggedContent.{IsWellFormedRawPairContent};

@@ -1,10 +1,10 @@
 // How many bytes the slots of a pair take.
 
-ghost use Rattle.std.specs.Prelude.{◌≡◌, ℕ, ◌+◌, ◌-◌, ◌^◌, ◌<◌, ◌≤◌, ◌↔◌, IsTrue, length, min, map, sum_by};
+ghost use Rattle.std.specs.Prelude.{◌≡◌, ℕ, ◌+◌, ◌-◌, ◌^◌, ◌<◌, ◌≤◌, ◌↔◌, IsTrue, min, map, sum_by};
 ghost use Rattle.std.specs.Option.{option_map};
 ghost use Rattle.lfs_model.specs.Disk.{pair_capacity, slots_per_pair_limit};
 ghost use Rattle.lfs_model.specs.Slots.{attributes_size};
-ghost use Rattle.lfs_model.specs.WrittenContent.{name_or_struct_size, raw_slot_size, slots_size_of_raw_pair_content, IsRawContentFittingPair};
+ghost use Rattle.lfs_model.specs.WrittenContent.{name_or_struct_size, raw_slot_size, IsRawContentFittingPair};
 ghost use Rattle.lfs_tag.specs.ContentView.{name_or_struct_view, attribute_view, slot_view, content_view};
 
 use lfs_device::Geometry;

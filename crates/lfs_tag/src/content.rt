@@ -1,14 +1,12 @@
 // The content of a log, made by applying its entries in order.
 
-ghost use Rattle.std.specs.Prelude.{◌≡◌, ℕ, ◌+◌, ◌≤◌, ◌<◌, ◌++◌, List, [], ◌∷◌, length, map, OnOk, IfOk, IsTrue, replicate, remove, insert, slice_set, vec_len, is_some, filter, not, ◌==◌, Some, None};
+ghost use Rattle.std.specs.Prelude.{◌≡◌, ℕ, ◌+◌, ◌≤◌, ◌<◌, ◌++◌, [], ◌∷◌, length, map, OnOk, IfOk, IsTrue, remove, insert, vec_len, is_some, filter, not, ◌==◌, Some, None};
 ghost use Rattle.std.specs.Option.{option_map};
-ghost use Rattle.lfs_model.specs.Tag.{type_of_tag, tag_data_size};
-ghost use Rattle.lfs_model.specs.Log.{LogEntry, log_entries_of_block};
+ghost use Rattle.lfs_model.specs.Log.{log_entries_of_block};
 ghost use Rattle.lfs_model.specs.EntryTypes.{is_tag_of_known_type_and_length, has_tag_id_if_needed, tail_of_log_entry};
-ghost use Rattle.lfs_model.specs.Content.{attributes_with_attribute, attributes_without_attribute, attributes_after_entry, empty_slot, slot_of_id, raw_slots_with_function_applied_at_id, slots_padded_to_id, type_and_bytes_of_entry, slots_after_log_entry, content_after_log_entry, content_after_log_entries, empty_raw_pair_content};
+ghost use Rattle.lfs_model.specs.Content.{attributes_with_attribute, attributes_after_entry, empty_slot, slot_of_id, raw_slots_with_function_applied_at_id, slots_padded_to_id, slots_after_log_entry, content_after_log_entry, content_after_log_entries, empty_raw_pair_content};
 ghost use Rattle.lfs_model.specs.Thread.{is_hard_tail};
 ghost use Rattle.lfs_tag.specs.LogEntryView.{log_entry_view};
-ghost use Rattle.lfs_tag.specs.FieldsView.{move_view};
 ghost use Rattle.lfs_tag.specs.ContentView.{name_or_struct_view, attribute_view, slot_view, tail_view, content_view, index_for_attribute};
 ghost use Rattle.lfs_tag.specs.ContentGives.{GivesValueUnlessNoMemory};
 

@@ -1,7 +1,6 @@
 // The fields of structs, tails and move states: numbers of 32 bits, the lowest byte first.
 
-ghost use Rattle.std.specs.Prelude.{◌≡◌, ◌+◌, ◌≤◌, length, drop};
-ghost use Rattle.byteorder.specs.Endian.{little_number};
+ghost use Rattle.std.specs.Prelude.{◌≡◌, ◌+◌, ◌≤◌, length};
 ghost use Rattle.lfs_model.specs.Disk.{file_size_limit};
 ghost use Rattle.lfs_model.specs.Fresh.{superblock_struct_bytes};
 ghost use Rattle.lfs_model.specs.Slots.{Ctz, pair_address_of_array, zero_gstate};

@@ -1,9 +1,8 @@
 // The log of a block.
 
-ghost use Rattle.std.specs.Prelude.{◌≡◌, ℕ, ◌+◌, ◌≤◌, ◌<◌, ◌^◌, ◌↔◌, List, length, IsTrue, IfSome};
+ghost use Rattle.std.specs.Prelude.{◌≡◌, ℕ, ◌+◌, ◌≤◌, ◌<◌, ◌^◌, ◌↔◌, List, length, IfSome};
 ghost use Rattle.std.specs.Option.{option_map};
-ghost use Rattle.lfs_model.specs.Tag.{tag_data_size};
-ghost use Rattle.lfs_model.specs.Log.{entry_at, closes, commit_at, chain_of, revision_of_block, log_entries_of_block, end_offset_of_log_entry, AreAdjacentCommitsFromBlockStart, LogEntry};
+ghost use Rattle.lfs_model.specs.Log.{entry_at, closes, commit_at, chain_of, revision_of_block, log_entries_of_block};
 ghost use Rattle.lfs_model.specs.Content.{has_commit};
 ghost use Rattle.lfs_tag.specs.LogEntryView.{log_entry_view};
 

@@ -1,6 +1,6 @@
 // A search for what a log holds of a type for an id, from its newest entry back.
 
-ghost use Rattle.std.specs.Prelude.{◌≡◌, ℕ, ◌+◌, ◌-◌, ◌≤◌, ◌<◌, ◌^◌, ◌/◌, List, length, reverse, min, Some};
+ghost use Rattle.std.specs.Prelude.{◌≡◌, ℕ, ◌+◌, ◌-◌, ◌≤◌, ◌<◌, ◌^◌, ◌/◌, length, reverse, min, Some};
 ghost use Rattle.std.specs.Option.{option_copied, option_map};
 ghost use Rattle.lfs_model.specs.Log.{log_entries_of_block};
 ghost use Rattle.lfs_model.specs.Content.{RawPairContent, content_after_log_entries, empty_raw_pair_content, slot_of_id};

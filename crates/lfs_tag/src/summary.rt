@@ -2,7 +2,7 @@
 
 ghost use Rattle.std.specs.Prelude.{◌≡◌, ℕ, ◌<◌, ◌≤◌, OnOk, IfOk, IsTrue, length, true, vec_len, Some, None};
 ghost use Rattle.std.specs.List.{insert, remove, list_all};
-ghost use Rattle.lfs_model.specs.Log.{LogEntry, log_entries_of_block};
+ghost use Rattle.lfs_model.specs.Log.{log_entries_of_block};
 ghost use Rattle.lfs_model.specs.Content.{RawPairContent, content_after_log_entries, empty_raw_pair_content};
 ghost use Rattle.lfs_tag.specs.LogEntryView.{log_entry_view};
 ghost use Rattle.lfs_tag.specs.ContentGives.{GivesValueUnlessNoMemory};

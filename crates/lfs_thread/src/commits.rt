@@ -1,6 +1,6 @@
 // Commits to pairs and splits of pairs, with a cache of blocks.
 
-ghost use Rattle.std.specs.Prelude.{◌≡◌, ◌+◌, IfOk, OnOk, option_map};
+ghost use Rattle.std.specs.Prelude.{◌≡◌, ◌+◌, IfOk, option_map};
 ghost use Rattle.lfs_model.specs.Cache.{cached_bytes_of_block, cache_without_block};
 ghost use Rattle.lfs_model.specs.Slots.{pair_address_of_array};
 ghost use Rattle.lfs_pair.specs.ChangeView.{changes_view};

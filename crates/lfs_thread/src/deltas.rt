@@ -1,6 +1,6 @@
 // The global state, computed from the headers of the pairs.
 
-ghost use Rattle.std.specs.Prelude.{◌≡◌, bit_xor, map};
+ghost use Rattle.std.specs.Prelude.{◌≡◌, map};
 ghost use Rattle.std.specs.List.{fold};
 ghost use Rattle.lfs_model.specs.Slots.{bool_xor, gstate_xor, zero_gstate};
 ghost use Rattle.lfs_tag.specs.FieldsView.{move_view};

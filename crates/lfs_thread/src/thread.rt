@@ -1,12 +1,12 @@
-ghost use Rattle.std.specs.Prelude.{ℕ, ◌+◌, ◌*◌, ◌≤◌, if◌then◌else◌, None, Some, List, Contains, ◌↔◌, IfOk, ◌≡◌, IsTrue, true, OnErr, ◌⊎◌, ◌<◌, length, false, is_err, [], replicate, slice_set, IfErr, IfNone, IfSome, IsSome, OnOk, option_copied, ◌-◌, min, take, drop, slice_range};
+ghost use Rattle.std.specs.Prelude.{ℕ, ◌+◌, ◌*◌, ◌≤◌, if◌then◌else◌, None, Some, List, ◌↔◌, IfOk, ◌≡◌, IsTrue, true, ◌⊎◌, ◌<◌, length, false, is_err, [], replicate, slice_set, IfErr, IfNone, IfSome, IsSome, OnOk, ◌-◌, min, take, drop, slice_range};
 ghost use Rattle.std.specs.Option.{option_map};
 ghost use Rattle.lfs_model.specs.Content.{content_of_pair_at, current_block_of_pair_at};
-ghost use Rattle.lfs_model.specs.BlockSets.{AreExactlyTheInFlightBlocks, AreExactlyTheUsedBlocks, IsBlockFree, IsBlockInFlight, IsBlockUsed, used_count};
+ghost use Rattle.lfs_model.specs.BlockSets.{IsBlockFree, IsBlockInFlight, IsBlockUsed, used_count};
 ghost use Rattle.lfs_model.specs.BlockSets.BlockState.{Free, InFlight};
 ghost use Rattle.lfs_model.specs.SkipLists.{IsSkipList, bytes_of_skip_list};
-ghost use Rattle.lfs_model.specs.History.{AreCallsSinceOnlyReads, fault_count_of_history, read_count_of_history};
+ghost use Rattle.lfs_model.specs.History.{read_count_of_history};
 ghost use Rattle.lfs_model.specs.Slots.{pair_address_of_array};
-ghost use Rattle.lfs_model.specs.Thread.{IsThreadOfMetadataPairs, Pair as ThreadPair, blocks_of_pairs, gstate_of_pairs, is_hard_tail, blocks_of_pair_address, blocks_of_two_pair_addresses};
+ghost use Rattle.lfs_model.specs.Thread.{IsThreadOfMetadataPairs, Pair as ThreadPair, gstate_of_pairs, is_hard_tail, blocks_of_pair_address, blocks_of_two_pair_addresses};
 ghost use Rattle.lfs_tag.specs.ContentView.{tail_view};
 ghost use Rattle.lfs_tag.specs.FieldsView.{move_view};
 ghost use Rattle.lfs_pair.specs.ChangeView.{changes_view};

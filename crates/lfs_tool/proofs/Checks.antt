@@ -1,5 +1,5 @@
 -- What is checked of the bytes that were read.
-use Rattle.std.proofs.Common.{◌≡◌, ◌∙◌, ◌++◌, ◌<◌, ◌≤◌, ℕ, List, Option, Some, None, ap, append_assoc, arith, length, refl, subst, take}
+use Rattle.std.proofs.Common.{◌≡◌, ◌∙◌, ◌++◌, ◌<◌, ◌≤◌, ℕ, List, Option, Some, None, ap, append_assoc, arith, length, subst, take}
 use Rattle.std.specs.Prelude.{IfSome}
 use Rattle.std.proofs.lemmas.List.{length-take, take_all}
 use Rattle.lfs_model.specs.Disk.{IsImageOfWholeBlocks}

@@ -9,7 +9,7 @@ use Rattle.lfs_model.specs.declared.order.NameOrder.TheVariants.{ShorterFirst}
 use Rattle.lfs_model.specs.TreeEdits as apply
 use Rattle.lfs_model.specs.Fresh.{empty_tree}
 use Rattle.lfs_model.specs.Listing as listing
-use Rattle.lfs_model.specs.Listing.{AreOperationsCopyingTree, IsDepthFirstWalk, copy_operations_of_node, entry_paths_in_directory}
+use Rattle.lfs_model.specs.Listing.{IsDepthFirstWalk, copy_operations_of_node, entry_paths_in_directory}
 use Rattle.lfs_model.specs.Names.{Name, name_cmp}
 use Rattle.lfs_model.specs.Operations.{Operation, path_bytes}
 use Rattle.lfs_model.specs.Source.{AFile, AFolder, IsTreeMadeFromSource, IsTreeNodeMadeFromSourceNode, TreeSource, is_source_entry_folder_if_present, names_of_source_entries, source_path_in_folder, source_node_at_path_from_folder}

@@ -1,5 +1,5 @@
 -- The operations that copy what was read, and how they end.
-use Rattle.std.specs.Prelude.{ℕ, ◌≡◌, Bool, true, false, List, [], ◌∷◌, ◌++◌, Option, Some, None, Result, Ok, Err, All}
+use Rattle.std.specs.Prelude.{ℕ, ◌≡◌, true, false, List, [], ◌∷◌, ◌++◌, Option, Some, None, Result, Ok, Err, All}
 use Rattle.std.specs.List.{flat_map}
 use Rattle.lfs_device.specs.declared.error.Error.{Error}
 use Rattle.lfs_model.specs.Listing.{copy_operations_of_node}
@@ -10,7 +10,7 @@ use Rattle.lfs_model.specs.Run as run
 use Rattle.lfs_model.specs.Session.{OpenFilesByNumber, Session}
 use Rattle.lfs_model.specs.State.{Healthy}
 use Rattle.lfs_model.specs.Tree.{Node, FileNode, DirectoryNode}
-use Rattle.lfs_fs.specs.SessionView.{SessionFailsByError, EndsOperationWithError}
+use Rattle.lfs_fs.specs.SessionView.{EndsOperationWithError}
 use Rattle.lfs_lookup.specs.Refusals.{is_refusal, refusal_of_error}
 use Rattle.lfs_tool_folders.specs.MemorySources.{optional_bytes_view}
 use Rattle.lfs_tool_folders.specs.declared.entries.SourceEntry.{SourceEntry}

@@ -1,5 +1,5 @@
 -- What a list returns.
-use Rattle.std.specs.Prelude.{ℕ, ◌≡◌, false, List, ◌++◌, Option, Some, None, codes, length}
+use Rattle.std.specs.Prelude.{ℕ, ◌≡◌, false, List, ◌++◌, Option, Some, None, codes}
 use Rattle.std.specs.List.{flat_map}
 use Rattle.std.specs.Fmt.{decimal}
 use Rattle.lfs_device.specs.Shown.{disk_with_name_order}
@@ -7,7 +7,6 @@ use Rattle.lfs_model.specs.Disk.{Disk, IsImageOfWholeBlocks}
 use Rattle.lfs_model.specs.Thread.{Pair}
 use Rattle.lfs_model.specs.View.{IsAcceptedImage, DiskView}
 use Rattle.lfs_model.specs.declared.order.NameOrder.{NameOrder}
-use Rattle.lfs_model.specs.Slots.{Struct, Inline, Ctz, Branch}
 use Rattle.lfs_model.specs.Listing.{IsListingOfTree, escaped_text, newline}
 use Rattle.lfs_thread.specs.Kept.{ThreadView}
 use Rattle.lfs_lookup.specs.Walk.{ArePathsAndStructsOfWalk, PathAndStruct}

@@ -1,6 +1,6 @@
 // The numbers of a superblock, by its place in the bytes alone.
 
-ghost use Rattle.std.specs.Prelude.{◌≡◌, ◌⊎◌, ◌<◌, ◌/◌, ◌^◌, IfSome, length};
+ghost use Rattle.std.specs.Prelude.{◌≡◌, ◌⊎◌, ◌<◌, ◌/◌, ◌^◌, IfSome};
 ghost use Rattle.lfs_tag.specs.FieldsView.{superblock_view};
 ghost use Rattle.lfs_tool.specs.WrongNumbers.{IsWrongNumberInImageBytes, IsWrongSuperblockField, IsSuperblockAtOffset};
 

@@ -1,4 +1,4 @@
-ghost use Rattle.std.specs.Prelude.{◌≡◌, ℕ, IfOk, IfSome, IsErrOf, None, OnOk, Option, Some, map, suc};
+ghost use Rattle.std.specs.Prelude.{◌≡◌, ℕ, IfOk, IfSome, IsErrOf, None, OnOk, Option, map, suc};
 ghost use Rattle.lfs_model.specs.Source as model;
 ghost use Rattle.lfs_tool_folders.specs.SourceTrees.{IsKnownSourceTreeUnchanged, listed_name_and_kind_view};
 

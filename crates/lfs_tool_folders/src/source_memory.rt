@@ -1,8 +1,8 @@
-ghost use Rattle.std.specs.Prelude.{◌≡◌, ◌+◌, ◌++◌, ◌∷◌, [], IfOk, IfSome, IsErrOf, MatchOption, None, OnOk, Some, drop, false, length, map, suc, true, ◌==◌};
+ghost use Rattle.std.specs.Prelude.{◌≡◌, ◌+◌, ◌++◌, ◌∷◌, [], IfOk, IsErrOf, MatchOption, None, OnOk, Some, drop, false, length, map, suc, true, ◌==◌};
 ghost use Rattle.std.specs.List.{list_any};
 ghost use Rattle.lfs_model.specs.Names.{slash_byte};
 ghost use Rattle.lfs_tool_folders.specs.SourceTrees.{is_folder, listed_name_and_kind_view};
-ghost use Rattle.lfs_tool_folders.specs.MemorySources.{bytes_of_first_file_at_path, are_optional_bytes_absent, is_directly_in_folder, path_and_bytes_of_memory_entry, optional_bytes_view, name_of_item_directly_in_folder, names_of_items_directly_in_folder, source_of_paths_and_bytes};
+ghost use Rattle.lfs_tool_folders.specs.MemorySources.{bytes_of_first_file_at_path, are_optional_bytes_absent, is_directly_in_folder, path_and_bytes_of_memory_entry, name_of_item_directly_in_folder, names_of_items_directly_in_folder, source_of_paths_and_bytes};
 
 use crate::{ListedName, Source, SourceError, SourceKind, Tally};
 use std::alloc::Global;

@@ -1,7 +1,6 @@
 // The rules for the sizes of an image.
 
 ghost use Rattle.std.specs.Prelude.{◌≡◌, ◌≤◌, ◌*◌, ◌++◌, ◌/◌, ◌%◌, IfSome, None, OnOk};
-ghost use Rattle.std.specs.Fmt.{decimal};
 ghost use Rattle.lfs_model.specs.Geometry.{is_valid_page_size};
 ghost use Rattle.lfs_tool_line.specs.Sizes.{AreSizesOfSomeImage, IsFirstBrokenSizeRule, BreaksNoSizeRuleBeforeIndex, labelled_number_text, index_of_size_rule, size_rule_words, broken_size_rule_line, sizes_in_rule_text};
 

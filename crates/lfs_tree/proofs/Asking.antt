@@ -8,15 +8,10 @@ use Rattle.lfs_model.specs.Cache.{CachedBlocks}
 use Rattle.lfs_model.specs.Disk.{Disk}
 use Rattle.lfs_model.specs.History.{DeviceCallEvent}
 use Rattle.lfs_model.specs.Thread.{Pair, pair_count_before_root}
-use Rattle.lfs_model.specs.Operations.{Operation}
-use Rattle.lfs_model.specs.PowerLoss.{SurvivesPowerLossInCallsSince}
-use Rattle.lfs_model.specs.Tree.{Tree}
-use Rattle.lfs_model.specs.Shown.{tree_on_disk}
 use Rattle.lfs_thread.specs.Kept.{ThreadView}
-use Rattle.lfs_tree.specs.TreeChanges.{AppliesOperationOnThread, SparesBlocksOutsideOperation}
 use Rattle.lfs_tree.specs.RootedThreads.{IsSoundThreadUnlessFailed, IsSoundThreadWithRootAtPairNumber, tree_state_of_kept_thread, tree_state_of_thread}
 use Rattle.lfs_lookup.specs.Reading.{OnlyReadsThreadAndReportsErrors}
-use Rattle.lfs_tree.specs.TreeState.{TreeState, tree_state_without_cache, WasTreeOnlyRead, OnlyReadsTreeOrFails, IsTreeFailedByRead, IsOperationAppliedToTree, IsIoWithFaultOrNoMemory, tree_view, LeavesUnconcernedBlocksAlone}
+use Rattle.lfs_tree.specs.TreeState.{TreeState, tree_state_without_cache, WasTreeOnlyRead, OnlyReadsTreeOrFails, IsTreeFailedByRead, IsIoWithFaultOrNoMemory}
 use Rattle.lfs_tree.proofs.Mounting.{sound_read}
 use Rattle.lfs_tree.proofs.SameErrors.{same_error}
 

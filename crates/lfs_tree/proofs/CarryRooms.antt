@@ -1,5 +1,5 @@
 -- What the checks of an operation have shown, as its steps ask for it.
-use Rattle.std.proofs.Common.{ℕ, ◌≡◌, ◌≢◌, ◌<◌, ◌≤◌, ◌∙◌, ◌&&◌, Bool, true, false, zero, suc, [], ◌∷◌, length, Some, nat_lt, refl, sym, ap₂, subst, arith, set, length-set}
+use Rattle.std.proofs.Common.{ℕ, ◌≡◌, ◌≢◌, ◌<◌, ◌≤◌, ◌∙◌, ◌&&◌, Bool, true, false, zero, suc, [], ◌∷◌, length, Some, refl, sym, ap₂, subst, arith, set, length-set}
 use Rattle.std.specs.Prelude.{slice_get}
 use Rattle.std.specs.List.{list_all}
 use Rattle.std.proofs.lemmas.Bool.{le-leb, ltb-false}
@@ -7,10 +7,8 @@ use Rattle.std.proofs.lemmas.Option.{same_Some}
 use Rattle.lfs_model.specs.TreeEdits.{last_name_of_path}
 use Rattle.lfs_model.specs.BlockSets.{BlockStateList, IsBlockFree, is_block_state_in_flight, is_used}
 use Rattle.lfs_model.specs.BlockSets.BlockState.{Free, InFlight}
-use Rattle.lfs_model.specs.Disk.{charged_entry_size_limit_in_pair}
-use Rattle.lfs_model.specs.Names.{Name, is_path_component, is_valid_name}
+use Rattle.lfs_model.specs.Names.{is_path_component, is_valid_name}
 use Rattle.lfs_model.specs.Session.{has_too_long_last_name}
-use Rattle.lfs_model.specs.Slots.{entry_charge_with_longest_inline_contents}
 use Rattle.lfs_model.specs.Tree.{Path}
 use Rattle.lfs_model.proofs.BlockSets.{count_by-set, counts_from_none_free, slice_get-set_other, slice_get-set_same, used_count-AreExactlyTheUsedBlocks}
 use Rattle.lfs_operations.specs.Changing.{AreTwoFreeBlocks, HasTwoFreeBlocks}

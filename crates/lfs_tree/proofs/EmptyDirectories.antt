@@ -1,7 +1,7 @@
 -- A directory without entries, but the root, has one pair without slots.
-use Rattle.std.proofs.Common.{ℕ, ◌≡◌, ◌<◌, ◌≤◌, ◌+◌, ◌-◌, ◌∙◌, zero, suc, Bool, true, false, cond, not, List, [], ◌∷◌, ◌++◌, length, drop, get_or, slice_get, None, Some, refl, sym, ap, subst, arith, flat_map}
+use Rattle.std.proofs.Common.{ℕ, ◌≡◌, ◌<◌, ◌≤◌, ◌+◌, ◌-◌, ◌∙◌, zero, suc, true, false, cond, not, List, [], ◌∷◌, ◌++◌, length, drop, get_or, slice_get, None, Some, refl, sym, ap, subst, arith, flat_map}
 use Rattle.std.proofs.lemmas.List.{drop-drop}
-use Rattle.std.proofs.lemmas.Option.{get_or_from_slice_get, slice_get_within}
+use Rattle.std.proofs.lemmas.Option.{get_or_from_slice_get}
 use Rattle.std.proofs.Math.Seq.{drop-append_seam}
 use Rattle.lfs_model.specs.Disk.{Disk}
 use Rattle.lfs_model.specs.InDirectory.{IsPairAtAddress, ArePairsWithoutSuperblock, slots_without_superblock, slots_of_pairs_in_order}

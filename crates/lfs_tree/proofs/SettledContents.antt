@@ -15,7 +15,6 @@ use Rattle.lfs_model.specs.History.{DeviceCallEvent, IsTrueAfterAnyPowerLossSinc
 use Rattle.lfs_model.specs.Layout.{IsSlotLayoutAfterOperation}
 use Rattle.lfs_model.specs.Names.{Name}
 use Rattle.lfs_model.specs.Operations as ops
-use Rattle.lfs_model.specs.Operations.{Operation}
 use Rattle.lfs_model.specs.Keeping.{struct_of_path}
 use Rattle.lfs_model.specs.Session.{Session, FileWriter, Writing}
 use Rattle.lfs_model.specs.PowerLoss.{HasTreeBeforeOrAfterOperation, disk_with_blocks}

@@ -9,7 +9,7 @@ use Rattle.lfs_model.specs.Disk.{Disk}
 use Rattle.lfs_model.specs.Layout.{IsContentFittingPairOnDisk, IsDirectoryUnreachedOrRemoved, IsSlotLayoutAfterRecoveryAndOperation, IsSlotLayoutAfterOperation}
 use Rattle.lfs_model.specs.Names.{Name}
 use Rattle.lfs_model.specs.Operations as ops
-use Rattle.lfs_model.specs.Operations.{Operation, FlagsOfOpen}
+use Rattle.lfs_model.specs.Operations.{Operation}
 use Rattle.lfs_model.specs.Session.{Session}
 use Rattle.lfs_model.specs.SlotEdits.{RemovesSlotIfSome, AddsFileSlotIfNew, AreSlotEditsOfOperation, HasSlotsReplacedInOnePair, AddsDirectorySlotAndPair, MovesSlotToPath, ReplacesSlotOfPath, new_directory_slot, new_file_slot, slot_of_path, pair_with_slots, pairs_without_moved_slot}
 use Rattle.lfs_model.specs.Slots.{IsContentFittingPair, Slot, slot_size}

@@ -1,6 +1,6 @@
 // How a recovery ends what a loss of power left.
 
-ghost use Rattle.std.specs.Prelude.{◌≡◌, false, true, IfErr, IfOk, OnOk};
+ghost use Rattle.std.specs.Prelude.{◌≡◌, false, true, IfErr, OnOk};
 ghost use Rattle.lfs_model.specs.History.{fault_count_of_history};
 ghost use Rattle.lfs_model.specs.Slots.{zero_gstate};
 ghost use Rattle.lfs_model.specs.Thread.{blocks_of_pairs, gstate_of_pairs, pair_count_before_root};

@@ -2,7 +2,6 @@
 
 ghost use Rattle.std.specs.Prelude.{◌≡◌, ◌<◌, ◌+◌, ◌^◌, List, ℕ, IfOk, drop, false, length, take};
 ghost use Rattle.lfs_model.specs.Frame.{ancestor_paths_of_path};
-ghost use Rattle.lfs_model.specs.History.{read_count_of_history};
 ghost use Rattle.lfs_model.specs.Slots.{Inline};
 ghost use Rattle.lfs_model.specs.Tree.{Path as ModelPath};
 ghost use Rattle.lfs_model.specs.TreeEdits.{file_bytes_of_node};

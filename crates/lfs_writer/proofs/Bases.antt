@@ -1,11 +1,11 @@
 -- A list whose blocks stay as they are.
-use Rattle.std.proofs.Common.{ℕ, ◌≡◌, ◌*◌, ◌-◌, ◌<◌, ◌^◌, get_or, List, length, take, sym, ap, ◌∙◌, subst, arith, flat_map}
-use Rattle.std.specs.Prelude.{All, slice_index}
+use Rattle.std.proofs.Common.{ℕ, ◌≡◌, ◌*◌, ◌-◌, ◌<◌, ◌^◌, get_or, List, take, ap, ◌∙◌, flat_map}
+use Rattle.std.specs.Prelude.{All}
 use Rattle.std.specs.List.{enumerate_from}
 use Rattle.std.proofs.lemmas.List.Elements.{recursion_from_All}
 use Rattle.lfs_model.specs.Blocks.{Blocks, block_bytes_by_number}
 use Rattle.lfs_model.specs.BlockSets.{BlockStateList}
-use Rattle.lfs_model.specs.SkipLists.{word_at_offset, list_block_count_for_size, IsSkipList, data_of_list_block, bytes_of_skip_list}
+use Rattle.lfs_model.specs.SkipLists.{list_block_count_for_size, IsSkipList, data_of_list_block, bytes_of_skip_list}
 use Rattle.lfs_model.proofs.Files.{Same, back_same, data_same, list_same}
 use Rattle.lfs_writer.specs.BlocksApart.{IsUsedOrInFlightButNotUnwritten, KeepsBytesOfTakenBlocksExceptUnwritten}
 use Rattle.lfs_writer.specs.Bases.{list_blocks_by_head_and_size}

@@ -12,12 +12,11 @@ use Rattle.lfs_model.specs.BlockSets.{BlockStateList, in_flight_block_count}
 use Rattle.lfs_model.specs.Writers.{contents_after_write, bytes_padded_with_zeros}
 use Rattle.lfs_device.specs.declared.geometry.Geometry.{Geometry}
 use Rattle.lfs_model.specs.SkipLists.{list_blocks_from_head, list_block_count_for_size, bytes_of_skip_list}
-use Rattle.lfs_ctz.specs.Growing.{GrowingList, HasGrowingListOnDisk, blocks_of_growing_list, bytes_of_growing_list, are_last_bytes_of_list_only_in_buffer, data_of_list_blocks, blocks_kept_when_growing, unwritten_block_of_list, growing_list_size_with_block_size}
-use Rattle.lfs_writer.specs.BlocksApart.{GrowsListInFreeBlocks, HasGrowingListBlocksTaken, KeepsBytesOfTakenBlocksExceptUnwritten}
+use Rattle.lfs_ctz.specs.Growing.{GrowingList, HasGrowingListOnDisk, bytes_of_growing_list, data_of_list_blocks, blocks_kept_when_growing, unwritten_block_of_list, growing_list_size_with_block_size}
+use Rattle.lfs_writer.specs.BlocksApart.{KeepsBytesOfTakenBlocksExceptUnwritten}
 use Rattle.lfs_writer.specs.Bases.{IsSkipListOnDiskUnlessEmpty, list_blocks_by_head_and_size}
-use Rattle.lfs_writer.specs.Hand.{GrowingListSharesOnlyFirstBlocksWithBase, CanEndGrowingListOverBase, IsFinishedListConsistentWithMapAndDisk, list_bytes_then_rest_of_base, bytes_of_stored_list}
+use Rattle.lfs_writer.specs.Hand.{GrowingListSharesOnlyFirstBlocksWithBase, IsFinishedListConsistentWithMapAndDisk, list_bytes_then_rest_of_base, bytes_of_stored_list}
 use Rattle.lfs_writer.specs.BaseRoom.{in_flight_block_limit_of_stored_list}
-use Rattle.lfs_writer.specs.TakenBlocks.{ChangesOnlyFreeBlocksInMap}
 use Rattle.lfs_writer.specs.declared.stored_list.StoredList.{StoredList}
 use Rattle.lfs_model.proofs.BlockCounts.{few_flying}
 use Rattle.lfs_model.proofs.Files.{length_back}

@@ -1,5 +1,5 @@
 -- Which blocks of lists are used.
-use Rattle.std.proofs.Common.{ℕ, ◌≡◌, ⊎_elim, true, List, [], ◌++◌, refl, sym, ap, ◌∙◌, subst, arith}
+use Rattle.std.proofs.Common.{ℕ, ◌≡◌, ⊎_elim, true, List, [], ◌++◌, refl, sym, ap, ◌∙◌, subst}
 use Rattle.std.specs.Prelude.{Contains}
 use Rattle.std.proofs.lemmas.List.Elements.{Contains-append_cases, Contains-append_right}
 use Rattle.lfs_model.specs.Blocks.{Blocks}

@@ -1,6 +1,6 @@
 // Contents that are finished for a commit, or dropped.
 
-ghost use Rattle.std.specs.Prelude.{ℕ, OnOk, IfOk};
+ghost use Rattle.std.specs.Prelude.{ℕ, IfOk};
 ghost use Rattle.lfs_model.specs.BlockSets.{IsBlockInFlight};
 ghost use Rattle.lfs_ctz.specs.Calls.{ReportsIoOrNoMemory};
 ghost use Rattle.lfs_writer.specs.Calls.{CallKeepsUsedBlocks};

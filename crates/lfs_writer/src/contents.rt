@@ -1,6 +1,6 @@
 // The contents of an open writer, and writes to them.
 
-ghost use Rattle.std.specs.Prelude.{◌≡◌, ◌≤◌, ◌<◌, ◌+◌, ◌^◌, length, max, true, OnOk, IfOk, IfErr};
+ghost use Rattle.std.specs.Prelude.{◌≡◌, ◌≤◌, ◌<◌, ◌+◌, ◌^◌, length, max, true, IfOk, IfErr};
 ghost use Rattle.lfs_model.specs.Blocks.{Blocks};
 ghost use Rattle.lfs_model.specs.BlockSets.{BlockStateList, used_count};
 ghost use Rattle.lfs_model.specs.SkipLists.{list_block_count_for_size};

@@ -1,6 +1,6 @@
 // Contents that are kept in memory.
 
-ghost use Rattle.std.specs.Prelude.{◌≡◌, ◌≤◌, ◌<◌, ◌+◌, ◌^◌, false, length, take, OnOk, IfOk};
+ghost use Rattle.std.specs.Prelude.{◌≡◌, ◌≤◌, ◌<◌, ◌+◌, ◌^◌, false, length, take, IfOk};
 ghost use Rattle.lfs_device.specs.Calls.{ReadsOnly};
 ghost use Rattle.lfs_model.specs.Blocks.{Blocks};
 ghost use Rattle.lfs_model.specs.BlockSets.{BlockStateList, used_count};
@@ -8,7 +8,6 @@ ghost use Rattle.lfs_model.specs.SkipLists.{list_block_count_for_size};
 ghost use Rattle.lfs_model.specs.Writers.{contents_after_write};
 ghost use Rattle.lfs_device.specs.declared.geometry.Geometry.{Geometry};
 ghost use Rattle.lfs_ctz.specs.Calls.{ReportsIoOrNoMemory};
-ghost use Rattle.lfs_ctz.specs.Growing.{HasAllBytesInBuffer, size_of_growing_list};
 ghost use Rattle.lfs_writer.specs.Bases.{IsSkipListOnDiskUnlessEmpty};
 ghost use Rattle.lfs_writer.specs.Calls.{CallKeepsUsedBlocks};
 ghost use Rattle.lfs_writer.specs.Contents.{IsInMemoryWithNoBlockInFlight, IsWholeListInBuffer, bytes_in_buffer};

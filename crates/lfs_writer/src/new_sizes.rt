@@ -1,6 +1,6 @@
 // Contents that get another size.
 
-ghost use Rattle.std.specs.Prelude.{◌≡◌, ◌≢◌, ◌≤◌, ◌<◌, ◌+◌, ◌*◌, ◌^◌, length, take, true, false, OnOk, IfOk};
+ghost use Rattle.std.specs.Prelude.{◌≡◌, ◌≢◌, ◌≤◌, ◌<◌, ◌+◌, ◌*◌, ◌^◌, length, take, true, false, IfOk};
 ghost use Rattle.lfs_device.specs.Calls.{ReadsOnly};
 ghost use Rattle.lfs_model.specs.BlockSets.{used_count};
 ghost use Rattle.lfs_model.specs.SkipLists.{list_block_count_for_size};
@@ -10,7 +10,7 @@ ghost use Rattle.lfs_ctz.specs.Growing.{size_of_growing_list};
 ghost use Rattle.lfs_writer.specs.Calls.{CallKeepsUsedBlocks};
 ghost use Rattle.lfs_writer.specs.Contents.{CanTruncateContents, HasContentsInStorageForm, IsInMemoryWithNoBlockInFlight, writer_contents_bytes_in_memory_or_blocks, storage_form_of_contents, bytes_in_buffer, block_room_for_truncation};
 ghost use Rattle.lfs_writer.specs.Form as form;
-ghost use Rattle.lfs_writer.specs.Form.{contents_size_of_storage_form, storage_form_after_truncate};
+ghost use Rattle.lfs_writer.specs.Form.{storage_form_after_truncate};
 ghost use Rattle.lfs_writer.specs.Hand.{IsFinishedListConsistentWithMapAndDisk, KeepsUsedBlocksInMap, bytes_of_stored_list};
 ghost use Rattle.lfs_writer.specs.BaseRoom.{in_flight_block_limit_of_stored_list};
 ghost use Rattle.lfs_writer.specs.HandWrites.{IsWrittenUnfinishedListOfContentsEndingAt, IsUnfinishedListWithAtLeastOneByte, TakesUsedBlocksOfBaseFromOldBase, contents_bytes_of_unfinished_list, contents_length_of_unfinished_list};

@@ -1,6 +1,6 @@
 // Lists in hand that continue at another place.
 
-ghost use Rattle.std.specs.Prelude.{◌≡◌, ◌≢◌, ◌≤◌, ◌<◌, ◌+◌, ◌*◌, ◌^◌, length, max, min, OnOk, IfOk};
+ghost use Rattle.std.specs.Prelude.{◌≡◌, ◌≢◌, ◌≤◌, ◌<◌, ◌+◌, ◌*◌, ◌^◌, length, max, min, IfOk};
 ghost use Rattle.lfs_model.specs.BlockSets.{used_count};
 ghost use Rattle.lfs_model.specs.SkipLists.{list_block_count_for_size};
 ghost use Rattle.lfs_model.specs.Writers.{contents_after_write};

@@ -1,6 +1,6 @@
 // Blocks that are taken from the map.
 
-ghost use Rattle.std.specs.Prelude.{◌≡◌, ◌≤◌, ◌+◌, ℕ, length, slice_get, IfOk, IfErr};
+ghost use Rattle.std.specs.Prelude.{◌≡◌, ◌≤◌, ◌+◌, ℕ, length, IfOk, IfErr};
 ghost use Rattle.lfs_model.specs.BlockSets.{in_flight_block_count, used_count};
 ghost use Rattle.lfs_writer.specs.TakenBlocks.{ChangesOnlyFreeBlocksInMap, TakesFreeBlocks};
 

@@ -1,7 +1,6 @@
-use Rattle.std.proofs.Common.{◌∙◌, List, map, sym, ap, subst, arith}
+use Rattle.std.proofs.Common.{◌∙◌, List, map, sym, ap, subst}
 use Rattle.std.proofs.lemmas.Option.{same_Some}
-use Rattle.lfs_model.specs.Log.{log_entries_of_block}
-use Rattle.lfs_model.specs.Content.{RawPairContent, RawSlot, content_after_log_entries, empty_raw_pair_content, slot_of_id}
+use Rattle.lfs_model.specs.Content.{RawPairContent, RawSlot, slot_of_id}
 use Rattle.lfs_model.specs.LoggedContent.{AreAttributesInTypeOrder, AreWellFormedRawSlots}
 use Rattle.lfs_model.specs.Slots.{attributes_size}
 use Rattle.lfs_model.proofs.Logged.{logged}

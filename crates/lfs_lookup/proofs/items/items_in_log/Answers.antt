@@ -1,7 +1,6 @@
-use Rattle.std.proofs.Common.{◌∙◌, map, sym, ap, subst, arith}
+use Rattle.std.proofs.Common.{◌∙◌, map, sym, ap, subst}
 use Rattle.std.proofs.lemmas.Option.{same_Some}
-use Rattle.lfs_model.specs.Log.{log_entries_of_block}
-use Rattle.lfs_model.specs.Content.{RawPairContent, content_after_log_entries, empty_raw_pair_content}
+use Rattle.lfs_model.specs.Content.{RawPairContent}
 use Rattle.lfs_model.specs.LoggedContent.{AreWellFormedRawSlots}
 use Rattle.lfs_model.proofs.Logged.{logged}
 use Rattle.lfs_model.proofs.Completed.{completed_parts}

@@ -1,8 +1,7 @@
 use Rattle.std.proofs.Common.{◌≡◌, ◌∙◌, List, [], ◌∷◌, length, map, refl, sym, ap, subst, arith}
 use Rattle.std.proofs.lemmas.List.{length-map}
 use Rattle.std.proofs.lemmas.Option.{same_Some}
-use Rattle.lfs_model.specs.Log.{log_entries_of_block}
-use Rattle.lfs_model.specs.Content.{RawPairContent, slots_if_names_and_structs_present, content_after_log_entries, empty_raw_pair_content}
+use Rattle.lfs_model.specs.Content.{RawPairContent, slots_if_names_and_structs_present}
 use Rattle.lfs_model.specs.Slots.{Slot}
 use Rattle.lfs_model.specs.LoggedContent.{IsWellFormedRawPairContent}
 use Rattle.lfs_model.specs.WrittenContent.{IsRawContentFittingPair}

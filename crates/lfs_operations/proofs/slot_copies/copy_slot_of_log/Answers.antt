@@ -1,7 +1,6 @@
 use Rattle.std.proofs.Common.{◌∙◌, ◌<◌, ℕ, length, sym, ap, subst}
 use Rattle.std.proofs.lemmas.Option.{same_Some}
-use Rattle.lfs_model.specs.Content.{RawPairContent, content_after_log_entries, empty_raw_pair_content, slot_of_id}
-use Rattle.lfs_model.specs.Log.{log_entries_of_block}
+use Rattle.lfs_model.specs.Content.{RawPairContent, slot_of_id}
 use Rattle.lfs_operations.specs.RenamingSlots.{nameless_slot_of}
 use Rattle.lfs_operations.proofs.RenameCopied.{is_named, is_structured, read_below, there_read}
 use Rattle.lfs_operations.proofs.slot_copies.copy_slot_of_log.Goals as goal

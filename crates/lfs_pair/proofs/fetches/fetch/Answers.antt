@@ -1,11 +1,11 @@
-use Rattle.std.proofs.Common.{sym, ap, ap₂, ◌∙◌, rules, ◌≡◌, true, false}
+use Rattle.std.proofs.Common.{sym, ap, ◌∙◌, rules, ◌≡◌, true, false}
 use Rattle.lfs_device.specs.Shown.{disk_of_geometry_and_blocks}
 use Rattle.lfs_model.specs.Blocks.{block_bytes_by_number}
 use Rattle.lfs_model.specs.Content.{has_commit}
 use Rattle.lfs_model.specs.Disk.{Disk}
 use Rattle.lfs_model.specs.Slots.{pair_address_of_array}
 use Rattle.lfs_pair.proofs.Calls.{reads_trans}
-use Rattle.lfs_pair.proofs.FetchedBlock.{fetches, later_holds, none_holds, other_holds}
+use Rattle.lfs_pair.proofs.FetchedBlock.{fetches, later_holds, other_holds}
 use Rattle.lfs_pair.proofs.fetches.fetch.Goals as goal
 
 pub returns-in_err-bytes-clause-device : goal.returns-in_err-bytes-clause-device

@@ -1,4 +1,4 @@
-use Rattle.std.proofs.Common.{ℕ, ◌≡◌, ◌++◌, ◌+◌, ◌-◌, List, drop, length, refl, sym, ap, ◌∙◌, subst, arith}
+use Rattle.std.proofs.Common.{ℕ, ◌≡◌, ◌++◌, ◌+◌, ◌-◌, drop, length, refl, sym, ap, ◌∙◌, subst, arith}
 use Rattle.lfs_device.specs.declared.geometry.Geometry.{Geometry}
 use Rattle.lfs_model.specs.Blocks.{Blocks}
 use Rattle.lfs_model.specs.BlockSets.{BlockState, BlockStateList}
@@ -6,7 +6,7 @@ use Rattle.lfs_model.specs.BlockSets.BlockState.{Free, Used}
 use Rattle.lfs_model.specs.SkipLists.{AreListBlocks, list_blocks_from_head, list_block_count_for_size}
 use Rattle.lfs_model.proofs.Files.{length_back}
 use Rattle.lfs_writer.specs.SettledMaps.{KeepsStatesOfOtherBlocks, PutsBlocksInState}
-use Rattle.lfs_writer.specs.SharedBlocks.{IsCountOfSharedFrontBlocks, count_of_unshared_blocks_in_both_lists}
+use Rattle.lfs_writer.specs.SharedBlocks.{IsCountOfSharedFrontBlocks}
 use Rattle.lfs_writer.proofs.Called.{read_on}
 use Rattle.lfs_writer.proofs.Ends.{base_chain}
 use Rattle.lfs_writer.proofs.Others.{others_left, others_more}

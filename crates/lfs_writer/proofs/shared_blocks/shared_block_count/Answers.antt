@@ -1,8 +1,8 @@
-use Rattle.std.proofs.Common.{ℕ, ◌≡◌, ◌≢◌, ◌+◌, ◌-◌, ◌<◌, ◌≤◌, slice_index, refl, sym, ap, ◌∙◌, subst, arith}
+use Rattle.std.proofs.Common.{ℕ, ◌≡◌, ◌≢◌, ◌+◌, ◌-◌, ◌<◌, ◌≤◌, slice_index, sym, ap, ◌∙◌, subst, arith}
 use Rattle.std.proofs.lemmas.Result.{err_from_is_err_and}
 use Rattle.lfs_device.specs.declared.geometry.Geometry.{Geometry}
 use Rattle.lfs_model.specs.Blocks.{Blocks}
-use Rattle.lfs_model.specs.SkipLists.{AreListBlocks, list_blocks_from_head}
+use Rattle.lfs_model.specs.SkipLists.{list_blocks_from_head}
 use Rattle.lfs_writer.proofs.Called.{quiet, read_on, reported_as, reported_on}
 use Rattle.lfs_writer.proofs.Releasings.{in_range_at, next_is, next_there}
 use Rattle.lfs_writer.proofs.Settlings.{never_corrupt}
